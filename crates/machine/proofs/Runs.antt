@@ -1,0 +1,211 @@
+-- The rows of a list of runs, and where its runs begin.
+use Rattle.std.proofs.Common.{◌≡◌, ℕ, zero, suc, ◌+◌, ◌-◌, ◌<◌, ◌≤◌, List, [], ◌∷◌, ◌++◌, length, take, drop, get_or, replicate, refl, sym, subst, inl, inr, eq-or-lt_of_le, ◌∙◌, ap, arith, length-append, append_assoc, append-nil, drop-drop, take-add, add-one}
+use Rattle.std.proofs.lemmas.List.{length-replicate, drop-replicate, drop-append-le, replicate-append-replicate}
+use Rattle.std.proofs.Math.Seq.{drop-append-add}
+use Rattle.machine.specs.declared.row_run.RowRun.{RowRun}
+use Rattle.machine.specs.Rows.{expanded, between, IsGapless, begins_at}
+
+module _ {R : Type 0} where
+  pub end_is : (a : ℕ) (rs : List (RowRun R)) (b : ℕ) → IsGapless a rs b → b ≡ a + length (expanded rs)
+  end_is a [] b h = omega (arith, h)
+  end_is a (r ∷ rs) b h =
+      omega (arith, h.0, h.1, end_is r.end rs b h.2, length-append (replicate (r.end - r.start) r.row.value) (expanded rs), length-replicate (r.end - r.start) r.row.value)
+
+  pub begins_zero : (a : ℕ) (rs : List (RowRun R)) → begins_at a rs 0 ≡ a
+  begins_zero a [] = refl
+  begins_zero a (r ∷ rs) = refl
+
+  pub begins_past : (a : ℕ) (rs : List (RowRun R)) (b i : ℕ) → IsGapless a rs b → length rs ≤ i → begins_at a rs i ≡ b
+  begins_past a [] b i h le = h
+  begins_past a (r ∷ rs) b zero h le = absurd (omega arith)
+  begins_past a (r ∷ rs) b (suc i) h le = begins_past r.end rs b i h.2 (omega arith)
+
+  pub begins_rises : (a : ℕ) (rs : List (RowRun R)) (b i : ℕ) → IsGapless a rs b → begins_at a rs i ≤ begins_at a rs (suc i)
+  begins_rises a [] b i h = omega arith
+  begins_rises a (r ∷ rs) b zero h = omega (arith, h.0, h.1, begins_zero r.end rs)
+  begins_rises a (r ∷ rs) b (suc i) h = begins_rises r.end rs b i h.2
+
+  pub start_at : (a : ℕ) (rs : List (RowRun R)) (b i : ℕ) (g : RowRun R) → IsGapless a rs b → i < length rs → g ≡ get_or rs i g → g.start ≡ begins_at a rs i
+  start_at a [] b i g h lt is = absurd (omega arith)
+  start_at a (r ∷ rs) b zero g h lt is = ap (λ (x : RowRun R). x.start) is ∙ h.0
+  start_at a (r ∷ rs) b (suc i) g h lt is = start_at r.end rs b i g h.2 (omega arith) is
+
+  pub end_at : (a : ℕ) (rs : List (RowRun R)) (b i : ℕ) (g : RowRun R) → IsGapless a rs b → i < length rs → g ≡ get_or rs i g → g.end ≡ begins_at a rs (suc i)
+  end_at a [] b i g h lt is = absurd (omega arith)
+  end_at a (r ∷ rs) b zero g h lt is = ap (λ (x : RowRun R). x.end) is ∙ sym (begins_zero r.end rs)
+  end_at a (r ∷ rs) b (suc i) g h lt is = end_at r.end rs b i g h.2 (omega arith) is
+
+  pub start_after : (a : ℕ) (rs : List (RowRun R)) (b i : ℕ) (g : RowRun R) → IsGapless a rs b → i < length rs → g ≡ get_or rs i g → a ≤ g.start
+  start_after a [] b i g h lt is = absurd (omega arith)
+  start_after a (r ∷ rs) b zero g h lt is = omega (arith, ap (λ (x : RowRun R). x.start) is, h.0)
+  start_after a (r ∷ rs) b (suc i) g h lt is = omega (arith, h.0, h.1, start_after r.end rs b i g h.2 (omega arith) is)
+
+  -- a part of equal rows, then the rest
+  pub equal_part : (n p q : ℕ) (x : R) (rest : List R) → p ≤ q → q ≤ n → drop p (replicate n x ++ rest) ≡ replicate (q - p) x ++ drop q (replicate n x ++ rest)
+  equal_part n p q x rest le within =
+      let len : length (replicate n x) ≡ n = length-replicate n x in
+      let count : (q - p) + (n - q) ≡ n - p = omega arith in
+      let first : drop p (replicate n x ++ rest) ≡ replicate (n - p) x ++ rest =
+      drop-append-le p (replicate n x) rest (omega (arith, len)) ∙ ap (λ (l : List R). l ++ rest) (drop-replicate p n x) in
+      let last : drop q (replicate n x ++ rest) ≡ replicate (n - q) x ++ rest =
+      drop-append-le q (replicate n x) rest (omega (arith, len)) ∙ ap (λ (l : List R). l ++ rest) (drop-replicate q n x) in
+      let joined : replicate (q - p) x ++ replicate (n - q) x ≡ replicate (n - p) x =
+      replicate-append-replicate (q - p) (n - q) x ∙ ap (λ (i : ℕ). replicate i x) count in
+      first ∙ ap (λ (l : List R). l ++ rest) (sym joined) ∙ append_assoc (replicate (q - p) x) (replicate (n - q) x) rest
+      ∙ ap (λ (l : List R). replicate (q - p) x ++ l) (sym last)
+
+  pub past_part : (n p k : ℕ) (x : R) (rest : List R) → p ≡ n + k → drop p (replicate n x ++ rest) ≡ drop k rest
+  past_part n p k x rest e =
+      let len : p ≡ length (replicate n x) + k = omega (arith, e, length-replicate n x) in
+      ap (λ (i : ℕ). drop i (replicate n x ++ rest)) len ∙ drop-append-add (replicate n x) rest k
+
+  -- from a cycle within a run on: equal rows up to a later one, then the rows from there on
+  pub piece : (a : ℕ) (rs : List (RowRun R)) (b i : ℕ) (g : RowRun R) → IsGapless a rs b → i < length rs → g ≡ get_or rs i g
+      → (at stop : ℕ) → g.start ≤ at → at ≤ stop → stop ≤ g.end
+      → drop (at - a) (expanded rs) ≡ replicate (stop - at) g.row.value ++ drop (stop - a) (expanded rs)
+  piece a [] b i g h lt is at stop from le within = absurd (omega arith)
+  piece a (r ∷ rs) b zero g h lt is at stop from le within =
+      let start : g.start ≡ a = ap (λ (x : RowRun R). x.start) is ∙ h.0 in
+      let length' : r.end - r.start ≡ g.end - a = omega (arith, h.0, ap (λ (x : RowRun R). x.end) is) in
+      let count : (stop - a) - (at - a) ≡ stop - at = omega (arith, start) in
+      equal_part (r.end - r.start) (at - a) (stop - a) r.row.value (expanded rs) (omega arith) (omega (arith, length'))
+      ∙ ap (λ (i : ℕ). replicate i r.row.value ++ drop (stop - a) (expanded (r ∷ rs))) count
+      ∙ ap (λ (x : RowRun R). replicate (stop - at) x.row.value ++ drop (stop - a) (expanded (r ∷ rs))) (sym is)
+  piece a (r ∷ rs) b (suc i) g h lt is at stop from le within =
+      let after : r.end ≤ g.start = start_after r.end rs b i g h.2 (omega arith) is in
+      let n = r.end - r.start in
+      past_part n (at - a) (at - r.end) r.row.value (expanded rs) (omega (arith, h.0, h.1, after))
+      ∙ piece r.end rs b i g h.2 (omega arith) is at stop from le within
+      ∙ ap (λ (l : List R). replicate (stop - at) g.row.value ++ l) (sym (past_part n (stop - a) (stop - r.end) r.row.value (expanded rs) (omega (arith, h.0, h.1, after))))
+
+  pub some_run : (a : ℕ) (rs : List (RowRun R)) (b cycle : ℕ) → IsGapless a rs b → a ≤ cycle → cycle < b → 0 < length rs
+  some_run a [] b cycle h le lt = absurd (omega (arith, h))
+  some_run a (r ∷ rs) b cycle h le lt = omega arith
+
+  pub index_within : (a : ℕ) (rs : List (RowRun R)) (b i at : ℕ) → IsGapless a rs b → begins_at a rs i ≤ at → at < b → i < length rs
+  index_within a [] b i at h le lt = absurd (omega (arith, h))
+  index_within a (r ∷ rs) b zero at h le lt = omega arith
+  index_within a (r ∷ rs) b (suc i) at h le lt = omega (arith, index_within r.end rs b i at h.2 le lt)
+
+  -- the list of runs with one more
+  pub expanded-snoc : (rs : List (RowRun R)) (r : RowRun R) → expanded (rs ++ r ∷ []) ≡ expanded rs ++ replicate (r.end - r.start) r.row.value
+  expanded-snoc [] r = append-nil (replicate (r.end - r.start) r.row.value)
+  expanded-snoc (x ∷ xs) r =
+      ap (λ (l : List R). replicate (x.end - x.start) x.row.value ++ l) (expanded-snoc xs r)
+      ∙ sym (append_assoc (replicate (x.end - x.start) x.row.value) (expanded xs) (replicate (r.end - r.start) r.row.value))
+
+  pub gapless-snoc : (a : ℕ) (rs : List (RowRun R)) (b : ℕ) (r : RowRun R) → IsGapless a rs b → r.start ≡ b → r.start ≤ r.end → IsGapless a (rs ++ r ∷ []) r.end
+  gapless-snoc a [] b r h starts le = (omega (arith, h, starts), le, refl)
+  gapless-snoc a (x ∷ xs) b r h starts le = (h.0, h.1, gapless-snoc x.end xs b r h.2 starts le)
+
+  -- the front of equal rows
+  pub take_front : (n : ℕ) (x : R) (rest : List R) → take n (replicate n x ++ rest) ≡ replicate n x
+  take_front zero x rest = refl
+  take_front (suc n) x rest = ap (λ (l : List R). x ∷ l) (take_front n x rest)
+
+  -- rows up to a cycle, and those of the piece after it
+  pub between-more : (first : ℕ) (rows : List R) (a at stop : ℕ) (x : R) → first ≤ a → a ≤ at → at ≤ stop
+      → drop (at - first) rows ≡ replicate (stop - at) x ++ drop (stop - first) rows
+      → between (first, rows) a at ++ replicate (stop - at) x ≡ between (first, rows) a stop
+  between-more first rows a at stop x from le more e =
+      let n : (at - first) - (a - first) ≡ at - a = omega arith in
+      let m : (stop - first) - (a - first) ≡ (at - a) + (stop - at) = omega arith in
+      let here : drop (at - a) (drop (a - first) rows) ≡ replicate (stop - at) x ++ drop (stop - first) rows =
+      drop-drop (at - a) (a - first) rows ∙ ap (λ (i : ℕ). drop i rows) (omega arith) ∙ e in
+      let taken : take (stop - at) (drop (at - a) (drop (a - first) rows)) ≡ replicate (stop - at) x =
+      ap (λ (l : List R). take (stop - at) l) here ∙ take_front (stop - at) x (drop (stop - first) rows) in
+      ap (λ (i : ℕ). take i (drop (a - first) rows) ++ replicate (stop - at) x) n
+      ∙ ap (λ (l : List R). take (at - a) (drop (a - first) rows) ++ l) (sym taken)
+      ∙ sym (take-add (at - a) (stop - at) (drop (a - first) rows))
+      ∙ ap (λ (i : ℕ). take i (drop (a - first) rows)) (sym m)
+
+  pub gapless_whole : (a : ℕ) (rs rs' : List (RowRun R)) (b : ℕ) → rs' ≡ rs → IsGapless a rs b → IsGapless a rs' (a + length (expanded rs'))
+  gapless_whole a rs rs' b e h =
+      let at_rs : IsGapless a rs (a + length (expanded rs)) = subst (λ (x : ℕ). IsGapless a rs x) (end_is a rs b h) h in
+      subst (λ (x : List (RowRun R)). IsGapless a x (a + length (expanded x))) (sym e) at_rs
+
+  -- the rows from a cycle on are that of its run, and then the rest
+  pub row_here : (a : ℕ) (rs rs' : List (RowRun R)) (e : ℕ) (rows : ℕ × List R) (cycle i b : ℕ) (g : RowRun R) (row : R)
+      → rs' ≡ rs → IsGapless a rs e → (a, expanded rs) ≡ rows → i < length rs' → g ≡ get_or rs' i g
+      → begins_at a rs' i ≤ cycle → cycle < begins_at a rs' (i + 1) → cycle < b → row ≡ g.row.value
+      → between rows cycle b ≡ row ∷ between rows (cycle + 1) b
+  row_here a rs rs' e rows cycle i b g row same h shown lt is from before less value =
+      let h' : IsGapless a rs' e = subst (λ (x : List (RowRun R)). IsGapless a x e) (sym same) h in
+      let shown' : (a, expanded rs') ≡ rows = ap (λ (x : List (RowRun R)). (a, expanded x)) same ∙ shown in
+      let P : ℕ × List R → Type 0 = λ r. between r cycle b ≡ row ∷ between r (cycle + 1) b in
+      let start = start_at a rs' e i g h' lt is in
+      let stop = end_at a rs' e i g h' lt is in
+      let next : begins_at a rs' (i + 1) ≡ begins_at a rs' (suc i) = ap (λ (x : ℕ). begins_at a rs' x) (add-one i) in
+      let after = start_after a rs' e i g h' lt is in
+      let p = piece a rs' e i g h' lt is cycle (suc cycle) (omega (arith, start)) (omega arith) (omega (arith, stop, next)) in
+      let one : suc cycle - cycle ≡ 1 = omega arith in
+      let shape : drop (cycle - a) (expanded rs') ≡ g.row.value ∷ drop (suc cycle - a) (expanded rs') =
+      p ∙ ap (λ (x : ℕ). replicate x g.row.value ++ drop (suc cycle - a) (expanded rs')) one in
+      let count : (b - a) - (cycle - a) ≡ suc ((b - a) - (suc cycle - a)) = omega (arith, start, after) in
+      let here : P (a, expanded rs') =
+      ap (λ (l : List R). take ((b - a) - (cycle - a)) l) shape
+      ∙ ap (λ (x : ℕ). take x (g.row.value ∷ drop (suc cycle - a) (expanded rs'))) count
+      ∙ ap (λ (x : R). x ∷ take ((b - a) - (suc cycle - a)) (drop (suc cycle - a) (expanded rs'))) (sym value)
+      ∙ ap (λ (x : ℕ). row ∷ between (a, expanded rs') x b) (sym (add-one cycle)) in
+      subst P shown' here
+
+  -- what one turn of the copying loop keeps
+  pub record Copied (a b start index at : ℕ) (runs part : List (RowRun R)) : Type 0 where
+    pub from : a ≤ at
+    pub within : at ≤ b
+    pub here : at < b → (index < length runs) × (begins_at start runs index ≤ at) × (at ≤ begins_at start runs (suc index))
+    pub gapless : IsGapless a part at
+    pub rows : expanded part ≡ between (start, expanded runs) a at
+
+  pub copied_none : (a b start index : ℕ) (runs part : List (RowRun R)) → a ≤ b → index < length runs
+      → begins_at start runs index ≤ a → a < begins_at start runs (index + 1) → part ≡ [] → Copied a b start index a runs part
+  copied_none a b start index runs part le lt begun ends none =
+      let next : begins_at start runs (index + 1) ≡ begins_at start runs (suc index) = ap (λ (x : ℕ). begins_at start runs x) (add-one index) in
+      let zeroed : (a - start) - (a - start) ≡ 0 = omega arith in
+      record {
+        from = omega arith;
+        within = le;
+        here = λ _. (lt, begun, omega (arith, ends, next));
+        gapless = subst (λ (x : List (RowRun R)). IsGapless a x a) (sym none) refl;
+        rows = ap (λ (x : List (RowRun R)). expanded x) none ∙ sym (ap (λ (n : ℕ). take n (drop (a - start) (expanded runs))) zeroed);
+      }
+
+  pub copied_more : (a b start index at stop : ℕ) (runs part part' : List (RowRun R)) (g r : RowRun R)
+      → IsGapless start runs (start + length (expanded runs)) → start ≤ a → b ≤ start + length (expanded runs)
+      → at < b → Copied a b start index at runs part → g ≡ get_or runs index g
+      → stop ≤ g.end → stop ≤ b → (stop < b → stop ≡ g.end)
+      → r.start ≡ at → r.end ≡ stop → r.row.value ≡ g.row.value → part' ≡ part ++ r ∷ []
+      → Copied a b start (index + 1) stop runs part'
+  copied_more a b start index at stop runs part part' g r h first last less k is upto within either rs re rv new =
+      let e = start + length (expanded runs) in
+      let lt = (k.here less).0 in
+      let starts = start_at start runs e index g h lt is in
+      let stops = end_at start runs e index g h lt is in
+      let next : begins_at start runs (index + 1) ≡ begins_at start runs (suc index) = ap (λ (x : ℕ). begins_at start runs x) (add-one index) in
+      let rises = begins_rises start runs e (suc index) h in
+      let le : at ≤ stop =
+      (elim (eq-or-lt_of_le within) [
+        | inl eq ↦ omega (arith, eq, less)
+        | inr lt' ↦ omega (arith, either lt', stops, (k.here less).2)
+      ]) in
+      let p = piece start runs e index g h lt is at stop (omega (arith, starts, (k.here less).1)) le upto in
+      let p' : drop (at - start) (expanded runs) ≡ replicate (stop - at) r.row.value ++ drop (stop - start) (expanded runs) =
+      p ∙ ap (λ (x : R). replicate (stop - at) x ++ drop (stop - start) (expanded runs)) (sym rv) in
+      let count : r.end - r.start ≡ stop - at = omega (arith, rs, re) in
+      let row : expanded part' ≡ between (start, expanded runs) a stop =
+      ap (λ (x : List (RowRun R)). expanded x) new ∙ expanded-snoc part r
+      ∙ ap (λ (n : ℕ). expanded part ++ replicate n r.row.value) count
+      ∙ ap (λ (l : List R). l ++ replicate (stop - at) r.row.value) k.rows
+      ∙ between-more start (expanded runs) a at stop r.row.value first k.from le p' in
+      let joined : IsGapless a (part ++ r ∷ []) stop = subst (λ (x : ℕ). IsGapless a (part ++ r ∷ []) x) re (gapless-snoc a part at r k.gapless rs (omega (arith, rs, re, le))) in
+      record {
+        from = omega (arith, k.from, le);
+        within = within;
+        here = λ l. (
+          index_within start runs e (index + 1) stop h (omega (arith, next, stops, either l)) (omega (arith, l, last)),
+          omega (arith, next, stops, either l),
+          omega (arith, either l, stops, next, rises, ap (λ (x : ℕ). begins_at start runs (suc x)) (add-one index)),
+        );
+        gapless = subst (λ (x : List (RowRun R)). IsGapless a x stop) (sym new) joined;
+        rows = row;
+      }

@@ -1,0 +1,149 @@
+// Shared rows of cycles: runs of equal rows that follow each other without a gap.
+ghost use Rattle.std.specs.Prelude.{◌≡◌, ℕ, ◌+◌, ◌-◌, ◌≤◌, ◌<◌, ◌∷◌, length, IfOk};
+ghost use Rattle.machine.specs.declared.row_run.RowRun.{RowRun};
+ghost use Rattle.machine.specs.Rows.{expanded, slice, IsGapless, begins_at, between, Covers};
+
+use crate::row_run::RowRun;
+use no_memory::NoMemory;
+use std::alloc::Global;
+use std::marker::Model;
+use std::sync::{Arc, ArcSlice};
+
+/// The rows of the cycles from `start` to `end` - 1, shared.
+#[derive(Drop)]
+pub struct RowRuns<R> {
+    start: u64,
+    end: u64,
+    runs: ArcSlice<RowRun<R>, Global>,
+}
+
+impl<R> Model for RowRuns<R> {
+    ghost use Rattle.std.specs.Prelude.{ℕ, List};
+    ghost use Rattle.std.specs.Arc.{arc_slice_items};
+    ghost use Rattle.machine.specs.Rows.{expanded, IsGapless};
+
+    ghost Value = { ℕ × List R };
+
+    ghost view = { λ r. (r.start, expanded (arc_slice_items r.runs)) };
+
+    ghost invariant = { λ r. IsGapless r.start (arc_slice_items r.runs) r.end };
+}
+
+/// The index of the run that covers a cycle, found by halving.
+fn run_at<R>(start: u64, runs: &[RowRun<R>], cycle: u64) -> usize
+    requires gapless { IsGapless start runs.now (start + length (expanded runs.now)) }
+    requires begins { start ≤ cycle }
+    requires ends { cycle < start + length (expanded runs.now) }
+    ensures within { result < length runs.now }
+    ensures begins { begins_at start runs.now result ≤ cycle }
+    ensures ends { cycle < begins_at start runs.now (result + 1) }
+{
+    let mut low = 0;
+    let mut high = runs.len();
+    while low + 1 < high {
+        let middle = low + (high - low) / 2;
+        if runs[middle].start <= cycle {
+            low = middle;
+        } else {
+            high = middle;
+        }
+    }
+    low
+}
+
+/// The earlier of two cycles.
+fn earlier(a: u64, b: u64) -> u64
+    ensures first { result ≤ a }
+    ensures second { result ≤ b }
+    ensures either { result < b → result ≡ a }
+{
+    if a < b { a } else { b }
+}
+
+/// The rows of the cycles from `a` to `b` - 1 of runs that begin at cycle `start`, each row shared.
+pub fn share_between<R: Drop>(
+    alloc: Global,
+    start: u64,
+    runs: &[RowRun<R>],
+    a: u64,
+    b: u64,
+) -> Result<RowRuns<R>, NoMemory>
+    requires gapless { IsGapless start runs.now (start + length (expanded runs.now)) }
+    requires covers { Covers (start, expanded runs.now) a b }
+    ensures { IfOk result (λ r. r ≡ (a, between (start, expanded runs.now) a b)) }
+{
+    let mut part = Vec::new(alloc);
+    if a == b {
+        return RowRuns::new(a, b, part);
+    }
+    let mut index = run_at(start, runs, a);
+    let mut at = a;
+    while at < b {
+        let run = &runs[index];
+        let stop = earlier(run.end, b);
+        let row = Arc::try_clone(&run.row)?;
+        part.push(RowRun {
+            start: at,
+            end: stop,
+            row,
+        })?;
+        at = stop;
+        index += 1;
+    }
+    RowRuns::new(a, b, part)
+}
+
+impl<R: Drop> RowRuns<R> {
+    /// The runs as one shared value. `start` is where they begin, and `end` where they end.
+    pub fn new(start: u64, end: u64, runs: Vec<RowRun<R>>) -> Result<RowRuns<R>, NoMemory>
+        requires { IsGapless start runs.items end }
+        ensures { IfOk result (λ r. r ≡ (start, expanded runs.items)) }
+    {
+        let runs = ArcSlice::from_vec(runs)?;
+        Ok(RowRuns { start, end, runs })
+    }
+
+    /// The first cycle that has a row here.
+    pub fn start(&self) -> u64
+        ensures { result ≡ self.now.0 }
+    {
+        self.start
+    }
+
+    /// The cycle after the last one that has a row here.
+    pub fn end(&self) -> u64
+        ensures { result ≡ self.now.0 + length self.now.1 }
+    {
+        self.end
+    }
+
+    /// The same rows, shared.
+    pub fn share(&self) -> Result<RowRuns<R>, NoMemory>
+        ensures { IfOk result (λ r. r ≡ self.now) }
+    {
+        Ok(RowRuns {
+            start: self.start,
+            end: self.end,
+            runs: self.runs.clone()?,
+        })
+    }
+
+    /// The row of a cycle.
+    pub fn row_at(&self, cycle: u64) -> &R
+        requires begins { self.now.0 ≤ cycle }
+        requires ends { cycle < self.now.0 + length self.now.1 }
+        ensures { (b : ℕ) → cycle < b → between self.now cycle b ≡ result.now ∷ between self.now (cycle + 1) b }
+    {
+        let runs: &[RowRun<R>] = &self.runs;
+        let index = run_at(self.start, runs, cycle);
+        &runs[index].row
+    }
+
+    /// The rows of the cycles from `a` to `b` - 1, shared.
+    pub fn part(&self, alloc: Global, a: u64, b: u64) -> Result<RowRuns<R>, NoMemory>
+        requires { Covers self.now a b }
+        ensures { IfOk result (λ r. r ≡ (a, between self.now a b)) }
+    {
+        share_between(alloc, self.start, &self.runs, a, b)
+    }
+}

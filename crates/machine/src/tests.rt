@@ -1,0 +1,87 @@
+// The smallest machine over rows whose sums are worked by hand.
+ghost use Rattle.std.specs.Prelude.{◌≡◌, ◌<◌, ◌∷◌, [], IfOk};
+
+use crate::Machine;
+use crate::row_run::RowRun;
+use crate::row_runs::RowRuns;
+use crate::steps::Steps;
+use crate::tally::TallyMachine;
+use no_memory::NoMemory;
+use std::alloc::Global;
+use std::marker::Brand;
+use std::sync::Arc;
+use std::sync::ledger::{Blank, Ledger};
+use std::test::Fail;
+
+/// Row 0 at the cycles 0 and 1, and row 5 at cycle 2.
+fn three_rows(alloc: Global) -> Result<RowRuns<u64>, NoMemory>
+    ensures { IfOk result (λ r. r ≡ (0, 0 ∷ 0 ∷ 5 ∷ [])) }
+{
+    let mut runs = Vec::new(alloc);
+    runs.push(RowRun {
+        start: 0,
+        end: 2,
+        row: Arc::new(alloc, 0)?,
+    })?;
+    runs.push(RowRun {
+        start: 2,
+        end: 3,
+        row: Arc::new(alloc, 5)?,
+    })?;
+    RowRuns::new(0, 3, runs)
+}
+
+/// The tallies after the three rows from reset, and after the last two of them from 10.
+fn tallies<L: Ledger>(alloc: Global, blank: Blank) -> Result<(u64, u64), NoMemory>
+    requires name { blank.name ≡ L.name }
+    requires parts { blank.parts ≡ L.parts }
+    requires some { 0 < blank.parts }
+{
+    let mut steps = Steps::<L>::start(blank);
+    let machine = TallyMachine { add: 3 };
+    let rows = three_rows(alloc)?.share()?;
+    let reset = machine.reset(alloc)?;
+    let whole = machine.advance(alloc, &rows, &reset, 0, 3, &mut steps)?;
+    let last = rows.part(alloc, 1, 3)?;
+    let late = machine.advance(alloc, &last, &10, 1, 3, &mut steps)?;
+    Ok((whole, late))
+}
+
+#[test]
+fn adds_rows(rt: HostRuntime) -> Result<(), Fail> {
+    assert_eq!(rt; tallies::<Brand>(rt.alloc(), Blank::new(1))?, (14, 21));
+    Ok(())
+}
+
+#[test]
+fn reads_rows(rt: HostRuntime) -> Result<(), Fail> {
+    let rows = three_rows(rt.alloc())?;
+    assert_eq!(rt; (rows.start(), rows.end()), (0, 3));
+    assert_eq!(rt; (*rows.row_at(1), *rows.row_at(2)), (0, 5));
+    let part = rows.part(rt.alloc(), 1, 2)?;
+    assert_eq!(rt; (part.start(), part.end()), (1, 2));
+    Ok(())
+}
+
+#[test]
+fn carries_and_compares(rt: HostRuntime) -> Result<(), Fail> {
+    let old = TallyMachine { add: 3 };
+    let new = TallyMachine { add: 4 };
+    assert_eq!(rt; new.carry(rt.alloc(), &old, &(), &12)?, 12);
+    assert_eq!(rt; new.share(rt.alloc(), &12)?, 12);
+    assert_eq!(rt; (new.same(&12, &12), new.same(&12, &13)), (true, false));
+    Ok(())
+}
+
+fn crossed<T: Send + Sync>(value: T) -> T {
+    value
+}
+
+/// Rows, counters and machines may go to another thread and be read there.
+#[test]
+fn cross_threads(rt: HostRuntime) -> Result<(), Fail> {
+    let rows = crossed(three_rows(rt.alloc())?);
+    let machine = crossed(TallyMachine { add: 3 });
+    assert_eq!(rt; (rows.end(), machine.add), (3, 3));
+    Ok(())
+}
