@@ -1,0 +1,71 @@
+// The trusted edge: any reader and writer of std. They tell no contents.
+ghost use Rattle.std.specs.Prelude.{◌≡◌, None};
+
+use crate::{Failed, Sink, SinkRefusal, Source};
+use std::io::{Read, Write};
+
+/// A reader of std as a source. Each of its errors counts as a fault.
+#[derive(Drop)]
+pub struct StdSource<R: Read + Drop> {
+    inner: R,
+    faults: u64,
+}
+
+impl<R: Read + Drop> StdSource<R> {
+    /// The source of this reader, which hasn't failed yet.
+    pub fn new(inner: R) -> Self
+        ensures faults { result.faults ≡ 0 }
+        ensures inner { result.inner ≡ inner }
+    {
+        StdSource { inner, faults: 0 }
+    }
+}
+
+impl<R: Read + Drop> Source for StdSource<R> {
+    ghost left = { λ _. None };
+
+    ghost faults = { λ s. s.faults };
+
+    fn read(&mut self, buf: &mut [u8]) -> Result<usize, Failed> {
+        match self.inner.read(buf) {
+            Ok(count) => Ok(count),
+            Err(_) => {
+                self.faults = self.faults.saturating_add(1);
+                Err(Failed)
+            }
+        }
+    }
+}
+
+/// A writer of std as a sink. Each of its errors counts as a fault, and so does a write that takes nothing.
+#[derive(Drop)]
+pub struct StdSink<W: Write + Drop> {
+    inner: W,
+    faults: u64,
+}
+
+impl<W: Write + Drop> StdSink<W> {
+    /// The sink of this writer, which hasn't failed yet.
+    pub fn new(inner: W) -> Self
+        ensures faults { result.faults ≡ 0 }
+        ensures inner { result.inner ≡ inner }
+    {
+        StdSink { inner, faults: 0 }
+    }
+}
+
+impl<W: Write + Drop> Sink for StdSink<W> {
+    ghost written = { λ _. None };
+
+    ghost faults = { λ s. s.faults };
+
+    fn write(&mut self, bytes: &[u8]) -> Result<usize, SinkRefusal> {
+        match self.inner.write(bytes) {
+            Ok(count) if count > 0 || bytes.is_empty() => Ok(count),
+            _ => {
+                self.faults = self.faults.saturating_add(1);
+                Err(SinkRefusal::Failed)
+            }
+        }
+    }
+}

@@ -1,0 +1,36 @@
+// That the calls succeed, and fail where they are told.
+use super::*;
+use std::test::Fail;
+
+#[test]
+fn memory_fails_at_the_calls_that_are_told(rt: HostRuntime) -> Result<(), Fail> {
+    let alloc = rt.alloc();
+    let mut source = MemSource::new(Vec::from_slice(alloc, b"abcde")?, vec![in alloc; 1]?);
+    let mut buf = [0u8; 3];
+    assert!(rt; source.read(&mut buf) == Ok(3));
+    assert!(rt; source.read(&mut buf) == Err(Failed));
+    assert!(rt; source.read(&mut buf) == Ok(2));
+    assert!(rt; buf == *b"dec");
+    assert!(rt; source.read(&mut buf) == Ok(0));
+    let mut sink = MemSink::new(alloc, vec![in alloc; 0]?);
+    assert!(rt; sink.write(b"ab") == Err(SinkRefusal::Failed));
+    assert!(rt; sink.write(b"ab") == Ok(2));
+    assert!(rt; sink.write(b"c") == Ok(1));
+    assert!(rt; sink.bytes() == b"abc".as_slice());
+    Ok(())
+}
+
+#[test]
+fn solid_memory_never_fails(rt: HostRuntime) -> Result<(), Fail> {
+    let alloc = rt.alloc();
+    let mut source = SolidSource::new(Vec::from_slice(alloc, b"abcde")?);
+    let mut buf = [0u8; 4];
+    assert!(rt; source.read(&mut buf) == Ok(4));
+    assert!(rt; source.read(&mut buf) == Ok(1));
+    assert!(rt; buf == *b"ebcd");
+    let mut sink = SolidSink::new(alloc);
+    assert!(rt; sink.write(b"ab") == Ok(2));
+    assert!(rt; sink.write(b"c") == Ok(1));
+    assert!(rt; sink.bytes() == b"abc".as_slice());
+    Ok(())
+}
