@@ -1,9 +1,12 @@
 -- The rows of a list of runs, and where its runs begin.
 use Rattle.std.proofs.Common.{◌≡◌, ℕ, zero, suc, ◌+◌, ◌-◌, ◌<◌, ◌≤◌, List, [], ◌∷◌, ◌++◌, length, take, drop, get_or, replicate, refl, sym, subst, inl, inr, eq-or-lt_of_le, ◌∙◌, ap, arith, length-append, append_assoc, append-nil, drop-drop, take-add, add-one}
 use Rattle.std.proofs.lemmas.List.{length-replicate, drop-replicate, drop-append-le, replicate-append-replicate}
-use Rattle.std.proofs.Math.Seq.{drop-append-add}
+use Rattle.std.proofs.Math.Seq.{drop-append-add, take-append_seam}
+use Rattle.std.specs.Prelude.{Result, Ok, Err, OnOk, is_err, false}
+use Rattle.std.proofs.lemmas.Grind.{take_at_read}
+use Rattle.no_memory.specs.declared.NoMemory.{NoMemory}
 use Rattle.machine.specs.declared.row_run.RowRun.{RowRun}
-use Rattle.machine.specs.Rows.{expanded, between, IsGapless, begins_at}
+use Rattle.machine.specs.Rows.{expanded, between, IsGapless, begins_at, IsWithRun, IsWithRuns}
 
 module _ {R : Type 0} where
   pub end_is : (a : ℕ) (rs : List (RowRun R)) (b : ℕ) → IsGapless a rs b → b ≡ a + length (expanded rs)
@@ -209,3 +212,68 @@ module _ {R : Type 0} where
         gapless = subst (λ (x : List (RowRun R)). IsGapless a x stop) (sym new) joined;
         rows = row;
       }
+
+  -- lists of runs behind one another
+
+  pub expanded-append : (xs ys : List (RowRun R)) → expanded (xs ++ ys) ≡ expanded xs ++ expanded ys
+  expanded-append [] ys = refl
+  expanded-append (x ∷ xs) ys =
+      ap (λ (l : List R). replicate (x.end - x.start) x.row.value ++ l) (expanded-append xs ys)
+      ∙ sym (append_assoc (replicate (x.end - x.start) x.row.value) (expanded xs) (expanded ys))
+
+  pub gapless-append : (a : ℕ) (xs ys : List (RowRun R)) (b c : ℕ) → IsGapless a xs b → IsGapless b ys c → IsGapless a (xs ++ ys) c
+  gapless-append a [] ys b c h i = subst (λ (x : ℕ). IsGapless x ys c) (sym h) i
+  gapless-append a (x ∷ xs) ys b c h i = (h.0, h.1, gapless-append x.end xs ys b c h.2 i)
+
+  pub with_none : (old new : List (RowRun R)) → new ≡ old → IsWithRuns old [] new
+  with_none old new e = record { added = []; items = e ∙ sym (append-nil old); rows = refl; gapless = λ a b h. h }
+
+  pub with_more : (old runs mid new : List (RowRun R)) (r : RowRun R) → IsWithRuns old runs mid → IsWithRun mid r new → IsWithRuns old (runs ++ r ∷ []) new
+  with_more old runs mid new r h one =
+      record {
+        added = h.added ++ one.added ∷ [];
+        items = one.items ∙ ap (λ (l : List (RowRun R)). l ++ one.added ∷ []) h.items ∙ append_assoc old h.added (one.added ∷ []);
+        rows = expanded-snoc h.added one.added
+            ∙ ap (λ (l : List R). l ++ replicate (one.added.end - one.added.start) one.added.row.value) h.rows
+            ∙ ap (λ (n : ℕ). expanded runs ++ replicate n one.added.row.value) (omega (arith, one.start, one.end))
+            ∙ ap (λ (x : R). expanded runs ++ replicate (r.end - r.start) x) one.row
+            ∙ sym (expanded-snoc runs r);
+        gapless = λ a b g.
+            let s = gapless_split a runs b r g in
+            subst (λ (x : ℕ). IsGapless a (h.added ++ one.added ∷ []) x) (one.end ∙ s.2)
+            (gapless-snoc a h.added r.start one.added (h.gapless a r.start s.0) one.start (omega (arith, one.start, one.end, s.1)));
+      }
+    where
+      gapless_split : (a : ℕ) (rs : List (RowRun R)) (b : ℕ) (r : RowRun R) → IsGapless a (rs ++ r ∷ []) b → IsGapless a rs r.start × (r.start ≤ r.end) × (r.end ≡ b)
+      gapless_split a [] b r g = (sym g.0, g.1, g.2)
+      gapless_split a (x ∷ xs) b r g = let s = gapless_split x.end xs b r g.2 in ((g.0, g.1, s.0), s.1, s.2)
+
+  pub with_front : (old runs new : List (RowRun R)) → IsWithRuns old runs new → take (length old) new ≡ old
+  with_front old runs new h = ap (λ (l : List (RowRun R)). take (length old) l) h.items ∙ take-append_seam old h.added
+
+  pub with_next : (old runs mid new : List (RowRun R)) (i : ℕ) (g : RowRun R) (r : Result (Unit {0}) NoMemory) → i < length runs → g ≡ get_or runs i g
+      → is_err r ≡ false → IsWithRuns old (take i runs) mid → OnOk r (IsWithRun mid g new) → IsWithRuns old (take (i + 1) runs) new
+  with_next old runs mid new i g (Ok x) lt is ok h one =
+      let t : take (i + 1) runs ≡ take i runs ++ get_or runs i g ∷ [] = (take_at_read runs i g lt).1 in
+      let t' : take (i + 1) runs ≡ take i runs ++ g ∷ [] = t ∙ ap (λ (x : RowRun R). take i runs ++ x ∷ []) (sym is) in
+      subst (λ (l : List (RowRun R)). IsWithRuns old l new) (sym t') (with_more old (take i runs) mid new g h one)
+  with_next old runs mid new i g (Err x) lt is ok h one = absurd cc
+
+  pub appended_rows : (old new runs runs' : List (RowRun R)) (rows : ℕ × List R) (s : ℕ) (r : Result (Unit {0}) NoMemory) → runs' ≡ runs → (s, expanded runs) ≡ rows
+      → OnOk r (IsWithRuns old runs' new) → OnOk r (expanded new ≡ expanded old ++ rows.1)
+  appended_rows old new runs runs' rows s (Ok x) e shown h =
+      ap (λ (l : List (RowRun R)). expanded l) h.items ∙ expanded-append old h.added ∙ ap (λ (l : List R). expanded old ++ l) (h.rows ∙ ap (λ (l : List (RowRun R)). expanded l) e ∙ ap (λ (p : ℕ × List R). p.1) shown)
+  appended_rows old new runs runs' rows s (Err x) e shown h = tt
+
+  pub appended_gapless : (old new runs runs' : List (RowRun R)) (rows : ℕ × List R) (s b : ℕ) (r : Result (Unit {0}) NoMemory) → runs' ≡ runs → (s, expanded runs) ≡ rows → IsGapless s runs b
+      → OnOk r (IsWithRuns old runs' new) → OnOk r ((a : ℕ) → IsGapless a old rows.0 → IsGapless a new (rows.0 + length rows.1))
+  appended_gapless old new runs runs' rows s b (Ok x) e shown g h = λ a begun.
+      let start : s ≡ rows.0 = ap (λ (p : ℕ × List R). p.0) shown in
+      let whole : IsGapless s runs' (s + length (expanded runs')) = gapless_whole s runs runs' b e g in
+      let end : s + length (expanded runs') ≡ rows.0 + length rows.1 =
+      ap (λ (l : List (RowRun R)). s + length (expanded l)) e ∙ ap (λ (p : ℕ × List R). p.0 + length p.1) shown in
+      let here : IsGapless a old s = subst (λ (x : ℕ). IsGapless a old x) (sym start) begun in
+      let joined : IsGapless a (old ++ h.added) (s + length (expanded runs')) = gapless-append a old h.added s _ here (h.gapless s _ whole) in
+      let at_end : IsGapless a (old ++ h.added) (rows.0 + length rows.1) = subst (λ (x : ℕ). IsGapless a (old ++ h.added) x) end joined in
+      subst (λ (l : List (RowRun R)). IsGapless a l (rows.0 + length rows.1)) (sym h.items) at_end
+  appended_gapless old new runs runs' rows s b (Err x) e shown g h = tt

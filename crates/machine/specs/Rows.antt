@@ -32,3 +32,18 @@ pub record Covers {R : Type 0} (rows : ℕ × List R) (a b : ℕ) : Type 0 where
   pub begins : rows.0 ≤ a
   pub rises : a ≤ b
   pub ends : b ≤ rows.0 + length rows.1
+
+-- the second list is the first and then a run like this one
+pub record IsWithRun {R : Type 0} (old : List (RowRun R)) (r : RowRun R) (new : List (RowRun R)) : Type 0 where
+  pub added : RowRun R
+  pub items : new ≡ old ++ added ∷ []
+  pub start : added.start ≡ r.start
+  pub end : added.end ≡ r.end
+  pub row : added.row.value ≡ r.row.value
+
+-- the second list is the first and then runs with the rows of these
+pub record IsWithRuns {R : Type 0} (old runs new : List (RowRun R)) : Type 0 where
+  pub added : List (RowRun R)
+  pub items : new ≡ old ++ added
+  pub rows : expanded added ≡ expanded runs
+  pub gapless : (a b : ℕ) → IsGapless a runs b → IsGapless a added b

@@ -1,7 +1,7 @@
 // Shared rows of cycles: runs of equal rows that follow each other without a gap.
-ghost use Rattle.std.specs.Prelude.{◌≡◌, ℕ, ◌+◌, ◌-◌, ◌≤◌, ◌<◌, ◌∷◌, length, IfOk};
+ghost use Rattle.std.specs.Prelude.{◌≡◌, ℕ, ◌+◌, ◌-◌, ◌≤◌, ◌<◌, ◌∷◌, ◌++◌, length, IfOk, OnOk, OnErr};
 ghost use Rattle.machine.specs.declared.row_run.RowRun.{RowRun};
-ghost use Rattle.machine.specs.Rows.{expanded, slice, IsGapless, begins_at, between, Covers};
+ghost use Rattle.machine.specs.Rows.{expanded, slice, IsGapless, begins_at, between, Covers, IsWithRun, IsWithRuns};
 
 use crate::row_run::RowRun;
 use no_memory::NoMemory;
@@ -93,6 +93,36 @@ pub fn share_between<R: Drop>(
     RowRuns::new(a, b, part)
 }
 
+/// One run more, its row shared.
+fn append_run<R: Drop>(list: &mut Vec<RowRun<R>>, run: &RowRun<R>) -> Result<(), NoMemory>
+    ensures ok { OnOk result (IsWithRun list.old.items run.now list.new.items) }
+    ensures kept { OnErr result (list.new.items ≡ list.old.items) }
+{
+    let row = Arc::try_clone(&run.row)?;
+    let shared = RowRun {
+        start: run.start,
+        end: run.end,
+        row,
+    };
+    list.push(shared)?;
+    Ok(())
+}
+
+/// All of these runs behind the ones of a list, each row shared, or none.
+fn append_runs<R: Drop>(list: &mut Vec<RowRun<R>>, runs: &[RowRun<R>]) -> Result<(), NoMemory>
+    ensures ok { OnOk result (IsWithRuns list.old.items runs.now list.new.items) }
+    ensures kept { OnErr result (list.new.items ≡ list.old.items) }
+{
+    let before = list.len();
+    for run in runs {
+        if append_run(list, run).is_err() {
+            list.truncate(before);
+            return Err(NoMemory);
+        }
+    }
+    Ok(())
+}
+
 impl<R: Drop> RowRuns<R> {
     /// The runs as one shared value. `start` is where they begin, and `end` where they end.
     pub fn new(start: u64, end: u64, runs: Vec<RowRun<R>>) -> Result<RowRuns<R>, NoMemory>
@@ -126,6 +156,15 @@ impl<R: Drop> RowRuns<R> {
             end: self.end,
             runs: self.runs.clone()?,
         })
+    }
+
+    /// These runs behind the ones of a list. Where memory runs out, the list is as it was.
+    pub fn append_to(&self, list: &mut Vec<RowRun<R>>) -> Result<(), NoMemory>
+        ensures rows { OnOk result (expanded list.new.items ≡ expanded list.old.items ++ self.now.1) }
+        ensures gapless { OnOk result ((a : ℕ) → IsGapless a list.old.items self.now.0 → IsGapless a list.new.items (self.now.0 + length self.now.1)) }
+        ensures kept { OnErr result (list.new.items ≡ list.old.items) }
+    {
+        append_runs(list, &self.runs)
     }
 
     /// The row of a cycle.

@@ -60,6 +60,10 @@ fn reads_rows(rt: HostRuntime) -> Result<(), Fail> {
     assert_eq!(rt; (*rows.row_at(1), *rows.row_at(2)), (0, 5));
     let part = rows.part(rt.alloc(), 1, 2)?;
     assert_eq!(rt; (part.start(), part.end()), (1, 2));
+    let mut list = Vec::new(rt.alloc());
+    rows.append_to(&mut list)?;
+    part.append_to(&mut list)?;
+    assert_eq!(rt; list.len(), 3);
     Ok(())
 }
 

@@ -1,0 +1,15 @@
+pub mod Slices
+pub mod Kept
+pub mod KeptRun
+pub mod KeptInstall
+pub mod Law
+pub mod Currents
+pub mod Lead
+pub mod Settle
+pub mod Settled
+pub mod Outs
+pub mod InRooms
+pub mod Bridge
+pub mod Weaves
+pub mod Prefixes
+pub mod Writings

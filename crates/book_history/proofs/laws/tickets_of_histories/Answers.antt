@@ -1,0 +1,8 @@
+use Rattle.book_history.proofs.Bridge.{still_out, next_is_new}
+use Rattle.book_history.proofs.laws.tickets_of_histories.Goals as goal
+
+pub returns-clause-still_out : goal.returns-clause-still_out
+returns-clause-still_out g c = let m = g.M.Machine in λ st h es n t by. still_out m.kit st h es n t by
+
+pub returns-clause-next_is_new : goal.returns-clause-next_is_new
+returns-clause-next_is_new g c = let m = g.M.Machine in λ st h l n is. next_is_new m.kit st m.valid h l.follows n is

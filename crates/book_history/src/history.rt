@@ -1,0 +1,65 @@
+// The history of a book: its settings, its entries and all that belongs to them.
+ghost use Rattle.std.specs.Prelude.{◌≡◌, [], map};
+ghost use Rattle.book_history.specs.Entries.{entry_of};
+
+use crate::entry::Entry;
+use crate::historied::Historied;
+use crate::rooms::Rooms;
+use crate::written::Written;
+use machine::Machine;
+use std::alloc::Global;
+use std::marker::Model;
+
+/// Entries with the versions, operations and rows that belong to them. Whatever its entries, they are legal.
+#[derive(Drop)]
+pub struct History<M: Machine> {
+    pub(crate) written: Written<M, M::Row, M::Ops>,
+}
+
+impl<M: Machine> Model for History<M> {
+    ghost use Rattle.book_history.specs.Journal.{Journal};
+    ghost use Rattle.book_history.specs.Written.{journal_of, IsWritten};
+
+    ghost Value = { Journal M M.Row M.Ops };
+
+    ghost view = { λ h. journal_of h.written };
+
+    ghost invariant = { λ h. IsWritten M.kit M.valid h.written };
+}
+
+impl<M: Machine> History<M> {
+    /// A history with these settings and no entry. It takes no memory.
+    pub fn empty(alloc: Global, interval: u64, lookback: u64, rooms: Rooms) -> History<M>
+        ensures settings { result.settings ≡ record { interval = interval; lookback = lookback; rooms = rooms } }
+        ensures events { result.events ≡ [] }
+    {
+        History {
+            written: Written {
+                interval,
+                lookback,
+                rooms,
+                cycle: 0,
+                entries: Vec::new(alloc),
+                loads: Vec::new(alloc),
+                runs: Vec::new(alloc),
+            },
+        }
+    }
+
+    /// The entries, in order.
+    pub fn entries(&self) -> &[Entry]
+        ensures { result.now ≡ map entry_of self.now.events }
+    {
+        &self.written.entries
+    }
+}
+
+impl<M: Machine> Historied for History<M> {
+    type Machine = M;
+
+    type Row = M::Row;
+
+    type Ops = M::Ops;
+
+    ghost history = { λ h. h };
+}

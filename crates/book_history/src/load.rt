@@ -1,0 +1,11 @@
+// What a history holds for an open or a reload, beside its entry.
+use crate::version::Version;
+use std::alloc::Global;
+use std::sync::Arc;
+
+/// The version that came, and for a reload its operations.
+#[derive(Drop)]
+pub enum Load<D, O> {
+    Open(Arc<Version<D>, Global>),
+    Reload(Arc<Version<D>, Global>, O),
+}
