@@ -1,0 +1,11 @@
+pub mod Copies
+pub mod Cases
+pub mod BitRuns
+pub mod Settled
+pub mod Locals
+pub mod Pending
+pub mod Numbered
+pub mod Views
+pub mod Lists
+pub mod Steps
+pub mod Ready

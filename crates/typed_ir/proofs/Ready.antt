@@ -1,0 +1,137 @@
+-- After a cycle the environment is ready for the next one.
+use Rattle.std.proofs.Common.{◌≡◌, ℕ, suc, ◌-◌, ◌/◌, ◌^◌, min, ℤ, pos, Bool, true, false, ◌==◌, cond, ◌⊎◌, inl, inr, List, [], ◌∷◌, ◌++◌, map, refl, sym, ◌∙◌, ap, subst, nat_lt}
+use Rattle.std.specs.Prelude.{negsuc}
+use Rattle.std.proofs.lemmas.Bool.{eqb-true, eqb-false, ne_eqb, cond-true, cond-false}
+use Rattle.typed_ir.specs.declared.update.Update.{Update}
+use Rattle.typed_ir.specs.Valuations.{Valuation, look, placed}
+use Rattle.typed_ir.specs.Sized.{value_of, width_of, place_of}
+use Rattle.typed_ir.specs.declared.reach.Reach.{Reach}
+use Rattle.typed_ir.specs.Stmts.{SizedTarget, Fixed, Moving, SizedStmt, Skip, Assign, Later, Then, If, Case, Arm, moved, update_of, updates_of, all_applied, matches_any, pending, pending_at, exec_at, span_of, later_signals}
+use Rattle.typed_ir.specs.Orders.{Member, Each}
+use Rattle.typed_ir.specs.Cycles.{Flat, fill, base, wires, step, all_pending, Satisfies, WritesRegisters, IsReady}
+use Rattle.typed_ir.proofs.Cases.{by_cases}
+use Rattle.typed_ir.proofs.Locals.{node_laws}
+use Rattle.typed_ir.proofs.Settled.{round-outside}
+
+each_append : {N : Type 0} (P : N → Type 0) (xs ys : List N) → Each P xs → Each P ys → Each P (xs ++ ys)
+each_append P [] ys h k = k
+each_append P (x ∷ xs) ys h k = (h.0, each_append P xs ys h.1 k)
+
+each_first : {N : Type 0} (P : N → Type 0) (xs ys : List N) → Each P (xs ++ ys) → Each P xs
+each_first P [] ys h = tt
+each_first P (x ∷ xs) ys h = (h.0, each_first P xs ys h.1)
+
+each_second : {N : Type 0} (P : N → Type 0) (xs ys : List N) → Each P (xs ++ ys) → Each P ys
+each_second P [] ys h = h
+each_second P (x ∷ xs) ys h = each_second P xs ys h.1
+
+moved_signals : (P : ℕ → Type 0) (reach : Reach) (z : ℤ) (x : ℕ) → P reach.signal → Each (λ (u : Update). P u.span.signal) (moved reach z x)
+moved_signals P reach (pos low) x h = go (nat_lt low reach.total)
+  where
+    go : (b : Bool) → Each (λ (u : Update). P u.span.signal) (cond b (record { span = record { signal = reach.signal; low = low; width = min reach.width (reach.total - low) }; value = x } ∷ []) [])
+    go true = (h, tt)
+    go false = tt
+moved_signals P reach (negsuc below) x h = go (nat_lt (suc below) reach.width)
+  where
+    go : (b : Bool) → Each (λ (u : Update). P u.span.signal) (cond b (record { span = record { signal = reach.signal; low = 0; width = min (reach.width - suc below) reach.total }; value = x / 2 ^ suc below } ∷ []) [])
+    go true = (h, tt)
+    go false = tt
+
+update_signals : (P : ℕ → Type 0) (t : SizedTarget) (x : ℕ) (env : Valuation) → P (span_of t).signal → Each (λ (u : Update). P u.span.signal) (update_of t x env)
+update_signals P (Fixed lane) x env h = (h, tt)
+update_signals P (Moving reach index) x env h = moved_signals P reach (place_of reach.below reach.signed (width_of index) (value_of index env)) (x / 2 ^ reach.shift) h
+
+updates_signals : (P : ℕ → Type 0) (ts : List SizedTarget) (x : ℕ) (env : Valuation) → Each P (map (λ (t : SizedTarget). (span_of t).signal) ts)
+    → Each (λ (u : Update). P u.span.signal) (updates_of ts x env)
+updates_signals P [] x env h = tt
+updates_signals P (t ∷ ts) x env h =
+    each_append (λ (u : Update). P u.span.signal) (update_of t x env) (updates_of ts x env) (update_signals P t x env h.0) (updates_signals P ts x env h.1)
+
+pub pending_signals : (P : ℕ → Type 0) (st : SizedStmt) (subject : ℕ) (env : Valuation) → Each P (later_signals st) → Each (λ (u : Update). P u.span.signal) (pending_at st subject env)
+pending_signals P Skip subject env h = tt
+pending_signals P (Assign parts e) subject env h = tt
+pending_signals P (Later parts e) subject env h = updates_signals P parts (value_of e env) env h
+pending_signals P (Then a b) subject env h =
+    each_append (λ (u : Update). P u.span.signal) (pending_at a subject env) (pending_at b subject (exec_at a subject env))
+    (pending_signals P a subject env (each_first P (later_signals a) (later_signals b) h))
+    (pending_signals P b subject (exec_at a subject env) (each_second P (later_signals a) (later_signals b) h))
+pending_signals P (If c a b) subject env h =
+    go (value_of c env == 0) (pending_signals P b subject env (each_second P (later_signals a) (later_signals b) h))
+    (pending_signals P a subject env (each_first P (later_signals a) (later_signals b) h))
+  where
+    go : (t : Bool) → Each (λ (u : Update). P u.span.signal) (pending_at b subject env) → Each (λ (u : Update). P u.span.signal) (pending_at a subject env)
+        → Each (λ (u : Update). P u.span.signal) (cond t (pending_at b subject env) (pending_at a subject env))
+    go true x y = x
+    go false x y = y
+pending_signals P (Case e arms) subject env h = pending_signals P arms (value_of e env) env h
+pending_signals P (Arm items body rest) subject env h =
+    go (matches_any subject items env) (pending_signals P body subject env (each_first P (later_signals body) (later_signals rest) h))
+    (pending_signals P rest subject env (each_second P (later_signals body) (later_signals rest) h))
+  where
+    go : (t : Bool) → Each (λ (u : Update). P u.span.signal) (pending_at body subject env) → Each (λ (u : Update). P u.span.signal) (pending_at rest subject env)
+        → Each (λ (u : Update). P u.span.signal) (cond t (pending_at body subject env) (pending_at rest subject env))
+    go true x y = x
+    go false x y = y
+
+pub all_signals : (registers : List ℕ) (sts : List SizedStmt) (env : Valuation) → WritesRegisters registers sts
+    → Each (λ (u : Update). Member u.span.signal registers) (all_pending sts env)
+all_signals registers [] env h = tt
+all_signals registers (st ∷ sts) env h =
+    each_append (λ (u : Update). Member u.span.signal registers) (pending st env) (all_pending sts env)
+    (pending_signals (λ s. Member s registers) st 0 env h.0) (all_signals registers sts env h.1)
+
+-- updates of registers leave every other signal
+pub applied_others : (registers : List ℕ) (us : List Update) (env : Valuation) (s : ℕ) → Each (λ (u : Update). Member u.span.signal registers) us
+    → (Member s registers → ⊥) → all_applied us env s ≡ env s
+applied_others registers [] env s h ne = refl
+applied_others registers (u ∷ us) env s h ne =
+    applied_others registers us (placed u.span u.value env) s h.1 ne
+    ∙ by_cases (s == u.span.signal)
+    (λ yes. absurd (ne (subst (λ z. Member z registers) (sym (eqb-true s u.span.signal yes)) h.0)))
+    (λ no. cond-false (s == u.span.signal) _ (env s) no)
+
+member_or : (s : ℕ) (xs : List ℕ) → Member s xs ⊎ (Member s xs → ⊥)
+member_or s [] = inr (λ m. m)
+member_or s (x ∷ xs) = by_cases (s == x)
+    (λ yes. inl (inl (eqb-true s x yes)))
+    (λ no. elim (member_or s xs) as (λ _. (Member s (x ∷ xs) ⊎ (Member s (x ∷ xs) → ⊥)))
+    [ inl m ↦ inl (inr m) | inr n ↦ inr (neither s x xs (eqb-false s x no) n) ])
+  where
+    neither : (s x : ℕ) (xs : List ℕ) → (s ≡ x → ⊥) → (Member s xs → ⊥) → Member s (x ∷ xs) → ⊥
+    neither s x xs a b (inl e) = a e
+    neither s x xs a b (inr m) = b m
+
+-- registers filled from an environment have what it has
+pub fill-map : (rs : List ℕ) (f env : Valuation) (s : ℕ) → Member s rs → fill rs (map f rs) env s ≡ f s
+fill-map [] f env s m = absurd m
+fill-map (r ∷ rs) f env s m = by_cases (s == r)
+    (λ yes. cond-true (s == r) (f r) (fill rs (map f rs) env s) yes ∙ ap f (sym (eqb-true s r yes)))
+    (λ no. cond-false (s == r) (f r) (fill rs (map f rs) env s) no ∙ fill-map rs f env s (later s r rs (eqb-false s r no) m))
+  where
+    later : (s r : ℕ) (rs : List ℕ) → (s ≡ r → ⊥) → Member s (r ∷ rs) → Member s rs
+    later s r rs ne (inl e) = absurd (ne e)
+    later s r rs ne (inr m) = m
+
+pub fill-other : (rs xs : List ℕ) (env : Valuation) (s : ℕ) → (Member s rs → ⊥) → fill rs xs env s ≡ env s
+fill-other [] xs env s n = refl
+fill-other (r ∷ rs) [] env s n = refl
+fill-other (r ∷ rs) (x ∷ xs) env s n =
+    cond-false (s == r) x (fill rs xs env s) (ne_eqb s r (λ e. n (inl e))) ∙ fill-other rs xs env s (λ m. n (inr m))
+
+-- so the next cycle, under the same inputs, begins with no write at all
+pub next_ready : (design : Flat) (state inputs : List ℕ) → WritesRegisters design.registers design.clocked
+    → Satisfies design state inputs (wires design state inputs)
+    → IsReady design (step design state inputs) inputs (all_applied (all_pending design.clocked (wires design state inputs)) (wires design state inputs))
+unfolding step
+next_ready design state inputs only h s i free =
+    let v = wires design state inputs in
+    let us = all_pending design.clocked v in
+    let after = all_applied us v in
+    let rs = design.registers in
+    let rest = fill design.inputs inputs (λ t. 0) in
+    elim (member_or s rs) as (λ _. look after s i ≡ look (fill rs (map after rs) rest) s i) [
+      | inl m ↦ ap (λ n. look (λ t. n) s i) (sym (fill-map rs after rest s m))
+      | inr n ↦ ap (λ x. look (λ t. x) s i) (applied_others rs us v s (all_signals rs design.clocked v only) n)
+          ∙ ap (λ e. look e s i) (sym h) ∙ round-outside node_laws design.nodes v (base design state inputs) s i free
+          ∙ ap (λ x. look (λ t. x) s i) (fill-other rs state rest s n ∙ sym (fill-other rs (map after rs) rest s n))
+    ]

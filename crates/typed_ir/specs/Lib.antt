@@ -1,0 +1,14 @@
+pub mod Valuations
+pub mod Sized
+pub mod Stmts
+pub mod Nodes
+pub mod Orders
+pub mod Cycles
+pub mod Forms
+pub mod Views
+pub mod Targets
+pub mod Statements
+pub mod FlatNodes
+pub mod Flats
+pub mod Linkeds
+pub mod States

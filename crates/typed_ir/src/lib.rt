@@ -1,0 +1,45 @@
+// Flat designs: sized expressions, statements and nodes, and what they do to a valuation of the signals.
+#![tactic(auto)]
+
+mod apply;
+mod env;
+mod flat;
+mod form;
+mod lane;
+mod laws;
+mod linked;
+mod node;
+mod operators;
+mod placing;
+mod reach;
+mod reg_state;
+mod signal;
+mod span;
+mod stmt;
+mod target;
+#[cfg(test)]
+mod tests;
+mod touch;
+mod typed;
+mod update;
+
+pub use env::Env;
+pub use flat::Flat;
+pub use form::Form;
+pub use lane::Lane;
+pub use laws::order_settles;
+pub use linked::Linked;
+pub use node::{Node, settle};
+pub use operators::{
+    ArithmeticOperator, BinaryOperator, Comparison, LogicalOperator, ShiftOperator, UnaryOperator,
+};
+pub use placing::apply_all;
+pub use reach::Reach;
+pub use reg_state::RegState;
+pub use signal::Signal;
+pub use span::Span;
+pub use stmt::{Item, Stmt};
+pub use target::Target;
+pub use touch::Touch;
+pub use typed::{Typed, fits, value};
+pub use update::Update;
