@@ -1,1 +1,9 @@
+pub mod Keywords
+pub mod Signs
+pub mod Forms
+pub mod Cuts
+pub mod Numbers
+pub mod Lexemes
+pub mod Tokens
+pub mod Views
 pub mod Ends

@@ -1,10 +1,24 @@
 // From the pieces of the source files to tokens.
 #![tactic(auto)]
 
+mod based;
+mod cursor;
+mod cut;
+mod keyword;
 mod kind;
+mod lexeme;
+mod lexer;
 mod literal;
+mod mark;
+mod number;
+mod read;
+mod shape;
 mod token;
 
 pub use kind::Kind;
+pub use lexer::lex;
 pub use literal::Literal;
 pub use token::Token;
+
+#[cfg(test)]
+mod tests;

@@ -1,0 +1,4 @@
+pub mod Bytes
+pub mod Places
+pub mod Faults
+pub mod Files
