@@ -1,0 +1,59 @@
+-- What a run of a design begins with and gives.
+use Rattle.std.proofs.Common.{◌≡◌, ℕ, zero, suc, ◌+◌, ◌-◌, ◌<◌, false, ◌&&◌, ◌==◌, List, [], ◌∷◌, length, map, drop, refl, sym, ◌∙◌, ap, ap₂, arith, subst, min, inl, inr, length-drop}
+use Rattle.std.proofs.lemmas.Bool.{eq-eqb, cond-true, cond-false, ne_eqb}
+use Rattle.std.proofs.lemmas.List.{length-take}
+use Rattle.machine.specs.Rows.{between, Covers}
+use Rattle.typed_ir.specs.Valuations.{Valuation}
+use Rattle.typed_ir.specs.Orders.{Member, Distinct}
+use Rattle.typed_ir.specs.Cycles.{Flat, fill, seg}
+use Rattle.typed_ir.proofs.Cases.{by_cases}
+use Rattle.cycle_eval.specs.Kits.{run_of, register_widths}
+use Rattle.cycle_eval.specs.States.{paired, state_values, are_alike}
+use Rattle.cycle_eval.specs.DesignLaws.{alike_is}
+use Rattle.std.specs.Prelude.{slice_get, Some}
+
+-- a run of at least one row
+pub run_is : {R : Type 0} (design : Flat) (rows : List R) (n : ℕ) (s : List (ℕ × ℕ)) → length rows ≡ n → 0 < n
+    → paired (register_widths design) (seg design (λ t. []) 0 n (state_values s)) ≡ run_of design rows s
+run_is design [] n s e h = absurd (omega (arith, e, h))
+run_is design (r ∷ rs) n s e h = ap (λ k. paired (register_widths design) (seg design (λ t. []) 0 k (state_values s))) (sym e)
+
+-- registers that were filled have what they were filled with
+pub map_same : (f g : ℕ → ℕ) (ts : List ℕ) → ((t : ℕ) → Member t ts → f t ≡ g t) → map f ts ≡ map g ts
+map_same f g [] h = refl
+map_same f g (t ∷ ts) h = ap₂ (λ (z : ℕ) (zs : List ℕ). z ∷ zs) (h t (inl refl)) (map_same f g ts (λ u m. h u (inr m)))
+
+pub fill_back : (rs xs : List ℕ) (env : Valuation) → Distinct rs → length xs ≡ length rs → map (fill rs xs env) rs ≡ xs
+fill_back [] [] env d h = refl
+fill_back [] (x ∷ xs) env d h = absurd (omega (arith, h))
+fill_back (r ∷ rs) [] env d h = absurd (omega (arith, h))
+fill_back (r ∷ rs) (x ∷ xs) env d h =
+    ap₂ (λ (z : ℕ) (zs : List ℕ). z ∷ zs) (cond-true (r == r) x (fill rs xs env r) (eq-eqb r r refl))
+    (map_same (fill (r ∷ rs) (x ∷ xs) env) (fill rs xs env) rs
+    (λ t m. cond-false (t == r) x (fill rs xs env t) (ne_eqb t r (λ e. d.0 (subst (λ z. Member z rs) e m))))
+    ∙ fill_back rs xs env d.1 (omega (arith, h)))
+
+-- so many rows between two cycles
+pub between_length : {R : Type 0} (rows : ℕ × List R) (a b : ℕ) → Covers rows a b → length (between rows a b) ≡ b - a
+between_length rows a b h =
+    let t : length (between rows a b) ≡ min (b - rows.0 - (a - rows.0)) (length (drop (a - rows.0) rows.1)) =
+    length-take (b - rows.0 - (a - rows.0)) (drop (a - rows.0) rows.1) in
+    let d : length (drop (a - rows.0) rows.1) ≡ length rows.1 - (a - rows.0) = length-drop (a - rows.0) rows.1 in
+    omega (arith, t, d, h.begins, h.rises, h.ends)
+
+-- what is left from an element on
+pub drop_got : (xs : List (ℕ × ℕ)) (i : ℕ) (p : ℕ × ℕ) → slice_get xs i ≡ Some p → drop i xs ≡ p ∷ drop (i + 1) xs
+drop_got [] i p e = cc
+drop_got (x ∷ xs) zero p e = let same : x ≡ p = cc in ap (λ z. z ∷ xs) same
+drop_got (x ∷ xs) (suc i) p e =
+    let more : suc i + 1 ≡ suc (i + 1) = omega arith in
+    drop_got xs i p e ∙ ap (λ k. p ∷ drop k (x ∷ xs)) (sym more)
+
+pub alike_step : (xs ys : List (ℕ × ℕ)) (i : ℕ) (p q : ℕ × ℕ) → slice_get xs i ≡ Some p → slice_get ys i ≡ Some q
+    → are_alike (drop i xs) (drop i ys) ≡ (((p.0 == q.0) && (p.1 == q.1)) && are_alike (drop (i + 1) xs) (drop (i + 1) ys))
+alike_step xs ys i p q e f = ap₂ are_alike (drop_got xs i p e) (drop_got ys i q f)
+
+pub unlike_lengths : (xs ys : List (ℕ × ℕ)) → (length xs ≡ length ys → ⊥) → false ≡ are_alike xs ys
+unlike_lengths xs ys h = by_cases (are_alike xs ys)
+    (λ yes. absurd (h (ap length ((alike_is xs ys).0 yes))))
+    (λ no. sym no)

@@ -1,0 +1,5 @@
+pub mod Blocks
+pub mod Passes
+pub mod Loads
+pub mod Carries
+pub mod Laws

@@ -1,0 +1,91 @@
+-- States that are put into an environment, and read from it.
+use Rattle.std.proofs.Common.{◌≡◌, ℕ, zero, suc, ◌+◌, ◌<◌, ◌≤◌, ◌==◌, take, nat_lt, List, [], ◌∷◌, ◌++◌, length, map, get_or, set, drop, append_assoc, IsTrue, refl, sym, ◌∙◌, ap, ap₂, arith}
+use Rattle.std.specs.Prelude.{slice_index, slice_get, Some}
+use Rattle.bits.specs.declared.Bits.{Bits}
+use Rattle.typed_ir.specs.States.{sized_value}
+use Rattle.typed_ir.specs.Views.{widths, env_of}
+use Rattle.typed_ir.proofs.Views.{map_set, set_same, widths-read, env_of-read}
+use Rattle.std.proofs.lemmas.List.{append-nil, drop_all, take_all}
+use Rattle.std.proofs.lemmas.Bool.{ltb-true, cond-true, cond-false}
+use Rattle.typed_ir.specs.Valuations.{Valuation, put}
+use Rattle.typed_ir.specs.Cycles.{fill, cut_to}
+use Rattle.typed_ir.specs.Flats.{are_below}
+use Rattle.typed_ir.proofs.Cases.{by_cases, and_left, and_right}
+use Rattle.typed_ir.proofs.Lists.{drop_split}
+use Rattle.cycle_eval.specs.States.{paired, state_widths, state_values}
+
+-- each register is there
+pub below_read : (rs : List ℕ) (count i : ℕ) → IsTrue (are_below rs count) → i < length rs → get_or rs i 0 < count
+below_read [] count i h k = absurd (omega (arith, k))
+below_read (r ∷ rs) count zero h k = ltb-true r count (and_left (nat_lt r count) (are_below rs count) h)
+below_read (r ∷ rs) count (suc i) h k = below_read rs count i (and_right (nat_lt r count) (are_below rs count) h) (omega (arith, k))
+
+-- one more register filled, from the end
+pub fill_step : (rs xs : List ℕ) (i : ℕ) (start env : Valuation) (r x : ℕ) → i < length rs → i < length xs → r ≡ get_or rs i 0 → x ≡ get_or xs i 0
+    → env ≡ fill (drop (i + 1) rs) (drop (i + 1) xs) start → put env r x ≡ fill (drop i rs) (drop i xs) start
+fill_step rs xs i start env r x h k er ex e =
+    ap₂ (λ (n m : ℕ). put env n m) er ex ∙ ap (λ v. put v (get_or rs i 0) (get_or xs i 0)) e
+    ∙ sym (ap₂ (λ ks zs. fill ks zs start) (drop_split rs i 0 h) (drop_split xs i 0 k))
+
+pub pairs_of : (f g : ℕ → ℕ) (rs : List ℕ) → map (λ (r : ℕ). (f r, g r)) rs ≡ paired (map f rs) (map g rs)
+pairs_of f g [] = refl
+pairs_of f g (r ∷ rs) = ap (λ zs. (f r, g r) ∷ zs) (pairs_of f g rs)
+
+-- an element of a state
+pub got_width : (xs : List (ℕ × ℕ)) (i : ℕ) (p : ℕ × ℕ) → slice_get xs i ≡ Some p → get_or (state_widths xs) i 0 ≡ p.0
+got_width [] i p e = cc
+got_width (x ∷ xs) zero p e = let same : x ≡ p = cc in ap (λ (q : ℕ × ℕ). q.0) same
+got_width (x ∷ xs) (suc i) p e = got_width xs i p e
+
+pub got_value : (xs : List (ℕ × ℕ)) (i : ℕ) (p : ℕ × ℕ) → slice_get xs i ≡ Some p → get_or (state_values xs) i 0 ≡ p.1
+got_value [] i p e = cc
+got_value (x ∷ xs) zero p e = let same : x ≡ p = cc in ap (λ (q : ℕ × ℕ). q.1) same
+got_value (x ∷ xs) (suc i) p e = got_value xs i p e
+
+pub got_within : (xs : List (ℕ × ℕ)) (i : ℕ) (p : ℕ × ℕ) → slice_get xs i ≡ Some p → i < length (state_values xs)
+got_within [] i p e = cc
+got_within (x ∷ xs) zero p e = omega arith
+got_within (x ∷ xs) (suc i) p e = let rest : i < length (state_values xs) = got_within xs i p e in omega (arith, rest)
+
+pub widths_put : (env : List Bits) (i : ℕ) (x : Bits) → x.width ≡ slice_index (widths env) i → widths (set env i x) ≡ widths env
+widths_put env i x same = map_set (λ (b : Bits). b.width) env i x ∙ ap (set (widths env) i) same ∙ set_same (widths env) i 0
+
+-- one more register read
+pub store_step : (env : List Bits) (rs : List ℕ) (i : ℕ) (old new : List Bits) (b : Bits) → i < length rs → get_or rs i 0 < length env
+    → b ≡ get_or env (get_or rs i 0) b → new ≡ old ++ b ∷ []
+    → map sized_value new ++ map (λ (r : ℕ). (slice_index (widths env) r, env_of env r)) (drop (i + 1) rs)
+    ≡ map sized_value old ++ map (λ (r : ℕ). (slice_index (widths env) r, env_of env r)) (drop i rs)
+store_step env rs i old new b h k is e =
+    let f : ℕ → ℕ × ℕ = λ r. (slice_index (widths env) r, env_of env r) in
+    let here : sized_value b ≡ f (get_or rs i 0) =
+    ap₂ pair (widths-read env (get_or rs i 0) b k is) (env_of-read env (get_or rs i 0) b k is) in
+    ap (λ zs. map sized_value zs ++ map f (drop (i + 1) rs)) e
+    ∙ ap (λ zs. zs ++ map f (drop (i + 1) rs)) (map_more old b)
+    ∙ append_assoc (map sized_value old) (sized_value b ∷ []) (map f (drop (i + 1) rs))
+    ∙ ap (λ z. map sized_value old ++ z ∷ map f (drop (i + 1) rs)) here
+    ∙ sym (ap (λ zs. map sized_value old ++ map f zs) (drop_split rs i 0 h))
+  where
+    pair : ℕ → ℕ → ℕ × ℕ
+    pair w x = (w, x)
+
+    map_more : (xs : List Bits) (b : Bits) → map sized_value (xs ++ b ∷ []) ≡ map sized_value xs ++ sized_value b ∷ []
+    map_more [] b = refl
+    map_more (x ∷ xs) b = ap (λ zs. sized_value x ∷ zs) (map_more xs b)
+
+-- a vector that was handed to a call as a slice
+pub written_back : {A : Type 0} (n : ℕ) (new old : List A) → length new ≡ length old → length new ≡ n → take n (new ++ drop (length new) old) ≡ new
+written_back n new old same is =
+    let few : length old ≤ length new = omega (arith, same) in
+    let all : length new ≤ n = omega (arith, is) in
+    ap (λ zs. take n (new ++ zs)) (drop_all (length new) old few) ∙ ap (take n) (append-nil new) ∙ take_all n new all
+
+-- inputs that no row sets read 0
+pub zero_inputs : (ss ws : List ℕ) (env : Valuation) → ((s : ℕ) → env s ≡ 0) → env ≡ fill ss (cut_to ws []) (λ s. 0)
+zero_inputs ss ws env z = λ j s. (z s ∙ sym (all_zero ss ws s)) j
+  where
+    all_zero : (ss ws : List ℕ) (s : ℕ) → fill ss (cut_to ws []) (λ t. 0) s ≡ 0
+    all_zero [] ws s = refl
+    all_zero (t ∷ ts) [] s = refl
+    all_zero (t ∷ ts) (w ∷ ws) s = by_cases (s == t)
+        (λ yes. cond-true (s == t) 0 (fill ts (cut_to ws []) (λ u. 0) s) yes)
+        (λ no. cond-false (s == t) 0 (fill ts (cut_to ws []) (λ u. 0) s) no ∙ all_zero ts ws s)

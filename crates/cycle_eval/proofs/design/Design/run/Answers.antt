@@ -1,0 +1,22 @@
+use Rattle.std.proofs.Common.{◌≡◌, suc, ◌+◌, ◌*◌, ◌∙◌, [], subst, ap, map, arith}
+use Rattle.std.proofs.Math.Nat.{suc-mul}
+use Rattle.typed_ir.specs.Cycles.{input, seg, IsReady}
+use Rattle.typed_ir.specs.Views.{env_of}
+use Rattle.cycle_eval.specs.Designs.{flat_of, work_of}
+use Rattle.cycle_eval.proofs.design.Design.run.Goals as goal
+
+pub loop-cycle-preserved : goal.loop-cycle-preserved
+loop-cycle-preserved g c =
+    let self = c.args.self.now in
+    let flat = flat_of self in
+    let n = c.loop-cycle._cycle in
+    let more : suc n ≡ n + 1 = omega arith in
+    let row : (n + 1) * work_of self ≡ n * work_of self + work_of self = ap (λ k. k * work_of self) (omega arith) ∙ suc-mul n (work_of self) in
+    record {
+      kept = c.cycle.ensures.widths ∙ c.loop-cycle.invariant.kept;
+      ready = λ state h. subst (λ k. IsReady flat (seg flat (λ t. []) 0 k state) (input flat []) (env_of c.cycle.new.env)) more
+          (c.in_ok-cycle.ensures.ready (seg flat (λ t. []) 0 n state) (input flat []) (c.loop-cycle.invariant.ready state h));
+      value = λ state h start. subst (λ k. map (env_of c.cycle.new.env) self.linked.design.registers.items ≡ seg flat (λ t. []) 0 k state) more
+          (c.in_ok-cycle.ensures.value (seg flat (λ t. []) 0 n state) (input flat []) (c.loop-cycle.invariant.ready state h));
+      taken = c.in_ok-cycle.ensures.taken ∙ omega (arith, row, c.loop-cycle.invariant.taken);
+    }

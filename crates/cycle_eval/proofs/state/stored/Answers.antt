@@ -1,0 +1,32 @@
+use Rattle.std.proofs.Common.{◌≡◌, ◌++◌, ◌∙◌, ℕ, length, map, sym, subst, List}
+use Rattle.std.specs.Prelude.{slice_index, IfOk}
+use Rattle.std.proofs.lemmas.List.{append-nil, at_drop_all}
+use Rattle.cycle_eval.specs.States.{paired}
+use Rattle.typed_ir.specs.States.{sized_value}
+use Rattle.typed_ir.specs.Views.{widths, env_of}
+use Rattle.cycle_eval.proofs.Loads.{below_read, store_step, pairs_of}
+use Rattle.cycle_eval.proofs.state.stored.Goals as goal
+
+pub bounds-env-register : goal.bounds-env-register
+bounds-env-register c = below_read c.args.registers.now (length c.args.env.now) c.loop-register.register-index c.requires c.loop-register-test.true
+
+pub loop-register-preserved : goal.loop-register-preserved
+loop-register-preserved c =
+    store_step c.args.env.now c.args.registers.now c.loop-register.register-index c.loop-register.values.items c.push.new.self.items c.index-env-register.result
+    c.loop-register-test.true
+    (below_read c.args.registers.now (length c.args.env.now) c.loop-register.register-index c.requires c.loop-register-test.true)
+    c.index-env-register.is c.in_ok-push.ensures.items
+    ∙ c.loop-register.invariant
+
+pub returns : goal.returns
+returns c =
+    let env = c.args.env.now in
+    let rs = c.args.registers.now in
+    let f : ℕ → ℕ × ℕ = λ r. (slice_index (widths env) r, env_of env r) in
+    let items = c.loop-register.values.items in
+    let whole : map sized_value items ≡ paired (map (λ (r : ℕ). slice_index (widths env) r) rs) (map (env_of env) rs) =
+    sym (append-nil (map sized_value items))
+    ∙ sym (at_drop_all (λ (zs : List ℕ). map sized_value items ++ map f zs) rs c.loop-register.register-index c.loop-register-test.false)
+    ∙ c.loop-register.invariant
+    ∙ pairs_of (λ (r : ℕ). slice_index (widths env) r) (env_of env) rs in
+    subst (λ z. IfOk c.new.result (λ s. s ≡ z)) whole c.new.ensures

@@ -1,0 +1,43 @@
+-- What a design does as a machine without rows: all data inputs read 0.
+use Rattle.std.specs.Prelude.{◌≡◌, ℕ, suc, ◌%◌, ◌^◌, Bool, true, false, ◌&&◌, ◌==◌, if◌then◌else◌, List, [], ◌∷◌, map, length}
+use Rattle.typed_ir.specs.Cycles.{Signal, Flat, width_at, initial_at, reset, seg}
+use Rattle.typed_ir.specs.Orders.{at_or}
+use Rattle.cycle_eval.specs.States.{paired, state_values}
+
+abbrev pub register_widths : Flat → List ℕ
+register_widths design = map (width_at design) design.registers
+
+abbrev pub reset_of : Flat → List (ℕ × ℕ)
+reset_of design = paired (register_widths design) (reset design)
+
+-- the state after a cycle for each row of a list
+abbrev pub run_of : {R : Type 0} → Flat → List R → List (ℕ × ℕ) → List (ℕ × ℕ)
+run_of design [] s = s
+run_of design (row ∷ rows) s = paired (register_widths design) (seg design (λ t. []) 0 (suc (length rows)) (state_values s))
+
+-- a state has one value for each register, of its width
+abbrev pub Fits : Flat → List (ℕ × ℕ) → Type 0
+Fits design s = map (λ (p : ℕ × ℕ). p.0) s ≡ register_widths design
+
+-- ---- carrying without operations: register by register, by the path
+
+abbrev pub same_path : List ℕ → List ℕ → Bool
+same_path [] [] = true
+same_path [] (y ∷ ys) = false
+same_path (x ∷ xs) [] = false
+same_path (x ∷ xs) (y ∷ ys) = (x == y) && same_path xs ys
+
+abbrev pub path_at : Flat → ℕ → List ℕ
+path_at design s = at_or (λ (x : Signal). x.path) [] design.signals s
+
+-- the value of the first register of that path, else the initial value
+abbrev pub carried_value : List (List ℕ) → List ℕ → List ℕ → ℕ → ℕ
+carried_value [] xs path initial = initial
+carried_value (p ∷ ps) [] path initial = initial
+carried_value (p ∷ ps) (x ∷ xs) path initial = if same_path p path then x else carried_value ps xs path initial
+
+-- an old value is cut, or filled with zeros, to the new width
+abbrev pub carried_of : Flat → Flat → List (ℕ × ℕ) → List (ℕ × ℕ)
+carried_of old new s =
+    paired (register_widths new)
+    (map (λ (r : ℕ). carried_value (map (path_at old) old.registers) (state_values s) (path_at new r) (initial_at new r) % 2 ^ width_at new r) new.registers)

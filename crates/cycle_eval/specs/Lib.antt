@@ -1,0 +1,5 @@
+pub mod Designs
+pub mod States
+pub mod Kits
+pub mod Paths
+pub mod DesignLaws

@@ -1,0 +1,111 @@
+// A design as a machine without rows and without operations.
+ghost use Rattle.std.specs.Prelude.{◌≡◌, ◌==◌, ◌&&◌, ℕ, refl};
+ghost use Rattle.cycle_eval.specs.Designs.{flat_of, work_of};
+ghost use Rattle.cycle_eval.specs.Kits.{Fits, reset_of, run_of, carried_of};
+ghost use Rattle.cycle_eval.specs.States.{are_alike};
+ghost use Rattle.cycle_eval.specs.DesignLaws.{run_more, run_fits, reset_fits, carried_fits, alike_is};
+
+use crate::design::Design;
+use crate::no_row::{NoOps, NoRow};
+use bits::Bits;
+use machine::Machine;
+use machine::row_runs::RowRuns;
+use machine::steps::Steps;
+use no_memory::NoMemory;
+use std::alloc::Global;
+use std::sync::ledger::Ledger;
+use typed_ir::RegState;
+
+// Whether two values have the same width and number.
+fn same_bits(p: Bits, q: Bits) -> bool
+    ensures { result ≡ ((p.width == q.width) && (p.value == q.value)) }
+{
+    p.width == q.width && p.value == q.value
+}
+
+// Whether two states have the same values.
+fn alike(x: &RegState, y: &RegState) -> bool
+    ensures { result ≡ are_alike x.now y.now }
+{
+    if x.len() != y.len() {
+        return false;
+    }
+    for i in 0..x.len() {
+        let p = x.get(i);
+        let q = y.get(i);
+        if !same_bits(p, q) {
+            return false;
+        }
+    }
+    true
+}
+
+impl Machine for Design {
+    type State = RegState;
+
+    type Row = NoRow;
+
+    type Ops = NoOps;
+
+    ghost kit = { record {
+      start = λ m. reset_of (flat_of m);
+      seg = λ m rows s. run_of (flat_of m) rows s;
+      carried = λ old m ops s. carried_of (flat_of old) (flat_of m) s;
+      alike = λ m x y. are_alike x y;
+    } };
+
+    ghost work = { λ m. work_of m };
+
+    ghost fits = { λ m s. Fits (flat_of m) s };
+
+    ghost valid = { λ old m ops. Unit {0} };
+
+    fn reset(&self, alloc: Global) -> Result<RegState, NoMemory> {
+        self.reset_state(alloc)
+    }
+
+    fn advance<L: Ledger>(
+        &self,
+        alloc: Global,
+        _rows: &RowRuns<NoRow>,
+        from: &RegState,
+        a: u64,
+        b: u64,
+        steps: &mut Steps<L>,
+    ) -> Result<RegState, NoMemory> {
+        if a == b {
+            return from.share();
+        }
+        let mut env = self.loaded(alloc, from)?;
+        let mut updates = Vec::new(alloc);
+        self.run(&mut env, &mut updates, b - a, steps)?;
+        self.state_of(alloc, &env)
+    }
+
+    fn carry(
+        &self,
+        alloc: Global,
+        old: &Self,
+        _ops: &NoOps,
+        state: &RegState,
+    ) -> Result<RegState, NoMemory> {
+        self.carried(alloc, old, state)
+    }
+
+    fn same(&self, x: &RegState, y: &RegState) -> bool {
+        alike(x, y)
+    }
+
+    fn share(&self, _alloc: Global, x: &RegState) -> Result<RegState, NoMemory> {
+        x.share()
+    }
+
+    ghost laws = { record {
+      seg_none = λ m s. refl;
+      seg_more = λ m xs ys s. run_more (flat_of m) xs ys s;
+      start_fits = λ m. reset_fits (flat_of m);
+      seg_fits = λ m xs s h. run_fits (flat_of m) xs s h;
+      carried_fits = λ m n ops s v h. carried_fits (flat_of m) (flat_of n) s;
+      alike_is = λ m x y p q. alike_is x y;
+    } };
+}

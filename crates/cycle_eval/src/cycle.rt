@@ -1,0 +1,90 @@
+// One cycle, in place.
+ghost use Rattle.std.specs.Prelude.{◌≡◌, ◌≤◌, ◌<◌, ◌+◌, ◌++◌, ℕ, List, IsTrue, All, IfOk, OnOk, map, length};
+ghost use Rattle.typed_ir.specs.Nodes.{are_legal, drive_at};
+ghost use Rattle.typed_ir.specs.Orders.{pass};
+ghost use Rattle.typed_ir.specs.Cycles.{wires, step, all_pending, IsReady};
+ghost use Rattle.typed_ir.specs.Flats.{signal_widths, are_clocked};
+ghost use Rattle.typed_ir.specs.FlatNodes.{node_of};
+ghost use Rattle.typed_ir.specs.Statements.{stmt_of};
+ghost use Rattle.typed_ir.specs.Views.{widths, env_of};
+ghost use Rattle.cycle_eval.specs.Designs.{flat_of, work_of};
+
+use crate::design::Design;
+use bits::Bits;
+use machine::steps::Steps;
+use no_memory::NoMemory;
+use std::sync::ledger::Ledger;
+use typed_ir::{Node, Stmt, Update, apply_all};
+
+// One pass over the nodes in the order. Each node is one step.
+fn pass_over<L: Ledger>(nodes: &[Node], order: &[u32], env: &mut [Bits], steps: &mut Steps<L>)
+    requires legal { IsTrue (are_legal (map node_of nodes.now) (widths env.old)) }
+    requires in_range { All (λ k. k < length nodes.now) order.now }
+    ensures widths { widths env.new ≡ widths env.old }
+    ensures value { env_of env.new ≡ pass (drive_at (map node_of nodes.now)) order.now (env_of env.old) }
+    ensures taken { steps.new ≡ steps.old + length order.now }
+{
+    for k in order {
+        nodes[*k as usize].settle(env);
+        steps.tick();
+    }
+}
+
+// Notes what the clocked blocks are to write. Each block is one step.
+fn note_blocks<L: Ledger>(
+    blocks: &[Stmt],
+    env: &[Bits],
+    updates: &mut Vec<Update>,
+    steps: &mut Steps<L>,
+) -> Result<(), NoMemory>
+    requires { IsTrue (are_clocked blocks.now (widths env.now)) }
+    ensures value { IfOk result (λ _. updates.new.items ≡ updates.old.items ++ all_pending (map stmt_of blocks.now) (env_of env.now)) }
+    ensures taken { OnOk result (steps.new ≡ steps.old + length blocks.now) }
+    ensures rises { steps.old ≤ steps.new }
+    ensures most { steps.new ≤ steps.old + length blocks.now }
+{
+    for block in blocks {
+        block.note(env, updates)?;
+        steps.tick();
+    }
+    Ok(())
+}
+
+impl Design {
+    /// Settles the wires, whatever they hold, by one pass over the nodes. Each node is one step.
+    pub fn settle<L: Ledger>(&self, env: &mut [Bits], steps: &mut Steps<L>)
+        requires { widths env.old ≡ signal_widths self.now.linked.design.signals.items }
+        ensures widths { widths env.new ≡ widths env.old }
+        ensures value { (state inputs : List ℕ) → IsReady (flat_of self.now) state inputs (env_of env.old)
+            → env_of env.new ≡ wires (flat_of self.now) state inputs }
+        ensures taken { steps.new ≡ steps.old + length self.now.linked.design.nodes.items }
+    {
+        pass_over(&self.linked.design.nodes, &self.linked.order, env, steps)
+    }
+
+    /// One cycle: the registers in `env` go on to their next values. Nothing is cleared before or after it.
+    pub fn cycle<L: Ledger>(
+        &self,
+        env: &mut [Bits],
+        updates: &mut Vec<Update>,
+        steps: &mut Steps<L>,
+    ) -> Result<(), NoMemory>
+        requires { widths env.old ≡ signal_widths self.now.linked.design.signals.items }
+        ensures widths { widths env.new ≡ widths env.old }
+        ensures value { IfOk result (λ _. (state inputs : List ℕ) → IsReady (flat_of self.now) state inputs (env_of env.old)
+            → map (env_of env.new) self.now.linked.design.registers.items ≡ step (flat_of self.now) state inputs) }
+
+        // It is ready for the next cycle under the same inputs.
+        ensures ready { IfOk result (λ _. (state inputs : List ℕ) → IsReady (flat_of self.now) state inputs (env_of env.old)
+            → IsReady (flat_of self.now) (step (flat_of self.now) state inputs) inputs (env_of env.new)) }
+        ensures taken { OnOk result (steps.new ≡ steps.old + work_of self.now) }
+        ensures rises { steps.old ≤ steps.new }
+        ensures most { steps.new ≤ steps.old + work_of self.now }
+    {
+        self.settle(env, steps);
+        updates.clear();
+        note_blocks(&self.linked.design.clocked, env, updates, steps)?;
+        apply_all(env, updates.as_slice());
+        Ok(())
+    }
+}

@@ -1,0 +1,13 @@
+// The evaluator: cycles of a linked design, in place over one flat environment.
+#![tactic(auto)]
+
+mod as_machine;
+mod carrying;
+mod cycle;
+mod design;
+mod no_row;
+mod run;
+mod state;
+
+pub use design::Design;
+pub use no_row::{NoOps, NoRow};

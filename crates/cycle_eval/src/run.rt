@@ -1,0 +1,62 @@
+// Runs of a design, as a machine without rows.
+ghost use Rattle.std.specs.Prelude.{◌≡◌, ◌≤◌, ◌+◌, ◌*◌, ℕ, List, [], IfOk, OnOk, map, length};
+ghost use Rattle.typed_ir.specs.Cycles.{base, input, seg, IsReady};
+ghost use Rattle.typed_ir.specs.Flats.{signal_widths};
+ghost use Rattle.typed_ir.specs.Views.{widths, env_of};
+ghost use Rattle.cycle_eval.specs.Designs.{flat_of, work_of};
+ghost use Rattle.cycle_eval.specs.Kits.{Fits, register_widths};
+ghost use Rattle.cycle_eval.specs.States.{paired, state_values};
+
+use crate::design::Design;
+use crate::state::{load, stored, zeros};
+use bits::Bits;
+use machine::steps::Steps;
+use no_memory::NoMemory;
+use std::alloc::Global;
+use std::sync::ledger::Ledger;
+use typed_ir::{RegState, Update};
+
+impl Design {
+    /// An environment with the registers of a state; all else is 0.
+    pub fn loaded(&self, alloc: Global, from: &RegState) -> Result<Vec<Bits>, NoMemory>
+        requires { Fits (flat_of self.now) from.now }
+        ensures widths { IfOk result (λ env. widths env.items ≡ signal_widths self.now.linked.design.signals.items) }
+        ensures value { IfOk result (λ env. env_of env.items ≡ base (flat_of self.now) (state_values from.now) (input (flat_of self.now) [])) }
+    {
+        let mut env = zeros(alloc, &self.linked.design.signals)?;
+        load(&self.linked.design.registers, from, &mut env);
+        Ok(env)
+    }
+
+    /// So many cycles in place, under inputs that read 0.
+    pub fn run<L: Ledger>(
+        &self,
+        env: &mut [Bits],
+        updates: &mut Vec<Update>,
+        cycles: u64,
+        steps: &mut Steps<L>,
+    ) -> Result<(), NoMemory>
+        requires { widths env.old ≡ signal_widths self.now.linked.design.signals.items }
+        ensures widths { IfOk result (λ _. widths env.new ≡ widths env.old) }
+        ensures value { IfOk result (λ _. (state : List ℕ)
+            → IsReady (flat_of self.now) state (input (flat_of self.now) []) (env_of env.old)
+            → map (env_of env.old) self.now.linked.design.registers.items ≡ state
+            → map (env_of env.new) self.now.linked.design.registers.items ≡ seg (flat_of self.now) (λ t. []) 0 cycles state) }
+        ensures taken { OnOk result (steps.new ≡ steps.old + cycles * work_of self.now) }
+        ensures rises { steps.old ≤ steps.new }
+        ensures most { steps.new ≤ steps.old + cycles * work_of self.now }
+    {
+        for _cycle in 0..cycles {
+            self.cycle(env, updates, steps)?;
+        }
+        Ok(())
+    }
+
+    /// The registers of an environment, as a state.
+    pub fn state_of(&self, alloc: Global, env: &[Bits]) -> Result<RegState, NoMemory>
+        requires { widths env.now ≡ signal_widths self.now.linked.design.signals.items }
+        ensures { IfOk result (λ s. s ≡ paired (register_widths (flat_of self.now)) (map (env_of env.now) self.now.linked.design.registers.items)) }
+    {
+        stored(alloc, &self.linked.design.registers, env)
+    }
+}

@@ -1,0 +1,52 @@
+// Register states into an environment, and out of it.
+ghost use Rattle.std.specs.Prelude.{◌≡◌, ◌<◌, ℕ, [], IsTrue, IfOk, map, length, slice_index};
+ghost use Rattle.typed_ir.specs.Cycles.{base, input, fill};
+ghost use Rattle.typed_ir.specs.Flats.{signal_widths, are_below};
+ghost use Rattle.typed_ir.specs.Views.{widths, env_of};
+ghost use Rattle.cycle_eval.specs.Designs.{flat_of};
+ghost use Rattle.cycle_eval.specs.Kits.{register_widths, Fits};
+ghost use Rattle.cycle_eval.specs.States.{paired, state_widths, state_values};
+
+use crate::design::Design;
+use bits::Bits;
+use no_memory::NoMemory;
+use std::alloc::Global;
+use typed_ir::{RegState, Signal};
+
+// 0 for each signal.
+pub fn zeros(alloc: Global, signals: &[Signal]) -> Result<Vec<Bits>, NoMemory>
+    ensures widths { IfOk result (λ env. widths env.items ≡ signal_widths signals.now) }
+    ensures value { IfOk result (λ env. (s : ℕ) → env_of env.items s ≡ 0) }
+{
+    let mut env = Vec::new(alloc);
+    for signal in signals {
+        env.push(Bits::new(signal.width, 0))?;
+    }
+    Ok(env)
+}
+
+// Puts the values of a state at its registers.
+pub fn load(registers: &[u32], from: &RegState, env: &mut [Bits])
+    requires there { IsTrue (are_below registers.now (length env.old)) }
+    requires fits { state_widths from.now ≡ map (λ s. slice_index (widths env.old) s) registers.now }
+    ensures widths { widths env.new ≡ widths env.old }
+    ensures value { env_of env.new ≡ fill registers.now (state_values from.now) (env_of env.old) }
+{
+    let mut left = registers.len();
+    while left > 0 {
+        left -= 1;
+        env[registers[left] as usize] = from.get(left);
+    }
+}
+
+// The values that an environment has at these registers.
+pub fn stored(alloc: Global, registers: &[u32], env: &[Bits]) -> Result<RegState, NoMemory>
+    requires { IsTrue (are_below registers.now (length env.now)) }
+    ensures { IfOk result (λ s. s ≡ paired (map (λ s. slice_index (widths env.now) s) registers.now) (map (env_of env.now) registers.now)) }
+{
+    let mut values = Vec::new(alloc);
+    for register in registers {
+        values.push(env[*register as usize])?;
+    }
+    RegState::new(values)
+}
