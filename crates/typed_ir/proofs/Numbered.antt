@@ -113,7 +113,7 @@ pub all_of : (P : ℕ → Type 0) → ((k : ℕ) → P k) → (ks : List ℕ) �
 all_of P h [] = tt
 all_of P h (k ∷ ks) = (h k, all_of P h ks)
 
--- T2.4: the wires satisfy the design
+-- the wires satisfy the design
 pub wires_satisfy : (design : Flat) (order : List ℕ) (state inputs : List ℕ) → IsSound design → IsOrder design.nodes order
     → Satisfies design state inputs (wires design state inputs)
 unfolding wires
