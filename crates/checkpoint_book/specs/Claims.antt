@@ -1,0 +1,17 @@
+-- What a claim does to a history, by its answer.
+use Rattle.std.specs.Prelude.{◌≡◌, ℕ, List, [], ◌∷◌, ◌++◌, Bool, true, false, ◌||◌, Option, Some, None}
+use Rattle.machine.specs.Kit.{Kit}
+use Rattle.book_history.specs.declared.who.Who.{Who}
+use Rattle.book_history.specs.declared.who.Who.TheVariants.{Worker}
+use Rattle.book_history.specs.Book.{Ticket, Claimed}
+use Rattle.book_history.specs.Journal.{Journal}
+use Rattle.book_history.specs.Outs.{IsOutFor}
+use Rattle.book_history.specs.Tickets.{is_drawn, is_used}
+use Rattle.checkpoint_book.specs.Views.{book_of, counts_of, none_free, is_full}
+
+-- ticket t.0 was drawn: its number is new to the history before, its claim is the one entry more, and it is out
+pub record IsDrawn {D S R O : Type 0} (k : Kit D S R O) (by : Who) (old new : Journal D R O) (t : ℕ × Ticket D S R) : Type 0 where
+  pub events : new.events ≡ old.events ++ Claimed t.0 t.1.a t.1.b by ∷ []
+  pub not_drawn : is_drawn t.0 old.events ≡ false
+  pub not_used : is_used t.0 old.events ≡ false
+  pub is_out : IsOutFor (book_of k new) t.0 t.1 by
