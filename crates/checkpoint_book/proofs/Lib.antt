@@ -5,3 +5,6 @@ pub mod Draws
 pub mod Frees
 pub mod Renewals
 pub mod Keeps
+pub mod Lengths
+pub mod Uses
+pub mod Entries

@@ -1,4 +1,5 @@
 use Rattle.std.proofs.Common.{◌≡◌, ℕ, zero, suc, ◌+◌, ◌-◌, ◌*◌, ◌<◌, ◌≤◌, List, [], ◌∷◌, ◌++◌, length, take, drop, set, get_or, refl, sym, ◌∙◌, ap, arith, eqb, length-append, length-drop, length-take-le}
+use Rattle.std.proofs.Math.Seq.{drop-append-add}
 use Rattle.std.specs.List.{remove}
 use Rattle.std.proofs.lemmas.Bool.{cond_both, eqb-false}
 use Rattle.book_history.specs.declared.segment.Segment.{Segment}
@@ -106,3 +107,11 @@ most_within w c at next end before steps steps' from le within taken most =
     let f : (next - c) + (end - next) ≡ end - c = omega arith in
     let whole : ((next - c) + (end - next)) * w ≡ (end - c) * w = ap (λ (x : ℕ). x * w) f in
     omega (arith, product, whole, taken, most)
+
+-- rows that follow a record
+pub agree_after : {R : Type 0} (before : List R) (r : ℕ × List R) → length before ≡ r.0 → (end : ℕ) → AgreeFrom r.0 end r (before ++ r.1)
+agree_after {R} before r len end = λ a b from within.
+    let at : a ≡ length before + (a - r.0) = omega (arith, len, from) in
+    let count : (b - r.0) - (a - r.0) ≡ b - a = omega (arith, from) in
+    ap (λ (n : ℕ). take n (drop (a - r.0) r.1)) count
+    ∙ ap (λ (l : List R). take (b - a) l) (sym (ap (λ (i : ℕ). drop i (before ++ r.1)) at ∙ drop-append-add before r.1 (a - r.0)))

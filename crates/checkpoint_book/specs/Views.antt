@@ -10,6 +10,10 @@ use Rattle.checkpoint_book.specs.declared.installed.Installed.{Installed}
 use Rattle.checkpoint_book.specs.declared.installed.Installed.TheVariants.{Joined}
 use Rattle.checkpoint_book.specs.Answers.{install_answer}
 
+abbrev pub is_none : {A : Type 0} → Option A → Bool
+is_none None = true
+is_none (Some x) = false
+
 module _ {D S R O : Type 0} where
   -- the replayed book
   abbrev pub book_of : Kit D S R O → Journal D R O → Option (Book D S R)
@@ -66,10 +70,6 @@ module _ {D S R : Type 0} where
   abbrev pub answer_in : {O : Type 0} → Kit D S R O → Option (Book D S R) → Ticket D S R → Installed
   answer_in k None t = Joined
   answer_in k (Some c) t = install_answer k c t
-
-  abbrev pub is_none : {A : Type 0} → Option A → Bool
-  is_none None = true
-  is_none (Some x) = false
 
   -- there is no link that a claim takes
   abbrev pub none_free : Who → Option (Book D S R) → Bool

@@ -6,8 +6,5 @@ use machine::Machine;
 #[derive(Drop)]
 pub enum Claimed<M: Machine> {
     Ticket(Ticket<M>),
-    Nothing {
-        full: bool,
-        closed: bool,
-    },
+    Nothing { full: bool, closed: bool },
 }

@@ -36,7 +36,11 @@ fn is_taken(link: Link, by: Who) -> bool
 }
 
 /// The first link that a claim takes, with its first cycle and state.
-pub fn find_free<'a, S>(first: &'a S, segs: &'a [Segment<S>], by: Who) -> Option<(usize, u64, &'a S)>
+pub fn find_free<'a, S>(
+    first: &'a S,
+    segs: &'a [Segment<S>],
+    by: Who,
+) -> Option<(usize, u64, &'a S)>
     ensures none { IfNone result (find_link (takes by) 0 first.now segs.now ≡ None) }
     ensures some { IfSome result (λ f. IsPlace (takes by) first.now segs.now f.0 f.1 f.2.now) }
 {

@@ -2,6 +2,7 @@
 ghost use Rattle.std.specs.Prelude.{◌≡◌, ℕ, vec_capacity};
 ghost use Rattle.book_history.specs.Book.{free_link, freed};
 
+use crate::opened::Opened;
 use book_history::link::Link;
 use book_history::segment::Segment;
 
@@ -23,7 +24,7 @@ fn freed_link(link: Link, ticket: u64) -> Link
 }
 
 /// Opens the links that are out with this ticket.
-pub fn free<S>(segs: &mut Vec<Segment<S>>, ticket: u64)
+fn free<S>(segs: &mut Vec<Segment<S>>, ticket: u64)
     ensures items { segs.new.items ≡ freed ticket segs.old.items }
     ensures capacity { vec_capacity segs.new ≡ vec_capacity segs.old }
 {
@@ -31,4 +32,14 @@ pub fn free<S>(segs: &mut Vec<Segment<S>>, ticket: u64)
         let seg = &mut segs[i];
         seg.link = freed_link(seg.link, ticket);
     }
+}
+
+/// Gives a ticket up.
+pub fn release_in<D, S>(o: &mut Opened<D, S>, ticket: u64)
+    ensures version { o.new.version ≡ o.old.version }
+    ensures first { o.new.first ≡ o.old.first }
+    ensures items { o.new.segs.items ≡ freed ticket o.old.segs.items }
+    ensures capacity { vec_capacity o.new.segs ≡ vec_capacity o.old.segs }
+{
+    free(&mut o.segs, ticket);
 }

@@ -1,9 +1,10 @@
 // New marks of a run, thinned where they make 1,025.
-ghost use Rattle.std.specs.Prelude.{◌≡◌, ℕ, ◌<◌, ◌≤◌, ◌+◌, ◌-◌, ◌*◌, List, length, vec_capacity, OnOk};
+ghost use Rattle.std.specs.Prelude.{◌≡◌, ℕ, ◌<◌, ◌≤◌, ◌+◌, ◌-◌, ◌*◌, ◌++◌, List, length, vec_capacity, IfOk, OnOk};
 ghost use Rattle.machine.specs.Rows.{Covers};
 ghost use Rattle.book_history.specs.Book.{both, thin as thinned, add_mark, last_state, extend as extended, grid};
 ghost use Rattle.checkpoint_book.specs.Grid.{next_mark, AgreeFrom};
 
+use crate::opened::Opened;
 use book_history::link::Link;
 use book_history::segment::Segment;
 use machine::Machine;
@@ -114,4 +115,72 @@ pub fn extend<M: Machine, L: Ledger>(
         at = next;
     }
     Ok(())
+}
+
+/// The same links and marks, each state shared, with places for 1,024.
+fn share_segs<M: Machine>(
+    alloc: Global,
+    machine: &M,
+    segs: &[Segment<M::State>],
+) -> Result<Vec<Segment<M::State>>, NoMemory>
+    requires few { length segs.now < 1024 }
+    ensures items { IfOk result (λ v. v.items ≡ segs.now) }
+    ensures room { IfOk result (λ v. 1024 ≤ vec_capacity v) }
+{
+    let mut shared = Vec::with_capacity(alloc, 1024)?;
+    for seg in segs {
+        let state = machine.share(alloc, &seg.state)?;
+        shared.push_reserved(Segment {
+            link: seg.link,
+            to: seg.to,
+            state,
+        });
+    }
+    Ok(shared)
+}
+
+/// The links and marks after a run over these rows, which begin at the last mark.
+pub fn grown<M: Machine, L: Ledger>(
+    alloc: Global,
+    o: &Opened<M, M::State>,
+    rows: &RowRuns<M::Row>,
+    interval: u64,
+    n: u64,
+    steps: &mut Steps<L>,
+) -> Result<Vec<Segment<M::State>>, NoMemory>
+    requires interval { 1 ≤ interval }
+    requires count { length rows.now.1 ≡ n }
+    requires fit { M.fits o.now.version.value.machine.value (last_state o.now.first o.now.segs.items) }
+    requires few { length o.now.segs.items < 1024 }
+    ensures taken { OnOk result (steps.new ≡ steps.old + n * M.work o.now.version.value.machine.value) }
+    ensures rises { steps.old ≤ steps.new }
+    ensures most { steps.new ≤ steps.old + n * M.work o.now.version.value.machine.value }
+    ensures few { IfOk result (λ v. length v.items < 1024) }
+    ensures room { IfOk result (λ v. 1024 ≤ vec_capacity v) }
+    ensures items { IfOk result (λ v. (before : List M.Row) → length before ≡ rows.now.0
+        → v.items ≡ extended M.kit o.now.version.value.machine.value (before ++ rows.now.1) o.now.segs.items rows.now.0 (last_state o.now.first o.now.segs.items) (grid interval rows.now.0 n)) }
+{
+    let machine: &M = &*o.version.machine;
+    let mut segs = share_segs(alloc, machine, &o.segs)?;
+    extend(
+        alloc,
+        machine,
+        rows,
+        interval,
+        &o.first,
+        &mut segs,
+        rows.start(),
+        rows.end(),
+        steps,
+    )?;
+    Ok(segs)
+}
+
+/// The book with these links and marks.
+pub fn replace_segs<D, S: Drop>(o: &mut Opened<D, S>, segs: Vec<Segment<S>>)
+    ensures version { o.new.version ≡ o.old.version }
+    ensures first { o.new.first ≡ o.old.first }
+    ensures segs { o.new.segs ≡ segs }
+{
+    o.segs = segs;
 }

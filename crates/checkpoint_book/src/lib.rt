@@ -2,6 +2,7 @@
 // history, and the book is what the entries make of it.
 #![tactic(auto)]
 
+mod begin;
 pub mod book;
 pub mod claimed;
 mod counters;

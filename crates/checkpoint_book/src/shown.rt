@@ -6,9 +6,7 @@ ghost use Rattle.checkpoint_book.specs.Answers.{shown_to};
 #[derive(Clone, Copy, Debug, PartialEq, Eq)]
 pub enum Shown {
     Settled,
-    Estimate {
-        settled_to: u64,
-    },
+    Estimate { settled_to: u64 },
 }
 
 impl Shown {

@@ -23,7 +23,7 @@ push_reserved-requires g c =
 pub loop-seg-preserved : goal.loop-seg-preserved
 loop-seg-preserved g c = (
   c.push_reserved.ensures.items
-  ∙ carried_next g.M.Machine.kit c.args.old.now c.args.new.now c.args.ops.now c.args.segs.now c.args.renewed.now.items c.loop-seg.renewed.items c.loop-seg.seg-index c.seg-item.result c.in_ok-state.state
-  c.loop-seg-test.true c.seg-item.is c.in_ok-state.ensures c.loop-seg.invariant.0,
+      ∙ carried_next g.M.Machine.kit c.args.old.now c.args.new.now c.args.ops.now c.args.segs.now c.args.renewed.now.items c.loop-seg.renewed.items c.loop-seg.seg-index c.seg-item.result c.in_ok-state.state
+      c.loop-seg-test.true c.seg-item.is c.in_ok-state.ensures c.loop-seg.invariant.0,
   c.push_reserved.ensures.capacity ∙ c.loop-seg.invariant.1,
 )

@@ -45,7 +45,7 @@ loop-seg-preserved g c =
     let more = simulated_more k (g.M.Machine.fits m) m c.args.rows.now c.args.first.now c.args.segs.now c.args.renewed.now.items c.loop-seg.renewed.items c.loop-seg.seg-index c.args.from c.loop-seg.at
     (g.M.Machine.work m) c.args.steps.now c.loop-seg.steps c.advance.new.steps c.seg-item.result c.in_ok-state.state c.loop-seg-test.true c.seg-item.is h fits run c.in_ok-state.ensures.taken in (
       subst (λ (l : List (Segment g.row.M-State.Denot)). Simulated k (g.M.Machine.fits m) m c.args.rows.now c.args.first.now c.args.segs.now c.args.renewed.now.items l (c.loop-seg.seg-index + 1) c.args.from c.seg-item.result.to
-      (g.M.Machine.work m) c.args.steps.now c.advance.new.steps) (sym c.push_reserved.ensures.items) more,
+          (g.M.Machine.work m) c.args.steps.now c.advance.new.steps) (sym c.push_reserved.ensures.items) more,
       c.push_reserved.ensures.capacity ∙ c.loop-seg.invariant.1,
     )
 
@@ -67,8 +67,11 @@ returns-clause-taken g c =
 pub returns-clause-most : goal.returns-clause-most
 returns-clause-most g c =
     let m = g.M.Machine in
-    omega (arith, taken_all m.kit (m.fits c.args.machine.now) c.args.machine.now c.args.rows.now c.args.first.now c.args.segs.now c.args.renewed.now.items c.loop-seg.renewed.items c.loop-seg.seg-index c.args.from c.loop-seg.at
-      (m.work c.args.machine.now) c.args.steps.now c.loop-seg.steps (omega (arith, c.loop-seg-test.false)) c.loop-seg.invariant.0)
+    omega (
+      arith,
+      taken_all m.kit (m.fits c.args.machine.now) c.args.machine.now c.args.rows.now c.args.first.now c.args.segs.now c.args.renewed.now.items c.loop-seg.renewed.items c.loop-seg.seg-index c.args.from c.loop-seg.at
+          (m.work c.args.machine.now) c.args.steps.now c.loop-seg.steps (omega (arith, c.loop-seg-test.false)) c.loop-seg.invariant.0,
+    )
 
 pub returns-clause-rises : goal.returns-clause-rises
 returns-clause-rises g c = omega (arith, c.loop-seg.invariant.0.taken)
