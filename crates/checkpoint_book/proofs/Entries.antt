@@ -2,6 +2,7 @@
 use Rattle.std.proofs.Common.{◌≡◌, ℕ, suc, ◌+◌, ◌-◌, ◌<◌, ◌≤◌, List, [], ◌∷◌, ◌++◌, length, refl, sym, ◌∙◌, ap, subst, arith, Bool, true, false}
 use Rattle.std.specs.Prelude.{Option, Some, None, vec_capacity}
 use Rattle.std.proofs.Common.{Global}
+use Rattle.std.specs.Global.{Vec}
 use Rattle.std.specs.declared.sync.Arc.{Arc}
 use Rattle.machine.specs.Kit.{Kit, Laws}
 use Rattle.book_history.specs.declared.who.Who.{Who}
@@ -269,3 +270,10 @@ tickets_are None None drawn out s = s.0
 tickets_are None (Some o) drawn out s = absurd s
 tickets_are (Some c) None drawn out s = absurd s
 tickets_are (Some c) (Some o) drawn out s = s.tickets
+
+pub replaced : {D S : Type 0} (o o' : Opened D S) (segs : Vec (Segment S)) → o'.version ≡ o.version → o'.first ≡ o.first → o'.segs ≡ segs
+    → record { version = o.version; first = o.first; segs = segs } ≡ o'
+replaced {D} {S} o o' segs version first same =
+    ap (λ (v : Arc (Version D) Global). record { version = v; first = o.first; segs = segs }) (sym version)
+    ∙ ap (λ (a : S). record { version = o'.version; first = a; segs = segs }) (sym first)
+    ∙ ap (λ (l : Vec (Segment S)). record { version = o'.version; first = o'.first; segs = l }) (sym same)

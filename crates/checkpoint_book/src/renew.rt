@@ -100,6 +100,7 @@ pub fn simulate<M: Machine, L: Ledger>(
 }
 
 /// The book under the next version, and the cycle of the mark that was chosen.
+#[tactic(none)]
 pub fn renewed<M: Machine, L: Ledger>(
     alloc: Global,
     o: &Opened<M, M::State>,
