@@ -29,7 +29,7 @@ use Rattle.checkpoint_book.specs.Counts.{counts, drew_by}
 use Rattle.checkpoint_book.specs.Draw.{IsDrawable, IsDrawnAs}
 use Rattle.checkpoint_book.specs.Kept.{Stands, StandsFor, IsKept}
 use Rattle.checkpoint_book.specs.Opened.{core_of}
-use Rattle.checkpoint_book.specs.Renew.{Rises}
+use Rattle.checkpoint_book.specs.Renew.{Rises, AllFit, IsReloaded}
 use Rattle.checkpoint_book.specs.Views.{book_of, counts_of, IsOpened, version_in, cycle_in, LeadTo, chosen_in, shown_in, work_in, none_free, is_none, HasSessionRoom}
 use Rattle.checkpoint_book.proofs.Lengths.{length-marked}
 use Rattle.checkpoint_book.proofs.Renewals.{chain-rises}
@@ -43,10 +43,6 @@ chain_last F J a s (g ∷ gs) h = chain_last F J g.to g.state gs h.3
 pub chain_head' : {S : Type 0} (F : S → Type 0) (J : Link → ℕ → S → ℕ → S → Type 0) (a : ℕ) (s : S) (segs : List (Segment S)) → Chain F J a s segs → F s
 chain_head' F J a s [] h = h
 chain_head' F J a s (g ∷ gs) h = h.0
-
-abbrev pub AllFit : {S : Type 0} → (S → Type 0) → List (Segment S) → Type 0
-AllFit fits [] = Unit {0}
-AllFit fits (g ∷ gs) = fits g.state × AllFit fits gs
 
 pub record Facts {S R : Type 0} (fits : S → Type 0) (first : S) (segs : List (Segment S)) (rows : List R) : Type 0 where
   pub last_fits : fits (last_state first segs)

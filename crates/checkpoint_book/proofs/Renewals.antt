@@ -1,9 +1,12 @@
 -- The marks of a reload are its two parts.
 use Rattle.std.proofs.Common.{◌≡◌, ℕ, zero, suc, ◌+◌, ◌-◌, ◌*◌, ◌<◌, ◌≤◌, List, [], ◌∷◌, ◌++◌, length, take, drop, get_or, refl, sym, ◌∙◌, ap, subst, arith, add-one, drop_of_length-le, append_assoc, append-nil, length-append, drop-cons, true, false, leb}
 use Rattle.std.specs.Prelude.{All}
-use Rattle.std.proofs.lemmas.Bool.{cond_both, cond-true, cond-false}
+use Rattle.std.proofs.lemmas.Bool.{cond_both, cond-true, cond-false, cases_lt}
+use Rattle.std.proofs.lemmas.List.{drop-take}
+use Rattle.std.proofs.Common.{inl, inr, drop-drop, length-drop, length-take-le}
+use Rattle.checkpoint_book.proofs.Lengths.{length-simulated, length-cycles}
 use Rattle.std.proofs.lemmas.Grind.{take_at_read}
-use Rattle.machine.specs.Kit.{Kit}
+use Rattle.machine.specs.Kit.{Kit, Laws}
 use Rattle.machine.specs.Rows.{between}
 use Rattle.book_history.specs.declared.segment.Segment.{Segment}
 use Rattle.book_history.specs.declared.link.Link.{Link}
@@ -11,7 +14,7 @@ use Rattle.book_history.specs.declared.link.Link.TheVariants.{Open, Joined}
 use Rattle.book_history.specs.Book.{slice, last_cycle, last_state, cycles, simulated, reloaded, chosen}
 use Rattle.book_history.specs.Truth.{Chain}
 use Rattle.checkpoint_book.specs.Grid.{AgreeFrom}
-use Rattle.checkpoint_book.specs.Renew.{kept_count, carried_over, Rises}
+use Rattle.checkpoint_book.specs.Renew.{kept_count, carried_over, Rises, AllFit}
 use Rattle.checkpoint_book.proofs.Thins.{last_state-snoc'}
 
 pub carried-snoc : {D S R O : Type 0} (k : Kit D S R O) (old new : D) (ops : O) (xs : List (Segment S)) (g : Segment S)
@@ -161,3 +164,117 @@ taken_all {D} {S} k fits m rows first segs before now i from at w steps steps' l
     let none : drop i segs ≡ [] = drop_of_length-le segs le in
     let end : at ≡ last_cycle from segs = ap (λ (l : List (Segment S)). last_cycle at l) (sym none) ∙ h.ends in
     h.taken ∙ ap (λ (x : ℕ). steps + (x - from) * w) end
+
+-- the two parts of a book's links
+
+pub all_of : {S : Type 0} (F : S → Type 0) (segs : List (Segment S)) → AllFit F segs → All (λ g. F g.state) segs
+all_of F [] h = λ i d lt. absurd (omega arith)
+all_of F (g ∷ gs) h = all_cons F g gs h.0 (all_of F gs h.1)
+  where
+    all_cons : {S : Type 0} (F : S → Type 0) (g : Segment S) (gs : List (Segment S)) → F g.state → All (λ x. F x.state) gs → All (λ x. F x.state) (g ∷ gs)
+    all_cons F g gs h rest zero d lt = h
+    all_cons F g gs h rest (suc i) d lt = rest i d (omega arith)
+
+pub fit_front : {S : Type 0} (F : S → Type 0) (n : ℕ) (segs : List (Segment S)) → AllFit F segs → AllFit F (take n segs)
+fit_front F zero segs h = tt
+fit_front F (suc n) [] h = tt
+fit_front F (suc n) (g ∷ gs) h = (h.0, fit_front F n gs h.1)
+
+pub carried_last : {D S R O : Type 0} (k : Kit D S R O) (fits : D → S → Type 0) (valid : D → D → O → Type 0) → Laws k fits valid → (old new : D) (ops : O) → valid old new ops
+    → (s : S) (segs : List (Segment S)) → fits new s → AllFit (fits old) segs → fits new (last_state s (carried_over k old new ops segs))
+carried_last k fits valid laws old new ops v s [] f h = f
+carried_last k fits valid laws old new ops v s (g ∷ gs) f h = carried_last k fits valid laws old new ops v (k.carried old new ops g.state) gs (laws.carried_fits old new ops g.state v h.0) h.1
+
+pub record Parts {S : Type 0} (F : S → Type 0) (limit len from : ℕ) (segs kept later : List (Segment S)) : Type 0 where
+  pub from_le : from ≤ len
+  pub rises : Rises from later
+  pub end : last_cycle from later ≡ len
+  pub fit : AllFit F kept
+  pub sum : length kept + length later ≡ length segs
+  pub kept_is : kept ≡ take (kept_count limit segs) segs
+  pub later_is : later ≡ drop (kept_count limit segs) segs
+  pub from_is : from ≡ chosen limit 0 segs
+
+pub parts : {S : Type 0} (F : S → Type 0) (limit len from count : ℕ) (segs kept later : List (Segment S)) → count ≡ kept_count limit segs → from ≡ chosen limit 0 segs
+    → kept ≡ take count segs → later ≡ drop count segs → Rises 0 segs → last_cycle 0 segs ≡ len → AllFit F segs → Parts F limit len from segs kept later
+parts {S} F limit len from count segs kept later counted chose front back rises end fit =
+    let n = kept_count limit segs in
+    let kept_is : kept ≡ take n segs = front ∙ ap (λ (i : ℕ). take i segs) counted in
+    let later_is : later ≡ drop n segs = back ∙ ap (λ (i : ℕ). drop i segs) counted in
+    let from_is : from ≡ last_cycle 0 (take n segs) = chose ∙ chosen_is limit 0 segs in
+    let rises1 : Rises (last_cycle 0 (take n segs)) (drop n segs) = rises_after 0 n segs rises in
+    let rises2 : Rises from (drop n segs) = subst (λ (i : ℕ). Rises i (drop n segs)) (sym from_is) rises1 in
+    let rises3 : Rises from later = subst (λ (l : List (Segment S)). Rises from l) (sym later_is) rises2 in
+    let end1 : last_cycle from later ≡ len =
+    ap (λ (i : ℕ). last_cycle i later) from_is ∙ ap (λ (l : List (Segment S)). last_cycle (last_cycle 0 (take n segs)) l) later_is ∙ last_cycle-parts 0 n segs ∙ end in
+    record {
+      from_le = omega (arith, rises_le from later rises3, end1);
+      rises = rises3;
+      end = end1;
+      fit = subst (λ (l : List (Segment S)). AllFit F l) (sym kept_is) (fit_front F n segs fit);
+      sum = omega (arith, ap (λ (l : List (Segment S)). length l) kept_is, ap (λ (l : List (Segment S)). length l) later_is, length-drop n segs, length-take-le n segs (kept_within limit segs), kept_within limit segs);
+      kept_is = kept_is;
+      later_is = later_is;
+      from_is = chose;
+    }
+
+-- the parts put together are the reload's marks
+pub parts_are : {D S R O : Type 0} (k : Kit D S R O) (F : S → Type 0) (old new : D) (ops : O) (rows : List R) (limit len from : ℕ) (s : S) (segs kept later : List (Segment S)) → Parts F limit len from segs kept later
+    → carried_over k old new ops kept ++ simulated k new rows from (last_state s (carried_over k old new ops kept)) (cycles later) ≡ reloaded k old new ops rows limit 0 s segs
+parts_are {D} {S} k F old new ops rows limit len from s segs kept later p =
+    let n = kept_count limit segs in
+    let G : List (Segment S) → List (Segment S) → ℕ → List (Segment S) = λ a b i. carried_over k old new ops a ++ simulated k new rows i (last_state s (carried_over k old new ops a)) (cycles b) in
+    ap (λ (a : List (Segment S)). G a later from) p.kept_is
+    ∙ ap (λ (b : List (Segment S)). G (take n segs) b from) p.later_is
+    ∙ ap (λ (i : ℕ). G (take n segs) (drop n segs) i) p.from_is
+    ∙ sym (reloaded_parts k old new ops rows limit 0 s segs)
+
+pub length-reloaded : {D S R O : Type 0} (k : Kit D S R O) (old new : D) (ops : O) (rows : List R) (limit a : ℕ) (s : S) (segs : List (Segment S)) → length (reloaded k old new ops rows limit a s segs) ≡ length segs
+length-reloaded {D} {S} k old new ops rows limit a s segs =
+    let n = kept_count limit segs in
+    let c = carried_over k old new ops (take n segs) in
+    let t = simulated k new rows (chosen limit a segs) (last_state s c) (cycles (drop n segs)) in
+    omega (
+      arith,
+      ap (λ (l : List (Segment S)). length l) (reloaded_parts k old new ops rows limit a s segs),
+      length-append c t,
+      length-carried k old new ops (take n segs),
+      length-simulated k new rows (chosen limit a segs) (last_state s c) (cycles (drop n segs)),
+      length-cycles (drop n segs),
+      length-drop n segs,
+      length-take-le n segs (kept_within limit segs),
+      kept_within limit segs,
+    )
+
+pub take-less : {A : Type 0} (n m : ℕ) (xs : List A) → take n (take (n + m) xs) ≡ take n xs
+take-less zero m xs = refl
+take-less {A} (suc n) m [] = ap (λ (l : List A). take (suc n) l) (take-nil (suc n + m))
+  where
+    take-nil : (k : ℕ) → take {A = A} k [] ≡ []
+    take-nil zero = refl
+    take-nil (suc k) = refl
+take-less {A} (suc n) m (x ∷ xs) =
+    let e : suc n + m ≡ suc (n + m) = omega arith in
+    ap (λ (i : ℕ). take (suc n) (take i (x ∷ xs))) e ∙ ap (λ (l : List A). x ∷ l) (take-less n m xs)
+
+pub parted : {R : Type 0} (rows : List R) (from end a b : ℕ) → from ≤ a → a ≤ b → b ≤ end → between (from, between (0, rows) from end) a b ≡ slice rows a b
+parted {R} rows from end a b ge rises lt =
+    let n : (b - from) - (a - from) ≡ b - a = omega (arith, ge, rises) in
+    let z : (end - 0) - (from - 0) ≡ (a - from) + ((b - a) + (end - b)) = omega (arith, ge, rises, lt) in
+    let at : (from - 0) + (a - from) ≡ a = omega (arith, ge) in
+    let whole = drop (from - 0) rows in
+    ap (λ (i : ℕ). take i (drop (a - from) (between (0, rows) from end))) n
+    ∙ ap (λ (i : ℕ). take (b - a) (drop (a - from) (take i whole))) z
+    ∙ ap (λ (l : List R). take (b - a) l) (drop-take (a - from) ((b - a) + (end - b)) whole)
+    ∙ take-less (b - a) (end - b) (drop (a - from) whole)
+    ∙ ap (λ (l : List R). take (b - a) l) (drop-drop (a - from) (from - 0) rows ∙ ap (λ (i : ℕ). drop i rows) at)
+
+-- rows from a cycle on, cut from a record
+pub agree_part : {R : Type 0} (rows : List R) (from end : ℕ) → from ≤ end → end ≤ length rows → AgreeFrom from end (from, between (0, rows) from end) rows
+agree_part {R} rows from end le within = λ a b ge lt.
+    elim (cases_lt b a) [
+      | inl falls ↦
+          ap (λ (i : ℕ). take i (drop (a - from) (between (0, rows) from end))) {x = (b - from) - (a - from)} {y = 0} (omega (arith, falls, ge))
+          ∙ sym (ap (λ (i : ℕ). take i (drop a rows)) {x = b - a} {y = 0} (omega (arith, falls)))
+      | inr rises ↦ parted rows from end a b ge rises lt
+    ]

@@ -1,5 +1,8 @@
 -- The two parts of a reload's marks.
-use Rattle.std.specs.Prelude.{ℕ, suc, ◌<◌, List, [], ◌∷◌, if◌then◌else◌, leb}
+use Rattle.std.specs.Prelude.{◌≡◌, ℕ, suc, ◌<◌, ◌≤◌, List, [], ◌∷◌, length, if◌then◌else◌, leb, vec_capacity}
+use Rattle.book_history.specs.declared.version.Version.{Version}
+use Rattle.book_history.specs.Book.{reloaded}
+use Rattle.checkpoint_book.specs.declared.opened.Opened.{Opened}
 use Rattle.machine.specs.Kit.{Kit}
 use Rattle.book_history.specs.declared.segment.Segment.{Segment}
 use Rattle.book_history.specs.declared.link.Link.TheVariants.{Open}
@@ -17,3 +20,15 @@ carried_over k old new ops (g ∷ gs) = record { link = Open; to = g.to; state =
 abbrev pub Rises : {S : Type 0} → ℕ → List (Segment S) → Type 0
 Rises a [] = Unit {0}
 Rises a (g ∷ gs) = (a < g.to) × Rises g.to gs
+
+abbrev pub AllFit : {S : Type 0} → (S → Type 0) → List (Segment S) → Type 0
+AllFit fits [] = Unit {0}
+AllFit fits (g ∷ gs) = fits g.state × AllFit fits gs
+
+-- what a reload makes of the fields
+pub record IsReloaded {D S R O : Type 0} (k : Kit D S R O) (old : D) (v : Version D) (ops : O) (rows : List R) (limit : ℕ) (segs : List (Segment S)) (o : Opened D S) : Type 0 where
+  pub version : o.version.value ≡ v
+  pub first : o.first ≡ k.start v.machine.value
+  pub items : o.segs.items ≡ reloaded k old v.machine.value ops rows limit 0 (k.start v.machine.value) segs
+  pub room : 1024 ≤ vec_capacity o.segs
+  pub few : length o.segs.items < 1024

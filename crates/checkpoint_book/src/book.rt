@@ -18,7 +18,7 @@ use crate::grow::{grown, last, replace_segs};
 use crate::install::install_in;
 use crate::installed::Installed;
 use crate::opened::Opened;
-use crate::renew::renewed;
+use crate::reload::renewed;
 use crate::settled::settled_to;
 use crate::shown::Shown;
 use crate::ticket::Ticket;
@@ -251,7 +251,16 @@ impl<M: Machine> Book<M> {
         let Some(opened) = &self.opened else {
             unreachable!()
         };
-        let (next, from) = renewed(self.alloc, opened, &self.history, version, &ops, steps)?;
+        let limit = self.history.cycle().saturating_sub(self.history.lookback());
+        let (next, from) = renewed(
+            self.alloc,
+            opened,
+            &self.history,
+            limit,
+            version,
+            &ops,
+            steps,
+        )?;
         let version = Arc::try_clone(&next.version)?;
         self.history.push_reload(version, ops, from)?;
         self.opened = Some(next);

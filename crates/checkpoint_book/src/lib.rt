@@ -13,6 +13,7 @@ mod grow;
 mod install;
 pub mod installed;
 mod opened;
+mod reload;
 mod renew;
 mod settled;
 pub mod shown;
