@@ -1,5 +1,5 @@
 -- The other entries: what the fields become is what the replayed book does.
-use Rattle.std.proofs.Common.{◌≡◌, ℕ, suc, ◌+◌, ◌-◌, ◌<◌, ◌≤◌, List, [], ◌∷◌, ◌++◌, length, refl, sym, ◌∙◌, ap, subst, arith, Bool, true, false}
+use Rattle.std.proofs.Common.{◌≡◌, ℕ, suc, ◌+◌, ◌-◌, ◌<◌, ◌≤◌, List, [], ◌∷◌, ◌++◌, length, refl, sym, ◌∙◌, ap, subst, arith, Bool, true, false, ◌||◌}
 use Rattle.std.specs.Prelude.{Option, Some, None, vec_capacity}
 use Rattle.std.proofs.Common.{Global}
 use Rattle.std.specs.Global.{Vec}
@@ -273,3 +273,6 @@ replaced {D} {S} o o' segs version first same =
     ap (λ (v : Arc (Version D) Global). record { version = v; first = o.first; segs = segs }) (sym version)
     ∙ ap (λ (a : S). record { version = o'.version; first = a; segs = segs }) (sym first)
     ∙ ap (λ (l : Vec (Segment S)). record { version = o'.version; first = o'.first; segs = l }) (sym same)
+
+pub all_false : {a b c : Bool} → a ≡ false → b ≡ false → c ≡ false → a || b || c ≡ false
+all_false {a} {b} {c} x y z = rw (x, y, z) refl

@@ -275,6 +275,7 @@ impl<M: Machine> Book<M> {
         ensures settings { self.new.settings ≡ self.old.settings }
         ensures none { IfOk result (λ r. IfNone r ((self.new.events ≡ self.old.events) × (none_free by (book_of M.kit self.old) ≡ true))) }
         ensures some { IfOk result (λ r. IfSome r (λ t. IsDrawn M.kit by self.old self.new t)) }
+        ensures free { IfOk result (λ r. IfSome r (λ t. none_free by (book_of M.kit self.old) ≡ false)) }
         ensures err { OnErr result ((self.new.events ≡ self.old.events) × (none_free by (book_of M.kit self.old) ≡ false)) }
     {
         self.history.legal();
@@ -324,6 +325,7 @@ impl<M: Machine> Book<M> {
         ensures settings { self.new.settings ≡ self.old.settings }
         ensures none { IfOk result (λ r. IfNone r ((self.new.events ≡ self.old.events) × (none_free Session (book_of M.kit self.old) ≡ true))) }
         ensures some { IfOk result (λ r. IfSome r (λ t. IsDrawn M.kit Session self.old self.new t)) }
+        ensures free { IfOk result (λ r. IfSome r (λ t. none_free Session (book_of M.kit self.old) ≡ false)) }
         ensures err { OnErr result ((self.new.events ≡ self.old.events) × (none_free Session (book_of M.kit self.old) ≡ false)) }
     {
         self.take(alloc, Who::Session)

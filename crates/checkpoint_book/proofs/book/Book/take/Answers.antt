@@ -16,9 +16,9 @@ use Rattle.checkpoint_book.specs.Claims.{IsDrawn}
 use Rattle.checkpoint_book.specs.Draw.{IsDrawnAs}
 use Rattle.checkpoint_book.specs.Kept.{Stands, IsKept}
 use Rattle.checkpoint_book.specs.Opened.{core_of}
-use Rattle.checkpoint_book.specs.Views.{book_of, counts_of, HasRoomFor, HasSessionRoom, version_in, cycle_in, chosen_in, LeadTo, shown_in, work_in}
+use Rattle.checkpoint_book.specs.Views.{book_of, counts_of, HasRoomFor, HasSessionRoom, version_in, cycle_in, chosen_in, LeadTo, shown_in, work_in, none_free, is_none}
 use Rattle.checkpoint_book.proofs.Keeps.{kept_more, legal_next, small_of, stands_out}
-use Rattle.checkpoint_book.proofs.Entries.{claim_next, replay_drawn, facts, drew_counts, drew_fewer, tickets_are}
+use Rattle.checkpoint_book.proofs.Entries.{claim_next, replay_drawn, facts, drew_counts, drew_fewer, tickets_are, none_free_is}
 use Rattle.checkpoint_book.proofs.book.Book.take.Goals as goal
 
 pub overflow_add-number : goal.overflow_add-number
@@ -122,4 +122,17 @@ returns-clause-some g c =
     let out : IsOutFor (book_of m.kit c.push.new.self) t.0 t.1 c.args.by = subst (λ (b : Option (Book g.row.M.Denot g.row.M-State.Denot g.row.M-Row.Denot)). IsOutFor b t.0 t.1 c.args.by) (sym book) next.2 in
     let P : Journal g.row.M.Denot g.row.M-Row.Denot g.row.M-Ops.Denot → Type 0 = λ x. IsDrawn m.kit c.args.by x c.push.new.self t in
     let here : P j = record { events = events; not_drawn = new.0; not_used = new.1; is_out = out } in
+    subst P c.self.view_is here
+
+pub returns-clause-free : goal.returns-clause-free
+returns-clause-free g c =
+    let m = g.M.Machine in
+    let j = c.self.inside.history in
+    let n = c.self.inside.counters in
+    let o = c.in-Some.opened in
+    let kept : IsKept m.kit j (Some o) n = subst (λ (x : Option (Opened g.row.M.Denot g.row.M-State.Denot)). IsKept m.kit j x n) c.in-Some.is c.self.invariant in
+    let t = c.in-Some-2.ticket in
+    let d : IsDrawnAs m.kit c.args.by (n.drawn + 1) (core_of o (record_of j.events) [] []) (core_of c.draw.new.o (record_of j.events) [] []) t = rw c.in-Some-2.is at c.in_ok-ticket.ensures.some in
+    let P : Journal g.row.M.Denot g.row.M-Row.Denot g.row.M-Ops.Denot → Type 0 = λ x. none_free c.args.by (book_of m.kit x) ≡ false in
+    let here : P j = none_free_is c.args.by (book_of m.kit j) o n.drawn n.out kept.stands ∙ ap (λ (r : Option (ℕ × ℕ × g.row.M-State.Denot)). is_none r) d.found in
     subst P c.self.view_is here
