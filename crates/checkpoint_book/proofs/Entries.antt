@@ -1,5 +1,5 @@
 -- The other entries: what the fields become is what the replayed book does.
-use Rattle.std.proofs.Common.{◌≡◌, ℕ, suc, ◌+◌, ◌-◌, ◌<◌, ◌≤◌, List, [], ◌∷◌, ◌++◌, length, refl, sym, ◌∙◌, ap, subst, arith, Bool, true, false, ◌||◌}
+use Rattle.std.proofs.Common.{◌≡◌, ℕ, ◌+◌, ◌-◌, ◌<◌, ◌≤◌, List, [], ◌∷◌, ◌++◌, length, refl, sym, ◌∙◌, ap, subst, arith, Bool, false, ◌||◌}
 use Rattle.std.specs.Prelude.{Option, Some, None, vec_capacity}
 use Rattle.std.proofs.Common.{Global}
 use Rattle.std.specs.Global.{Vec}
@@ -10,12 +10,12 @@ use Rattle.book_history.specs.declared.who.Who.TheVariants.{Session, Worker}
 use Rattle.book_history.specs.declared.link.Link.{Link}
 use Rattle.book_history.specs.declared.segment.Segment.{Segment}
 use Rattle.book_history.specs.declared.version.Version.{Version}
-use Rattle.book_history.specs.Book.{Book, Ticket, Settings, Event, Opened as OpenedEvent, Ran, Reloaded, Claimed, Installed, Released, Shown, Closed, slice, drawn, takes, find_link, mark_out, claim_found, with_segs, last_cycle, last_state, shown, chosen, reloaded, extend, grid, opened, step, apply, replay, replay_from}
+use Rattle.book_history.specs.Book.{Book, Ticket, Settings, Event, Opened as OpenedEvent, Ran, Reloaded, Claimed, Installed, Released, Shown, Closed, slice, drawn, takes, find_link, mark_out, claim_found, with_segs, last_cycle, last_state, shown, chosen, reloaded, extend, grid, opened, step, apply, replay_from}
 use Rattle.book_history.specs.Journal.{Journal}
 use Rattle.book_history.specs.Law.{record_in, record_of}
 use Rattle.book_history.specs.Legal.{MayFollow, MayCome, Legal, LegalFrom, IsNotIn}
 use Rattle.book_history.specs.Outs.{IsOutFor, tickets_drawn}
-use Rattle.book_history.specs.Rooms.{Counts, count, counted, FitsRooms, HasRoom, is_worker, is_among, one_if, out_of, out_in, count_all, no_entry}
+use Rattle.book_history.specs.Rooms.{count, counted, out_of}
 use Rattle.book_history.specs.Truth.{Chain}
 use Rattle.book_history.proofs.Kept.{Kept, Inv}
 use Rattle.book_history.proofs.KeptInstall.{find_found, drawn_newest}
@@ -27,10 +27,10 @@ use Rattle.checkpoint_book.specs.declared.counters.Counters.{Counters}
 use Rattle.checkpoint_book.specs.declared.opened.Opened.{Opened}
 use Rattle.checkpoint_book.specs.Counts.{counts, drew_by}
 use Rattle.checkpoint_book.specs.Draw.{IsDrawable, IsDrawnAs}
-use Rattle.checkpoint_book.specs.Kept.{Stands, StandsFor, IsKept}
+use Rattle.checkpoint_book.specs.Kept.{Stands, StandsFor}
 use Rattle.checkpoint_book.specs.Opened.{core_of}
-use Rattle.checkpoint_book.specs.Renew.{Rises, AllFit, IsReloaded}
-use Rattle.checkpoint_book.specs.Views.{book_of, counts_of, IsOpened, version_in, cycle_in, LeadTo, chosen_in, shown_in, work_in, none_free, is_none, HasSessionRoom}
+use Rattle.checkpoint_book.specs.Renew.{Rises, AllFit}
+use Rattle.checkpoint_book.specs.Views.{book_of, version_in, cycle_in, LeadTo, chosen_in, shown_in, work_in, none_free, is_none}
 use Rattle.checkpoint_book.proofs.Lengths.{length-marked}
 use Rattle.checkpoint_book.proofs.Renewals.{chain-rises}
 

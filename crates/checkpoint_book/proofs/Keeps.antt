@@ -1,13 +1,11 @@
 -- The book is kept with one entry more.
-use Rattle.std.proofs.Common.{◌≡◌, ℕ, suc, ◌+◌, ◌-◌, ◌<◌, ◌≤◌, ◌^◌, List, [], ◌∷◌, ◌++◌, length, refl, sym, ◌∙◌, ap, subst, arith, Bool, true, false, cond}
+use Rattle.std.proofs.Common.{◌≡◌, ℕ, ◌+◌, ◌<◌, ◌≤◌, ◌^◌, List, [], ◌∷◌, ◌++◌, sym, ◌∙◌, ap, subst, arith}
 use Rattle.std.specs.Prelude.{Option, Some, None}
-use Rattle.machine.specs.Kit.{Kit, Laws}
-use Rattle.book_history.specs.declared.who.Who.{Who}
-use Rattle.book_history.specs.declared.who.Who.TheVariants.{Session, Worker}
-use Rattle.book_history.specs.Book.{Book, Ticket, Settings, Event, apply, replay}
+use Rattle.machine.specs.Kit.{Kit}
+use Rattle.book_history.specs.Book.{Book, Settings, Event, apply, replay}
 use Rattle.book_history.specs.Journal.{Journal}
 use Rattle.book_history.specs.Legal.{MayCome, Legal}
-use Rattle.book_history.specs.Rooms.{Counts, count, count_all, no_entry, FitsRooms, AreInRooms, out_in, out_of}
+use Rattle.book_history.specs.Rooms.{Counts, count, count_all, no_entry, FitsRooms, out_in}
 use Rattle.book_history.proofs.Prefixes.{legal-snoc, replay-snoc, count-snoc, legal_rooms}
 use Rattle.checkpoint_book.specs.declared.counters.Counters.{Counters}
 use Rattle.checkpoint_book.specs.declared.opened.Opened.{Opened}

@@ -1,11 +1,11 @@
 -- No entry but a run changes how many links there are.
-use Rattle.std.proofs.Common.{◌≡◌, ℕ, suc, ◌+◌, List, [], ◌∷◌, ◌++◌, length, refl, sym, ◌∙◌, ap, subst, arith, length-append, if◌then◌else◌, Bool}
+use Rattle.std.proofs.Common.{◌≡◌, ℕ, suc, List, [], ◌∷◌, length, refl, arith, if◌then◌else◌, Bool}
 use Rattle.std.proofs.lemmas.Bool.{cond_both}
 use Rattle.machine.specs.Kit.{Kit}
 use Rattle.book_history.specs.declared.link.Link.{Link}
-use Rattle.book_history.specs.declared.link.Link.TheVariants.{Open, Joined, Out}
+use Rattle.book_history.specs.declared.link.Link.TheVariants.{Joined, Out}
 use Rattle.book_history.specs.declared.segment.Segment.{Segment}
-use Rattle.book_history.specs.Book.{slice, Ticket, Book, matches, joined, reopen, mark_out, simulated, reloaded, cycles, with_segs, is_current, result_of}
+use Rattle.book_history.specs.Book.{slice, Ticket, matches, joined, reopen, mark_out, simulated, cycles}
 
 pub length-reopen : {S : Type 0} (xs : List (Segment S)) → length (reopen xs) ≡ length xs
 length-reopen [] = refl

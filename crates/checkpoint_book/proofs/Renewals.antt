@@ -1,7 +1,7 @@
 -- The marks of a reload are its two parts.
 use Rattle.std.proofs.Common.{◌≡◌, ℕ, zero, suc, ◌+◌, ◌-◌, ◌*◌, ◌<◌, ◌≤◌, List, [], ◌∷◌, ◌++◌, length, take, drop, get_or, refl, sym, ◌∙◌, ap, subst, arith, add-one, drop_of_length-le, append_assoc, append-nil, length-append, drop-cons, true, false, leb}
 use Rattle.std.specs.Prelude.{All}
-use Rattle.std.proofs.lemmas.Bool.{cond_both, cond-true, cond-false, cases_lt}
+use Rattle.std.proofs.lemmas.Bool.{cond_both, cases_lt}
 use Rattle.std.proofs.lemmas.List.{drop-take}
 use Rattle.std.proofs.Common.{inl, inr, drop-drop, length-drop, length-take-le}
 use Rattle.checkpoint_book.proofs.Lengths.{length-simulated, length-cycles}

@@ -1,4 +1,4 @@
-use Rattle.std.proofs.Common.{◌≡◌, ℕ, zero, suc, ◌+◌, ◌-◌, ◌*◌, ◌<◌, ◌≤◌, List, [], ◌∷◌, ◌++◌, length, take, drop, set, get_or, refl, sym, ◌∙◌, ap, arith, eqb, length-append, length-drop, length-take-le}
+use Rattle.std.proofs.Common.{◌≡◌, ℕ, zero, suc, ◌+◌, ◌-◌, ◌*◌, ◌<◌, ◌≤◌, List, [], ◌∷◌, ◌++◌, length, take, drop, set, get_or, refl, sym, ◌∙◌, ap, arith, eqb, length-append}
 use Rattle.std.proofs.Math.Seq.{drop-append-add}
 use Rattle.std.specs.List.{remove}
 use Rattle.std.proofs.lemmas.Bool.{cond_both, eqb-false}
@@ -6,7 +6,6 @@ use Rattle.book_history.specs.declared.segment.Segment.{Segment}
 use Rattle.book_history.specs.declared.link.Link.TheVariants.{Joined}
 use Rattle.machine.specs.Kit.{Kit}
 use Rattle.book_history.specs.Book.{both, thin, last_state, add_mark, extend, grid, slice}
-use Rattle.machine.specs.Rows.{between}
 use Rattle.checkpoint_book.specs.Grid.{next_mark, AgreeFrom}
 use Rattle.checkpoint_book.proofs.Grids.{grid_step}
 

@@ -1,6 +1,6 @@
 -- Installs and releases of the fields are those of the replayed book.
-use Rattle.std.proofs.Common.{◌≡◌, ℕ, suc, ◌+◌, ◌-◌, ◌<◌, ◌≤◌, List, [], ◌∷◌, ◌++◌, length, refl, sym, ◌∙◌, ap, subst, arith, Bool, true, false, cond, eqb, eqb-true, eq-eqb, if◌then◌else◌}
-use Rattle.std.specs.Prelude.{Option, Some, None, vec_capacity, not, ◌&&◌, ◌||◌}
+use Rattle.std.proofs.Common.{◌≡◌, ℕ, ◌+◌, ◌≤◌, List, [], ◌∷◌, length, refl, sym, ◌∙◌, ap, subst, arith, Bool, true, false, cond, eqb, eqb-true, if◌then◌else◌}
+use Rattle.std.specs.Prelude.{Option, Some, None, vec_capacity}
 use Rattle.std.proofs.Common.{Global}
 use Rattle.std.specs.declared.sync.Arc.{Arc}
 use Rattle.book_history.specs.declared.version.Version.{Version}
@@ -9,22 +9,20 @@ use Rattle.machine.specs.Kit.{Kit}
 use Rattle.book_history.specs.declared.who.Who.{Who}
 use Rattle.book_history.specs.declared.who.Who.TheVariants.{Session, Worker}
 use Rattle.book_history.specs.declared.segment.Segment.{Segment}
-use Rattle.book_history.specs.Book.{Book, Ticket, Settings, Event, Installed, Released, drawn, is_current, joined, result_of, with_segs, with_used, install_found, freed, step, apply}
+use Rattle.book_history.specs.Book.{Book, Ticket, Settings, Installed, Released, drawn, is_current, joined, result_of, with_segs, with_used, install_found, freed, step, apply}
 use Rattle.book_history.specs.Journal.{Journal}
 use Rattle.book_history.specs.Legal.{MayFollow, MayCome, IsNotIn}
 use Rattle.book_history.specs.Outs.{IsOutFor}
-use Rattle.book_history.specs.Rooms.{Counts, count, counted, FitsRooms, HasRoom, is_worker, is_among, one_if, out_of, count_all, no_entry}
+use Rattle.book_history.specs.Rooms.{Counts, counted, FitsRooms, HasRoom, is_worker, out_of, count_all, no_entry}
 use Rattle.book_history.proofs.Outs.{out_of-used, out_of-beyond}
-use Rattle.book_history.proofs.KeptInstall.{drawn_within}
 use Rattle.checkpoint_book.specs.declared.counters.Counters.{Counters}
 use Rattle.checkpoint_book.specs.declared.opened.Opened.{Opened}
-use Rattle.checkpoint_book.specs.declared.installed.Installed.{Installed as Answer}
 use Rattle.checkpoint_book.specs.Answers.{is_joined_answer, install_answer, stale_why}
 use Rattle.checkpoint_book.specs.declared.installed.Installed.TheVariants as answers
-use Rattle.checkpoint_book.specs.Counts.{counts, used_by, IsSmall}
-use Rattle.checkpoint_book.specs.Kept.{Stands, StandsFor, IsKept}
+use Rattle.checkpoint_book.specs.Counts.{counts, used_by}
+use Rattle.checkpoint_book.specs.Kept.{Stands, StandsFor}
 use Rattle.checkpoint_book.specs.Opened.{core_of}
-use Rattle.checkpoint_book.specs.Views.{book_of, counts_of, HasRoomFor, HasSessionRoom}
+use Rattle.checkpoint_book.specs.Views.{HasRoomFor}
 use Rattle.checkpoint_book.proofs.Frees.{length-freed}
 use Rattle.checkpoint_book.proofs.Lengths.{length-joined}
 

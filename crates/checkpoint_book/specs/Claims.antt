@@ -1,8 +1,7 @@
 -- What a claim does to a history, by its answer.
-use Rattle.std.specs.Prelude.{◌≡◌, ℕ, List, [], ◌∷◌, ◌++◌, Bool, true, false, ◌||◌, Option, Some, None}
+use Rattle.std.specs.Prelude.{◌≡◌, ℕ, [], ◌∷◌, ◌++◌, Bool, true, false, ◌||◌}
 use Rattle.machine.specs.Kit.{Kit}
 use Rattle.book_history.specs.declared.who.Who.{Who}
-use Rattle.book_history.specs.declared.who.Who.TheVariants.{Worker}
 use Rattle.book_history.specs.Book.{Ticket as Drawn, Claimed}
 use Rattle.checkpoint_book.specs.declared.claimed.Claimed.{Claimed as Answer}
 use Rattle.checkpoint_book.specs.declared.claimed.Claimed.TheVariants.{Ticket, Nothing}

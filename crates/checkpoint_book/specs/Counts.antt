@@ -1,5 +1,5 @@
 -- What a book counts, and how an entry changes it.
-use Rattle.std.specs.Prelude.{◌≡◌, ℕ, ◌+◌, ◌-◌, ◌<◌, ◌^◌, true}
+use Rattle.std.specs.Prelude.{◌+◌, ◌-◌, ◌<◌, ◌^◌, true}
 use Rattle.book_history.specs.declared.who.Who.{Who}
 use Rattle.book_history.specs.declared.who.Who.TheVariants.{Session, Worker}
 use Rattle.book_history.specs.Rooms.{Counts}

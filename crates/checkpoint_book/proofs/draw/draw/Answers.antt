@@ -1,4 +1,4 @@
-use Rattle.std.proofs.Common.{◌≡◌, ℕ, ◌-◌, ◌∙◌, sym, arith, ap, List, [], refl, length}
+use Rattle.std.proofs.Common.{◌≡◌, ℕ, ◌∙◌, sym, arith, ap, List, [], refl, length}
 use Rattle.book_history.specs.declared.segment.Segment.{Segment}
 use Rattle.book_history.specs.Book.{takes, with_segs, slice}
 use Rattle.book_history.specs.Law.{record_of}

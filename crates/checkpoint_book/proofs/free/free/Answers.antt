@@ -1,6 +1,5 @@
-use Rattle.std.proofs.Common.{◌≡◌, ◌∙◌, ap, set, arith, refl}
+use Rattle.std.proofs.Common.{◌∙◌, ap, set, arith}
 use Rattle.book_history.specs.declared.link.Link.{Link}
-use Rattle.book_history.specs.declared.segment.Segment.{Segment}
 use Rattle.checkpoint_book.proofs.Frees.{freed_next}
 use Rattle.checkpoint_book.proofs.free.free.Goals as goal
 

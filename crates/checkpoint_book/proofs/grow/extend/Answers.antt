@@ -3,7 +3,7 @@ use Rattle.book_history.specs.declared.segment.Segment.{Segment}
 use Rattle.book_history.specs.declared.link.Link.TheVariants.{Joined}
 use Rattle.book_history.specs.Book.{last_state, extend, grid}
 use Rattle.machine.specs.Rows.{between}
-use Rattle.checkpoint_book.proofs.Thins.{taken_more, taken_within, most_within, extend_step, length-add, last_state-add}
+use Rattle.checkpoint_book.proofs.Thins.{taken_more, most_within, extend_step, length-add, last_state-add}
 use Rattle.checkpoint_book.proofs.grow.extend.Goals as goal
 
 pub loop-at-preserved : goal.loop-at-preserved

@@ -1,12 +1,11 @@
 use Rattle.std.proofs.Common.{◌≡◌, ◌≤◌, ◌+◌, ◌-◌, ◌*◌, ℕ, List, ◌++◌, All, take, drop, length, sym, ◌∙◌, ap, subst, refl, arith}
-use Rattle.std.specs.Prelude.{OnOk}
 use Rattle.machine.specs.Rows.{between, Covers}
 use Rattle.book_history.specs.declared.segment.Segment.{Segment}
 use Rattle.book_history.specs.declared.version.Version.{Version}
 use Rattle.book_history.specs.Book.{chosen, last_cycle, last_state, cycles, simulated, reloaded}
 use Rattle.book_history.specs.Law.{record_of}
 use Rattle.checkpoint_book.specs.Grid.{AgreeFrom}
-use Rattle.checkpoint_book.specs.Renew.{kept_count, carried_over, Rises, AllFit, IsReloaded}
+use Rattle.checkpoint_book.specs.Renew.{kept_count, carried_over}
 use Rattle.checkpoint_book.proofs.Draws.{slice_length, between_zero}
 use Rattle.checkpoint_book.proofs.Renewals.{Parts, parts, parts_are, all_of, carried_last, length-reloaded, agree_part}
 use Rattle.checkpoint_book.proofs.reload.renewed.Goals as goal

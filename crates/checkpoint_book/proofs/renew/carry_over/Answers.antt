@@ -1,4 +1,4 @@
-use Rattle.std.proofs.Common.{◌≡◌, ◌∙◌, ap, arith, length, length-append, length-take-le, List, take}
+use Rattle.std.proofs.Common.{◌∙◌, ap, arith, length, length-append, length-take-le, List, take}
 use Rattle.book_history.specs.declared.segment.Segment.{Segment}
 use Rattle.checkpoint_book.specs.Renew.{carried_over}
 use Rattle.checkpoint_book.proofs.Renewals.{carried_next, length-carried}

@@ -1,7 +1,7 @@
-use Rattle.std.proofs.Common.{◌≡◌, ◌+◌, ◌∙◌, ap, sym, subst, arith, length, drop, List, append-nil, refl}
+use Rattle.std.proofs.Common.{◌≡◌, ◌+◌, ◌∙◌, ap, sym, subst, arith, List, refl}
 use Rattle.book_history.specs.declared.segment.Segment.{Segment}
 use Rattle.book_history.specs.declared.link.Link.TheVariants.{Joined}
-use Rattle.book_history.specs.Book.{last_state, last_cycle, cycles, simulated}
+use Rattle.book_history.specs.Book.{last_state, last_cycle}
 use Rattle.machine.specs.Rows.{between}
 use Rattle.checkpoint_book.proofs.Thins.{most_within}
 use Rattle.checkpoint_book.proofs.Renewals.{Simulated, ahead, simulated_more, simulated_none, simulated_all, taken_all}

@@ -1,4 +1,4 @@
-use Rattle.std.proofs.Common.{◌≡◌, ◌∙◌, sym, ap, subst, Bool, true, false, ◌||◌, refl}
+use Rattle.std.proofs.Common.{◌≡◌, ◌∙◌, sym, ap, subst, false}
 use Rattle.book_history.specs.declared.who.Who.TheVariants.{Worker}
 use Rattle.book_history.specs.Journal.{Journal}
 use Rattle.book_history.specs.Rooms.{Counts}

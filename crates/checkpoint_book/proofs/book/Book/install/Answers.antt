@@ -1,6 +1,6 @@
-use Rattle.std.proofs.Common.{◌≡◌, ℕ, [], sym, ◌∙◌, ap, subst, refl, arith}
+use Rattle.std.proofs.Common.{◌≡◌, [], sym, ◌∙◌, ap, subst}
 use Rattle.std.specs.Prelude.{Option, Some}
-use Rattle.book_history.specs.Book.{Ticket, Installed}
+use Rattle.book_history.specs.Book.{Installed}
 use Rattle.book_history.specs.Journal.{Journal}
 use Rattle.book_history.specs.Outs.{IsOutFor}
 use Rattle.checkpoint_book.specs.declared.opened.Opened.{Opened}
@@ -8,7 +8,7 @@ use Rattle.checkpoint_book.specs.declared.counters.Counters.{Counters}
 use Rattle.checkpoint_book.specs.Answers.{is_joined_answer}
 use Rattle.checkpoint_book.specs.Counts.{used_by}
 use Rattle.checkpoint_book.specs.Opened.{core_of}
-use Rattle.checkpoint_book.specs.Kept.{Stands, IsKept}
+use Rattle.checkpoint_book.specs.Kept.{IsKept}
 use Rattle.checkpoint_book.specs.Views.{book_of, HasRoomFor}
 use Rattle.checkpoint_book.proofs.Keeps.{kept_more, legal_next, small_of}
 use Rattle.checkpoint_book.proofs.Uses.{install_next, install_fits, room_of, joined_answer, used_counts, used_fewer}

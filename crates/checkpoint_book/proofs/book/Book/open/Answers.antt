@@ -1,20 +1,14 @@
-use Rattle.std.proofs.Common.{◌≡◌, ◌≤◌, ℕ, List, [], ◌++◌, ◌+◌, ◌-◌, ◌*◌, sym, ◌∙◌, ap, subst, refl, arith, length, false}
-use Rattle.std.specs.Prelude.{Option, Some, None}
-use Rattle.book_history.specs.Book.{Ticket, Opened as OpenedEvent}
+use Rattle.std.proofs.Common.{◌≡◌, ◌≤◌, ◌+◌, sym, ◌∙◌, ap, subst, refl, arith}
+use Rattle.std.specs.Prelude.{Some, None}
+use Rattle.book_history.specs.Book.{Opened as OpenedEvent}
 use Rattle.book_history.specs.Journal.{Journal}
-use Rattle.book_history.specs.declared.segment.Segment.{Segment}
 use Rattle.book_history.specs.declared.version.Version.{Version}
-use Rattle.book_history.specs.Law.{record_in, record_of}
-use Rattle.book_history.specs.Outs.{IsOutFor}
-use Rattle.book_history.specs.Rooms.{Counts, HasRoom, out_in}
-use Rattle.book_history.proofs.Prefixes.{replay_record}
-use Rattle.checkpoint_book.specs.declared.opened.Opened.{Opened}
+use Rattle.book_history.specs.Rooms.{Counts}
 use Rattle.checkpoint_book.specs.declared.counters.Counters.{Counters}
-use Rattle.checkpoint_book.specs.Counts.{counts, used_by, drew_by, one_more, closing}
-use Rattle.checkpoint_book.specs.Kept.{Stands, IsKept}
-use Rattle.checkpoint_book.specs.Opened.{core_of}
-use Rattle.checkpoint_book.specs.Views.{book_of, counts_of, HasRoomFor, HasSessionRoom, version_in, cycle_in, chosen_in, LeadTo, shown_in, work_in}
-use Rattle.checkpoint_book.proofs.Keeps.{kept_more, legal_next, small_of, stands_out}
+use Rattle.checkpoint_book.specs.Counts.{one_more}
+use Rattle.checkpoint_book.specs.Kept.{IsKept}
+use Rattle.checkpoint_book.specs.Views.{book_of, HasSessionRoom}
+use Rattle.checkpoint_book.proofs.Keeps.{kept_more, legal_next, small_of}
 use Rattle.checkpoint_book.proofs.Entries.{open_next}
 use Rattle.checkpoint_book.proofs.book.Book.open.Goals as goal
 

@@ -1,8 +1,7 @@
-use Rattle.std.proofs.Common.{◌≡◌, ◌≤◌, ℕ, List, [], ◌∷◌, ◌++◌, ◌+◌, ◌-◌, ◌*◌, sym, ◌∙◌, ap, subst, refl, arith, length}
+use Rattle.std.proofs.Common.{◌≡◌, ◌≤◌, ℕ, List, ◌+◌, ◌-◌, ◌*◌, sym, ◌∙◌, ap, subst, refl, arith, length}
 use Rattle.std.specs.Prelude.{Option, Some, None}
 use Rattle.book_history.specs.Book.{Reloaded, chosen, reloaded}
 use Rattle.book_history.specs.Journal.{Journal}
-use Rattle.book_history.specs.Legal.{Legal}
 use Rattle.book_history.specs.declared.segment.Segment.{Segment}
 use Rattle.book_history.specs.declared.version.Version.{Version}
 use Rattle.book_history.specs.Law.{record_in, record_of}
@@ -12,7 +11,7 @@ use Rattle.checkpoint_book.specs.declared.opened.Opened.{Opened}
 use Rattle.checkpoint_book.specs.declared.counters.Counters.{Counters}
 use Rattle.checkpoint_book.specs.Counts.{one_more}
 use Rattle.checkpoint_book.specs.Kept.{IsKept}
-use Rattle.checkpoint_book.specs.Views.{book_of, counts_of, HasSessionRoom, version_in, cycle_in, chosen_in, LeadTo}
+use Rattle.checkpoint_book.specs.Views.{book_of, HasSessionRoom, version_in, cycle_in, chosen_in, LeadTo}
 use Rattle.checkpoint_book.proofs.Entries.{reload_next, facts, cycle_is, chosen_is_in}
 use Rattle.checkpoint_book.proofs.Keeps.{kept_more, legal_next, small_of}
 use Rattle.checkpoint_book.proofs.book.Book.reload.Goals as goal

@@ -1,22 +1,16 @@
-use Rattle.std.proofs.Common.{◌≡◌, ◌≤◌, ℕ, List, [], ◌∷◌, ◌++◌, ◌+◌, ◌-◌, ◌*◌, sym, ◌∙◌, ap, subst, refl, arith, length, false}
+use Rattle.std.proofs.Common.{◌≡◌, ◌≤◌, ℕ, List, [], ◌∷◌, ◌++◌, ◌+◌, sym, ◌∙◌, ap, subst, refl, arith, length}
 use Rattle.std.specs.Prelude.{Option, Some, None}
-use Rattle.book_history.specs.Book.{Ticket, Ran, extend, last_state, grid}
+use Rattle.book_history.specs.Book.{Ran, extend, last_state, grid}
 use Rattle.book_history.specs.Journal.{Journal}
-use Rattle.book_history.specs.declared.segment.Segment.{Segment}
-use Rattle.book_history.specs.declared.version.Version.{Version}
-use Rattle.book_history.specs.Law.{record_in, record_of}
 use Rattle.book_history.specs.Legal.{Legal}
-use Rattle.book_history.specs.Outs.{IsOutFor}
-use Rattle.book_history.specs.Rooms.{Counts, HasRoom, out_in}
-use Rattle.book_history.proofs.Prefixes.{replay_record, replay-snoc}
+use Rattle.book_history.specs.Rooms.{Counts}
+use Rattle.book_history.proofs.Prefixes.{replay_record}
 use Rattle.checkpoint_book.specs.declared.opened.Opened.{Opened}
 use Rattle.checkpoint_book.specs.declared.counters.Counters.{Counters}
-use Rattle.checkpoint_book.specs.Counts.{counts, used_by, drew_by, one_more, closing}
-use Rattle.checkpoint_book.specs.Draw.{IsDrawnAs}
-use Rattle.checkpoint_book.specs.Kept.{Stands, IsKept}
-use Rattle.checkpoint_book.specs.Opened.{core_of}
-use Rattle.checkpoint_book.specs.Views.{book_of, counts_of, HasRoomFor, HasSessionRoom, version_in, cycle_in, chosen_in, LeadTo, shown_in, work_in}
-use Rattle.checkpoint_book.proofs.Keeps.{kept_more, legal_next, small_of, stands_out}
+use Rattle.checkpoint_book.specs.Counts.{one_more}
+use Rattle.checkpoint_book.specs.Kept.{IsKept}
+use Rattle.checkpoint_book.specs.Views.{book_of, HasSessionRoom, cycle_in}
+use Rattle.checkpoint_book.proofs.Keeps.{kept_more, legal_next, small_of}
 use Rattle.checkpoint_book.proofs.Entries.{run_next, facts, cycle_is, replaced}
 use Rattle.checkpoint_book.proofs.book.Book.run.Goals as goal
 

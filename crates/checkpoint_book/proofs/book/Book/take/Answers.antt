@@ -1,9 +1,7 @@
-use Rattle.std.proofs.Common.{◌≡◌, ◌≤◌, ℕ, List, [], ◌∷◌, ◌++◌, ◌+◌, ◌-◌, ◌*◌, sym, ◌∙◌, ap, subst, refl, arith, length, false}
+use Rattle.std.proofs.Common.{◌≡◌, ℕ, List, [], ◌∷◌, ◌++◌, ◌+◌, sym, ◌∙◌, ap, subst, arith, false}
 use Rattle.std.specs.Prelude.{Option, Some, None}
-use Rattle.book_history.specs.Book.{Ticket, Event, Claimed, Book, Settings, apply, takes, replay}
+use Rattle.book_history.specs.Book.{Event, Claimed, Book, Settings, apply, takes, replay}
 use Rattle.book_history.specs.Journal.{Journal}
-use Rattle.book_history.specs.declared.segment.Segment.{Segment}
-use Rattle.book_history.specs.declared.version.Version.{Version}
 use Rattle.book_history.specs.Law.{record_in, record_of}
 use Rattle.book_history.specs.Legal.{Legal}
 use Rattle.book_history.specs.Outs.{IsOutFor, tickets_drawn}
@@ -11,12 +9,12 @@ use Rattle.book_history.specs.Rooms.{Counts, HasRoom, out_in}
 use Rattle.book_history.proofs.Prefixes.{replay_record, replay-snoc}
 use Rattle.checkpoint_book.specs.declared.opened.Opened.{Opened}
 use Rattle.checkpoint_book.specs.declared.counters.Counters.{Counters}
-use Rattle.checkpoint_book.specs.Counts.{counts, used_by, drew_by, one_more, closing}
+use Rattle.checkpoint_book.specs.Counts.{counts, drew_by}
 use Rattle.checkpoint_book.specs.Claims.{IsDrawn}
 use Rattle.checkpoint_book.specs.Draw.{IsDrawnAs}
-use Rattle.checkpoint_book.specs.Kept.{Stands, IsKept}
+use Rattle.checkpoint_book.specs.Kept.{IsKept}
 use Rattle.checkpoint_book.specs.Opened.{core_of}
-use Rattle.checkpoint_book.specs.Views.{book_of, counts_of, HasRoomFor, HasSessionRoom, version_in, cycle_in, chosen_in, LeadTo, shown_in, work_in, none_free, is_none}
+use Rattle.checkpoint_book.specs.Views.{book_of, counts_of, none_free, is_none}
 use Rattle.checkpoint_book.proofs.Keeps.{kept_more, legal_next, small_of, stands_out}
 use Rattle.checkpoint_book.proofs.Entries.{claim_next, replay_drawn, facts, drew_counts, drew_fewer, tickets_are, none_free_is}
 use Rattle.checkpoint_book.proofs.book.Book.take.Goals as goal
