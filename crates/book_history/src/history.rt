@@ -1,6 +1,7 @@
 // The history of a book: its settings, its entries and all that belongs to them.
 ghost use Rattle.std.specs.Prelude.{◌≡◌, [], map};
 ghost use Rattle.book_history.specs.Entries.{entry_of};
+ghost use Rattle.book_history.specs.Legal.{Legal};
 
 use crate::entry::Entry;
 use crate::historied::Historied;
@@ -44,6 +45,13 @@ impl<M: Machine> History<M> {
                 runs: Vec::new(alloc),
             },
         }
+    }
+
+    /// Every history is legal.
+    pub fn legal(&self)
+        ensures { Legal M.kit M.valid self.now.settings self.now.events }
+    {
+        let _ = &self.written;
     }
 
     /// The entries, in order.

@@ -102,7 +102,7 @@ impl<M: Machine> HistoryWriter<M> {
 
     /// The rows of the cycles from `a` to `b` - 1 of the record, shared.
     pub fn rows(&self, alloc: Global, a: u64, b: u64) -> Result<RowRuns<M::Row>, NoMemory>
-        requires { Covers (0, record_of self.now.events) a b }
+        requires covers { Covers (0, record_of self.now.events) a b }
         ensures { IfOk result (λ r. r ≡ (a, between (0, record_of self.now.events) a b)) }
     {
         share_between(alloc, 0, &self.written.runs, a, b)

@@ -14,7 +14,7 @@ share_between-requires-clause-covers g c =
     let m = g.M.Machine in
     let w = c.self.inside.written in
     let kept = record_kept m.kit m.valid w c.args.self.now c.self.view_is c.self.invariant.0 in
-    let given : Covers (0, record_of c.args.self.now.events) c.args.a c.args.b = record { begins = c.requires.begins; rises = c.requires.rises; ends = c.requires.ends } in
+    let given : Covers (0, record_of c.args.self.now.events) c.args.a c.args.b = c.requires.covers in
     let here : Covers (0, expanded w.runs.items) c.args.a c.args.b = subst (λ (l : List g.row.M-Row.Denot). Covers (0, l) c.args.a c.args.b) (sym kept) given in
     subst (λ (l : List (RowRun g.row.M-Row.Denot)). Covers (0, expanded l) c.args.a c.args.b) (sym c.deref.ensures.value) here
 

@@ -1,0 +1,10 @@
+pub mod Places
+pub mod Grids
+pub mod Thins
+pub mod Draws
+pub mod Frees
+pub mod Renewals
+pub mod Keeps
+pub mod Lengths
+pub mod Uses
+pub mod Entries

@@ -1,0 +1,11 @@
+pub mod Answers
+pub mod Opened
+pub mod Tickets
+pub mod Place
+pub mod Grid
+pub mod Draw
+pub mod Renew
+pub mod Counts
+pub mod Views
+pub mod Kept
+pub mod Claims

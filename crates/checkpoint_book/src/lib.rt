@@ -1,0 +1,22 @@
+// The checkpoint book: marks, links, versions and tickets over any machine. Each call appends its own entry to the
+// history, and the book is what the entries make of it.
+#![tactic(auto)]
+
+mod begin;
+pub mod book;
+pub mod claimed;
+mod counters;
+mod draw;
+mod find;
+mod free;
+mod grow;
+mod install;
+pub mod installed;
+mod opened;
+mod reload;
+mod renew;
+mod settled;
+pub mod shown;
+pub mod ticket;
+pub mod verified;
+pub mod why;

@@ -1,0 +1,13 @@
+// The fields of a book with a version.
+use book_history::segment::Segment;
+use book_history::version::Version;
+use std::alloc::Global;
+use std::sync::Arc;
+
+/// The current version, the state of mark 0, and the links with the marks at their ends.
+#[derive(Drop)]
+pub struct Opened<D, S> {
+    pub(crate) version: Arc<Version<D>, Global>,
+    pub(crate) first: S,
+    pub(crate) segs: Vec<Segment<S>>,
+}

@@ -1,0 +1,14 @@
+-- What a verification answers.
+use Rattle.std.specs.Prelude.{◌≡◌, ℕ}
+use Rattle.book_history.specs.Book.{Ticket}
+use Rattle.segment_verify.specs.declared.verification.Verification.{Verification}
+use Rattle.segment_verify.specs.declared.verification.Verification.TheVariants.{Done, NoMemory}
+
+-- the ticket comes back, verified or as it was
+abbrev pub IsOf : {D S R O : Type 0} → ℕ × Ticket D S R → Verification D S R O → Type 0
+IsOf t (Done v) = v ≡ t
+IsOf t (NoMemory u) = u ≡ t
+
+abbrev pub IsDone : {D S R O : Type 0} → Verification D S R O → Type 0
+IsDone (Done v) = Unit {0}
+IsDone (NoMemory u) = ⊥
