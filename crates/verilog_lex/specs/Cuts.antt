@@ -1,6 +1,6 @@
 -- The longest token, white space or attribute at the front of a text that isn't empty (IEEE 1364-2005, clauses 3.1
 -- to 3.8), and how many bytes it has.
-use Rattle.std.specs.Prelude.{ℕ, ◌+◌, ◌-◌, Bool, ◌&&◌, ◌||◌, ◌==◌, not, nat_le, nat_lt, if◌then◌else◌, false, List, length, take, drop, slice_index, Option, Some, None}
+use Rattle.std.specs.Prelude.{ℕ, ◌+◌, ◌-◌, Bool, ◌&&◌, ◌||◌, ◌==◌, not, nat_le, nat_lt, if◌then◌else◌, false, List, [], ◌∷◌, length, take, drop, slice_index, Option, Some, None}
 use Rattle.std.specs.List.{prefix_len}
 use Rattle.source_text.specs.Bytes.{is_letter, is_digit, is_word_byte, is_space, through_pair}
 use Rattle.verilog_lex.specs.declared.kind.Kind.{Kind}
@@ -64,8 +64,8 @@ sign_or text (Some kind) other = (Sign kind text, length text)
 unfoldable pub mark_at : List ℕ → Form × ℕ
 mark_at text =
     sign_or (take 3 text) (kind_in triples (take 3 text))
-    (sign_or (take 2 text) (kind_in doubles (take 2 text))
-    (sign_or (take 1 text) (kind_in singles (take 1 text)) (Unfit, 1)))
+      (sign_or (take 2 text) (kind_in doubles (take 2 text))
+        (sign_or (take 1 text) (kind_in singles (take 1 text)) (Unfit, 1)))
 
 abbrev pub found_or : Option (Form × ℕ) → Form × ℕ → Form × ℕ
 found_or None other = other
