@@ -1,0 +1,4 @@
+pub mod StatementTrees
+pub mod ItemTrees
+pub mod ModuleTrees
+pub mod Complete

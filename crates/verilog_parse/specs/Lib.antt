@@ -1,0 +1,4 @@
+pub mod Statements
+pub mod Items
+pub mod Generates
+pub mod Modules
