@@ -58,15 +58,15 @@ statement (s.case_ t h) w = gets_at t refl (gets_token t ⊳ statement h (w + 1)
 statement (s.casez_ t h) w = gets_at t refl (gets_token t ⊳ statement h (w + 1) ⊳ gets_end)
 statement (s.assign_name t x y) w = gets_at t refl (gets_token t ⊳ expressions.complete x (w + 1) ⊳ statement y (w + 1) ⊳ gets_end)
 statement (s.assign_braces t xs y) w = gets_at t refl (gets_token t ⊳ statement xs (w + 2) ⊳ statement y (w + 1) ⊳ gets_end)
-statement (s.no_statement {g = sign} free) w = gets_skip (e.statements_skip sign w _ free) gets_end
-statement (s.another_statement {g = sign} go x xs) w = enters (e.statements_go sign w _ go) (statement x w ⊳ statement xs w ⊳ gets_end)
+statement (s.no_statement {g = sign} {s = a} free) w = gets_skip (e.statements_skip sign w (next a) free) gets_end
+statement (s.another_statement {g = sign} {s = a} go x xs) w = enters (e.statements_go sign w (next a) go) (statement x w ⊳ statement xs w ⊳ gets_end)
 statement (s.branch t x u y z) w = enters refl (gets_token t ⊳ expressions.complete x (w + 1) ⊳ gets_token u ⊳ statement y w ⊳ statement z w ⊳ gets_end)
 statement (s.if_alone {g = sign} free) w = gets_skip (e.alternative_skips sign w _ free) gets_end
 statement (s.if_else t h) w = gets_at t refl (gets_token t ⊳ statement h w ⊳ gets_end)
 statement (s.choice t x u y ys v) w = enters refl (gets_token t ⊳ expressions.complete x (w + 1) ⊳ gets_token u ⊳ statement y w ⊳ statement ys w ⊳ gets_token v ⊳ gets_end)
 statement (s.arms_behind h) w = statement h w
-statement (s.no_arm {g = sign} {which = which} free) w = gets_skip (e.more_arms_skip sign which w _ free) gets_end
-statement (s.another_arm {g = sign} {which = which} go x xs) w = enters (e.more_arms_go sign which w _ go) (statement x w ⊳ statement xs w ⊳ gets_end)
+statement (s.no_arm {g = sign} {which = which} {s = a} free) w = gets_skip (e.more_arms_skip sign which w (next a) free) gets_end
+statement (s.another_arm {g = sign} {which = which} {s = a} go x xs) w = enters (e.more_arms_go sign which w (next a) go) (statement x w ⊳ statement xs w ⊳ gets_end)
 statement (s.default t c x) w = gets_at t refl (gets_token t ⊳ statement c w ⊳ statement x w ⊳ gets_end)
 statement (s.matching {g = sign} {which = which} free l ls t x) w = enters (e.arm_matches sign which w _ free) (statement l w ⊳ statement ls w ⊳ gets_token t ⊳ statement x w ⊳ gets_end)
 statement (s.colon t) w = gets_at t refl (gets_token t ⊳ gets_end)
@@ -169,8 +169,8 @@ plain_item (i.ordered x) w = enters refl (plain_item x w ⊳ gets_end)
 plain_item (i.ordered_behind h) w = plain_item h w
 plain_item (i.no_ordered free) w = gets_skip (e.more_ordered_skips w _ free) gets_end
 plain_item (i.another_ordered t x xs) w = gets_at t refl (gets_token t ⊳ plain_item x w ⊳ plain_item xs w ⊳ gets_end)
-plain_item (i.no_expression free) w = gets_skip (e.optional_expression_skips w _ free) gets_end
-plain_item (i.an_expression go x) w = enters (e.optional_expression_goes w _ go) (expressions.complete x w ⊳ gets_end)
+plain_item (i.no_expression {s = a} free) w = gets_skip (e.optional_expression_skips w (next a) free) gets_end
+plain_item (i.an_expression {s = a} go x) w = enters (e.optional_expression_goes w (next a) go) (expressions.complete x w ⊳ gets_end)
 plain_item (i.wire_item t x xs u) w = gets_at t refl (gets_token t ⊳ plain_item x w ⊳ plain_item xs w ⊳ gets_token u ⊳ gets_end)
 plain_item (i.reg_item t x xs u) w = gets_at t refl (gets_token t ⊳ plain_item x w ⊳ plain_item xs w ⊳ gets_token u ⊳ gets_end)
 plain_item (i.local_item t x xs u) w = gets_at t refl (gets_token t ⊳ plain_item x w ⊳ plain_item xs w ⊳ gets_token u ⊳ gets_end)
@@ -203,8 +203,8 @@ MeetsBlock (b.BranchesBehind x xs) w a r = Gets (N g.OtherBranches w ∷ []) a r
 MeetsBlock (b.OtherBranches xs) w a r = Gets (N g.OtherBranches w ∷ []) a r
 
 pub block : {p : b.Phrase} {a r : List Token} → b.Spells p a r → (w : ℕ) → MeetsBlock p w a r
-block (b.no_item free) w = gets_skip (e.generate_items_skip w _ free) gets_end
-block (b.another_item go x xs) w = enters (e.generate_items_go w _ go) (block x w ⊳ block xs w ⊳ gets_end)
+block (b.no_item {s = a} free) w = gets_skip (e.generate_items_skip w (next a) free) gets_end
+block (b.another_item {s = a} go x xs) w = enters (e.generate_items_go w (next a) go) (block x w ⊳ block xs w ⊳ gets_end)
 block (b.loop_item is x) w = seen is refl (block x w ⊳ gets_end)
 block (b.if_item is x xs) w = seen is refl (block x w ⊳ block xs w ⊳ gets_end)
 block (b.plain_item a c x) w = enters (e.generate_item_plain w _ a c) (plain_item x w ⊳ gets_end)
@@ -263,8 +263,8 @@ module_ (m.input_port t x y u) w = gets_at t refl (gets_token t ⊳ plain_item x
 module_ (m.output_port t x y z) w = gets_at t refl (gets_token t ⊳ plain_item x w ⊳ plain_item y w ⊳ plain_item z w ⊳ gets_end)
 module_ (m.next_name is x) w = seen is refl (plain_item x w ⊳ gets_end)
 module_ (m.next_port free x) w = enters (e.next_header_port_declared w _ free) (module_ x w ⊳ gets_end)
-module_ (m.no_item free) w = gets_skip (e.items_skip w _ free) gets_end
-module_ (m.another_item go x xs) w = enters (e.items_go w _ go) (module_ x w ⊳ module_ xs w ⊳ gets_end)
+module_ (m.no_item {s = a} free) w = gets_skip (e.items_skip w (next a) free) gets_end
+module_ (m.another_item {s = a} go x xs) w = enters (e.items_go w (next a) go) (module_ x w ⊳ module_ xs w ⊳ gets_end)
 module_ (m.input_item t x y z u) w = gets_at t refl (gets_token t ⊳ plain_item x w ⊳ plain_item y w ⊳ plain_item z w ⊳ gets_token u ⊳ gets_end)
 module_ (m.output_item t x y z u) w = gets_at t refl (gets_token t ⊳ plain_item x w ⊳ plain_item y w ⊳ plain_item z w ⊳ gets_token u ⊳ gets_end)
 module_ (m.parameter_item t y z u) w = gets_at t refl (gets_token t ⊳ plain_item y w ⊳ plain_item z w ⊳ gets_token u ⊳ gets_end)

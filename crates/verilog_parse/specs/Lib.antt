@@ -2,3 +2,5 @@ pub mod Statements
 pub mod Items
 pub mod Generates
 pub mod Modules
+pub mod Spellings
+pub mod Files

@@ -3,11 +3,14 @@
 
 mod connection;
 mod declaration;
+mod file;
 mod generate;
 mod header;
-mod module;
+mod modules;
+mod parsing;
 mod plain_item;
+mod spelling;
 mod statement;
 mod target;
 
-pub use module::module;
+pub use parsing::parse;

@@ -16,7 +16,7 @@ items-init c = let first : c.push.new.self ≡ c.args.first ∷ [] = search rule
 pub items-preserved : goal.items-preserved
 items-preserved c = record {
   machine = record { go = λ k out r. c.items.invariant.machine.go k out (expand_at c.items-test.ensures (then c.in_ok-expect.ensures.machine (then c.in_ok-expect-2.ensures.machine r))) };
-  tree = grows_more (λ xs s r. Spells (spells.OtherNames xs) s r) (λ xs r. Spells (spells.NamesBehind c.args.first xs) c.args.p.now r) _ _ _ _ _ c.items.invariant.tree c.in_ok-push-2.ensures.ok (λ xs r. another_name c.in_ok-expect.ensures.takes c.in_ok-expect-2.ensures.takes);
+  tree = grows_more (λ xs s r. Spells (spells.OtherNames xs) s r) (λ xs r. Spells (spells.NamesBehind c.args.first xs) c.args.p.now r) _ _ _ _ _ c.items.invariant.tree c.in_ok-push-2.ensures.ok (λ xs r h. subst (λ x. Spells (spells.OtherNames (x ∷ xs)) c.items.p r) (sym c.identifier-name.ensures) (another_name c.in_ok-expect.ensures.takes c.in_ok-expect-2.ensures.takes h));
   shorter = omega (arith, c.in_ok-expect-2.ensures.shorter, c.in_ok-expect.ensures.shorter);
 }
 

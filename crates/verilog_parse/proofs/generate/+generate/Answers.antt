@@ -1,6 +1,7 @@
 use Rattle.std.proofs.Common.{◌≡◌, [], ◌∷◌, ◌++◌, Some, subst, sym, rules, arith}
 use Rattle.verilog_expr.proofs.Lists.{grows_more, grows_end}
 use Rattle.verilog_expr.specs.Tokens.{next}
+use Rattle.verilog_lex.specs.declared.kind.Kind.TheVariants as k
 use Rattle.verilog_expr.proofs.Runs.{then, expand_at, other_at}
 use Rattle.verilog_expr.proofs.Entries.{generate_items_go}
 use Rattle.verilog_parse.specs.Generates as spells
@@ -25,9 +26,9 @@ other_branches-items-init t c = let first : c.push.new.self ≡ c.args.first ∷
 }
 
 pub other_branches-items-preserved : goal.other_branches-items-preserved
-other_branches-items-preserved t c = record {
-  machine = record { go = λ k out r. c.items.invariant.machine.go k out (expand_at c.items-test.ensures (then c.in_ok-expect.ensures.machine (expand_at c.else-not-sees.ensures (then c.in_ok-branch.ensures.machine r)))) };
-  tree = grows_more (λ xs s r. Spells (spells.OtherBranches xs) s r) (λ xs r. Spells (spells.BranchesBehind c.args.first xs) c.args.p.now r) _ _ _ _ _ c.items.invariant.tree c.in_ok-push-3.ensures.ok (λ xs r. another_branch c.in_ok-expect.ensures.takes c.else-not-sees.ensures c.in_ok-branch.ensures.tree);
+other_branches-items-preserved t c = let is : k.If ≡ next c.expect.new.self = search rules in record {
+  machine = record { go = λ k out r. c.items.invariant.machine.go k out (expand_at c.items-test.ensures (then c.in_ok-expect.ensures.machine (expand_at is (then c.in_ok-branch.ensures.machine r)))) };
+  tree = grows_more (λ xs s r. Spells (spells.OtherBranches xs) s r) (λ xs r. Spells (spells.BranchesBehind c.args.first xs) c.args.p.now r) _ _ _ _ _ c.items.invariant.tree c.in_ok-push-3.ensures.ok (λ xs r. another_branch c.in_ok-expect.ensures.takes is c.in_ok-branch.ensures.tree);
   shorter = omega (arith, c.in_ok-branch.ensures.shorter, c.in_ok-expect.ensures.shorter);
 }
 

@@ -5,7 +5,7 @@ use Rattle.verilog_expr.specs.Reads.{Leads}
 use Rattle.verilog_expr.proofs.Lists.{Grows}
 use Rattle.verilog_parse.specs.Modules as spells
 use Rattle.verilog_parse.specs.Modules.{Spells}
-use Rattle.verilog_parse.proofs.module.items.Given as goal
+use Rattle.verilog_parse.proofs.modules.items.Given as goal
 
 abbrev pub invariant-items : goal.invariant-items
 invariant-items l = record {

@@ -5,7 +5,7 @@ use Rattle.verilog_expr.proofs.Runs.{then, expand_at, other_at}
 use Rattle.verilog_expr.proofs.Entries.{items_go}
 use Rattle.verilog_parse.specs.Modules as spells
 use Rattle.verilog_parse.specs.Modules.{Spells, another_item, no_item}
-use Rattle.verilog_parse.proofs.module.items.Goals as goal
+use Rattle.verilog_parse.proofs.modules.items.Goals as goal
 
 pub items-preserved : goal.items-preserved
 items-preserved c = let go = items_go c.args.weight (next c.items.p) c.items-test.ensures in record {
