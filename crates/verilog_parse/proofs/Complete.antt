@@ -18,7 +18,7 @@ use Rattle.verilog_parse.specs.Generates as b
 use Rattle.verilog_parse.specs.Modules as m
 
 -- what the next token, seen before it is taken, makes the machine enter
-seen : {x : Nonterminal} {w : ℕ} {alternative k : List Symbol} {s r : List Token} {kind : Kind} → kind ≡ next s → entry x w kind ≡ Some alternative → Gets (alternative ++ k) s r → Gets (N x w ∷ k) s r
+pub seen : {x : Nonterminal} {w : ℕ} {alternative k : List Symbol} {s r : List Token} {kind : Kind} → kind ≡ next s → entry x w kind ≡ Some alternative → Gets (alternative ++ k) s r → Gets (N x w ∷ k) s r
 seen {x} {w} is entered h = enters (ap (entry x w) (sym is) ∙ entered) h
 
 -- ---- statements

@@ -20,9 +20,12 @@ size_text size = if size == 0 then [] else decimal size
 abbrev pub number_text : Literal → List ℕ
 number_text l = size_text l.size ++ (if l.signed then codes "'sh" else codes "'h") ++ hex_text l.value
 
--- a digit that matches both, or the bit
+-- `?` where the mask has a 1, else the bit
+abbrev pub digit_of : ℕ → ℕ → ℕ
+digit_of mask_bit value_bit = if mask_bit == 1 then 63 else (if value_bit == 1 then 49 else 48)
+
 abbrev pub pattern_digit : ℕ → ℕ → ℕ → ℕ
-pattern_digit bit value mask = if bit_at mask bit == 1 then 63 else (if bit_at value bit == 1 then 49 else 48)
+pattern_digit bit value mask = digit_of (bit_at mask bit) (bit_at value bit)
 
 -- so many digits, from the highest
 abbrev pub pattern_digits : ℕ → ℕ → ℕ → List ℕ

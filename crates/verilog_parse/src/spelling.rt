@@ -1,5 +1,5 @@
 // The one spelling of a module's tokens, by which two texts of one module are the same.
-ghost use Rattle.std.specs.Prelude.{◌≡◌, ◌++◌, ◌<◌, ◌≤◌, length, All, IfOk, OnOk};
+ghost use Rattle.std.specs.Prelude.{◌≡◌, ◌==◌, ◌++◌, ◌<◌, ◌≤◌, length, All, IfOk, OnOk};
 ghost use Rattle.std.specs.List.{prefix_len};
 ghost use Rattle.verilog_parse.specs.Spellings.{spelling, spaced, token_text, number_text, pattern_text, hex_text, pattern_digits, pattern_digit, size_text};
 
@@ -81,7 +81,8 @@ fn push_hex(text: &mut Vec<u8>, value: u128) -> Result<(), NoMemory>
     let mut digits = [0u8; 32];
     let _ = encode_to_slice(value.to_be_bytes().as_slice(), &mut digits);
     let skipped = zeros(&digits).min(31);
-    text.extend_from_slice(&digits[skipped..])?;
+    let (_, shown) = digits.as_slice().split_at(skipped);
+    text.extend_from_slice(shown)?;
     Ok(())
 }
 
