@@ -1,15 +1,13 @@
 -- The machine has one end, and it takes what is spelled, unless too much is open.
-use Rattle.std.proofs.Common.{◌≡◌, ◌≢◌, ◌≤◌, ◌<◌, ◌+◌, ℕ, length, List, [], ◌∷◌, ◌++◌, Option, Some, None, Result, Ok, Err, refl, sym, ap, subst, ◌∙◌, ◌⊎◌, inl, inr, rules, arith}
+use Rattle.std.proofs.Common.{◌≡◌, ◌+◌, ℕ, List, [], ◌∷◌, ◌++◌, Option, Some, None, Ok, Err, refl, sym, ap, subst, ◌∙◌, inl, inr, arith}
 use Rattle.std.proofs.lemmas.Bool.{cases_lt}
 use Rattle.verilog_lex.specs.declared.kind.Kind.{Kind}
-use Rattle.verilog_lex.specs.declared.kind.Kind.TheVariants as k
 use Rattle.verilog_lex.specs.declared.token.Token.{Token}
 use Rattle.verilog_ast.specs.declared.operator.UnaryOperator.{UnaryOperator}
 use Rattle.verilog_ast.specs.declared.operator.BinaryOperator.{BinaryOperator}
-use Rattle.verilog_expr.specs.declared.fault.ParseFault.{ParseFault}
-use Rattle.verilog_expr.specs.declared.fault.ParseFault.TheVariants.{Stuck, Heavy}
-use Rattle.verilog_expr.specs.Tokens.{next, Differs, Takes, taken, unary_operator, binary_operator, level, max_weight}
-use Rattle.verilog_expr.specs.Grammar.{Nonterminal, Symbol, T, N, Operand, Tail, ASelect, Part, AfterSelect, Braced, More, tail_at, operand_at, entry}
+use Rattle.verilog_expr.specs.declared.fault.ParseFault.TheVariants.{Heavy}
+use Rattle.verilog_expr.specs.Tokens.{next, Differs, Takes, taken, unary_operator, binary_operator, max_weight}
+use Rattle.verilog_expr.specs.Grammar.{Nonterminal, Symbol, T, N, Operand, Tail, ASelect, Part, Braced, More, tail_at, operand_at, entry}
 use Rattle.verilog_expr.specs.Grammar.{AnExpression, ARange}
 use Rattle.verilog_expr.specs.Machine.{Outcome, Run, ends, takes, heavy, differs, expands, refuses}
 use Rattle.verilog_expr.specs.Reads.{Leads}

@@ -1,5 +1,5 @@
 -- Where a nonterminal has its empty alternative, where it has none, and which alternative stands before all other tokens.
-use Rattle.std.proofs.Common.{◌≡◌, ◌≢◌, ℕ, List, [], ◌∷◌, Option, Some, None, Bool, true, false, refl, ap, sym, ◌∙◌, arith}
+use Rattle.std.proofs.Common.{◌≡◌, ◌≢◌, ℕ, [], ◌∷◌, Some, None, Bool, true, false, refl, ap, ◌∙◌, arith}
 use Rattle.verilog_lex.specs.declared.kind.Kind.{Kind}
 use Rattle.verilog_lex.specs.declared.kind.Kind.TheVariants as k
 use Rattle.verilog_expr.specs.Tokens.{unary_operator, binary_operator}
@@ -9,7 +9,7 @@ use Rattle.verilog_expr.proofs.Runs.{Refuses, RefusesOutside}
 use Rattle.verilog_ast.specs.declared.statement.Sign.{Sign}
 use Rattle.verilog_ast.specs.declared.statement.Sign.TheVariants.{Blocking, Nonblocking}
 use Rattle.verilog_ast.specs.declared.statement.CaseKind.{CaseKind}
-use Rattle.verilog_ast.specs.declared.statement.CaseKind.TheVariants.{Case, Casez}
+use Rattle.verilog_ast.specs.declared.statement.CaseKind.TheVariants.{Casez}
 
 -- ---- expressions
 

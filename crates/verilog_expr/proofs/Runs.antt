@@ -1,12 +1,12 @@
 -- Runs, one after the other.
-use Rattle.std.proofs.Common.{◌≡◌, ◌≢◌, ◌≤◌, ◌<◌, ◌+◌, ℕ, length, List, [], ◌∷◌, ◌++◌, Option, Some, None, Result, Ok, Err, refl, sym, ap, subst, ◌∙◌, append_assoc, Bool, true, false}
+use Rattle.std.proofs.Common.{◌≡◌, ◌+◌, ℕ, length, List, [], ◌∷◌, ◌++◌, Option, Some, None, Result, Ok, Err, refl, sym, ap, subst, ◌∙◌, append_assoc, Bool, true, false}
 use Rattle.std.specs.Prelude.{IsErrAnd}
 use Rattle.std.proofs.lemmas.Result.{err_from_is_err_and}
 use Rattle.verilog_lex.specs.declared.kind.Kind.{Kind}
 use Rattle.verilog_ast.specs.declared.operator.BinaryOperator.{BinaryOperator}
 use Rattle.verilog_lex.specs.declared.token.Token.{Token}
 use Rattle.verilog_expr.specs.declared.fault.ParseFault.{ParseFault}
-use Rattle.verilog_expr.specs.declared.fault.ParseFault.TheVariants.{Stuck, Heavy}
+use Rattle.verilog_expr.specs.declared.fault.ParseFault.TheVariants.{Stuck}
 use Rattle.verilog_expr.specs.declared.error.ParseError.{ParseError}
 use Rattle.verilog_expr.specs.declared.error.ParseError.TheVariants as errors
 use Rattle.verilog_expr.specs.Tokens.{next, Differs, binary_operator, unary_operator}
@@ -138,7 +138,8 @@ chain_memory w s t r is = let p = err_from_is_err_and r is in let q : r ≡ Err 
 pub chain_more : (w v u : ℕ) (s t t1 t2 : List Token) (kind : Kind) (op : BinaryOperator) → Leads (N Operand w ∷ N Tail w ∷ []) s (N Tail v ∷ []) t → kind ≡ next t → Some op ≡ binary_operator (next t) → Run (T kind v ∷ []) t (Ok t1)
     → Leads (N Operand (v + 1) ∷ N Tail (v + 1) ∷ []) t1 (N Tail u ∷ []) t2 → Leads (N Operand w ∷ N Tail w ∷ []) s (N Tail u ∷ []) t2
 chain_more w v u s t t1 t2 kind op before is has one after = record {
-  go = λ k out r. before.go k out (expands (ap (tail_at v (next t)) (sym has)) (subst (λ (x : Kind). Run (T x v ∷ N Operand (v + 1) ∷ N Tail (v + 1) ∷ k) t out) is (run_then _ _ one (after.go k out r)))) }
+  go = λ k out r. before.go k out (expands (ap (tail_at v (next t)) (sym has)) (subst (λ (x : Kind). Run (T x v ∷ N Operand (v + 1) ∷ N Tail (v + 1) ∷ k) t out) is (run_then _ _ one (after.go k out r))));
+}
 
 pub leads_one : {x y : Symbol} {k : List Symbol} {s t : List Token} {out : Outcome} → Leads (x ∷ []) s (y ∷ []) t → Run (y ∷ k) t out → Run (x ∷ k) s out
 leads_one l r = l.go _ _ r
@@ -173,7 +174,6 @@ pub ruleset runs = (ends, expand_at, then, stops, reads_err, reads_memory, fails
 
 -- an alternative of one symbol that stands before all other tokens
 pub ruleset alone = (alone_at, fails_alone)
-
 
 -- in a loop: what it did so far, and then what it does
 pub ruleset loops = (leads_one, leads_one_fails)

@@ -175,10 +175,7 @@ impl<'a> Parser<'a> {
     pub fn stuck(&self) -> ParseError
         ensures { result ≡ ParseError.Fault (ParseFault.Stuck (stop (is_outside (next self.now))) (length self.now)) }
     {
-        ParseError::Fault(ParseFault::Stuck(
-            stop(is_outside(self.peek())),
-            self.rest.len(),
-        ))
+        ParseError::Fault(ParseFault::Stuck(stop(is_outside(self.peek())), self.rest.len()))
     }
 
     /// The fault at the next token, where the standard has it in this place and this language hasn't.

@@ -2,10 +2,6 @@
 use Rattle.std.proofs.Common.{◌≡◌, ◌+◌, ◌++◌, ◌∙◌, ℕ, List, [], ◌∷◌, Some, refl, sym, ap}
 use Rattle.verilog_lex.specs.declared.token.Token.{Token}
 use Rattle.verilog_lex.specs.declared.kind.Kind.{Kind}
-use Rattle.verilog_lex.specs.declared.kind.Kind.TheVariants as k
-use Rattle.verilog_ast.specs.declared.statement.Sign.{Sign}
-use Rattle.verilog_ast.specs.declared.statement.CaseKind.{CaseKind}
-use Rattle.verilog_ast.specs.declared.statement.CaseKind.TheVariants.{Case, Casez}
 use Rattle.verilog_expr.specs.Tokens.{next}
 use Rattle.verilog_expr.specs.Grammar as g
 use Rattle.verilog_expr.specs.Grammar.{N, Nonterminal, entry, Symbol}

@@ -1,17 +1,16 @@
 -- Whole texts: what is read of them, and that what the grammar has is never stuck.
-use Rattle.std.proofs.Common.{◌≡◌, ◌<◌, ◌-◌, ◌+◌, ℕ, List, [], ◌∷◌, ◌++◌, length, take, All, get_or, Result, Ok, Err, refl, sym, ap, subst, ◌∙◌, arith}
+use Rattle.std.proofs.Common.{◌≡◌, ◌-◌, ◌+◌, ℕ, List, [], ◌∷◌, ◌++◌, length, take, All, Ok, Err, refl, sym, ap, subst, ◌∙◌, arith}
 use Rattle.std.proofs.lemmas.List.{length-append, get_or-append-add}
 use Rattle.ls_text.specs.declared.fault.Fault.{Fault}
 use Rattle.verilog_lex.specs.declared.token.Token.{Token}
 use Rattle.verilog_lex.specs.declared.kind.Kind.TheVariants as k
 use Rattle.verilog_lex.specs.Ends.{EndsOnce}
 use Rattle.verilog_ast.specs.declared.module.Module.{Module}
-use Rattle.verilog_ast.specs.declared.module_body.ModuleBody.{ModuleBody}
 use Rattle.verilog_expr.specs.declared.fault.ParseFault.{ParseFault}
 use Rattle.verilog_expr.specs.declared.fault.ParseFault.TheVariants.{Stuck, Heavy}
 use Rattle.verilog_expr.specs.declared.error.ParseError.{ParseError}
 use Rattle.verilog_expr.specs.declared.error.ParseError.TheVariants as errors
-use Rattle.verilog_expr.specs.Tokens.{next, Takes, taken}
+use Rattle.verilog_expr.specs.Tokens.{Takes, taken}
 use Rattle.verilog_expr.specs.Grammar as g
 use Rattle.verilog_expr.specs.Grammar.{Symbol, T, N}
 use Rattle.verilog_expr.specs.Machine.{Outcome, Run, ends}
@@ -32,7 +31,7 @@ pub spelled_so : (names : List (List ℕ)) (x : Module) (s r start rest own : Li
 spelled_so names x s r start rest own is-s is-r is-own text run tree =
     let w = suffix run in
     let here : own ≡ w.0 = is-own ∙ ap (λ (l : List Token). take (length l - length rest) l) is-s ∙ ap (λ (l : List Token). take (length s - length l) s) is-r
-        ∙ ap (λ (l : List Token). take (length l - length r) l) w.1 ∙ taken_part w.0 r in
+    ∙ ap (λ (l : List Token). take (length l - length r) l) w.1 ∙ taken_part w.0 r in
     record { tree = tree; own = w.0; cut = w.1; text = text ∙ ap (spelling names) here }
 
 pub named_after : (P : Token → Type 0) (s r : List Token) → Run (N g.AModule 0 ∷ []) s (Ok r) → All P s → All P r

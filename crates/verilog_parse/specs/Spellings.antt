@@ -1,5 +1,5 @@
 -- The one spelling of tokens.
-use Rattle.std.specs.Prelude.{ℕ, zero, suc, ◌+◌, ◌==◌, min, nat_le, Bool, true, false, if◌then◌else◌, List, [], ◌∷◌, ◌++◌, drop, codes, decimal}
+use Rattle.std.specs.Prelude.{ℕ, zero, suc, ◌==◌, min, if◌then◌else◌, List, [], ◌∷◌, ◌++◌, drop, codes, decimal}
 use Rattle.std.specs.List.{prefix_len, flat_map}
 use Rattle.std.specs.Int.{bit_at, w128, to_be_bytes}
 use Rattle.hex.specs.Hex.{encode_lower}

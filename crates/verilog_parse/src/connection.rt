@@ -127,10 +127,7 @@ fn more_named(
 }
 
 // A connection by order, which may be empty.
-fn ordered_connection(
-    p: &mut Parser<'_>,
-    weight: u32,
-) -> Result<OrderedConnection, ParseError>
+fn ordered_connection(p: &mut Parser<'_>, weight: u32) -> Result<OrderedConnection, ParseError>
     requires { weight < 2 ^ 30 }
     ensures machine { Reads (N grammar.AnOrdered weight ∷ []) p.old result p.new }
     ensures tree { IfOk result (λ x. Spells (spells.AnOrdered x) p.old p.new) }

@@ -132,10 +132,7 @@ pub fn variable(p: &mut Parser<'_>, weight: u32) -> Result<Variable, ParseError>
     })
 }
 
-fn optional_value(
-    p: &mut Parser<'_>,
-    weight: u32,
-) -> Result<Option<Boxed<Expression>>, ParseError>
+fn optional_value(p: &mut Parser<'_>, weight: u32) -> Result<Option<Boxed<Expression>>, ParseError>
     requires { weight < 2 ^ 30 }
     ensures machine { Reads (N grammar.OptionalValue weight ∷ []) p.old result p.new }
     ensures tree { IfOk result (λ x. Spells (spells.OptionalValue x) p.old p.new) }

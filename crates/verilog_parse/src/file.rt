@@ -48,11 +48,7 @@ fn modules(p: &mut Parser<'_>, names: &Names) -> Result<Vec<Module>, ParseError>
 }
 
 /// The modules of all the tokens.
-pub fn whole_file(
-    alloc: Global,
-    names: &Names,
-    tokens: &[Token],
-) -> Result<Vec<Module>, ParseError>
+pub fn whole_file(alloc: Global, names: &Names, tokens: &[Token]) -> Result<Vec<Module>, ParseError>
     requires ends { EndsOnce tokens.now }
     requires named { All (λ t. t.text.0 < length names.now) tokens.now }
     ensures tree { IfOk result (λ all. Stands names.now all.items tokens.now) }

@@ -36,10 +36,7 @@ fn at_generate_item(p: &Parser<'_>) -> bool
 
 /// Items up to what begins none.
 #[cycle(generate)]
-pub fn generate_items(
-    p: &mut Parser<'_>,
-    weight: u32,
-) -> Result<Items<GenerateItem>, ParseError>
+pub fn generate_items(p: &mut Parser<'_>, weight: u32) -> Result<Items<GenerateItem>, ParseError>
     requires { weight < 2 ^ 29 }
     ensures machine { Reads (N grammar.GenerateItems weight ∷ []) p.old result p.new }
     ensures tree { IfOk result (λ xs. Spells (spells.GenerateItems xs) p.old p.new) }

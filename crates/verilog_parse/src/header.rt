@@ -30,10 +30,7 @@ pub fn header(
     Ok((parameters, ports))
 }
 
-fn parameter_header(
-    p: &mut Parser<'_>,
-    weight: u32,
-) -> Result<Items<HeaderParameter>, ParseError>
+fn parameter_header(p: &mut Parser<'_>, weight: u32) -> Result<Items<HeaderParameter>, ParseError>
     requires { weight < 2 ^ 30 }
     ensures machine { Reads (N grammar.ParameterHeader weight ∷ []) p.old result p.new }
     ensures tree { IfOk result (λ xs. Spells (spells.ParameterHeader xs) p.old p.new) }

@@ -145,9 +145,7 @@ fn at_arm(p: &Parser<'_>, which: CaseKind) -> bool
 {
     match which {
         CaseKind::Case => p.sees_expression() || p.sees(Kind::Default),
-        CaseKind::Casez => {
-            p.sees_expression() || p.sees(Kind::Default) || p.sees(Kind::Wild)
-        }
+        CaseKind::Casez => { p.sees_expression() || p.sees(Kind::Default) || p.sees(Kind::Wild) }
     }
 }
 
@@ -175,12 +173,7 @@ fn more_arms(
 
 // One item of a `case`.
 #[cycle(statement)]
-fn arm(
-    p: &mut Parser<'_>,
-    sign: Sign,
-    which: CaseKind,
-    weight: u32,
-) -> Result<Arm, ParseError>
+fn arm(p: &mut Parser<'_>, sign: Sign, which: CaseKind, weight: u32) -> Result<Arm, ParseError>
     requires { weight < 2 ^ 30 }
     ensures machine { Reads (N (grammar.AnArm sign which) weight ∷ []) p.old result p.new }
     ensures tree { IfOk result (λ x. Spells (spells.AnArm sign which x) p.old p.new) }
@@ -287,11 +280,7 @@ fn optional_label(p: &mut Parser<'_>, weight: u32) -> Result<Option<Identifier>,
 
 // Statements up to what begins none.
 #[cycle(statement)]
-fn statements(
-    p: &mut Parser<'_>,
-    sign: Sign,
-    weight: u32,
-) -> Result<Items<Statement>, ParseError>
+fn statements(p: &mut Parser<'_>, sign: Sign, weight: u32) -> Result<Items<Statement>, ParseError>
     requires { weight < 2 ^ 30 }
     ensures machine { Reads (N (grammar.Statements sign) weight ∷ []) p.old result p.new }
     ensures tree { IfOk result (λ xs. Spells (spells.Statements sign xs) p.old p.new) }

@@ -50,11 +50,7 @@ pub fn braces(p: &mut Parser<'_>, weight: u32) -> Result<Items<Target>, ParseErr
 
 // Further targets, each after a comma, behind the first.
 #[cycle(target)]
-fn more_targets(
-    p: &mut Parser<'_>,
-    first: Target,
-    weight: u32,
-) -> Result<Items<Target>, ParseError>
+fn more_targets(p: &mut Parser<'_>, first: Target, weight: u32) -> Result<Items<Target>, ParseError>
     requires { weight < 2 ^ 30 }
     ensures machine { Reads (N grammar.MoreTargets weight ∷ []) p.old result p.new }
     ensures tree { IfOk result (λ xs. Spells (spells.TargetsBehind first xs) p.old p.new) }

@@ -1,4 +1,4 @@
-use Rattle.std.proofs.Common.{sym, ◌∙◌, rules}
+use Rattle.std.proofs.Common.{sym, ◌∙◌}
 use denote.Enum.Bare.{same_true, true_same}
 use Rattle.verilog_lex.specs.contracts.kind.Kind.{the_type}
 use Rattle.verilog_expr.proofs.parser.is_kind.Goals as goal

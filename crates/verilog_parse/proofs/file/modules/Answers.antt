@@ -1,4 +1,3 @@
-use Rattle.std.proofs.Common.{◌≡◌, [], ◌∷◌, ◌++◌, sym, rules, arith}
 use Rattle.verilog_expr.proofs.Lists.{grows_more, grows_end}
 use Rattle.verilog_expr.proofs.Runs.{then, expand_at}
 use Rattle.verilog_parse.specs.Files.{SpellsAll, another_module, no_module}

@@ -1,4 +1,4 @@
-use Rattle.std.proofs.Common.{◌≡◌, [], ◌∷◌, ◌++◌, Some, subst, sym, rules, arith}
+use Rattle.std.proofs.Common.{◌≡◌, [], ◌∷◌, ◌++◌, subst, sym, rules, arith}
 use Rattle.verilog_expr.proofs.Lists.{grows_more, grows_end}
 use Rattle.verilog_expr.specs.Tokens.{next}
 use Rattle.verilog_lex.specs.declared.kind.Kind.TheVariants as k

@@ -1,4 +1,4 @@
-use Rattle.std.proofs.Common.{◌≤◌, ◌*◌, ◌+◌, length, [], ◌∷◌}
+use Rattle.std.proofs.Common.{◌≤◌, length, [], ◌∷◌}
 use Rattle.verilog_expr.specs.Grammar as grammar
 use Rattle.verilog_expr.specs.Grammar.{N}
 use Rattle.verilog_expr.specs.Reads.{Leads}

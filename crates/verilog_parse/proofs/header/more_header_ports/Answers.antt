@@ -1,7 +1,6 @@
-use Rattle.std.proofs.Common.{◌≡◌, [], ◌∷◌, ◌++◌, Some, subst, sym, rules, arith}
+use Rattle.std.proofs.Common.{◌≡◌, [], ◌∷◌, ◌++◌, subst, sym, rules, arith}
 use Rattle.verilog_expr.proofs.Lists.{grows_more, grows_end}
-use Rattle.verilog_expr.specs.Tokens.{next}
-use Rattle.verilog_expr.proofs.Runs.{then, expand_at, other_at}
+use Rattle.verilog_expr.proofs.Runs.{then, expand_at}
 use Rattle.verilog_parse.specs.Modules as spells
 use Rattle.verilog_parse.specs.Modules.{Spells, header_ports_behind, another_header_port, no_header_port}
 use Rattle.verilog_parse.proofs.header.more_header_ports.Goals as goal

@@ -1,7 +1,7 @@
-use Rattle.std.proofs.Common.{◌≡◌, [], ◌∷◌, ◌++◌, Some, subst, sym, rules, arith}
+use Rattle.std.proofs.Common.{arith}
 use Rattle.verilog_expr.proofs.Lists.{grows_more, grows_end}
 use Rattle.verilog_expr.specs.Tokens.{next}
-use Rattle.verilog_expr.proofs.Runs.{then, expand_at, other_at}
+use Rattle.verilog_expr.proofs.Runs.{then, other_at}
 use Rattle.verilog_expr.proofs.Entries.{items_go}
 use Rattle.verilog_parse.specs.Modules as spells
 use Rattle.verilog_parse.specs.Modules.{Spells, another_item, no_item}

@@ -1,4 +1,4 @@
-use Rattle.std.proofs.Common.{◌≡◌, ◌≤◌, ◌++◌}
+use Rattle.std.proofs.Common.{◌≡◌, ◌++◌}
 use Rattle.verilog_parse.specs.Spellings.{pattern_digits}
 use Rattle.verilog_parse.proofs.spelling.push_digits.Given as goal
 

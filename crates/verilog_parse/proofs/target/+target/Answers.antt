@@ -1,8 +1,6 @@
-use Rattle.std.proofs.Common.{◌≡◌, [], ◌∷◌, ◌++◌, Some, subst, sym, rules, arith}
+use Rattle.std.proofs.Common.{◌≡◌, [], ◌∷◌, ◌++◌, subst, sym, rules, arith}
 use Rattle.verilog_expr.proofs.Lists.{grows_more, grows_end}
-use Rattle.verilog_expr.specs.Tokens.{next}
-use Rattle.verilog_expr.proofs.Runs.{then, expand_at, other_at}
-use Rattle.verilog_expr.proofs.Entries.{statements_go, more_arms_go}
+use Rattle.verilog_expr.proofs.Runs.{then, expand_at}
 use Rattle.verilog_parse.specs.Statements as spells
 use Rattle.verilog_parse.specs.Statements.{Spells, targets_behind, another_target, no_target, another_statement, no_statement, arms_behind, another_arm, no_arm, labels_behind, another_label, no_other_label}
 use Rattle.verilog_parse.proofs.target.+target.Goals as goal

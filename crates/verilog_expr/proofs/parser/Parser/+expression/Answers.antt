@@ -1,8 +1,8 @@
-use Rattle.std.proofs.Common.{◌≡◌, ◌≤◌, ℕ, Some, ap, sym, ◌∙◌, rules, arith}
+use Rattle.std.proofs.Common.{◌≤◌, ℕ, ap, sym, ◌∙◌, rules, arith}
 use Rattle.verilog_expr.proofs.Trees.{looser_is, longer, others_begin, others_more, others_end}
 use Rattle.verilog_expr.proofs.Runs.{then, expand_at, chain_more}
 use Rattle.verilog_expr.specs.Spells.{Spells, AChain, one}
-use Rattle.verilog_expr.specs.Tokens.{binary_operator, level, next}
+use Rattle.verilog_expr.specs.Tokens.{binary_operator, level}
 use Rattle.verilog_ast.specs.declared.expression.Expression.TheVariants as e
 use Rattle.verilog_expr.proofs.parser.Parser.+expression.Goals as goal
 
@@ -20,8 +20,8 @@ chain-loop-op-preserved t c =
     let has = c.in-Some.ensures in
     let least_below : c.args.least ≤ level c.in-Some.op = omega (arith, c.level.ensures.value) in
     let tree : (p : ℕ) → p ≤ level c.in-Some.op → Spells (AChain p (e.Binary c.in-Some.op c.in_ok-new.field-0 c.in_ok-new-2.field-0)) c.args.self.now c.chain.new.self = λ p le.
-        longer p c.level-in-Some.result c.in-Some.op c.loop-op.left c.in_ok-right.right _ _ c.args.self.now c.loop-op.self c.expect.new.self c.chain.new.self c.peek-kind.result c.in_ok-expect.field-0
-        c.in_ok-new.ensures c.in_ok-new-2.ensures c.level-in-Some.ensures.value le (c.loop-op.invariant.goes_on c.in-Some.op (sym has) least_below) (ap binary_operator c.peek-kind.ensures ∙ sym has) c.in_ok-expect.ensures.takes c.in_ok-right.ensures.tree in
+    longer p c.level-in-Some.result c.in-Some.op c.loop-op.left c.in_ok-right.right _ _ c.args.self.now c.loop-op.self c.expect.new.self c.chain.new.self c.peek-kind.result c.in_ok-expect.field-0
+    c.in_ok-new.ensures c.in_ok-new-2.ensures c.level-in-Some.ensures.value le (c.loop-op.invariant.goes_on c.in-Some.op (sym has) least_below) (ap binary_operator c.peek-kind.ensures ∙ sym has) c.in_ok-expect.ensures.takes c.in_ok-right.ensures.tree in
     record {
       machine = chain_more c.args.weight c.loop-op.inner c.in_ok-right.after _ _ _ _ c.peek-kind.result c.in-Some.op c.loop-op.invariant.machine c.peek-kind.ensures has c.in_ok-expect.ensures.machine c.in_ok-right.ensures.machine;
       tree = tree c.args.least least_below;
