@@ -93,7 +93,8 @@ fn carried_into(
 impl Design {
     /// The registers at their beginning values.
     pub fn reset_state(&self, alloc: Global) -> Result<RegState, NoMemory>
-        ensures { IfOk result (λ s. s ≡ reset_of (flat_of self.now)) }
+        ensures value { IfOk result (λ s. s ≡ reset_of (flat_of self.now)) }
+        ensures fits { IfOk result (λ s. Fits (flat_of self.now) s) }
     {
         let design = &self.linked.design;
         beginnings(alloc, &design.signals, &design.registers)

@@ -8,6 +8,8 @@ mod design;
 mod no_row;
 mod run;
 mod state;
+#[cfg(test)]
+mod tests;
 
 pub use design::Design;
 pub use no_row::{NoOps, NoRow};

@@ -1,0 +1,110 @@
+-- What the entries of one holder do to its tickets, and to the others'.
+use Rattle.std.proofs.Common.{◌≡◌, ◌≢◌, ℕ, Bool, true, false, true≢false, List, [], ◌∷◌, ◌++◌, ◌||◌, eqb, if◌then◌else◌, refl, sym, ap, ◌∙◌, subst, append_assoc, append-nil}
+use Rattle.std.proofs.lemmas.Bool.{eqb-true, eq-eqb}
+use Rattle.book_history.specs.Event.{Event, Opened, Ran, Reloaded, Claimed, Installed, Released, Shown, Closed}
+use Rattle.book_history.specs.Tickets.{is_among, without, draws, uses, is_drawn, is_used, IsOut, AreOut, kept, kept_all, MayAdd, MayAddAll}
+
+or_assoc : (a b c : Bool) → (a || b) || c ≡ a || (b || c)
+or_assoc true b c = refl
+or_assoc false b c = refl
+
+pub or_true : (a b : Bool) → a ≡ true → a || b ≡ true
+or_true true b e = refl
+or_true false b e = absurd (true≢false (sym e))
+
+pub or_right : (a b : Bool) → b ≡ true → a || b ≡ true
+or_right true b e = refl
+or_right false b e = e
+
+or_false_left : (a b : Bool) → a ≡ false → a || b ≡ b
+or_false_left true b e = absurd (true≢false e)
+or_false_left false b e = refl
+
+pub or_false : (a b : Bool) → a ≡ false → b ≡ false → a || b ≡ false
+or_false true b e f = absurd (true≢false e)
+or_false false b e f = f
+
+pub not_true : (a : Bool) → a ≢ true → a ≡ false
+not_true true h = absurd (h refl)
+not_true false h = refl
+
+-- n is k, or it is not
+pub apart_or : (n k : ℕ) → n ≢ k → eqb n k ≡ false
+apart_or n k h = not_true (eqb n k) (λ e. h (eqb-true n k e))
+
+-- what is left without k was there, and is not k
+pub among_without : (n k : ℕ) (ts : List ℕ) → is_among n (without k ts) ≡ true → (is_among n ts ≡ true) × (n ≢ k)
+among_without n k [] e = absurd (true≢false (sym e))
+among_without n k (m ∷ ms) e = go (eqb m k) refl (among_without n k ms) e
+  where
+    here : (a : Bool) → eqb n m ≡ a → eqb m k ≡ false → (is_among n (without k ms) ≡ true → (is_among n ms ≡ true) × (n ≢ k)) → a || is_among n (without k ms) ≡ true → ((a || is_among n ms) ≡ true) × (n ≢ k)
+    here true a t more e = (refl, λ (s : n ≡ k). true≢false (sym (eq-eqb m k (sym (eqb-true n m a) ∙ s)) ∙ t))
+    here false a t more e = more e
+
+    go : (b : Bool) → eqb m k ≡ b → (is_among n (without k ms) ≡ true → (is_among n ms ≡ true) × (n ≢ k)) → is_among n (if b then without k ms else m ∷ without k ms) ≡ true → ((eqb n m || is_among n ms) ≡ true) × (n ≢ k)
+    go true t more e = let r = more e in (or_right (eqb n m) (is_among n ms) r.0, r.1)
+    go false t more e = here (eqb n m) refl t more e
+
+module _ {D R O : Type 0} where
+  pub drawn_append : (n : ℕ) (xs ys : List (Event D R O)) → is_drawn n (xs ++ ys) ≡ is_drawn n xs || is_drawn n ys
+  drawn_append n [] ys = refl
+  drawn_append n (x ∷ xs) ys = ap (λ b. draws n x || b) (drawn_append n xs ys) ∙ sym (or_assoc (draws n x) (is_drawn n xs) (is_drawn n ys))
+
+  pub used_append : (n : ℕ) (xs ys : List (Event D R O)) → is_used n (xs ++ ys) ≡ is_used n xs || is_used n ys
+  used_append n [] ys = refl
+  used_append n (x ∷ xs) ys = ap (λ b. uses n x || b) (used_append n xs ys) ∙ sym (or_assoc (uses n x) (is_used n xs) (is_used n ys))
+
+  -- an entry that does not use the ticket up leaves it out
+  stays_out : (n : ℕ) (h : List (Event D R O)) (e : Event D R O) → uses n e ≡ false → IsOut n h → IsOut n (h ++ e ∷ [])
+  stays_out n h e u o = record {
+    drawn = drawn_append n h (e ∷ []) ∙ or_true (is_drawn n h) (draws n e || false) o.drawn;
+    unused = used_append n h (e ∷ []) ∙ or_false (is_used n h) (uses n e || false) o.unused (or_false (uses n e) false u refl);
+  }
+
+  -- so it is with the holder's tickets, and with one of another holder
+  mine : (h : List (Event D R O)) (ts : List ℕ) (e : Event D R O) → MayAdd h ts e → AreOut ts h → AreOut (kept ts e) (h ++ e ∷ [])
+  mine h ts (Opened v m) may o n a = stays_out n h _ refl (o n a)
+  mine h ts (Ran k rows) may o n a = stays_out n h _ refl (o n a)
+  mine h ts (Reloaded v m ops from) may o n a = stays_out n h _ refl (o n a)
+  mine h ts (Claimed k x y by) may o n a = go (eqb n k) refl a
+    where
+      go : (b : Bool) → eqb n k ≡ b → b || is_among n ts ≡ true → IsOut n (h ++ Claimed k x y by ∷ [])
+      go true t a = record {
+        drawn = drawn_append n h (Claimed k x y by ∷ []) ∙ or_right (is_drawn n h) (eqb n k || false) (or_true (eqb n k) false t);
+        unused = used_append n h (Claimed k x y by ∷ []) ∙ or_false (is_used n h) false (ap (λ i. is_used i h) (eqb-true n k t) ∙ may.1) refl;
+      }
+      go false t a = stays_out n h _ refl (o n a)
+  mine h ts (Installed k j by) may o n a = let r = among_without n k ts a in stays_out n h _ (apart_or n k r.1) (o n r.0)
+  mine h ts (Released k by) may o n a = let r = among_without n k ts a in stays_out n h _ (apart_or n k r.1) (o n r.0)
+  mine h ts (Shown s) may o n a = stays_out n h _ refl (o n a)
+  mine h ts Closed may o n a = stays_out n h _ refl (o n a)
+
+  theirs : (h : List (Event D R O)) (ts : List ℕ) (e : Event D R O) → MayAdd h ts e → (n : ℕ) → IsOut n h → is_among n ts ≢ true → IsOut n (h ++ e ∷ []) × (is_among n (kept ts e) ≢ true)
+  theirs h ts (Opened v m) may n o a = (stays_out n h _ refl o, a)
+  theirs h ts (Ran k rows) may n o a = (stays_out n h _ refl o, a)
+  theirs h ts (Reloaded v m ops from) may n o a = (stays_out n h _ refl o, a)
+  theirs h ts (Claimed k x y by) may n o a = (
+    stays_out n h _ refl o,
+    λ s. a (sym (or_false_left (eqb n k) (is_among n ts) (apart_or n k (λ (e : n ≡ k). true≢false (sym o.drawn ∙ ap (λ i. is_drawn i h) e ∙ may.0)))) ∙ s),
+  )
+  theirs h ts (Installed k j by) may n o a = (
+    stays_out n h _ (apart_or n k (λ (e : n ≡ k). a (ap (λ i. is_among i ts) e ∙ may))) o,
+    λ s. a (among_without n k ts s).0,
+  )
+  theirs h ts (Released k by) may n o a = (
+    stays_out n h _ (apart_or n k (λ (e : n ≡ k). a (ap (λ i. is_among i ts) e ∙ may))) o,
+    λ s. a (among_without n k ts s).0,
+  )
+  theirs h ts (Shown s) may n o a = (stays_out n h _ refl o, a)
+  theirs h ts Closed may n o a = (stays_out n h _ refl o, a)
+
+  pub all_mine : (h : List (Event D R O)) (ts : List ℕ) (es : List (Event D R O)) → MayAddAll h ts es → AreOut ts h → AreOut (kept_all ts es) (h ++ es)
+  all_mine h ts [] may o = subst (λ l. AreOut ts l) (sym (append-nil h)) o
+  all_mine h ts (e ∷ es) may o = subst (λ l. AreOut (kept_all (kept ts e) es) l) (append_assoc h (e ∷ []) es) (all_mine (h ++ e ∷ []) (kept ts e) es may.1 (mine h ts e may.0 o))
+
+  pub all_theirs : (h : List (Event D R O)) (ts : List ℕ) (es : List (Event D R O)) → MayAddAll h ts es → (n : ℕ) → IsOut n h → is_among n ts ≢ true → IsOut n (h ++ es) × (is_among n (kept_all ts es) ≢ true)
+  all_theirs h ts [] may n o a = (subst (λ l. IsOut n l) (sym (append-nil h)) o, a)
+  all_theirs h ts (e ∷ es) may n o a =
+      let s = theirs h ts e may.0 n o a in
+      let r = all_theirs (h ++ e ∷ []) (kept ts e) es may.1 n s.0 s.1 in
+      (subst (λ l. IsOut n l) (append_assoc h (e ∷ []) es) r.0, r.1)

@@ -1,0 +1,107 @@
+// The calls of a turn.
+ghost use Rattle.std.specs.Prelude.{◌≡◌, Bool, true, false, [], IfOk, IfErr};
+ghost use Rattle.book_history.specs.Owned.{IsPrefix};
+ghost use Rattle.book_turn.specs.Known.{begun, entered, left, not_alone, worker_of, joined};
+ghost use Rattle.book_turn.specs.Rule.{Learned, MayLeave};
+ghost use Rattle.book_turn.specs.Passes.{IsOf, known};
+
+use crate::rule::{Begins, Enters, Hears, Leaves, OneBook, Sight, Workers};
+use crate::turn::{Holder, SessionPass, Turn, WorkerPass};
+use book_history::historied::Historied;
+use crossbeam_queue::RuledArrayQueue;
+use crossbeam_utils::Backoff;
+use no_memory::NoMemory;
+use std::alloc::Global;
+use std::sync::Wait;
+
+impl<B: Historied> Turn<B> {
+    /// The book is in its turn.
+    pub fn make<R: Wait>(
+        rt: &R,
+        alloc: Global,
+        book: Box<B>,
+    ) -> Result<(Turn<B>, SessionPass<B>), NoMemory>
+        ensures { IfOk result (λ t. IsOf t.0 t.1 true × (known t.1 ≡ begun (B.history book.value))) }
+    {
+        let (queue, mut seat) = RuledArrayQueue::<Box<B>, Sight<B>, OneBook<B>>::ruled(alloc, 1)?;
+        match queue.push_as::<Begins, R>(rt, &mut seat, book) {
+            Ok(()) => Ok((Turn { queue }, Holder { seat })),
+            Err(_) => unreachable!(),
+        }
+    }
+
+    /// A worker's pass, which knows what the session's does.
+    pub fn worker_pass(&self, pass: &mut SessionPass<B>) -> Result<WorkerPass<B>, NoMemory>
+        requires { IsOf self.now pass.old true }
+        ensures session { IsOf self.now pass.new true }
+        ensures old { IfErr result (λ _. known pass.new ≡ known pass.old) }
+        ensures known { IfOk result (λ w. IsOf self.now w false × (known w ≡ worker_of (known pass.old)) × (known pass.new ≡ not_alone (known pass.old))) }
+    {
+        let seat = self.queue.another::<Workers>(&mut pass.seat);
+        Ok(Holder { seat })
+    }
+
+    /// Waits for the book.
+    pub fn enter<R: Wait, const SESSION: bool>(
+        &self,
+        rt: &R,
+        pass: &mut Holder<B, SESSION>,
+    ) -> Box<B>
+        requires turn { IsOf self.now pass.old SESSION }
+        requires outside { (known pass.old).holds ≡ false }
+        ensures turn { IsOf self.now pass.new SESSION }
+        ensures known { known pass.new ≡ entered (known pass.old) (B.history result.value) }
+        ensures learned { Learned (known pass.old) (B.history result.value) }
+    {
+        let backoff = Backoff::new();
+        for _ in rt.forever() {
+            if let Some(book) = self.queue.try_pop_as::<Enters>(&mut pass.seat) {
+                return book;
+            }
+            backoff.snooze();
+        }
+        unreachable!()
+    }
+
+    /// Puts the book back.
+    pub fn leave<R: Wait, const SESSION: bool>(
+        &self,
+        rt: &R,
+        pass: &mut Holder<B, SESSION>,
+        book: Box<B>,
+    )
+        requires turn { IsOf self.now pass.old SESSION }
+        requires may { MayLeave (known pass.old) (B.history book.value) }
+        ensures turn { IsOf self.now pass.new SESSION }
+        ensures known { known pass.new ≡ left (known pass.old) (B.history book.value) }
+    {
+        match self.queue.push_as::<Leaves, R>(rt, &mut pass.seat, book) {
+            Ok(()) => {}
+            Err(_) => unreachable!(),
+        }
+    }
+
+    /// Takes in what a worker has seen.
+    pub fn join(&self, pass: &mut SessionPass<B>, worker: WorkerPass<B>)
+        requires session { IsOf self.now pass.old true }
+        requires worker { IsOf self.now worker false }
+        requires outside { (known worker).holds ≡ false }
+        requires no_ticket { (known worker).tickets ≡ [] }
+        ensures turn { IsOf self.now pass.new true }
+        ensures known { known pass.new ≡ joined (known pass.old) (known worker) }
+        ensures seen { IsPrefix (known pass.old).seen (known pass.new).seen }
+        ensures heard { IsPrefix (known worker).seen (known pass.new).seen }
+    {
+        self.queue.absorb::<Workers>(&mut pass.seat, worker.seat);
+        self.queue.learn_as::<Hears>(&mut pass.seat);
+    }
+
+    /// Waits for the book. After it nobody has the turn.
+    pub fn finish<R: Wait>(self, rt: &R, mut pass: SessionPass<B>) -> Box<B>
+        requires turn { IsOf self pass true }
+        requires outside { (known pass).holds ≡ false }
+        ensures learned { Learned (known pass) (B.history result.value) }
+    {
+        self.enter(rt, &mut pass)
+    }
+}

@@ -1,0 +1,106 @@
+-- Counting, one node or one row at a time.
+use Rattle.std.proofs.Common.{◌≡◌, ℕ, zero, suc, ◌+◌, ◌-◌, ◌<◌, ◌≤◌, ◌==◌, if◌then◌else◌, List, [], ◌∷◌, ◌++◌, length, drop, get_or, set, refl, sym, ◌∙◌, ap, ap₂, arith, drop-cons, get_or-set_same, get_or-set_other, append_assoc}
+use Rattle.std.specs.Prelude.{slice_index}
+use Rattle.std.specs.declared.vec.Vec.{Vec}
+use Rattle.std.specs.Global.{Global}
+use Rattle.std.proofs.lemmas.Bool.{eqb-true, eqb-false, eq-eqb}
+use Rattle.typed_ir.specs.Valuations.{put}
+use Rattle.typed_ir.proofs.Cases.{by_cases}
+use Rattle.comb_order.specs.Graphs.{times, row_at, rows_of, waiting, lowered, released, count_of, zeros}
+use Rattle.comb_order.proofs.Released.{times-same, times-other, put-same, put-other, enough_left}
+
+-- a place past the end has 0
+pub small_place : (xs : List ℕ) (t : ℕ) → 0 < slice_index xs t → t < length xs
+small_place [] t h = absurd (omega (arith, h))
+small_place (x ∷ xs) zero h = omega arith
+small_place (x ∷ xs) (suc t) h = let i : t < length xs = small_place xs t h in omega (arith, i)
+
+pub row-drop : (row : List ℕ) (j t : ℕ) → j < length row → t ≡ get_or row j 0 → drop j row ≡ t ∷ drop (j + 1) row
+row-drop row j t h is =
+    let more : suc j ≡ j + 1 = omega arith in
+    drop-cons row j 0 h ∙ ap (λ z. z ∷ drop (suc j) row) (sym is) ∙ ap (λ n. t ∷ drop n row) more
+
+pub times-here : (row : List ℕ) (j t : ℕ) → j < length row → t ≡ get_or row j 0 → 0 < times t (drop j row)
+times-here row j t h is =
+    let a : times t (drop j row) ≡ times t (t ∷ drop (j + 1) row) = ap (times t) (row-drop row j t h is) in
+    let b : times t (t ∷ drop (j + 1) row) ≡ 1 + times t (drop (j + 1) row) = times-same t t (drop (j + 1) row) (eq-eqb t t refl) in
+    omega (arith, a, b)
+
+pub times-at : (row : List ℕ) (j t : ℕ) → j < length row → t ≡ get_or row j 0 → 0 < times t row
+times-at (y ∷ ys) zero t h is =
+    let a : 0 < times t (drop zero (y ∷ ys)) = times-here (y ∷ ys) zero t h is in a
+times-at [] j t h is = absurd (omega (arith, h))
+times-at (y ∷ ys) (suc j) t h is = let i : 0 < times t ys = times-at ys j t (omega (arith, h)) is in omega (arith, i)
+
+pub count-set : (counts : List ℕ) (t v : ℕ) → t < length counts → count_of (set counts t v) ≡ put (count_of counts) t v
+count-set counts t v h = λ j x. at x j
+  where
+    at : (x : ℕ) → count_of (set counts t v) x ≡ put (count_of counts) t v x
+    at x = by_cases (x == t)
+        (λ yes. ap (count_of (set counts t v)) (eqb-true x t yes) ∙ get_or-set_same counts t v 0 h ∙ sym (put-same (count_of counts) t v x yes))
+        (λ no. get_or-set_other counts t x v 0 (eqb-false x t no) ∙ sym (put-other (count_of counts) t v x no))
+
+pub raise_step : (row counts : List ℕ) (j t : ℕ) (total : ℕ → ℕ) → j < length row → t ≡ get_or row j 0 → t < length counts
+    → ((x : ℕ) → slice_index counts x + times x (drop j row) ≡ total x)
+    → (x : ℕ) → slice_index (set counts t (slice_index counts t + 1)) x + times x (drop (j + 1) row) ≡ total x
+raise_step row counts j t total h is small inv x =
+    let a : slice_index counts x + times x (drop j row) ≡ total x = inv x in
+    let b : times x (drop j row) ≡ times x (t ∷ drop (j + 1) row) = ap (times x) (row-drop row j t h is) in
+    let c : slice_index (set counts t (slice_index counts t + 1)) x ≡ put (count_of counts) t (slice_index counts t + 1) x =
+    ap (λ f. f x) (count-set counts t (slice_index counts t + 1) small) in
+    by_cases (x == t)
+    (λ yes. let d : times x (t ∷ drop (j + 1) row) ≡ 1 + times x (drop (j + 1) row) = times-same x t (drop (j + 1) row) yes in
+    let e : put (count_of counts) t (slice_index counts t + 1) x ≡ slice_index counts t + 1 = put-same (count_of counts) t (slice_index counts t + 1) x yes in
+    let f : slice_index counts x ≡ slice_index counts t = ap (slice_index counts) (eqb-true x t yes) in
+    omega (arith, a, b, c, d, e, f))
+    (λ no. let d : times x (t ∷ drop (j + 1) row) ≡ times x (drop (j + 1) row) = times-other x t (drop (j + 1) row) no in
+    let e : put (count_of counts) t (slice_index counts t + 1) x ≡ slice_index counts x = put-other (count_of counts) t (slice_index counts t + 1) x no in
+    omega (arith, a, b, c, d, e))
+
+pub row_here : (graph : List (Vec ℕ Global)) (i : ℕ) (r : Vec ℕ Global) → i < length graph → r ≡ get_or graph i r → row_at (rows_of graph) i ≡ r.items
+row_here [] i r h is = absurd (omega (arith, h))
+row_here (x ∷ xs) zero r h is = ap (λ (z : Vec ℕ Global). z.items) (sym is)
+row_here (x ∷ xs) (suc i) r h is = row_here xs i r (omega (arith, h)) is
+
+pub waiting-drop : (graph : List (Vec ℕ Global)) (i : ℕ) (r : Vec ℕ Global) (x : ℕ) → i < length graph → r ≡ get_or graph i r
+    → waiting (rows_of (drop i graph)) [] x ≡ times x r.items + waiting (rows_of (drop (i + 1) graph)) [] x
+waiting-drop graph i r x h is =
+    let more : suc i ≡ i + 1 = omega arith in
+    ap (λ g. waiting (rows_of g) [] x) (drop-cons graph i r h ∙ ap (λ z. z ∷ drop (suc i) graph) (sym is))
+    ∙ ap (λ n. times x r.items + waiting (rows_of (drop n graph)) [] x) more
+
+pub length_rows : (graph : List (Vec ℕ Global)) → length (rows_of graph) ≡ length graph
+length_rows [] = refl
+length_rows (x ∷ xs) = ap suc (length_rows xs)
+
+pub zeros-drop : (counts : List ℕ) (t : ℕ) → t < length counts
+    → zeros t (drop t counts) ≡ (if slice_index counts t == 0 then t ∷ [] else []) ++ zeros (t + 1) (drop (t + 1) counts)
+zeros-drop counts t h =
+    let more : suc t ≡ t + 1 = omega arith in
+    ap (zeros t) (drop-cons counts t 0 h)
+    ∙ ap (λ n. (if slice_index counts t == 0 then t ∷ [] else []) ++ zeros (t + 1) (drop n counts)) more
+
+-- one node of the row is lowered
+pub lowered-drop : (row : List ℕ) (j t : ℕ) (c : ℕ → ℕ) → j < length row → t ≡ get_or row j 0
+    → lowered (drop j row) c ≡ lowered (drop (j + 1) row) (put c t (c t - 1))
+lowered-drop row j t c h is = ap (λ r. lowered r c) (row-drop row j t h is)
+
+pub released-drop : (row : List ℕ) (j t : ℕ) (c : ℕ → ℕ) → j < length row → t ≡ get_or row j 0
+    → released (drop j row) c ≡ (if c t == 1 then t ∷ [] else []) ++ released (drop (j + 1) row) (put c t (c t - 1))
+released-drop row j t c h is = ap (λ r. released r c) (row-drop row j t h is)
+
+pub enough-drop : (row : List ℕ) (j t : ℕ) (c next : ℕ → ℕ) → j < length row → t ≡ get_or row j 0 → next ≡ put c t (c t - 1)
+    → ((x : ℕ) → times x (drop j row) ≤ c x) → (x : ℕ) → times x (drop (j + 1) row) ≤ next x
+enough-drop row j t c next h is e inv x =
+    let a : next x ≡ put c t (c t - 1) x = ap (λ f. f x) e in
+    let b : times x (drop (j + 1) row) ≤ put c t (c t - 1) x = enough_left t (drop (j + 1) row) c
+    (λ y. let i : times y (drop j row) ≤ c y = inv y in
+    let r : times y (drop j row) ≡ times y (t ∷ drop (j + 1) row) = ap (times y) (row-drop row j t h is) in omega (arith, i, r)) x in
+    omega (arith, a, b)
+
+pub free-drop : (row : List ℕ) (j t : ℕ) (c next : ℕ → ℕ) (old new total : List ℕ) → j < length row → t ≡ get_or row j 0 → next ≡ put c t (c t - 1)
+    → new ≡ old ++ (if c t == 1 then t ∷ [] else []) → old ++ released (drop j row) c ≡ total → new ++ released (drop (j + 1) row) next ≡ total
+free-drop row j t c next old new total h is e en inv =
+    ap₂ (λ o n. o ++ released (drop (j + 1) row) n) en e
+    ∙ append_assoc old (if c t == 1 then t ∷ [] else []) (released (drop (j + 1) row) (put c t (c t - 1)))
+    ∙ ap (λ r. old ++ r) (sym (released-drop row j t c h is)) ∙ inv

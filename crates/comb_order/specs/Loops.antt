@@ -1,0 +1,50 @@
+-- The loop of a graph that has no order.
+use Rattle.std.specs.Prelude.{◌≡◌, ℕ, zero, suc, ◌+◌, ◌<◌, List, [], ◌∷◌, length, Bool, not, ◌&&◌, nat_lt, if◌then◌else◌}
+use Rattle.typed_ir.specs.Orders.{Member, Distinct}
+use Rattle.typed_ir.specs.Valuations.{put}
+use Rattle.comb_order.specs.Graphs.{times, HasEdge, Placeable}
+
+-- the least number of which P is true
+abbrev pub IsLeast : (ℕ → Type 0) → ℕ → Type 0
+IsLeast P k = P k × ((j : ℕ) → j < k → P j → ⊥)
+
+-- a node that can't be placed
+abbrev pub IsStuck : List (List ℕ) → ℕ → Type 0
+IsStuck rows k = (k < length rows) × (Placeable rows k → ⊥)
+
+-- from a node to its least predecessor that can't be placed
+abbrev pub Next : List (List ℕ) → ℕ → ℕ → Type 0
+Next rows k a = IsLeast (λ j. IsStuck rows j × HasEdge rows j k) a
+
+-- from one node over these to another, step by step
+abbrev pub IsWalk : List (List ℕ) → ℕ → List ℕ → ℕ → Type 0
+IsWalk rows a [] b = a ≡ b
+IsWalk rows a (x ∷ xs) b = (a ≡ x) × ((n : ℕ) × Next rows x n × IsWalk rows n xs b)
+
+-- the walk from the least node that can't be placed ends in this circle, which is listed from its least node along predecessors
+pub record IsLoop (rows : List (List ℕ)) (first : ℕ) (rest : List ℕ) : Type 0 where
+  pub start : ℕ
+  pub lead : List ℕ
+  pub enters : ℕ
+  pub starts : IsLeast (IsStuck rows) start
+  pub walks : IsWalk rows start lead enters
+  pub on : Member enters (first ∷ rest)
+  pub circle : IsWalk rows first (first ∷ rest) first
+  pub once : Distinct (first ∷ rest)
+  pub least : (k : ℕ) → Member k rest → first < k
+
+-- a circle along edges: so many, back to where it began
+abbrev pub Path : List (List ℕ) → ℕ → ℕ → ℕ → Type 0
+Path rows a zero b = HasEdge rows a b
+Path rows a (suc n) b = (m : ℕ) × HasEdge rows a m × Path rows m n b
+
+-- the first node that isn't placed and comes before t; 0 where there is none
+abbrev pub nearest : ℕ → List (List ℕ) → List Bool → ℕ → ℕ
+nearest a [] flags t = 0
+nearest a (r ∷ rs) [] t = 0
+nearest a (r ∷ rs) (f ∷ fs) t = if not f && nat_lt 0 (times t r) then a else nearest (a + 1) rs fs t
+
+-- the numbers after `a` was written at each node of a row
+abbrev pub overwritten : List ℕ → ℕ → (ℕ → ℕ) → ℕ → ℕ
+overwritten [] a g = g
+overwritten (x ∷ xs) a g = overwritten xs a (put g x a)

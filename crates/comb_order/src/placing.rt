@@ -1,0 +1,85 @@
+// Nodes are placed one by one, each once all that comes before it is placed.
+ghost use Rattle.std.specs.Prelude.{◌≡◌, ◌-◌, ◌≤◌, ◌<◌, ◌^◌, ◌++◌, ◌∷◌, [], ◌==◌, if◌then◌else◌, ℕ, length, slice_index, IfOk, IfSome, IfNone, List};
+ghost use Rattle.typed_ir.specs.Valuations.{put};
+ghost use Rattle.comb_order.specs.Graphs.{times, waiting, rows_of, lowered, released, count_of, HasEdge};
+ghost use Rattle.comb_order.specs.Loops.{IsStuck, Path};
+ghost use Rattle.typed_ir.specs.Orders.{IsOrderOf};
+ghost use Rattle.comb_order.specs.Kahn.{IsClosed, IsPlacing};
+
+use crate::counting::{free_nodes, in_degrees};
+use std::alloc::{AllocError, Global};
+
+// A node loses one predecessor, and is free where that was its last.
+fn lower(t: u32, counts: &mut [u32], order: &mut Vec<u32>) -> Result<(), AllocError>
+    requires { 0 < slice_index counts.old t }
+    ensures counts { count_of counts.new ≡ put (count_of counts.old) t (slice_index counts.old t - 1) }
+    ensures order { IfOk result (λ _. order.new.items ≡ order.old.items ++ (if slice_index counts.old t == 1 then t ∷ [] else [])) }
+{
+    let count = counts[t as usize];
+    counts[t as usize] = count - 1;
+    if count == 1 {
+        order.push(t)?;
+    }
+    Ok(())
+}
+
+/// The nodes of a row lose one predecessor each; those that are free now join the order.
+pub fn release(row: &[u32], counts: &mut [u32], order: &mut Vec<u32>) -> Result<(), AllocError>
+    requires { (x : ℕ) → times x row.now ≤ slice_index counts.old x }
+    ensures counts { IfOk result (λ _. count_of counts.new ≡ lowered row.now (count_of counts.old)) }
+    ensures order { IfOk result (λ _. order.new.items ≡ order.old.items ++ released row.now (count_of counts.old)) }
+{
+    for t in row {
+        lower(*t, counts, order)?;
+    }
+    Ok(())
+}
+
+// Places the free nodes, and those that become free, until none is left.
+fn place_free(
+    graph: &[Vec<u32>],
+    counts: &mut [u32],
+    placed: &mut [bool],
+    order: &mut Vec<u32>,
+) -> Result<(), AllocError>
+    requires closed { IsClosed (rows_of graph.now) }
+    requires start { IsPlacing (rows_of graph.now) placed.old (count_of counts.old) [] order.old.items }
+    ensures { IfOk result (λ _. IsPlacing (rows_of graph.now) placed.new (count_of counts.new) order.new.items []) }
+{
+    let mut head: usize = 0;
+    while head < order.len() {
+        let k = order[head];
+        placed[k as usize] = true;
+        release(&graph[k as usize], counts, order)?;
+        head += 1;
+    }
+    Ok(())
+}
+
+/// The nodes that can be placed, in an order, and which these are.
+#[derive(Drop)]
+pub struct Placing {
+    pub order: Vec<u32>,
+    pub placed: Vec<bool>,
+}
+
+/// Places all that can be placed.
+pub fn place_nodes(alloc: Global, graph: &[Vec<u32>]) -> Result<Placing, AllocError>
+    requires closed { IsClosed (rows_of graph.now) }
+    requires few { (t : ℕ) → waiting (rows_of graph.now) [] t < 2 ^ 32 }
+    requires nodes { length graph.now < 2 ^ 32 }
+    ensures { IfOk result (λ p. (c : ℕ → ℕ) × IsPlacing (rows_of graph.now) p.placed.items c p.order.items []) }
+{
+    let mut counts = in_degrees(alloc, graph)?;
+    let mut placed = vec![in alloc; false; graph.len()]?;
+    let mut order = free_nodes(alloc, &counts)?;
+    place_free(graph, &mut counts, &mut placed, &mut order)?;
+    Ok(Placing { order, placed })
+}
+
+/// Where an order exists no node can't be placed, and none is on a circle.
+pub fn order_says()
+    ensures placed { (rows : List (List ℕ)) (order : List ℕ) → IsOrderOf (HasEdge rows) (length rows) order → (t : ℕ) → IsStuck rows t → ⊥ }
+    ensures circle { (rows : List (List ℕ)) (order : List ℕ) → IsOrderOf (HasEdge rows) (length rows) order
+        → (a n : ℕ) → a < length rows → Path rows a n a → ⊥ }
+{}

@@ -1,0 +1,26 @@
+use Rattle.std.proofs.Common.{◌≡◌, ◌∙◌, ℕ, List, map, ap, subst, sym, Result, Ok, Err}
+use Rattle.std.specs.Prelude.{IfOk}
+use Rattle.typed_ir.specs.declared.signal.Signal.{Signal}
+use Rattle.cycle_eval.specs.Designs.{flat_of}
+use Rattle.cycle_eval.specs.Kits.{Fits, reset_of}
+use Rattle.cycle_eval.specs.DesignLaws.{reset_fits}
+use Rattle.cycle_eval.specs.Paths.{width_in, initial_in}
+use Rattle.cycle_eval.specs.States.{paired}
+use Rattle.cycle_eval.proofs.design.Design.reset_state.Goals as goal
+
+abbrev begun : List Signal → List ℕ → List (ℕ × ℕ)
+begun signals rs = paired (map (width_in signals) rs) (map (initial_in signals) rs)
+
+if_ok : {A E : Type 0} (r : Result A E) (P Q : A → Type 0) → ((x : A) → P x → Q x) → IfOk r P → IfOk r Q
+if_ok (Ok x) P Q f h = f x h
+if_ok (Err e) P Q f h = tt
+
+pub returns-clause-fits : goal.returns-clause-fits
+returns-clause-fits c =
+    let design = c.args.self.now.linked.design in
+    let flat = flat_of c.args.self.now in
+    let same : begun c.deref.result.now c.deref-2.result.now ≡ reset_of flat =
+    ap (λ (z : List Signal). begun z c.deref-2.result.now) c.deref.ensures.value
+    ∙ ap (λ (z : List ℕ). begun design.signals.items z) c.deref-2.ensures.value in
+    if_ok c.beginnings.result (λ s. s ≡ begun c.deref.result.now c.deref-2.result.now) (Fits flat)
+    (λ s e. subst (Fits flat) (sym (e ∙ same)) (reset_fits flat)) c.beginnings.ensures

@@ -1,0 +1,136 @@
+// A counter, cycle by cycle, and its steps.
+ghost use Rattle.std.specs.Prelude.{◌≡◌, ◌<◌, IfOk};
+ghost use Rattle.machine.specs.Rows.{Covers};
+
+use crate::{Design, NoOps, NoRow};
+use bits::Bits;
+use machine::Machine;
+use machine::row_run::RowRun;
+use machine::row_runs::RowRuns;
+use machine::steps::Steps;
+use no_memory::NoMemory;
+use std::alloc::Global;
+use std::marker::Brand;
+use std::sync::Arc;
+use std::sync::ledger::{Blank, Ledger};
+use std::test::Fail;
+use typed_ir::{
+    ArithmeticOperator, BinaryOperator, Flat, Lane, Linked, RegState, Signal, Span, Stmt, Target,
+    Typed,
+};
+
+// reg [3:0] q = 14; always @(posedge clk) q <= q + 4'd3;
+fn counter(alloc: Global) -> Result<Linked, NoMemory> {
+    let mut signals = Vec::new(alloc);
+    signals.push(Signal {
+        path: Vec::new(alloc),
+        lsb: 0,
+        signed: false,
+        width: 4,
+        initial: 14,
+    })?;
+    let mut registers = Vec::new(alloc);
+    registers.push(0)?;
+    let sum = BinaryOperator::Arithmetic(ArithmeticOperator::Sum);
+    let next = Typed::binary(
+        alloc,
+        sum,
+        Typed::name(0, 4),
+        Typed::constant(Bits::new(4, 3)),
+    )?;
+    let span = Span {
+        signal: 0,
+        low: 0,
+        width: 4,
+    };
+    let mut parts = Vec::new(alloc);
+    parts.push(Target::Fixed(Lane { shift: 0, span }))?;
+    let mut clocked = Vec::new(alloc);
+    clocked.push(Stmt::Later(parts, next))?;
+    let design = Flat {
+        signals,
+        registers,
+        inputs: Vec::new(alloc),
+        nodes: Vec::new(alloc),
+        clocked,
+    };
+    Ok(Linked {
+        design,
+        order: Vec::new(alloc),
+    })
+}
+
+// No row for the cycles 0 to 2.
+fn three_rows(alloc: Global) -> Result<RowRuns<NoRow>, NoMemory>
+    ensures { IfOk result (λ r. Covers r 0 3) }
+{
+    let mut runs = Vec::new(alloc);
+    runs.push(RowRun {
+        start: 0,
+        end: 3,
+        row: Arc::new(alloc, NoRow)?,
+    })?;
+    RowRuns::new(0, 3, runs)
+}
+
+fn first(state: &RegState) -> u128 {
+    if state.is_empty() {
+        return 99;
+    }
+    state.get(0).value
+}
+
+// What the register has after so many cycles from the beginning.
+fn after<L: Ledger>(
+    alloc: Global,
+    design: &Design,
+    cycles: u64,
+    steps: &mut Steps<L>,
+) -> Result<u128, NoMemory> {
+    let start = design.reset_state(alloc)?;
+    let mut env = design.loaded(alloc, &start)?;
+    let mut updates = Vec::new(alloc);
+    design.run(&mut env, &mut updates, cycles, steps)?;
+    let state = design.state_of(alloc, &env)?;
+    Ok(first(&state))
+}
+
+// After three rows; the beginning carried into the same design; and whether two resets are the same.
+fn by_rows<L: Ledger>(
+    alloc: Global,
+    design: &Design,
+    steps: &mut Steps<L>,
+) -> Result<(u128, u128, bool), NoMemory> {
+    let rows = three_rows(alloc)?;
+    let start = design.reset_state(alloc)?;
+    let again = design.reset(alloc)?;
+    let end = design.advance(alloc, &rows, &start, 0, 3, steps)?;
+    let carried = design.carry(alloc, design, &NoOps, &start)?;
+    let same = design.same(&again, &design.share(alloc, &start)?);
+    Ok((first(&end), first(&carried), same))
+}
+
+fn figures<L: Ledger>(alloc: Global, blank: Blank) -> Result<Vec<u128>, NoMemory>
+    requires name { blank.name ≡ L.name }
+    requires parts { blank.parts ≡ L.parts }
+    requires some { 0 < blank.parts }
+{
+    let mut steps = Steps::<L>::start(blank);
+    let design = Design::make(counter(alloc)?);
+    let mut all = Vec::new(alloc);
+    for cycles in 0..4u64 {
+        all.push(after(alloc, &design, cycles, &mut steps)?)?;
+    }
+    let (end, carried, same) = by_rows(alloc, &design, &mut steps)?;
+    all.push(end)?;
+    all.push(carried)?;
+    all.push(same as u128)?;
+    Ok(all)
+}
+
+#[test]
+fn counts_by_three(rt: HostRuntime) -> Result<(), Fail> {
+    let all = figures::<Brand>(rt.alloc(), Blank::new(1))?;
+    assert_eq!(rt; all.as_slice(), [14, 1, 4, 7, 7, 14, 1].as_slice());
+    Ok(())
+}

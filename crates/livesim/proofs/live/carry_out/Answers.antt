@@ -1,0 +1,50 @@
+use Rattle.std.proofs.Common.{◌≡◌, List, ℕ, subst, ◌||◌, ◌++◌, sym, ap, ◌∙◌, arith}
+use Rattle.livesim.specs.Script.{script_lines}
+use Rattle.livesim.specs.Commands.{command_at, commands_from}
+use Rattle.livesim.specs.Worlds.{any_refused}
+use Rattle.livesim.specs.Replies.{lines}
+use Rattle.livesim.specs.Runs.{LeavesToWrite}
+use Rattle.livesim.specs.Sessions.{world}
+use Rattle.livesim.proofs.Turns.{next_commands, turn_lines, turn_refused, leaves_less, leaves_front}
+use Rattle.livesim.proofs.live.carry_out.Goals as goal
+use Rattle.livesim.proofs.live.carry_out.Goals.{then-refused, else-refused}
+
+pub loop-line-preserved : goal.loop-line-preserved
+loop-line-preserved g c =
+    let turn = c.in-Ok.turn in
+    let after = script_lines c.in-Some.after.now in
+    let now = command_at c.args.ended c.loop-line.number c.read_line-form.result after in
+    let later = commands_from c.args.ended turn.number 0 (script_lines turn.rest.now) in
+    let split = next_commands c.args.ended c.loop-line.number (script_lines c.loop-line.rest.now) c.in-Some.line.now after c.read_line-form.result c.in-Some.ensures.line c.read_line-form.ensures.form
+    ∙ ap (λ os. now ++ os) c.in-Ok.ensures.rest in
+    let so_far : c.if-refused.refused ≡ (c.loop-line.refused || turn.reply.refused)
+    = elim c.if-refused.branch [ then-refused w ↦ grind arith | else-refused w ↦ grind arith ] in
+    let w = world c.loop-line.session in
+    let x = world c.line_turn.new.session in
+    let text = turn.reply.text.items in
+    let written = rw c.deref.ensures.value at c.in_ok-write_all.ensures.written in
+    record {
+      lines = leaves_less _ _ _ text _ _ _ (turn_lines _ now later w x text turn.reply.refused split c.in-Ok.ensures.replies) c.loop-line.invariant.lines written;
+      refused = ap (λ b. b || any_refused later x) so_far
+          ∙ sym (turn_refused _ now later w x text turn.reply.refused c.loop-line.refused split c.in-Ok.ensures.replies)
+          ∙ c.loop-line.invariant.refused;
+      few = omega (arith, c.in-Some.ensures.shorter, c.in-Ok.ensures.shorter);
+      later = omega (arith, c.in_ok-write_all.ensures.later);
+    }
+
+pub returns-in_err-write_all-clause-front : goal.returns-in_err-write_all-clause-front
+returns-in_err-write_all-clause-front g c =
+    let turn = c.in-Ok.turn in
+    let after = script_lines c.in-Some.after.now in
+    let now = command_at c.args.ended c.loop-line.number c.read_line-form.result after in
+    let later = commands_from c.args.ended turn.number 0 (script_lines turn.rest.now) in
+    let split = next_commands c.args.ended c.loop-line.number (script_lines c.loop-line.rest.now) c.in-Some.line.now after c.read_line-form.result c.in-Some.ensures.line c.read_line-form.ensures.form
+    ∙ ap (λ os. now ++ os) c.in-Ok.ensures.rest in
+    let x = world c.line_turn.new.session in
+    let text = turn.reply.text.items in
+    let front = c.write_all.ensures.front in
+    let Left : List ℕ → Type 0 = λ t. LeavesToWrite (g.K.Sink.written c.loop-line.sink) (g.K.Sink.written c.write_all.new.sink) front.0 t in
+    let written = subst Left c.deref.ensures.value front.1 in (
+      front.0 ++ lines later x,
+      leaves_front _ _ _ text _ front.0 _ _ (turn_lines _ now later (world c.loop-line.session) x text turn.reply.refused split c.in-Ok.ensures.replies) c.loop-line.invariant.lines written,
+    )

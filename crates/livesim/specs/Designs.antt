@@ -1,0 +1,63 @@
+-- The design of a module of one register, and its runs.
+use Rattle.std.specs.Prelude.{ℕ, max, false, List, [], ◌∷◌, ◌++◌, codes}
+use Rattle.bits.specs.Values.{resized}
+use Rattle.typed_ir.specs.Sized.{Sized, Constant, Name, Binary, Resized}
+use Rattle.typed_ir.specs.declared.operators.ArithmeticOperator.TheVariants.{Sum}
+use Rattle.typed_ir.specs.declared.operators.BinaryOperator.TheVariants.{Arithmetic}
+use Rattle.typed_ir.specs.Stmts.{Later, Fixed}
+use Rattle.typed_ir.specs.Cycles.{Flat}
+use Rattle.livesim.specs.Module.{RegisterText, Assignment, Operand, Register, Literal, Unknown}
+
+-- the larger of a width and an operand's
+abbrev pub wider : ℕ → Operand → ℕ
+wider width Register = width
+wider width (Literal size value) = max width size
+wider width (Unknown left) = width
+
+abbrev pub widest : ℕ → List Operand → ℕ
+widest width [] = width
+widest width (o ∷ os) = widest (wider width o) os
+
+-- an operand at its own width: the register, or a literal
+abbrev pub simple_sized : ℕ → Operand → Sized
+simple_sized width Register = Name 0 width
+simple_sized width (Literal size value) = Constant size value
+simple_sized width (Unknown left) = Name 0 width
+
+-- an operand at a length (5.4, 5.5): all are unsigned
+abbrev pub operand_sized : ℕ → ℕ → Operand → Sized
+operand_sized width length operand = Resized (simple_sized width operand) length false
+
+-- a sum of this length and one more operand
+abbrev pub plus_sized : ℕ → ℕ → Sized → Operand → Sized
+plus_sized width length sum operand = Binary (Arithmetic Sum) sum (operand_sized width length operand)
+
+-- a sum, from its first part on: `+` associates to the left
+abbrev pub sum_sized : ℕ → ℕ → Sized → List Operand → Sized
+sum_sized width length sum [] = sum
+sum_sized width length sum (o ∷ os) = sum_sized width length (plus_sized width length sum o) os
+
+-- the right side of an assignment to a register of this width: the sum at the larger of its length and the register's, and then cut
+abbrev pub right_side : ℕ → Assignment → Sized
+right_side width (target, first, more) =
+    let length = widest (wider width first) more in
+    Resized (sum_sized width length (operand_sized width length first) more) width false
+
+-- a design of one register of this path, width and initial value, which takes the right side at each edge of the clock
+abbrev pub one_register : List ℕ → ℕ → ℕ → Sized → Flat
+one_register path width initial next = record {
+  signals = record { path = path; lsb = 0; signed = false; width = width; initial = initial } ∷ [];
+  registers = 0 ∷ [];
+  inputs = [];
+  nodes = [];
+  clocked = Later (Fixed (record { span = record { signal = 0; low = 0; width = width }; shift = 0 }) ∷ []) next ∷ [];
+}
+
+-- the design of a top's register and assignment
+abbrev pub flat_of : List ℕ → RegisterText × Assignment → Flat
+flat_of top ((name, width, size, value), assignment) =
+    one_register (top ++ codes "." ++ name) width (resized size value width false) (right_side width assignment)
+
+-- the rows of a run without inputs
+abbrev pub no_rows : ℕ → List ℕ
+no_rows cycle = []

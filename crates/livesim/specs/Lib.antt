@@ -1,0 +1,15 @@
+pub mod Reserved
+pub mod Scan
+pub mod Places
+pub mod Module
+pub mod Views
+pub mod Designs
+pub mod Flats
+pub mod Script
+pub mod Blocks
+pub mod Commands
+pub mod Worlds
+pub mod Replies
+pub mod Sessions
+pub mod Runs
+pub mod Endings

@@ -1,0 +1,54 @@
+-- A whole run: what it took, what it wrote, and its status.
+use Rattle.std.specs.Prelude.{◌≡◌, ◌≢◌, ◌⊎◌, ◌<◌, ℕ, Bool, true, false, List, [], ◌∷◌, length, ◌++◌, codes, decimal, ⊤, Option, Some, None, if◌then◌else◌}
+use Rattle.std.specs.Io.KnownBytes.{Consumes, Appends, IsAtEnd}
+use Rattle.typed_ir.specs.Cycles.{Flat, truth}
+use Rattle.livesim.specs.Designs.{no_rows}
+use Rattle.livesim.specs.Commands.{Command, Display, commands}
+use Rattle.livesim.specs.Worlds.{fresh, world_after, any_refused}
+use Rattle.livesim.specs.Replies.{lines, reply, table_lines}
+
+-- the lines that answer a script
+abbrev pub output_of : List ℕ → Bool → List ℕ
+output_of bytes ended = lines (commands bytes ended) fresh
+
+-- whether a command of it is refused
+abbrev pub has_refusal : List ℕ → Bool → Bool
+has_refusal bytes ended = any_refused (commands bytes ended) fresh
+
+-- what was written, with the rest, is what was there before with all
+abbrev pub LeavesToWrite : Option (List ℕ) → Option (List ℕ) → List ℕ → List ℕ → Type 0
+LeavesToWrite None new rest all = ⊤
+LeavesToWrite (Some xs) None rest all = ⊥
+LeavesToWrite (Some xs) (Some ys) rest all = ys ++ rest ≡ xs ++ all
+
+-- some of it was written, from its front
+abbrev pub WritesFront : Option (List ℕ) → Option (List ℕ) → List ℕ → Type 0
+WritesFront old new all = (rest : List ℕ) × LeavesToWrite old new rest all
+
+-- These bytes were taken, and the input ended with them or not. The lines of their commands were written, but at
+-- 4 and 5 perhaps only the front of these.
+pub record Lived (left_old left_new written_old written_new : Option (List ℕ)) (bytes : List ℕ) (ended : Bool) (status : ℕ) : Type 0 where
+  -- what the source had left is the bytes taken, and then what it has left now
+  pub consumed : Consumes left_old left_new bytes
+  pub at_end : ended ≡ true → IsAtEnd left_new
+  -- at 0 and 1 the input was read to its end, and 1 says that a command was refused
+  pub whole : (status ≡ 0) ⊎ (status ≡ 1) → ended ≡ true
+  pub judged : (status ≡ 0) ⊎ (status ≡ 1) → status ≡ (if has_refusal bytes ended then 1 else 0)
+  -- at 3 and 6 it wasn't
+  pub cut : (status ≡ 3) ⊎ (status ≡ 6) → ended ≡ false
+  pub written : status ≢ 4 → status ≢ 5 → Appends written_old written_new (output_of bytes ended)
+  pub front : WritesFront written_old written_new (output_of bytes ended)
+  -- 6 comes exactly where too much was taken, but where the sink failed or memory ran out
+  pub too_much : status ≡ 6 → 67108864 < length bytes
+  pub not_too_much : 67108864 < length bytes → status ≢ 4 → status ≢ 5 → status ≡ 6
+
+-- at status 0, 1 or 5, where nothing outside failed and the script isn't too long
+abbrev pub IsComplete : ℕ → Type 0
+IsComplete status = (status ≡ 0) ⊎ ((status ≡ 1) ⊎ (status ≡ 5))
+
+-- Every display of a session is settled: it shows the registers of a run from reset to its cycle.
+abbrev pub DisplaysTruth : Type 0
+DisplaysTruth = (before : List Command) (line : ℕ) (design : Flat) → (world_after before fresh).design ≡ Some design
+    → reply (Display line) (world_after before fresh)
+    ≡ codes "show cycle=" ++ decimal (world_after before fresh).cycle ++ codes " settled v=1" ++ (10 ∷ [])
+    ++ table_lines design design.registers (truth design no_rows (world_after before fresh).cycle)

@@ -1,0 +1,315 @@
+// The top call.
+ghost use Rattle.std.specs.Prelude.{◌≡◌, ◌≢◌, ◌⊎◌, ◌↔◌, ◌+◌, ◌<◌, ◌≤◌, ◌^◌, ◌==◌, not, ℕ, List, [], length, take, Some, Bool, true, false, IfOk, OnOk, IsErrOf};
+ghost use Rattle.std.specs.List.{suffix_len};
+ghost use Rattle.std.specs.Io.KnownBytes.{Consumes, Appends, IsAtEnd, Keeps};
+ghost use Rattle.ls_port.specs.Causes.{Rose};
+ghost use Rattle.livesim.specs.Commands.{Load, commands_after, commands_from, command_at, counted_bytes, line_commands};
+ghost use Rattle.livesim.specs.Endings.{FinishesWith, has_ended};
+ghost use Rattle.livesim.specs.Replies.{Replies, RepliesAll, lines};
+ghost use Rattle.livesim.specs.Runs.{DisplaysTruth, IsComplete, Lived, WritesFront, output_of};
+ghost use Rattle.livesim.specs.Script.{HasSmallRun, block_at, script_lines};
+ghost use Rattle.livesim.specs.Sessions.{world};
+ghost use Rattle.livesim.specs.Worlds.{fresh, any_refused};
+ghost use Rattle.livesim.specs.declared.script.ScriptLine.TheVariants.{Edit};
+
+use crate::reply::{Reply, not_built};
+use crate::script::{ScriptLine, block_end, next_line, read_block, read_line};
+use crate::session::Session;
+use ls_port::{Sink, SinkRefusal, Source};
+use ls_text::NoMemory;
+use std::alloc::Global;
+use std::thread::Threads;
+
+/// The most bytes that a script has.
+const MAX_INPUT: usize = 67_108_864;
+
+/// The most bytes that one read asks for.
+const PIECE: usize = 65_536;
+
+/// How a run ended, and how many bytes it took.
+#[derive(Clone, Copy, Debug, PartialEq, Eq)]
+pub struct Outcome {
+    /// 0: all commands were accepted; 1: one was refused; 2: the words aren't the program's name alone; 3: the source
+    /// failed; 4: the sink failed; 5: memory ran out; 6: the script has too many bytes.
+    pub status: u8,
+    pub taken: u64,
+}
+
+#[derive(Clone, Copy, Debug, PartialEq, Eq)]
+enum Ending {
+    Whole,
+    Failed,
+    TooMuch,
+}
+
+// How many bytes the next read asks for, after so many: the one byte too many is asked for by itself.
+fn room_after(count: usize) -> usize
+    requires { count ≤ 67108864 }
+    ensures some { 0 < result }
+    ensures piece { result ≤ 65536 }
+    ensures few { count + result ≤ 67108865 }
+{
+    if count < MAX_INPUT {
+        PIECE.min(MAX_INPUT - count)
+    } else {
+        1
+    }
+}
+
+// Reads up to the end, a fault or one byte above the limit. Room is reserved before each read, so that nothing that was
+// read is lost.
+fn read_all<S: Source>(source: &mut S, bytes: &mut Vec<u8>) -> Result<Ending, NoMemory>
+    requires { bytes.old.items ≡ [] }
+    ensures consumed { Consumes (S.left source.old) (S.left source.new) bytes.new.items }
+    ensures whole { IfOk result (λ e. e ≡ Ending.Whole → IsAtEnd (S.left source.new)) }
+    ensures failed { IfOk result (λ e. e ≡ Ending.Failed → Rose (S.faults source.old) (S.faults source.new)) }
+    ensures few { length bytes.new.items ≤ 67108865 }
+    ensures too_much { IfOk result (λ e. e ≡ Ending.TooMuch → 67108864 < length bytes.new.items) }
+    ensures not_too_much { IfOk result (λ e. 67108864 < length bytes.new.items → e ≡ Ending.TooMuch) }
+{
+    let mut piece = [0u8; PIECE];
+    while bytes.len() <= MAX_INPUT {
+        let room = room_after(bytes.len());
+        bytes.reserve(room)?;
+        match source.read(&mut piece[..room]) {
+            Ok(0) => return Ok(Ending::Whole),
+            Ok(n) => bytes.extend_from_slice(&piece[..n])?,
+            Err(_) => return Ok(Ending::Failed),
+        }
+    }
+    Ok(Ending::TooMuch)
+}
+
+// Writes all the bytes.
+fn write_all<K: Sink>(sink: &mut K, bytes: &[u8]) -> Result<(), SinkRefusal>
+    ensures written { OnOk result (Appends (K.written sink.old) (K.written sink.new) bytes.now) }
+    ensures front { WritesFront (K.written sink.old) (K.written sink.new) bytes.now }
+    ensures later { K.faults sink.old ≤ K.faults sink.new }
+    ensures failed { IsErrOf result SinkRefusal.Failed → Rose (K.faults sink.old) (K.faults sink.new) }
+{
+    let mut rest = bytes;
+    while !rest.is_empty() {
+        let n = sink.write(rest)?;
+        rest = &rest[n..];
+    }
+    Ok(())
+}
+
+fn tail_len(bytes: &[u8]) -> usize
+    ensures value { result ≡ suffix_len (λ b. not (b == 10)) bytes.now }
+    ensures within { result ≤ length bytes.now }
+{
+    bytes.iter().rev().take_while(|b| **b != b'\n').count()
+}
+
+// The bytes that count: all, or where the input didn't end those up to the last newline.
+fn counted(ended: bool, bytes: &[u8]) -> &[u8]
+    ensures counted { result.now ≡ counted_bytes ended bytes.now }
+    ensures shorter { length result.now ≤ length bytes.now }
+{
+    if ended {
+        return bytes;
+    }
+    &bytes[..bytes.len() - tail_len(bytes)]
+}
+
+// The bytes up to a limit.
+fn front(limit: usize, bytes: &[u8]) -> &[u8]
+    ensures value { result.now ≡ take limit bytes.now }
+    ensures few { length result.now ≤ limit }
+{
+    if bytes.len() <= limit {
+        return bytes;
+    }
+    &bytes[..limit]
+}
+
+/// The reply to some commands, the number of the next line, and what is left from there on.
+#[derive(Drop)]
+struct Turn<'a> {
+    reply: Reply,
+    number: u64,
+    rest: &'a [u8],
+}
+
+// The reply to a block whose `edit` has that line.
+fn edit(alloc: Global, session: &mut Session, line: u64, bytes: &[u8]) -> Result<Reply, NoMemory>
+    requires { line + length bytes.now + 3 < 2 ^ 64 }
+    ensures { IfOk result (λ r. Replies (Load line (block_at (line + 1) (script_lines bytes.now)))
+        (world session.old) (world session.new) r.text.items r.refused) }
+{
+    match read_block(alloc, line + 1, bytes)? {
+        Some(block) => session.edit(alloc, line, block),
+        None => not_built(alloc, line),
+    }
+}
+
+// Carries out the block whose `edit` has that line.
+fn block_turn<'a>(
+    alloc: Global,
+    ended: bool,
+    session: &mut Session,
+    line: u64,
+    after: &'a [u8],
+) -> Result<Turn<'a>, NoMemory>
+    requires { line + length after.now + 3 < 2 ^ 64 }
+    ensures replies { IfOk result (λ t. RepliesAll (command_at ended line Edit (script_lines after.now))
+        (world session.old) (world session.new) t.reply.text.items t.reply.refused) }
+    ensures rest { IfOk result (λ t. commands_after ended line Edit (script_lines after.now)
+        ≡ commands_from ended t.number 0 (script_lines t.rest.now)) }
+    ensures shorter { IfOk result (λ t. t.number + length t.rest.now ≤ line + 1 + length after.now) }
+    ensures no_longer { IfOk result (λ t. length t.rest.now ≤ length after.now) }
+{
+    match block_end(after) {
+        Some((lines, rest)) => Ok(Turn {
+            reply: edit(alloc, session, line, after)?,
+            number: line + 1 + lines,
+            rest,
+        }),
+        None => Ok(Turn {
+            reply: if ended {
+                not_built(alloc, line)?
+            } else {
+                Reply::empty(alloc)
+            },
+            number: line + 1,
+            rest: &after[after.len()..],
+        }),
+    }
+}
+
+// Carries out a line, which is followed by the rest.
+fn line_turn<'a>(
+    alloc: Global,
+    ended: bool,
+    session: &mut Session,
+    line: u64,
+    form: ScriptLine,
+    after: &'a [u8],
+) -> Result<Turn<'a>, NoMemory>
+    requires room { line + length after.now + 3 < 2 ^ 64 }
+    requires small { HasSmallRun form }
+    ensures replies { IfOk result (λ t. RepliesAll (command_at ended line form (script_lines after.now))
+        (world session.old) (world session.new) t.reply.text.items t.reply.refused) }
+    ensures rest { IfOk result (λ t. commands_after ended line form (script_lines after.now)
+        ≡ commands_from ended t.number 0 (script_lines t.rest.now)) }
+    ensures shorter { IfOk result (λ t. t.number + length t.rest.now ≤ line + 1 + length after.now) }
+    ensures no_longer { IfOk result (λ t. length t.rest.now ≤ length after.now) }
+{
+    let reply = match form {
+        ScriptLine::Edit => return block_turn(alloc, ended, session, line, after),
+        ScriptLine::Skipped => Reply::empty(alloc),
+        ScriptLine::Run(cycles) => session.run(alloc, line, cycles)?,
+        ScriptLine::Show => session.show(alloc, line)?,
+        ScriptLine::Other => not_built(alloc, line)?,
+    };
+    Ok(Turn {
+        reply,
+        number: line + 1,
+        rest: after,
+    })
+}
+
+// Carries out the commands, and writes their replies: whether one was refused.
+fn carry_out<K: Sink>(
+    alloc: Global,
+    ended: bool,
+    bytes: &[u8],
+    sink: &mut K,
+) -> Result<bool, SinkRefusal>
+    requires { length bytes.now ≤ 67108864 }
+    ensures lines { OnOk result (Appends (K.written sink.old) (K.written sink.new)
+        (lines (line_commands ended bytes.now) fresh)) }
+    ensures front { WritesFront (K.written sink.old) (K.written sink.new) (lines (line_commands ended bytes.now) fresh) }
+    ensures refused { IfOk result (λ refused. refused ≡ any_refused (line_commands ended bytes.now) fresh) }
+    ensures later { K.faults sink.old ≤ K.faults sink.new }
+    ensures failed { IsErrOf result SinkRefusal.Failed → Rose (K.faults sink.old) (K.faults sink.new) }
+{
+    let mut session = Session::new();
+    let mut rest = bytes;
+    let mut number = 1u64;
+    let mut refused = false;
+    while let Some((line, after)) = next_line(rest) {
+        let form = read_line(line);
+        let Ok(turn) = line_turn(alloc, ended, &mut session, number, form, after) else {
+            return Err(SinkRefusal::NoMemory);
+        };
+        write_all(sink, &turn.reply.text)?;
+        refused = refused || turn.reply.refused;
+        number = turn.number;
+        rest = turn.rest;
+    }
+    Ok(refused)
+}
+
+// Carries out what was read, and answers the status.
+fn finish<K: Sink>(alloc: Global, ending: Ending, bytes: &[u8], sink: &mut K) -> u8
+    ensures status { result ≢ 5 → FinishesWith ending (K.written sink.old) (K.written sink.new) bytes.now result }
+    ensures front { WritesFront (K.written sink.old) (K.written sink.new) (output_of bytes.now (has_ended ending)) }
+    ensures write_fault { result ≡ 4 → Rose (K.faults sink.old) (K.faults sink.new) }
+    ensures known { result ≤ 6 }
+    ensures words { result ≢ 2 }
+{
+    let ended = match ending {
+        Ending::Whole => true,
+        Ending::Failed | Ending::TooMuch => false,
+    };
+    match carry_out(alloc, ended, counted(ended, front(MAX_INPUT, bytes)), sink) {
+        Err(SinkRefusal::Failed) => 4,
+        Err(SinkRefusal::NoMemory) => 5,
+        Ok(refused) => match ending {
+            Ending::Failed => 3,
+            Ending::TooMuch => 6,
+            Ending::Whole => u8::from(refused),
+        },
+    }
+}
+
+/// Reads a script, carries out its commands and writes their lines.
+///
+/// The words are those of the command line; the one word that is taken is the program's name. It reads up to the end of
+/// the input, a fault or one byte above 67,108,864 bytes, and then carries out the commands that it has.
+pub fn live_run<R: Threads + Sync, S: Source, K: Sink>(
+    _rt: &R,
+    alloc: Global,
+    words: &[String],
+    source: &mut S,
+    sink: &mut K,
+) -> Outcome
+    // Status 2 comes exactly where the words aren't the program's name alone, and then nothing is touched.
+    ensures words { (result.status ≡ 2) ↔ (length words.now ≢ 1) }
+    ensures untouched { result.status ≡ 2 → (result.taken ≡ 0) × (source.new ≡ source.old) × (sink.new ≡ sink.old) }
+
+    // The bytes taken, the lines written, and what the status says of them.
+    ensures lived { result.status ≢ 2 → (bytes : List ℕ) × (ended : Bool) × (length bytes ≡ result.taken)
+        × Lived (S.left source.old) (S.left source.new) (K.written sink.old) (K.written sink.new) bytes ended result.status }
+
+    // The causes of 3 and 4.
+    ensures read_fault { result.status ≡ 3 → Rose (S.faults source.old) (S.faults source.new) }
+    ensures write_fault { result.status ≡ 4 → Rose (K.faults sink.old) (K.faults sink.new) }
+    ensures known { result.status ≤ 6 }
+
+    // Where nothing outside failed and the script isn't too long, the commands were carried out, or memory ran out.
+    ensures complete { length words.now ≡ 1 → (Rose (S.faults source.old) (S.faults source.new) → ⊥)
+        → (Rose (K.faults sink.old) (K.faults sink.new) → ⊥) → result.taken ≤ 67108864 → IsComplete result.status }
+
+    // Every display is settled: it shows the registers of a run from reset.
+    ensures settled { DisplaysTruth }
+{
+    if words.len() != 1 {
+        return Outcome {
+            status: 2,
+            taken: 0,
+        };
+    }
+    let mut bytes = Vec::new(alloc);
+    let Ok(ending) = read_all(source, &mut bytes) else {
+        return Outcome {
+            status: 5,
+            taken: bytes.len() as u64,
+        };
+    };
+    let taken = bytes.len() as u64;
+    let status = finish(alloc, ending, &bytes, sink);
+    Outcome { status, taken }
+}

@@ -1,0 +1,366 @@
+// Whole scripts, and what no clause says: that they are answered, and how the lines look.
+use crate::live::{Outcome, live_run};
+use ls_port::{MemSink, MemSource};
+use ls_text::NoMemory;
+use std::alloc::Global;
+use std::test::Fail;
+use std::thread::Threads;
+
+const HEAD: &[u8] = b"edit\ntop top\nclock clk\nfile a.v\nmodule top(input clk);\n";
+
+const TAIL: &[u8] = b"\nendmodule\n.\nend\n";
+
+const OK_EDIT: &[u8] = b"ok edit v=1 built=1 kept=0 from=0\n";
+
+// A script, with the calls that fail: how it ended, and what was written.
+fn lived<R: Threads + Sync>(
+    rt: &R,
+    alloc: Global,
+    script: Vec<u8>,
+    reads: Vec<u64>,
+    writes: Vec<u64>,
+) -> Result<(Outcome, Vec<u8>), NoMemory> {
+    let words = vec![in alloc; String::from_str(alloc, "livesim")?]?;
+    let mut source = MemSource::new(script, reads);
+    let mut sink = MemSink::new(alloc, writes);
+    let outcome = live_run(rt, alloc, &words, &mut source, &mut sink);
+    Ok((outcome, Vec::from_slice(alloc, sink.bytes())?))
+}
+
+// The bytes of some parts, one after another.
+fn joined(alloc: Global, parts: &[&[u8]]) -> Result<Vec<u8>, NoMemory> {
+    let mut whole = Vec::new(alloc);
+    for part in parts {
+        whole.extend_from_slice(part)?;
+    }
+    Ok(whole)
+}
+
+#[test]
+fn scripts_are_answered(rt: HostRuntime) -> Result<(), Fail> {
+    let alloc = rt.alloc();
+    let rows: [(&[u8], &[u8], u8); 9] = [
+        (b"", b"", 0),
+        (b"frob\n", b"refused 90 NotBuilt @1 -\n", 1),
+        (
+            b"# a comment\n\n \t\nshow",
+            b"refused 62 NoDesign @4 -\n",
+            1,
+        ),
+        (
+            b"run 1000000000\r\nrun 1000000001\nrun 0\nrun\nshow a\n",
+            b"refused 62 NoDesign @1 -\nrefused 90 NotBuilt @2 -\nrefused 90 NotBuilt @3 -\nrefused 90 NotBuilt @4 -\nrefused 90 NotBuilt @5 -\n",
+            1,
+        ),
+        (
+            b"edit\ntop top\nfile a.v\nend\n",
+            b"refused 90 NotBuilt @1 -\n",
+            1,
+        ),
+        (
+            b"\nedit\nend\nshow\n",
+            b"refused 90 NotBuilt @2 -\nrefused 62 NoDesign @4 -\n",
+            1,
+        ),
+        (
+            b"edit\ntop t\nclock c\nfile a*v\n.\nend\n",
+            b"refused 90 NotBuilt @1 -\n",
+            1,
+        ),
+        (
+            b"edit\n\n# names\ntop t\n\nclock c\nfile b/a-1.v\nmodule t(input c);\r\nreg r=1'h1;always@(posedge c)r<=r+1'h1;endmodule\n.\n# the end\nend\nshow\nrun 1\nshow\nshow\n",
+            b"ok edit v=1 built=1 kept=0 from=0\nshow cycle=0 settled v=1\nt.r 1\nok run cycle=1\nshow cycle=1 settled v=1\nt.r 0\nshow cycle=1 settled v=1\nt.r 0\n",
+            0,
+        ),
+        (
+            b"edit\r\ntop t\r\nclock c\r\nfile a\r\nmodule t(input c); reg [7:0] r = 8'h00;\r\nalways @(posedge c) r <= r + 8'h03; endmodule\r\n.\r\nend\r\nrun 5\r\nedit\r\nend\r\nshow",
+            b"ok edit v=1 built=1 kept=0 from=0\nok run cycle=5\nrefused 90 NotBuilt @10 -\nshow cycle=5 settled v=1\nt.r 0f\n",
+            1,
+        ),
+    ];
+    for (script, want, status) in rows {
+        let bytes = Vec::from_slice(alloc, script)?;
+        let (outcome, written) = lived(&rt, alloc, bytes, Vec::new(alloc), Vec::new(alloc))?;
+        assert_eq!(rt; outcome.status, status);
+        assert_eq!(rt; outcome.taken, script.len() as u64);
+        assert!(rt; written.as_slice() == want);
+    }
+    Ok(())
+}
+
+#[test]
+fn modules_are_simulated(rt: HostRuntime) -> Result<(), Fail> {
+    let alloc = rt.alloc();
+    // The text behind the header, and the value after one cycle.
+    let rows: [(&[u8], &[u8]); 10] = [
+        (b"reg a = 1'h1; always @(posedge clk) a <= a + 1'h1;", b"0"),
+        (
+            b"reg [6:0] a = 7'h7f; always @(posedge clk) a <= a + 7'h01;",
+            b"00",
+        ),
+        (
+            b"reg [63:0] a = 64'hffffffffffffffff; always @(posedge clk) a <= a + 64'h3;",
+            b"0000000000000002",
+        ),
+        (
+            b"reg [64:0] a = 65'h1ffffffffffffffff; always @(posedge clk) a <= a + 65'h1;",
+            b"00000000000000000",
+        ),
+        (
+            b"reg [127:0] a = 128'hffffffffffffffffffffffffffffffff; always @(posedge clk) a <= a + 128'h1;",
+            b"00000000000000000000000000000000",
+        ),
+        (
+            b"reg [7:0] a = 4'hff; always @(posedge clk) a <= a + 8'h00;",
+            b"0f",
+        ),
+        (
+            b"reg [15:0] a = 16'h00ff; always @(posedge clk) a <= a + 8'h01;",
+            b"0100",
+        ),
+        (
+            b"reg [7:0] a = 8'hff; always @(posedge clk) a <= 16'h0102 + a;",
+            b"01",
+        ),
+        (
+            b"reg [3:0] a = 8'h2f; always @(posedge clk) a <= a + a + a + 4'h1;",
+            b"e",
+        ),
+        (
+            b"reg\x0c[ 7 : 0 ]\n\ta\r= 8'hA0\n;always@( posedge\tclk )a\n<=a+8'hb;",
+            b"ab",
+        ),
+    ];
+    for (text, value) in rows {
+        let script = joined(alloc, &[HEAD, text, TAIL, b"run 1\nshow\n"])?;
+        let want = joined(
+            alloc,
+            &[
+                OK_EDIT,
+                b"ok run cycle=1\nshow cycle=1 settled v=1\ntop.a ",
+                value,
+                b"\n",
+            ],
+        )?;
+        let (outcome, written) = lived(&rt, alloc, script, Vec::new(alloc), Vec::new(alloc))?;
+        assert_eq!(rt; outcome.status, 0);
+        assert!(rt; written.as_slice() == want.as_slice());
+    }
+    Ok(())
+}
+
+#[test]
+fn texts_are_refused(rt: HostRuntime) -> Result<(), Fail> {
+    let alloc = rt.alloc();
+    let not_built: &[u8] = b"refused 90 NotBuilt @4 -\n";
+    let rows: [(&[u8], &[u8]); 10] = [
+        (
+            b"reg [7:0] acc = 8'h00;\nalways @(posedge clk) acc <= acc + e;",
+            b"refused 29 UnknownName a.v:3:36 e\n",
+        ),
+        (
+            b"reg [7:0] acc = 8'h00;\nalways @(posedge clk) b <= acc + 8'h01;",
+            b"refused 29 UnknownName a.v:3:23 b\n",
+        ),
+        (
+            b"reg [7:0] acc = 8'h00;\nalways @(posedge clk) acc <= x + y;",
+            b"refused 29 UnknownName a.v:3:30 x\n",
+        ),
+        (
+            b"reg [7:0] acc = 8'h00;\nalways @(posedge clk) acc <= acc +\n\t\te2 + acc;",
+            b"refused 29 UnknownName a.v:4:3 e2\n",
+        ),
+        (
+            b"reg [7:0] acc = 8'h00;\nalways @(posedge clk) acc <= acc + clk;",
+            not_built,
+        ),
+        (
+            b"reg [7:0] wire = 8'h00;\nalways @(posedge clk) wire <= wire + 8'h01;",
+            not_built,
+        ),
+        (
+            b"reg [128:0] acc = 8'h00;\nalways @(posedge clk) acc <= acc + 8'h01;",
+            not_built,
+        ),
+        (
+            b"reg [7:0] acc = 129'h00;\nalways @(posedge clk) acc <= acc + 8'h01;",
+            not_built,
+        ),
+        (
+            b"reg [7:0] acc = 128'h100000000000000000000000000000000;\nalways @(posedge clk) acc <= acc;",
+            not_built,
+        ),
+        (
+            b"reg [7:0] clk = 8'h00;\nalways @(posedge clk) clk <= 8'h01;",
+            not_built,
+        ),
+    ];
+    for (text, want) in rows {
+        let script = joined(alloc, &[HEAD, text, TAIL, b"run 5\nshow\n"])?;
+        let (outcome, written) = lived(&rt, alloc, script, Vec::new(alloc), Vec::new(alloc))?;
+        assert_eq!(rt; outcome.status, 1);
+        assert!(rt; written.starts_with(want));
+        assert!(rt;
+            written.ends_with(b" -\nrefused 62 NoDesign @12 -\n")
+                || written.ends_with(b" -\nrefused 62 NoDesign @13 -\n")
+        );
+    }
+    Ok(())
+}
+
+#[test]
+fn limits_of_a_text(rt: HostRuntime) -> Result<(), Fail> {
+    let alloc = rt.alloc();
+    // The number of `+`, the number of spaces behind the last, and whether it is accepted.
+    let rows: [(u32, usize, bool); 4] = [
+        (256, 0, true),
+        (257, 0, false),
+        (1, 4_194_206, true),
+        (1, 4_194_207, false),
+    ];
+    for (plus, spaces, accepted) in rows {
+        let mut script = joined(
+            alloc,
+            &[
+                HEAD,
+                b"reg [7:0] acc = 8'h00;\nalways @(posedge clk) acc <= acc",
+            ],
+        )?;
+        for _ in 0..plus {
+            script.extend_from_slice(b" + 8'h01")?;
+        }
+        for _ in 0..spaces {
+            script.push(b' ')?;
+        }
+        script.extend_from_slice(b";")?;
+        script.extend_from_slice(TAIL)?;
+        let (_, written) = lived(&rt, alloc, script, Vec::new(alloc), Vec::new(alloc))?;
+        let want: &[u8] = if accepted {
+            OK_EDIT
+        } else {
+            b"refused 90 NotBuilt @4 -\n"
+        };
+        assert!(rt; written.as_slice() == want);
+    }
+    Ok(())
+}
+
+// A script, cut at each of its lengths.
+#[test]
+fn scripts_are_cut(rt: HostRuntime) -> Result<(), Fail> {
+    let alloc = rt.alloc();
+    let block = joined(
+        alloc,
+        &[
+            HEAD,
+            b"reg [7:0] acc = 8'h00;\nalways @(posedge clk) acc <= acc + e;",
+            b"\nendmodule\n.\nend",
+        ],
+    )?;
+    let script = joined(alloc, &[&block, b"\nrun 5\nshow\n"])?;
+    for length in 0..script.len() + 1 {
+        let behind = length.saturating_sub(block.len());
+        let first: &[u8] = match length {
+            0 => b"",
+            _ if length < block.len() => b"refused 90 NotBuilt @1 -\n",
+            _ => b"refused 29 UnknownName a.v:3:36 e\n",
+        };
+        let second: &[u8] = match behind {
+            0 | 1 => b"",
+            2..=5 => b"refused 90 NotBuilt @11 -\n",
+            _ => b"refused 62 NoDesign @11 -\n",
+        };
+        let third: &[u8] = match behind {
+            0..=7 => b"",
+            8..=10 => b"refused 90 NotBuilt @12 -\n",
+            _ => b"refused 62 NoDesign @12 -\n",
+        };
+        let want = joined(alloc, &[first, second, third])?;
+        let bytes = Vec::from_slice(alloc, &script[..length])?;
+        let (outcome, written) = lived(&rt, alloc, bytes, Vec::new(alloc), Vec::new(alloc))?;
+        assert_eq!(rt; outcome.status, u8::from(length > 0));
+        assert_eq!(rt; outcome.taken, length as u64);
+        assert!(rt; written.as_slice() == want.as_slice());
+    }
+    Ok(())
+}
+
+// Three commands, each behind a comment of 65,536 bytes, with a read or a write that fails.
+#[test]
+fn the_outside_fails(rt: HostRuntime) -> Result<(), Fail> {
+    let alloc = rt.alloc();
+    let mut script = Vec::new(alloc);
+    for _ in 0..3 {
+        for _ in 0..65_535 {
+            script.push(b'#')?;
+        }
+        script.extend_from_slice(b"\nfrob\n")?;
+    }
+    let lines: &[u8] =
+        b"refused 90 NotBuilt @2 -\nrefused 90 NotBuilt @4 -\nrefused 90 NotBuilt @6 -\n";
+    // The read and the write that fail, the status, the bytes taken and the bytes written.
+    let rows: [(u64, u64, u8, u64, usize); 11] = [
+        (0, 9, 3, 0, 0),
+        (1, 9, 3, 65_536, 0),
+        (2, 9, 3, 131_072, 25),
+        (3, 9, 3, 196_608, 50),
+        (4, 9, 3, 196_623, 75),
+        (5, 9, 1, 196_623, 75),
+        (9, 0, 4, 196_623, 0),
+        (9, 1, 4, 196_623, 25),
+        (9, 2, 4, 196_623, 50),
+        (9, 3, 1, 196_623, 75),
+        (3, 1, 4, 196_608, 25),
+    ];
+    for (read, write, status, taken, length) in rows {
+        let bytes = Vec::from_slice(alloc, &script)?;
+        let (outcome, written) = lived(
+            &rt,
+            alloc,
+            bytes,
+            vec![in alloc; read]?,
+            vec![in alloc; write]?,
+        )?;
+        assert_eq!(rt; outcome.status, status);
+        assert_eq!(rt; outcome.taken, taken);
+        assert!(rt; written.as_slice() == &lines[..length]);
+    }
+    Ok(())
+}
+
+#[test]
+fn limit_of_the_input(rt: HostRuntime) -> Result<(), Fail> {
+    let alloc = rt.alloc();
+    for (length, status) in [(67_108_864usize, 0u8), (67_108_865, 6)] {
+        let mut script = Vec::with_capacity(alloc, length)?;
+        for _ in 0..length {
+            script.push(b'\n')?;
+        }
+        let (outcome, written) = lived(&rt, alloc, script, Vec::new(alloc), Vec::new(alloc))?;
+        assert_eq!(rt; outcome.status, status);
+        assert_eq!(rt; outcome.taken, length as u64);
+        assert!(rt; written.is_empty());
+    }
+    Ok(())
+}
+
+#[test]
+fn other_words_are_refused(rt: HostRuntime) -> Result<(), Fail> {
+    let alloc = rt.alloc();
+    let words = vec![in alloc;
+        String::from_str(alloc, "livesim")?,
+        String::from_str(alloc, "x")?,
+    ]?;
+    let mut source = MemSource::new(Vec::from_slice(alloc, b"show\n")?, Vec::new(alloc));
+    let mut sink = MemSink::new(alloc, Vec::new(alloc));
+    let outcome = live_run(&rt, alloc, &words, &mut source, &mut sink);
+    assert_eq!(rt;
+        outcome,
+        Outcome {
+            status: 2,
+            taken: 0
+        }
+    );
+    assert!(rt; sink.bytes().is_empty());
+    Ok(())
+}
