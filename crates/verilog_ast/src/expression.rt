@@ -1,0 +1,39 @@
+// Expressions, and the names with their selects that stand in them.
+use crate::identifier::Identifier;
+use crate::number::Number;
+use crate::operator::{BinaryOperator, UnaryOperator};
+use ls_text::Place;
+use sqlite_items::{Boxed, Items};
+
+/// An expression. Brackets have a node of their own, so that the first token of each expression has its place.
+#[cycle(expression)]
+#[derive(Drop)]
+pub enum Expression {
+    Number(Place, Number),
+    Read(Reference),
+    Unary(Place, UnaryOperator, Boxed<Expression>),
+    Binary(BinaryOperator, Boxed<Expression>, Boxed<Expression>),
+    /// `c ? a : b`
+    Conditional(Boxed<Expression>, Boxed<Expression>, Boxed<Expression>),
+    /// `{a, b}`, at its brace
+    Concatenation(Place, Items<Expression>),
+    /// `{n{a, b}}`, at its first brace
+    Replication(Place, Boxed<Expression>, Items<Expression>),
+    /// `(a)`, at its bracket
+    Bracketed(Place, Boxed<Expression>),
+}
+
+/// A name, with a select or without.
+#[cycle(expression)]
+#[derive(Drop)]
+pub enum Reference {
+    Whole(Identifier),
+    /// `x[i]`
+    Bit(Identifier, Boxed<Expression>),
+    /// `x[high:low]`
+    Part(Identifier, Boxed<Expression>, Boxed<Expression>),
+    /// `x[base +: width]`
+    Upward(Identifier, Boxed<Expression>, Boxed<Expression>),
+    /// `x[base -: width]`
+    Downward(Identifier, Boxed<Expression>, Boxed<Expression>),
+}

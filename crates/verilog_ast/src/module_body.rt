@@ -1,0 +1,14 @@
+// What stands in a module.
+use crate::declaration::{HeaderParameter, Ports};
+use crate::identifier::Identifier;
+use crate::item::Item;
+use sqlite_items::Items;
+
+/// The name of a module, its header and its items in the order of the text.
+#[derive(Drop)]
+pub struct ModuleBody {
+    pub name: Identifier,
+    pub parameters: Items<HeaderParameter>,
+    pub ports: Ports,
+    pub items: Items<Item>,
+}

@@ -1,0 +1,46 @@
+// Operators.
+
+/// An operator before its operand.
+#[derive(Clone, Copy, Debug, PartialEq, Eq)]
+pub enum UnaryOperator {
+    Plus,
+    Minus,
+    /// `!`
+    LogicalNot,
+    /// `~`
+    Invert,
+    ReduceAnd,
+    ReduceNand,
+    ReduceOr,
+    ReduceNor,
+    ReduceXor,
+    /// `~^` or `^~`
+    ReduceXnor,
+}
+
+/// An operator between its operands.
+#[derive(Clone, Copy, Debug, PartialEq, Eq)]
+pub enum BinaryOperator {
+    Multiply,
+    Divide,
+    Remainder,
+    Add,
+    Subtract,
+    ShiftLeft,
+    ShiftRight,
+    ArithmeticShiftLeft,
+    ArithmeticShiftRight,
+    Less,
+    LessOrEqual,
+    Greater,
+    GreaterOrEqual,
+    Equal,
+    NotEqual,
+    And,
+    Xor,
+    /// `~^` or `^~`
+    Xnor,
+    Or,
+    LogicalAnd,
+    LogicalOr,
+}

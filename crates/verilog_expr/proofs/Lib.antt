@@ -1,0 +1,5 @@
+pub mod Runs
+pub mod Lists
+pub mod Entries
+pub mod Trees
+pub mod Complete

@@ -1,0 +1,232 @@
+// Expressions, by recursive descent: one function a nonterminal.
+#![tactic(auto, using(crate::proofs::Runs::runs, crate::proofs::Runs::loops, crate::proofs::Entries::entries, crate::proofs::Trees::trees))]
+
+ghost use Rattle.std.specs.Prelude.{◌≡◌, ◌≤◌, ◌<◌, ◌+◌, ◌^◌, [], ◌∷◌, length, OnOk, IfOk, ◌≢◌};
+ghost use Rattle.verilog_expr.specs.Grammar as grammar;
+ghost use Rattle.verilog_expr.specs.Grammar.{N};
+ghost use Rattle.verilog_expr.specs.Reads.{Reads, ReadsChain};
+ghost use Rattle.verilog_expr.specs.Spells as spells;
+ghost use Rattle.verilog_expr.specs.Tokens.{next};
+ghost use Rattle.verilog_lex.specs.declared.kind.Kind.TheVariants.{Dot};
+ghost use Rattle.verilog_expr.specs.Spells.{Spells, AChain, AnOperand, APart, ABraced, BindsLooser, Behind};
+
+use crate::error::ParseError;
+use crate::leaf::{identifier, number};
+use crate::operators::level;
+use crate::parser::Parser;
+use ls_text::Place;
+use sqlite_items::{Boxed, Items};
+use verilog_ast::{Expression, Identifier, Range, Reference};
+use verilog_lex::Kind;
+
+impl<'a> Parser<'a> {
+    /// What follows a name: a select, or nothing.
+    #[cycle(expression)]
+    pub fn select(&mut self, name: Identifier, weight: u32) -> Result<Reference, ParseError>
+        requires { weight < 2 ^ 31 }
+        ensures machine { Reads (N grammar.ASelect weight ∷ []) self.old result self.new }
+        ensures tree { IfOk result (λ x. Spells (spells.ASelect name x) self.old self.new) }
+        ensures shorter { OnOk result (length self.new ≤ length self.old) }
+    {
+        if self.sees(Kind::LeftBracket) {
+            self.expect(Kind::LeftBracket, weight)?;
+            let first = Boxed::new(self.alloc(), self.expression(weight + 1)?)?;
+            let reference = self.part(name, first, weight + 1)?;
+            self.expect(Kind::RightBracket, weight + 1)?;
+            self.after_select(weight)?;
+            return Ok(reference);
+        }
+        if self.sees(Kind::Dot) {
+            return Err(self.outside());
+        }
+        Ok(Reference::Whole(name))
+    }
+
+    // No dot follows a select: a hierarchical name is outside of this language.
+    fn after_select(&mut self, weight: u32) -> Result<(), ParseError>
+        ensures machine { Reads (N grammar.AfterSelect weight ∷ []) self.old result self.new }
+        ensures free { OnOk result (next self.new ≢ Dot) }
+        ensures same { OnOk result (self.new ≡ self.old) }
+    {
+        if self.sees(Kind::Dot) {
+            return Err(self.outside());
+        }
+        Ok(())
+    }
+
+    // What follows the first expression of a select.
+    #[cycle(expression)]
+    fn part(
+        &mut self,
+        name: Identifier,
+        first: Boxed<Expression>,
+        weight: u32,
+    ) -> Result<Reference, ParseError>
+        requires { weight < 2 ^ 31 }
+        ensures machine { Reads (N grammar.Part weight ∷ []) self.old result self.new }
+        ensures tree { IfOk result (λ x. Spells (APart name first x) self.old self.new) }
+        ensures shorter { OnOk result (length self.new ≤ length self.old) }
+    {
+        if self.sees(Kind::Colon) {
+            self.expect(Kind::Colon, weight)?;
+            let low = Boxed::new(self.alloc(), self.expression(weight)?)?;
+            return Ok(Reference::Part(name, first, low));
+        }
+        if self.sees(Kind::PlusColon) {
+            self.expect(Kind::PlusColon, weight)?;
+            let width = Boxed::new(self.alloc(), self.expression(weight)?)?;
+            return Ok(Reference::Upward(name, first, width));
+        }
+        if self.sees(Kind::MinusColon) {
+            self.expect(Kind::MinusColon, weight)?;
+            let width = Boxed::new(self.alloc(), self.expression(weight)?)?;
+            return Ok(Reference::Downward(name, first, width));
+        }
+        Ok(Reference::Bit(name, first))
+    }
+
+    /// An expression.
+    #[cycle(expression)]
+    pub fn expression(&mut self, weight: u32) -> Result<Expression, ParseError>
+        requires { weight < 2 ^ 31 }
+        ensures machine { Reads (N grammar.AnExpression weight ∷ []) self.old result self.new }
+        ensures tree { IfOk result (λ x. Spells (spells.AnExpression x) self.old self.new) }
+        ensures shorter { OnOk result (length self.new < length self.old) }
+    {
+        let (first, inner) = self.chain(0, weight)?;
+        if !self.sees(Kind::Question) {
+            return Ok(first);
+        }
+        let first = Boxed::new(self.alloc(), first)?;
+        self.expect(Kind::Question, inner)?;
+        let yes = Boxed::new(self.alloc(), self.expression(inner + 1)?)?;
+        self.expect(Kind::Colon, inner)?;
+        let no = Boxed::new(self.alloc(), self.expression(inner + 1)?)?;
+        Ok(Expression::Conditional(first, yes, no))
+    }
+
+    // Operands with operators of level `least` and above between them, and how much is open after them.
+    #[cycle(expression)]
+    fn chain(&mut self, least: u32, weight: u32) -> Result<(Expression, u32), ParseError>
+        requires { weight < 2 ^ 31 }
+        ensures machine { ReadsChain weight self.old result self.new }
+        ensures tree { IfOk result (λ x. Spells (AChain least x.0) self.old self.new) }
+        ensures ends { OnOk result (BindsLooser least self.new) }
+        ensures shorter { OnOk result (length self.new < length self.old) }
+        ensures light { IfOk result (λ x. x.1 < 2 ^ 31) }
+    {
+        let mut left = self.operand(weight)?;
+        let mut inner = weight;
+        while let Some(op) = self.sees_binary() {
+            if level(op) < least {
+                break;
+            }
+            let kind = self.peek();
+            self.expect(kind, inner)?;
+            let (right, after) = self.chain(level(op) + 1, inner + 1)?;
+            left = Expression::Binary(
+                op,
+                Boxed::new(self.alloc(), left)?,
+                Boxed::new(self.alloc(), right)?,
+            );
+            inner = after;
+        }
+        Ok((left, inner))
+    }
+
+    #[cycle(expression)]
+    fn operand(&mut self, weight: u32) -> Result<Expression, ParseError>
+        requires { weight < 2 ^ 31 }
+        ensures machine { Reads (N grammar.Operand weight ∷ []) self.old result self.new }
+        ensures tree { IfOk result (λ x. Spells (AnOperand x) self.old self.new) }
+        ensures shorter { OnOk result (length self.new < length self.old) }
+    {
+        if let Some(op) = self.sees_unary() {
+            let kind = self.peek();
+            let at = self.expect(kind, weight)?.at;
+            let operand = Boxed::new(self.alloc(), self.operand(weight + 1)?)?;
+            return Ok(Expression::Unary(at, op, operand));
+        }
+        match self.peek() {
+            Kind::Number => {
+                let token = self.expect(Kind::Number, weight)?;
+                Ok(Expression::Number(token.at, number(token)))
+            }
+            Kind::Word => {
+                let name = identifier(self.expect(Kind::Word, weight)?);
+                Ok(Expression::Read(self.select(name, weight)?))
+            }
+            Kind::LeftParen => {
+                let at = self.expect(Kind::LeftParen, weight)?.at;
+                let inner = Boxed::new(self.alloc(), self.expression(weight + 1)?)?;
+                self.expect(Kind::RightParen, weight + 1)?;
+                Ok(Expression::Bracketed(at, inner))
+            }
+            Kind::LeftBrace => {
+                let at = self.expect(Kind::LeftBrace, weight)?.at;
+                let first = self.expression(weight + 1)?;
+                self.braced(at, first, weight + 1)
+            }
+            _ => Err(self.stuck()),
+        }
+    }
+
+    // What follows an opening brace and an expression: the rest of a concatenation or of a replication.
+    #[cycle(expression)]
+    fn braced(
+        &mut self,
+        at: Place,
+        first: Expression,
+        weight: u32,
+    ) -> Result<Expression, ParseError>
+        requires { weight < 2 ^ 31 }
+        ensures machine { Reads (N grammar.Braced weight ∷ []) self.old result self.new }
+        ensures tree { IfOk result (λ x. Spells (ABraced at first x) self.old self.new) }
+        ensures shorter { OnOk result (length self.new < length self.old) }
+    {
+        if !self.sees(Kind::LeftBrace) {
+            let all = self.more(first, weight)?;
+            self.expect(Kind::RightBrace, weight)?;
+            return Ok(Expression::Concatenation(at, all));
+        }
+        let count = Boxed::new(self.alloc(), first)?;
+        self.expect(Kind::LeftBrace, weight)?;
+        let inner = self.expression(weight + 1)?;
+        let all = self.more(inner, weight + 1)?;
+        self.expect(Kind::RightBrace, weight + 1)?;
+        self.expect(Kind::RightBrace, weight)?;
+        Ok(Expression::Replication(at, count, all))
+    }
+
+    // Further expressions, each after a comma, behind the first.
+    #[cycle(expression)]
+    fn more(&mut self, first: Expression, weight: u32) -> Result<Items<Expression>, ParseError>
+        requires { weight < 2 ^ 31 }
+        ensures machine { Reads (N grammar.More weight ∷ []) self.old result self.new }
+        ensures tree { IfOk result (λ all. Spells (Behind first all) self.old self.new) }
+        ensures shorter { OnOk result (length self.new ≤ length self.old) }
+    {
+        let mut all = Items::new(self.alloc());
+        all.push(first)?;
+        'items: while self.sees(Kind::Comma) {
+            self.expect(Kind::Comma, weight)?;
+            all.push(self.expression(weight)?)?;
+        }
+        Ok(all)
+    }
+
+    /// `[high:low]`
+    pub fn range(&mut self, weight: u32) -> Result<Range, ParseError>
+        requires { weight < 2 ^ 31 }
+        ensures machine { Reads (N grammar.ARange weight ∷ []) self.old result self.new }
+        ensures tree { IfOk result (λ x. Spells (spells.ARange x) self.old self.new) }
+        ensures shorter { OnOk result (length self.new < length self.old) }
+    {
+        self.expect(Kind::LeftBracket, weight)?;
+        let high = Boxed::new(self.alloc(), self.expression(weight + 1)?)?;
+        self.expect(Kind::Colon, weight + 1)?;
+        let low = Boxed::new(self.alloc(), self.expression(weight + 1)?)?;
+        self.expect(Kind::RightBracket, weight + 1)?;
+        Ok(Range { high, low })
+    }
+}

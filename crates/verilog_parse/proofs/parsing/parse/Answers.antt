@@ -1,0 +1,15 @@
+use Rattle.verilog_parse.specs.Files.{no_memory, at_fault}
+use Rattle.verilog_parse.proofs.Wholes.{run_at, spelled_only}
+use Rattle.verilog_parse.proofs.parsing.parse.Goals as goal
+
+pub returns-in-Err-NoMemory-clause-fault : goal.returns-in-Err-NoMemory-clause-fault
+returns-in-Err-NoMemory-clause-fault c = no_memory
+
+pub returns-in-Ok-shown-clause-fault : goal.returns-in-Ok-shown-clause-fault
+returns-in-Ok-shown-clause-fault c = at_fault (run_at c.in-Err-Fault.field-0-is c.in-Err-Fault.ensures.fault) c.in-Ok-shown.ensures
+
+pub returns-in-Ok-shown-clause-only : goal.returns-in-Ok-shown-clause-only
+returns-in-Ok-shown-clause-only c = λ h. spelled_only c.args.tokens.now _ _ h (run_at c.in-Err-Fault.field-0-is c.in-Err-Fault.ensures.fault) c.in-Ok-shown.ensures
+
+pub returns-in-Err-clause-fault : goal.returns-in-Err-clause-fault
+returns-in-Err-clause-fault c = no_memory

@@ -1,0 +1,7 @@
+use Rattle.std.proofs.Common.{◌≡◌, ◌++◌, drop}
+use Rattle.verilog_parse.specs.Spellings.{spaced}
+use Rattle.verilog_parse.proofs.spelling.push_spaced.Given as goal
+
+-- the text so far, and the tokens that are left
+abbrev pub invariant-loop-token : goal.invariant-loop-token
+invariant-loop-token l = l.text.items ++ spaced l.names (drop l.token-index l.tokens) ≡ l.fn.text.items ++ spaced l.names l.tokens

@@ -1,0 +1,16 @@
+// Verilog texts, read exactly as the grammar says.
+#![tactic(auto)]
+
+mod connection;
+mod declaration;
+mod file;
+mod generate;
+mod header;
+mod modules;
+mod parsing;
+mod plain_item;
+mod spelling;
+mod statement;
+mod target;
+
+pub use parsing::parse;
