@@ -1,6 +1,5 @@
 -- The first fault of a text, and what an answer says of a reading.
-use Rattle.std.specs.List.{All}
-use Rattle.std.specs.Prelude.{◌≡◌, ◌<◌, ℕ, List, [], ◌∷◌, length, map, Result, Ok, Err, ⊤}
+use Rattle.std.specs.Prelude.{◌≡◌, ℕ, List, [], ◌∷◌, map, Result, Ok, Err, ⊤}
 use Rattle.ls_text.specs.Texts.{text_at}
 use Rattle.ls_text.specs.declared.name_id.NameId.{NameId}
 use Rattle.ls_text.specs.declared.place.Place.{Place}
@@ -37,12 +36,3 @@ Refuses names refusal.NoMemory read = ⊤
 abbrev pub Gives : {A B : Type 0} → List (List ℕ) → (A → B) → Result A Refusal → Result B TextFault → Type 0
 Gives names view (Ok x) read = read ≡ Ok (view x)
 Gives names view (Err e) read = Refuses names e read
-
--- the table gave the names that a refusal shows
-abbrev pub IsKnown : List (List ℕ) → Refusal → Type 0
-IsKnown names (refusal.Fault f) = All (λ (id : NameId). id.0 < length names) f.names
-IsKnown names refusal.NoMemory = ⊤
-
-abbrev pub Known : {A : Type 0} → List (List ℕ) → Result A Refusal → Type 0
-Known names (Ok x) = ⊤
-Known names (Err e) = IsKnown names e

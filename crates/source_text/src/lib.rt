@@ -8,7 +8,8 @@ mod place;
 mod stretch;
 
 pub use bytes::{
-    blank_len, is_digit, is_letter, is_space, line_len, space_len, through_pair, trailing_space_len, word_len,
+    blank_len, is_digit, is_letter, is_space, line_len, space_len, through_pair,
+    trailing_space_len, word_len,
 };
 pub use fault::text_fault;
 pub use files::{text_between, text_of};

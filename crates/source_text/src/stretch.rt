@@ -12,7 +12,11 @@ pub fn front(text: &[u8], n: usize) -> &[u8]
 pub fn behind(text: &[u8], n: usize) -> &[u8]
     ensures { result.now ≡ drop n text.now }
 {
-    if n <= text.len() { text.split_at(n).1 } else { &[] }
+    if n <= text.len() {
+        text.split_at(n).1
+    } else {
+        &[]
+    }
 }
 
 /// The byte at an offset, 0 where there is none.

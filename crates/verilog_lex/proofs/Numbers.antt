@@ -27,10 +27,12 @@ too_large radix limit n (c ∷ cs) some h =
         → below limit (cond b (value_from radix (n * radix + d) cs) None) ≡ None
     at_digit true d next = next (n * radix + d) (grows n radix d limit some h)
     at_digit false d next = refl
+
     at_value : (o : Option ℕ) → ((m : ℕ) → limit ≤ m → below limit (value_from radix m cs) ≡ None)
         → below limit (more_value radix n o (λ m. value_from radix m cs)) ≡ None
     at_value None next = refl
     at_value (Some d) next = at_digit (ltb d radix) d next
+
     at_byte : (b : Bool) (o : Option ℕ) → below limit (value_from radix n cs) ≡ None
         → ((m : ℕ) → limit ≤ m → below limit (value_from radix m cs) ≡ None)
         → below limit (cond b (value_from radix n cs) (more_value radix n o (λ m. value_from radix m cs))) ≡ None

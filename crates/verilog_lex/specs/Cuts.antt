@@ -64,8 +64,8 @@ sign_or text (Some kind) other = (Sign kind text, length text)
 unfoldable pub mark_at : List ℕ → Form × ℕ
 mark_at text =
     sign_or (take 3 text) (kind_in triples (take 3 text))
-      (sign_or (take 2 text) (kind_in doubles (take 2 text))
-        (sign_or (take 1 text) (kind_in singles (take 1 text)) (Unfit, 1)))
+    (sign_or (take 2 text) (kind_in doubles (take 2 text))
+    (sign_or (take 1 text) (kind_in singles (take 1 text)) (Unfit, 1)))
 
 abbrev pub found_or : Option (Form × ℕ) → Form × ℕ → Form × ℕ
 found_or None other = other

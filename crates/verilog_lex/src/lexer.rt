@@ -3,7 +3,7 @@ ghost use Rattle.std.specs.Prelude.{◌≡◌, ◌<◌, ◌≤◌, ◌++◌, ◌
 ghost use Rattle.std.specs.Option.{option_map};
 ghost use Rattle.std.specs.List.{All};
 ghost use Rattle.ls_text.specs.Texts.{Grows};
-ghost use Rattle.source_text.specs.Faults.{Gives, Known};
+ghost use Rattle.source_text.specs.Faults.{Gives};
 ghost use Rattle.verilog_lex.specs.Numbers.{decimal_literal};
 ghost use Rattle.verilog_lex.specs.Tokens.{plain, number_at, first_part, token_at, taken, tokens_from, lexeme_tokens, end_place, tokens};
 ghost use Rattle.verilog_lex.specs.Views.{said, IsNamed, lexeme, left, part_view, Turns};
@@ -53,7 +53,6 @@ fn number(
     ensures token { Gives names.new (said names.new) result (number_at at literal) }
     ensures named { IfOk result (IsNamed (length names.new)) }
     ensures grows { Grows names.old names.new }
-    ensures known { Known names.new result }
 {
     match literal {
         None => Err(Refusal::Fault(text_fault(alloc, 14, at))),
@@ -90,7 +89,6 @@ fn token(
         (token_at (lexeme read.entry).at (lexeme read.entry).form (option_map part_view part.entry)) }
     ensures named { IfOk result (IsNamed (length names.new)) }
     ensures grows { Grows names.old names.new }
-    ensures known { Known names.new result }
 {
     match read.shape {
         Shape::Blank => Err(Refusal::Fault(text_fault(alloc, 13, read.at))),
@@ -145,7 +143,6 @@ fn next_token<'a>(
     ensures named { IfOk result (λ o. IfSome o (λ x. IsNamed (length names.new) x.0)) }
     ensures grows { Grows names.old names.new }
     ensures shorter { IfOk result (λ o. IfSome o (λ x. length (left x.1) < length (left cursor.entry))) }
-    ensures known { Known names.new result }
 {
     let Some((read, behind)) = next_lexeme(cursor) else {
         return Ok(None);
@@ -156,15 +153,10 @@ fn next_token<'a>(
 }
 
 // The tokens of all that is left.
-fn tokens_left(
-    alloc: Global,
-    names: &mut Names,
-    cursor: Cursor<'_>,
-) -> Result<Vec<Token>, Refusal>
+fn tokens_left(alloc: Global, names: &mut Names, cursor: Cursor<'_>) -> Result<Vec<Token>, Refusal>
     ensures tokens { Gives names.new (λ ts. map (said names.new) ts.items) result (lexeme_tokens (left cursor.entry)) }
     ensures named { IfOk result (λ ts. All (IsNamed (length names.new)) ts.items) }
     ensures grows { Grows names.old names.new }
-    ensures known { Known names.new result }
 {
     let mut tokens = Vec::new(alloc);
     let mut left = cursor;
@@ -219,7 +211,6 @@ pub fn lex(
     ensures tokens { Gives names.new (λ ts. map (said names.new) ts.items) result (tokens files.now pieces.now) }
     ensures named { IfOk result (λ ts. All (IsNamed (length names.new)) ts.items) }
     ensures grows { Grows names.old names.new }
-    ensures known { Known names.new result }
 {
     let cursor = Cursor {
         text: &[],

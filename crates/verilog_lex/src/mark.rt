@@ -5,9 +5,9 @@ ghost use Rattle.verilog_lex.specs.Signs.{triples, doubles, singles};
 ghost use Rattle.verilog_lex.specs.Cuts.{mark_at};
 ghost use Rattle.verilog_lex.specs.Forms.{form};
 
+use crate::Kind;
 use crate::keyword::kind_in;
 use crate::shape::Shape;
-use crate::Kind;
 use source_text::front;
 
 const TRIPLES: [(&[u8], Kind); 4] = [

@@ -35,7 +35,9 @@ fn digits_value(radix: u8, digits: &[u8]) -> Option<u128>
             if radix <= digit {
                 return None;
             }
-            value = value.checked_mul(radix as u128)?.checked_add(digit as u128)?;
+            value = value
+                .checked_mul(radix as u128)?
+                .checked_add(digit as u128)?;
         }
     }
     Some(value)
@@ -55,7 +57,9 @@ fn digits_mask(radix: u8, digits: &[u8]) -> u128
     for byte in digits {
         if *byte != b'_' {
             let covered = if is_wild(*byte) { radix - 1 } else { 0 };
-            mask = mask.wrapping_mul(radix as u128).wrapping_add(covered as u128);
+            mask = mask
+                .wrapping_mul(radix as u128)
+                .wrapping_add(covered as u128);
         }
     }
     mask

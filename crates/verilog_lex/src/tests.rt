@@ -87,8 +87,18 @@ fn has_columns(alloc: Global, text: &[u8], second: u32, end: u32) -> bool
     };
     match tokens.as_slice() {
         [_, token, last] => {
-            token.at == Place { file: 0, line: 2, col: second }
-                && last.at == Place { file: 0, line: 2, col: end }
+            token.at
+                == Place {
+                    file: 0,
+                    line: 2,
+                    col: second,
+                }
+                && last.at
+                    == Place {
+                        file: 0,
+                        line: 2,
+                        col: end,
+                    }
         }
         _ => false,
     }
@@ -117,11 +127,52 @@ fn numbers_have_their_values(rt: HostRuntime) {
 #[test]
 fn signs_are_the_longest_that_fit(rt: HostRuntime) {
     let alloc = rt.alloc();
-    assert!(rt; has_kinds(alloc, b"<<<=+:~^", &[Kind::SignedShiftLeft, Kind::Equal, Kind::PlusColon, Kind::TildeCaret]));
-    assert!(rt; has_kinds(alloc, b"^~=>!==", &[Kind::CaretTilde, Kind::Equal, Kind::Greater, Kind::CaseNotEqual]));
-    assert!(rt; has_kinds(alloc, b"(*) (* x ) **) a", &[Kind::LeftParen, Kind::Star, Kind::RightParen, Kind::Word]));
+    assert!(rt;
+        has_kinds(
+            alloc,
+            b"<<<=+:~^",
+            &[
+                Kind::SignedShiftLeft,
+                Kind::Equal,
+                Kind::PlusColon,
+                Kind::TildeCaret
+            ]
+        )
+    );
+    assert!(rt;
+        has_kinds(
+            alloc,
+            b"^~=>!==",
+            &[
+                Kind::CaretTilde,
+                Kind::Equal,
+                Kind::Greater,
+                Kind::CaseNotEqual
+            ]
+        )
+    );
+    assert!(rt;
+        has_kinds(
+            alloc,
+            b"(*) (* x ) **) a",
+            &[Kind::LeftParen, Kind::Star, Kind::RightParen, Kind::Word]
+        )
+    );
     assert!(rt; has_kinds(alloc, b"(* ", &[Kind::LeftParen, Kind::Star]));
-    assert!(rt; has_kinds(alloc, b"Reg reg or nand end a$1", &[Kind::Word, Kind::Reg, Kind::Or, Kind::Reserved, Kind::BlockEnd, Kind::Word]));
+    assert!(rt;
+        has_kinds(
+            alloc,
+            b"Reg reg or nand end a$1",
+            &[
+                Kind::Word,
+                Kind::Reg,
+                Kind::Or,
+                Kind::Reserved,
+                Kind::BlockEnd,
+                Kind::Word
+            ]
+        )
+    );
 }
 
 #[test]

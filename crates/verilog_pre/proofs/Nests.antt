@@ -27,6 +27,7 @@ none_any (k ∷ ks) number none =
   where
     same : (k number : ℕ) → eqb k number ≡ true → k ≡ number
     same k number h = grind (arith, nat_tests)
+
     other : (b : Bool) → eqb k number ≡ b → eqb k number ≡ false
     other true e = absurd (none 0 (omega arith) (same k number e))
     other false e = e
@@ -39,8 +40,8 @@ pub not_open : (places nest : List ℕ) (number : ℕ) → Placed places nest
     → (get_or places number 0 < length nest → get_or nest (get_or places number 0) 0 ≡ number → ⊥) → is_open nest number ≡ false
 not_open places nest number placed differs =
     none_any nest number (λ i within is.
-      let at : get_or places number 0 ≡ i = ap (λ k. get_or places k 0) (sym is) ∙ placed.placed i within in
-      differs (omega (arith, at)) (ap (λ k. get_or nest k 0) at ∙ is))
+    let at : get_or places number 0 ≡ i = ap (λ k. get_or places k 0) (sym is) ∙ placed.placed i within in
+    differs (omega (arith, at)) (ap (λ k. get_or nest k 0) at ∙ is))
 
 -- one more use, whose number isn't open
 pub placed_more : (places nest : List ℕ) (number : ℕ) → Placed places nest → number < length places → is_open nest number ≡ false
@@ -62,11 +63,14 @@ placed_more places nest number placed within shut = record {
           where
             no : (i n : ℕ) → ltb i n ≡ false → n ≤ i
             no i n h = grind (arith, nat_tests)
+
     listed : (i : ℕ) → (i < length nest) ⊎ (length nest ≤ i) → i < length nest + 1 → get_or (nest ++ number ∷ []) i 0 < length (set places number (length nest))
     listed i (inl below) bound = omega (arith, placed.listed i below, get_or_append_left nest (number ∷ []) 0 i below, length-set places number (length nest))
     listed i (inr above) bound = omega (arith, within, get_or_push nest number 0 i (let same : length nest ≡ i = omega arith in same), length-set places number (length nest))
+
     differs : (i : ℕ) → i < length nest → get_or nest i 0 ≡ number → ⊥
     differs i below is = true≢false (sym (any_at nest number i below is) ∙ shut)
+
     at : (i : ℕ) → (i < length nest) ⊎ (length nest ≤ i) → i < length nest + 1 → get_or (set places number (length nest)) (get_or (nest ++ number ∷ []) i 0) 0 ≡ i
     at i (inl below) bound =
         ap (λ k. get_or (set places number (length nest)) k 0) (get_or_append_left nest (number ∷ []) 0 i below)

@@ -17,11 +17,11 @@ sound_more old new sound words known parts places = record {
   bodies =
       let Bodies : List (Option Macro) → Type 0 = λ os. All (λ (o : Option Macro). IfSome o (λ (k : Macro). k.last ≤ length new.parts.items)) os in
       subst Bodies (sym (ap (λ k. k.items) known)) (λ k d within.
-        weaker (λ m. m.last ≤ length old.parts.items) (λ m. m.last ≤ length new.parts.items) (λ m h. omega (arith, h, parts)) _ (sound.bodies k d within));
+      weaker (λ m. m.last ≤ length old.parts.items) (λ m. m.last ≤ length new.parts.items) (λ m h. omega (arith, h, parts)) _ (sound.bodies k d within));
   places =
       let Places : List (Option Macro) → Type 0 = λ os. All (λ (o : Option Macro). IfSome o (λ (k : Macro). k.number < length new.places.items)) os in
       subst Places (sym (ap (λ k. k.items) known)) (λ k d within.
-        weaker (λ m. m.number < length old.places.items) (λ m. m.number < length new.places.items) (λ m h. omega (arith, h, places)) _ (sound.places k d within));
+      weaker (λ m. m.number < length old.places.items) (λ m. m.number < length new.places.items) (λ m h. omega (arith, h, places)) _ (sound.places k d within));
 }
 
 pub added : (name : List ℕ) (n n_new f f_new l l_new : ℕ) (t t_new : Table) → n_new ≡ n → f_new ≡ f → l_new ≡ l → t_new ≡ t

@@ -1,18 +1,17 @@
 -- One step of an expansion.
-use Rattle.std.proofs.Common.{◌≡◌, ℕ, zero, suc, ◌-◌, ◌<◌, true, cond, arith, Option, Some, None, List, [], ◌∷◌, Result, Ok, Err, refl, sym, ap, subst, ◌∙◌}
+use Rattle.std.proofs.Common.{◌≡◌, ℕ, ◌-◌, List, [], ◌∷◌, Result, Ok, Err, refl, sym, ap, subst, ◌∙◌}
 use Rattle.ls_text.specs.declared.place.Place.{Place}
 use Rattle.ls_text.specs.declared.source_file.SourceFile.{SourceFile}
 use Rattle.ls_text.specs.declared.refusal.Refusal.{Refusal}
-use Rattle.source_text.specs.Faults.{TextFault, Refuses, Gives, fault_at, ◌>>=◌}
+use Rattle.source_text.specs.Faults.{TextFault, Refuses, Gives, ◌>>=◌}
 use Rattle.source_text.proofs.Refused.{refused_on}
 use Rattle.verilog_pre.specs.declared.part.Part.{Part}
 use Rattle.verilog_pre.specs.declared.part.PartKind.TheVariants.{Text, Use, Open}
-use Rattle.verilog_pre.specs.declared.macro_body.Macro.{Macro}
 use Rattle.verilog_pre.specs.declared.macros.Macros.{Macros}
 use Rattle.verilog_pre.specs.Tables.{table_of}
 use Rattle.verilog_pre.specs.declared.item.Item.{Item}
 use Rattle.verilog_pre.specs.declared.item.Item.TheVariants as item
-use Rattle.verilog_pre.specs.Expansions.{Context, Output, Leads, Keeps, context, emitted, entered, is_open, used, part_piece, part_with, work_with, use_with, work_on}
+use Rattle.verilog_pre.specs.Expansions.{Context, Output, Leads, Keeps, context, emitted, part_piece, part_with, work_with, use_with, work_on}
 
 -- a part that is text is a piece
 at_text : (c : Context) (nest : List ℕ) (out : Output) (p : Part) (work : List Item) → p.kind ≡ Text
@@ -60,32 +59,3 @@ one_on names (Ok u) before after all leads same = sym same ∙ leads
 one_on {A} names (Err e) before after all leads same =
     let R : Result A TextFault → Type 0 = λ r. Refuses names e r in
     subst R same leads
-
-entered_none : (c : Context) (word nest : List ℕ) (inside : Macro → Result Output TextFault) (o : Option Macro) → o ≡ None
-    → entered c word nest inside o ≡ Err (fault_at 12 c.at (word ∷ []))
-entered_none c word nest inside o none = ap (entered c word nest inside) none
-
-entered_again : (c : Context) (word nest : List ℕ) (inside : Macro → Result Output TextFault) (o : Option Macro) (m : Macro) → o ≡ Some m → is_open nest m.number ≡ true
-    → entered c word nest inside o ≡ Err (fault_at 12 c.at (word ∷ []))
-entered_again c word nest inside o m is again =
-    ap (entered c word nest inside) is ∙ ap (λ b. cond b (Err (fault_at 12 c.at (word ∷ []))) (inside m)) again
-
--- the use of a word that no macro has
-pub used_unknown : (c : Context) (word nest : List ℕ) (out : Output) (work : List Item) → 0 < out.uses → c.table word ≡ None
-    → used c word nest out work ≡ Err (fault_at 12 c.at (word ∷ []))
-unfolding used
-used_unknown c word nest out work some none = at out.uses some
-  where
-    at : (n : ℕ) → 0 < n → use_with n c word nest out work ≡ Err (fault_at 12 c.at (word ∷ []))
-    at zero some = absurd (omega arith)
-    at (suc n) some = entered_none c word nest _ (c.table word) none
-
--- and of one that is being expanded
-pub used_again : (c : Context) (word nest : List ℕ) (out : Output) (work : List Item) (m : Macro) → 0 < out.uses → c.table word ≡ Some m → is_open nest m.number ≡ true
-    → used c word nest out work ≡ Err (fault_at 12 c.at (word ∷ []))
-unfolding used
-used_again c word nest out work m some is again = at out.uses some
-  where
-    at : (n : ℕ) → 0 < n → use_with n c word nest out work ≡ Err (fault_at 12 c.at (word ∷ []))
-    at zero some = absurd (omega arith)
-    at (suc n) some = entered_again c word nest _ (c.table word) m is again

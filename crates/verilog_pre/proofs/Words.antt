@@ -31,6 +31,7 @@ found_none (w ∷ ws) [] word = at (bytes_eq w word) ws
     none : (ws : List (List ℕ)) → found ws [] word ≡ None
     none [] = refl
     none (w ∷ ws) = refl
+
     at : (b : Bool) (ws : List (List ℕ)) → cond b None (found ws [] word) ≡ None
     at true ws = refl
     at false ws = none ws

@@ -76,8 +76,8 @@ abbrev pub use_with : ℕ → Context → List ℕ → List ℕ → Output → L
 use_with zero c word nest out work = Err (fault_at 10 c.at [])
 use_with (suc n) c word nest out work =
     entered c word nest
-      (λ m. work_with (use_with n c) c (nest ++ m.number ∷ []) (record { uses = n; bytes = out.bytes; pieces = out.pieces }) (body_items c.parts m ++ item.Leave ∷ work))
-      (c.table word)
+    (λ m. work_with (use_with n c) c (nest ++ m.number ∷ []) (record { uses = n; bytes = out.bytes; pieces = out.pieces }) (body_items c.parts m ++ item.Leave ∷ work))
+    (c.table word)
 
 unfoldable pub work_on : Context → List ℕ → Output → List Item → Result Output TextFault
 work_on c nest out work = work_with (use_with out.uses c) c nest out work

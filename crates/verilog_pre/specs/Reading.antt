@@ -37,7 +37,7 @@ with_body name parts st = record {
   parts = st.parts ++ parts;
   count = st.count + 1;
   out = st.out;
-  nest = st.nest
+  nest = st.nest;
 }
 
 -- A directive's reading is the state behind it, and how many bytes it has behind its word.
@@ -107,8 +107,8 @@ full_place bytes n at text = if nat_lt bytes n then place_after at (take bytes t
 unfoldable pub run_read : Place → ℕ → State → List ℕ → ℕ → Read
 run_read at offset st text n =
     if is_read st.nest then
-      (emitted (full_place st.out.bytes n at text) (record { file = at.file; start = offset; end = offset + n; at = at; fixed = false }) n st.out
-        >>= λ out. Ok (with_out st out, n))
+    (emitted (full_place st.out.bytes n at text) (record { file = at.file; start = offset; end = offset + n; at = at; fixed = false }) n st.out
+    >>= λ out. Ok (with_out st out, n))
     else Ok (st, n)
 
 abbrev pub comment_read : Place → State → Option ℕ → Read

@@ -5,7 +5,9 @@ ghost use Rattle.verilog_pre.specs.Bodies.{lines_len, comment_len, begins_cut, r
 use crate::body_cut::BodyCut;
 use crate::part::{Part, PartKind};
 use ls_text::NoMemory;
-use source_text::{behind, byte_at, front, is_letter, line_len, space_len, trailing_space_len, word_len};
+use source_text::{
+    behind, byte_at, front, is_letter, line_len, space_len, trailing_space_len, word_len,
+};
 
 // How many bytes stand before the first newline with no backslash right before it.
 fn lines_len(text: &[u8]) -> usize
@@ -48,8 +50,7 @@ fn comment_len(text: &[u8]) -> Option<usize>
 pub fn begins_cut(first: u8, second: u8) -> bool
     ensures { result ≡ begins_cut first second }
 {
-    (first == b'/' && (second == b'/' || second == b'*'))
-        || (first == b'`' && is_letter(second))
+    (first == b'/' && (second == b'/' || second == b'*')) || (first == b'`' && is_letter(second))
 }
 
 // How many bytes stand before the next cut, behind a first byte that begins none.

@@ -1,7 +1,7 @@
 // Directives that open, continue and close conditionals.
 ghost use Rattle.std.specs.Prelude.{◌≡◌, ◌≤◌, length, IfOk, OnOk, false, true};
 ghost use Rattle.ls_text.specs.Texts.{Grows};
-ghost use Rattle.source_text.specs.Faults.{Gives, Known};
+ghost use Rattle.source_text.specs.Faults.{Gives};
 ghost use Rattle.verilog_pre.specs.Conditionals.{continued, closed};
 ghost use Rattle.verilog_pre.specs.Directives.{name_at};
 ghost use Rattle.verilog_pre.specs.Reading.{named, ifdef_name, elsif_name, nest_or_bad, holds_if};
@@ -32,7 +32,6 @@ pub fn ifdef(
     ensures sound { OnOk result (Sound reader.new.macros) }
     ensures within { IfOk result (λ n. n ≤ length rest.now) }
     ensures grows { Grows names.old names.new }
-    ensures known { Known names.new result }
 {
     match name_at(rest) {
         None => Err(Refusal::Fault(bad_directive(alloc, names, at, word)?)),
@@ -62,7 +61,6 @@ fn next_branch(
     ensures sound { OnOk result (Sound reader.new.macros) }
     ensures count { IfOk result (λ m. m ≡ n) }
     ensures grows { Grows names.old names.new }
-    ensures known { Known names.new result }
 {
     if conditionals::next(&mut reader.nest, holds, closing)? {
         Ok(n)
@@ -86,7 +84,6 @@ pub fn elsif(
     ensures sound { OnOk result (Sound reader.new.macros) }
     ensures within { IfOk result (λ n. n ≤ length rest.now) }
     ensures grows { Grows names.old names.new }
-    ensures known { Known names.new result }
 {
     match name_at(rest) {
         None => Err(Refusal::Fault(bad_directive(alloc, names, at, word)?)),
@@ -111,7 +108,6 @@ pub fn otherwise(
     ensures sound { OnOk result (Sound reader.new.macros) }
     ensures within { IfOk result (λ n. n ≡ 0) }
     ensures grows { Grows names.old names.new }
-    ensures known { Known names.new result }
 {
     next_branch(alloc, names, reader, at, word, true, true, 0)
 }
@@ -130,7 +126,6 @@ pub fn endif(
     ensures sound { OnOk result (Sound reader.new.macros) }
     ensures within { IfOk result (λ n. n ≡ 0) }
     ensures grows { Grows names.old names.new }
-    ensures known { Known names.new result }
 {
     if conditionals::close(&mut reader.nest) {
         Ok(0)

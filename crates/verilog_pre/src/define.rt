@@ -1,7 +1,7 @@
 // Defining macros.
 ghost use Rattle.std.specs.Prelude.{◌≡◌, ◌≤◌, ◌+◌, ◌++◌, length, drop, IfOk, OnOk, Some, None};
 ghost use Rattle.ls_text.specs.Texts.{Grows};
-ghost use Rattle.source_text.specs.Faults.{Gives, Known};
+ghost use Rattle.source_text.specs.Faults.{Gives};
 ghost use Rattle.verilog_pre.specs.Bodies.{body_parts, body_len};
 ghost use Rattle.verilog_pre.specs.Reading.{define_name, undef_name, with_body, named};
 ghost use Rattle.verilog_pre.specs.States.{state};
@@ -33,8 +33,10 @@ fn add_macro(
     ensures length { IfOk result (λ n. n ≡ body_len text.now) }
     ensures within { IfOk result (λ n. n ≤ length text.now) }
     ensures table { OnOk result (table_of macros.new ≡ with_macro name.now (Some (record {
-        number = length macros.old.places.items; first = length macros.old.parts.items;
-        last = length (macros.old.parts.items ++ body_parts file offset text.now) })) (table_of macros.old)) }
+      number = length macros.old.places.items;
+      first = length macros.old.parts.items;
+      last = length (macros.old.parts.items ++ body_parts file offset text.now);
+    })) (table_of macros.old)) }
     ensures parts { OnOk result (macros.new.parts.items ≡ macros.old.parts.items ++ body_parts file offset text.now) }
     ensures count { OnOk result (length macros.new.places.items ≡ length macros.old.places.items + 1) }
     ensures sound { OnOk result (Sound macros.new) }
@@ -73,7 +75,6 @@ fn define_name(
     ensures sound { OnOk result (Sound reader.new.macros) }
     ensures within { IfOk result (λ n. n ≤ length rest.now) }
     ensures grows { Grows names.old names.new }
-    ensures known { Known names.new result }
 {
     let (name, n) = found;
     let after = behind(rest, n);
@@ -101,7 +102,6 @@ pub fn define(
     ensures sound { OnOk result (Sound reader.new.macros) }
     ensures within { IfOk result (λ n. n ≤ length rest.now) }
     ensures grows { Grows names.old names.new }
-    ensures known { Known names.new result }
 {
     match name_at(rest) {
         None => Err(Refusal::Fault(bad_directive(alloc, names, at, word)?)),
@@ -124,7 +124,6 @@ pub fn undef(
     ensures sound { OnOk result (Sound reader.new.macros) }
     ensures within { IfOk result (λ n. n ≤ length rest.now) }
     ensures grows { Grows names.old names.new }
-    ensures known { Known names.new result }
 {
     match name_at(rest) {
         None => Err(Refusal::Fault(bad_directive(alloc, names, at, word)?)),

@@ -56,11 +56,7 @@ pub fn is_conditional(directive: Directive) -> bool
 {
     matches!(
         directive,
-        Directive::Ifdef
-            | Directive::Ifndef
-            | Directive::Elsif
-            | Directive::Else
-            | Directive::Endif
+        Directive::Ifdef | Directive::Ifndef | Directive::Elsif | Directive::Else | Directive::Endif
     )
 }
 

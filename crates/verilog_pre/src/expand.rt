@@ -1,14 +1,15 @@
 // The use of a macro.
 ghost use Rattle.std.specs.Prelude.{◌≡◌, ℕ, List, ◌<◌, ◌≤◌, ◌+◌, ◌-◌, ◌*◌, ◌++◌, ◌∷◌, [], length, take, drop, map, IfOk, OnOk, Ok};
-ghost use Rattle.std.specs.List.{All, list_any};
+ghost use Rattle.std.specs.List.{list_any};
 ghost use Rattle.ls_text.specs.Texts.{Grows};
-ghost use Rattle.source_text.specs.Faults.{fault_at, fault_view, Gives, Known};
+ghost use Rattle.source_text.specs.Faults.{fault_at, fault_view, Gives};
 ghost use Rattle.source_text.specs.Files.{text_between};
 ghost use Rattle.verilog_pre.specs.declared.item.Item.TheVariants as item;
 ghost use Rattle.verilog_pre.specs.Tables.{table_of, Sound};
 ghost use Rattle.verilog_pre.specs.Expansions.{output, emitted, is_open, body_items, work_on, used, expanded, context, Leads, Placed, Keeps};
 ghost use Rattle.verilog_pre.specs.Conditionals.{but_last};
 
+use crate::Piece;
 use crate::item::Item;
 use crate::macro_body::Macro;
 use crate::macros::Macros;
@@ -16,7 +17,6 @@ use crate::nest::Nest;
 use crate::output::Output;
 use crate::part::{Part, PartKind};
 use crate::table::find;
-use crate::Piece;
 use ls_text::{At, Fault, NameList, Names, NoMemory, Place, Refusal, SourceFile};
 use source_text::{text_between, text_fault};
 use std::alloc::Global;
@@ -31,7 +31,6 @@ pub fn bad_directive(
     word: &[u8],
 ) -> Result<Fault, NoMemory>
     ensures fault { IfOk result (λ f. fault_view names.new f ≡ fault_at 12 at (word.now ∷ [])) }
-    ensures known { IfOk result (λ f. All (λ id. id.0 < length names.new) f.names) }
     ensures grows { Grows names.old names.new }
 {
     let mut shown = Vec::with_capacity(alloc, 1)?;
@@ -55,7 +54,6 @@ pub fn emit(
 ) -> Result<(), Refusal>
     ensures piece { (names : List (List ℕ)) → Gives names (λ u. output out.new) result (emitted at piece len (output out.old)) }
     ensures uses { out.new.uses ≡ out.old.uses }
-    ensures known { (names : List (List ℕ)) → Known names result }
 {
     if (out.bytes as usize) < len {
         return Err(Refusal::Fault(text_fault(alloc, 10, at)));
@@ -117,7 +115,6 @@ fn enter(
     ensures grows { Grows names.old names.new }
     ensures less { OnOk result (out.new.uses * (length macros.old.parts.items + 2) + length nest.new.work.items
         < out.old.uses * (length macros.old.parts.items + 2) + length nest.old.work.items) }
-    ensures known { Known names.new result }
 {
     if out.uses == 0 {
         return Err(Refusal::Fault(text_fault(alloc, 10, at)));
@@ -159,7 +156,6 @@ fn read_part(
     ensures grows { Grows names.old names.new }
     ensures less { OnOk result (out.new.uses * (length macros.old.parts.items + 2) + length nest.new.work.items
         ≤ out.old.uses * (length macros.old.parts.items + 2) + length nest.old.work.items) }
-    ensures known { Known names.new result }
 {
     match part.kind {
         PartKind::Text => {
@@ -170,7 +166,13 @@ fn read_part(
                 at,
                 fixed: true,
             };
-            emit(alloc, out, piece, part.end.saturating_sub(part.start) as usize, at)
+            emit(
+                alloc,
+                out,
+                piece,
+                part.end.saturating_sub(part.start) as usize,
+                at,
+            )
         }
         PartKind::Use => {
             let word = text_between(files, part.file, part.start, part.end);
@@ -203,7 +205,6 @@ fn carry_out(
     ensures grows { Grows names.old names.new }
     ensures less { OnOk result (out.new.uses * (length macros.old.parts.items + 2) + length nest.new.work.items
         ≤ out.old.uses * (length macros.old.parts.items + 2) + length nest.old.work.items) }
-    ensures known { Known names.new result }
 {
     match next {
         Item::Part(part) => read_part(alloc, names, files, macros, out, nest, at, part),
@@ -242,7 +243,6 @@ pub fn expand(
     ensures keeps { OnOk result (Keeps macros.old macros.new) }
     ensures sound { OnOk result (Sound macros.new) }
     ensures grows { Grows names.old names.new }
-    ensures known { Known names.new result }
 {
     let mut nest = Nest {
         open: Vec::new(alloc),

@@ -2,17 +2,17 @@
 ghost use Rattle.std.specs.Prelude.{◌≡◌, ◌<◌, ◌≤◌, ◌+◌, length, slice_get, if◌then◌else◌, IfOk, OnOk, codes};
 ghost use Rattle.std.specs.List.{All};
 ghost use Rattle.ls_text.specs.Texts.{Grows};
-ghost use Rattle.source_text.specs.Faults.{Gives, Known};
+ghost use Rattle.source_text.specs.Faults.{Gives};
 ghost use Rattle.verilog_pre.specs.Reading.{text_read, opening_word, ended, file_read, files_from, pieces};
 ghost use Rattle.verilog_pre.specs.States.{state};
 ghost use Rattle.verilog_pre.specs.Tables.{Sound};
 
+use crate::Piece;
 use crate::expand::bad_directive;
 use crate::output::Output;
 use crate::reader::Reader;
 use crate::reading::read_turn;
 use crate::table::no_macros;
-use crate::Piece;
 use ls_text::{Names, Place, Refusal, SourceFile};
 use source_text::{file_start, place_after};
 use std::alloc::Global;
@@ -32,7 +32,6 @@ fn read_text(
     ensures read { Gives names.new (λ u. state reader.new) result (text_read files.now start 0 (state reader.old) text.now) }
     ensures sound { OnOk result (Sound reader.new.macros) }
     ensures grows { Grows names.old names.new }
-    ensures known { Known names.new result }
 {
     let mut rest = text;
     let mut at = start;
@@ -60,7 +59,6 @@ fn opening_word(negated: bool) -> &'static [u8]
 fn end_file(alloc: Global, names: &mut Names, reader: &Reader) -> Result<(), Refusal>
     ensures ended { Gives names.new (λ u. state reader.now) result (ended (state reader.now) (slice_get reader.now.nest.items 0)) }
     ensures grows { Grows names.old names.new }
-    ensures known { Known names.new result }
 {
     match reader.nest.first().copied() {
         None => Ok(()),
@@ -86,7 +84,6 @@ fn read_file(
     ensures read { Gives names.new (λ u. state reader.new) result (file_read files.now file (state reader.old) text.now) }
     ensures sound { OnOk result (Sound reader.new.macros) }
     ensures grows { Grows names.old names.new }
-    ensures known { Known names.new result }
 {
     match read_text(alloc, names, files, reader, file_start(file), text) {
         Ok(()) => end_file(alloc, names, reader),
@@ -106,10 +103,16 @@ fn read_files(
     requires texts { All (λ f. length f.text ≤ 4194304) files.now }
     ensures read { Gives names.new (λ u. state reader.new) result (files_from files.now 0 (state reader.old) files.now) }
     ensures grows { Grows names.old names.new }
-    ensures known { Known names.new result }
 {
     for (number, file) in files.iter().enumerate() {
-        match read_file(alloc, names, files, reader, number as u16, file.text.bytes()) {
+        match read_file(
+            alloc,
+            names,
+            files,
+            reader,
+            number as u16,
+            file.text.bytes(),
+        ) {
             Ok(()) => {}
             Err(refusal) => return Err(refusal),
         }
@@ -135,7 +138,6 @@ pub fn preprocess(
     requires texts { All (λ f. length f.text ≤ 4194304) files.now }
     ensures pieces { Gives names.new (λ ps. ps.items) result (pieces files.now) }
     ensures grows { Grows names.old names.new }
-    ensures known { Known names.new result }
 {
     let mut reader = Reader {
         macros: no_macros(alloc),

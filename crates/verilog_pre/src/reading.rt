@@ -2,12 +2,13 @@
 ghost use Rattle.std.specs.Prelude.{◌≡◌, ◌<◌, ◌≤◌, ◌+◌, ℕ, List, length, false, IfOk, OnOk};
 ghost use Rattle.source_text.specs.Bytes.{through_pair};
 ghost use Rattle.ls_text.specs.Texts.{Grows};
-ghost use Rattle.source_text.specs.Faults.{Gives, Known};
+ghost use Rattle.source_text.specs.Faults.{Gives};
 ghost use Rattle.verilog_pre.specs.Reading.{directive_at, directive_read, plain_len, full_place, run_read, comment_read, behind_word, word_read, use_macro, turn};
 ghost use Rattle.verilog_pre.specs.Directives.{directive_of};
 ghost use Rattle.verilog_pre.specs.States.{State, state};
 ghost use Rattle.verilog_pre.specs.Tables.{Sound};
 
+use crate::Piece;
 use crate::body::begins_cut;
 use crate::branches::{elsif, endif, ifdef, otherwise};
 use crate::conditionals::is_read;
@@ -16,7 +17,6 @@ use crate::directive::Directive;
 use crate::directives::{directive_of, is_conditional};
 use crate::expand::{emit, expand};
 use crate::reader::Reader;
-use crate::Piece;
 use ls_text::{Names, Place, Refusal, SourceFile};
 use source_text::{
     behind, byte_at, front, is_letter, line_len, place_after, text_fault, through_pair, word_len,
@@ -38,9 +38,16 @@ fn use_macro(
     ensures sound { OnOk result (Sound reader.new.macros) }
     ensures within { IfOk result (λ n. n ≡ 0) }
     ensures grows { Grows names.old names.new }
-    ensures known { Known names.new result }
 {
-    match expand(alloc, names, files, &mut reader.macros, &mut reader.out, at, word) {
+    match expand(
+        alloc,
+        names,
+        files,
+        &mut reader.macros,
+        &mut reader.out,
+        at,
+        word,
+    ) {
         Ok(()) => Ok(0),
         Err(refusal) => Err(refusal),
     }
@@ -64,7 +71,6 @@ fn directive(
     ensures sound { OnOk result (Sound reader.new.macros) }
     ensures within { IfOk result (λ n. n ≤ length rest.now) }
     ensures grows { Grows names.old names.new }
-    ensures known { Known names.new result }
 {
     match directive_of(word) {
         Directive::Define => define(alloc, names, reader, at, offset, word, rest),
@@ -99,7 +105,6 @@ fn read_directive(
     ensures sound { OnOk result (Sound reader.new.macros) }
     ensures within { IfOk result (λ n. n ≤ length rest.now) }
     ensures grows { Grows names.old names.new }
-    ensures known { Known names.new result }
 {
     if is_read(&reader.nest) || is_conditional(directive_of(word)) {
         directive(alloc, names, files, reader, at, offset, word, rest)
@@ -127,7 +132,6 @@ fn read_word(
     ensures within { IfOk result (λ n. n ≤ length text.now) }
     ensures some { IfOk result (λ n. 0 < n) }
     ensures grows { Grows names.old names.new }
-    ensures known { Known names.new result }
 {
     let name = behind(text, 1);
     let n = word_len(name);
@@ -186,7 +190,6 @@ fn read_run(
     ensures read { Gives names.now (λ n. (state reader.new, n)) result (run_read at offset (state reader.old) text.now n) }
     ensures sound { OnOk result (Sound reader.new.macros) }
     ensures count { IfOk result (λ m. m ≡ n) }
-    ensures known { Known names.now result }
 {
     if !is_read(&reader.nest) {
         return Ok(n);
@@ -212,7 +215,6 @@ fn read_comment(alloc: Global, at: Place, inside: &[u8]) -> Result<usize, Refusa
         (comment_read at st (through_pair 42 47 false 0 inside.now)) }
     ensures within { IfOk result (λ n. n ≤ 2 + length inside.now) }
     ensures some { IfOk result (λ n. 0 < n) }
-    ensures known { (names : List (List ℕ)) → Known names result }
 {
     match through_pair(b'*', b'/', inside) {
         Some(n) => Ok(2 + n),
@@ -239,7 +241,6 @@ pub fn read_turn(
     ensures within { IfOk result (λ n. n ≤ length text.now) }
     ensures some { IfOk result (λ n. 0 < n) }
     ensures grows { Grows names.old names.new }
-    ensures known { Known names.new result }
 {
     let first = byte_at(text, 0);
     let second = byte_at(text, 1);
@@ -250,6 +251,14 @@ pub fn read_turn(
     } else if first == b'`' && is_letter(second) {
         read_word(alloc, names, files, reader, at, offset, text)
     } else {
-        read_run(alloc, reader, names, at, offset, text, plain_len(behind(text, 1)))
+        read_run(
+            alloc,
+            reader,
+            names,
+            at,
+            offset,
+            text,
+            plain_len(behind(text, 1)),
+        )
     }
 }

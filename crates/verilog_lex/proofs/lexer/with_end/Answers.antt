@@ -8,7 +8,7 @@ use Rattle.verilog_lex.proofs.lexer.with_end.Goals as goal
 pub returns-clause-tokens : goal.returns-clause-tokens
 returns-clause-tokens c =
     said_push _ _ c.args.tokens.items _ c.in_ok-end.end _ c.plain.ensures.grows c.requires.named c.in_ok-push.ensures.items
-        (c.in_ok-end.ensures.token ∙ ap (λ (at : Place). plain kind.End at (codes "-")) c.end_place.ensures)
+    (c.in_ok-end.ensures.token ∙ ap (λ (at : Place). plain kind.End at (codes "-")) c.end_place.ensures)
 
 pub returns-clause-named : goal.returns-clause-named
 returns-clause-named c =

@@ -1,9 +1,8 @@
-use Rattle.std.proofs.Common.{◌≡◌, List, ℕ, Err, length, sym, ap, subst, ◌∙◌, arith, rules}
+use Rattle.std.proofs.Common.{◌≡◌, List, ℕ, length, sym, ap, subst, ◌∙◌, arith, rules}
 use Rattle.std.proofs.lemmas.List.{length-set}
 use Rattle.verilog_pre.specs.Tables.{table_of}
 use Rattle.verilog_pre.specs.Expansions.{Placed, is_open}
 use Rattle.verilog_pre.proofs.Nests.{placed_push}
-use Rattle.verilog_pre.proofs.Steps.{used_unknown, used_again}
 use Rattle.verilog_pre.proofs.expand.enter.Goals as goal
 
 pub returns-clause-keeps : goal.returns-clause-keeps
@@ -17,13 +16,4 @@ returns-clause-keeps c = record {
 pub returns-clause-placed : goal.returns-clause-placed
 returns-clause-placed c =
     placed_push c.args.macros.now.places.items c.find.new.macros.places.items c.args.nest.now.open.items _ c.in-Some.body.number _
-        c.requires.placed (ap (λ p. p.items) c.find.ensures.places) (rw c.in-Some.is at c.in_ok-body.ensures.place) (ap (λ ns. is_open ns c.in-Some.body.number) (sym c.deref-2.ensures.value) ∙ sym c.is_open.ensures ∙ c.if-is_open.false) (search rules) (ap (λ o. o.items) c.push_body.ensures.open ∙ c.in_ok-push.ensures.items)
-
-pub returns-in_default-clause-used : goal.returns-in_default-clause-used
-returns-in_default-clause-used c =
-    used_unknown _ c.args.word.now _ _ _ (omega arith) (sym c.in_ok-body.ensures.value ∙ c.in_default.is) ∙ ap Err (sym c.in_ok-bad_directive.ensures.fault)
-
-pub returns-then-is_open-clause-used : goal.returns-then-is_open-clause-used
-returns-then-is_open-clause-used c =
-    used_again _ c.args.word.now _ _ _ c.in-Some.body (omega arith) (sym c.in_ok-body.ensures.value ∙ c.in-Some.is)
-        (ap (λ ns. is_open ns c.in-Some.body.number) (sym c.deref-2.ensures.value) ∙ sym c.is_open.ensures ∙ c.if-is_open.true) ∙ ap Err (sym c.in_ok-bad_directive-2.ensures.fault)
+    c.requires.placed (ap (λ p. p.items) c.find.ensures.places) (rw c.in-Some.is at c.in_ok-body.ensures.place) (ap (λ ns. is_open ns c.in-Some.body.number) (sym c.deref-2.ensures.value) ∙ sym c.is_open.ensures ∙ c.if-is_open.false) (search rules) (ap (λ o. o.items) c.push_body.ensures.open ∙ c.in_ok-push.ensures.items)
