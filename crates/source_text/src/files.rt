@@ -1,15 +1,12 @@
 // Stretches of the texts of files.
-ghost use Rattle.std.specs.Prelude.{◌≡◌, ◌≤◌, ℕ, length, slice_get};
-ghost use Rattle.std.specs.List.{All};
+ghost use Rattle.std.specs.Prelude.{◌≡◌, slice_get};
 ghost use Rattle.source_text.specs.Files.{text_of, text_between};
 
 use ls_text::SourceFile;
 
 /// The text of the file with that number; an empty one where there is none.
-#[tactic(auto, using(crate::proofs::Lengths::text_small))]
 pub fn text_of(files: &[SourceFile], file: u16) -> &[u8]
-    ensures text { result.now ≡ text_of (slice_get files.now file) }
-    ensures small { (bound : ℕ) → All (λ f. length f.text ≤ bound) files.now → length result.now ≤ bound }
+    ensures { result.now ≡ text_of (slice_get files.now file) }
 {
     match files.get(file as usize) {
         Some(file) => file.text.bytes(),
@@ -18,10 +15,9 @@ pub fn text_of(files: &[SourceFile], file: u16) -> &[u8]
 }
 
 /// The bytes from `start` up to `end` of the file with that number; none where it has no such bytes.
-#[tactic(auto, unfolding(crate::specs::Files::text_between), using(crate::proofs::Lengths::text_small))]
+#[tactic(auto, unfolding(crate::specs::Files::text_between))]
 pub fn text_between(files: &[SourceFile], file: u16, start: u32, end: u32) -> &[u8]
-    ensures text { result.now ≡ text_between files.now file start end }
-    ensures small { (bound : ℕ) → All (λ f. length f.text ≤ bound) files.now → length result.now ≤ bound }
+    ensures { result.now ≡ text_between files.now file start end }
 {
     let text = text_of(files, file);
     if start <= end && end as usize <= text.len() {

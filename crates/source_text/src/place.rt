@@ -1,5 +1,5 @@
 // Places in a text.
-ghost use Rattle.std.specs.Prelude.{◌≡◌, ◌+◌, ◌≤◌, length};
+ghost use Rattle.std.specs.Prelude.{◌≡◌};
 ghost use Rattle.source_text.specs.Places.{place_after, file_start};
 
 use ls_text::Place;
@@ -16,21 +16,19 @@ pub fn file_start(file: u16) -> Place
 }
 
 /// The place after a stretch of bytes that begins at a place. A newline ends its line.
+///
+/// A line or a column that would pass 4,294,967,295 stands still there.
 pub fn place_after(at: Place, bytes: &[u8]) -> Place
-    requires line { at.line + length bytes.now ≤ 4294967295 }
-    requires col { at.col + length bytes.now ≤ 4294967295 }
-    ensures value { result ≡ place_after at bytes.now }
-    ensures line { result.line ≤ at.line + length bytes.now }
-    ensures col { result.col ≤ at.col + length bytes.now }
+    ensures { result ≡ place_after at bytes.now }
 {
     let mut line = at.line;
     let mut col = at.col;
     for byte in bytes {
         if *byte == b'\n' {
-            line += 1;
+            line = line.saturating_add(1);
             col = 1;
         } else {
-            col += 1;
+            col = col.saturating_add(1);
         }
     }
     Place {

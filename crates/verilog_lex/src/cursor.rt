@@ -1,7 +1,4 @@
 // What is left to read.
-ghost use Rattle.std.specs.Prelude.{◌≤◌, ◌+◌, length};
-ghost use Rattle.std.specs.List.{All};
-
 use ls_text::{Place, SourceFile};
 use verilog_pre::Piece;
 
@@ -16,9 +13,4 @@ pub struct Cursor<'a> {
     pub next: usize,
     pub pieces: &'a [Piece],
     pub files: &'a [SourceFile],
-    ghost line: { at.line + length text.now ≤ 4294967295 },
-    ghost col: { at.col + length text.now ≤ 4294967295 },
-    ghost lines: { All (λ p. p.at.line ≤ 2147483648) pieces.now },
-    ghost cols: { All (λ p. p.at.col ≤ 2147483648) pieces.now },
-    ghost texts: { All (λ f. length f.text ≤ 67108864) files.now },
 }

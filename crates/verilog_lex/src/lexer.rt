@@ -169,8 +169,7 @@ fn tokens_left(alloc: Global, names: &mut Names, cursor: Cursor<'_>) -> Result<V
 
 // The place after the last byte of the last file.
 fn end_place(files: &[SourceFile]) -> Place
-    requires files { length files.now ≤ 256 }
-    requires texts { All (λ f. length f.text ≤ 67108864) files.now }
+    requires { length files.now ≤ 256 }
     ensures { result ≡ end_place files.now }
 {
     let last = if files.is_empty() { 0 } else { files.len() - 1 };
@@ -184,7 +183,6 @@ fn with_end(
     mut tokens: Vec<Token>,
 ) -> Result<Vec<Token>, NoMemory>
     requires files { length files.now ≤ 256 }
-    requires texts { All (λ f. length f.text ≤ 67108864) files.now }
     requires named { All (IsNamed (length names.old)) tokens.items }
     ensures tokens { IfOk result (λ ts. map (said names.new) ts.items
         ≡ map (said names.old) tokens.items ++ plain Kind.End (end_place files.now) (codes "-") ∷ []) }
@@ -209,10 +207,7 @@ pub fn lex(
     files: &[SourceFile],
     pieces: &[Piece],
 ) -> Result<Vec<Token>, Refusal>
-    requires files { length files.now ≤ 256 }
-    requires texts { All (λ f. length f.text ≤ 67108864) files.now }
-    requires lines { All (λ p. p.at.line ≤ 2147483648) pieces.now }
-    requires cols { All (λ p. p.at.col ≤ 2147483648) pieces.now }
+    requires { length files.now ≤ 256 }
     ensures tokens { Gives names.new (λ ts. map (said names.new) ts.items) result (tokens files.now pieces.now) }
     ensures named { IfOk result (λ ts. All (IsNamed (length names.new)) ts.items) }
     ensures grows { Grows names.old names.new }

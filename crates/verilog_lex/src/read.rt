@@ -14,11 +14,7 @@ use verilog_pre::Piece;
 
 // The place after some bytes; those of a fixed piece all have its place.
 fn moved(fixed: bool, at: Place, bytes: &[u8]) -> Place
-    requires line { at.line + length bytes.now ≤ 4294967295 }
-    requires col { at.col + length bytes.now ≤ 4294967295 }
-    ensures value { result ≡ moved_over fixed at bytes.now }
-    ensures line { result.line ≤ at.line + length bytes.now }
-    ensures col { result.col ≤ at.col + length bytes.now }
+    ensures { result ≡ moved_over fixed at bytes.now }
 {
     if fixed { at } else { place_after(at, bytes) }
 }
@@ -38,15 +34,7 @@ fn take_cut(cursor: Cursor<'_>) -> (Lexeme<'_>, Cursor<'_>)
         shape,
         at: cursor.at,
     };
-    let left = Cursor {
-        text,
-        at,
-        fixed: cursor.fixed,
-        next: cursor.next,
-        pieces: cursor.pieces,
-        files: cursor.files,
-    };
-    (lexeme, left)
+    (lexeme, Cursor { text, at, ..cursor })
 }
 
 fn is_blank(cut: Lexeme<'_>) -> bool
@@ -75,9 +63,7 @@ fn next_here(cursor: Cursor<'_>) -> Option<(Lexeme<'_>, Cursor<'_>)>
 // The piece with that number.
 fn piece_at(cursor: Cursor<'_>, index: usize) -> Piece
     requires { index < length cursor.pieces.now }
-    ensures piece { drop index cursor.entry.pieces.now ≡ result ∷ drop (index + 1) cursor.entry.pieces.now }
-    ensures line { result.at.line ≤ 2147483648 }
-    ensures col { result.at.col ≤ 2147483648 }
+    ensures { drop index cursor.entry.pieces.now ≡ result ∷ drop (index + 1) cursor.entry.pieces.now }
 {
     cursor.pieces[index]
 }

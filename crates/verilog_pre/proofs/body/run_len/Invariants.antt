@@ -1,0 +1,10 @@
+use Rattle.std.proofs.Common.{◌≡◌, ◌+◌, ◌≤◌, ◌⊎◌, false, drop}
+use Rattle.verilog_pre.specs.Bodies.{run_len}
+use Rattle.verilog_pre.proofs.body.run_len.Given as goal
+
+abbrev pub invariant-loop-byte : goal.invariant-loop-byte
+invariant-loop-byte l = record {
+  same : run_len l.last l.n (drop l.byte-index l.text) ≡ run_len 0 1 l.text;
+  count : l.n ≡ l.byte-index + 1;
+  first : (l.last ≡ 0) ⊎ (2 ≤ l.n);
+}

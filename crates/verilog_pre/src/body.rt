@@ -1,0 +1,198 @@
+// The body of a macro.
+ghost use Rattle.std.specs.Prelude.{◌≡◌, ◌<◌, ◌≤◌, ◌+◌, ◌++◌, ◌∷◌, [], length, IfSome, IfOk, OnOk, IsTrue, false};
+ghost use Rattle.verilog_pre.specs.Bodies.{lines_len, comment_len, begins_cut, run_len, comment_or, body_cut, cut_len, goes_on, run_part, cut_parts, body_parts, body_len};
+
+use crate::body_cut::BodyCut;
+use crate::part::{Part, PartKind};
+use ls_text::NoMemory;
+use source_text::{
+    behind, byte_at, front, is_letter, line_len, space_len, trailing_space_len, word_len,
+};
+
+// How many bytes stand before the first newline with no backslash right before it.
+fn lines_len(text: &[u8]) -> usize
+    ensures value { result ≡ lines_len false 0 text.now }
+    ensures within { result ≤ length text.now }
+{
+    let mut escaped = false;
+    let mut n = 0;
+    for byte in text {
+        if *byte == b'\n' && !escaped {
+            return n;
+        }
+        escaped = *byte == b'\\';
+        n += 1;
+    }
+    n
+}
+
+// How many bytes end with the first `*/` within these lines.
+fn comment_len(text: &[u8]) -> Option<usize>
+    ensures value { result ≡ comment_len 0 0 text.now }
+    ensures within { IfSome result (λ n. n ≤ length text.now) }
+{
+    let mut last = 0;
+    let mut n = 0;
+    for byte in text {
+        if last == b'*' && *byte == b'/' {
+            return Some(n + 1);
+        }
+        if *byte == b'\n' && last != b'\\' {
+            return None;
+        }
+        last = *byte;
+        n += 1;
+    }
+    None
+}
+
+/// Whether two bytes begin a comment or the use of a macro.
+pub fn begins_cut(first: u8, second: u8) -> bool
+    ensures { result ≡ begins_cut first second }
+{
+    (first == b'/' && (second == b'/' || second == b'*')) || (first == b'`' && is_letter(second))
+}
+
+// How many bytes stand before the next cut, behind a first byte that begins none.
+fn run_len(text: &[u8]) -> usize
+    ensures value { result ≡ run_len 0 1 text.now }
+    ensures within { result ≤ length text.now + 1 }
+    ensures some { 1 ≤ result }
+{
+    let mut last = 0;
+    let mut n = 1;
+    for byte in text {
+        if *byte == b'\n' {
+            return if last == b'\\' { n - 1 } else { n };
+        }
+        if begins_cut(last, *byte) {
+            return n - 1;
+        }
+        last = *byte;
+        n += 1;
+    }
+    n
+}
+
+// A comment, by what stands behind its `/*`.
+fn comment_cut(inside: &[u8]) -> BodyCut
+    requires { length inside.now < 4294967296 }
+    ensures value { result ≡ comment_or inside.now (comment_len 0 0 inside.now) }
+    ensures within { cut_len result ≤ 2 + length inside.now }
+    ensures some { 0 < cut_len result }
+{
+    match comment_len(inside) {
+        Some(n) => BodyCut::Gap(2 + n),
+        None => BodyCut::Open(2 + lines_len(inside)),
+    }
+}
+
+// The first cut of a body's text that isn't empty.
+#[tactic(auto, unfolding(crate::specs::Bodies::body_cut))]
+fn body_cut(text: &[u8]) -> BodyCut
+    requires some { 0 < length text.now }
+    requires small { length text.now ≤ 4194304 }
+    ensures value { result ≡ body_cut text.now }
+    ensures within { cut_len result ≤ length text.now }
+    ensures some { IsTrue (goes_on result) → 0 < cut_len result }
+{
+    let first = byte_at(text, 0);
+    let second = byte_at(text, 1);
+    if first == b'\n' {
+        BodyCut::Last(0)
+    } else if first == b'\\' && second == b'\n' {
+        BodyCut::Gap(2)
+    } else if first == b'/' && second == b'/' {
+        BodyCut::Last(line_len(text))
+    } else if first == b'/' && second == b'*' {
+        comment_cut(behind(text, 2))
+    } else if first == b'`' && is_letter(second) {
+        BodyCut::Use(1 + word_len(behind(text, 1)))
+    } else {
+        BodyCut::Run(run_len(behind(text, 1)))
+    }
+}
+
+// Adds a run without the white space at its ends.
+fn push_run(parts: &mut Vec<Part>, file: u16, offset: u32, run: &[u8]) -> Result<(), NoMemory>
+    requires { offset + length run.now ≤ 4194304 }
+    ensures { OnOk result (parts.new.items ≡ parts.old.items ++ run_part file offset (length run.now) run.now) }
+{
+    let lead = space_len(run);
+    if lead < run.len() {
+        let trail = trailing_space_len(run);
+        parts.push(Part {
+            kind: PartKind::Text,
+            file,
+            start: offset + lead as u32,
+            end: offset + (run.len() - trail) as u32,
+        })?;
+    }
+    Ok(())
+}
+
+// Adds the parts of a cut.
+fn push_cut(
+    parts: &mut Vec<Part>,
+    file: u16,
+    offset: u32,
+    text: &[u8],
+    cut: BodyCut,
+) -> Result<(), NoMemory>
+    requires room { offset + length text.now ≤ 4194304 }
+    requires within { cut_len cut ≤ length text.now }
+    ensures { OnOk result (parts.new.items ≡ parts.old.items ++ cut_parts file offset text.now cut) }
+{
+    match cut {
+        BodyCut::Run(n) => push_run(parts, file, offset, front(text, n)),
+        BodyCut::Use(n) => push_part(parts, PartKind::Use, file, offset + 1, offset + n as u32),
+        BodyCut::Open(n) => push_part(parts, PartKind::Open, file, offset, offset + n as u32),
+        BodyCut::Gap(_) | BodyCut::Last(_) => Ok(()),
+    }
+}
+
+fn push_part(
+    parts: &mut Vec<Part>,
+    kind: PartKind,
+    file: u16,
+    start: u32,
+    end: u32,
+) -> Result<(), NoMemory>
+    ensures { OnOk result (parts.new.items ≡ parts.old.items ++ record { kind = kind; file = file; start = start; end = end } ∷ []) }
+{
+    parts.push(Part {
+        kind,
+        file,
+        start,
+        end,
+    })?;
+    Ok(())
+}
+
+// Adds the parts of the body that begins a text, and answers how many bytes the body has.
+#[tactic(auto, unfolding(crate::specs::Bodies::body_parts, crate::specs::Bodies::body_len))]
+pub fn read_body(
+    parts: &mut Vec<Part>,
+    file: u16,
+    offset: u32,
+    text: &[u8],
+) -> Result<usize, NoMemory>
+    requires { offset + length text.now ≤ 4194304 }
+    ensures parts { OnOk result (parts.new.items ≡ parts.old.items ++ body_parts file offset text.now) }
+    ensures length { IfOk result (λ n. n ≡ body_len text.now) }
+    ensures within { IfOk result (λ n. n ≤ length text.now) }
+{
+    let mut rest = text;
+    let mut at = offset;
+    while !rest.is_empty() {
+        let cut = body_cut(rest);
+        push_cut(parts, file, at, rest, cut)?;
+        let n = cut.len();
+        if !cut.goes_on() {
+            return Ok(text.len() - rest.len() + n);
+        }
+        rest = rest.split_at(n).1;
+        at += n as u32;
+    }
+    Ok(text.len())
+}

@@ -1,0 +1,256 @@
+// The use of a macro.
+ghost use Rattle.std.specs.Prelude.{◌≡◌, ℕ, List, ◌<◌, ◌≤◌, ◌+◌, ◌-◌, ◌*◌, ◌++◌, ◌∷◌, [], length, take, drop, map, IfOk, OnOk, Ok};
+ghost use Rattle.std.specs.List.{list_any};
+ghost use Rattle.ls_text.specs.Texts.{Grows};
+ghost use Rattle.source_text.specs.Faults.{fault_at, fault_view, Gives};
+ghost use Rattle.source_text.specs.Files.{text_between};
+ghost use Rattle.verilog_pre.specs.declared.item.Item.TheVariants as item;
+ghost use Rattle.verilog_pre.specs.Tables.{table_of, Sound};
+ghost use Rattle.verilog_pre.specs.Expansions.{output, emitted, is_open, body_items, work_on, used, expanded, context, Leads, Placed, Keeps};
+ghost use Rattle.verilog_pre.specs.Conditionals.{but_last};
+
+use crate::Piece;
+use crate::item::Item;
+use crate::macro_body::Macro;
+use crate::macros::Macros;
+use crate::nest::Nest;
+use crate::output::Output;
+use crate::part::{Part, PartKind};
+use crate::table::find;
+use ls_text::{At, Fault, NameList, Names, NoMemory, Place, Refusal, SourceFile};
+use source_text::{text_between, text_fault};
+use std::alloc::Global;
+use std::collections::VecDeque;
+
+/// The fault 12 of a directive, which shows its word.
+#[tactic(auto, using(crate::proofs::Shown::one_word))]
+pub fn bad_directive(
+    alloc: Global,
+    names: &mut Names,
+    at: Place,
+    word: &[u8],
+) -> Result<Fault, NoMemory>
+    ensures fault { IfOk result (λ f. fault_view names.new f ≡ fault_at 12 at (word.now ∷ [])) }
+    ensures grows { Grows names.old names.new }
+{
+    let mut shown = Vec::with_capacity(alloc, 1)?;
+    let name = names.intern(word)?;
+    shown.push(name)?;
+    Ok(Fault {
+        code: 12,
+        at: At::Text(at),
+        names: NameList::new(shown),
+    })
+}
+
+/// Adds a piece. A fault 10 at a place tells that its bytes would pass the limit.
+#[tactic(auto, unfolding(crate::specs::Expansions::emitted))]
+pub fn emit(
+    alloc: Global,
+    out: &mut Output,
+    piece: Piece,
+    len: usize,
+    at: Place,
+) -> Result<(), Refusal>
+    ensures piece { (names : List (List ℕ)) → Gives names (λ u. output out.new) result (emitted at piece len (output out.old)) }
+    ensures uses { out.new.uses ≡ out.old.uses }
+{
+    if (out.bytes as usize) < len {
+        return Err(Refusal::Fault(text_fault(alloc, 10, at)));
+    }
+    out.pieces.push(piece)?;
+    out.bytes -= len as u32;
+    Ok(())
+}
+
+// Whether a use of the macro with that number is open.
+#[tactic(auto, using(crate::proofs::Nests::open_here, crate::proofs::Nests::not_open))]
+fn is_open(places: &[usize], nest: &[usize], number: usize) -> bool
+    requires placed { Placed places.now nest.now }
+    requires within { number < length places.now }
+    ensures { result ≡ is_open nest.now number }
+{
+    let place = places[number];
+    if place < nest.len() {
+        nest[place] == number
+    } else {
+        false
+    }
+}
+
+// Puts the body of a macro before the work.
+fn push_body(nest: &mut Nest, parts: &[Part], body: Macro) -> Result<(), NoMemory>
+    requires { body.last ≤ length parts.now }
+    ensures work { OnOk result (nest.new.work.items ≡ body_items parts.now body ++ nest.old.work.items) }
+    ensures open { nest.new.open ≡ nest.old.open }
+{
+    let mut next = body.last;
+    while body.first < next {
+        next -= 1;
+        nest.work.push_front(Item::Part(parts[next]))?;
+    }
+    Ok(())
+}
+
+// Begins the use of a word before the work that is left.
+#[tactic(auto, unfolding(crate::specs::Expansions::used, crate::specs::Expansions::work_on))]
+fn enter(
+    alloc: Global,
+    names: &mut Names,
+    files: &[SourceFile],
+    macros: &mut Macros,
+    out: &mut Output,
+    nest: &mut Nest,
+    at: Place,
+    word: &[u8],
+) -> Result<(), Refusal>
+    requires sound { Sound macros.old }
+    requires placed { Placed macros.old.places.items nest.old.open.items }
+    ensures used { Leads names.new result
+        (used (context macros.old files.now at) word.now nest.old.open.items (output out.old) nest.old.work.items)
+        (work_on (context macros.old files.now at) nest.new.open.items (output out.new) nest.new.work.items) }
+    ensures keeps { OnOk result (Keeps macros.old macros.new) }
+    ensures sound { OnOk result (Sound macros.new) }
+    ensures placed { OnOk result (Placed macros.new.places.items nest.new.open.items) }
+    ensures grows { Grows names.old names.new }
+    ensures less { OnOk result (out.new.uses * (length macros.old.parts.items + 2) + length nest.new.work.items
+        < out.old.uses * (length macros.old.parts.items + 2) + length nest.old.work.items) }
+{
+    if out.uses == 0 {
+        return Err(Refusal::Fault(text_fault(alloc, 10, at)));
+    }
+    let Some(body) = find(macros, word)? else {
+        return Err(Refusal::Fault(bad_directive(alloc, names, at, word)?));
+    };
+    if is_open(&macros.places, &nest.open, body.number) {
+        return Err(Refusal::Fault(bad_directive(alloc, names, at, word)?));
+    }
+    out.uses -= 1;
+    macros.places[body.number] = nest.open.len();
+    nest.open.push(body.number)?;
+    nest.work.push_front(Item::Leave)?;
+    push_body(nest, &macros.parts, body)?;
+    Ok(())
+}
+
+// Reads a part of a body before the work that is left.
+#[tactic(auto, unfolding(crate::specs::Expansions::work_on, crate::specs::Expansions::used), using(crate::proofs::Steps::text_step, crate::proofs::Steps::text_refused))]
+fn read_part(
+    alloc: Global,
+    names: &mut Names,
+    files: &[SourceFile],
+    macros: &mut Macros,
+    out: &mut Output,
+    nest: &mut Nest,
+    at: Place,
+    part: Part,
+) -> Result<(), Refusal>
+    requires sound { Sound macros.old }
+    requires placed { Placed macros.old.places.items nest.old.open.items }
+    ensures step { Leads names.new result
+        (work_on (context macros.old files.now at) nest.old.open.items (output out.old) (item.Part part ∷ nest.old.work.items))
+        (work_on (context macros.old files.now at) nest.new.open.items (output out.new) nest.new.work.items) }
+    ensures keeps { OnOk result (Keeps macros.old macros.new) }
+    ensures sound { OnOk result (Sound macros.new) }
+    ensures placed { OnOk result (Placed macros.new.places.items nest.new.open.items) }
+    ensures grows { Grows names.old names.new }
+    ensures less { OnOk result (out.new.uses * (length macros.old.parts.items + 2) + length nest.new.work.items
+        ≤ out.old.uses * (length macros.old.parts.items + 2) + length nest.old.work.items) }
+{
+    match part.kind {
+        PartKind::Text => {
+            let piece = Piece {
+                file: part.file,
+                start: part.start,
+                end: part.end,
+                at,
+                fixed: true,
+            };
+            emit(
+                alloc,
+                out,
+                piece,
+                part.end.saturating_sub(part.start) as usize,
+                at,
+            )
+        }
+        PartKind::Use => {
+            let word = text_between(files, part.file, part.start, part.end);
+            enter(alloc, names, files, macros, out, nest, at, word)
+        }
+        PartKind::Open => Err(Refusal::Fault(text_fault(alloc, 12, at))),
+    }
+}
+
+// Carries out an item before the work that is left.
+#[tactic(auto, unfolding(crate::specs::Expansions::work_on))]
+fn carry_out(
+    alloc: Global,
+    names: &mut Names,
+    files: &[SourceFile],
+    macros: &mut Macros,
+    out: &mut Output,
+    nest: &mut Nest,
+    at: Place,
+    next: Item,
+) -> Result<(), Refusal>
+    requires sound { Sound macros.old }
+    requires placed { Placed macros.old.places.items nest.old.open.items }
+    ensures step { Leads names.new result
+        (work_on (context macros.old files.now at) nest.old.open.items (output out.old) (next ∷ nest.old.work.items))
+        (work_on (context macros.old files.now at) nest.new.open.items (output out.new) nest.new.work.items) }
+    ensures keeps { OnOk result (Keeps macros.old macros.new) }
+    ensures sound { OnOk result (Sound macros.new) }
+    ensures placed { OnOk result (Placed macros.new.places.items nest.new.open.items) }
+    ensures grows { Grows names.old names.new }
+    ensures less { OnOk result (out.new.uses * (length macros.old.parts.items + 2) + length nest.new.work.items
+        ≤ out.old.uses * (length macros.old.parts.items + 2) + length nest.old.work.items) }
+{
+    match next {
+        Item::Part(part) => read_part(alloc, names, files, macros, out, nest, at, part),
+        Item::Leave => {
+            leave(nest);
+            Ok(())
+        }
+    }
+}
+
+// Ends the innermost use.
+fn leave(nest: &mut Nest)
+    ensures open { nest.new.open.items ≡ but_last nest.old.open.items }
+    ensures work { nest.new.work ≡ nest.old.work }
+    ensures placed { (places : List ℕ) → Placed places nest.old.open.items → Placed places nest.new.open.items }
+{
+    nest.open.pop();
+}
+
+/// The use of a macro in a text: adds the pieces that its body gives.
+///
+/// 10 at the use where it or one within it would pass the limit of uses, or the bytes of a piece that of bytes; 12
+/// where a word is unknown or names a macro that is being expanded.
+#[tactic(auto, unfolding(crate::specs::Expansions::expanded, crate::specs::Expansions::work_on))]
+pub fn expand(
+    alloc: Global,
+    names: &mut Names,
+    files: &[SourceFile],
+    macros: &mut Macros,
+    out: &mut Output,
+    at: Place,
+    word: &[u8],
+) -> Result<(), Refusal>
+    requires { Sound macros.old }
+    ensures pieces { Gives names.new (λ u. output out.new) result (expanded (context macros.old files.now at) word.now (output out.old)) }
+    ensures keeps { OnOk result (Keeps macros.old macros.new) }
+    ensures sound { OnOk result (Sound macros.new) }
+    ensures grows { Grows names.old names.new }
+{
+    let mut nest = Nest {
+        open: Vec::new(alloc),
+        work: VecDeque::new(alloc),
+    };
+    enter(alloc, names, files, macros, out, &mut nest, at, word)?;
+    while let Some(next) = nest.work.pop_front() {
+        carry_out(alloc, names, files, macros, out, &mut nest, at, next)?;
+    }
+    Ok(())
+}

@@ -1,0 +1,155 @@
+// Reading texts and files.
+ghost use Rattle.std.specs.Prelude.{◌≡◌, ◌<◌, ◌≤◌, ◌+◌, length, slice_get, if◌then◌else◌, IfOk, OnOk, codes};
+ghost use Rattle.std.specs.List.{All};
+ghost use Rattle.ls_text.specs.Texts.{Grows};
+ghost use Rattle.source_text.specs.Faults.{Gives};
+ghost use Rattle.verilog_pre.specs.Reading.{text_read, opening_word, ended, file_read, files_from, pieces};
+ghost use Rattle.verilog_pre.specs.States.{state};
+ghost use Rattle.verilog_pre.specs.Tables.{Sound};
+
+use crate::Piece;
+use crate::expand::bad_directive;
+use crate::output::Output;
+use crate::reader::Reader;
+use crate::reading::read_turn;
+use crate::table::no_macros;
+use ls_text::{Names, Place, Refusal, SourceFile};
+use source_text::{file_start, place_after};
+use std::alloc::Global;
+
+// Reads a text that begins a file.
+#[tactic(auto, unfolding(crate::specs::Reading::text_read))]
+fn read_text(
+    alloc: Global,
+    names: &mut Names,
+    files: &[SourceFile],
+    reader: &mut Reader,
+    start: Place,
+    text: &[u8],
+) -> Result<(), Refusal>
+    requires sound { Sound reader.old.macros }
+    requires room { length text.now ≤ 4194304 }
+    ensures read { Gives names.new (λ u. state reader.new) result (text_read files.now start 0 (state reader.old) text.now) }
+    ensures sound { OnOk result (Sound reader.new.macros) }
+    ensures grows { Grows names.old names.new }
+{
+    let mut rest = text;
+    let mut at = start;
+    let mut offset = 0u32;
+    while !rest.is_empty() {
+        let n = match read_turn(alloc, names, files, reader, at, offset, rest) {
+            Ok(n) => n,
+            Err(refusal) => return Err(refusal),
+        };
+        let (bytes, after) = rest.split_at(n);
+        at = place_after(at, bytes);
+        offset += n as u32;
+        rest = after;
+    }
+    Ok(())
+}
+
+fn opening_word(negated: bool) -> &'static [u8]
+    ensures { result.now ≡ opening_word negated }
+{
+    if negated { b"ifndef" } else { b"ifdef" }
+}
+
+// Refuses a conditional that is open, the outermost first.
+fn end_file(alloc: Global, names: &mut Names, reader: &Reader) -> Result<(), Refusal>
+    ensures ended { Gives names.new (λ u. state reader.now) result (ended (state reader.now) (slice_get reader.now.nest.items 0)) }
+    ensures grows { Grows names.old names.new }
+{
+    match reader.nest.first().copied() {
+        None => Ok(()),
+        Some(open) => {
+            let word = opening_word(open.negated);
+            Err(Refusal::Fault(bad_directive(alloc, names, open.at, word)?))
+        }
+    }
+}
+
+// Reads a file.
+#[tactic(auto, unfolding(crate::specs::Reading::file_read))]
+fn read_file(
+    alloc: Global,
+    names: &mut Names,
+    files: &[SourceFile],
+    reader: &mut Reader,
+    file: u16,
+    text: &[u8],
+) -> Result<(), Refusal>
+    requires sound { Sound reader.old.macros }
+    requires room { length text.now ≤ 4194304 }
+    ensures read { Gives names.new (λ u. state reader.new) result (file_read files.now file (state reader.old) text.now) }
+    ensures sound { OnOk result (Sound reader.new.macros) }
+    ensures grows { Grows names.old names.new }
+{
+    match read_text(alloc, names, files, reader, file_start(file), text) {
+        Ok(()) => end_file(alloc, names, reader),
+        Err(refusal) => Err(refusal),
+    }
+}
+
+// Reads all files, in order.
+fn read_files(
+    alloc: Global,
+    names: &mut Names,
+    files: &[SourceFile],
+    reader: &mut Reader,
+) -> Result<(), Refusal>
+    requires sound { Sound reader.old.macros }
+    requires files { length files.now ≤ 256 }
+    requires texts { All (λ f. length f.text ≤ 4194304) files.now }
+    ensures read { Gives names.new (λ u. state reader.new) result (files_from files.now 0 (state reader.old) files.now) }
+    ensures grows { Grows names.old names.new }
+{
+    for (number, file) in files.iter().enumerate() {
+        match read_file(
+            alloc,
+            names,
+            files,
+            reader,
+            number as u16,
+            file.text.bytes(),
+        ) {
+            Ok(()) => {}
+            Err(refusal) => return Err(refusal),
+        }
+    }
+    Ok(())
+}
+
+/// The pieces of files, or the first fault.
+///
+/// Comments, directives and skipped text are in no piece. A piece is a longest remaining run of bytes, or a part of
+/// the body of a macro that is used; a part has no white space at its ends, and the place of the use in the text.
+/// Macros carry over from file to file, conditionals don't.
+///
+/// Faults: 12 at a directive that can't be carried out, at a comment or a conditional that isn't closed; 10 at the
+/// byte or use that would pass 16,777,216 bytes of pieces or 1,048,576 uses.
+#[tactic(auto, unfolding(crate::specs::Reading::pieces))]
+pub fn preprocess(
+    alloc: Global,
+    names: &mut Names,
+    files: &[SourceFile],
+) -> Result<Vec<Piece>, Refusal>
+    requires files { length files.now ≤ 256 }
+    requires texts { All (λ f. length f.text ≤ 4194304) files.now }
+    ensures pieces { Gives names.new (λ ps. ps.items) result (pieces files.now) }
+    ensures grows { Grows names.old names.new }
+{
+    let mut reader = Reader {
+        macros: no_macros(alloc),
+        out: Output {
+            uses: 1_048_576,
+            bytes: 16_777_216,
+            pieces: Vec::new(alloc),
+        },
+        nest: Vec::new(alloc),
+    };
+    match read_files(alloc, names, files, &mut reader) {
+        Ok(()) => Ok(reader.out.pieces),
+        Err(refusal) => Err(refusal),
+    }
+}

@@ -1,0 +1,10 @@
+// The pieces so far.
+use crate::Piece;
+
+/// The pieces so far, and how many uses and bytes the limits leave.
+#[derive(Drop)]
+pub struct Output {
+    pub uses: u32,
+    pub bytes: u32,
+    pub pieces: Vec<Piece>,
+}
