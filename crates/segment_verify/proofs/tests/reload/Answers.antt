@@ -1,0 +1,6 @@
+use Rattle.std.proofs.Common.{refl, arith}
+use Rattle.segment_verify.proofs.Tries.{open_after}
+use Rattle.segment_verify.proofs.tests.reload.Goals as goal
+
+pub returns : goal.returns
+returns g c = open_after c.args.book.now c.reload.new.self _ c.in_ok-reload.ensures.ok refl c.requires
