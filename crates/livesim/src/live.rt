@@ -289,6 +289,9 @@ pub fn live_run<R: Threads + Sync, S: Source, K: Sink>(
     ensures write_fault { result.status ≡ 4 → Rose (K.faults sink.old) (K.faults sink.new) }
     ensures known { result.status ≤ 6 }
 
+    // At most one byte above the limit is taken.
+    ensures few { result.taken ≤ 67108865 }
+
     // Where nothing outside failed and the script isn't too long, the commands were carried out, or memory ran out.
     ensures complete { length words.now ≡ 1 → (Rose (S.faults source.old) (S.faults source.new) → ⊥)
         → (Rose (K.faults sink.old) (K.faults sink.new) → ⊥) → result.taken ≤ 67108864 → IsComplete result.status }
