@@ -1,5 +1,5 @@
 -- What the tests' helpers know of a book.
-use Rattle.std.proofs.Common.{◌≡◌, ℕ, ◌+◌, ◌≤◌, List, [], ◌∷◌, ◌++◌, refl, sym, ◌∙◌, ap, subst, arith}
+use Rattle.std.proofs.Common.{◌≡◌, ℕ, ◌+◌, ◌≤◌, List, [], ◌∷◌, ◌++◌, ◌∙◌, ap, arith}
 use Rattle.std.specs.Prelude.{Option, Some, None, Bool, true, false}
 use Rattle.machine.specs.Kit.{Kit}
 use Rattle.book_history.specs.declared.who.Who.{Who}

@@ -9,6 +9,7 @@ use book_history::rooms::Rooms;
 use book_history::version::Version;
 use book_history::who::Who;
 use checkpoint_book::book::Book;
+use checkpoint_book::claimed::Claimed;
 use checkpoint_book::installed::Installed;
 use checkpoint_book::shown::Shown;
 use machine::row_run::RowRun;
@@ -120,6 +121,67 @@ fn settle_one<L: Ledger>(
     }
 }
 
+/// A worker claims a link and drops its ticket: the ticket's number, cycles and start, or whether the room is full and
+/// whether the book is closed.
+fn claim_one(
+    book: &mut Book<TallyMachine>,
+    alloc: Global,
+    worker: u16,
+) -> Result<Result<(u64, u64, u64, u64), (bool, bool)>, Fail>
+    requires { (counts_of book.old).closed ≡ false }
+    ensures { (counts_of book.new).closed ≡ false }
+{
+    match book.claim(alloc, worker)? {
+        Claimed::Ticket(ticket) => {
+            Ok(Ok((ticket.number(), ticket.a(), ticket.b(), *ticket.start())))
+        }
+        Claimed::Nothing { full, closed } => Ok(Err((full, closed))),
+    }
+}
+
+/// A worker claims a link, verifies it and installs it: the ticket's number and cycles, and the answer.
+fn work_one<L: Ledger>(
+    book: &mut Book<TallyMachine>,
+    alloc: Global,
+    worker: u16,
+    steps: &mut Steps<L>,
+) -> Result<Option<(u64, u64, u64, Installed)>, Fail>
+    requires { (counts_of book.old).closed ≡ false }
+    ensures { (counts_of book.new).closed ≡ false }
+{
+    let Claimed::Ticket(ticket) = book.claim(alloc, worker)? else {
+        return Ok(None);
+    };
+    let (number, a, b) = (ticket.number(), ticket.a(), ticket.b());
+    match verify(alloc, ticket, steps) {
+        Verification::Done(verified) => {
+            let answer = book.install(Who::Worker(worker), verified);
+            Ok(Some((number, a, b, answer)))
+        }
+        Verification::NoMemory(ticket) => {
+            book.release(Who::Worker(worker), ticket);
+            Err("no memory")?
+        }
+    }
+}
+
+/// A worker claims a link and gives it up: the ticket's number and cycles.
+fn give_up_one(
+    book: &mut Book<TallyMachine>,
+    alloc: Global,
+    worker: u16,
+) -> Result<Option<(u64, u64, u64)>, Fail>
+    requires { (counts_of book.old).closed ≡ false }
+    ensures { (counts_of book.new).closed ≡ false }
+{
+    let Claimed::Ticket(ticket) = book.claim(alloc, worker)? else {
+        return Ok(None);
+    };
+    let drawn = (ticket.number(), ticket.a(), ticket.b());
+    book.release(Who::Worker(worker), ticket);
+    Ok(Some(drawn))
+}
+
 /// What a show answers.
 fn show(book: &mut Book<TallyMachine>) -> Result<Shown, Fail>
     requires { (counts_of book.old).closed ≡ false }
@@ -188,4 +250,219 @@ fn link_by_link<L: Ledger, R: Abort>(rt: &R, alloc: Global, blank: Blank) -> Res
 #[test]
 fn settles_link_by_link(rt: HostRuntime) -> Result<(), Fail> {
     link_by_link::<Brand, HostRuntime>(&rt, rt.alloc(), Blank::new(1))
+}
+
+const ROOMS: Rooms = Rooms {
+    session: 100,
+    workers: 100,
+};
+
+/// Five cycles under a machine that adds 3 and a reload with one that adds 4: the chosen cycle.
+fn edited<L: Ledger>(
+    book: &mut Book<TallyMachine>,
+    alloc: Global,
+    steps: &mut Steps<L>,
+) -> Result<u64, Fail>
+    requires { book.old.events ≡ [] }
+    ensures { (counts_of book.new).closed ≡ false }
+{
+    begin(book, adds(alloc, 1, 3)?)?;
+    run(book, alloc, 5, steps)?;
+    reload(book, adds(alloc, 2, 4)?, steps)
+}
+
+/// Without a lookback every mark is carried over, and each link is verified.
+fn no_lookback<L: Ledger, R: Abort>(rt: &R, alloc: Global, blank: Blank) -> Result<(), Fail>
+    requires name { blank.name ≡ L.name }
+    requires parts { blank.parts ≡ L.parts }
+    requires some { 0 < blank.parts }
+{
+    let mut steps = Steps::<L>::start(blank);
+    let mut boxed = Book::<TallyMachine>::new(alloc, 2, 0, ROOMS)?;
+    let book: &mut Book<TallyMachine> = &mut boxed;
+    assert_eq!(rt; edited(book, alloc, &mut steps)?, 5);
+    assert_eq!(rt; (current(book)?, book.marks()), (15, 4));
+    assert_eq!(rt; show(book)?, Shown::Estimate { settled_to: 0 });
+    assert_eq!(rt;
+        settle_one(book, alloc, &mut steps)?,
+        Some((1, 0, 2, 0, Installed::Joined))
+    );
+    assert_eq!(rt;
+        settle_one(book, alloc, &mut steps)?,
+        Some((2, 2, 4, 8, Installed::Joined))
+    );
+    assert_eq!(rt;
+        settle_one(book, alloc, &mut steps)?,
+        Some((3, 4, 5, 16, Installed::Joined))
+    );
+    assert_eq!(rt; (current(book)?, show(book)?), (20, Shown::Settled));
+    Ok(())
+}
+
+#[test]
+fn verifies_every_link_without_a_lookback(rt: HostRuntime) -> Result<(), Fail> {
+    no_lookback::<Brand, HostRuntime>(&rt, rt.alloc(), Blank::new(1))
+}
+
+/// A lookback of more than all cycles simulates them all, so the book is settled at once.
+fn long_lookback<L: Ledger, R: Abort>(rt: &R, alloc: Global, blank: Blank) -> Result<(), Fail>
+    requires name { blank.name ≡ L.name }
+    requires parts { blank.parts ≡ L.parts }
+    requires some { 0 < blank.parts }
+{
+    let mut steps = Steps::<L>::start(blank);
+    let mut boxed = Book::<TallyMachine>::new(alloc, 2, 10, ROOMS)?;
+    let book: &mut Book<TallyMachine> = &mut boxed;
+    assert_eq!(rt; edited(book, alloc, &mut steps)?, 0);
+    assert_eq!(rt; (current(book)?, show(book)?), (20, Shown::Settled));
+    assert_eq!(rt; settle_one(book, alloc, &mut steps)?, None);
+    Ok(())
+}
+
+#[test]
+fn simulates_all_within_a_long_lookback(rt: HostRuntime) -> Result<(), Fail> {
+    long_lookback::<Brand, HostRuntime>(&rt, rt.alloc(), Blank::new(1))
+}
+
+/// A reload before the first cycle.
+fn at_once<L: Ledger, R: Abort>(rt: &R, alloc: Global, blank: Blank) -> Result<(), Fail>
+    requires name { blank.name ≡ L.name }
+    requires parts { blank.parts ≡ L.parts }
+    requires some { 0 < blank.parts }
+{
+    let mut steps = Steps::<L>::start(blank);
+    let mut boxed = Book::<TallyMachine>::new(alloc, 2, 1, ROOMS)?;
+    let book: &mut Book<TallyMachine> = &mut boxed;
+    begin(book, adds(alloc, 1, 3)?)?;
+    assert_eq!(rt; reload(book, adds(alloc, 2, 4)?, &mut steps)?, 0);
+    assert_eq!(rt;
+        (book.marks(), book.links(), show(book)?),
+        (1, 0, Shown::Settled)
+    );
+    run(book, alloc, 5, &mut steps)?;
+    assert_eq!(rt; (current(book)?, show(book)?), (20, Shown::Settled));
+    Ok(())
+}
+
+#[test]
+fn reloads_before_the_first_cycle(rt: HostRuntime) -> Result<(), Fail> {
+    at_once::<Brand, HostRuntime>(&rt, rt.alloc(), Blank::new(1))
+}
+
+/// Marks stand at the multiples of the interval and at the end of each run.
+fn two_runs<L: Ledger, R: Abort>(rt: &R, alloc: Global, blank: Blank) -> Result<(), Fail>
+    requires name { blank.name ≡ L.name }
+    requires parts { blank.parts ≡ L.parts }
+    requires some { 0 < blank.parts }
+{
+    let mut steps = Steps::<L>::start(blank);
+    // Marks at 0, 1, .. 6; at 0, 2, 3, 4, 6; at 0, 3, 6; at 0, 3, 4, 6; at 0, 3, 6.
+    for (interval, marks) in [(1, 7), (2, 5), (3, 3), (4, 4), (7, 3)] {
+        let mut boxed = Book::<TallyMachine>::new(alloc, interval, 1, ROOMS)?;
+        let book: &mut Book<TallyMachine> = &mut boxed;
+        begin(book, adds(alloc, 1, 3)?)?;
+        run(book, alloc, 3, &mut steps)?;
+        run(book, alloc, 3, &mut steps)?;
+        assert_eq!(rt; (book.marks(), current(book)?), (marks, 18));
+    }
+    Ok(())
+}
+
+#[test]
+fn marks_the_multiples_and_the_ends(rt: HostRuntime) -> Result<(), Fail> {
+    two_runs::<Brand, HostRuntime>(&rt, rt.alloc(), Blank::new(1))
+}
+
+/// One mark too many: every other one goes, and a link that is out with its neighbour is open.
+fn thinned<L: Ledger, R: Abort>(rt: &R, alloc: Global, blank: Blank) -> Result<(), Fail>
+    requires name { blank.name ≡ L.name }
+    requires parts { blank.parts ≡ L.parts }
+    requires some { 0 < blank.parts }
+{
+    let mut steps = Steps::<L>::start(blank);
+    let mut boxed = Book::<TallyMachine>::new(alloc, 1, 1, ROOMS)?;
+    let book: &mut Book<TallyMachine> = &mut boxed;
+    begin(book, adds(alloc, 1, 3)?)?;
+    run(book, alloc, 1023, &mut steps)?;
+    assert_eq!(rt; (book.marks(), show(book)?), (1024, Shown::Settled));
+    assert_eq!(rt; reload(book, adds(alloc, 2, 4)?, &mut steps)?, 1022);
+    assert_eq!(rt; claim_one(book, alloc, 1)?, Ok((1, 0, 1, 0)));
+    run(book, alloc, 1, &mut steps)?;
+    assert_eq!(rt; (book.marks(), book.cycle()), (513, 1024));
+    assert_eq!(rt; claim_one(book, alloc, 1)?, Ok((2, 0, 2, 0)));
+    Ok(())
+}
+
+#[test]
+fn thins_at_one_mark_too_many(rt: HostRuntime) -> Result<(), Fail> {
+    thinned::<Brand, HostRuntime>(&rt, rt.alloc(), Blank::new(1))
+}
+
+/// A room of four entries: two claims and the ends of their tickets.
+fn full_room<L: Ledger, R: Abort>(rt: &R, alloc: Global, blank: Blank) -> Result<(), Fail>
+    requires name { blank.name ≡ L.name }
+    requires parts { blank.parts ≡ L.parts }
+    requires some { 0 < blank.parts }
+{
+    let rooms = Rooms {
+        session: 100,
+        workers: 4,
+    };
+    let mut steps = Steps::<L>::start(blank);
+    let mut boxed = Book::<TallyMachine>::new(alloc, 2, 1, rooms)?;
+    let book: &mut Book<TallyMachine> = &mut boxed;
+    assert_eq!(rt; edited(book, alloc, &mut steps)?, 4);
+    assert_eq!(rt; claim_one(book, alloc, 7)?, Ok((1, 0, 2, 0)));
+    // The mark at 2 is still the older machine's.
+    assert_eq!(rt; claim_one(book, alloc, 8)?, Ok((2, 2, 4, 6)));
+    assert_eq!(rt; claim_one(book, alloc, 7)?, Err((true, false)));
+    // The session takes a link that is out.
+    assert_eq!(rt;
+        settle_one(book, alloc, &mut steps)?,
+        Some((3, 0, 2, 0, Installed::Joined))
+    );
+    Ok(())
+}
+
+#[test]
+fn answers_nothing_where_the_room_is_full(rt: HostRuntime) -> Result<(), Fail> {
+    full_room::<Brand, HostRuntime>(&rt, rt.alloc(), Blank::new(1))
+}
+
+/// A worker gives a link up and then settles link by link; nothing is left then, and nothing after the close.
+fn one_worker<L: Ledger, R: Abort>(rt: &R, alloc: Global, blank: Blank) -> Result<(), Fail>
+    requires name { blank.name ≡ L.name }
+    requires parts { blank.parts ≡ L.parts }
+    requires some { 0 < blank.parts }
+{
+    let mut steps = Steps::<L>::start(blank);
+    let mut boxed = Book::<TallyMachine>::new(alloc, 2, 1, ROOMS)?;
+    let book: &mut Book<TallyMachine> = &mut boxed;
+    assert_eq!(rt; edited(book, alloc, &mut steps)?, 4);
+    assert_eq!(rt; give_up_one(book, alloc, 7)?, Some((1, 0, 2)));
+    assert_eq!(rt;
+        work_one(book, alloc, 8, &mut steps)?,
+        Some((2, 0, 2, Installed::Joined))
+    );
+    assert_eq!(rt;
+        work_one(book, alloc, 8, &mut steps)?,
+        Some((3, 2, 4, Installed::Joined))
+    );
+    assert_eq!(rt;
+        work_one(book, alloc, 8, &mut steps)?,
+        Some((4, 4, 5, Installed::Joined))
+    );
+    assert_eq!(rt; (current(book)?, show(book)?), (20, Shown::Settled));
+    assert_eq!(rt; claim_one(book, alloc, 7)?, Err((false, false)));
+    book.close();
+    let Claimed::Nothing { full, closed } = book.claim(alloc, 7)? else {
+        return Err("a claim after the close")?;
+    };
+    assert_eq!(rt; (full, closed), (false, true));
+    Ok(())
+}
+
+#[test]
+fn a_worker_settles_link_by_link(rt: HostRuntime) -> Result<(), Fail> {
+    one_worker::<Brand, HostRuntime>(&rt, rt.alloc(), Blank::new(1))
 }

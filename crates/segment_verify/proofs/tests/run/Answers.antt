@@ -1,4 +1,4 @@
-use Rattle.std.proofs.Common.{refl, arith}
+use Rattle.std.proofs.Common.{refl}
 use Rattle.segment_verify.proofs.Tries.{open_after}
 use Rattle.segment_verify.proofs.tests.run.Goals as goal
 
