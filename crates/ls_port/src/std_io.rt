@@ -1,10 +1,10 @@
-// The trusted edge: any reader and writer of std. They tell no contents.
-ghost use Rattle.std.specs.Prelude.{◌≡◌, None};
+// The edge: any reader and writer of std. They tell the contents that the reader or writer tells: those of the host tell none.
+ghost use Rattle.std.specs.Prelude.{◌≡◌};
 
 use crate::{Failed, Sink, SinkRefusal, Source};
 use std::io::{Read, Write};
 
-/// A reader of std as a source. Each of its errors counts as a fault.
+/// A reader of std as a source, with the bytes that the reader has left. Each of its errors counts as a fault.
 #[derive(Drop)]
 pub struct StdSource<R: Read + Drop> {
     inner: R,
@@ -22,7 +22,7 @@ impl<R: Read + Drop> StdSource<R> {
 }
 
 impl<R: Read + Drop> Source for StdSource<R> {
-    ghost left = { λ _. None };
+    ghost left = { λ s. R.remaining s.inner };
 
     ghost faults = { λ s. s.faults };
 
@@ -37,7 +37,8 @@ impl<R: Read + Drop> Source for StdSource<R> {
     }
 }
 
-/// A writer of std as a sink. Each of its errors counts as a fault, and so does a write that takes nothing.
+/// A writer of std as a sink, with the bytes that the writer holds. Each of its errors counts as a fault, and so does a write
+/// that takes nothing.
 #[derive(Drop)]
 pub struct StdSink<W: Write + Drop> {
     inner: W,
@@ -55,7 +56,7 @@ impl<W: Write + Drop> StdSink<W> {
 }
 
 impl<W: Write + Drop> Sink for StdSink<W> {
-    ghost written = { λ _. None };
+    ghost written = { λ s. W.contents s.inner };
 
     ghost faults = { λ s. s.faults };
 

@@ -34,3 +34,22 @@ fn solid_memory_never_fails(rt: HostRuntime) -> Result<(), Fail> {
     assert!(rt; sink.bytes() == b"abc".as_slice());
     Ok(())
 }
+
+#[test]
+fn a_reader_and_a_writer_of_std_hand_their_bytes_on(rt: HostRuntime) -> Result<(), Fail> {
+    let mut source = StdSource::new(b"abcde".as_slice());
+    let mut buf = [0u8; 3];
+    assert!(rt; source.read(&mut buf) == Ok(3));
+    assert!(rt; buf == *b"abc");
+    assert!(rt; source.read(&mut buf) == Ok(2));
+    assert!(rt; buf == *b"dec");
+    assert!(rt; source.read(&mut buf) == Ok(0));
+    let mut written = Vec::new(rt.alloc());
+    let mut sink = StdSink::new(&mut written);
+    assert!(rt; sink.write(b"ab") == Ok(2));
+    assert!(rt; sink.write(b"") == Ok(0));
+    assert!(rt; sink.write(b"c") == Ok(1));
+    drop(sink);
+    assert!(rt; written.as_slice() == b"abc".as_slice());
+    Ok(())
+}
