@@ -1,58 +1,51 @@
--- The text of a module of one register, whose right side is a sum of names and literals.
-use Rattle.std.specs.Prelude.{ℕ, zero, suc, ◌+◌, ◌%◌, ◌^◌, not, ◌&&◌, nat_le, List, [], ◌∷◌, length, codes, Option, Some, None, ◌==◌, if◌then◌else◌}
+-- The tokens of a module of one register, whose right side is a sum of names and literals.
+use Rattle.std.specs.Prelude.{ℕ, zero, suc, ◌+◌, not, ◌==◌, ◌&&◌, nat_le, List, [], ◌∷◌, length, codes, Option, Some, None, if◌then◌else◌}
 use Rattle.std.specs.Option.{option_map}
 use Rattle.std.specs.Str.{bytes_eq}
-use Rattle.livesim.specs.Scan.{after_space, prefix_at, symbol_at, keyword_at, name_at, this_name_at, number_at, guard, ◌>>=◌}
-
--- a literal `S'hDIGITS`: its size, and its value cut to it
-unfoldable pub literal_at : List ℕ → Option (ℕ × ℕ × List ℕ)
-literal_at text = do
-  size ← number_at 10 (after_space text)
-  digits ← prefix_at (codes "'h") size.1
-  value ← number_at 16 digits
-  guard (nat_le 1 size.0 && nat_le size.0 128) (size.0, value.0 % 2 ^ size.0, value.1)
+use Rattle.verilog_lex.specs.Tokens.{Said}
+use Rattle.livesim.specs.Scan.{sign_at, name_at, this_name_at, decimal_at, literal_at, has_ended, guard, ◌>>=◌}
 
 -- the width of what follows a `[`: of `M:0]`
-unfoldable pub bounds_at : List ℕ → Option (ℕ × List ℕ)
-bounds_at text = do
-  msb ← number_at 10 (after_space text)
-  colon ← symbol_at (codes ":") msb.1
-  lsb ← symbol_at (codes "0") colon
-  rest ← symbol_at (codes "]") lsb
-  guard (nat_le msb.0 127) (msb.0 + 1, rest)
+unfoldable pub bounds_at : List Said → Option (ℕ × List Said)
+bounds_at ts = do
+  msb ← decimal_at ts
+  colon ← sign_at (codes ":") msb.1
+  lsb ← decimal_at colon
+  rest ← sign_at (codes "]") lsb.1
+  guard (nat_le msb.0 127 && (lsb.0 == 0)) (msb.0 + 1, rest)
 
-abbrev pub or_one_bit : List ℕ → Option (List ℕ) → Option (ℕ × List ℕ)
-or_one_bit text None = Some (1, text)
-or_one_bit text (Some rest) = bounds_at rest
+abbrev pub or_one_bit : List Said → Option (List Said) → Option (ℕ × List Said)
+or_one_bit ts None = Some (1, ts)
+or_one_bit ts (Some rest) = bounds_at rest
 
 -- the width of a range `[M:0]`, or of none
-unfoldable pub range_at : List ℕ → Option (ℕ × List ℕ)
-range_at text = or_one_bit text (symbol_at (codes "[") text)
+unfoldable pub range_at : List Said → Option (ℕ × List Said)
+range_at ts = or_one_bit ts (sign_at (codes "[") ts)
 
 -- what follows `module T(input C);`
-unfoldable pub header_at : List ℕ → List ℕ → List ℕ → Option (List ℕ)
-header_at top clock text = do
-  a ← keyword_at (codes "module") text
+unfoldable pub header_at : List ℕ → List ℕ → List Said → Option (List Said)
+header_at top clock ts = do
+  a ← sign_at (codes "module") ts
   b ← this_name_at top a
-  c ← symbol_at (codes "(") b
-  d ← keyword_at (codes "input") c
+  c ← sign_at (codes "(") b
+  d ← sign_at (codes "input") c
   e ← this_name_at clock d
-  f ← symbol_at (codes ")") e
-  symbol_at (codes ";") f
+  f ← sign_at (codes ")") e
+  sign_at (codes ";") f
 
 -- a register: its name, its width, and its literal's size and value
 abbrev pub RegisterText : Type 0
 RegisterText = List ℕ × ℕ × ℕ × ℕ
 
 -- `reg [M:0] R = L;`
-unfoldable pub register_at : List ℕ → Option (RegisterText × List ℕ)
-register_at text = do
-  a ← keyword_at (codes "reg") text
+unfoldable pub register_at : List Said → Option (RegisterText × List Said)
+register_at ts = do
+  a ← sign_at (codes "reg") ts
   range ← range_at a
   name ← name_at range.1
-  b ← symbol_at (codes "=") name.1
+  b ← sign_at (codes "=") name.1
   initial ← literal_at b
-  c ← symbol_at (codes ";") initial.2
+  c ← sign_at (codes ";") initial.2
   Some ((name.0, range.0, initial.0, initial.1), c)
 
 -- a name or literal of the assignment
@@ -60,44 +53,44 @@ pub data Operand : Type 0 where
   -- the register's name
   Register : Operand
   Literal : (size value : ℕ) → Operand
-  -- another name, which begins where so many bytes of the text are left
+  -- another name, from which on so many tokens are left
   Unknown : (left : ℕ) → Operand
 
--- a name that is the register's or another
-abbrev pub named_operand : List ℕ → List ℕ → List ℕ → Operand
-named_operand register name text = if bytes_eq name register then Register else Unknown (length (after_space text))
+-- a name, the first of these tokens, that is the register's or another
+abbrev pub named_operand : List ℕ → List ℕ → List Said → Operand
+named_operand register name ts = if bytes_eq name register then Register else Unknown (length ts)
 
 -- a name, with what follows it
-unfoldable pub target_at : List ℕ → List ℕ → Option (Operand × List ℕ)
-target_at register text = do
-  name ← name_at text
-  Some (named_operand register name.0 text, name.1)
+unfoldable pub target_at : List ℕ → List Said → Option (Operand × List Said)
+target_at register ts = do
+  name ← name_at ts
+  Some (named_operand register name.0 ts, name.1)
 
-abbrev pub literal_operand : Option (ℕ × ℕ × List ℕ) → Option (Operand × List ℕ)
+abbrev pub literal_operand : Option (ℕ × ℕ × List Said) → Option (Operand × List Said)
 literal_operand found = option_map (λ l. (Literal l.0 l.1, l.2)) found
 
-abbrev pub name_or_literal : List ℕ → List ℕ → List ℕ → Option (List ℕ × List ℕ) → Option (Operand × List ℕ)
-name_or_literal clock register text None = literal_operand (literal_at text)
-name_or_literal clock register text (Some name) =
-    guard (not (bytes_eq name.0 clock)) (named_operand register name.0 text, name.1)
+abbrev pub name_or_literal : List ℕ → List ℕ → List Said → Option (List ℕ × List Said) → Option (Operand × List Said)
+name_or_literal clock register ts None = literal_operand (literal_at ts)
+name_or_literal clock register ts (Some name) =
+    guard (not (bytes_eq name.0 clock)) (named_operand register name.0 ts, name.1)
 
 -- a name other than the clock's, or a literal, with what follows it
-unfoldable pub operand_at : List ℕ → List ℕ → List ℕ → Option (Operand × List ℕ)
-operand_at clock register text = name_or_literal clock register text (name_at text)
+unfoldable pub operand_at : List ℕ → List ℕ → List Said → Option (Operand × List Said)
+operand_at clock register ts = name_or_literal clock register ts (name_at ts)
 
 -- what a reading of some operands found, with an operand before them
-abbrev pub before_operands : Operand → Option (List Operand × List ℕ) → Option (List Operand × List ℕ)
+abbrev pub before_operands : Operand → Option (List Operand × List Said) → Option (List Operand × List Said)
 before_operands first found = option_map (λ more. (first ∷ more.0, more.1)) found
 
-abbrev pub behind_plus : List ℕ → Option (List ℕ) → (List ℕ → Option (List Operand × List ℕ)) → Option (List Operand × List ℕ)
-behind_plus text None more = Some ([], text)
-behind_plus text (Some rest) more = more rest
+abbrev pub behind_plus : List Said → Option (List Said) → (List Said → Option (List Operand × List Said)) → Option (List Operand × List Said)
+behind_plus ts None more = Some ([], ts)
+behind_plus ts (Some rest) more = more rest
 
 -- at most so many times `+` and an operand, with what follows them
-abbrev pub more_operands_at : ℕ → List ℕ → List ℕ → List ℕ → Option (List Operand × List ℕ)
-more_operands_at zero clock register text = Some ([], text)
-more_operands_at (suc room) clock register text =
-    behind_plus text (symbol_at (codes "+") text) (λ rest.
+abbrev pub more_operands_at : ℕ → List ℕ → List ℕ → List Said → Option (List Operand × List Said)
+more_operands_at zero clock register ts = Some ([], ts)
+more_operands_at (suc room) clock register ts =
+    behind_plus ts (sign_at (codes "+") ts) (λ rest.
     operand_at clock register rest >>= λ found. before_operands found.0 (more_operands_at room clock register found.1))
 
 -- the assignment: its target, and the operands of the sum
@@ -105,35 +98,35 @@ abbrev pub Assignment : Type 0
 Assignment = Operand × Operand × List Operand
 
 -- `R <= X;` with a sum of at most 256 `+`, and what follows it
-unfoldable pub assignment_at : List ℕ → List ℕ → List ℕ → Option (Assignment × List ℕ)
-assignment_at clock register text = do
-  target ← target_at register text
-  a ← symbol_at (codes "<=") target.1
+unfoldable pub assignment_at : List ℕ → List ℕ → List Said → Option (Assignment × List Said)
+assignment_at clock register ts = do
+  target ← target_at register ts
+  a ← sign_at (codes "<=") target.1
   first ← operand_at clock register a
   more ← more_operands_at 256 clock register first.1
-  b ← symbol_at (codes ";") more.1
+  b ← sign_at (codes ";") more.1
   Some ((target.0, first.0, more.0), b)
 
 -- what follows `always @(posedge C)`
-unfoldable pub event_at : List ℕ → List ℕ → Option (List ℕ)
-event_at clock text = do
-  a ← keyword_at (codes "always") text
-  b ← symbol_at (codes "@") a
-  c ← symbol_at (codes "(") b
-  d ← keyword_at (codes "posedge") c
+unfoldable pub event_at : List ℕ → List Said → Option (List Said)
+event_at clock ts = do
+  a ← sign_at (codes "always") ts
+  b ← sign_at (codes "@") a
+  c ← sign_at (codes "(") b
+  d ← sign_at (codes "posedge") c
   e ← this_name_at clock d
-  symbol_at (codes ")") e
+  sign_at (codes ")") e
 
--- the register and the assignment of a whole text
-unfoldable pub module_at : List ℕ → List ℕ → List ℕ → Option (RegisterText × Assignment)
-module_at top clock text = do
-  a ← header_at top clock text
+-- the register and the assignment of all tokens
+unfoldable pub module_at : List ℕ → List ℕ → List Said → Option (RegisterText × Assignment)
+module_at top clock ts = do
+  a ← header_at top clock ts
   register ← register_at a
   b ← guard (not (bytes_eq register.0.0 clock)) register.1
   c ← event_at clock b
   assignment ← assignment_at clock register.0.0 c
-  d ← keyword_at (codes "endmodule") assignment.1
-  guard (length (after_space d) == 0) (register.0, assignment.0)
+  d ← sign_at (codes "endmodule") assignment.1
+  guard (has_ended d) (register.0, assignment.0)
 
 abbrev pub unknown_left : Operand → Option ℕ
 unknown_left Register = None
@@ -149,6 +142,6 @@ abbrev pub first_unknown : List Operand → Option ℕ
 first_unknown [] = None
 first_unknown (o ∷ os) = or_else (unknown_left o) (first_unknown os)
 
--- the first name of an assignment that isn't known, in the order of the text: how many bytes are left there
+-- the first name of an assignment that isn't known, in the order of the text: how many tokens are left from it on
 abbrev pub unknown_in : Assignment → Option ℕ
 unknown_in (target, first, more) = first_unknown (target ∷ first ∷ more)

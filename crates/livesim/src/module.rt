@@ -1,41 +1,28 @@
-// The text of a module of one register.
+// The tokens of a module of one register.
 ghost use Rattle.std.specs.Prelude.{◌≡◌, ◌≤◌, IfOk, IfSome, MatchOption, Some, None};
 ghost use Rattle.std.specs.Option.{option_map};
-ghost use Rattle.livesim.specs.Module.{literal_at, bounds_at, range_at, header_at, register_at, target_at, operand_at, more_operands_at, named_operand, assignment_at, event_at, module_at, first_unknown, unknown_in};
-ghost use Rattle.livesim.specs.Views.{operand, operands, register_text, assignment, onto_operands};
+ghost use Rattle.livesim.specs.Module.{bounds_at, range_at, header_at, register_at, target_at, operand_at, more_operands_at, named_operand, assignment_at, event_at, module_at, first_unknown, unknown_in};
+ghost use Rattle.livesim.specs.Views.{operand, operands, register_text, assignment, onto_operands, saids};
 
 use crate::parts::{Assignment, RegisterItem, Term};
-use crate::scan::{keyword, leading_number, name, prefix, skip_space, symbol, this_name};
-use bits::Bits;
+use crate::tokens::{decimal, has_ended, literal, name, sign, this_name};
+use crate::tokens_left::TokensLeft;
 use ls_text::NoMemory;
 use std::alloc::Global;
 
 /// The most `+` that a sum may have.
 const MAX_PLUS: u32 = 256;
 
-// A literal `S'hDIGITS`.
-#[tactic(auto, unfolding(crate::specs::Module::literal_at))]
-fn literal(text: &[u8]) -> Option<(Bits, &[u8])>
-    ensures { option_map (λ r. (r.0.width, r.0.value, r.1.now)) result ≡ literal_at text.now }
-{
-    let (size, rest) = leading_number(10, skip_space(text))?;
-    let (value, rest) = leading_number(16, prefix(b"'h", rest)?)?;
-    if size == 0 || size > 128 {
-        return None;
-    }
-    Some((Bits::new(size as u8, value), rest))
-}
-
 // The width of what follows a `[`.
 #[tactic(auto, unfolding(crate::specs::Module::bounds_at))]
-fn bounds(text: &[u8]) -> Option<(u8, &[u8])>
-    ensures value { option_map (λ r. (r.0, r.1.now)) result ≡ bounds_at text.now }
+fn bounds(tokens: TokensLeft<'_>) -> Option<(u8, TokensLeft<'_>)>
+    ensures value { option_map (λ r. (r.0, saids r.1)) result ≡ bounds_at (saids tokens.entry) }
     ensures in_range { IfSome result (λ r. (1 ≤ r.0) × (r.0 ≤ 128)) }
 {
-    let (msb, rest) = leading_number(10, skip_space(text))?;
-    let rest = symbol(b"0", symbol(b":", rest)?)?;
-    let rest = symbol(b"]", rest)?;
-    if msb > 127 {
+    let (msb, rest) = decimal(tokens)?;
+    let (lsb, rest) = decimal(sign(b":", rest)?)?;
+    let rest = sign(b"]", rest)?;
+    if msb > 127 || lsb != 0 {
         return None;
     }
     Some((msb as u8 + 1, rest))
@@ -43,77 +30,81 @@ fn bounds(text: &[u8]) -> Option<(u8, &[u8])>
 
 // The width of a range `[M:0]`, or of none.
 #[tactic(auto, unfolding(crate::specs::Module::range_at))]
-fn range(text: &[u8]) -> Option<(u8, &[u8])>
-    ensures value { option_map (λ r. (r.0, r.1.now)) result ≡ range_at text.now }
+fn range(tokens: TokensLeft<'_>) -> Option<(u8, TokensLeft<'_>)>
+    ensures value { option_map (λ r. (r.0, saids r.1)) result ≡ range_at (saids tokens.entry) }
     ensures in_range { IfSome result (λ r. (1 ≤ r.0) × (r.0 ≤ 128)) }
 {
-    match symbol(b"[", text) {
+    match sign(b"[", tokens) {
         Some(rest) => bounds(rest),
-        None => Some((1, text)),
+        None => Some((1, tokens)),
     }
 }
 
 // What follows `module T(input C);`.
 #[tactic(auto, unfolding(crate::specs::Module::header_at))]
-fn header<'a>(top: &[u8], clock: &[u8], text: &'a [u8]) -> Option<&'a [u8]>
-    ensures { option_map (λ r. r.now) result ≡ header_at top.now clock.now text.now }
+fn header<'a>(top: &[u8], clock: &[u8], tokens: TokensLeft<'a>) -> Option<TokensLeft<'a>>
+    ensures { option_map saids result ≡ header_at top.now clock.now (saids tokens.entry) }
 {
-    let rest = this_name(top, keyword(b"module", text)?)?;
-    let rest = keyword(b"input", symbol(b"(", rest)?)?;
-    symbol(b";", symbol(b")", this_name(clock, rest)?)?)
+    let rest = this_name(top, sign(b"module", tokens)?)?;
+    let rest = sign(b"input", sign(b"(", rest)?)?;
+    sign(b";", sign(b")", this_name(clock, rest)?)?)
 }
 
 // `reg [M:0] R = L;`
 #[tactic(auto, unfolding(crate::specs::Module::register_at))]
-fn register_item(text: &[u8]) -> Option<(RegisterItem<'_>, &[u8])>
-    ensures { option_map (λ r. (register_text r.0, r.1.now)) result ≡ register_at text.now }
+fn register_item(tokens: TokensLeft<'_>) -> Option<(RegisterItem<'_>, TokensLeft<'_>)>
+    ensures { option_map (λ r. (register_text r.0, saids r.1)) result ≡ register_at (saids tokens.entry) }
 {
-    let (width, rest) = range(keyword(b"reg", text)?)?;
+    let (width, rest) = range(sign(b"reg", tokens)?)?;
     let (name, rest) = name(rest)?;
-    let (initial, rest) = literal(symbol(b"=", rest)?)?;
+    let (initial, rest) = literal(sign(b"=", rest)?)?;
     let register = RegisterItem {
         name,
         width,
         initial,
     };
-    Some((register, symbol(b";", rest)?))
+    Some((register, sign(b";", rest)?))
 }
 
-// A name that is the register's or another; it is the first of the text.
-fn named_term(register: &[u8], found: &[u8], text: &[u8]) -> Term
-    ensures { operand result ≡ named_operand register.now found.now text.now }
+// A name, the first of these tokens, that is the register's or another.
+fn named_term(register: &[u8], found: &[u8], tokens: TokensLeft<'_>) -> Term
+    ensures { operand result ≡ named_operand register.now found.now (saids tokens.entry) }
 {
     if found == register {
         Term::Register
     } else {
-        Term::Unknown(skip_space(text).len())
+        Term::Unknown(tokens.left.len())
     }
 }
 
 // A name, with what follows it.
 #[tactic(auto, unfolding(crate::specs::Module::target_at))]
-fn target<'a>(register: &[u8], text: &'a [u8]) -> Option<(Term, &'a [u8])>
-    ensures { option_map (λ r. (operand r.0, r.1.now)) result ≡ target_at register.now text.now }
+fn target<'a>(register: &[u8], tokens: TokensLeft<'a>) -> Option<(Term, TokensLeft<'a>)>
+    ensures { option_map (λ r. (operand r.0, saids r.1)) result ≡ target_at register.now (saids tokens.entry) }
 {
-    let (found, rest) = name(text)?;
-    Some((named_term(register, found, text), rest))
+    let (found, rest) = name(tokens)?;
+    Some((named_term(register, found, tokens), rest))
 }
 
 // A name other than the clock's, or a literal, with what follows it.
 #[tactic(auto, unfolding(crate::specs::Module::operand_at))]
-fn read_term<'a>(clock: &[u8], register: &[u8], text: &'a [u8]) -> Option<(Term, &'a [u8])>
-    ensures { option_map (λ r. (operand r.0, r.1.now)) result ≡ operand_at clock.now register.now text.now }
+fn read_term<'a>(
+    clock: &[u8],
+    register: &[u8],
+    tokens: TokensLeft<'a>,
+) -> Option<(Term, TokensLeft<'a>)>
+    ensures { option_map (λ r. (operand r.0, saids r.1)) result ≡ operand_at clock.now register.now (saids tokens.entry) }
 {
-    match name(text) {
+    match name(tokens) {
         Some((found, rest)) => {
             if found == clock {
                 None
             } else {
-                Some((named_term(register, found, text), rest))
+                Some((named_term(register, found, tokens), rest))
             }
         }
         None => {
-            let (bits, rest) = literal(text)?;
+            let (bits, rest) = literal(tokens)?;
             Some((Term::Literal(bits), rest))
         }
     }
@@ -124,16 +115,16 @@ fn more_terms<'a>(
     terms: &mut Vec<Term>,
     clock: &[u8],
     register: &[u8],
-    text: &'a [u8],
-) -> Result<Option<&'a [u8]>, NoMemory>
-    ensures { IfOk result (λ o. MatchOption o (more_operands_at 256 clock.now register.now text.now ≡ None)
-        (λ rest. onto_operands (operands terms.old.items) (more_operands_at 256 clock.now register.now text.now)
-        ≡ Some (operands terms.new.items, rest.now))) }
+    tokens: TokensLeft<'a>,
+) -> Result<Option<TokensLeft<'a>>, NoMemory>
+    ensures { IfOk result (λ o. MatchOption o (more_operands_at 256 clock.now register.now (saids tokens.entry) ≡ None)
+        (λ rest. onto_operands (operands terms.old.items) (more_operands_at 256 clock.now register.now (saids tokens.entry))
+        ≡ Some (operands terms.new.items, saids rest))) }
 {
-    let mut rest = text;
+    let mut rest = tokens;
     let mut room = MAX_PLUS;
     while room > 0 {
-        let Some(behind) = symbol(b"+", rest) else {
+        let Some(behind) = sign(b"+", rest) else {
             return Ok(Some(rest));
         };
         let Some((term, after)) = read_term(clock, register, behind) else {
@@ -152,15 +143,15 @@ fn assignment_item<'a>(
     alloc: Global,
     clock: &[u8],
     register: &[u8],
-    text: &'a [u8],
-) -> Result<Option<(Assignment, &'a [u8])>, NoMemory>
-    ensures { IfOk result (λ o. option_map (λ r. (assignment r.0, r.1.now)) o
-        ≡ assignment_at clock.now register.now text.now) }
+    tokens: TokensLeft<'a>,
+) -> Result<Option<(Assignment, TokensLeft<'a>)>, NoMemory>
+    ensures { IfOk result (λ o. option_map (λ r. (assignment r.0, saids r.1)) o
+        ≡ assignment_at clock.now register.now (saids tokens.entry)) }
 {
-    let Some((target, rest)) = target(register, text) else {
+    let Some((target, rest)) = target(register, tokens) else {
         return Ok(None);
     };
-    let Some(rest) = symbol(b"<=", rest) else {
+    let Some(rest) = sign(b"<=", rest) else {
         return Ok(None);
     };
     let Some((first, rest)) = read_term(clock, register, rest) else {
@@ -170,7 +161,7 @@ fn assignment_item<'a>(
     let Some(rest) = more_terms(&mut more, clock, register, rest)? else {
         return Ok(None);
     };
-    let Some(rest) = symbol(b";", rest) else {
+    let Some(rest) = sign(b";", rest) else {
         return Ok(None);
     };
     let assignment = Assignment {
@@ -183,26 +174,26 @@ fn assignment_item<'a>(
 
 // What follows `always @(posedge C)`.
 #[tactic(auto, unfolding(crate::specs::Module::event_at))]
-fn event<'a>(clock: &[u8], text: &'a [u8]) -> Option<&'a [u8]>
-    ensures { option_map (λ r. r.now) result ≡ event_at clock.now text.now }
+fn event<'a>(clock: &[u8], tokens: TokensLeft<'a>) -> Option<TokensLeft<'a>>
+    ensures { option_map saids result ≡ event_at clock.now (saids tokens.entry) }
 {
-    let rest = symbol(b"@", keyword(b"always", text)?)?;
-    let rest = keyword(b"posedge", symbol(b"(", rest)?)?;
-    symbol(b")", this_name(clock, rest)?)
+    let rest = sign(b"@", sign(b"always", tokens)?)?;
+    let rest = sign(b"posedge", sign(b"(", rest)?)?;
+    sign(b")", this_name(clock, rest)?)
 }
 
-/// The register and the assignment of a whole text, where it is of the form.
+/// The register and the assignment of all tokens, where they are of the form.
 #[tactic(auto, unfolding(crate::specs::Module::module_at))]
 pub fn module<'a>(
     alloc: Global,
     top: &[u8],
     clock: &[u8],
-    text: &'a [u8],
+    tokens: TokensLeft<'a>,
 ) -> Result<Option<(RegisterItem<'a>, Assignment)>, NoMemory>
     ensures { IfOk result (λ o. option_map (λ r. (register_text r.0, assignment r.1)) o
-        ≡ module_at top.now clock.now text.now) }
+        ≡ module_at top.now clock.now (saids tokens.entry)) }
 {
-    let Some(rest) = header(top, clock, text) else {
+    let Some(rest) = header(top, clock, tokens) else {
         return Ok(None);
     };
     let Some((register, rest)) = register_item(rest) else {
@@ -217,17 +208,17 @@ pub fn module<'a>(
     let Some((assignment, rest)) = assignment_item(alloc, clock, register.name, rest)? else {
         return Ok(None);
     };
-    let Some(rest) = keyword(b"endmodule", rest) else {
+    let Some(rest) = sign(b"endmodule", rest) else {
         return Ok(None);
     };
-    if skip_space(rest).is_empty() {
+    if has_ended(rest) {
         Ok(Some((register, assignment)))
     } else {
         Ok(None)
     }
 }
 
-// Where the first of these names that isn't known begins: how many bytes are left there.
+// The first of these names that isn't known: how many tokens are left from it on.
 fn first_unknown(terms: &[Term]) -> Option<usize>
     ensures { result ≡ first_unknown (operands terms.now) }
 {
@@ -239,7 +230,7 @@ fn first_unknown(terms: &[Term]) -> Option<usize>
     None
 }
 
-/// Where the first name that isn't known begins: how many bytes are left there.
+/// The first name that isn't known: how many tokens are left from it on.
 pub fn unknown_in(parts: &Assignment) -> Option<usize>
     ensures { result ≡ unknown_in (assignment parts.now) }
 {

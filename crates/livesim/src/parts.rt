@@ -1,4 +1,4 @@
-// What the text of a module of one register is made of.
+// What a module of one register is made of.
 ghost use Rattle.std.specs.Prelude.{◌≤◌};
 
 use bits::Bits;
@@ -19,7 +19,7 @@ pub enum Term {
     /// The register's name.
     Register,
     Literal(Bits),
-    /// Another name, which begins where so many bytes of the text are left.
+    /// Another name, from which on so many tokens are left.
     Unknown(usize),
 }
 
