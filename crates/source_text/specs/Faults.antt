@@ -1,5 +1,6 @@
 -- The first fault of a text, and what an answer says of a reading.
-use Rattle.std.specs.Prelude.{◌≡◌, ℕ, List, [], ◌∷◌, map, Result, Ok, Err, ⊤}
+use Rattle.std.specs.Prelude.{◌≡◌, ◌<◌, ℕ, List, [], ◌∷◌, map, Result, Ok, Err, ⊤}
+use Rattle.std.specs.List.{All}
 use Rattle.ls_text.specs.Texts.{text_at}
 use Rattle.ls_text.specs.declared.name_id.NameId.{NameId}
 use Rattle.ls_text.specs.declared.place.Place.{Place}
@@ -36,3 +37,12 @@ Refuses names refusal.NoMemory read = ⊤
 abbrev pub Gives : {A B : Type 0} → List (List ℕ) → (A → B) → Result A Refusal → Result B TextFault → Type 0
 Gives names view (Ok x) read = read ≡ Ok (view x)
 Gives names view (Err e) read = Refuses names e read
+
+-- each name that a refusal shows is one of so many names
+abbrev pub CanShow : ℕ → Refusal → Type 0
+CanShow count (refusal.Fault f) = All (λ (id : NameId). id.0 < count) f.names
+CanShow count refusal.NoMemory = ⊤
+
+abbrev pub IsNameless : Refusal → Type 0
+IsNameless (refusal.Fault f) = f.names ≡ []
+IsNameless refusal.NoMemory = ⊤

@@ -1,3 +1,4 @@
 pub mod Numbers
 pub mod Lexemes
 pub mod Growth
+pub mod Endings

@@ -1,9 +1,10 @@
 // The tokens of pieces.
-ghost use Rattle.std.specs.Prelude.{◌≡◌, ◌<◌, ◌≤◌, ◌++◌, ◌∷◌, [], length, map, codes, IfOk, IfSome};
+ghost use Rattle.std.specs.Prelude.{◌≡◌, ◌<◌, ◌≤◌, ◌++◌, ◌∷◌, [], length, map, codes, IfOk, IfErr, IfSome};
 ghost use Rattle.std.specs.Option.{option_map};
 ghost use Rattle.std.specs.List.{All};
 ghost use Rattle.ls_text.specs.Texts.{Grows};
-ghost use Rattle.source_text.specs.Faults.{Gives};
+ghost use Rattle.source_text.specs.Faults.{Gives, CanShow};
+ghost use Rattle.verilog_lex.specs.Ends.{EndsOnce};
 ghost use Rattle.verilog_lex.specs.Numbers.{decimal_literal};
 ghost use Rattle.verilog_lex.specs.Tokens.{plain, number_at, first_part, token_at, taken, tokens_from, lexeme_tokens, end_place, tokens};
 ghost use Rattle.verilog_lex.specs.Views.{said, IsNamed, lexeme, left, part_view, Turns};
@@ -210,6 +211,8 @@ pub fn lex(
     requires { length files.now ≤ 256 }
     ensures tokens { Gives names.new (λ ts. map (said names.new) ts.items) result (tokens files.now pieces.now) }
     ensures named { IfOk result (λ ts. All (IsNamed (length names.new)) ts.items) }
+    ensures ends { IfOk result (λ ts. EndsOnce ts.items) }
+    ensures known { IfErr result (CanShow (length names.new)) }
     ensures grows { Grows names.old names.new }
 {
     let cursor = Cursor {

@@ -5,3 +5,4 @@ pub mod Nests
 pub mod Steps
 pub mod Sounds
 pub mod Uses
+pub mod Entries

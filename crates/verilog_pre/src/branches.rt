@@ -1,7 +1,7 @@
 // Directives that open, continue and close conditionals.
-ghost use Rattle.std.specs.Prelude.{◌≡◌, ◌≤◌, length, IfOk, OnOk, false, true};
+ghost use Rattle.std.specs.Prelude.{◌≡◌, ◌≤◌, length, IfOk, IfErr, OnOk, false, true};
 ghost use Rattle.ls_text.specs.Texts.{Grows};
-ghost use Rattle.source_text.specs.Faults.{Gives};
+ghost use Rattle.source_text.specs.Faults.{Gives, CanShow};
 ghost use Rattle.verilog_pre.specs.Conditionals.{continued, closed};
 ghost use Rattle.verilog_pre.specs.Directives.{name_at};
 ghost use Rattle.verilog_pre.specs.Reading.{named, ifdef_name, elsif_name, nest_or_bad, holds_if};
@@ -31,6 +31,7 @@ pub fn ifdef(
         (named at word.now (ifdef_name at negated (state reader.old)) (name_at rest.now)) }
     ensures sound { OnOk result (Sound reader.new.macros) }
     ensures within { IfOk result (λ n. n ≤ length rest.now) }
+    ensures known { IfErr result (CanShow (length names.new)) }
     ensures grows { Grows names.old names.new }
 {
     match name_at(rest) {
@@ -60,6 +61,7 @@ fn next_branch(
         (nest_or_bad at word.now (state reader.old) n (continued holds closing reader.old.nest.items)) }
     ensures sound { OnOk result (Sound reader.new.macros) }
     ensures count { IfOk result (λ m. m ≡ n) }
+    ensures known { IfErr result (CanShow (length names.new)) }
     ensures grows { Grows names.old names.new }
 {
     if conditionals::next(&mut reader.nest, holds, closing)? {
@@ -83,6 +85,7 @@ pub fn elsif(
         (named at word.now (elsif_name at word.now (state reader.old)) (name_at rest.now)) }
     ensures sound { OnOk result (Sound reader.new.macros) }
     ensures within { IfOk result (λ n. n ≤ length rest.now) }
+    ensures known { IfErr result (CanShow (length names.new)) }
     ensures grows { Grows names.old names.new }
 {
     match name_at(rest) {
@@ -107,6 +110,7 @@ pub fn otherwise(
         (nest_or_bad at word.now (state reader.old) 0 (continued true true reader.old.nest.items)) }
     ensures sound { OnOk result (Sound reader.new.macros) }
     ensures within { IfOk result (λ n. n ≡ 0) }
+    ensures known { IfErr result (CanShow (length names.new)) }
     ensures grows { Grows names.old names.new }
 {
     next_branch(alloc, names, reader, at, word, true, true, 0)
@@ -125,6 +129,7 @@ pub fn endif(
         (nest_or_bad at word.now (state reader.old) 0 (closed reader.old.nest.items)) }
     ensures sound { OnOk result (Sound reader.new.macros) }
     ensures within { IfOk result (λ n. n ≡ 0) }
+    ensures known { IfErr result (CanShow (length names.new)) }
     ensures grows { Grows names.old names.new }
 {
     if conditionals::close(&mut reader.nest) {

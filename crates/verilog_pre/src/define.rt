@@ -1,7 +1,7 @@
 // Defining macros.
-ghost use Rattle.std.specs.Prelude.{◌≡◌, ◌≤◌, ◌+◌, ◌++◌, length, drop, IfOk, OnOk, Some, None};
+ghost use Rattle.std.specs.Prelude.{◌≡◌, ◌≤◌, ◌+◌, ◌++◌, length, drop, IfOk, IfErr, OnOk, Some, None};
 ghost use Rattle.ls_text.specs.Texts.{Grows};
-ghost use Rattle.source_text.specs.Faults.{Gives};
+ghost use Rattle.source_text.specs.Faults.{Gives, CanShow};
 ghost use Rattle.verilog_pre.specs.Bodies.{body_parts, body_len};
 ghost use Rattle.verilog_pre.specs.Reading.{define_name, undef_name, with_body, named};
 ghost use Rattle.verilog_pre.specs.States.{state};
@@ -74,6 +74,7 @@ fn define_name(
         (define_name at offset word.now (state reader.old) rest.now (found.entry.0.now, found.entry.1)) }
     ensures sound { OnOk result (Sound reader.new.macros) }
     ensures within { IfOk result (λ n. n ≤ length rest.now) }
+    ensures known { IfErr result (CanShow (length names.new)) }
     ensures grows { Grows names.old names.new }
 {
     let (name, n) = found;
@@ -101,6 +102,7 @@ pub fn define(
         (named at word.now (define_name at offset word.now (state reader.old) rest.now) (name_at rest.now)) }
     ensures sound { OnOk result (Sound reader.new.macros) }
     ensures within { IfOk result (λ n. n ≤ length rest.now) }
+    ensures known { IfErr result (CanShow (length names.new)) }
     ensures grows { Grows names.old names.new }
 {
     match name_at(rest) {
@@ -123,6 +125,7 @@ pub fn undef(
         (named at word.now (undef_name (state reader.old)) (name_at rest.now)) }
     ensures sound { OnOk result (Sound reader.new.macros) }
     ensures within { IfOk result (λ n. n ≤ length rest.now) }
+    ensures known { IfErr result (CanShow (length names.new)) }
     ensures grows { Grows names.old names.new }
 {
     match name_at(rest) {

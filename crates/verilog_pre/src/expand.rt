@@ -1,8 +1,8 @@
 // The use of a macro.
-ghost use Rattle.std.specs.Prelude.{◌≡◌, ℕ, List, ◌<◌, ◌≤◌, ◌+◌, ◌-◌, ◌*◌, ◌++◌, ◌∷◌, [], length, take, drop, map, IfOk, OnOk, Ok};
-ghost use Rattle.std.specs.List.{list_any};
+ghost use Rattle.std.specs.Prelude.{◌≡◌, ℕ, List, ◌<◌, ◌≤◌, ◌+◌, ◌-◌, ◌*◌, ◌++◌, ◌∷◌, [], length, take, drop, map, IfOk, IfErr, OnOk, Ok};
+ghost use Rattle.std.specs.List.{All, list_any};
 ghost use Rattle.ls_text.specs.Texts.{Grows};
-ghost use Rattle.source_text.specs.Faults.{fault_at, fault_view, Gives};
+ghost use Rattle.source_text.specs.Faults.{fault_at, fault_view, Gives, CanShow, IsNameless};
 ghost use Rattle.source_text.specs.Files.{text_between};
 ghost use Rattle.verilog_pre.specs.declared.item.Item.TheVariants as item;
 ghost use Rattle.verilog_pre.specs.Tables.{table_of, Sound};
@@ -23,7 +23,7 @@ use std::alloc::Global;
 use std::collections::VecDeque;
 
 /// The fault 12 of a directive, which shows its word.
-#[tactic(auto, using(crate::proofs::Shown::one_word))]
+#[tactic(auto, using(crate::proofs::Shown::one_word, source_text::proofs::Shown::one_shown))]
 pub fn bad_directive(
     alloc: Global,
     names: &mut Names,
@@ -31,6 +31,7 @@ pub fn bad_directive(
     word: &[u8],
 ) -> Result<Fault, NoMemory>
     ensures fault { IfOk result (λ f. fault_view names.new f ≡ fault_at 12 at (word.now ∷ [])) }
+    ensures known { IfOk result (λ f. All (λ id. id.0 < length names.new) f.names) }
     ensures grows { Grows names.old names.new }
 {
     let mut shown = Vec::with_capacity(alloc, 1)?;
@@ -54,6 +55,7 @@ pub fn emit(
 ) -> Result<(), Refusal>
     ensures piece { (names : List (List ℕ)) → Gives names (λ u. output out.new) result (emitted at piece len (output out.old)) }
     ensures uses { out.new.uses ≡ out.old.uses }
+    ensures known { IfErr result IsNameless }
 {
     if (out.bytes as usize) < len {
         return Err(Refusal::Fault(text_fault(alloc, 10, at)));
@@ -112,6 +114,7 @@ fn enter(
     ensures keeps { OnOk result (Keeps macros.old macros.new) }
     ensures sound { OnOk result (Sound macros.new) }
     ensures placed { OnOk result (Placed macros.new.places.items nest.new.open.items) }
+    ensures known { IfErr result (CanShow (length names.new)) }
     ensures grows { Grows names.old names.new }
     ensures less { OnOk result (out.new.uses * (length macros.old.parts.items + 2) + length nest.new.work.items
         < out.old.uses * (length macros.old.parts.items + 2) + length nest.old.work.items) }
@@ -134,7 +137,7 @@ fn enter(
 }
 
 // Reads a part of a body before the work that is left.
-#[tactic(auto, unfolding(crate::specs::Expansions::work_on, crate::specs::Expansions::used), using(crate::proofs::Steps::text_step, crate::proofs::Steps::text_refused))]
+#[tactic(auto, unfolding(crate::specs::Expansions::work_on, crate::specs::Expansions::used), using(crate::proofs::Steps::text_step, crate::proofs::Steps::text_refused, source_text::proofs::Shown::all_nameless))]
 fn read_part(
     alloc: Global,
     names: &mut Names,
@@ -153,6 +156,7 @@ fn read_part(
     ensures keeps { OnOk result (Keeps macros.old macros.new) }
     ensures sound { OnOk result (Sound macros.new) }
     ensures placed { OnOk result (Placed macros.new.places.items nest.new.open.items) }
+    ensures known { IfErr result (CanShow (length names.new)) }
     ensures grows { Grows names.old names.new }
     ensures less { OnOk result (out.new.uses * (length macros.old.parts.items + 2) + length nest.new.work.items
         ≤ out.old.uses * (length macros.old.parts.items + 2) + length nest.old.work.items) }
@@ -202,6 +206,7 @@ fn carry_out(
     ensures keeps { OnOk result (Keeps macros.old macros.new) }
     ensures sound { OnOk result (Sound macros.new) }
     ensures placed { OnOk result (Placed macros.new.places.items nest.new.open.items) }
+    ensures known { IfErr result (CanShow (length names.new)) }
     ensures grows { Grows names.old names.new }
     ensures less { OnOk result (out.new.uses * (length macros.old.parts.items + 2) + length nest.new.work.items
         ≤ out.old.uses * (length macros.old.parts.items + 2) + length nest.old.work.items) }
@@ -242,6 +247,7 @@ pub fn expand(
     ensures pieces { Gives names.new (λ u. output out.new) result (expanded (context macros.old files.now at) word.now (output out.old)) }
     ensures keeps { OnOk result (Keeps macros.old macros.new) }
     ensures sound { OnOk result (Sound macros.new) }
+    ensures known { IfErr result (CanShow (length names.new)) }
     ensures grows { Grows names.old names.new }
 {
     let mut nest = Nest {

@@ -1,8 +1,8 @@
 // Reading texts and files.
-ghost use Rattle.std.specs.Prelude.{◌≡◌, ◌<◌, ◌≤◌, ◌+◌, length, slice_get, if◌then◌else◌, IfOk, OnOk, codes};
+ghost use Rattle.std.specs.Prelude.{◌≡◌, ◌<◌, ◌≤◌, ◌+◌, length, slice_get, if◌then◌else◌, IfOk, IfErr, OnOk, codes};
 ghost use Rattle.std.specs.List.{All};
 ghost use Rattle.ls_text.specs.Texts.{Grows};
-ghost use Rattle.source_text.specs.Faults.{Gives};
+ghost use Rattle.source_text.specs.Faults.{Gives, CanShow};
 ghost use Rattle.verilog_pre.specs.Reading.{text_read, opening_word, ended, file_read, files_from, pieces};
 ghost use Rattle.verilog_pre.specs.States.{state};
 ghost use Rattle.verilog_pre.specs.Tables.{Sound};
@@ -31,6 +31,7 @@ fn read_text(
     requires room { length text.now ≤ 4194304 }
     ensures read { Gives names.new (λ u. state reader.new) result (text_read files.now start 0 (state reader.old) text.now) }
     ensures sound { OnOk result (Sound reader.new.macros) }
+    ensures known { IfErr result (CanShow (length names.new)) }
     ensures grows { Grows names.old names.new }
 {
     let mut rest = text;
@@ -58,6 +59,7 @@ fn opening_word(negated: bool) -> &'static [u8]
 // Refuses a conditional that is open, the outermost first.
 fn end_file(alloc: Global, names: &mut Names, reader: &Reader) -> Result<(), Refusal>
     ensures ended { Gives names.new (λ u. state reader.now) result (ended (state reader.now) (slice_get reader.now.nest.items 0)) }
+    ensures known { IfErr result (CanShow (length names.new)) }
     ensures grows { Grows names.old names.new }
 {
     match reader.nest.first().copied() {
@@ -83,6 +85,7 @@ fn read_file(
     requires room { length text.now ≤ 4194304 }
     ensures read { Gives names.new (λ u. state reader.new) result (file_read files.now file (state reader.old) text.now) }
     ensures sound { OnOk result (Sound reader.new.macros) }
+    ensures known { IfErr result (CanShow (length names.new)) }
     ensures grows { Grows names.old names.new }
 {
     match read_text(alloc, names, files, reader, file_start(file), text) {
@@ -102,6 +105,7 @@ fn read_files(
     requires files { length files.now ≤ 256 }
     requires texts { All (λ f. length f.text ≤ 4194304) files.now }
     ensures read { Gives names.new (λ u. state reader.new) result (files_from files.now 0 (state reader.old) files.now) }
+    ensures known { IfErr result (CanShow (length names.new)) }
     ensures grows { Grows names.old names.new }
 {
     for (number, file) in files.iter().enumerate() {
@@ -137,6 +141,7 @@ pub fn preprocess(
     requires files { length files.now ≤ 256 }
     requires texts { All (λ f. length f.text ≤ 4194304) files.now }
     ensures pieces { Gives names.new (λ ps. ps.items) result (pieces files.now) }
+    ensures known { IfErr result (CanShow (length names.new)) }
     ensures grows { Grows names.old names.new }
 {
     let mut reader = Reader {

@@ -1,8 +1,8 @@
 // Reading a text: runs of bytes, comments and directives.
-ghost use Rattle.std.specs.Prelude.{◌≡◌, ◌<◌, ◌≤◌, ◌+◌, ℕ, List, length, false, IfOk, OnOk};
+ghost use Rattle.std.specs.Prelude.{◌≡◌, ◌<◌, ◌≤◌, ◌+◌, ℕ, List, length, false, IfOk, IfErr, OnOk};
 ghost use Rattle.source_text.specs.Bytes.{through_pair};
 ghost use Rattle.ls_text.specs.Texts.{Grows};
-ghost use Rattle.source_text.specs.Faults.{Gives};
+ghost use Rattle.source_text.specs.Faults.{Gives, CanShow, IsNameless};
 ghost use Rattle.verilog_pre.specs.Reading.{directive_at, directive_read, plain_len, full_place, run_read, comment_read, behind_word, word_read, use_macro, turn};
 ghost use Rattle.verilog_pre.specs.Directives.{directive_of};
 ghost use Rattle.verilog_pre.specs.States.{State, state};
@@ -37,6 +37,7 @@ fn use_macro(
     ensures read { Gives names.new (λ n. (state reader.new, n)) result (use_macro files.now at word.now (state reader.old)) }
     ensures sound { OnOk result (Sound reader.new.macros) }
     ensures within { IfOk result (λ n. n ≡ 0) }
+    ensures known { IfErr result (CanShow (length names.new)) }
     ensures grows { Grows names.old names.new }
 {
     match expand(
@@ -70,6 +71,7 @@ fn directive(
         (directive_at files.now at offset word.now (state reader.old) rest.now (directive_of word.now)) }
     ensures sound { OnOk result (Sound reader.new.macros) }
     ensures within { IfOk result (λ n. n ≤ length rest.now) }
+    ensures known { IfErr result (CanShow (length names.new)) }
     ensures grows { Grows names.old names.new }
 {
     match directive_of(word) {
@@ -104,6 +106,7 @@ fn read_directive(
         (directive_read files.now at offset word.now (state reader.old) rest.now) }
     ensures sound { OnOk result (Sound reader.new.macros) }
     ensures within { IfOk result (λ n. n ≤ length rest.now) }
+    ensures known { IfErr result (CanShow (length names.new)) }
     ensures grows { Grows names.old names.new }
 {
     if is_read(&reader.nest) || is_conditional(directive_of(word)) {
@@ -131,6 +134,7 @@ fn read_word(
     ensures sound { OnOk result (Sound reader.new.macros) }
     ensures within { IfOk result (λ n. n ≤ length text.now) }
     ensures some { IfOk result (λ n. 0 < n) }
+    ensures known { IfErr result (CanShow (length names.new)) }
     ensures grows { Grows names.old names.new }
 {
     let name = behind(text, 1);
@@ -174,7 +178,7 @@ fn full_place(bytes: u32, n: usize, at: Place, text: &[u8]) -> Place
 }
 
 // Reads a run of bytes, which is a piece unless it is skipped.
-#[tactic(auto, unfolding(crate::specs::Reading::run_read))]
+#[tactic(auto, unfolding(crate::specs::Reading::run_read), using(source_text::proofs::Shown::nameless))]
 fn read_run(
     alloc: Global,
     reader: &mut Reader,
@@ -190,6 +194,7 @@ fn read_run(
     ensures read { Gives names.now (λ n. (state reader.new, n)) result (run_read at offset (state reader.old) text.now n) }
     ensures sound { OnOk result (Sound reader.new.macros) }
     ensures count { IfOk result (λ m. m ≡ n) }
+    ensures known { IfErr result (CanShow (length names.now)) }
 {
     if !is_read(&reader.nest) {
         return Ok(n);
@@ -215,6 +220,7 @@ fn read_comment(alloc: Global, at: Place, inside: &[u8]) -> Result<usize, Refusa
         (comment_read at st (through_pair 42 47 false 0 inside.now)) }
     ensures within { IfOk result (λ n. n ≤ 2 + length inside.now) }
     ensures some { IfOk result (λ n. 0 < n) }
+    ensures known { IfErr result IsNameless }
 {
     match through_pair(b'*', b'/', inside) {
         Some(n) => Ok(2 + n),
@@ -223,7 +229,7 @@ fn read_comment(alloc: Global, at: Place, inside: &[u8]) -> Result<usize, Refusa
 }
 
 /// Reads what begins a text that isn't empty, and answers how many bytes it has.
-#[tactic(auto, unfolding(crate::specs::Reading::turn))]
+#[tactic(auto, unfolding(crate::specs::Reading::turn), using(source_text::proofs::Shown::all_nameless))]
 pub fn read_turn(
     alloc: Global,
     names: &mut Names,
@@ -240,6 +246,7 @@ pub fn read_turn(
     ensures sound { OnOk result (Sound reader.new.macros) }
     ensures within { IfOk result (λ n. n ≤ length text.now) }
     ensures some { IfOk result (λ n. 0 < n) }
+    ensures known { IfErr result (CanShow (length names.new)) }
     ensures grows { Grows names.old names.new }
 {
     let first = byte_at(text, 0);

@@ -2,7 +2,7 @@
 ghost use Rattle.std.specs.Prelude.{◌≤◌, length};
 
 use super::*;
-use ls_text::{At, Names, Place, Refusal, SourceFile, TextBytes};
+use ls_text::{Names, NoMemory, Refusal, SourceFile, TextBytes, fault_line};
 use std::alloc::Global;
 
 // The pieces of two files.
@@ -36,24 +36,51 @@ fn has_pieces(alloc: Global, text: &[u8], expected: &[&[u8]]) -> bool
     same
 }
 
-// Whether two files are refused with this code at this place of the first.
-fn is_refused(alloc: Global, first: &[u8], second: &[u8], code: u8, line: u32, col: u32) -> bool
+// The line that shows the first fault of two files; an empty one where they have none.
+#[tactic(auto, using(ls_text::proofs::Growth::grown_id))]
+fn fault_of(alloc: Global, first: &[u8], second: &[u8]) -> Result<Vec<u8>, NoMemory>
     requires first { length first.now ≤ 4194304 }
     requires second { length second.now ≤ 4194304 }
 {
-    match read(alloc, first, second) {
-        Err(Refusal::Fault(fault)) => {
-            fault.code == code && fault.at == At::Text(Place { file: 0, line, col })
-        }
-        _ => false,
+    let mut names = Names::new(alloc);
+    let a = names.intern(b"a.v")?;
+    let b = names.intern(b"b.v")?;
+    let files = [
+        SourceFile {
+            name: a,
+            text: TextBytes::new(Vec::from_slice(alloc, first)?),
+        },
+        SourceFile {
+            name: b,
+            text: TextBytes::new(Vec::from_slice(alloc, second)?),
+        },
+    ];
+    match preprocess(alloc, &mut names, &files) {
+        Ok(_) => Ok(Vec::new(alloc)),
+        Err(Refusal::NoMemory) => Err(NoMemory),
+        Err(Refusal::Fault(fault)) => fault_line(alloc, &names, &files, 0, &fault),
     }
 }
 
-// Whether a text is refused with 12 at this place.
-fn is_bad(alloc: Global, text: &[u8], line: u32, col: u32) -> bool
+// Whether this line shows the first fault of two files.
+fn shows(alloc: Global, first: &[u8], second: &[u8], line: &[u8]) -> bool
+    requires first { length first.now ≤ 4194304 }
+    requires second { length second.now ≤ 4194304 }
+{
+    match fault_of(alloc, first, second) {
+        Ok(shown) => shown.as_slice() == line,
+        Err(_) => false,
+    }
+}
+
+// Whether a text is refused with 12, with this word at this place.
+fn is_bad(alloc: Global, text: &[u8], shown: &[u8]) -> bool
     requires { length text.now ≤ 4194304 }
 {
-    is_refused(alloc, text, b"", 12, line, col)
+    match fault_of(alloc, text, b"") {
+        Ok(line) => line.as_slice().strip_prefix(b"refused 12 BadDirective a.v:".as_slice()) == Some(shown),
+        Err(_) => false,
+    }
 }
 
 #[test]
@@ -77,11 +104,28 @@ fn runs_and_bodies_are_pieces(rt: HostRuntime) {
             &[b"\n", b" a ` b"]
         )
     );
+    assert!(rt; has_pieces(alloc, b"`define A x\r\n`A\r\n", &[b"\n", b"x", b"\r\n"]));
+    assert!(rt; has_pieces(alloc, b"`define A 8'\n`A h1", &[b"\n", b"8'", b" h1"]));
 }
 
 #[test]
 fn conditionals_choose(rt: HostRuntime) {
     let alloc = rt.alloc();
+    assert!(rt;
+        has_pieces(
+            alloc,
+            b"`define W 8\n`ifdef W\nmodule top(input clk); reg [`W-1:0] a = `W'h2a; endmodule\n`else\nbad\n`endif\n",
+            &[
+                b"\n",
+                b"\nmodule top(input clk); reg [",
+                b"8",
+                b"-1:0] a = ",
+                b"8",
+                b"'h2a; endmodule\n",
+                b"\n"
+            ]
+        )
+    );
     assert!(rt;
         has_pieces(
             alloc,
@@ -114,32 +158,108 @@ fn conditionals_choose(rt: HostRuntime) {
 }
 
 #[test]
-fn directives_that_fail_are_refused(rt: HostRuntime) {
+fn uses_that_fail_are_refused(rt: HostRuntime) {
     let alloc = rt.alloc();
-    assert!(rt; is_bad(alloc, b"`include \"b.v\"", 1, 1));
+    assert!(rt; is_bad(alloc, b"`include \"b.v\"", b"1:1 include\n"));
+    assert!(rt; is_bad(alloc, b"`A\n`define A x", b"1:1 A\n"));
+    assert!(rt; is_bad(alloc, b"`define A x\n`undef A\n `A", b"3:2 A\n"));
+    assert!(rt; is_bad(alloc, b"`ifdef A `define B x\n`endif\n`B", b"3:1 B\n"));
+    assert!(rt; is_bad(alloc, b"`define A `none\n\t`A", b"2:2 none\n"));
+    assert!(rt; is_bad(alloc, b"`define A `ifdef\n`A", b"2:1 ifdef\n"));
     assert!(rt;
         is_bad(
             alloc,
             b"`define A `B\n`define B `C\n`define C `A\n `A",
-            4,
-            2
+            b"4:2 A\n"
         )
     );
-    assert!(rt; is_bad(alloc, b"`define A `none\n`A", 2, 1));
-    assert!(rt; is_bad(alloc, b"a `define A(x) x", 1, 3));
-    assert!(rt; is_bad(alloc, b"`define\nA", 1, 1));
-    assert!(rt; is_bad(alloc, b"`undef 1", 1, 1));
-    assert!(rt; is_bad(alloc, b"`ifdef A\n`ifdef\n`endif\n`endif", 2, 1));
-    assert!(rt; is_bad(alloc, b"`elsif A", 1, 1));
-    assert!(rt; is_bad(alloc, b"`else", 1, 1));
-    assert!(rt; is_bad(alloc, b"`endif", 1, 1));
-    assert!(rt; is_bad(alloc, b"`ifdef A\n`else\n`else\n`endif", 3, 1));
-    assert!(rt; is_bad(alloc, b"`ifdef A\n`else\n`elsif A\n`endif", 3, 1));
-    assert!(rt; is_bad(alloc, b"`define else x", 1, 1));
-    assert!(rt; is_bad(alloc, b"a\r\n/* b", 2, 1));
-    assert!(rt; is_bad(alloc, b"`define A /* b\n`A", 2, 1));
-    assert!(rt; is_bad(alloc, b" `ifdef A\n`ifdef B\n", 1, 2));
-    assert!(rt; is_refused(alloc, b"`ifdef A\n", b"`endif", 12, 1, 1));
+    assert!(rt;
+        is_bad(
+            alloc,
+            b"`define A `B\n`define B `C\n`define C `B\n `A",
+            b"4:2 B\n"
+        )
+    );
+    assert!(rt; is_bad(alloc, b"a\r\n/* b", b"2:1 -\n"));
+    assert!(rt; is_bad(alloc, b"a /*/", b"1:3 -\n"));
+    assert!(rt; is_bad(alloc, b"`define A /* b\n`A", b"2:1 -\n"));
+}
+
+#[test]
+fn directives_that_fail_are_refused(rt: HostRuntime) {
+    let alloc = rt.alloc();
+    assert!(rt; is_bad(alloc, b"a `define A(x) x", b"1:3 define\n"));
+    assert!(rt; is_bad(alloc, b"`define\nA", b"1:1 define\n"));
+    assert!(rt; is_bad(alloc, b"`define /* */ A", b"1:1 define\n"));
+    assert!(rt; is_bad(alloc, b"`undef 1", b"1:1 undef\n"));
+    assert!(rt; is_bad(alloc, b"`ifndef // A\n`endif", b"1:1 ifndef\n"));
+    assert!(rt; is_bad(alloc, b"`ifdef A\n`ifdef\n`endif\n`endif", b"2:1 ifdef\n"));
+    assert!(rt; is_bad(alloc, b"`ifdef A\n`elsif\n`endif", b"2:1 elsif\n"));
+    assert!(rt; is_bad(alloc, b"`define else x", b"1:1 define\n"));
+    assert!(rt; is_bad(alloc, b"`define timescale x", b"1:1 define\n"));
+}
+
+#[test]
+fn branches_that_fail_are_refused(rt: HostRuntime) {
+    let alloc = rt.alloc();
+    assert!(rt; is_bad(alloc, b"`elsif A", b"1:1 elsif\n"));
+    assert!(rt; is_bad(alloc, b"`else", b"1:1 else\n"));
+    assert!(rt; is_bad(alloc, b"`endif", b"1:1 endif\n"));
+    assert!(rt; is_bad(alloc, b"`ifdef A\n`endif\n`else", b"3:1 else\n"));
+    assert!(rt; is_bad(alloc, b"`ifdef A\n`else\n`else\n`endif", b"3:1 else\n"));
+    assert!(rt; is_bad(alloc, b"`ifdef A\n`else\n `elsif A\n`endif", b"3:2 elsif\n"));
+    assert!(rt; is_bad(alloc, b" `ifdef A\n`ifdef B\n", b"1:2 ifdef\n"));
+    assert!(rt; is_bad(alloc, b"`ifdef A\n`endif\n `ifndef B\n", b"3:2 ifndef\n"));
+    assert!(rt; shows(alloc, b"`ifdef A\n", b"`endif", b"refused 12 BadDirective a.v:1:1 ifdef\n"));
+    assert!(rt; shows(alloc, b"x", b"\n `endif", b"refused 12 BadDirective b.v:2:2 endif\n"));
+}
+
+// Adds some bytes, so many times.
+fn add_times(text: &mut Vec<u8>, bytes: &[u8], times: u32) -> Result<(), NoMemory> {
+    for _ in 0..times {
+        text.extend_from_slice(bytes)?;
+    }
+    Ok(())
+}
+
+// The line that shows the first fault of a text with so many uses of an empty macro.
+fn fault_of_uses(alloc: Global, uses: u32) -> Result<Vec<u8>, NoMemory> {
+    let mut text = Vec::from_slice(alloc, b"`define A\n")?;
+    add_times(&mut text, b"`A\n", uses)?;
+    if text.len() > 4_194_304 {
+        return Err(NoMemory);
+    }
+    fault_of(alloc, &text, b"")
+}
+
+// The line that shows the first fault of a text with so many uses of a macro of 1,048,576 bytes on its second line,
+// and then other bytes.
+fn fault_of_bytes(alloc: Global, uses: u32, others: u32) -> Result<Vec<u8>, NoMemory> {
+    let mut text = Vec::from_slice(alloc, b"`define A ")?;
+    add_times(&mut text, b"x", 1_048_576)?;
+    text.push(b'\n')?;
+    add_times(&mut text, b"`A", uses)?;
+    add_times(&mut text, b";", others)?;
+    if text.len() > 4_194_304 {
+        return Err(NoMemory);
+    }
+    fault_of(alloc, &text, b"")
+}
+
+#[test]
+fn too_much_is_refused(rt: HostRuntime) {
+    let alloc = rt.alloc();
+    let allowed = fault_of_uses(alloc, 1_048_576);
+    assert!(rt; matches!(allowed, Ok(line) if line.is_empty()));
+    let refused = fault_of_uses(alloc, 1_048_577);
+    assert!(rt; matches!(refused, Ok(line) if line == b"refused 10 TextTooLong a.v:1048578:1 -\n".as_slice()));
+    // The newline behind the body is a piece of one byte, so the sixteenth use would be one byte too many.
+    let allowed = fault_of_bytes(alloc, 15, 1_048_575);
+    assert!(rt; matches!(allowed, Ok(line) if line.is_empty()));
+    let refused = fault_of_bytes(alloc, 15, 1_048_576);
+    assert!(rt; matches!(refused, Ok(line) if line == b"refused 10 TextTooLong a.v:2:1048606 -\n".as_slice()));
+    let refused = fault_of_bytes(alloc, 16, 0);
+    assert!(rt; matches!(refused, Ok(line) if line == b"refused 10 TextTooLong a.v:2:31 -\n".as_slice()));
 }
 
 // How many pieces two files have.

@@ -1,0 +1,27 @@
+-- The uses that are refused.
+use Rattle.std.proofs.Common.{◌≡◌, ◌<◌, ℕ, zero, suc, Bool, true, cond, List, [], ◌∷◌, ◌++◌, Option, Some, None, Result, Err, sym, ap, ◌∙◌, arith}
+use Rattle.source_text.specs.Faults.{TextFault, fault_at}
+use Rattle.verilog_pre.specs.declared.item.Item.{Item}
+use Rattle.verilog_pre.specs.declared.macro_body.Macro.{Macro}
+use Rattle.verilog_pre.specs.Expansions.{Context, Output, entered, is_open, use_with, used}
+
+-- where some uses are left, a word is refused with 12 where what its macro comes to is
+refused_with : (n : ℕ) (c : Context) (word : List ℕ) (nest : List ℕ) (out : Output) (work : List Item) (fault : TextFault) → 0 < n
+    → ((inside : Macro → Result Output TextFault) → entered c word nest inside (c.table word) ≡ Err fault) → use_with n c word nest out work ≡ Err fault
+refused_with zero c word nest out work fault some refused = absurd (omega arith)
+refused_with (suc n) c word nest out work fault some refused = refused _
+
+-- a word that no macro has
+pub unknown_word : (c : Context) (word : List ℕ) (nest : List ℕ) (out : Output) (work : List Item) (fault : TextFault) → 0 < out.uses
+    → c.table word ≡ None → fault ≡ fault_at 12 c.at (word ∷ []) → used c word nest out work ≡ Err fault
+unfolding used
+unknown_word c word nest out work fault some none is =
+    refused_with out.uses c word nest out work fault some (λ inside. ap (entered c word nest inside) none ∙ ap Err (sym is))
+
+-- one whose macro is being expanded
+pub open_word : (c : Context) (word : List ℕ) (nest : List ℕ) (out : Output) (work : List Item) (fault : TextFault) (m : Macro) → 0 < out.uses
+    → c.table word ≡ Some m → is_open nest m.number ≡ true → fault ≡ fault_at 12 c.at (word ∷ []) → used c word nest out work ≡ Err fault
+unfolding used
+open_word c word nest out work fault m some known open_ is =
+    refused_with out.uses c word nest out work fault some
+    (λ inside. ap (entered c word nest inside) known ∙ ap (λ b. cond b (Err (fault_at 12 c.at (word ∷ []))) (inside m)) open_ ∙ ap Err (sym is))
