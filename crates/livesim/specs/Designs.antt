@@ -1,12 +1,13 @@
 -- The design of a module of one register, and its runs.
-use Rattle.std.specs.Prelude.{ℕ, max, false, List, [], ◌∷◌, ◌++◌, codes}
+use Rattle.std.specs.Prelude.{ℕ, ◌-◌, max, false, List, [], ◌∷◌, ◌++◌, codes, length, slice_get, Option, Some, None, Result, Ok, Err}
 use Rattle.bits.specs.Values.{resized}
 use Rattle.typed_ir.specs.Sized.{Sized, Constant, Name, Binary, Resized}
 use Rattle.typed_ir.specs.declared.operators.ArithmeticOperator.TheVariants.{Sum}
 use Rattle.typed_ir.specs.declared.operators.BinaryOperator.TheVariants.{Arithmetic}
 use Rattle.typed_ir.specs.Stmts.{Later, Fixed}
 use Rattle.typed_ir.specs.Cycles.{Flat}
-use Rattle.livesim.specs.Module.{RegisterText, Assignment, Operand, Register, Literal, Unknown}
+use Rattle.verilog_lex.specs.Tokens.{Said}
+use Rattle.livesim.specs.Module.{RegisterText, Assignment, Operand, Register, Literal, Unknown, module_at, unknown_in}
 
 -- the larger of a width and an operand's
 abbrev pub wider : ℕ → Operand → ℕ
@@ -57,6 +58,18 @@ one_register path width initial next = record {
 abbrev pub flat_of : List ℕ → RegisterText × Assignment → Flat
 flat_of top ((name, width, size, value), assignment) =
     one_register (top ++ codes "." ++ name) width (resized size value width false) (right_side width assignment)
+
+abbrev pub known_design : List ℕ → List Said → RegisterText × Assignment → Option ℕ → Result Flat (Option Said)
+known_design top ts parts None = Ok (flat_of top parts)
+known_design top ts parts (Some left) = Err (slice_get ts (length ts - left))
+
+abbrev pub parts_design : List ℕ → List Said → Option (RegisterText × Assignment) → Result Flat (Option Said)
+parts_design top ts None = Err None
+parts_design top ts (Some parts) = known_design top ts parts (unknown_in parts.1)
+
+-- the design of a module's tokens, or the first name that isn't known, or nothing where they are not of the form
+unfoldable pub design_at : List ℕ → List ℕ → List Said → Result Flat (Option Said)
+design_at top clock ts = parts_design top ts (module_at top clock ts)
 
 -- the rows of a run without inputs
 abbrev pub no_rows : ℕ → List ℕ

@@ -1,6 +1,6 @@
-pub mod Reserved
 pub mod Scan
-pub mod Places
+pub mod Texts
+pub mod FileNames
 pub mod Module
 pub mod Views
 pub mod Designs

@@ -37,7 +37,7 @@ done_text (Display line) w =
 done_text (Unbuilt line) w = []
 
 abbrev pub where_text : Where → List ℕ
-where_text (InText file spot) = file ++ (58 ∷ decimal spot.line) ++ (58 ∷ decimal spot.col)
+where_text (InText file line col) = file ++ (58 ∷ decimal line) ++ (58 ∷ decimal col)
 where_text (OnLine line) = line_text line
 
 -- each name after a space, and `-` where there is none

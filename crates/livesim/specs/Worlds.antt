@@ -1,10 +1,12 @@
 -- A session, and what commands do to it.
-use Rattle.std.specs.Prelude.{ℕ, ◌+◌, ◌^◌, Bool, false, ◌||◌, nat_le, nat_lt, if◌then◌else◌, List, [], ◌∷◌, length, drop, ◌-◌, Option, Some, None, Result, Ok, Err, is_err}
+use Rattle.std.specs.Prelude.{ℕ, ◌+◌, ◌^◌, Bool, false, ◌||◌, nat_le, nat_lt, if◌then◌else◌, List, [], ◌∷◌, length, slice_index_or, Option, Some, None, Result, Ok, Err, is_err}
 use Rattle.typed_ir.specs.Cycles.{Flat}
-use Rattle.livesim.specs.Scan.{word_at}
-use Rattle.livesim.specs.Places.{Spot, spot_with_left}
-use Rattle.livesim.specs.Module.{RegisterText, Assignment, module_at, unknown_in}
-use Rattle.livesim.specs.Designs.{flat_of}
+use Rattle.ls_text.specs.declared.place.At.{At}
+use Rattle.ls_text.specs.declared.place.At.TheVariants.{Text, Line, Edit}
+use Rattle.source_text.specs.Faults.{TextFault, fault_at}
+use Rattle.verilog_lex.specs.Tokens.{Said}
+use Rattle.livesim.specs.Texts.{text_tokens}
+use Rattle.livesim.specs.Designs.{design_at}
 use Rattle.livesim.specs.Script.{BlockText}
 use Rattle.livesim.specs.Commands.{Command, Load, Advance, Display, Unbuilt}
 
@@ -16,9 +18,9 @@ pub record World : Type 0 where
 abbrev pub fresh : World
 fresh = record { design = None; cycle = 0 }
 
--- where a fault is shown: in a text of the script, or at a line of the script
+-- where a fault is shown: at a line and a column of a file, or at a line of the script
 pub data Where : Type 0 where
-  InText : (file : List ℕ) (spot : Spot) → Where
+  InText : (file : List ℕ) (line col : ℕ) → Where
   OnLine : (line : ℕ) → Where
 
 -- a refusal: its code, its place and the names that it shows
@@ -35,32 +37,35 @@ not_built line = record { code = 90; place = OnLine line; names = [] }
 abbrev pub no_design : ℕ → Refused
 no_design line = record { code = 62; place = OnLine line; names = [] }
 
-abbrev pub word_or_nothing : Option (List ℕ × List ℕ) → List ℕ
-word_or_nothing None = []
-word_or_nothing (Some word) = word.0
+-- where a fault of these files is shown, in the block whose `edit` has that line
+abbrev pub where_of : List (List ℕ) → ℕ → At → Where
+where_of files line (Text p) = InText (slice_index_or files p.file []) p.line p.col
+where_of files line (Line n) = OnLine n
+where_of files line Edit = OnLine line
 
--- the name that begins where so many bytes of a text are left isn't known
-abbrev pub unknown_name : List ℕ → List ℕ → ℕ → Refused
-unknown_name file text left = record {
-  code = 29;
-  place = InText file (spot_with_left text left);
-  names = word_or_nothing (word_at (drop (length text - left) text)) ∷ [];
-}
+-- a fault of these files
+abbrev pub refused_text : List (List ℕ) → ℕ → TextFault → Refused
+refused_text files line fault = record { code = fault.code; place = where_of files line fault.at; names = fault.words }
 
-abbrev pub named_verdict : BlockText → RegisterText × Assignment → Option ℕ → Result World Refused
-named_verdict block parts None = Ok (record { design = Some (flat_of block.top parts); cycle = 0 })
-named_verdict block parts (Some left) = Err (unknown_name block.file block.text left)
+-- a name isn't known
+abbrev pub unknown_name : Said → TextFault
+unknown_name t = fault_at 29 t.at (t.text ∷ [])
 
-abbrev pub text_verdict : BlockText → Option (RegisterText × Assignment) → Result World Refused
-text_verdict block None = Err (not_built block.file_line)
-text_verdict block (Some parts) = named_verdict block parts (unknown_in parts.1)
+abbrev pub design_verdict : ℕ → BlockText → Result Flat (Option Said) → Result World Refused
+design_verdict line block (Ok design) = Ok (record { design = Some design; cycle = 0 })
+design_verdict line block (Err None) = Err (not_built block.file_line)
+design_verdict line block (Err (Some name)) = Err (refused_text (block.file ∷ []) line (unknown_name name))
 
--- the first block: its text is of the form, and its names are known
+abbrev pub text_verdict : ℕ → BlockText → Result (List Said) TextFault → Result World Refused
+text_verdict line block (Err fault) = Err (refused_text (block.file ∷ []) line fault)
+text_verdict line block (Ok ts) = design_verdict line block (design_at block.top block.clock ts)
+
+-- the first block: its text has no fault, is of the form, and its names are known
 abbrev pub first_block : ℕ → Option BlockText → Result World Refused
 first_block line None = Err (not_built line)
 first_block line (Some block) =
     if nat_lt 4194304 (length block.text) then Err (not_built block.file_line)
-    else text_verdict block (module_at block.top block.clock block.text)
+    else text_verdict line block (text_tokens block.text)
 
 abbrev pub load_verdict : ℕ → Option BlockText → Option Flat → Result World Refused
 load_verdict line block None = first_block line block

@@ -1,18 +1,21 @@
 // The simulator of a script.
 #![tactic(auto)]
 
+mod build;
+mod built;
 mod design;
 mod live;
 mod module;
 mod one_register;
 mod parts;
-mod places;
 mod reply;
-mod reserved;
 mod running;
 mod scan;
 mod script;
 mod session;
+mod text;
+mod tokens;
+mod tokens_left;
 
 use ls_port::{StdSink, StdSource};
 use std::process::ExitCode;

@@ -1,16 +1,16 @@
 // What answers a command.
-ghost use Rattle.std.specs.Prelude.{◌≡◌, ◌<◌, ◌-◌, ◌^◌, ◌∷◌, true, false, [], length, drop, IfOk};
+ghost use Rattle.std.specs.Prelude.{◌≡◌, ◌<◌, ◌∷◌, true, false, [], length, IfOk};
+ghost use Rattle.std.specs.List.{All};
 ghost use Rattle.ls_text.specs.Texts.{text_at};
-ghost use Rattle.livesim.specs.Scan.{word_at};
-ghost use Rattle.livesim.specs.Worlds.{InText, OnLine, not_built, no_design, unknown_name, word_or_nothing};
+ghost use Rattle.source_text.specs.Faults.{fault_view};
+ghost use Rattle.verilog_lex.specs.Views.{said, IsNamed};
+ghost use Rattle.livesim.specs.Worlds.{OnLine, not_built, no_design, refused_text, unknown_name};
+ghost use Rattle.livesim.specs.FileNames.{file_names};
 ghost use Rattle.livesim.specs.Replies.{refusal_text};
 
-use crate::places::place_with_left;
-use crate::scan::word;
-use ls_text::{
-    At, Fault, NameId, NameList, Names, NoMemory, Place, SourceFile, TextBytes, fault_line,
-};
+use ls_text::{At, Fault, NameList, Names, NoMemory, SourceFile, fault_line};
 use std::alloc::Global;
+use verilog_lex::Token;
 
 /// The lines of a reply, and whether it is a refusal.
 #[derive(Drop)]
@@ -64,63 +64,44 @@ pub fn no_design(alloc: Global, line: u64) -> Result<Reply, NoMemory>
     refused_line(alloc, 62, line)
 }
 
-// The word that begins where so many bytes of a text are left.
-fn word_with_left(text: &[u8], left: usize) -> &[u8]
-    ensures { result.now ≡ word_or_nothing (word_at (drop (length text.now - left) text.now)) }
-{
-    match word(&text[text.len().saturating_sub(left)..]) {
-        Some((found, _)) => found,
-        None => b"",
-    }
-}
-
-// The refusal of a name at a place of the one file of a block.
-fn refused_name(
+/// The refusal of a fault in these files of a block, whose `edit` has that line.
+pub fn refused_text(
     alloc: Global,
     names: &Names,
-    file: SourceFile,
-    place: Place,
-    name: NameId,
+    files: &[SourceFile],
+    line: u64,
+    fault: &Fault,
 ) -> Result<Reply, NoMemory>
-    requires file { file.name.0 < length names.now }
-    requires name { name.0 < length names.now }
-    requires place { place.file ≡ 0 }
-    ensures text { IfOk result (λ r. r.text.items ≡ refusal_text (record {
-      code = 29;
-      place = InText (text_at names.now file.name.0) (record { line = place.line; col = place.col });
-      names = text_at names.now name.0 ∷ [];
-    })) }
+    requires files { All (λ f. f.name.0 < length names.now) files.now }
+    requires names { All (λ id. id.0 < length names.now) fault.now.names }
+    ensures text { IfOk result (λ r. r.text.items
+        ≡ refusal_text (refused_text (file_names names.now files.now) line (fault_view names.now fault.now))) }
     ensures refused { IfOk result (λ r. r.refused ≡ true) }
 {
-    let fault = Fault {
-        code: 29,
-        at: At::Text(place),
-        names: NameList::new(vec![in alloc; name]?),
-    };
     Ok(Reply {
-        text: fault_line(alloc, names, &[file], 0, &fault)?,
+        text: fault_line(alloc, names, files, line, fault)?,
         refused: true,
     })
 }
 
-/// The refusal of a name that isn't known, which begins where so many bytes of the text are left.
+/// The refusal of a name that isn't known.
 pub fn unknown_name(
     alloc: Global,
-    file: &[u8],
-    text: Vec<u8>,
-    left: usize,
+    names: &Names,
+    files: &[SourceFile],
+    line: u64,
+    name: Token,
 ) -> Result<Reply, NoMemory>
-    requires { length text.items < 2 ^ 31 }
-    ensures text { IfOk result (λ r. r.text.items ≡ refusal_text (unknown_name file.now text.items left)) }
+    requires files { All (λ f. f.name.0 < length names.now) files.now }
+    requires name { IsNamed (length names.now) name }
+    ensures text { IfOk result (λ r. r.text.items
+        ≡ refusal_text (refused_text (file_names names.now files.now) line (unknown_name (said names.now name)))) }
     ensures refused { IfOk result (λ r. r.refused ≡ true) }
 {
-    let place = place_with_left(&text, left);
-    let mut names = Names::new(alloc);
-    let file_name = names.intern(file)?;
-    let name = names.intern(word_with_left(&text, left))?;
-    let source = SourceFile {
-        name: file_name,
-        text: TextBytes::new(text),
+    let fault = Fault {
+        code: 29,
+        at: At::Text(name.at),
+        names: NameList::new(vec![in alloc; name.text]?),
     };
-    refused_name(alloc, &names, source, place, name)
+    refused_text(alloc, names, files, line, &fault)
 }

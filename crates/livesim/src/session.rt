@@ -1,5 +1,5 @@
 // A session: a design, once there is one, and what commands do to it.
-ghost use Rattle.std.specs.Prelude.{◌≡◌, ◌+◌, ◌<◌, ◌≤◌, ◌^◌, ◌++◌, Some, None, IfOk, OnOk};
+ghost use Rattle.std.specs.Prelude.{◌≡◌, ◌+◌, ◌<◌, ◌≤◌, ◌^◌, ◌++◌, Some, None, true, false, IfOk, OnOk};
 ghost use Rattle.typed_ir.specs.Cycles.{truth};
 ghost use Rattle.livesim.specs.Blocks.{block};
 ghost use Rattle.livesim.specs.Commands.{Load, Advance, Display};
@@ -7,14 +7,16 @@ ghost use Rattle.livesim.specs.Designs.{no_rows};
 ghost use Rattle.livesim.specs.Flats.{flat};
 ghost use Rattle.livesim.specs.Replies.{hex_text, table_text, done_text};
 
-use crate::design::design;
-use crate::module::{module, unknown_in};
-use crate::reply::{Reply, no_design, not_built, unknown_name};
+use crate::build::build;
+use crate::built::Built;
+use crate::one_register::Design;
+use crate::reply::{Reply, no_design, not_built, refused_text, unknown_name};
 use crate::running::Running;
 use crate::script::Block;
+use crate::text::file_tokens;
 use bits::Bits;
 use hex::encode_to_slice;
-use ls_text::{NoMemory, push_decimal};
+use ls_text::{Names, NoMemory, Refusal, SourceFile, TextBytes, push_decimal};
 use std::alloc::Global;
 
 /// The most bytes that a text of the form has.
@@ -51,13 +53,29 @@ impl Session {
         if given.text.len() > MAX_TEXT {
             return not_built(alloc, given.file_line);
         }
-        let Some((register, parts)) = module(alloc, given.top, given.clock, &given.text)? else {
-            return not_built(alloc, given.file_line);
+        let mut names = Names::new(alloc);
+        let files = [SourceFile {
+            name: names.intern(given.file)?,
+            text: TextBytes::new(given.text),
+        }];
+        let tokens = match file_tokens(alloc, &mut names, &files) {
+            Ok(tokens) => tokens,
+            Err(Refusal::NoMemory) => return Err(NoMemory),
+            Err(Refusal::Fault(fault)) => return refused_text(alloc, &names, &files, line, &fault),
         };
-        if let Some(left) = unknown_in(&parts) {
-            return unknown_name(alloc, given.file, given.text, left);
+        match build(alloc, &names, given.top, given.clock, &tokens)? {
+            Built::Made(design) => self.begin(alloc, design),
+            Built::OtherForm => not_built(alloc, given.file_line),
+            Built::Unknown(name) => unknown_name(alloc, &names, &files, line, name),
         }
-        let design = design(alloc, given.top, &register, &parts)?;
+    }
+
+    // Takes a first design, at reset.
+    fn begin(&mut self, alloc: Global, design: Design) -> Result<Reply, NoMemory>
+        ensures text { IfOk result (λ r. r.text.items ≡ done_text (Load 0 None) fresh) }
+        ensures world { OnOk result (world self.new ≡ record { design = Some (flat design.entry); cycle = 0 }) }
+        ensures refused { IfOk result (λ r. r.refused ≡ false) }
+    {
         let text = Vec::from_slice(alloc, b"ok edit v=1 built=1 kept=0 from=0\n")?;
         self.running = Some(Running {
             state: design.initial,
