@@ -1,5 +1,5 @@
 -- A refusal of a first step is one of the whole.
-use Rattle.std.proofs.Common.{◌≡◌, List, ℕ, Result, Ok, Err, ap}
+use Rattle.std.proofs.Common.{List, ℕ, Result, ap}
 use Rattle.ls_text.specs.declared.refusal.Refusal.{Refusal}
 use Rattle.ls_text.specs.declared.refusal.Refusal.TheVariants as refusal
 use Rattle.source_text.specs.Faults.{TextFault, Refuses, ◌>>=◌}

@@ -1,5 +1,5 @@
 -- The first fault of a text, and what an answer says of a reading.
-use Rattle.std.specs.Prelude.{◌≡◌, ◌<◌, ℕ, List, [], ◌∷◌, map, Result, Ok, Err, ⊤}
+use Rattle.std.specs.Prelude.{◌≡◌, ◌<◌, ℕ, List, [], map, Result, Ok, Err, ⊤}
 use Rattle.std.specs.List.{All}
 use Rattle.ls_text.specs.Texts.{text_at}
 use Rattle.ls_text.specs.declared.name_id.NameId.{NameId}

@@ -1,5 +1,5 @@
 -- Stretches of the texts of files.
-use Rattle.std.specs.Prelude.{ℕ, ◌-◌, Bool, ◌&&◌, nat_le, if◌then◌else◌, List, [], length, take, drop, Option, Some, None, slice_get}
+use Rattle.std.specs.Prelude.{ℕ, ◌-◌, ◌&&◌, nat_le, if◌then◌else◌, List, [], length, take, drop, Option, Some, None, slice_get}
 use Rattle.ls_text.specs.declared.source_file.SourceFile.{SourceFile}
 
 abbrev pub text_of : Option SourceFile → List ℕ

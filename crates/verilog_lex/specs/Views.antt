@@ -1,10 +1,8 @@
 -- What tokens, and what is left to read, stand for.
-use Rattle.std.specs.Prelude.{◌≡◌, ◌<◌, ℕ, List, [], ◌∷◌, ◌++◌, drop, map, length, Bool, true, false, Option, Some, None, Result, Ok, Err, ⊤}
-use Rattle.std.specs.List.{AllByRecursion}
+use Rattle.std.specs.Prelude.{◌≡◌, ◌<◌, ℕ, List, [], ◌∷◌, ◌++◌, drop, Bool, Option, Some, None, Result, Ok, Err}
 use Rattle.ls_text.specs.Texts.{text_at}
 use Rattle.ls_text.specs.declared.refusal.Refusal.{Refusal}
 use Rattle.source_text.specs.Faults.{TextFault, Refuses}
-use Rattle.verilog_lex.specs.declared.kind.Kind.{Kind}
 use Rattle.verilog_lex.specs.declared.token.Token.{Token}
 use Rattle.verilog_lex.specs.declared.lexeme.Lexeme as code
 use Rattle.verilog_lex.specs.declared.shape.Based.{Based}

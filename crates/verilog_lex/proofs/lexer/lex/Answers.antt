@@ -1,4 +1,4 @@
-use Rattle.std.proofs.Common.{◌≡◌, ◌++◌, ◌∷◌, [], codes, Ok, sym, ap, ◌∙◌}
+use Rattle.std.proofs.Common.{◌++◌, ◌∷◌, [], codes, Ok, sym, ap, ◌∙◌}
 use Rattle.source_text.specs.Faults.{◌>>=◌}
 use Rattle.source_text.proofs.Refused.{refused_on}
 use Rattle.verilog_lex.specs.declared.kind.Kind.TheVariants as kind

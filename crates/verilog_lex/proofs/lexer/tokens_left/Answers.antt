@@ -1,4 +1,3 @@
-use Rattle.std.proofs.Common.{◌≡◌, map}
 use Rattle.ls_text.proofs.Growth.{grows_on}
 use Rattle.verilog_lex.specs.Tokens.{lexeme_tokens}
 use Rattle.verilog_lex.specs.Views.{left}
