@@ -1,6 +1,8 @@
 pub mod Lines
 pub mod Numbers
 pub mod Operands
+pub mod Shown
+pub mod Files
 pub mod Steps
 pub mod Commands
 pub mod Turns

@@ -73,7 +73,7 @@ impl Session {
     // Takes a first design, at reset.
     fn begin(&mut self, alloc: Global, design: Design) -> Result<Reply, NoMemory>
         ensures text { IfOk result (λ r. r.text.items ≡ done_text (Load 0 None) fresh) }
-        ensures world { OnOk result (world self.new ≡ record { design = Some (flat design.entry); cycle = 0 }) }
+        ensures world { OnOk result (world self.new ≡ record { design = Some (flat design); cycle = 0 }) }
         ensures refused { IfOk result (λ r. r.refused ≡ false) }
     {
         let text = Vec::from_slice(alloc, b"ok edit v=1 built=1 kept=0 from=0\n")?;

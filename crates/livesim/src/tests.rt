@@ -184,11 +184,11 @@ fn texts_are_refused(rt: HostRuntime) -> Result<(), Fail> {
         ),
         (
             b"reg [7:0] acc = 129'h00;\nalways @(posedge clk) acc <= acc + 8'h01;",
-            not_built,
+            b"refused 14 BadNumber a.v:2:17 -\n",
         ),
         (
             b"reg [7:0] acc = 128'h100000000000000000000000000000000;\nalways @(posedge clk) acc <= acc;",
-            not_built,
+            b"refused 14 BadNumber a.v:2:17 -\n",
         ),
         (
             b"reg [7:0] clk = 8'h00;\nalways @(posedge clk) clk <= 8'h01;",
@@ -204,6 +204,69 @@ fn texts_are_refused(rt: HostRuntime) -> Result<(), Fail> {
             written.ends_with(b" -\nrefused 62 NoDesign @12 -\n")
                 || written.ends_with(b" -\nrefused 62 NoDesign @13 -\n")
         );
+    }
+    Ok(())
+}
+
+// Whole texts, with macros, comments and faults, and the lines that answer the block and a `show`.
+#[test]
+fn texts_are_preprocessed(rt: HostRuntime) -> Result<(), Fail> {
+    let alloc = rt.alloc();
+    let rows: [(&[u8], &[u8]); 12] = [
+        (
+            b"`define W 8\n`ifdef W\nmodule top(input clk); reg [7:0] a = `W'h2a; always @(posedge clk) a <= a + `W'h1; endmodule\n`else\nbad\n`endif",
+            b"ok edit v=1 built=1 kept=0 from=0\nshow cycle=0 settled v=1\ntop.a 2a\n",
+        ),
+        (
+            b"(* keep *) module top(input clk); /* one\ntwo */ reg a = 1 'b 1; // three\nalways @(posedge clk) a <= a; endmodule",
+            b"ok edit v=1 built=1 kept=0 from=0\nshow cycle=0 settled v=1\ntop.a 1\n",
+        ),
+        (
+            b"module top(input clk); reg [7:0] a = 8'd42; always @(posedge clk) a <= a + 4'o7; endmodule",
+            b"ok edit v=1 built=1 kept=0 from=0\nshow cycle=0 settled v=1\ntop.a 2a\n",
+        ),
+        (
+            b"module top(input clk); reg a = 1'bx; endmodule",
+            b"refused 14 BadNumber a.v:1:32 -\nrefused 62 NoDesign @8 -\n",
+        ),
+        (
+            b"module top(input clk); wire \"s\";",
+            b"refused 13 BadToken a.v:1:29 -\nrefused 62 NoDesign @8 -\n",
+        ),
+        (
+            b"`include \"b.v\"",
+            b"refused 12 BadDirective a.v:1:1 include\nrefused 62 NoDesign @8 -\n",
+        ),
+        (
+            b"wire a;/*",
+            b"refused 12 BadDirective a.v:1:8 -\nrefused 62 NoDesign @8 -\n",
+        ),
+        (
+            b" `ifndef A \"",
+            b"refused 12 BadDirective a.v:1:2 ifndef\nrefused 62 NoDesign @8 -\n",
+        ),
+        (
+            b"module top(input clk); reg [7:0] a = 42; always @(posedge clk) a <= a; endmodule",
+            b"refused 90 NotBuilt @4 -\nrefused 62 NoDesign @8 -\n",
+        ),
+        (
+            b"module top(input clk); reg [7:0] a = 8'sh2a; always @(posedge clk) a <= a; endmodule",
+            b"refused 90 NotBuilt @4 -\nrefused 62 NoDesign @8 -\n",
+        ),
+        (
+            b"module top(input clk); reg [7:0] a = 8'h00; always @(posedge clk) a <= `B; endmodule",
+            b"refused 12 BadDirective a.v:1:72 B\nrefused 62 NoDesign @8 -\n",
+        ),
+        (
+            b"module top(input clk);\t reg [7:0] a = 8'h00; always @(posedge clk) a <= b; endmodule",
+            b"refused 29 UnknownName a.v:1:73 b\nrefused 62 NoDesign @8 -\n",
+        ),
+    ];
+    for (text, want) in rows {
+        let block: &[u8] = b"edit\ntop top\nclock clk\nfile a.v\n";
+        let script = joined(alloc, &[block, text, b"\n.\nend\nshow\n"])?;
+        let (_, written) = lived(&rt, alloc, script, Vec::new(alloc), Vec::new(alloc))?;
+        assert!(rt; written.as_slice() == want);
     }
     Ok(())
 }

@@ -1,0 +1,38 @@
+-- The line of a fault in the files of a block.
+use Rattle.std.proofs.Common.{◌≡◌, ℕ, zero, suc, ◌==◌, List, [], ◌∷◌, ◌++◌, map, length, refl, ap, ◌∙◌}
+use Rattle.std.specs.Prelude.{codes, decimal, slice_get, slice_index_or}
+use Rattle.std.specs.List.{flat_map}
+use Rattle.ls_text.specs.Texts.{text_at}
+use Rattle.ls_text.specs.Faults.{code_name, file_text, fault_text, names_text, place_text}
+use Rattle.ls_text.specs.declared.name_id.NameId.{NameId}
+use Rattle.ls_text.specs.declared.source_file.SourceFile.{SourceFile}
+use Rattle.ls_text.specs.declared.place.At.{At}
+use Rattle.ls_text.specs.declared.place.At.TheVariants.{Text, Line, Edit}
+use Rattle.ls_text.specs.declared.fault.Fault.{Fault}
+use Rattle.source_text.specs.Faults.{fault_view}
+use Rattle.livesim.specs.FileNames.{file_names}
+use Rattle.livesim.specs.Replies.{refusal_text, shown_names, where_text}
+use Rattle.livesim.specs.Worlds.{refused_text, where_of}
+
+file_shown : (names : List (List ℕ)) (files : List SourceFile) (n : ℕ) → file_text names (slice_get files n) ≡ slice_index_or (file_names names files) n []
+file_shown names [] n = refl
+file_shown names (f ∷ files) zero = refl
+file_shown names (f ∷ files) (suc n) = file_shown names files n
+
+place_shown : (names : List (List ℕ)) (files : List SourceFile) (line : ℕ) (at : At) → place_text names files line at ≡ where_text (where_of (file_names names files) line at)
+place_shown names files line (Text p) = ap (λ file. file ++ (58 ∷ decimal p.line) ++ (58 ∷ decimal p.col)) (file_shown names files p.file)
+place_shown names files line (Line n) = refl
+place_shown names files line Edit = refl
+
+each_shown : (names : List (List ℕ)) (ids : List NameId) → flat_map (λ (id : NameId). 32 ∷ text_at names id.0) ids ≡ flat_map (λ (name : List ℕ). 32 ∷ name) (map (λ (id : NameId). text_at names id.0) ids)
+each_shown names [] = refl
+each_shown names (id ∷ ids) = ap (λ more. (32 ∷ text_at names id.0) ++ more) (each_shown names ids)
+
+names_shown : (names : List (List ℕ)) (ids : List NameId) → names_text names ids ≡ shown_names (map (λ (id : NameId). text_at names id.0) ids)
+names_shown names [] = refl
+names_shown names (id ∷ ids) = each_shown names (id ∷ ids)
+
+pub fault_shown : (names : List (List ℕ)) (files : List SourceFile) (line : ℕ) (f : Fault) → fault_text names files line f.code f.at f.names ≡ refusal_text (refused_text (file_names names files) line (fault_view names f))
+fault_shown names files line f =
+    ap (λ place. codes "refused " ++ decimal f.code ++ codes " " ++ code_name f.code ++ codes " " ++ place ++ names_text names f.names ++ (10 ∷ [])) (place_shown names files line f.at)
+    ∙ ap (λ shown. codes "refused " ++ decimal f.code ++ codes " " ++ code_name f.code ++ codes " " ++ where_text (where_of (file_names names files) line f.at) ++ shown ++ (10 ∷ [])) (names_shown names f.names)
