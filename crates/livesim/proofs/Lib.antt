@@ -4,4 +4,7 @@ pub mod Operands
 pub mod Steps
 pub mod Commands
 pub mod Turns
+pub mod Cuts
+pub mod Blocks
+pub mod Begins
 pub mod Endings

@@ -45,6 +45,7 @@ enum Ending {
 // How many bytes the next read asks for, after so many: the one byte too many is asked for by itself.
 fn room_after(count: usize) -> usize
     requires { count ≤ 67108864 }
+    ensures alone { count < 67108864 → count + result ≤ 67108864 }
     ensures some { 0 < result }
     ensures piece { result ≤ 65536 }
     ensures few { count + result ≤ 67108865 }
