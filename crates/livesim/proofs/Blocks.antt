@@ -102,10 +102,10 @@ names keyword in_text n ls more file end ends = by (named keyword told.0.1) refl
     by : (name : Option (List ℕ)) → named keyword told.0.1 ≡ name → Names in_text more (named_at keyword n ls) (named_at keyword n (ls ++ more))
     by None is = inl (named_step keyword n ls told.0 None told.1 is, named_step keyword n (ls ++ more) (with_more more told.0) None told.2 is)
     by (Some name) is = inr (
-        (told.0.0, name, told.0.2),
-        named_step keyword n ls told.0 (Some name) told.1 is,
-        named_step keyword n (ls ++ more) (with_more more told.0) (Some name) told.2 is,
-        before_end name is told.3,
+      (told.0.0, name, told.0.2),
+      named_step keyword n ls told.0 (Some name) told.1 is,
+      named_step keyword n (ls ++ more) (with_more more told.0) (Some name) told.2 is,
+      before_end name is told.3,
     )
 
 -- the lines before a text, from each of them
@@ -150,10 +150,10 @@ step_heads in_text more one other f g (inr h) later =
 heads : (n : ℕ) (ls more : List (List ℕ)) → HasEnd false ls → Heads more (head_at n ls) (head_at n (ls ++ more))
 heads n ls more ends =
     heads_at more _ _ _ _ (head_steps n ls) (head_steps n (ls ++ more))
-        (step_heads false more _ _ top_head top_head (names (codes "top") false n ls more refl refl ends)
-            (λ top e. step_heads false more _ _ (clock_head top) (clock_head (with_more more top)) (names (codes "clock") false (top.0 + 1) top.2 more refl refl e)
-                (λ clock c. step_heads true more _ _ (file_head top clock) (file_head (with_more more top) (with_more more clock)) (names (codes "file") true (clock.0 + 1) clock.2 more refl refl c)
-                    (λ file t. file_heads top clock file more t))))
+    (step_heads false more _ _ top_head top_head (names (codes "top") false n ls more refl refl ends)
+    (λ top e. step_heads false more _ _ (clock_head top) (clock_head (with_more more top)) (names (codes "clock") false (top.0 + 1) top.2 more refl refl e)
+    (λ clock c. step_heads true more _ _ (file_head top clock) (file_head (with_more more top) (with_more more clock)) (names (codes "file") true (clock.0 + 1) clock.2 more refl refl c)
+    (λ file t. file_heads top clock file more t))))
 
 -- the text is the same, and comes before the block's end
 texts : (n m : ℕ) (ls rest more : List (List ℕ)) → block_rest true n ls ≡ Some (m, rest) → (text : List ℕ × List (List ℕ)) × (text_at ls ≡ Some text) × (text_at (ls ++ more) ≡ Some (text.0, text.1 ++ more)) × HasEnd false text.1

@@ -55,17 +55,18 @@ cut_at bytes (suc n) within newline =
     let front = ap (λ k. take k bytes) one ∙ take_more bytes n 0 (omega arith)
     ∙ ap (λ b. take n bytes ++ b ∷ []) (ap (λ k. get_or bytes k 0) (sym back) ∙ newline (omega arith)) in
     let whole = sym (take-append-drop (suc n) bytes) ∙ ap (λ f. f ++ drop (suc n) bytes) front
-    ∙ append_assoc (take n bytes) (10 ∷ []) (drop (suc n) bytes) in
-    (script_lines (drop (suc n) bytes),
-     ap script_lines whole ∙ lines_around (take n bytes) (drop (suc n) bytes)
-     ∙ ap (λ f. script_lines f ++ script_lines (drop (suc n) bytes)) (sym front))
+    ∙ append_assoc (take n bytes) (10 ∷ []) (drop (suc n) bytes) in (
+      script_lines (drop (suc n) bytes),
+      ap script_lines whole ∙ lines_around (take n bytes) (drop (suc n) bytes)
+          ∙ ap (λ f. script_lines f ++ script_lines (drop (suc n) bytes)) (sym front),
+    )
 
 -- the lines of the bytes that count, where the input didn't end, begin all lines
 pub counted_lines : (bytes : List ℕ) → (rest : List (List ℕ)) × (script_lines bytes ≡ script_lines (counted_bytes false bytes) ++ rest)
 counted_lines bytes =
     let tail = suffix_len (λ b. not (eqb b 10)) bytes in
     cut_at bytes (length bytes - tail) (omega arith) (λ some.
-        let last = passes_at_first (λ b. eqb b 10) (reverse bytes) 0 (omega (arith, length-reverse bytes)) in
-        let here = get_or-reverse bytes tail 0 (omega arith) in
-        let same : length bytes - 1 - tail ≡ length bytes - tail - 1 = omega arith in
-        ap (λ k. get_or bytes k 0) (sym same) ∙ sym here ∙ eqb-true (get_or (reverse bytes) tail 0) 10 last)
+    let last = passes_at_first (λ b. eqb b 10) (reverse bytes) 0 (omega (arith, length-reverse bytes)) in
+    let here = get_or-reverse bytes tail 0 (omega arith) in
+    let same : length bytes - 1 - tail ≡ length bytes - tail - 1 = omega arith in
+    ap (λ k. get_or bytes k 0) (sym same) ∙ sym here ∙ eqb-true (get_or (reverse bytes) tail 0) 10 last)

@@ -15,9 +15,10 @@ use Rattle.livesim.specs.declared.live.Ending.TheVariants.{Whole, Failed, TooMuc
 -- the lines of cut bytes begin those of the whole bytes
 output_begins : (bytes : List ℕ) → (rest : List ℕ) × (output_of bytes true ≡ output_of bytes false ++ rest)
 output_begins bytes =
-    let more = commands_begin bytes in
-    (lines more.0 (world_after (commands bytes false) fresh),
-     ap (λ cs. lines cs fresh) more.1 ∙ lines-append (commands bytes false) more.0 fresh)
+    let more = commands_begin bytes in (
+      lines more.0 (world_after (commands bytes false) fresh),
+      ap (λ cs. lines cs fresh) more.1 ∙ lines-append (commands bytes false) more.0 fresh,
+    )
 
 -- a front of some lines is a front of these and more
 front_with : (old new : Option (List ℕ)) (all more : List ℕ) → WritesFront old new all → WritesFront old new (all ++ more)
