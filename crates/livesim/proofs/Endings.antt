@@ -1,14 +1,38 @@
 -- What a run took and wrote, by how its reading ended.
-use Rattle.std.proofs.Common.{◌≡◌, ◌≢◌, ◌⊎◌, inl, inr, ℕ, ◌<◌, ◌≤◌, Bool, true, false, eqb, if◌then◌else◌, List, length, Option, Some, None, refl, sym, ap, ◌∙◌, true≢false, arith}
+use Rattle.std.proofs.Common.{◌≡◌, ◌≢◌, ◌⊎◌, inl, inr, ℕ, ◌<◌, ◌≤◌, Bool, true, false, eqb, if◌then◌else◌, List, length, ◌++◌, Option, Some, None, refl, sym, ap, ◌∙◌, subst, append_assoc, true≢false, arith}
 use Rattle.std.proofs.lemmas.Bool.Decides.{nat_tests}
 use Rattle.std.specs.Io.KnownBytes.{Consumes, Appends, IsAtEnd}
 use Rattle.livesim.specs.Endings.{FinishesWith, has_ended}
 use Rattle.livesim.specs.Runs.{Lived, LeavesToWrite, WritesFront, IsComplete, DisplaysTruth, output_of, has_refusal}
-use Rattle.livesim.specs.Commands.{Display}
+use Rattle.livesim.specs.Commands.{Display, commands}
 use Rattle.livesim.specs.Worlds.{fresh, world_after, display_verdict}
-use Rattle.livesim.specs.Replies.{answer_text}
+use Rattle.livesim.specs.Replies.{answer_text, lines}
+use Rattle.livesim.proofs.Begins.{commands_begin}
+use Rattle.livesim.proofs.Turns.{lines-append}
 use Rattle.livesim.specs.declared.live.Ending.{Ending}
 use Rattle.livesim.specs.declared.live.Ending.TheVariants.{Whole, Failed, TooMuch}
+
+-- the lines of cut bytes begin those of the whole bytes
+output_begins : (bytes : List ℕ) → (rest : List ℕ) × (output_of bytes true ≡ output_of bytes false ++ rest)
+output_begins bytes =
+    let more = commands_begin bytes in (
+      lines more.0 (world_after (commands bytes false) fresh),
+      ap (λ cs. lines cs fresh) more.1 ∙ lines-append (commands bytes false) more.0 fresh,
+    )
+
+-- a front of some lines is a front of these and more
+front_with : (old new : Option (List ℕ)) (all more : List ℕ) → WritesFront old new all → WritesFront old new (all ++ more)
+front_with None new all more front = (front.0, tt)
+front_with (Some xs) None all more front = absurd front.1
+front_with (Some xs) (Some ys) all more front =
+    (front.0 ++ more, sym (append_assoc ys front.0 more) ∙ ap (λ t. t ++ more) front.1 ∙ append_assoc xs all more)
+
+-- what was written is a front of all lines, whether the input ended or not
+front_of_all : (old new : Option (List ℕ)) (bytes : List ℕ) (ended : Bool) → WritesFront old new (output_of bytes ended) → WritesFront old new (output_of bytes true)
+front_of_all old new bytes true front = front
+front_of_all old new bytes false front =
+    let more = output_begins bytes in
+    subst (WritesFront old new) (sym more.1) (front_with old new (output_of bytes false) more.0 front)
 
 -- nothing was written
 nothing : (o : Option (List ℕ)) (all : List ℕ) → LeavesToWrite o o all all
@@ -25,6 +49,7 @@ cut_short left_old left_new written bytes consumed = record {
   cut = λ h. refl;
   written = λ four five. absurd (five refl);
   front = (output_of bytes false, nothing written (output_of bytes false));
+  front_of_all = (output_of bytes true, nothing written (output_of bytes true));
   too_much = λ e. absurd (omega (arith, e));
   not_too_much = λ big four five. absurd (five refl);
 }
@@ -66,6 +91,7 @@ module _ (left_old left_new written_old written_new : Option (List ℕ)) (bytes 
             (λ z. let e = (answered status refusal says (λ e. omega (arith, z, e)) (λ e. omega (arith, z, e))).0 in omega (arith, z, e, below)));
         written = λ four five. (answered status refusal says four five).1;
         front = front;
+        front_of_all = front;
         too_much = λ z. absurd (let e = (answered status refusal says (λ e. omega (arith, z, e)) (λ e. omega (arith, z, e))).0 in omega (arith, z, e, below));
         not_too_much = λ big four five. absurd (few big);
       }
@@ -80,6 +106,7 @@ module _ (left_old left_new written_old written_new : Option (List ℕ)) (bytes 
     cut = λ h. refl;
     written = λ four five. (answered status n says four five).1;
     front = front;
+    front_of_all = front_of_all written_old written_new bytes false front;
     too_much = λ z. six (let e = (answered status n says (λ e. omega (arith, z, e)) (λ e. omega (arith, z, e))).0 in omega (arith, z, e));
     not_too_much = λ many four five. (answered status n says four five).0 ∙ big many;
   }

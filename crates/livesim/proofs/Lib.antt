@@ -6,4 +6,7 @@ pub mod Files
 pub mod Steps
 pub mod Commands
 pub mod Turns
+pub mod Cuts
+pub mod Blocks
+pub mod Begins
 pub mod Endings

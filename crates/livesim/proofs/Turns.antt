@@ -9,7 +9,7 @@ use Rattle.livesim.specs.Worlds.{World, after, verdict, any_refused, world_after
 use Rattle.livesim.specs.Replies.{reply, lines, RepliesAll}
 use Rattle.livesim.specs.Runs.{LeavesToWrite}
 
-lines-append : (xs ys : List Command) (w : World) → lines (xs ++ ys) w ≡ lines xs w ++ lines ys (world_after xs w)
+pub lines-append : (xs ys : List Command) (w : World) → lines (xs ++ ys) w ≡ lines xs w ++ lines ys (world_after xs w)
 lines-append [] ys w = refl
 lines-append (x ∷ xs) ys w =
     ap (λ more. reply x w ++ more) (lines-append xs ys (after x w))

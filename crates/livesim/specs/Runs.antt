@@ -26,7 +26,7 @@ abbrev pub WritesFront : Option (List ℕ) → Option (List ℕ) → List ℕ �
 WritesFront old new all = (rest : List ℕ) × LeavesToWrite old new rest all
 
 -- These bytes were taken, and the input ended with them or not. The lines of their commands were written, but at
--- 4 and 5 perhaps only the front of these.
+-- 4 and 5 perhaps only a front of these.
 pub record Lived (left_old left_new written_old written_new : Option (List ℕ)) (bytes : List ℕ) (ended : Bool) (status : ℕ) : Type 0 where
   -- what the source had left is the bytes taken, and then what it has left now
   pub consumed : Consumes left_old left_new bytes
@@ -38,6 +38,9 @@ pub record Lived (left_old left_new written_old written_new : Option (List ℕ))
   pub cut : (status ≡ 3) ⊎ (status ≡ 6) → ended ≡ false
   pub written : status ≢ 4 → status ≢ 5 → Appends written_old written_new (output_of bytes ended)
   pub front : WritesFront written_old written_new (output_of bytes ended)
+  -- and of the lines that these bytes have where the input ends with them: so at 4 and 5 it is one whether or not the
+  -- source has anything left
+  pub front_of_all : WritesFront written_old written_new (output_of bytes true)
   -- 6 comes exactly where too much was taken, but where the sink failed or memory ran out
   pub too_much : status ≡ 6 → 67108864 < length bytes
   pub not_too_much : 67108864 < length bytes → status ≢ 4 → status ≢ 5 → status ≡ 6

@@ -1,5 +1,5 @@
 // The top call.
-ghost use Rattle.std.specs.Prelude.{◌≡◌, ◌≢◌, ◌⊎◌, ◌↔◌, ◌+◌, ◌<◌, ◌≤◌, ◌^◌, ◌==◌, not, ℕ, List, [], length, take, Some, Bool, true, false, IfOk, OnOk, IsErrOf};
+ghost use Rattle.std.specs.Prelude.{◌≡◌, ◌≢◌, ◌⊎◌, ◌↔◌, ◌+◌, ◌-◌, ◌<◌, ◌≤◌, ◌^◌, ◌==◌, not, min, nat_lt, if◌then◌else◌, ℕ, List, [], length, take, Some, Bool, true, false, IfOk, OnOk, IsErrOf};
 ghost use Rattle.std.specs.List.{suffix_len};
 ghost use Rattle.std.specs.Io.KnownBytes.{Consumes, Appends, IsAtEnd, Keeps};
 ghost use Rattle.ls_port.specs.Causes.{Rose};
@@ -45,6 +45,7 @@ enum Ending {
 // How many bytes the next read asks for, after so many: the one byte too many is asked for by itself.
 fn room_after(count: usize) -> usize
     requires { count ≤ 67108864 }
+    ensures value { result ≡ (if nat_lt count 67108864 then min 65536 (67108864 - count) else 1) }
     ensures some { 0 < result }
     ensures piece { result ≤ 65536 }
     ensures few { count + result ≤ 67108865 }

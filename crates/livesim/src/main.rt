@@ -1,6 +1,9 @@
 // The simulator of a script.
 #![tactic(auto)]
 
+ghost use Rattle.std.specs.Prelude.{◌≡◌, ◌↔◌, ◌⊎◌};
+ghost use Rattle.std.specs.declared.io.ErrorKind.TheVariants.{OutOfMemory};
+
 mod build;
 mod built;
 mod design;
@@ -30,11 +33,21 @@ fn words(rt: &HostRuntime) -> io::Result<Vec<String>> {
     Ok(words)
 }
 
+// The status where the words can't be had: 5 where memory ran out, else 2.
+fn status_without_words(kind: io::ErrorKind) -> u8
+    ensures memory { (result ≡ 5) ↔ (kind ≡ OutOfMemory) }
+    ensures known { (result ≡ 2) ⊎ (result ≡ 5) }
+{
+    match kind {
+        io::ErrorKind::OutOfMemory => 5,
+        _ => 2,
+    }
+}
+
 fn main(rt: HostRuntime) -> ExitCode {
     let words = match words(&rt) {
         Ok(words) => words,
-        Err(e) if e.kind() == io::ErrorKind::OutOfMemory => return ExitCode::from(5),
-        Err(_) => return ExitCode::from(2),
+        Err(e) => return ExitCode::from(status_without_words(e.kind())),
     };
     let mut source = StdSource::new(rt.reader());
     let mut sink = StdSink::new(io::writer(&rt));

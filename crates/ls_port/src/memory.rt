@@ -1,5 +1,5 @@
 // A source and a sink in memory. They tell their contents, and fail at the calls that they are told.
-ghost use Rattle.std.specs.Prelude.{◌≡◌, ◌≤◌, ◌<◌, min, Some, [], drop, vec_len, length, is_err, IfOk, IsErrOf};
+ghost use Rattle.std.specs.Prelude.{◌≡◌, ◌≤◌, ◌<◌, ◌+◌, ◌-◌, ◌^◌, if◌then◌else◌, min, Some, [], drop, vec_len, length, is_err, IfOk, IsErrOf};
 ghost use Rattle.std.specs.Io.{ReadsAtMost, WritesAtMost};
 ghost use Rattle.std.specs.Io.KnownBytes.{ReadConsumes, WriteAppends};
 ghost use Rattle.ls_port.specs.Causes.{HasCause, HasSinkCause};
@@ -54,6 +54,9 @@ impl Source for MemSource {
         ensures cause { HasCause self.old.faults self.new.faults result }
         ensures fails { is_err result ≡ list_any (nat_eq self.old.calls) self.old.fails.items }
         ensures most { IfOk result (λ n. n ≡ min (length buf.new) (length (source_left self.old))) }
+        ensures calls { self.new.calls ≡ min (self.old.calls + 1) (2 ^ 64 - 1) }
+        ensures told { self.new.fails ≡ self.old.fails }
+        ensures faults { self.new.faults ≡ (if is_err result then min (self.old.faults + 1) (2 ^ 64 - 1) else self.old.faults) }
     {
         let call = self.calls;
         self.calls = self.calls.saturating_add(1);
@@ -123,6 +126,10 @@ impl Sink for MemSink {
         ensures works { OnOk result (list_any (nat_eq self.old.calls) self.old.fails.items ≡ false) }
         ensures full { IsErrOf result Full → list_any (nat_eq self.old.calls) self.old.fails.items ≡ false }
         ensures all { IfOk result (λ n. n ≡ length bytes.now) }
+        ensures calls { self.new.calls ≡ min (self.old.calls + 1) (2 ^ 64 - 1) }
+        ensures told { self.new.fails ≡ self.old.fails }
+        ensures once { IsErrOf result SinkFailed → self.new.faults ≡ min (self.old.faults + 1) (2 ^ 64 - 1) }
+        ensures kept { OnOk result (self.new.faults ≡ self.old.faults) }
     {
         let call = self.calls;
         self.calls = self.calls.saturating_add(1);

@@ -1,5 +1,8 @@
 // A source and a sink in memory that never fail.
-ghost use Rattle.std.specs.Prelude.{◌≡◌, ◌≤◌, Some, [], vec_len};
+ghost use Rattle.std.specs.Prelude.{◌≡◌, ◌≤◌, ◌<◌, min, Some, [], vec_len, length, IfOk};
+ghost use Rattle.std.specs.Io.{ReadsAtMost, WritesAtMost};
+ghost use Rattle.std.specs.Io.KnownBytes.{ReadConsumes, WriteAppends};
+ghost use Rattle.ls_port.specs.Causes.{HasCause, HasSinkCause};
 
 use crate::{Failed, Sink, SinkRefusal, Source};
 use std::alloc::Global;
@@ -30,7 +33,13 @@ impl Source for SolidSource {
 
     ghost faults = { λ _. 0 };
 
-    fn read(&mut self, buf: &mut [u8]) -> Result<usize, Failed> {
+    /// Gives as many bytes as the buffer takes, or all that are left where these are fewer.
+    fn read(&mut self, buf: &mut [u8]) -> Result<usize, Failed>
+        ensures bound { ReadsAtMost result buf.new }
+        ensures bytes { ReadConsumes (Some (solid_left self.old)) (Some (solid_left self.new)) result buf.new }
+        ensures cause { HasCause 0 0 result }
+        ensures most { IfOk result (λ n. n ≡ min (length buf.new) (length (solid_left self.old))) }
+    {
         let count = buf.len().min(self.bytes.len() - self.at);
         buf[..count].copy_from_slice(&self.bytes[self.at..self.at + count]);
         self.at += count;
@@ -71,7 +80,14 @@ impl Sink for SolidSink {
 
     ghost faults = { λ _. 0 };
 
-    fn write(&mut self, bytes: &[u8]) -> Result<usize, SinkRefusal> {
+    /// Takes all the bytes.
+    fn write(&mut self, bytes: &[u8]) -> Result<usize, SinkRefusal>
+        ensures bound { WritesAtMost result bytes.now }
+        ensures some { IfOk result (λ n. 0 < length bytes.now → 0 < n) }
+        ensures appended { WriteAppends (Some (solid_bytes self.old)) (Some (solid_bytes self.new)) result bytes.now }
+        ensures cause { HasSinkCause 0 0 result }
+        ensures all { IfOk result (λ n. n ≡ length bytes.now) }
+    {
         match self.bytes.extend_from_slice(bytes) {
             Ok(()) => Ok(bytes.len()),
             Err(_) => Err(SinkRefusal::NoMemory),

@@ -1,5 +1,8 @@
 // The edge: any reader and writer of std. They tell the contents that the reader or writer tells: those of the host tell none.
-ghost use Rattle.std.specs.Prelude.{◌≡◌};
+ghost use Rattle.std.specs.Prelude.{◌≡◌, ◌<◌, length, IfOk, IsErrOf};
+ghost use Rattle.std.specs.Io.{WritesAtMost};
+ghost use Rattle.std.specs.Io.KnownBytes.{WriteAppends};
+ghost use Rattle.ls_port.specs.Causes.{HasSinkCause};
 
 use crate::{Failed, Sink, SinkRefusal, Source};
 use std::io::{Read, Write};
@@ -56,11 +59,20 @@ impl<W: Write + Drop> StdSink<W> {
 }
 
 impl<W: Write + Drop> Sink for StdSink<W> {
+    ghost use Rattle.ls_port.specs.declared.sink.SinkRefusal.TheVariants.{NoMemory as Full};
+
     ghost written = { λ s. W.contents s.inner };
 
     ghost faults = { λ s. s.faults };
 
-    fn write(&mut self, bytes: &[u8]) -> Result<usize, SinkRefusal> {
+    /// Takes what the writer takes. It has no other refusal than `Failed`.
+    fn write(&mut self, bytes: &[u8]) -> Result<usize, SinkRefusal>
+        ensures bound { WritesAtMost result bytes.now }
+        ensures some { IfOk result (λ n. 0 < length bytes.now → 0 < n) }
+        ensures appended { WriteAppends (W.contents self.old.inner) (W.contents self.new.inner) result bytes.now }
+        ensures cause { HasSinkCause self.old.faults self.new.faults result }
+        ensures full { IsErrOf result Full → ⊥ }
+    {
         match self.inner.write(bytes) {
             Ok(count) if count > 0 || bytes.is_empty() => Ok(count),
             _ => {

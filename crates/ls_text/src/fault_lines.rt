@@ -1,5 +1,5 @@
 // The line that shows a fault.
-ghost use Rattle.std.specs.Prelude.{◌≡◌, ◌<◌, ◌++◌, length, decimal, IfOk, OnOk, All, slice_get};
+ghost use Rattle.std.specs.Prelude.{◌≡◌, ◌<◌, ◌≤◌, ◌++◌, length, decimal, IfOk, OnErr, OnOk, All, slice_get};
 ghost use Rattle.ls_text.specs.Faults.{code_name, file_text, line_text, place_text, names_text, fault_text};
 
 use crate::{At, Fault, NameId, Names, NoMemory, SourceFile};
@@ -7,17 +7,48 @@ use std::alloc::Global;
 
 /// Adds a number in decimal, without leading zeros.
 pub fn push_decimal(line: &mut Vec<u8>, n: u64) -> Result<(), NoMemory>
-    ensures { OnOk result (line.new.items ≡ line.old.items ++ decimal n) }
+    ensures value { OnOk result (line.new.items ≡ line.old.items ++ decimal n) }
+    ensures err { OnErr result (line.new.items ≡ line.old.items) }
 {
     let mut buffer = itoa::Buffer::new();
     line.extend_from_slice(buffer.format(n).as_bytes())?;
     Ok(())
 }
 
+// The name of a code of the fault table from 50 on: of the operations of an edit, and of commands.
+fn command_name(code: u8) -> &'static [u8]
+    requires { 50 ≤ code }
+    ensures { result.now ≡ code_name code }
+{
+    match code {
+        50 => b"OldMissing",
+        51 => b"RenameNew",
+        52 => b"TransformTwice",
+        53 => b"CreateMissing",
+        54 => b"DeleteKept",
+        55 => b"CreateWide",
+        60 => b"BadCommand",
+        61 => b"BadValue",
+        62 => b"NoDesign",
+        63 => b"UnknownPort",
+        64 => b"RunRange",
+        65 => b"CycleLimit",
+        66 => b"Unfinished",
+        67 => b"ShelfFault",
+        68 => b"HistoryFull",
+        69 => b"StimulusFull",
+        90 => b"NotBuilt",
+        _ => b"-",
+    }
+}
+
 // The name of a code of the fault table.
 fn name_of(code: u8) -> &'static [u8]
     ensures { result.now ≡ code_name code }
 {
+    if code >= 50 {
+        return command_name(code);
+    }
     match code {
         10 => b"TextTooLong",
         12 => b"BadDirective",
@@ -47,23 +78,6 @@ fn name_of(code: u8) -> &'static [u8]
         39 => b"CombLoop",
         40 => b"TooMany",
         41 => b"GenLimit",
-        50 => b"OldMissing",
-        51 => b"RenameNew",
-        52 => b"TransformTwice",
-        53 => b"CreateMissing",
-        54 => b"DeleteKept",
-        55 => b"CreateWide",
-        60 => b"BadCommand",
-        61 => b"BadValue",
-        62 => b"NoDesign",
-        63 => b"UnknownPort",
-        64 => b"RunRange",
-        65 => b"CycleLimit",
-        66 => b"Unfinished",
-        67 => b"ShelfFault",
-        68 => b"HistoryFull",
-        69 => b"StimulusFull",
-        90 => b"NotBuilt",
         _ => b"-",
     }
 }
