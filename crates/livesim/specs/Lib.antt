@@ -10,6 +10,7 @@ pub mod Blocks
 pub mod Commands
 pub mod Worlds
 pub mod Replies
+pub mod Takes
 pub mod Sessions
 pub mod Runs
 pub mod Endings

@@ -16,6 +16,8 @@ mod running;
 mod scan;
 mod script;
 mod session;
+mod take_block;
+mod taken;
 mod text;
 mod tokens;
 mod tokens_left;

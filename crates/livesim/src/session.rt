@@ -1,5 +1,5 @@
 // A session: a design, once there is one, and what commands do to it.
-ghost use Rattle.std.specs.Prelude.{◌≡◌, ◌+◌, ◌<◌, ◌≤◌, ◌^◌, ◌++◌, Some, None, true, false, IfOk, OnOk};
+ghost use Rattle.std.specs.Prelude.{◌≡◌, ◌+◌, ◌<◌, ◌≤◌, ◌^◌, ◌++◌, Some, None, IfOk, OnOk};
 ghost use Rattle.typed_ir.specs.Cycles.{truth};
 ghost use Rattle.livesim.specs.Blocks.{block};
 ghost use Rattle.livesim.specs.Commands.{Load, Advance, Display};
@@ -7,20 +7,15 @@ ghost use Rattle.livesim.specs.Designs.{no_rows};
 ghost use Rattle.livesim.specs.Flats.{flat};
 ghost use Rattle.livesim.specs.Replies.{hex_text, table_text, done_text};
 
-use crate::build::build;
-use crate::built::Built;
-use crate::one_register::Design;
-use crate::reply::{Reply, no_design, not_built, refused_text, unknown_name};
+use crate::reply::{Reply, no_design, not_built};
 use crate::running::Running;
 use crate::script::Block;
-use crate::text::file_tokens;
+use crate::take_block::take_block;
+use crate::taken::Taken;
 use bits::Bits;
 use hex::encode_to_slice;
-use ls_text::{Names, NoMemory, Refusal, SourceFile, TextBytes, push_decimal};
+use ls_text::{NoMemory, push_decimal};
 use std::alloc::Global;
-
-/// The most bytes that a text of the form has.
-const MAX_TEXT: usize = 4_194_304;
 
 /// The last cycle.
 const MAX_CYCLE: u64 = 1 << 40;
@@ -50,43 +45,22 @@ impl Session {
         if self.running.is_some() {
             return not_built(alloc, line);
         }
-        if given.text.len() > MAX_TEXT {
-            return not_built(alloc, given.file_line);
+        match take_block(alloc, line, given)? {
+            Taken::Refused(reply) => Ok(reply),
+            Taken::Made(design) => {
+                let text = Vec::from_slice(alloc, b"ok edit v=1 built=1 kept=0 from=0\n")?;
+                self.running = Some(Running {
+                    state: design.initial,
+                    cycle: 0,
+                    evaluations: 0,
+                    design,
+                });
+                Ok(Reply {
+                    text,
+                    refused: false,
+                })
+            }
         }
-        let mut names = Names::new(alloc);
-        let files = [SourceFile {
-            name: names.intern(given.file)?,
-            text: TextBytes::new(given.text),
-        }];
-        let tokens = match file_tokens(alloc, &mut names, &files) {
-            Ok(tokens) => tokens,
-            Err(Refusal::NoMemory) => return Err(NoMemory),
-            Err(Refusal::Fault(fault)) => return refused_text(alloc, &names, &files, line, &fault),
-        };
-        match build(alloc, &names, given.top, given.clock, &tokens)? {
-            Built::Made(design) => self.begin(alloc, design),
-            Built::OtherForm => not_built(alloc, given.file_line),
-            Built::Unknown(name) => unknown_name(alloc, &names, &files, line, name),
-        }
-    }
-
-    // Takes a first design, at reset.
-    fn begin(&mut self, alloc: Global, design: Design) -> Result<Reply, NoMemory>
-        ensures text { IfOk result (λ r. r.text.items ≡ done_text (Load 0 None) fresh) }
-        ensures world { OnOk result (world self.new ≡ record { design = Some (flat design); cycle = 0 }) }
-        ensures refused { IfOk result (λ r. r.refused ≡ false) }
-    {
-        let text = Vec::from_slice(alloc, b"ok edit v=1 built=1 kept=0 from=0\n")?;
-        self.running = Some(Running {
-            state: design.initial,
-            cycle: 0,
-            evaluations: 0,
-            design,
-        });
-        Ok(Reply {
-            text,
-            refused: false,
-        })
     }
 
     /// Simulates so many cycles, with at most as many evaluations of the block.
