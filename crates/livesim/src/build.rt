@@ -3,7 +3,7 @@ ghost use Rattle.std.specs.Prelude.{◌≡◌, length, map, IfOk};
 ghost use Rattle.std.specs.List.{All};
 ghost use Rattle.verilog_lex.specs.Views.{said, IsNamed};
 ghost use Rattle.livesim.specs.Designs.{design_at};
-ghost use Rattle.livesim.specs.Flats.{built};
+ghost use Rattle.livesim.specs.Flats.{built, IsOfTable};
 
 use crate::built::Built;
 use crate::design::design;
@@ -23,7 +23,8 @@ pub fn build(
     tokens: &[Token],
 ) -> Result<Built, NoMemory>
     requires { All (IsNamed (length names.now)) tokens.now }
-    ensures { IfOk result (λ b. built names.now b ≡ design_at top.now clock.now (map (said names.now) tokens.now)) }
+    ensures built { IfOk result (λ b. built names.now b ≡ design_at top.now clock.now (map (said names.now) tokens.now)) }
+    ensures of_table { IfOk result (IsOfTable (length names.now)) }
 {
     let all = TokensLeft {
         names,
