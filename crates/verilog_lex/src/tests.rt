@@ -261,84 +261,88 @@ fn bytes_that_begin_no_token_are_refused(rt: HostRuntime) {
     assert!(rt; is_refused(alloc, b"a (* b ) ", 13, 1, 3));
 }
 
-// The number of tokens of this kind, where all but the end are of it.
-fn count_of(alloc: Global, text: &[u8], kind: Kind) -> Option<usize>
+// Whether a text has so many tokens, all of this kind, and then the end.
+fn are_all(alloc: Global, text: &[u8], kind: Kind, count: usize) -> bool
     requires { length text.now ≤ 1000 }
 {
     let Ok(tokens) = read(alloc, text) else {
-        return None;
+        return false;
     };
-    let mut same = 0;
+    let mut same = tokens.len() > count && tokens.len() - count == 1;
     for token in &tokens {
-        if token.kind == kind {
-            same += 1;
-        } else if token.kind != Kind::End {
-            return None;
-        }
+        same = same && (token.kind == kind || token.kind == Kind::End);
     }
-    Some(same)
+    same
 }
 
 #[test]
 fn reserved_words_are_keys(rt: HostRuntime) {
     let alloc = rt.alloc();
     assert!(rt;
-        count_of(
+        are_all(
             alloc,
             b"and automatic buf bufif0 bufif1 casex cell cmos config deassign defparam design disable",
-            Kind::Reserved
-        ) == Some(13)
+            Kind::Reserved,
+            13
+        )
     );
     assert!(rt;
-        count_of(
+        are_all(
             alloc,
             b"edge endconfig endfunction endprimitive endspecify endtable endtask event force forever",
-            Kind::Reserved
-        ) == Some(10)
+            Kind::Reserved,
+            10
+        )
     );
     assert!(rt;
-        count_of(
+        are_all(
             alloc,
             b"fork function highz0 highz1 ifnone incdir include initial inout instance integer join",
-            Kind::Reserved
-        ) == Some(12)
+            Kind::Reserved,
+            12
+        )
     );
     assert!(rt;
-        count_of(
+        are_all(
             alloc,
             b"large liblist library macromodule medium nand negedge nmos nor noshowcancelled not notif0",
-            Kind::Reserved
-        ) == Some(12)
+            Kind::Reserved,
+            12
+        )
     );
     assert!(rt;
-        count_of(
+        are_all(
             alloc,
             b"notif1 pmos primitive pull0 pull1 pulldown pullup pulsestyle_ondetect pulsestyle_onevent",
-            Kind::Reserved
-        ) == Some(9)
+            Kind::Reserved,
+            9
+        )
     );
     assert!(rt;
-        count_of(
+        are_all(
             alloc,
             b"rcmos real realtime release repeat rnmos rpmos rtran rtranif0 rtranif1 scalared",
-            Kind::Reserved
-        ) == Some(11)
+            Kind::Reserved,
+            11
+        )
     );
     assert!(rt;
-        count_of(
+        are_all(
             alloc,
             b"showcancelled small specify specparam strong0 strong1 supply0 supply1 table task time tran",
-            Kind::Reserved
-        ) == Some(12)
+            Kind::Reserved,
+            12
+        )
     );
     assert!(rt;
-        count_of(
+        are_all(
             alloc,
             b"tranif0 tranif1 tri tri0 tri1 triand trior trireg unsigned use uwire vectored wait wand",
-            Kind::Reserved
-        ) == Some(14)
+            Kind::Reserved,
+            14
+        )
     );
-    assert!(rt; count_of(alloc, b"weak0 weak1 while wor xnor xor", Kind::Reserved) == Some(6));
+    assert!(rt; are_all(alloc, b"weak0 weak1 while wor xnor xor", Kind::Reserved, 6));
     assert!(rt;
         has_kinds(
             alloc,
@@ -372,7 +376,14 @@ fn reserved_words_are_keys(rt: HostRuntime) {
             ]
         )
     );
-    assert!(rt; count_of(alloc, b"Reg REG reg_ _reg reg$ reg1 Module xoR", Kind::Word) == Some(8));
+    assert!(rt;
+        are_all(
+            alloc,
+            b"Reg REG reg_ _reg reg$ reg1 Module xoR",
+            Kind::Word,
+            8
+        )
+    );
 }
 
 #[test]
