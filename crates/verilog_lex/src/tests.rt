@@ -1,11 +1,14 @@
 // What no clause says: that the calls succeed, and what tokens look like to a reader.
-ghost use Rattle.std.specs.Prelude.{◌≤◌, length};
+ghost use Rattle.std.specs.Prelude.{◌≤◌, length, IfErr};
+ghost use Rattle.std.specs.List.{All};
+ghost use Rattle.ls_text.specs.Texts.{Grows};
+ghost use Rattle.source_text.specs.Faults.{CanShow};
 
 use super::*;
-use ls_text::{At, Names, Place, Refusal, SourceFile, TextBytes};
+use ls_text::{At, Names, NoMemory, Place, Refusal, SourceFile, TextBytes, fault_line};
 use std::alloc::Global;
 use std::test::Fail;
-use verilog_pre::Piece;
+use verilog_pre::{Piece, preprocess};
 
 const START: Place = Place {
     file: 0,
@@ -122,6 +125,31 @@ fn numbers_have_their_values(rt: HostRuntime) {
     assert!(rt; is_literal(alloc, b"4'b1?0z", 4, false, 8, 5));
     assert!(rt; is_literal(alloc, b"8'bz1", 8, false, 1, 254));
     assert!(rt; is_literal(alloc, b"8'o7?", 8, false, 56, 7));
+    assert!(rt; is_literal(alloc, b"8'hz", 8, false, 0, 255));
+    assert!(rt; is_literal(alloc, b"3'b1111", 3, false, 7, 0));
+    assert!(rt; is_literal(alloc, b"16\n'sd \r\n 9_9", 16, true, 99, 0));
+    assert!(rt; is_literal(alloc, b"4294967295", 0, true, 4_294_967_295, 0));
+    assert!(rt; is_literal(alloc, b"'hffff_ffff", 0, false, 4_294_967_295, 0));
+    assert!(rt;
+        is_literal(
+            alloc,
+            b"128'hffffffffffffffffffffffffffffffff",
+            128,
+            false,
+            u128::MAX,
+            0
+        )
+    );
+    assert!(rt;
+        is_literal(
+            alloc,
+            b"128'd340282366920938463463374607431768211455",
+            128,
+            false,
+            u128::MAX,
+            0
+        )
+    );
 }
 
 #[test]
@@ -162,6 +190,14 @@ fn signs_are_the_longest_that_fit(rt: HostRuntime) {
     assert!(rt;
         has_kinds(
             alloc,
+            b"(*\n)",
+            &[Kind::LeftParen, Kind::Star, Kind::RightParen]
+        )
+    );
+    assert!(rt; has_kinds(alloc, b"(**) a (* b = (1) *) c", &[Kind::Word, Kind::Word]));
+    assert!(rt;
+        has_kinds(
+            alloc,
             b"Reg reg or nand end a$1",
             &[
                 Kind::Word,
@@ -188,6 +224,29 @@ fn numbers_without_a_value_are_refused(rt: HostRuntime) {
     assert!(rt; is_refused(alloc, b"8'dz", 14, 1, 1));
     assert!(rt; is_refused(alloc, b"8'sb1?", 14, 1, 1));
     assert!(rt; is_refused(alloc, b"4'b1?a:b", 14, 1, 1));
+    assert!(rt; is_refused(alloc, b"4'b2", 14, 1, 1));
+    assert!(rt; is_refused(alloc, b"4'o18", 14, 1, 1));
+    assert!(rt; is_refused(alloc, b"4'hX", 14, 1, 1));
+    assert!(rt; is_refused(alloc, b"'b?", 14, 1, 1));
+    assert!(rt; is_refused(alloc, b"00'd0", 14, 1, 1));
+    assert!(rt;
+        is_refused(
+            alloc,
+            b"340282366920938463463374607431768211457'd1",
+            14,
+            1,
+            1
+        )
+    );
+    assert!(rt;
+        is_refused(
+            alloc,
+            b"8'd340282366920938463463374607431768211456",
+            14,
+            1,
+            1
+        )
+    );
 }
 
 #[test]
@@ -200,4 +259,339 @@ fn bytes_that_begin_no_token_are_refused(rt: HostRuntime) {
     assert!(rt; is_refused(alloc, b"$x", 13, 1, 1));
     assert!(rt; is_refused(alloc, b"`x", 13, 1, 1));
     assert!(rt; is_refused(alloc, b"a (* b ) ", 13, 1, 3));
+}
+
+// Whether a text has so many tokens, all of this kind, and then the end.
+fn are_all(alloc: Global, text: &[u8], kind: Kind, count: usize) -> bool
+    requires { length text.now ≤ 1000 }
+{
+    let Ok(tokens) = read(alloc, text) else {
+        return false;
+    };
+    let mut same = tokens.len() > count && tokens.len() - count == 1;
+    for token in &tokens {
+        same = same && (token.kind == kind || token.kind == Kind::End);
+    }
+    same
+}
+
+#[test]
+fn reserved_words_are_keys(rt: HostRuntime) {
+    let alloc = rt.alloc();
+    assert!(rt;
+        are_all(
+            alloc,
+            b"and automatic buf bufif0 bufif1 casex cell cmos config deassign defparam design disable",
+            Kind::Reserved,
+            13
+        )
+    );
+    assert!(rt;
+        are_all(
+            alloc,
+            b"edge endconfig endfunction endprimitive endspecify endtable endtask event force forever",
+            Kind::Reserved,
+            10
+        )
+    );
+    assert!(rt;
+        are_all(
+            alloc,
+            b"fork function highz0 highz1 ifnone incdir include initial inout instance integer join",
+            Kind::Reserved,
+            12
+        )
+    );
+    assert!(rt;
+        are_all(
+            alloc,
+            b"large liblist library macromodule medium nand negedge nmos nor noshowcancelled not notif0",
+            Kind::Reserved,
+            12
+        )
+    );
+    assert!(rt;
+        are_all(
+            alloc,
+            b"notif1 pmos primitive pull0 pull1 pulldown pullup pulsestyle_ondetect pulsestyle_onevent",
+            Kind::Reserved,
+            9
+        )
+    );
+    assert!(rt;
+        are_all(
+            alloc,
+            b"rcmos real realtime release repeat rnmos rpmos rtran rtranif0 rtranif1 scalared",
+            Kind::Reserved,
+            11
+        )
+    );
+    assert!(rt;
+        are_all(
+            alloc,
+            b"showcancelled small specify specparam strong0 strong1 supply0 supply1 table task time tran",
+            Kind::Reserved,
+            12
+        )
+    );
+    assert!(rt;
+        are_all(
+            alloc,
+            b"tranif0 tranif1 tri tri0 tri1 triand trior trireg unsigned use uwire vectored wait wand",
+            Kind::Reserved,
+            14
+        )
+    );
+    assert!(rt; are_all(alloc, b"weak0 weak1 while wor xnor xor", Kind::Reserved, 6));
+    assert!(rt;
+        has_kinds(
+            alloc,
+            b"module endmodule input output wire reg signed parameter localparam genvar generate endgenerate assign always posedge begin end if else case casez endcase default for or",
+            &[
+                Kind::Module,
+                Kind::EndModule,
+                Kind::Input,
+                Kind::Output,
+                Kind::Wire,
+                Kind::Reg,
+                Kind::Signed,
+                Kind::Parameter,
+                Kind::LocalParam,
+                Kind::Genvar,
+                Kind::Generate,
+                Kind::EndGenerate,
+                Kind::Assign,
+                Kind::Always,
+                Kind::Posedge,
+                Kind::Begin,
+                Kind::BlockEnd,
+                Kind::If,
+                Kind::Else,
+                Kind::Case,
+                Kind::Casez,
+                Kind::EndCase,
+                Kind::Default,
+                Kind::For,
+                Kind::Or
+            ]
+        )
+    );
+    assert!(rt;
+        are_all(
+            alloc,
+            b"Reg REG reg_ _reg reg$ reg1 Module xoR",
+            Kind::Word,
+            8
+        )
+    );
+}
+
+#[test]
+fn every_sign_is_a_token(rt: HostRuntime) {
+    let alloc = rt.alloc();
+    assert!(rt;
+        has_kinds(
+            alloc,
+            b"( ) [ ] { } , ; : . # @ = ? + - * / % & | ^ ~ ! < > +: -: << >> <<< >>> <= >= == != === !== && || ~& ~| ~^ ^~ ** ->",
+            &[
+                Kind::LeftParen,
+                Kind::RightParen,
+                Kind::LeftBracket,
+                Kind::RightBracket,
+                Kind::LeftBrace,
+                Kind::RightBrace,
+                Kind::Comma,
+                Kind::Semicolon,
+                Kind::Colon,
+                Kind::Dot,
+                Kind::Hash,
+                Kind::AtSign,
+                Kind::Equal,
+                Kind::Question,
+                Kind::Plus,
+                Kind::Minus,
+                Kind::Star,
+                Kind::Slash,
+                Kind::Percent,
+                Kind::Ampersand,
+                Kind::Bar,
+                Kind::Caret,
+                Kind::Tilde,
+                Kind::Bang,
+                Kind::Less,
+                Kind::Greater,
+                Kind::PlusColon,
+                Kind::MinusColon,
+                Kind::ShiftLeft,
+                Kind::ShiftRight,
+                Kind::SignedShiftLeft,
+                Kind::SignedShiftRight,
+                Kind::LessEqual,
+                Kind::GreaterEqual,
+                Kind::EqualEqual,
+                Kind::NotEqual,
+                Kind::CaseEqual,
+                Kind::CaseNotEqual,
+                Kind::LogicalAnd,
+                Kind::LogicalOr,
+                Kind::TildeAmpersand,
+                Kind::TildeBar,
+                Kind::TildeCaret,
+                Kind::CaretTilde,
+                Kind::Power,
+                Kind::Arrow
+            ]
+        )
+    );
+}
+
+// The tokens of files, behind the preprocessor.
+#[tactic(auto, using(ls_text::proofs::Growth::grows_on))]
+fn tokens_of(alloc: Global, names: &mut Names, files: &[SourceFile]) -> Result<Vec<Token>, Refusal>
+    requires files { length files.now ≤ 256 }
+    requires texts { All (λ f. length f.text ≤ 4194304) files.now }
+    ensures known { IfErr result (CanShow (length names.new)) }
+    ensures grows { Grows names.old names.new }
+{
+    match preprocess(alloc, names, files) {
+        Ok(pieces) => lex(alloc, names, files, &pieces),
+        Err(refusal) => Err(refusal),
+    }
+}
+
+// The line that shows the first fault of a text; an empty one where it has none.
+#[tactic(auto, using(ls_text::proofs::Growth::grown_id))]
+fn fault_of(alloc: Global, text: &[u8]) -> Result<Vec<u8>, NoMemory>
+    requires { length text.now ≤ 4194304 }
+{
+    let mut names = Names::new(alloc);
+    let name = names.intern(b"a.v")?;
+    let files = [SourceFile {
+        name,
+        text: TextBytes::new(Vec::from_slice(alloc, text)?),
+    }];
+    match tokens_of(alloc, &mut names, &files) {
+        Ok(_) => Ok(Vec::new(alloc)),
+        Err(Refusal::NoMemory) => Err(NoMemory),
+        Err(Refusal::Fault(fault)) => fault_line(alloc, &names, &files, 0, &fault),
+    }
+}
+
+// Whether this line shows the first fault of a text.
+fn shows(alloc: Global, text: &[u8], line: &[u8]) -> bool
+    requires { length text.now ≤ 4194304 }
+{
+    match fault_of(alloc, text) {
+        Ok(shown) => shown.as_slice() == line,
+        Err(_) => false,
+    }
+}
+
+// Whether the tokens of a text, the end among them, stand at these lines and columns.
+fn has_places(alloc: Global, text: &[u8], places: &[(u32, u32)]) -> bool
+    requires { length text.now ≤ 4194304 }
+{
+    let mut names = Names::new(alloc);
+    let Ok(name) = names.intern(b"a.v") else {
+        return false;
+    };
+    let Ok(bytes) = Vec::from_slice(alloc, text) else {
+        return false;
+    };
+    let files = [SourceFile {
+        name,
+        text: TextBytes::new(bytes),
+    }];
+    let Ok(tokens) = tokens_of(alloc, &mut names, &files) else {
+        return false;
+    };
+    let mut same = tokens.len() == places.len();
+    for (token, place) in tokens.iter().zip(places) {
+        same = same && token.at.file == 0 && token.at.line == place.0 && token.at.col == place.1;
+    }
+    same
+}
+
+#[test]
+fn faults_are_shown(rt: HostRuntime) {
+    let alloc = rt.alloc();
+    assert!(rt;
+        shows(
+            alloc,
+            b"module top(input clk); reg a = 1'bx;\n",
+            b"refused 14 BadNumber a.v:1:32 -\n"
+        )
+    );
+    assert!(rt;
+        shows(
+            alloc,
+            b"module top(input clk); wire \"s\";\n",
+            b"refused 13 BadToken a.v:1:29 -\n"
+        )
+    );
+    assert!(rt;
+        shows(
+            alloc,
+            b"`include \"b.v\" \n",
+            b"refused 12 BadDirective a.v:1:1 include\n"
+        )
+    );
+    assert!(rt; shows(alloc, b"a /* ` */ ` b", b"refused 13 BadToken a.v:1:11 -\n"));
+    assert!(rt;
+        shows(
+            alloc,
+            b"`define D F\n8'h`D",
+            b"refused 13 BadToken a.v:2:2 -\n"
+        )
+    );
+    assert!(rt;
+        shows(
+            alloc,
+            b"`define D 9\n 4'b0 `D 4'b`D",
+            b"refused 13 BadToken a.v:2:11 -\n"
+        )
+    );
+    assert!(rt;
+        shows(
+            alloc,
+            b"`define N 4'b2\n\t`N",
+            b"refused 14 BadNumber a.v:2:2 -\n"
+        )
+    );
+    assert!(rt;
+        shows(
+            alloc,
+            b"`define W 8\n`define H 'h\\\n1\n`W`H",
+            b"refused 13 BadToken a.v:4:3 -\n"
+        )
+    );
+    assert!(rt;
+        shows(
+            alloc,
+            b"a (* x // *)\n *)",
+            b"refused 13 BadToken a.v:1:3 -\n"
+        )
+    );
+    assert!(rt; shows(alloc, b"module // \" \\ $\n;", b""));
+}
+
+#[test]
+fn tokens_of_a_body_stand_at_its_use(rt: HostRuntime) {
+    let alloc = rt.alloc();
+    assert!(rt;
+        has_places(
+            alloc,
+            b"`define A x + y\r\n a `A;",
+            &[(2, 2), (2, 4), (2, 4), (2, 4), (2, 6), (2, 7)]
+        )
+    );
+    assert!(rt;
+        has_places(
+            alloc,
+            b"`define B (y)\n`define A x`B\n `A\n",
+            &[(3, 2), (3, 2), (3, 2), (3, 2), (4, 1)]
+        )
+    );
+    assert!(rt; has_places(alloc, b"`define W 8\n `W'h2a x", &[(2, 2), (2, 9), (2, 10)]));
+    assert!(rt; has_places(alloc, b"`define H 'hF\n4 /* */ `H", &[(2, 1), (2, 11)]));
 }

@@ -78,7 +78,10 @@ fn is_bad(alloc: Global, text: &[u8], shown: &[u8]) -> bool
     requires { length text.now ≤ 4194304 }
 {
     match fault_of(alloc, text, b"") {
-        Ok(line) => line.as_slice().strip_prefix(b"refused 12 BadDirective a.v:".as_slice()) == Some(shown),
+        Ok(line) => line
+            .as_slice()
+            .strip_prefix(b"refused 12 BadDirective a.v:".as_slice())
+            == Some(shown),
         Err(_) => false,
     }
 }
@@ -210,8 +213,22 @@ fn branches_that_fail_are_refused(rt: HostRuntime) {
     assert!(rt; is_bad(alloc, b"`ifdef A\n`else\n `elsif A\n`endif", b"3:2 elsif\n"));
     assert!(rt; is_bad(alloc, b" `ifdef A\n`ifdef B\n", b"1:2 ifdef\n"));
     assert!(rt; is_bad(alloc, b"`ifdef A\n`endif\n `ifndef B\n", b"3:2 ifndef\n"));
-    assert!(rt; shows(alloc, b"`ifdef A\n", b"`endif", b"refused 12 BadDirective a.v:1:1 ifdef\n"));
-    assert!(rt; shows(alloc, b"x", b"\n `endif", b"refused 12 BadDirective b.v:2:2 endif\n"));
+    assert!(rt;
+        shows(
+            alloc,
+            b"`ifdef A\n",
+            b"`endif",
+            b"refused 12 BadDirective a.v:1:1 ifdef\n"
+        )
+    );
+    assert!(rt;
+        shows(
+            alloc,
+            b"x",
+            b"\n `endif",
+            b"refused 12 BadDirective b.v:2:2 endif\n"
+        )
+    );
 }
 
 // Adds some bytes, so many times.
@@ -246,20 +263,38 @@ fn fault_of_bytes(alloc: Global, uses: u32, others: u32) -> Result<Vec<u8>, NoMe
     fault_of(alloc, &text, b"")
 }
 
+// Whether a fault has this line; an empty one where there is no fault.
+fn is_line(shown: Result<Vec<u8>, NoMemory>, line: &[u8]) -> bool {
+    match shown {
+        Ok(bytes) => bytes.as_slice() == line,
+        Err(_) => false,
+    }
+}
+
 #[test]
 fn too_much_is_refused(rt: HostRuntime) {
     let alloc = rt.alloc();
-    let allowed = fault_of_uses(alloc, 1_048_576);
-    assert!(rt; matches!(allowed, Ok(line) if line.is_empty()));
-    let refused = fault_of_uses(alloc, 1_048_577);
-    assert!(rt; matches!(refused, Ok(line) if line == b"refused 10 TextTooLong a.v:1048578:1 -\n".as_slice()));
+    assert!(rt; is_line(fault_of_uses(alloc, 1_048_576), b""));
+    assert!(rt;
+        is_line(
+            fault_of_uses(alloc, 1_048_577),
+            b"refused 10 TextTooLong a.v:1048578:1 -\n"
+        )
+    );
     // The newline behind the body is a piece of one byte, so the sixteenth use would be one byte too many.
-    let allowed = fault_of_bytes(alloc, 15, 1_048_575);
-    assert!(rt; matches!(allowed, Ok(line) if line.is_empty()));
-    let refused = fault_of_bytes(alloc, 15, 1_048_576);
-    assert!(rt; matches!(refused, Ok(line) if line == b"refused 10 TextTooLong a.v:2:1048606 -\n".as_slice()));
-    let refused = fault_of_bytes(alloc, 16, 0);
-    assert!(rt; matches!(refused, Ok(line) if line == b"refused 10 TextTooLong a.v:2:31 -\n".as_slice()));
+    assert!(rt; is_line(fault_of_bytes(alloc, 15, 1_048_575), b""));
+    assert!(rt;
+        is_line(
+            fault_of_bytes(alloc, 15, 1_048_576),
+            b"refused 10 TextTooLong a.v:2:1048606 -\n"
+        )
+    );
+    assert!(rt;
+        is_line(
+            fault_of_bytes(alloc, 16, 0),
+            b"refused 10 TextTooLong a.v:2:31 -\n"
+        )
+    );
 }
 
 // How many pieces two files have.
