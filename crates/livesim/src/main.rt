@@ -26,16 +26,7 @@ use ls_port::{StdSink, StdSource};
 use std::process::ExitCode;
 use std::{env, io};
 
-// The words of the command line.
-fn words(rt: &HostRuntime) -> io::Result<Vec<String>> {
-    let mut words = Vec::new(rt.alloc());
-    for word in env::args(rt)? {
-        words.push(word)?;
-    }
-    Ok(words)
-}
-
-// The status where the words can't be had: 5 where memory ran out, else 2.
+// The status where the words of the command line can't be had: 5 where memory ran out, else 2.
 fn status_without_words(kind: io::ErrorKind) -> u8
     ensures memory { (result ≡ 5) ↔ (kind ≡ OutOfMemory) }
     ensures known { (result ≡ 2) ⊎ (result ≡ 5) }
@@ -47,10 +38,14 @@ fn status_without_words(kind: io::ErrorKind) -> u8
 }
 
 fn main(rt: HostRuntime) -> ExitCode {
-    let words = match words(&rt) {
-        Ok(words) => words,
+    let args = match env::args(&rt) {
+        Ok(args) => args,
         Err(e) => return ExitCode::from(status_without_words(e.kind())),
     };
+    let mut words = Vec::new(rt.alloc());
+    if words.extend(args).is_err() {
+        return ExitCode::from(5);
+    }
     let mut source = StdSource::new(rt.reader());
     let mut sink = StdSink::new(io::writer(&rt));
     let outcome = live::live_run(&rt, rt.alloc(), &words, &mut source, &mut sink);
