@@ -1,6 +1,6 @@
 // Sized expressions as trees, and the evaluation of one.
 ghost use Rattle.std.specs.Prelude.{◌≡◌, IsTrue};
-ghost use Rattle.typed_ir.specs.Sized.{value_of, width_of, agrees, fits_signals, is_signal, is_span};
+ghost use Rattle.typed_ir.specs.Sized.{value_of, width_of, agrees, fits_signals, is_signal, is_span, Pick, Unary, Binary, Choice, Concat, Repeat, Resized};
 ghost use Rattle.typed_ir.specs.Forms.{sized};
 ghost use Rattle.typed_ir.specs.Views.{widths, env_of};
 
@@ -32,7 +32,24 @@ pub enum Form {
 
 impl Form {
     /// The value, where `env` has the signals.
+    #[cycle(value)]
     pub fn value(&self, env: &[Bits]) -> Bits
+        requires agrees { IsTrue (agrees (sized self.now)) }
+        requires fits { IsTrue (fits_signals (sized self.now) (widths env.now)) }
+        ensures width { result.width ≡ width_of (sized self.now) }
+        ensures value { result.value ≡ value_of (sized self.now) (env_of env.now) }
+    {
+        let x = self.evaluated(env);
+        Bits {
+            width: x.width,
+            value: x.value,
+        }
+    }
+
+    // The value, with what lies between the two fields of the result: `value` hands on just these two, since a copy of the
+    // 15 bytes between them would take longer than most operators.
+    #[cycle(value)]
+    fn evaluated(&self, env: &[Bits]) -> Bits
         requires agrees { IsTrue (agrees (sized self.now)) }
         requires fits { IsTrue (fits_signals (sized self.now) (widths env.now)) }
         ensures width { result.width ≡ width_of (sized self.now) }
@@ -43,26 +60,14 @@ impl Form {
             Form::Name(signal, _) => env[*signal as usize],
             Form::Part(span) => env[span.signal as usize].select(span.low as i16, span.width),
             Form::Pick(signal, width, below, signed, index) => {
-                picked(
-                    env[*signal as usize],
-                    *width,
-                    *below,
-                    *signed,
-                    index.value(env),
-                )
+                pick(*signal, *width, *below, *signed, index, env)
             }
-            Form::Unary(op, a) => apply_unary(*op, a.value(env)),
-            Form::Binary(op, a, b) => apply_binary(*op, a.value(env), b.value(env)),
-            Form::Choice(c, a, b) => {
-                if c.value(env).value == 0 {
-                    b.value(env)
-                } else {
-                    a.value(env)
-                }
-            }
-            Form::Concat(a, b) => a.value(env).concat(b.value(env)),
-            Form::Repeat(count, a) => copied(*count, a.value(env)),
-            Form::Resized(a, width, signed) => a.value(env).resize(*width, *signed),
+            Form::Unary(op, a) => unary(*op, a, env),
+            Form::Binary(op, a, b) => binary(*op, a, b, env),
+            Form::Choice(c, a, b) => choice(c, a, b, env),
+            Form::Concat(a, b) => concat(a, b, env),
+            Form::Repeat(count, a) => repeat(*count, a, env),
+            Form::Resized(a, width, signed) => resized(a, *width, *signed, env),
         }
     }
 
@@ -85,6 +90,91 @@ impl Form {
             Form::Resized(a, _, _) => a.fits(env),
         }
     }
+}
+
+// Each kind of form with parts has a function of its own: one that has none, a constant or a name, then makes no room for
+// the values of parts.
+
+// The bits of a signal from a place that the index gives.
+#[cycle(value)]
+fn pick(signal: u32, width: u8, below: u32, signed: bool, index: &Form, env: &[Bits]) -> Bits
+    requires agrees { IsTrue (agrees (Pick signal width below signed (sized index.now))) }
+    requires fits { IsTrue (fits_signals (Pick signal width below signed (sized index.now)) (widths env.now)) }
+    ensures width { result.width ≡ width_of (Pick signal width below signed (sized index.now)) }
+    ensures value { result.value ≡ value_of (Pick signal width below signed (sized index.now)) (env_of env.now) }
+{
+    let x = env[signal as usize];
+    picked(x, width, below, signed, index.value(env))
+}
+
+// What an operator makes of one operand.
+#[cycle(value)]
+fn unary(op: UnaryOperator, a: &Form, env: &[Bits]) -> Bits
+    requires agrees { IsTrue (agrees (Unary op (sized a.now))) }
+    requires fits { IsTrue (fits_signals (Unary op (sized a.now)) (widths env.now)) }
+    ensures width { result.width ≡ width_of (Unary op (sized a.now)) }
+    ensures value { result.value ≡ value_of (Unary op (sized a.now)) (env_of env.now) }
+{
+    apply_unary(op, a.value(env))
+}
+
+// What an operator makes of two operands.
+#[cycle(value)]
+fn binary(op: BinaryOperator, a: &Form, b: &Form, env: &[Bits]) -> Bits
+    requires agrees { IsTrue (agrees (Binary op (sized a.now) (sized b.now))) }
+    requires fits { IsTrue (fits_signals (Binary op (sized a.now) (sized b.now)) (widths env.now)) }
+    ensures width { result.width ≡ width_of (Binary op (sized a.now) (sized b.now)) }
+    ensures value { result.value ≡ value_of (Binary op (sized a.now) (sized b.now)) (env_of env.now) }
+{
+    apply_binary(op, a.value(env), b.value(env))
+}
+
+// `c ? a : b`
+#[cycle(value)]
+fn choice(c: &Form, a: &Form, b: &Form, env: &[Bits]) -> Bits
+    requires agrees { IsTrue (agrees (Choice (sized c.now) (sized a.now) (sized b.now))) }
+    requires fits { IsTrue (fits_signals (Choice (sized c.now) (sized a.now) (sized b.now)) (widths env.now)) }
+    ensures width { result.width ≡ width_of (Choice (sized c.now) (sized a.now) (sized b.now)) }
+    ensures value { result.value ≡ value_of (Choice (sized c.now) (sized a.now) (sized b.now)) (env_of env.now) }
+{
+    if c.value(env).value == 0 {
+        b.value(env)
+    } else {
+        a.value(env)
+    }
+}
+
+// One value above the other.
+#[cycle(value)]
+fn concat(a: &Form, b: &Form, env: &[Bits]) -> Bits
+    requires agrees { IsTrue (agrees (Concat (sized a.now) (sized b.now))) }
+    requires fits { IsTrue (fits_signals (Concat (sized a.now) (sized b.now)) (widths env.now)) }
+    ensures width { result.width ≡ width_of (Concat (sized a.now) (sized b.now)) }
+    ensures value { result.value ≡ value_of (Concat (sized a.now) (sized b.now)) (env_of env.now) }
+{
+    a.value(env).concat(b.value(env))
+}
+
+// Copies of one value.
+#[cycle(value)]
+fn repeat(count: u8, a: &Form, env: &[Bits]) -> Bits
+    requires agrees { IsTrue (agrees (Repeat count (sized a.now))) }
+    requires fits { IsTrue (fits_signals (Repeat count (sized a.now)) (widths env.now)) }
+    ensures width { result.width ≡ width_of (Repeat count (sized a.now)) }
+    ensures value { result.value ≡ value_of (Repeat count (sized a.now)) (env_of env.now) }
+{
+    copied(count, a.value(env))
+}
+
+// A value at another width.
+#[cycle(value)]
+fn resized(a: &Form, width: u8, signed: bool, env: &[Bits]) -> Bits
+    requires agrees { IsTrue (agrees (Resized (sized a.now) width signed)) }
+    requires fits { IsTrue (fits_signals (Resized (sized a.now) width signed) (widths env.now)) }
+    ensures width { result.width ≡ width_of (Resized (sized a.now) width signed) }
+    ensures value { result.value ≡ value_of (Resized (sized a.now) width signed) (env_of env.now) }
+{
+    a.value(env).resize(width, signed)
 }
 
 // Whether a signal has this number and width.

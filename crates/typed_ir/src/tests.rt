@@ -22,59 +22,214 @@ fn value_in(rt: &impl Abort, e: &Typed, env: &Env) -> u128 {
     value(e, env).value()
 }
 
-// Signal 0 has the eight bits 1010_0101.
-fn one_signal(alloc: std::alloc::Global) -> Result<Env, NoMemory> {
+const TOP_63: u128 = 0x4000_0000_0000_0000;
+
+const ONES_64: u128 = 0xffff_ffff_ffff_ffff;
+
+const TOP_64: u128 = 0x8000_0000_0000_0000;
+
+// also the top bit of 65 bits
+const TWO_64: u128 = 0x1_0000_0000_0000_0000;
+
+const ONES_127: u128 = 0x7fff_ffff_ffff_ffff_ffff_ffff_ffff_ffff;
+
+const ONES: u128 = 0xffff_ffff_ffff_ffff_ffff_ffff_ffff_ffff;
+
+// the top bit of 128 bits
+const TOP: u128 = 0x8000_0000_0000_0000_0000_0000_0000_0000;
+
+// Signal 0 has the eight bits 1010_0101, and signal 1 the highest and the lowest of 128 bits.
+fn two_signals(alloc: std::alloc::Global) -> Result<Env, NoMemory> {
     let mut values = Vec::new(alloc);
     values.push(Bits::new(8, 0xa5))?;
+    values.push(Bits::new(128, TOP + 1))?;
     Ok(Env { values })
 }
 
 #[test]
-fn binary_operators(rt: HostRuntime) -> Result<(), Fail> {
-    let env = one_signal(rt.alloc())?;
-    let arithmetic = [
-        (ArithmeticOperator::Sum, 200, 100, 44),
-        (ArithmeticOperator::Difference, 100, 200, 156),
-        (ArithmeticOperator::Product, 20, 20, 144),
-        (ArithmeticOperator::Quotient(true), 0x80, 0xff, 0x80),
-        (ArithmeticOperator::Quotient(false), 7, 0, 0),
-        (ArithmeticOperator::Remainder(true), 249, 2, 255),
-        (ArithmeticOperator::Remainder(false), 249, 2, 1),
-        (ArithmeticOperator::And, 0xcc, 0xaa, 0x88),
-        (ArithmeticOperator::Or, 0xcc, 0xaa, 0xee),
-        (ArithmeticOperator::Xor, 0xcc, 0xaa, 0x66),
-        (ArithmeticOperator::Xnor, 0xcc, 0xaa, 0x99),
+fn arithmetic_operators(rt: HostRuntime) -> Result<(), Fail> {
+    let env = two_signals(rt.alloc())?;
+    // the operator, the width, two values, and what it gives
+    let table = [
+        (ArithmeticOperator::Sum, 8, 200, 100, 44),
+        (ArithmeticOperator::Sum, 1, 1, 1, 0),
+        (ArithmeticOperator::Sum, 128, ONES, 1, 0),
+        (ArithmeticOperator::Difference, 8, 100, 200, 156),
+        (ArithmeticOperator::Difference, 64, 0, 1, ONES_64),
+        (ArithmeticOperator::Product, 8, 20, 20, 144),
+        (ArithmeticOperator::Product, 65, TWO_64, 3, TWO_64),
+        // -8'sd128 / -8'sd1
+        (ArithmeticOperator::Quotient(true), 8, 0x80, 0xff, 0x80),
+        (ArithmeticOperator::Quotient(true), 63, TOP_63, TOP_63, 1),
+        (ArithmeticOperator::Quotient(false), 8, 7, 0, 0),
+        (ArithmeticOperator::Quotient(false), 64, TOP_64, 2, TOP_63),
+        (ArithmeticOperator::Remainder(true), 8, 249, 2, 255),
+        (
+            ArithmeticOperator::Remainder(true),
+            127,
+            ONES_127,
+            2,
+            ONES_127,
+        ),
+        (ArithmeticOperator::Remainder(false), 8, 249, 2, 1),
+        (ArithmeticOperator::And, 8, 0xcc, 0xaa, 0x88),
+        (ArithmeticOperator::Or, 8, 0xcc, 0xaa, 0xee),
+        (ArithmeticOperator::Xor, 8, 0xcc, 0xaa, 0x66),
+        (ArithmeticOperator::Xnor, 8, 0xcc, 0xaa, 0x99),
+        (ArithmeticOperator::Xnor, 127, 0, 0, ONES_127),
     ];
-    for (op, x, y, wanted) in arithmetic {
+    for (op, width, x, y, wanted) in table {
         let op = BinaryOperator::Arithmetic(op);
-        let a = number(&rt, 8, x);
-        let b = number(&rt, 8, y);
+        let a = number(&rt, width, x);
+        let b = number(&rt, width, y);
         assert!(rt; op.takes(a.width, b.width));
         let e = Typed::binary(rt.alloc(), op, a, b)?;
-        assert_eq!(rt; e.width, 8);
+        assert_eq!(rt; e.width, width);
         assert_eq!(rt; value_in(&rt, &e, &env), wanted, "{op:?} of {x} and {y}");
     }
-    let others = [
-        (BinaryOperator::Compare(Comparison::Equal), 5, 5, 1),
-        (BinaryOperator::Compare(Comparison::Unequal), 5, 5, 0),
-        (BinaryOperator::Compare(Comparison::Less(true)), 0x80, 1, 1),
-        (BinaryOperator::Compare(Comparison::Less(false)), 0x80, 1, 0),
-        (BinaryOperator::Compare(Comparison::AtMost(true)), 5, 5, 1),
-        (BinaryOperator::Logical(LogicalOperator::Both), 2, 0, 0),
-        (BinaryOperator::Logical(LogicalOperator::Both), 2, 4, 1),
-        (BinaryOperator::Logical(LogicalOperator::Either), 2, 0, 1),
-        (BinaryOperator::Shift(ShiftOperator::Left), 0x81, 1, 2),
-        (BinaryOperator::Shift(ShiftOperator::Right), 0x81, 8, 0),
+    Ok(())
+}
+
+#[test]
+fn other_binary_operators(rt: HostRuntime) -> Result<(), Fail> {
+    let env = two_signals(rt.alloc())?;
+    // the operator, the width and the value of both operands, and what it gives
+    let table = [
+        (BinaryOperator::Compare(Comparison::Equal), 8, 5, 8, 5, 1),
+        (BinaryOperator::Compare(Comparison::Unequal), 8, 5, 8, 5, 0),
+        (
+            BinaryOperator::Compare(Comparison::Unequal),
+            65,
+            TWO_64,
+            65,
+            0,
+            1,
+        ),
+        (
+            BinaryOperator::Compare(Comparison::Less(true)),
+            8,
+            0x80,
+            8,
+            1,
+            1,
+        ),
+        (
+            BinaryOperator::Compare(Comparison::Less(false)),
+            8,
+            0x80,
+            8,
+            1,
+            0,
+        ),
+        (
+            BinaryOperator::Compare(Comparison::Less(true)),
+            1,
+            1,
+            1,
+            0,
+            1,
+        ),
+        (
+            BinaryOperator::Compare(Comparison::AtMost(true)),
+            8,
+            5,
+            8,
+            5,
+            1,
+        ),
+        (
+            BinaryOperator::Compare(Comparison::AtMost(true)),
+            64,
+            1,
+            64,
+            ONES_64,
+            0,
+        ),
+        (
+            BinaryOperator::Compare(Comparison::AtMost(false)),
+            64,
+            1,
+            64,
+            ONES_64,
+            1,
+        ),
+        (
+            BinaryOperator::Logical(LogicalOperator::Both),
+            8,
+            2,
+            8,
+            0,
+            0,
+        ),
+        (
+            BinaryOperator::Logical(LogicalOperator::Both),
+            128,
+            TOP,
+            1,
+            1,
+            1,
+        ),
+        (
+            BinaryOperator::Logical(LogicalOperator::Either),
+            8,
+            2,
+            4,
+            0,
+            1,
+        ),
+        (
+            BinaryOperator::Logical(LogicalOperator::Either),
+            8,
+            0,
+            63,
+            0,
+            0,
+        ),
+        (BinaryOperator::Shift(ShiftOperator::Left), 8, 0x81, 8, 1, 2),
+        (
+            BinaryOperator::Shift(ShiftOperator::Left),
+            128,
+            1,
+            8,
+            127,
+            TOP,
+        ),
+        (
+            BinaryOperator::Shift(ShiftOperator::Right),
+            8,
+            0x81,
+            8,
+            8,
+            0,
+        ),
+        (
+            BinaryOperator::Shift(ShiftOperator::Right),
+            65,
+            TWO_64,
+            7,
+            64,
+            1,
+        ),
         (
             BinaryOperator::Shift(ShiftOperator::Arithmetic),
+            8,
             0x81,
+            8,
             1,
             0xc0,
         ),
+        (
+            BinaryOperator::Shift(ShiftOperator::Arithmetic),
+            64,
+            TOP_64,
+            128,
+            TOP,
+            ONES_64,
+        ),
     ];
-    for (op, x, y, wanted) in others {
-        let a = number(&rt, 8, x);
-        let b = number(&rt, 8, y);
+    for (op, width, x, other, y, wanted) in table {
+        let a = number(&rt, width, x);
+        let b = number(&rt, other, y);
         assert!(rt; op.takes(a.width, b.width));
         let e = Typed::binary(rt.alloc(), op, a, b)?;
         assert_eq!(rt; value_in(&rt, &e, &env), wanted, "{op:?} of {x} and {y}");
@@ -84,20 +239,28 @@ fn binary_operators(rt: HostRuntime) -> Result<(), Fail> {
 
 #[test]
 fn unary_operators(rt: HostRuntime) -> Result<(), Fail> {
-    let env = one_signal(rt.alloc())?;
+    let env = two_signals(rt.alloc())?;
+    // the operator, the width and the value of its operand, what it gives
     let table = [
-        (UnaryOperator::Inverse, 0xa5, 0x5a),
-        (UnaryOperator::Negative, 1, 0xff),
-        (UnaryOperator::AllOnes, 0xfe, 0),
-        (UnaryOperator::AllOnes, 0xff, 1),
-        (UnaryOperator::AnyOne, 0x10, 1),
-        (UnaryOperator::NoOne, 0x10, 0),
-        (UnaryOperator::NoOne, 0, 1),
-        (UnaryOperator::OddOnes, 0x13, 1),
-        (UnaryOperator::OddOnes, 0x11, 0),
+        (UnaryOperator::Inverse, 8, 0xa5, 0x5a),
+        (UnaryOperator::Inverse, 1, 0, 1),
+        (UnaryOperator::Inverse, 127, 0, ONES_127),
+        (UnaryOperator::Negative, 8, 1, 0xff),
+        (UnaryOperator::Negative, 64, TOP_64, TOP_64),
+        (UnaryOperator::Negative, 128, 0, 0),
+        (UnaryOperator::AllOnes, 8, 0xfe, 0),
+        (UnaryOperator::AllOnes, 8, 0xff, 1),
+        (UnaryOperator::AllOnes, 127, ONES_127, 1),
+        (UnaryOperator::AnyOne, 8, 0x10, 1),
+        (UnaryOperator::AnyOne, 65, TWO_64, 1),
+        (UnaryOperator::NoOne, 8, 0x10, 0),
+        (UnaryOperator::NoOne, 63, 0, 1),
+        (UnaryOperator::OddOnes, 8, 0x13, 1),
+        (UnaryOperator::OddOnes, 8, 0x11, 0),
+        (UnaryOperator::OddOnes, 128, TOP, 1),
     ];
-    for (op, x, wanted) in table {
-        let e = Typed::unary(rt.alloc(), op, number(&rt, 8, x))?;
+    for (op, width, x, wanted) in table {
+        let e = Typed::unary(rt.alloc(), op, number(&rt, width, x))?;
         assert_eq!(rt; value_in(&rt, &e, &env), wanted, "{op:?} of {x}");
     }
     Ok(())
@@ -105,46 +268,69 @@ fn unary_operators(rt: HostRuntime) -> Result<(), Fail> {
 
 #[test]
 fn selects(rt: HostRuntime) -> Result<(), Fail> {
-    let env = one_signal(rt.alloc())?;
-    let whole = Typed::name(0, 8);
-    assert_eq!(rt; value_in(&rt, &whole, &env), 0xa5);
-    let upper = Span {
-        signal: 0,
-        low: 4,
-        width: 4,
-    };
-    assert_eq!(rt; value_in(&rt, &Typed::part(upper), &env), 0xa);
-    // the width of the select, what is taken from the index, whether the index is signed, the index of four bits
+    let env = two_signals(rt.alloc())?;
+    assert_eq!(rt; value_in(&rt, &Typed::name(0, 8), &env), 0xa5);
+    assert_eq!(rt; value_in(&rt, &Typed::name(1, 128), &env), TOP + 1);
+    // the signal, the lowest bit and the width of a select
+    for (signal, low, width, wanted) in [(0, 4, 4, 0xa), (1, 64, 64, TOP_64), (1, 127, 1, 1)] {
+        let e = Typed::part(Span { signal, low, width });
+        assert_eq!(rt; value_in(&rt, &e, &env), wanted, "{width} bits from {low}");
+    }
+    // the signal, the width of the select, what is taken from the index, whether the index is signed, the index of
+    // eight bits
     let table = [
         // a bit of [11:4]: 6 is bit 2, and 3 and 12 lie outside
-        (1, 4, false, 6, 1),
-        (1, 4, false, 3, 0),
-        (1, 4, false, 12, 0),
+        (0, 1, 4, false, 6, 1),
+        (0, 1, 4, false, 3, 0),
+        (0, 1, 4, false, 12, 0),
         // [7 -: 4] and [6 +: 4] of [7:0]
-        (4, 3, false, 7, 0xa),
-        (4, 0, false, 6, 2),
-        // 4'b1111 is 15, and -1 where it is signed
-        (4, 0, false, 15, 0),
-        (4, 0, true, 15, 0xa),
+        (0, 4, 3, false, 7, 0xa),
+        (0, 4, 0, false, 6, 2),
+        // 8'hff is 255, and -1 where it is signed
+        (0, 4, 0, false, 0xff, 0),
+        (0, 4, 0, true, 0xff, 0xa),
+        // [6 +: 4] and [-1 +: 10] of [11:4]: from bit 2, and from five below bit 0
+        (0, 4, 4, true, 6, 9),
+        (0, 10, 4, true, 0xff, 0xa0),
+        (0, 10, 4, false, 0xff, 0),
+        // 128 bits from the bits -129, -127, 127 and 128
+        (1, 128, 1, true, 0x80, 0),
+        (1, 128, 0, true, 0x81, TOP),
+        (1, 128, 0, false, 0x7f, 1),
+        (1, 128, 0, false, 0x80, 0),
     ];
-    for (width, below, signed, index, wanted) in table {
+    for (signal, width, below, signed, index, wanted) in table {
         assert!(rt; width >= 1 && width <= 128);
-        let e = Typed::pick(rt.alloc(), 0, width, below, signed, number(&rt, 4, index))?;
+        let place = number(&rt, 8, index);
+        let e = Typed::pick(rt.alloc(), signal, width, below, signed, place)?;
         assert_eq!(rt;
             value_in(&rt, &e, &env),
             wanted,
             "{width} bits from {index} less {below}"
         );
     }
-    let absent = Typed::name(1, 8);
-    assert!(rt; !fits(&absent, &env));
+    Ok(())
+}
+
+#[test]
+fn signals_that_are_not_there(rt: HostRuntime) -> Result<(), Fail> {
+    let env = two_signals(rt.alloc())?;
+    assert!(rt; !fits(&Typed::name(2, 8), &env));
     assert!(rt; !fits(&Typed::name(0, 7), &env));
+    let outside = Span {
+        signal: 0,
+        low: 5,
+        width: 4,
+    };
+    assert!(rt; !fits(&Typed::part(outside), &env));
+    let absent = Typed::pick(rt.alloc(), 2, 1, 0, false, number(&rt, 4, 0))?;
+    assert!(rt; !fits(&absent, &env));
     Ok(())
 }
 
 #[test]
 fn parts_put_together(rt: HostRuntime) -> Result<(), Fail> {
-    let env = one_signal(rt.alloc())?;
+    let env = two_signals(rt.alloc())?;
     // {2{ {2{2'b01}}, 1'b1 }}
     let twice = Typed::repeat(rt.alloc(), 2, number(&rt, 2, 1))?;
     let five = Typed::concat(rt.alloc(), twice, number(&rt, 1, 1))?;
@@ -152,7 +338,11 @@ fn parts_put_together(rt: HostRuntime) -> Result<(), Fail> {
     assert_eq!(rt; ten.width, 10);
     assert_eq!(rt; value_in(&rt, &ten, &env), 0b01011_01011);
     let ones = Typed::repeat(rt.alloc(), 128, number(&rt, 1, 1))?;
-    assert_eq!(rt; value_in(&rt, &ones, &env), u128::MAX);
+    assert_eq!(rt; value_in(&rt, &ones, &env), ONES);
+    // 65 bits above 63
+    let joined = Typed::concat(rt.alloc(), number(&rt, 65, TWO_64), number(&rt, 63, 3))?;
+    assert_eq!(rt; joined.width, 128);
+    assert_eq!(rt; value_in(&rt, &joined, &env), TOP + 3);
     // 2'b10 ? 1 : 2
     let choice = Typed::choice(
         rt.alloc(),
@@ -165,5 +355,7 @@ fn parts_put_together(rt: HostRuntime) -> Result<(), Fail> {
     assert_eq!(rt; value_in(&rt, &wide, &env), 0x1_ffff_ffff_ffff_fff8);
     let plain = Typed::resized(rt.alloc(), number(&rt, 4, 8), 65, false)?;
     assert_eq!(rt; value_in(&rt, &plain, &env), 8);
+    let cut = Typed::resized(rt.alloc(), number(&rt, 128, TOP + 5), 127, true)?;
+    assert_eq!(rt; value_in(&rt, &cut, &env), 5);
     Ok(())
 }
