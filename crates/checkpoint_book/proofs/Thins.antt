@@ -1,6 +1,7 @@
 use Rattle.std.proofs.Common.{◌≡◌, ℕ, zero, suc, ◌+◌, ◌-◌, ◌*◌, ◌<◌, ◌≤◌, List, [], ◌∷◌, ◌++◌, length, take, drop, set, get_or, refl, sym, ◌∙◌, ap, arith, eqb, length-append}
-use Rattle.std.proofs.Math.Seq.{drop-append-add}
-use Rattle.std.specs.List.{remove}
+use Rattle.std.proofs.Math.Seq.{drop-append-add, drop-cons, take-suc}
+use Rattle.std.proofs.lemmas.List.{append-nil, append_assoc, drop_all, take_all, take-set-le}
+use Rattle.std.specs.List.{SwappedAt}
 use Rattle.std.proofs.lemmas.Bool.{cond_both, eqb-false}
 use Rattle.book_history.specs.declared.segment.Segment.{Segment}
 use Rattle.book_history.specs.declared.link.Link.TheVariants.{Joined}
@@ -9,21 +10,30 @@ use Rattle.book_history.specs.Book.{both, thin, last_state, add_mark, extend, gr
 use Rattle.checkpoint_book.specs.Grid.{next_mark, AgreeFrom}
 use Rattle.checkpoint_book.proofs.Grids.{grid_step}
 
-pub thin_step : {S : Type 0} (k : ℕ) (xs : List (Segment S)) (g h : Segment S) → suc k < length xs → g ≡ get_or xs k g → h ≡ get_or (remove xs k) k h
-    → take (suc k) (set (remove xs k) k (record { link = both g.link h.link; to = h.to; state = h.state }))
-    ++ thin (drop (suc k) (set (remove xs k) k (record { link = both g.link h.link; to = h.to; state = h.state })))
-    ≡ take k xs ++ thin (drop k xs)
-thin_step k [] g h lt eg eh = absurd (omega arith)
-thin_step zero (x ∷ []) g h lt eg eh = absurd (omega arith)
-thin_step {S} zero (x ∷ y ∷ zs) g h lt eg eh = rw (eg, eh) refl
-thin_step {S} (suc k) (x ∷ xs) g h lt eg eh = ap (λ (l : List (Segment S)). x ∷ l) (thin_step k xs g h (omega arith) eg eh)
+-- a last mark without a partner
+pub squeeze_last : {S : Type 0} (k a m : ℕ) (xs ys : List (Segment S)) → m ≡ suc k → k ≤ a → length xs ≡ suc a → length ys ≡ length xs → SwappedAt xs ys k a
+    → take m ys ≡ take k xs ++ thin (drop a xs)
+squeeze_last k a m [] ys em le few len sw = absurd (omega (arith, few))
+squeeze_last {S} k a m (d ∷ ds) ys em le few len sw =
+    let xs = d ∷ ds in
+    let x = get_or xs a d in
+    let new : ys ≡ set (set xs k (get_or xs a d)) a (get_or xs k d) = sw.3 d in
+    let front : take k ys ≡ take k xs =
+    ap (λ (l : List (Segment S)). take k l) new
+    ∙ take-set-le k (set xs k (get_or xs a d)) a (get_or xs k d) le
+    ∙ take-set-le k xs k (get_or xs a d) (omega arith) in
+    let one : drop a xs ≡ x ∷ [] =
+    drop-cons xs a d (omega (arith, few)) ∙ ap (λ (l : List (Segment S)). x ∷ l) (drop_all (suc a) xs (omega (arith, few))) in
+    ap (λ (i : ℕ). take i ys) em
+    ∙ take-suc ys k d (omega (arith, len, few, le))
+    ∙ ap (λ (y : Segment S). take k ys ++ y ∷ []) (sw.0 d)
+    ∙ ap (λ (l : List (Segment S)). l ++ x ∷ []) front
+    ∙ ap (λ (l : List (Segment S)). take k xs ++ thin l) (sym one)
 
-pub thin_end : {S : Type 0} (k : ℕ) (xs : List (Segment S)) → length xs ≤ suc k → take k xs ++ thin (drop k xs) ≡ xs
-thin_end zero [] le = refl
-thin_end zero (x ∷ []) le = refl
-thin_end zero (x ∷ y ∷ zs) le = absurd (omega arith)
-thin_end (suc k) [] le = refl
-thin_end {S} (suc k) (x ∷ xs) le = ap (λ (l : List (Segment S)). x ∷ l) (thin_end k xs (omega arith))
+-- a vector that was handed to a call as a slice
+pub handed_back : {A : Type 0} (n : ℕ) (new old : List A) → length new ≡ length old → length new ≡ n → take n (new ++ drop (length new) old) ≡ new
+handed_back {A} n new old same is =
+    ap (λ (l : List A). take n (new ++ l)) (drop_all (length new) old (omega (arith, same))) ∙ ap (λ (l : List A). take n l) (append-nil new) ∙ take_all n new (omega (arith, is))
 
 pub length-thin : {S : Type 0} (xs : List (Segment S)) → 2 * length (thin xs) ≤ length xs + 1
 length-thin [] = omega arith

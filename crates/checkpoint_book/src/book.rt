@@ -1,6 +1,7 @@
 // The book.
 ghost use Rattle.std.specs.Prelude.{◌≡◌, ℕ, ◌+◌, ◌-◌, ◌*◌, ◌<◌, ◌≤◌, ◌^◌, length, List, [], ◌∷◌, ◌++◌, true, false, Bool, ◌||◌, None, Some, IfOk, IfSome, IfNone, OnErr, OnOk, IsTrue};
 ghost use Rattle.book_history.specs.Book.{replay, Opened as OpenedEvent, Ran, Reloaded, Installed as InstalledEvent, Released, Shown as ShownEvent, Closed};
+ghost use Rattle.book_history.specs.Legal.{Legal};
 ghost use Rattle.book_history.specs.Outs.{IsOutFor};
 ghost use Rattle.book_history.specs.Rooms.{HasRoom, out_in};
 ghost use Rattle.book_history.specs.Truth.{True};
@@ -98,6 +99,13 @@ impl<M: Machine> Book<M> {
             counters,
         };
         Ok(Box::new(alloc, book)?)
+    }
+
+    /// Whatever its history, it is legal: what the law says of legal histories holds of this book.
+    pub fn legal(&self)
+        ensures { Legal M.kit M.valid self.now.settings self.now.events }
+    {
+        self.history.legal();
     }
 
     /// Whatever its history, the book is true.
@@ -372,7 +380,8 @@ impl<M: Machine> Book<M> {
 
     /// How many marks there are, at most 1,024, and none before the first version.
     pub fn marks(&self) -> u32
-        ensures { result ≡ marks_in (book_of M.kit self.now) }
+        ensures value { result ≡ marks_in (book_of M.kit self.now) }
+        ensures most { result ≤ 1024 }
     {
         match &self.opened {
             Some(opened) => opened.segs.len() as u32 + 1,

@@ -1,5 +1,5 @@
 // New marks of a run, thinned where they make 1,025.
-ghost use Rattle.std.specs.Prelude.{◌≡◌, ℕ, ◌<◌, ◌≤◌, ◌+◌, ◌-◌, ◌*◌, ◌++◌, List, length, vec_capacity, IfOk, OnOk};
+ghost use Rattle.std.specs.Prelude.{◌≡◌, ℕ, ◌<◌, ◌≤◌, ◌+◌, ◌-◌, ◌*◌, ◌++◌, List, length, take, vec_capacity, IfOk, OnOk};
 ghost use Rattle.machine.specs.Rows.{Covers};
 ghost use Rattle.book_history.specs.Book.{both, thin as thinned, add_mark, last_state, extend as extended, grid};
 ghost use Rattle.checkpoint_book.specs.Grid.{next_mark, AgreeFrom};
@@ -27,18 +27,32 @@ fn merge(g: Link, h: Link) -> Link
     }
 }
 
-/// Takes out the marks of odd index.
+/// Brings the marks that stay to the front, in order, with merged links: how many they are.
+fn squeeze<S>(segs: &mut [Segment<S>]) -> usize
+    ensures kept { take result segs.new ≡ thinned segs.old }
+    ensures len { length segs.new ≡ length segs.old }
+{
+    let mut k = 0;
+    while 2 <= segs.len() - 2 * k {
+        let link = merge(segs[2 * k].link, segs[2 * k + 1].link);
+        segs.swap(k, 2 * k + 1);
+        segs[k].link = link;
+        k += 1;
+    }
+    if 2 * k < segs.len() {
+        segs.swap(k, 2 * k);
+        return k + 1;
+    }
+    k
+}
+
+/// Takes out the marks of odd index, in place and in time linear in their number.
 pub fn thin<S: Drop>(segs: &mut Vec<Segment<S>>)
     ensures items { segs.new.items ≡ thinned segs.old.items }
     ensures capacity { vec_capacity segs.new ≡ vec_capacity segs.old }
 {
-    let mut k = 0;
-    while k + 1 < segs.len() {
-        let before = segs.remove(k);
-        let after = &mut segs[k];
-        after.link = merge(before.link, after.link);
-        k += 1;
-    }
+    let kept = squeeze(segs);
+    segs.truncate(kept);
 }
 
 /// The next mark's cycle.
