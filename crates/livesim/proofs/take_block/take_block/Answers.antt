@@ -21,7 +21,8 @@ returns-in-Err-Fault c =
     = rw c.in-Err-Fault.field-0-is at c.in-Err-Fault.ensures.tokens in
     let read = ap (λ (t : List ℕ). file_tokens (record { name = id; text = t } ∷ [])) (sym c.new.ensures) ∙ here in
     let refused = faulty c.args.line b c.intern.new.self new id few table c.in_ok-intern.ensures.id c.in-Err-Fault.ensures.grows c.in-Err-Fault.fault read in
-    refuses (Load c.args.line (Some b)) _ refused _ c.in_ok-reply-in-Err-Fault.ensures.text _ c.in_ok-reply-in-Err-Fault.ensures.refused
+    let shown = rw c.in-Err-Fault.fault-is at c.in_ok-reply-in-Err-Fault.ensures.text in
+    refuses (Load c.args.line (Some b)) _ refused _ shown _ c.in_ok-reply-in-Err-Fault.ensures.refused
 
 pub returns-in-OtherForm : goal.returns-in-OtherForm
 returns-in-OtherForm c =
