@@ -273,6 +273,7 @@ fn selects(rt: HostRuntime) -> Result<(), Fail> {
     assert_eq!(rt; value_in(&rt, &Typed::name(1, 128), &env), TOP + 1);
     // the signal, the lowest bit and the width of a select
     for (signal, low, width, wanted) in [(0, 4, 4, 0xa), (1, 64, 64, TOP_64), (1, 127, 1, 1)] {
+        assert!(rt; width >= 1 && low <= 128 && width <= 128 - low);
         let e = Typed::part(Span { signal, low, width });
         assert_eq!(rt; value_in(&rt, &e, &env), wanted, "{width} bits from {low}");
     }
