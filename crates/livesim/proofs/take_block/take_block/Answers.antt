@@ -33,7 +33,7 @@ returns-in-OtherForm c =
     let table = c.in_ok-intern.ensures.table ∙ ap (λ (t : List (List ℕ)). interned t b.file) c.new-names.ensures in
     let read = ap (λ (t : List ℕ). file_tokens (record { name = id; text = t } ∷ [])) (sym c.new.ensures) ∙ c.in-Ok.ensures.tokens in
     let made = ap (built new) (sym c.in-OtherForm.is) ∙ c.in_ok-design.ensures.built
-        ∙ ap (λ ts. design_at b.top b.clock (map (said new) ts)) c.deref.ensures.value in
+    ∙ ap (λ ts. design_at b.top b.clock (map (said new) ts)) c.deref.ensures.value in
     let refused = whole c.args.line b c.intern.new.self new id few table c.in_ok-intern.ensures.id c.in-Ok.ensures.grows (map (said new) c.in-Ok.tokens.items) (Err None) read made in
     refuses (Load c.args.line (Some b)) _ refused _ c.in_ok-not_built-in-OtherForm.ensures.text _ c.in_ok-not_built-in-OtherForm.ensures.refused
 
@@ -46,6 +46,6 @@ returns c =
     let table = c.in_ok-intern.ensures.table ∙ ap (λ (t : List (List ℕ)). interned t b.file) c.new-names.ensures in
     let read = ap (λ (t : List ℕ). file_tokens (record { name = id; text = t } ∷ [])) (sym c.new.ensures) ∙ c.in-Ok.ensures.tokens in
     let made = ap (built new) (sym c.in-Unknown.is) ∙ c.in_ok-design.ensures.built
-        ∙ ap (λ ts. design_at b.top b.clock (map (said new) ts)) c.deref.ensures.value in
+    ∙ ap (λ ts. design_at b.top b.clock (map (said new) ts)) c.deref.ensures.value in
     let refused = unknown c.args.line b c.intern.new.self new id few table c.in_ok-intern.ensures.id c.in-Ok.ensures.grows (map (said new) c.in-Ok.tokens.items) (said new c.in-Unknown.name) read made in
     refuses (Load c.args.line (Some b)) _ refused _ c.in_ok-reply-in-Unknown.ensures.text _ c.in_ok-reply-in-Unknown.ensures.refused
