@@ -148,6 +148,22 @@ completed SourceRose SinkRose written_old written_new bytes status ending says s
     by (inl five) = inr (inr five)
     by (inr other) = ended ending source_rose much (says other)
 
+either : {A : Type 0} (s : ℕ) → (s ≡ 4) ⊎ ((s ≡ 3) × A) → (s ≡ 4 → ⊥) → (s ≡ 3 → ⊥) → ⊥
+either s (inl four) not_four not_three = not_four four
+either s (inr h) not_four not_three = not_three h.0
+
+-- a reading that failed answers 3, 4 or 5
+failed_answers : {A : Type 0} (s : ℕ) → (s ≢ 5 → (s ≡ 4) ⊎ ((s ≡ 3) × A)) → (s ≡ 0) ⊎ ((s ≡ 1) ⊎ (s ≡ 6)) → ⊥
+failed_answers s says (inl z) = either s (says (λ e. omega (arith, z, e))) (λ e. omega (arith, z, e)) (λ e. omega (arith, z, e))
+failed_answers s says (inr (inl z)) = either s (says (λ e. omega (arith, z, e))) (λ e. omega (arith, z, e)) (λ e. omega (arith, z, e))
+failed_answers s says (inr (inr z)) = either s (says (λ e. omega (arith, z, e))) (λ e. omega (arith, z, e)) (λ e. omega (arith, z, e))
+
+-- at 0, 1 and 6 the reading didn't fail
+pub unfailed : {Kept : Type 0} (written_old written_new : Option (List ℕ)) (bytes : List ℕ) (status : ℕ) (ending : Ending) → (status ≢ 5 → FinishesWith ending written_old written_new bytes status) → (ending ≡ Whole → Kept) → (ending ≡ TooMuch → Kept) → (status ≡ 0) ⊎ ((status ≡ 1) ⊎ (status ≡ 6)) → Kept
+unfailed written_old written_new bytes status Whole says whole much which = whole refl
+unfailed written_old written_new bytes status Failed says whole much which = absurd (failed_answers status says which)
+unfailed written_old written_new bytes status TooMuch says whole much which = much refl
+
 -- a display shows the truth
 pub displays_truth : DisplaysTruth
 displays_truth before line design is =

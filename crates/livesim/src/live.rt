@@ -64,6 +64,8 @@ fn read_all<S: Source>(source: &mut S, bytes: &mut Vec<u8>) -> Result<Ending, No
     ensures consumed { Consumes (S.left source.old) (S.left source.new) bytes.new.items }
     ensures whole { IfOk result (λ e. e ≡ Ending.Whole → IsAtEnd (S.left source.new)) }
     ensures failed { IfOk result (λ e. e ≡ Ending.Failed → Rose (S.faults source.old) (S.faults source.new)) }
+    ensures kept { IfOk result (λ e. e ≡ Ending.Whole → S.faults source.new ≡ S.faults source.old) }
+    ensures kept_too_much { IfOk result (λ e. e ≡ Ending.TooMuch → S.faults source.new ≡ S.faults source.old) }
     ensures few { length bytes.new.items ≤ 67108865 }
     ensures too_much { IfOk result (λ e. e ≡ Ending.TooMuch → 67108864 < length bytes.new.items) }
     ensures not_too_much { IfOk result (λ e. 67108864 < length bytes.new.items → e ≡ Ending.TooMuch) }
@@ -87,6 +89,7 @@ fn write_all<K: Sink>(sink: &mut K, bytes: &[u8]) -> Result<(), SinkRefusal>
     ensures front { WritesFront (K.written sink.old) (K.written sink.new) bytes.now }
     ensures later { K.faults sink.old ≤ K.faults sink.new }
     ensures failed { IsErrOf result SinkRefusal.Failed → Rose (K.faults sink.old) (K.faults sink.new) }
+    ensures kept { OnOk result (K.faults sink.new ≡ K.faults sink.old) }
 {
     let mut rest = bytes;
     while !rest.is_empty() {
@@ -225,6 +228,7 @@ fn carry_out<K: Sink>(
     ensures refused { IfOk result (λ refused. refused ≡ any_refused (line_commands ended bytes.now) fresh) }
     ensures later { K.faults sink.old ≤ K.faults sink.new }
     ensures failed { IsErrOf result SinkRefusal.Failed → Rose (K.faults sink.old) (K.faults sink.new) }
+    ensures kept { OnOk result (K.faults sink.new ≡ K.faults sink.old) }
 {
     let mut session = Session::new();
     let mut rest = bytes;
@@ -248,6 +252,7 @@ fn finish<K: Sink>(alloc: Global, ending: Ending, bytes: &[u8], sink: &mut K) ->
     ensures status { result ≢ 5 → FinishesWith ending (K.written sink.old) (K.written sink.new) bytes.now result }
     ensures front { WritesFront (K.written sink.old) (K.written sink.new) (output_of bytes.now (has_ended ending)) }
     ensures write_fault { result ≡ 4 → Rose (K.faults sink.old) (K.faults sink.new) }
+    ensures kept { result ≢ 4 → result ≢ 5 → K.faults sink.new ≡ K.faults sink.old }
     ensures known { result ≤ 6 }
     ensures words { result ≢ 2 }
 {
@@ -289,6 +294,11 @@ pub fn live_run<R: Threads + Sync, S: Source, K: Sink>(
     ensures read_fault { result.status ≡ 3 → Rose (S.faults source.old) (S.faults source.new) }
     ensures write_fault { result.status ≡ 4 → Rose (K.faults sink.old) (K.faults sink.new) }
     ensures known { result.status ≤ 6 }
+
+    // And where the count rose, no other status hides it.
+    ensures source_kept { (result.status ≡ 0) ⊎ ((result.status ≡ 1) ⊎ (result.status ≡ 6))
+        → S.faults source.new ≡ S.faults source.old }
+    ensures sink_kept { result.status ≢ 4 → result.status ≢ 5 → K.faults sink.new ≡ K.faults sink.old }
 
     // At most one byte above the limit is taken.
     ensures few { result.taken ≤ 67108865 }

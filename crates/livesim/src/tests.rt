@@ -394,15 +394,22 @@ fn the_outside_fails(rt: HostRuntime) -> Result<(), Fail> {
 #[test]
 fn limit_of_the_input(rt: HostRuntime) -> Result<(), Fail> {
     let alloc = rt.alloc();
-    for (length, status) in [(67_108_864usize, 0u8), (67_108_865, 6)] {
+    // How the script begins before its newlines, its length, the status, and what is written.
+    let rows: [(&[u8], usize, u8, &[u8]); 3] = [
+        (b"", 67_108_864, 0, b""),
+        (b"", 67_108_865, 6, b""),
+        (b"show", 67_108_865, 6, b"refused 62 NoDesign @1 -\n"),
+    ];
+    for (start, length, status, want) in rows {
         let mut script = Vec::with_capacity(alloc, length)?;
-        for _ in 0..length {
+        script.extend_from_slice(start)?;
+        for _ in start.len()..length {
             script.push(b'\n')?;
         }
         let (outcome, written) = lived(&rt, alloc, script, Vec::new(alloc), Vec::new(alloc))?;
         assert_eq!(rt; outcome.status, status);
         assert_eq!(rt; outcome.taken, length as u64);
-        assert!(rt; written.is_empty());
+        assert!(rt; written.as_slice() == want);
     }
     Ok(())
 }

@@ -26,7 +26,8 @@ pub trait Sink {
 
     /// Writes the front of the bytes: so many as it answers, at least one where there is one.
     ///
-    /// `Failed` comes only where the count of faults rose. After either refusal nothing was written.
+    /// `Failed` comes only where the count of faults rose; every other answer leaves it. After either refusal nothing was
+    /// written.
     fn write(&mut self, bytes: &[u8]) -> Result<usize, SinkRefusal>
         ensures bound { WritesAtMost result bytes.now }
         ensures some { IfOk result (λ n. 0 < length bytes.now → 0 < n) }

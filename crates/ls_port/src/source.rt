@@ -23,7 +23,7 @@ pub trait Source {
     /// Reads some bytes into the front of `buf`: so many as it answers.
     ///
     /// 0 into a buffer that isn't empty is the end of input. `Failed` comes only where the count of faults rose, and then
-    /// nothing was taken.
+    /// nothing was taken; a read that succeeds leaves the count.
     fn read(&mut self, buf: &mut [u8]) -> Result<usize, Failed>
         ensures bound { ReadsAtMost result buf.new }
         ensures bytes { ReadConsumes (left self.old) (left self.new) result buf.new }

@@ -30,6 +30,7 @@ loop-line-preserved g c =
           ∙ c.loop-line.invariant.refused;
       few = omega (arith, c.in-Some.ensures.shorter, c.in-Ok.ensures.shorter);
       later = omega (arith, c.in_ok-write_all.ensures.later);
+      kept = c.in_ok-write_all.ensures.kept ∙ c.loop-line.invariant.kept;
     }
 
 pub returns-in_err-write_all-clause-front : goal.returns-in_err-write_all-clause-front

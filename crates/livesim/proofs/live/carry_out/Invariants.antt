@@ -16,6 +16,7 @@ invariant-loop-line g l =
       refused : (l.refused || any_refused left (world l.session)) ≡ any_refused (line_commands l.ended l.bytes) fresh;
       few : l.number + length l.rest ≤ length l.bytes + 1;
       later : g.K.Sink.faults l.initial.sink ≤ g.K.Sink.faults l.sink;
+      kept : g.K.Sink.faults l.sink ≡ g.K.Sink.faults l.initial.sink;
     }
 
 abbrev pub decreases-loop-line : goal.decreases-loop-line

@@ -1,7 +1,7 @@
 use Rattle.std.proofs.Common.{◌≢◌, ℕ, List, false, subst, arith}
 use Rattle.livesim.specs.Endings.{FinishesWith, has_ended}
 use Rattle.livesim.specs.Runs.{WritesFront, output_of}
-use Rattle.livesim.proofs.Endings.{completed, cut_short, displays_truth, finished}
+use Rattle.livesim.proofs.Endings.{completed, cut_short, displays_truth, finished, unfailed}
 use Rattle.livesim.proofs.live.live_run.Goals as goal
 
 pub returns-in_default-clause-lived : goal.returns-in_default-clause-lived
@@ -35,6 +35,16 @@ returns-clause-complete g c = λ one source sink few.
     let Says : List ℕ → Type 0 = λ b. status ≢ 5 → FinishesWith ending old new b status in
     completed _ _ old new bytes status ending (subst Says c.deref.ensures.value c.finish-status.ensures.status)
     c.in-Ok.ensures.failed c.finish-status.ensures.write_fault c.in-Ok.ensures.too_much source sink (omega (arith, few))
+
+pub returns-clause-source_kept : goal.returns-clause-source_kept
+returns-clause-source_kept g c = λ which.
+    let bytes = c.read_all.new.bytes.items in
+    let status = c.finish-status.result in
+    let ending = c.in-Ok.ending in
+    let old = g.K.Sink.written c.args.sink.now in
+    let new = g.K.Sink.written c.finish-status.new.sink in
+    let Says : List ℕ → Type 0 = λ b. status ≢ 5 → FinishesWith ending old new b status in
+    unfailed old new bytes status ending (subst Says c.deref.ensures.value c.finish-status.ensures.status) c.in-Ok.ensures.kept c.in-Ok.ensures.kept_too_much which
 
 pub returns-then-words-ne1-clause-settled : goal.returns-then-words-ne1-clause-settled
 returns-then-words-ne1-clause-settled g c = displays_truth
