@@ -1,11 +1,11 @@
--- Values of a width as whole numbers below 2 ^ width, and their signed reading (IEEE Std 1364-2005, 5.1 and 5.5).
+-- Values of a width as whole numbers below 2 ^ width, and their signed reading (IEEE Std 1364-2005, 3.5.1, 5.1 and 5.5).
 use Rattle.std.specs.Prelude.{ℕ, ◌+◌, ◌-◌, ◌/◌, ◌%◌, ◌^◌, ◌==◌, Bool, ◌&&◌, nat_lt, nat_le, if◌then◌else◌, ℤ, pos, negsuc, int_lt, int_div, int_rem}
 
 -- whether the top bit of a value of that width is 1
 abbrev pub is_negative : ℕ → ℕ → Bool
 is_negative width value = nat_le (2 ^ (width - 1)) value
 
--- two's complement: the number, less 2 ^ width where its top bit is 1 (`negsuc n` is -(n + 1))
+-- two's complement (3.5.1): the number, less 2 ^ width where its top bit is 1 (`negsuc n` is -(n + 1))
 abbrev pub signed_of : ℕ → ℕ → ℤ
 signed_of width value = if is_negative width value then negsuc (2 ^ width - 1 - value) else pos value
 

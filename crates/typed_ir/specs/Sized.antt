@@ -126,6 +126,7 @@ abbrev pub copies : ℕ → ℕ → ℕ → ℕ
 copies zero width x = 0
 copies (suc count) width x = copies count width x * 2 ^ width + x
 
+-- selects 5.2.1, `?:` 5.1.13, concatenation and replication 5.1.14, resizing 5.5.2
 abbrev pub value_of : Sized → Valuation → ℕ
 value_of (Constant width value) env = value
 value_of (Name signal width) env = env signal

@@ -22,6 +22,8 @@ fn value_in(rt: &impl Abort, e: &Typed, env: &Env) -> u128 {
     value(e, env).value()
 }
 
+const ONES_63: u128 = 0x7fff_ffff_ffff_ffff;
+
 const TOP_63: u128 = 0x4000_0000_0000_0000;
 
 const ONES_64: u128 = 0xffff_ffff_ffff_ffff;
@@ -32,6 +34,8 @@ const TOP_64: u128 = 0x8000_0000_0000_0000;
 const TWO_64: u128 = 0x1_0000_0000_0000_0000;
 
 const ONES_127: u128 = 0x7fff_ffff_ffff_ffff_ffff_ffff_ffff_ffff;
+
+const TOP_127: u128 = 0x4000_0000_0000_0000_0000_0000_0000_0000;
 
 const ONES: u128 = 0xffff_ffff_ffff_ffff_ffff_ffff_ffff_ffff;
 
@@ -91,147 +95,115 @@ fn arithmetic_operators(rt: HostRuntime) -> Result<(), Fail> {
 }
 
 #[test]
-fn other_binary_operators(rt: HostRuntime) -> Result<(), Fail> {
+fn comparisons(rt: HostRuntime) -> Result<(), Fail> {
+    let env = two_signals(rt.alloc())?;
+    // the operator, the width, two values, and what it gives
+    let table = [
+        (Comparison::Equal, 8, 5, 5, 1),
+        (Comparison::Equal, 63, TOP_63, TOP_63, 1),
+        (Comparison::Equal, 128, TOP + 1, 1, 0),
+        (Comparison::Unequal, 8, 5, 5, 0),
+        (Comparison::Unequal, 65, TWO_64, 0, 1),
+        (Comparison::Unequal, 127, TOP_127, 0, 1),
+        (Comparison::Less(true), 1, 1, 0, 1),
+        (Comparison::Less(true), 8, 0x80, 1, 1),
+        (Comparison::Less(false), 8, 0x80, 1, 0),
+        (Comparison::Less(true), 63, TOP_63, 1, 1),
+        (Comparison::Less(false), 63, TOP_63, 1, 0),
+        (Comparison::Less(true), 127, 1, ONES_127, 0),
+        (Comparison::Less(false), 127, 1, ONES_127, 1),
+        (Comparison::Less(true), 128, TOP, ONES, 1),
+        (Comparison::Less(true), 128, TOP, 0, 1),
+        (Comparison::Less(false), 128, TOP, 0, 0),
+        (Comparison::AtMost(true), 8, 5, 5, 1),
+        (Comparison::AtMost(true), 63, 0, ONES_63, 0),
+        (Comparison::AtMost(false), 63, 0, ONES_63, 1),
+        (Comparison::AtMost(true), 64, 1, ONES_64, 0),
+        (Comparison::AtMost(false), 64, 1, ONES_64, 1),
+        (Comparison::AtMost(true), 127, TOP_127, ONES_127, 1),
+        (Comparison::AtMost(true), 128, 0, TOP, 0),
+        (Comparison::AtMost(false), 128, 0, TOP, 1),
+    ];
+    for (op, width, x, y, wanted) in table {
+        let op = BinaryOperator::Compare(op);
+        let a = number(&rt, width, x);
+        let b = number(&rt, width, y);
+        assert!(rt; op.takes(a.width, b.width));
+        let e = Typed::binary(rt.alloc(), op, a, b)?;
+        assert_eq!(rt; e.width, 1);
+        assert_eq!(rt; value_in(&rt, &e, &env), wanted, "{op:?} of {x} and {y}");
+    }
+    Ok(())
+}
+
+#[test]
+fn logical_operators(rt: HostRuntime) -> Result<(), Fail> {
     let env = two_signals(rt.alloc())?;
     // the operator, the width and the value of both operands, and what it gives
     let table = [
-        (BinaryOperator::Compare(Comparison::Equal), 8, 5, 8, 5, 1),
-        (BinaryOperator::Compare(Comparison::Unequal), 8, 5, 8, 5, 0),
-        (
-            BinaryOperator::Compare(Comparison::Unequal),
-            65,
-            TWO_64,
-            65,
-            0,
-            1,
-        ),
-        (
-            BinaryOperator::Compare(Comparison::Less(true)),
-            8,
-            0x80,
-            8,
-            1,
-            1,
-        ),
-        (
-            BinaryOperator::Compare(Comparison::Less(false)),
-            8,
-            0x80,
-            8,
-            1,
-            0,
-        ),
-        (
-            BinaryOperator::Compare(Comparison::Less(true)),
-            1,
-            1,
-            1,
-            0,
-            1,
-        ),
-        (
-            BinaryOperator::Compare(Comparison::AtMost(true)),
-            8,
-            5,
-            8,
-            5,
-            1,
-        ),
-        (
-            BinaryOperator::Compare(Comparison::AtMost(true)),
-            64,
-            1,
-            64,
-            ONES_64,
-            0,
-        ),
-        (
-            BinaryOperator::Compare(Comparison::AtMost(false)),
-            64,
-            1,
-            64,
-            ONES_64,
-            1,
-        ),
-        (
-            BinaryOperator::Logical(LogicalOperator::Both),
-            8,
-            2,
-            8,
-            0,
-            0,
-        ),
-        (
-            BinaryOperator::Logical(LogicalOperator::Both),
-            128,
-            TOP,
-            1,
-            1,
-            1,
-        ),
-        (
-            BinaryOperator::Logical(LogicalOperator::Either),
-            8,
-            2,
-            4,
-            0,
-            1,
-        ),
-        (
-            BinaryOperator::Logical(LogicalOperator::Either),
-            8,
-            0,
-            63,
-            0,
-            0,
-        ),
-        (BinaryOperator::Shift(ShiftOperator::Left), 8, 0x81, 8, 1, 2),
-        (
-            BinaryOperator::Shift(ShiftOperator::Left),
-            128,
-            1,
-            8,
-            127,
-            TOP,
-        ),
-        (
-            BinaryOperator::Shift(ShiftOperator::Right),
-            8,
-            0x81,
-            8,
-            8,
-            0,
-        ),
-        (
-            BinaryOperator::Shift(ShiftOperator::Right),
-            65,
-            TWO_64,
-            7,
-            64,
-            1,
-        ),
-        (
-            BinaryOperator::Shift(ShiftOperator::Arithmetic),
-            8,
-            0x81,
-            8,
-            1,
-            0xc0,
-        ),
-        (
-            BinaryOperator::Shift(ShiftOperator::Arithmetic),
-            64,
-            TOP_64,
-            128,
-            TOP,
-            ONES_64,
-        ),
+        (LogicalOperator::Both, 1, 1, 1, 1, 1),
+        (LogicalOperator::Both, 1, 1, 1, 0, 0),
+        (LogicalOperator::Both, 8, 2, 8, 0, 0),
+        (LogicalOperator::Both, 64, TOP_64, 64, 2, 1),
+        (LogicalOperator::Both, 64, 0, 64, TOP_64, 0),
+        (LogicalOperator::Both, 128, TOP, 1, 1, 1),
+        (LogicalOperator::Either, 1, 0, 1, 1, 1),
+        (LogicalOperator::Either, 1, 0, 1, 0, 0),
+        (LogicalOperator::Either, 8, 2, 4, 0, 1),
+        (LogicalOperator::Either, 8, 0, 63, 0, 0),
+        (LogicalOperator::Either, 64, 0, 64, TOP_64, 1),
+        (LogicalOperator::Either, 64, 0, 64, 0, 0),
     ];
     for (op, width, x, other, y, wanted) in table {
+        let op = BinaryOperator::Logical(op);
         let a = number(&rt, width, x);
         let b = number(&rt, other, y);
         assert!(rt; op.takes(a.width, b.width));
         let e = Typed::binary(rt.alloc(), op, a, b)?;
+        assert_eq!(rt; e.width, 1);
+        assert_eq!(rt; value_in(&rt, &e, &env), wanted, "{op:?} of {x} and {y}");
+    }
+    Ok(())
+}
+
+#[test]
+fn shifts(rt: HostRuntime) -> Result<(), Fail> {
+    let env = two_signals(rt.alloc())?;
+    // the operator, the width and the value of both operands, and what it gives
+    let table = [
+        (ShiftOperator::Left, 1, 1, 1, 1, 0),
+        (ShiftOperator::Left, 8, 0x81, 8, 1, 2),
+        (ShiftOperator::Left, 63, TOP_63 + 1, 8, 1, 2),
+        (ShiftOperator::Left, 127, 3, 8, 126, TOP_127),
+        (ShiftOperator::Left, 128, 1, 8, 127, TOP),
+        (ShiftOperator::Right, 1, 1, 1, 0, 1),
+        (ShiftOperator::Right, 1, 1, 1, 1, 0),
+        (ShiftOperator::Right, 8, 0x81, 8, 8, 0),
+        (ShiftOperator::Right, 63, TOP_63, 6, 62, 1),
+        (ShiftOperator::Right, 65, TWO_64, 7, 64, 1),
+        (ShiftOperator::Right, 127, TOP_127 + 1, 128, TOP, 0),
+        (ShiftOperator::Arithmetic, 1, 1, 1, 1, 1),
+        (ShiftOperator::Arithmetic, 8, 0x81, 8, 1, 0xc0),
+        (ShiftOperator::Arithmetic, 63, TOP_63, 6, 62, ONES_63),
+        (ShiftOperator::Arithmetic, 63, TOP_63 - 1, 6, 63, 0),
+        (ShiftOperator::Arithmetic, 64, TOP_64, 128, TOP, ONES_64),
+        (
+            ShiftOperator::Arithmetic,
+            127,
+            TOP_127,
+            7,
+            1,
+            TOP_127 + TOP_127 / 2,
+        ),
+        (ShiftOperator::Arithmetic, 127, TOP_127, 7, 127, ONES_127),
+    ];
+    for (op, width, x, other, y, wanted) in table {
+        let op = BinaryOperator::Shift(op);
+        let a = number(&rt, width, x);
+        let b = number(&rt, other, y);
+        assert!(rt; op.takes(a.width, b.width));
+        let e = Typed::binary(rt.alloc(), op, a, b)?;
+        assert_eq!(rt; e.width, width);
         assert_eq!(rt; value_in(&rt, &e, &env), wanted, "{op:?} of {x} and {y}");
     }
     Ok(())
@@ -314,6 +286,25 @@ fn selects(rt: HostRuntime) -> Result<(), Fail> {
 }
 
 #[test]
+fn wide_indices(rt: HostRuntime) -> Result<(), Fail> {
+    let env = two_signals(rt.alloc())?;
+    // whether the index is signed, the index of 128 bits, four bits of signal 0 from there: -2^127, 2^127, -1, 2^128 - 1, 2
+    let table = [
+        (true, TOP, 0),
+        (false, TOP, 0),
+        (true, ONES, 0xa),
+        (false, ONES, 0),
+        (true, 2, 9),
+    ];
+    for (signed, index, wanted) in table {
+        let place = number(&rt, 128, index);
+        let e = Typed::pick(rt.alloc(), 0, 4, 0, signed, place)?;
+        assert_eq!(rt; value_in(&rt, &e, &env), wanted, "from {index}");
+    }
+    Ok(())
+}
+
+#[test]
 fn signals_that_are_not_there(rt: HostRuntime) -> Result<(), Fail> {
     let env = two_signals(rt.alloc())?;
     assert!(rt; !fits(&Typed::name(2, 8), &env));
@@ -332,31 +323,121 @@ fn signals_that_are_not_there(rt: HostRuntime) -> Result<(), Fail> {
 #[test]
 fn parts_put_together(rt: HostRuntime) -> Result<(), Fail> {
     let env = two_signals(rt.alloc())?;
+    // the width and the value of the upper part, of the lower part, and both
+    let table = [
+        (1, 1, 1, 0, 2),
+        (4, 0xa, 4, 5, 0xa5),
+        (1, 1, 62, 1, TOP_63 + 1),
+        (63, ONES_63, 1, 0, ONES_64 - 1),
+        (1, 1, 64, 3, TWO_64 + 3),
+        (63, ONES_63, 64, 5, ONES_127 - ONES_64 + 5),
+        (65, TWO_64, 63, 3, TOP + 3),
+    ];
+    for (width, x, low, y, wanted) in table {
+        let upper = number(&rt, width, x);
+        let lower = number(&rt, low, y);
+        assert!(rt; upper.width <= 128 - lower.width);
+        let e = Typed::concat(rt.alloc(), upper, lower)?;
+        assert_eq!(rt; e.width, width + low);
+        assert_eq!(rt; value_in(&rt, &e, &env), wanted, "{x} above {y}");
+    }
+    Ok(())
+}
+
+#[test]
+fn replications(rt: HostRuntime) -> Result<(), Fail> {
+    let env = two_signals(rt.alloc())?;
     // {2{ {2{2'b01}}, 1'b1 }}
     let twice = Typed::repeat(rt.alloc(), 2, number(&rt, 2, 1))?;
     let five = Typed::concat(rt.alloc(), twice, number(&rt, 1, 1))?;
     let ten = Typed::repeat(rt.alloc(), 2, five)?;
     assert_eq!(rt; ten.width, 10);
     assert_eq!(rt; value_in(&rt, &ten, &env), 0b01011_01011);
+    // {8{ {2{s0}} }}
+    let two = Typed::repeat(rt.alloc(), 2, Typed::name(0, 8))?;
+    let sixteen = Typed::repeat(rt.alloc(), 8, two)?;
+    assert_eq!(rt; sixteen.width, 128);
+    assert_eq!(rt;
+        value_in(&rt, &sixteen, &env),
+        0xa5a5_a5a5_a5a5_a5a5_a5a5_a5a5_a5a5_a5a5
+    );
     let ones = Typed::repeat(rt.alloc(), 128, number(&rt, 1, 1))?;
     assert_eq!(rt; value_in(&rt, &ones, &env), ONES);
-    // 65 bits above 63
-    let joined = Typed::concat(rt.alloc(), number(&rt, 65, TWO_64), number(&rt, 63, 3))?;
-    assert_eq!(rt; joined.width, 128);
-    assert_eq!(rt; value_in(&rt, &joined, &env), TOP + 3);
-    // 2'b10 ? 1 : 2
-    let choice = Typed::choice(
-        rt.alloc(),
-        number(&rt, 2, 2),
-        number(&rt, 4, 1),
-        number(&rt, 4, 2),
-    )?;
-    assert_eq!(rt; value_in(&rt, &choice, &env), 1);
-    let wide = Typed::resized(rt.alloc(), number(&rt, 4, 8), 65, true)?;
-    assert_eq!(rt; value_in(&rt, &wide, &env), 0x1_ffff_ffff_ffff_fff8);
-    let plain = Typed::resized(rt.alloc(), number(&rt, 4, 8), 65, false)?;
-    assert_eq!(rt; value_in(&rt, &plain, &env), 8);
-    let cut = Typed::resized(rt.alloc(), number(&rt, 128, TOP + 5), 127, true)?;
-    assert_eq!(rt; value_in(&rt, &cut, &env), 5);
+    Ok(())
+}
+
+#[test]
+fn choices(rt: HostRuntime) -> Result<(), Fail> {
+    let env = two_signals(rt.alloc())?;
+    // the width and the value of the condition, and what `c ? 1 : 2` gives
+    let table = [
+        (1, 0, 2),
+        (1, 1, 1),
+        (2, 2, 1),
+        (64, 0, 2),
+        (128, 0, 2),
+        (128, TOP, 1),
+    ];
+    for (width, c, wanted) in table {
+        let condition = number(&rt, width, c);
+        let e = Typed::choice(rt.alloc(), condition, number(&rt, 4, 1), number(&rt, 4, 2))?;
+        assert_eq!(rt; e.width, 4);
+        assert_eq!(rt; value_in(&rt, &e, &env), wanted, "{c} ? 1 : 2");
+    }
+    Ok(())
+}
+
+#[test]
+fn other_widths(rt: HostRuntime) -> Result<(), Fail> {
+    let env = two_signals(rt.alloc())?;
+    // the width, the value, another width, the value at it unsigned and signed
+    let table = [
+        (1, 1, 8, 1, 0xff),
+        (4, 8, 65, 8, 0x1_ffff_ffff_ffff_fff8),
+        (63, TOP_63, 64, TOP_63, TOP_64 + TOP_63),
+        (63, TOP_63 - 1, 128, TOP_63 - 1, TOP_63 - 1),
+        (64, TOP_64, 65, TOP_64, TWO_64 + TOP_64),
+        (64, TOP_64 + 5, 63, 5, 5),
+        (65, TWO_64, 128, TWO_64, ONES - ONES_64),
+        (65, TWO_64 + 5, 64, 5, 5),
+        (127, TOP_127, 128, TOP_127, TOP + TOP_127),
+        (127, ONES_127, 63, ONES_63, ONES_63),
+        (128, TOP + 5, 127, 5, 5),
+    ];
+    for (width, x, to, plain, extended) in table {
+        assert!(rt; to >= 1 && to <= 128);
+        let unsigned = Typed::resized(rt.alloc(), number(&rt, width, x), to, false)?;
+        assert_eq!(rt; unsigned.width, to);
+        assert_eq!(rt; value_in(&rt, &unsigned, &env), plain, "{x} at {to} bits");
+        let signed = Typed::resized(rt.alloc(), number(&rt, width, x), to, true)?;
+        assert_eq!(rt;
+            value_in(&rt, &signed, &env),
+            extended,
+            "{x} at {to} bits, signed"
+        );
+    }
+    Ok(())
+}
+
+#[test]
+fn operators_within_operators(rt: HostRuntime) -> Result<(), Fail> {
+    let env = two_signals(rt.alloc())?;
+    // (s0 + 1) * 2: 0xa6, twice, modulo 256
+    let sum = BinaryOperator::Arithmetic(ArithmeticOperator::Sum);
+    let next = Typed::binary(rt.alloc(), sum, Typed::name(0, 8), number(&rt, 8, 1))?;
+    let product = BinaryOperator::Arithmetic(ArithmeticOperator::Product);
+    let doubled = Typed::binary(rt.alloc(), product, next, number(&rt, 8, 2))?;
+    assert_eq!(rt; value_in(&rt, &doubled, &env), 0x4c);
+    // s0[s1[0] +: 4] is from bit 1, and s0[s1[127:126] +: 4] from bit 2
+    for (low, width, wanted) in [(0, 1, 2), (126, 2, 9)] {
+        assert!(rt; width >= 1 && low <= 128 && width <= 128 - low);
+        let place = Typed::part(Span {
+            signal: 1,
+            low,
+            width,
+        });
+        let e = Typed::pick(rt.alloc(), 0, 4, 0, false, place)?;
+        assert_eq!(rt; value_in(&rt, &e, &env), wanted, "from s1[{low}]");
+    }
     Ok(())
 }
