@@ -1,14 +1,25 @@
 -- What the tests' helpers know of a book.
-use Rattle.std.proofs.Common.{◌≡◌, ℕ, ◌+◌, ◌≤◌, List, [], ◌∷◌, ◌++◌, ◌∙◌, ap, arith}
+use Rattle.std.proofs.Common.{◌≡◌, ℕ, ◌+◌, ◌≤◌, List, [], ◌∷◌, ◌++◌, ◌∙◌, ap, sym, subst, arith, eqb, ◌||◌}
+use Rattle.std.proofs.lemmas.Bool.{ne_eqb}
 use Rattle.std.specs.Prelude.{Option, Some, None, Bool, true, false}
 use Rattle.machine.specs.Kit.{Kit}
+use Rattle.machine.specs.Tally.{tally_after}
+use Rattle.machine.specs.declared.tally.TallyMachine.{TallyMachine}
 use Rattle.book_history.specs.declared.who.Who.{Who}
 use Rattle.book_history.specs.declared.who.Who.TheVariants.{Session, Worker}
-use Rattle.book_history.specs.Book.{Book, Settings, Event, Opened, Ran, Reloaded, Claimed, Installed, Released, Shown, Closed, replay}
+use Rattle.book_history.specs.Book.{Book, Ticket, Settings, Event, Opened, Ran, Reloaded, Claimed, Installed, Released, Shown, Closed, replay}
 use Rattle.book_history.specs.Journal.{Journal}
 use Rattle.book_history.specs.Rooms.{Counts, count, counted, count_all, no_entry}
+use Rattle.book_history.specs.Outs.{IsOutFor}
+use Rattle.book_history.specs.Tickets.{is_used}
+use Rattle.book_history.proofs.Bridge.{still_out}
 use Rattle.book_history.proofs.Prefixes.{count-snoc}
-use Rattle.checkpoint_book.specs.Views.{book_of, counts_of, IsOpened, version_in, LeadTo, HasSessionRoom}
+use Rattle.checkpoint_book.specs.Views.{book_of, counts_of, IsOpened, version_in, LeadTo, HasSessionRoom, HasRoomFor}
+use Rattle.segment_verify.specs.Outs.{StayOut, OthersStayOut}
+
+-- the machine that adds
+abbrev pub tally_kit : Kit TallyMachine ℕ ℕ (Unit {0})
+tally_kit = record { start = λ m. 0; seg = λ m rows s. tally_after m.add rows s; carried = λ old m ops s. s; alike = λ m x y. eqb x y }
 
 pub none_of : {D S R O : Type 0} (k : Kit D S R O) (j : Journal D R O) → j.events ≡ [] → book_of k j ≡ None
 none_of {D} {S} {R} {O} k j e = ap (λ (h : List (Event D R O)). replay k j.settings h) e
@@ -68,3 +79,36 @@ room_after {D} {R} {O} j j' n a b left settings events room two =
       ap (λ (x : List (Event D R O)). (count_all no_entry x).session) events,
       ap (λ (x : Counts). x.session) (count-snoc no_entry j.events (Claimed n a b Session)),
     )
+
+-- a ticket stays out where the one entry more doesn't use it up
+pub stays : {D S R O : Type 0} (k : Kit D S R O) (j j' : Journal D R O) (e : Event D R O) → j'.settings ≡ j.settings → j'.events ≡ j.events ++ e ∷ []
+    → ((n : ℕ) → is_used n (e ∷ []) ≡ false) → StayOut k j j'
+stays {D} {S} {R} {O} k j j' e settings events unused = λ n t by out.
+    let here : IsOutFor (replay k j.settings (j.events ++ e ∷ [])) n t by = still_out k j.settings j.events (e ∷ []) n t by out (unused n) in
+    subst (λ (h : List (Event D R O)). IsOutFor (replay k j'.settings h) n t by) (sym events)
+    (subst (λ (st : Settings). IsOutFor (replay k st (j.events ++ e ∷ [])) n t by) (sym settings) here)
+
+pub stays_same : {D S R O : Type 0} (k : Kit D S R O) (j j' : Journal D R O) → j'.settings ≡ j.settings → j'.events ≡ j.events → StayOut k j j'
+stays_same {D} {S} {R} {O} k j j' settings events = λ n t by out.
+    subst (λ (h : List (Event D R O)). IsOutFor (replay k j'.settings h) n t by) (sym events)
+    (subst (λ (st : Settings). IsOutFor (replay k st j.events) n t by) (sym settings) out)
+
+-- the end of ticket m leaves the others out
+pub others_stay : {D S R O : Type 0} (k : Kit D S R O) (j j' : Journal D R O) (e : Event D R O) (m : ℕ) → j'.settings ≡ j.settings → j'.events ≡ j.events ++ e ∷ []
+    → ((n : ℕ) → is_used n (e ∷ []) ≡ (eqb n m || false)) → OthersStayOut k m j j'
+others_stay {D} {S} {R} {O} k j j' e m settings events uses = λ n t by other out.
+    let unused : is_used n (e ∷ []) ≡ false = uses n ∙ ap (λ (b : Bool). b || false) (ne_eqb n m other) in
+    let here : IsOutFor (replay k j.settings (j.events ++ e ∷ [])) n t by = still_out k j.settings j.events (e ∷ []) n t by out unused in
+    subst (λ (h : List (Event D R O)). IsOutFor (replay k j'.settings h) n t by) (sym events)
+    (subst (λ (st : Settings). IsOutFor (replay k st (j.events ++ e ∷ [])) n t by) (sym settings) here)
+
+-- one entry more has its room
+pub room_for : {D R O : Type 0} (j : Journal D R O) (by : Who) (left : ℕ) → (counts_of j).session + left ≡ j.settings.rooms.session → 1 ≤ left → HasRoomFor j by
+room_for j Session left room some = omega (arith, room, some)
+room_for j (Worker w) left room some = tt
+
+-- the same for the ticket v, which is t
+pub others_end : {D S R O : Type 0} (k : Kit D S R O) (j j' : Journal D R O) (e : Event D R O) (v t : ℕ × Ticket D S R) → v ≡ t → j'.settings ≡ j.settings → j'.events ≡ j.events ++ e ∷ []
+    → ((n : ℕ) → is_used n (e ∷ []) ≡ (eqb n v.0 || false)) → OthersStayOut k t.0 j j'
+others_end {D} {S} {R} {O} k j j' e v t same settings events uses =
+    others_stay k j j' e t.0 settings events (λ n. uses n ∙ ap (λ (x : ℕ × Ticket D S R). eqb n x.0 || false) same)

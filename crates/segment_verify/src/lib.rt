@@ -5,6 +5,8 @@ ghost use Rattle.std.specs.Prelude.{◌≡◌, ◌+◌, ◌-◌, ◌*◌, ◌≤
 ghost use Rattle.segment_verify.specs.Outcome.{IsOf, IsDone};
 
 #[cfg(test)]
+mod held;
+#[cfg(test)]
 mod tests;
 pub mod verification;
 

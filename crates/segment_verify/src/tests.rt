@@ -1,6 +1,7 @@
 // Books of the machine that adds: rows whose marks and answers are worked by hand.
 ghost use Rattle.std.specs.Prelude.{◌≡◌, ◌<◌, [], false, IfOk};
 ghost use Rattle.checkpoint_book.specs.Views.{counts_of};
+ghost use Rattle.segment_verify.specs.Outs.{StayOut};
 
 use crate::verification::Verification;
 use crate::verify;
@@ -12,6 +13,7 @@ use checkpoint_book::book::Book;
 use checkpoint_book::claimed::Claimed;
 use checkpoint_book::installed::Installed;
 use checkpoint_book::shown::Shown;
+use machine::Machine;
 use machine::row_run::RowRun;
 use machine::row_runs::RowRuns;
 use machine::steps::Steps;
@@ -25,7 +27,7 @@ use std::sync::ledger::{Blank, Ledger};
 use std::test::Fail;
 
 /// The version of this number whose machine adds so much.
-fn adds(
+pub fn adds(
     alloc: Global,
     number: u64,
     add: u64,
@@ -35,7 +37,7 @@ fn adds(
 }
 
 /// The first version of a book that has none.
-fn begin(
+pub fn begin(
     book: &mut Book<TallyMachine>,
     version: Arc<Version<TallyMachine>, Global>,
 ) -> Result<(), Fail>
@@ -50,14 +52,15 @@ fn begin(
 }
 
 /// Runs so many cycles over rows of 0.
-fn run<L: Ledger>(
+pub fn run<L: Ledger>(
     book: &mut Book<TallyMachine>,
     alloc: Global,
     n: u64,
     steps: &mut Steps<L>,
 ) -> Result<(), Fail>
     requires { (counts_of book.old).closed ≡ false }
-    ensures { (counts_of book.new).closed ≡ false }
+    ensures open { (counts_of book.new).closed ≡ false }
+    ensures outs { StayOut ⟦<TallyMachine as Machine>⟧.kit book.old book.new }
 {
     let start = book.cycle();
     if book.version() == 0 || book.session_room() == 0 || n == 0 || n > 1000000 || start > 1000000 {
@@ -78,13 +81,14 @@ fn run<L: Ledger>(
 }
 
 /// The next version of a book; the answer is the chosen cycle.
-fn reload<L: Ledger>(
+pub fn reload<L: Ledger>(
     book: &mut Book<TallyMachine>,
     version: Arc<Version<TallyMachine>, Global>,
     steps: &mut Steps<L>,
 ) -> Result<u64, Fail>
     requires { (counts_of book.old).closed ≡ false }
-    ensures { (counts_of book.new).closed ≡ false }
+    ensures open { (counts_of book.new).closed ≡ false }
+    ensures outs { StayOut ⟦<TallyMachine as Machine>⟧.kit book.old book.new }
 {
     let current = book.version();
     if current == 0 || current > 1000 || version.number != current + 1 || book.session_room() == 0 {
@@ -94,7 +98,7 @@ fn reload<L: Ledger>(
 }
 
 /// The session claims a link, verifies it and installs it: the ticket's number, cycles and start, and the answer.
-fn settle_one<L: Ledger>(
+pub fn settle_one<L: Ledger>(
     book: &mut Book<TallyMachine>,
     alloc: Global,
     steps: &mut Steps<L>,
@@ -123,13 +127,14 @@ fn settle_one<L: Ledger>(
 
 /// A worker claims a link and drops its ticket: the ticket's number, cycles and start, or whether the room is full and
 /// whether the book is closed.
-fn claim_one(
+pub fn claim_one(
     book: &mut Book<TallyMachine>,
     alloc: Global,
     worker: u16,
 ) -> Result<Result<(u64, u64, u64, u64), (bool, bool)>, Fail>
     requires { (counts_of book.old).closed ≡ false }
-    ensures { (counts_of book.new).closed ≡ false }
+    ensures open { (counts_of book.new).closed ≡ false }
+    ensures outs { StayOut ⟦<TallyMachine as Machine>⟧.kit book.old book.new }
 {
     match book.claim(alloc, worker)? {
         Claimed::Ticket(ticket) => {
@@ -183,9 +188,10 @@ fn give_up_one(
 }
 
 /// What a show answers.
-fn show(book: &mut Book<TallyMachine>) -> Result<Shown, Fail>
+pub fn show(book: &mut Book<TallyMachine>) -> Result<Shown, Fail>
     requires { (counts_of book.old).closed ≡ false }
-    ensures { (counts_of book.new).closed ≡ false }
+    ensures open { (counts_of book.new).closed ≡ false }
+    ensures outs { StayOut ⟦<TallyMachine as Machine>⟧.kit book.old book.new }
 {
     if book.version() == 0 || book.session_room() == 0 {
         return Err("no show")?;
@@ -194,7 +200,7 @@ fn show(book: &mut Book<TallyMachine>) -> Result<Shown, Fail>
 }
 
 /// The last mark's state.
-fn current(book: &Book<TallyMachine>) -> Result<u64, Fail> {
+pub fn current(book: &Book<TallyMachine>) -> Result<u64, Fail> {
     if book.version() == 0 {
         return Err("no version")?;
     }
@@ -252,13 +258,13 @@ fn settles_link_by_link(rt: HostRuntime) -> Result<(), Fail> {
     link_by_link::<Brand, HostRuntime>(&rt, rt.alloc(), Blank::new(1))
 }
 
-const ROOMS: Rooms = Rooms {
+pub const ROOMS: Rooms = Rooms {
     session: 100,
     workers: 100,
 };
 
 /// Five cycles under a machine that adds 3 and a reload with one that adds 4: the chosen cycle.
-fn edited<L: Ledger>(
+pub fn edited<L: Ledger>(
     book: &mut Book<TallyMachine>,
     alloc: Global,
     steps: &mut Steps<L>,

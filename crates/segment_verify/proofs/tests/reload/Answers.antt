@@ -1,6 +1,12 @@
 use Rattle.std.proofs.Common.{refl}
-use Rattle.segment_verify.proofs.Tries.{open_after}
+use Rattle.segment_verify.proofs.Tries.{tally_kit, open_after, stays, stays_same}
 use Rattle.segment_verify.proofs.tests.reload.Goals as goal
 
-pub returns : goal.returns
-returns g c = open_after c.args.book.now c.reload.new.self _ c.in_ok-reload.ensures.ok refl c.requires
+pub returns-clause-open : goal.returns-clause-open
+returns-clause-open g c = open_after c.args.book.now c.reload.new.self _ c.in_ok-reload.ensures.ok refl c.requires
+
+pub returns-clause-outs : goal.returns-clause-outs
+returns-clause-outs g c = stays tally_kit c.args.book.now c.reload.new.self _ c.reload.ensures.settings c.in_ok-reload.ensures.ok (λ n. refl)
+
+pub returns-in_err-reload-clause-outs : goal.returns-in_err-reload-clause-outs
+returns-in_err-reload-clause-outs g c = stays_same tally_kit c.args.book.now c.reload.new.self c.reload.ensures.settings c.in_err-reload.ensures.err
