@@ -47,6 +47,11 @@ claimed_twice =
     Opened 1 3 ∷ Ran 5 (0 ∷ 0 ∷ 0 ∷ 0 ∷ 0 ∷ []) ∷ Reloaded 2 4 tt 4 ∷ Claimed 1 0 2 Session ∷ Claimed 2 0 2 Session
     ∷ Installed 1 true Session ∷ Installed 2 true Session ∷ []
 
+-- a claim of the session, and a reload with 5 before its result comes
+abbrev pub stale_once : List Tallied
+stale_once =
+    Opened 1 3 ∷ Ran 5 (0 ∷ 0 ∷ 0 ∷ 0 ∷ 0 ∷ []) ∷ Reloaded 2 4 tt 4 ∷ Claimed 1 0 2 Session ∷ Reloaded 3 5 tt 4 ∷ Installed 1 false Session ∷ []
+
 -- workers' claims with stale results, a release, and a second reload between
 abbrev pub worker : Who
 worker = Worker 1

@@ -10,7 +10,7 @@ ghost use Rattle.book_history.specs.Law.{InstallIsRight, LeadFallsNot, AreCalm, 
 ghost use Rattle.book_history.specs.Outs.{IsOutFor, tickets_drawn};
 ghost use Rattle.book_history.specs.Tickets.{is_drawn, is_used};
 ghost use Rattle.book_history.specs.declared.link.Link.TheVariants.{Open, Joined};
-ghost use Rattle.book_history.specs.Worked.{tally, always_valid, settings, links_and_marks, mark, reloaded_once, settled_first, settled_all, claimed_twice, stale_results, thinned, first_of};
+ghost use Rattle.book_history.specs.Worked.{tally, always_valid, settings, links_and_marks, mark, reloaded_once, settled_first, settled_all, claimed_twice, stale_once, stale_results, thinned, first_of};
 
 use machine::Machine;
 
@@ -64,9 +64,14 @@ pub fn worked_histories()
     ensures all_legal { Legal tally always_valid (settings 2 1) settled_all }
     // A second install for a link that is joined changes nothing.
     ensures twice { links_and_marks (replay tally (settings 2 1) claimed_twice) ≡ mark Joined 2 8 ∷ mark Open 4 12 ∷ mark Joined 5 16 ∷ [] }
+    ensures twice_legal { Legal tally always_valid (settings 2 1) claimed_twice }
+    // A result of an older version joins nothing: marks and links are those of the second reload.
+    ensures once { links_and_marks (replay tally (settings 2 1) stale_once) ≡ mark Open 2 6 ∷ mark Open 4 12 ∷ mark Joined 5 17 ∷ [] }
+    ensures once_legal { Legal tally always_valid (settings 2 1) stale_once }
     ensures stale { links_and_marks (replay tally (settings 2 1) stale_results) ≡ mark Joined 2 10 ∷ mark Joined 4 20 ∷ mark Joined 5 25 ∷ [] }
     ensures stale_legal { Legal tally always_valid (settings 2 1) stale_results }
     // 1,025 marks are thinned to 513, and the first link is from cycle 0 to 2 and open.
     ensures thins { length (links_and_marks (replay tally (settings 1 1) thinned)) ≡ 512 }
     ensures merges { first_of (links_and_marks (replay tally (settings 1 1) thinned)) ≡ Some (mark Open 2 6) }
+    ensures thins_legal { Legal tally always_valid (settings 1 1) thinned }
 {}

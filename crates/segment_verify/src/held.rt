@@ -391,7 +391,8 @@ fn a_link_given_up_is_open(rt: HostRuntime) -> Result<(), Fail> {
     given_up::<Brand, HostRuntime>(&rt, rt.alloc(), Blank::new(1))
 }
 
-/// A room of one entry is full after the open; a close has its own place, and so has no worker.
+/// The session's room of one entry is full after the open, and a close still has its place. The workers' room of one entry
+/// holds no claim, since a claim needs room for its install too.
 #[test]
 fn a_room_of_one_entry(rt: HostRuntime) -> Result<(), Fail> {
     let alloc = rt.alloc();

@@ -35,3 +35,27 @@ returns-clause-thins c = refl
 
 pub returns-clause-merges : goal.returns-clause-merges
 returns-clause-merges c = refl
+
+pub returns-clause-twice_legal : goal.returns-clause-twice_legal
+returns-clause-twice_legal c =
+    record {
+      follows = (refl, ((refl, omega arith), ((refl, tt, refl), ((refl, (0, refl)), ((refl, (0, refl)), ((_, refl, refl, tt, refl), ((_, refl, refl, (omega arith, tt), refl), tt)))))));
+      in_rooms = (omega arith, (omega arith, (omega arith, ((omega arith, refl), ((omega arith, refl), (omega arith, (omega arith, tt)))))));
+    }
+
+pub returns-clause-once : goal.returns-clause-once
+returns-clause-once c = refl
+
+pub returns-clause-once_legal : goal.returns-clause-once_legal
+returns-clause-once_legal c =
+    record {
+      follows = (refl, ((refl, omega arith), ((refl, tt, refl), ((refl, (0, refl)), ((refl, tt, refl), ((_, refl, refl, tt, refl), tt))))));
+      in_rooms = (omega arith, (omega arith, (omega arith, ((omega arith, refl), (omega arith, (omega arith, tt))))));
+    }
+
+pub returns-clause-thins_legal : goal.returns-clause-thins_legal
+returns-clause-thins_legal c =
+    record {
+      follows = (refl, ((refl, omega arith), ((refl, tt, refl), ((refl, (0, refl)), ((refl, omega arith), tt)))));
+      in_rooms = (omega arith, (omega arith, (omega arith, ((omega arith, refl), (omega arith, tt)))));
+    }
