@@ -81,7 +81,7 @@ fn crossed<T: Send + Sync>(value: T) -> T {
     value
 }
 
-/// Rows, counters and machines may go to another thread and be read there.
+/// Rows and machines may go to another thread and be read there.
 #[test]
 fn cross_threads(rt: HostRuntime) -> Result<(), Fail> {
     let rows = crossed(three_rows(rt.alloc())?);
