@@ -6,3 +6,6 @@ pub mod Steps
 pub mod Sounds
 pub mod Uses
 pub mod Entries
+pub mod Stretches
+pub mod Within
+pub mod Turns

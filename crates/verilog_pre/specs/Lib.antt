@@ -5,3 +5,4 @@ pub mod Conditionals
 pub mod Expansions
 pub mod States
 pub mod Reading
+pub mod Stretches

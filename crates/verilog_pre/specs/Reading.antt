@@ -14,7 +14,7 @@ use Rattle.verilog_pre.specs.declared.piece.Piece.{Piece}
 use Rattle.verilog_pre.specs.Bodies.{begins_cut, body_parts, body_len}
 use Rattle.verilog_pre.specs.Conditionals.{is_read, opened, continued, closed}
 use Rattle.verilog_pre.specs.Directives.{directive_of, is_conditional, is_use, name_at}
-use Rattle.verilog_pre.specs.Expansions.{Context, Output, emitted, expanded}
+use Rattle.verilog_pre.specs.Expansions.{Output, emitted, expanded}
 use Rattle.verilog_pre.specs.States.{State}
 use Rattle.verilog_pre.specs.Tables.{Table, with_macro, no_macros}
 

@@ -1,5 +1,5 @@
 -- The macros that are known: which one each word names, if any.
-use Rattle.std.specs.Prelude.{◌≡◌, ◌<◌, ◌≤◌, ℕ, if◌then◌else◌, List, [], ◌∷◌, length, Option, Some, None, IfSome}
+use Rattle.std.specs.Prelude.{◌<◌, ◌≤◌, ℕ, if◌then◌else◌, List, [], ◌∷◌, length, Option, None, IfSome}
 use Rattle.std.specs.List.{All}
 use Rattle.std.specs.Str.{bytes_eq}
 use Rattle.verilog_pre.specs.declared.macro_body.Macro.{Macro}

@@ -12,6 +12,7 @@ mod directives;
 mod expand;
 mod files;
 mod item;
+mod laws;
 mod macro_body;
 mod macros;
 mod nest;
@@ -23,6 +24,7 @@ mod reading;
 mod table;
 
 pub use files::preprocess;
+pub use laws::texts_are_stretches;
 pub use piece::Piece;
 
 #[cfg(test)]

@@ -1,0 +1,17 @@
+// What the definition of reading a text comes to.
+ghost use Rattle.std.specs.Prelude.{◌≡◌, ℕ, List, Result};
+ghost use Rattle.ls_text.specs.declared.place.Place.{Place};
+ghost use Rattle.ls_text.specs.declared.source_file.SourceFile.{SourceFile};
+ghost use Rattle.source_text.specs.Faults.{TextFault};
+ghost use Rattle.verilog_pre.specs.Reading.{text_read};
+ghost use Rattle.verilog_pre.specs.States.{State};
+ghost use Rattle.verilog_pre.specs.Stretches.{Reads};
+
+/// A text is read as the stretches that stand in it say, and in no other way.
+#[tactic(none)]
+pub fn texts_are_stretches()
+    ensures whole { (files : List SourceFile) (at : Place) (offset : ℕ) (st : State) (text : List ℕ)
+        → Reads files at offset st text (text_read files at offset st text) }
+    ensures only { (files : List SourceFile) (at : Place) (offset : ℕ) (st : State) (text : List ℕ) (r : Result State TextFault)
+        → Reads files at offset st text r → r ≡ text_read files at offset st text }
+{}
