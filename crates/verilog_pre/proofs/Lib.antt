@@ -7,5 +7,7 @@ pub mod Sounds
 pub mod Uses
 pub mod Entries
 pub mod Stretches
+pub mod BodyStretches
 pub mod Within
 pub mod Turns
+pub mod BodyTurns

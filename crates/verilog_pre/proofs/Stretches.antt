@@ -36,11 +36,11 @@ front_is p (x ∷ xs) ys all stops =
 
 -- ---- comments
 
-and_false : (x : Bool) → (x && false) ≡ false
+pub and_false : (x : Bool) → (x && false) ≡ false
 and_false true = refl
 and_false false = refl
 
-and_both : (x y : Bool) → (x && y) ≡ true → (x ≡ true) × (y ≡ true)
+pub and_both : (x y : Bool) → (x && y) ≡ true → (x ≡ true) × (y ≡ true)
 and_both true y e = (refl, e)
 and_both false y e = absurd (true≢false (sym e))
 
@@ -69,7 +69,7 @@ abbrev pub first_of : List ℕ → ℕ
 first_of [] = 0
 first_of (x ∷ xs) = x
 
-abbrev value_of : Option ℕ → ℕ
+abbrev pub value_of : Option ℕ → ℕ
 value_of None = 0
 value_of (Some n) = n
 

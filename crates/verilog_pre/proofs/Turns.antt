@@ -270,15 +270,15 @@ turned files at offset st (a ∷ b ∷ bs) some = line ((a == 47) && (b == 47)) 
 
 -- ---- the whole text
 
-drop_seam : (cut rest : List ℕ) → drop (length cut) (cut ++ rest) ≡ rest
+pub drop_seam : (cut rest : List ℕ) → drop (length cut) (cut ++ rest) ≡ rest
 drop_seam [] rest = refl
 drop_seam (c ∷ cs) rest = drop_seam cs rest
 
-take_seam : (cut rest : List ℕ) → take (length cut) (cut ++ rest) ≡ cut
+pub take_seam : (cut rest : List ℕ) → take (length cut) (cut ++ rest) ≡ cut
 take_seam [] rest = refl
 take_seam (c ∷ cs) rest = ap (λ xs. c ∷ xs) (take_seam cs rest)
 
-longer : (cut rest : List ℕ) → 0 < length cut → 0 < length (cut ++ rest)
+pub longer : (cut rest : List ℕ) → 0 < length cut → 0 < length (cut ++ rest)
 longer [] rest some = absurd (omega arith)
 longer (c ∷ cs) rest some = omega arith
 

@@ -6,3 +6,4 @@ pub mod Expansions
 pub mod States
 pub mod Reading
 pub mod Stretches
+pub mod BodyStretches

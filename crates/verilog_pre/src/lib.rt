@@ -24,7 +24,7 @@ mod reading;
 mod table;
 
 pub use files::preprocess;
-pub use laws::texts_are_stretches;
+pub use laws::{bodies_are_stretches, texts_are_stretches};
 pub use piece::Piece;
 
 #[cfg(test)]
