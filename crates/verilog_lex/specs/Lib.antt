@@ -4,6 +4,8 @@ pub mod Forms
 pub mod Cuts
 pub mod Numbers
 pub mod Lexemes
+pub mod Stretches
 pub mod Tokens
+pub mod Groups
 pub mod Views
 pub mod Ends
