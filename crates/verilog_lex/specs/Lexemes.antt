@@ -17,7 +17,7 @@ pub record Lexeme : Type 0 where
 abbrev pub lexeme_here : Place → Form → List Lexeme
 lexeme_here at form = if is_gap form then [] else record { form = form; at = at } ∷ []
 
--- the tokens of a fixed piece, a part of a macro's body, all have its place (clause 19.3.1)
+-- the tokens of a fixed piece, which comes from the use of a macro (clause 19.3.1), all have its place
 abbrev pub moved : Bool → Place → ℕ → Place
 moved fixed at b = if fixed then at else step at b
 

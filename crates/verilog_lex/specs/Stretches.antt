@@ -15,7 +15,7 @@ abbrev pub EndsAt : (ℕ → Bool) → List ℕ → Type 0
 EndsAt class [] = ⊤
 EndsAt class (b ∷ rest) = class b ≡ false
 
--- all the bytes of a class before the rest, which begin with one of another class
+-- a run of bytes of a class, to the end of the run; the first is also of another class, as a word begins with a letter
 abbrev pub IsRun : (ℕ → Bool) → (ℕ → Bool) → List ℕ → List ℕ → Type 0
 IsRun first class [] rest = ⊥
 IsRun first class (b ∷ bytes) rest = (first b ≡ true) × AllPass class (b ∷ bytes) × EndsAt class rest
@@ -24,7 +24,7 @@ IsRun first class (b ∷ bytes) rest = (first b ≡ true) × AllPass class (b �
 abbrev pub Occurs : List ℕ → List ℕ → Type 0
 Occurs word text = (before : List ℕ) × (after : List ℕ) × (text ≡ before ++ (word ++ after))
 
--- `(*`, whose next byte that isn't white space is there, and isn't `)` (clause 3.8; `@(*)` has no attribute, clause 9.7.5)
+-- `(*`, whose next byte that isn't white space is there, and isn't `)` (clause 3.8; `@(*)` opens none, clause 9.7.5)
 pub record OpensAttribute (text : List ℕ) : Type 0 where
   pub gap : List ℕ
   pub next : ℕ
@@ -46,8 +46,8 @@ abbrev pub IsSignedness : Bool → List ℕ → Type 0
 IsSignedness false sign = sign ≡ []
 IsSignedness true sign = (s : ℕ) × (sign ≡ s ∷ []) × (is_sign_letter s ≡ true)
 
--- a based part (clause 3.5.1): a quote, an optional s, a base letter, optional white space, and all the digits there,
--- which are those of any base, and _ after the first
+-- a based part (clause 3.5.1): a quote, an optional s, a base letter, optional white space, and a run of digits of any
+-- base, with _ after the first. The part is whether it is signed, its radix and its digits
 pub record IsPart (part : Bool × ℕ × List ℕ) (bytes rest : List ℕ) : Type 0 where
   pub sign : List ℕ
   pub base : ℕ

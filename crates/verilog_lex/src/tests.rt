@@ -152,7 +152,7 @@ fn numbers_have_their_values(rt: HostRuntime) {
     );
 }
 
-// 33 hexadecimal digits: the first covers the bits 128 to 131 and what it fills, which no literal has.
+// The first of 33 hexadecimal digits stands for the bits 128 to 131, which no literal has; the second for 124 to 127.
 #[test]
 fn wildcard_digits_may_lead_long_literals(rt: HostRuntime) {
     let alloc = rt.alloc();
