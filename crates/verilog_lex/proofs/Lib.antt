@@ -6,6 +6,7 @@ pub mod Parts
 pub mod Signs
 pub mod Stretches
 pub mod Groups
+pub mod Readings
 pub mod Growth
 pub mod Unended
 pub mod Literals

@@ -7,5 +7,6 @@ pub mod Lexemes
 pub mod Stretches
 pub mod Tokens
 pub mod Groups
+pub mod Readings
 pub mod Views
 pub mod Ends

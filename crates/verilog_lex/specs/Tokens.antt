@@ -80,7 +80,7 @@ lexeme_tokens ls = tokens_from 0 ls
 abbrev pub end_place : List SourceFile → Place
 end_place files = place_after (file_start (length files - 1)) (text_of (slice_get files (length files - 1)))
 
--- the tokens of pieces, and the end behind them
+-- the tokens of pieces, and the end behind them: the one reading that `Reads` of specs/Readings allows
 unfoldable pub tokens : List SourceFile → List Piece → Result (List Said) TextFault
 tokens files pieces =
     lexeme_tokens (pieces_lexemes files pieces) >>= λ ts. Ok (ts ++ plain kind.End (end_place files) (codes "-") ∷ [])

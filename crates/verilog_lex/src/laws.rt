@@ -1,10 +1,14 @@
 // What the definition of tokens says of whole lists, without a walk over them. Each function here is a law: its contract.
-ghost use Rattle.std.specs.Prelude.{◌≡◌, ℕ, Bool, List};
+ghost use Rattle.std.specs.Prelude.{◌≡◌, ℕ, Bool, List, Result};
 ghost use Rattle.ls_text.specs.declared.place.Place.{Place};
+ghost use Rattle.ls_text.specs.declared.source_file.SourceFile.{SourceFile};
+ghost use Rattle.source_text.specs.Faults.{TextFault};
+ghost use Rattle.verilog_pre.specs.declared.piece.Piece.{Piece};
 ghost use Rattle.verilog_lex.specs.Lexemes.{Lexeme, text_lexemes};
 ghost use Rattle.verilog_lex.specs.Stretches.{Stretch, Stretches, placed};
-ghost use Rattle.verilog_lex.specs.Tokens.{lexeme_tokens};
+ghost use Rattle.verilog_lex.specs.Tokens.{Said, lexeme_tokens, tokens};
 ghost use Rattle.verilog_lex.specs.Groups.{Group, Groups, group_tokens};
+ghost use Rattle.verilog_lex.specs.Readings.{Reads};
 
 /// A text is cut into stretches in one way, and its lexemes are the stretches that are no gaps.
 #[tactic(none)]
@@ -27,4 +31,14 @@ pub fn groups_of_lexemes()
     ensures only { (ls : List Lexeme) (gs hs : List Group) → Groups ls gs → Groups ls hs → gs ≡ hs }
     // Their tokens are those of the groups, or the first group's fault.
     ensures tokens { (ls : List Lexeme) (gs : List Group) → Groups ls gs → lexeme_tokens ls ≡ group_tokens gs }
+{}
+
+/// The definition of tokens is the relation `Reads` and no more.
+#[tactic(none)]
+pub fn readings_of_pieces()
+    // What the definition gives for pieces is a reading of them.
+    ensures reads { (files : List SourceFile) (pieces : List Piece) → Reads files pieces (tokens files pieces) }
+    // There is no other reading.
+    ensures only { (files : List SourceFile) (pieces : List Piece) (read : Result (List Said) TextFault)
+        → Reads files pieces read → read ≡ tokens files pieces }
 {}
