@@ -1,5 +1,12 @@
 pub mod Numbers
 pub mod Lexemes
+pub mod Runs
+pub mod Attributes
+pub mod Parts
+pub mod Signs
+pub mod Stretches
+pub mod Groups
+pub mod Readings
 pub mod Growth
 pub mod Unended
 pub mod Literals

@@ -8,13 +8,15 @@ use Rattle.verilog_lex.specs.Forms.{Form, Gap, Letters, Digits, Part, Sign, Unfi
 use Rattle.verilog_lex.specs.Keywords.{kind_in}
 use Rattle.verilog_lex.specs.Signs.{triples, doubles, singles}
 
+-- what follows the first digit of a plain decimal (clause 3.5.1)
 abbrev pub is_decimal_byte : ℕ → Bool
 is_decimal_byte c = is_digit c || (c == 95)
 
--- x, z and ? digits
+-- z and ? digits, which match any bit (clauses 3.5.1 and 9.5.1)
 abbrev pub is_wild : ℕ → Bool
 is_wild c = (c == 122) || ((c == 90) || (c == 63))
 
+-- a digit of any base (clause 3.5.1)
 abbrev pub is_part_digit : ℕ → Bool
 is_part_digit c = is_digit c || ((nat_le 97 c && nat_le c 102) || ((nat_le 65 c && nat_le c 70) || ((c == 120) || ((c == 88) || is_wild c))))
 
@@ -30,7 +32,7 @@ radix_of c =
     if (c == 98) || (c == 66) then 2 else if (c == 111) || (c == 79) then 8
     else if (c == 100) || (c == 68) then 10 else if (c == 104) || (c == 72) then 16 else 0
 
--- a quote, an optional s, a base letter, optional white space, and digits with _ after the first
+-- a based part (clause 3.5.1): a quote, an optional s, a base letter, optional white space, and digits with _ after the first
 unfoldable pub part_at : List ℕ → Option (Form × ℕ)
 part_at text =
     let signed = is_sign_letter (slice_index text 1) in
@@ -41,7 +43,7 @@ part_at text =
     let n = prefix_len is_part_byte digits in
     if nat_lt 0 radix && is_part_digit (slice_index digits 0) then Some (Part (signed, radix, take n digits), from + gap + n) else None
 
--- `(*` whose next byte that isn't white space is there, and isn't `)`
+-- `(*` whose next byte that isn't white space is there, and isn't `)` (clause 3.8)
 unfoldable pub opens_attribute : List ℕ → Bool
 opens_attribute text =
     let rest = drop 2 text in
@@ -60,7 +62,7 @@ abbrev pub sign_or : List ℕ → Option Kind → Form × ℕ → Form × ℕ
 sign_or text None other = other
 sign_or text (Some kind) other = (Sign kind text, length text)
 
--- the longest sign of the tables
+-- the longest sign of the tables (clause 3.4)
 unfoldable pub mark_at : List ℕ → Form × ℕ
 mark_at text =
     sign_or (take 3 text) (kind_in triples (take 3 text))

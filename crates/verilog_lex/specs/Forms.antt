@@ -1,19 +1,19 @@
--- What a stretch of text is.
+-- What a stretch of text is (IEEE 1364-2005, clauses 3.1 to 3.8).
 use Rattle.std.specs.Prelude.{ℕ, Bool, true, false, List, Option, Some, None}
 use Rattle.verilog_lex.specs.declared.kind.Kind.{Kind}
 use Rattle.verilog_lex.specs.declared.shape.Shape.{Shape}
 use Rattle.verilog_lex.specs.declared.shape.Shape.TheVariants as shape
 
 pub data Form : Type 0 where
-  -- white space, or an attribute
+  -- white space (clause 3.2), or an attribute (clause 3.8)
   Gap : Form
-  -- a word, reserved or not
+  -- a word, reserved or not (clause 3.7)
   Letters : (text : List ℕ) → Form
-  -- a plain decimal
+  -- a plain decimal (clause 3.5.1)
   Digits : (digits : List ℕ) → Form
-  -- a based part: whether it is signed, its radix and its digits
+  -- a based part (clause 3.5.1): whether it is signed, its radix and its digits
   Part : (part : Bool × ℕ × List ℕ) → Form
-  -- an operator or another sign
+  -- an operator (clause 3.4) or another sign (annex A)
   Sign : (kind : Kind) (text : List ℕ) → Form
   -- a byte that begins no token
   Unfit : Form

@@ -1,4 +1,4 @@
--- The reserved words (IEEE 1364-2005, annex B).
+-- The reserved words (IEEE 1364-2005, clause 3.7.2 and annex B).
 use Rattle.std.specs.Prelude.{ℕ, Bool, if◌then◌else◌, List, [], ◌∷◌, codes, Option, Some, None}
 use Rattle.std.specs.Str.{bytes_eq}
 use Rattle.std.specs.List.{list_any}
@@ -151,6 +151,6 @@ abbrev pub kind_or : Option Kind → Kind → Kind
 kind_or None other = other
 kind_or (Some k) other = k
 
--- the kind of a word, reserved or not; case matters
+-- the kind of a word, reserved or not (clause 3.7); case matters
 unfoldable pub word_kind : List ℕ → Kind
 word_kind text = kind_or (kind_in used_words text) (if is_among other_words text then kind.Reserved else kind.Word)

@@ -1,4 +1,5 @@
--- The lexemes of pieces, each with its place: every stretch that is no white space and no attribute.
+-- The lexemes of pieces, each with its place: every stretch that is no white space and no attribute (IEEE 1364-2005,
+-- clauses 3.1, 3.2 and 3.8).
 use Rattle.std.specs.Prelude.{ℕ, zero, suc, ◌-◌, Bool, if◌then◌else◌, List, [], ◌∷◌, ◌++◌}
 use Rattle.std.specs.List.{flat_map}
 use Rattle.ls_text.specs.declared.place.Place.{Place}
@@ -16,7 +17,7 @@ pub record Lexeme : Type 0 where
 abbrev pub lexeme_here : Place → Form → List Lexeme
 lexeme_here at form = if is_gap form then [] else record { form = form; at = at } ∷ []
 
--- the tokens of a fixed piece all have its place
+-- the tokens of a fixed piece, which comes from the use of a macro (clause 19.3.1), all have its place
 abbrev pub moved : Bool → Place → ℕ → Place
 moved fixed at b = if fixed then at else step at b
 
@@ -30,7 +31,7 @@ lexemes_from fixed at (suc k) (b ∷ bs) = lexemes_from fixed (moved fixed at b)
 lexemes_from fixed at zero (b ∷ bs) =
     lexeme_here at (cut_at (b ∷ bs)).0 ++ lexemes_from fixed (moved fixed at b) ((cut_at (b ∷ bs)).1 - 1) bs
 
--- the lexemes of a text that begins at a place
+-- the lexemes of a text that begins at a place: those of its `Stretches`
 unfoldable pub text_lexemes : Bool → Place → List ℕ → List Lexeme
 text_lexemes fixed at text = lexemes_from fixed at 0 text
 

@@ -4,6 +4,9 @@ pub mod Forms
 pub mod Cuts
 pub mod Numbers
 pub mod Lexemes
+pub mod Stretches
 pub mod Tokens
+pub mod Groups
+pub mod Readings
 pub mod Views
 pub mod Ends

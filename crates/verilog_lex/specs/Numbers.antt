@@ -14,7 +14,7 @@ None >>= f = None
 abbrev pub guard : {A : Type 0} → Bool → A → Option A
 guard b x = if b then Some x else None
 
--- the value of a digit: a wildcard digit counts as 0, an x digit has none
+-- the value of a digit (clause 3.5.1): a wildcard digit counts as 0, an x digit has none
 abbrev pub digit_of : ℕ → Option ℕ
 digit_of c =
     if nat_le 48 c && nat_le c 57 then Some (c - 48) else if nat_le 97 c && nat_le c 102 then Some (c - 97 + 10)
@@ -37,27 +37,27 @@ small value = value >>= λ n. guard (nat_lt n (2 ^ 128)) n
 unfoldable pub digits_value : ℕ → List ℕ → Option ℕ
 digits_value radix digits = small (value_from radix 0 digits)
 
--- the 128 bits that wildcard digits cover, behind digits that cover those of n
+-- the 128 bits that wildcard digits cover (clauses 3.5.1 and 9.5.1), behind digits that cover those of n
 abbrev pub mask_from : ℕ → ℕ → List ℕ → ℕ
 mask_from radix n [] = n
 mask_from radix n (c ∷ cs) =
     if c == 95 then mask_from radix n cs
     else mask_from radix (((n * radix) % 2 ^ 128 + (if is_wild c then radix - 1 else 0)) % 2 ^ 128) cs
 
--- a leftmost wildcard digit fills the literal
+-- a leftmost wildcard digit fills the literal (clause 3.5.1)
 unfoldable pub digits_mask : ℕ → List ℕ → ℕ
 digits_mask radix digits = mask_from radix (if is_wild (slice_index digits 0) then 2 ^ 128 - 1 else 0) digits
 
 abbrev pub has_wild : List ℕ → Bool
 has_wild digits = list_any is_wild digits
 
--- a value of a size, which is cut on the left; without a size it has 32 bits
+-- a value of a size, which is cut on the left; without a size it has 32 bits (clause 3.5.1)
 unfoldable pub number_of : ℕ → Bool → ℕ → Option (Kind × Literal)
 number_of size signed value =
     if size == 0 then guard (nat_le value 4294967295) (kind.Number, record { size = 0; signed = signed; value = value; mask = 0 })
     else Some (kind.Number, record { size = size; signed = signed; value = value % 2 ^ size; mask = 0 })
 
--- digits that match any bit stand only in sized unsigned literals of base b, o or h
+-- digits that match any bit (clause 9.5.1) stand only in sized unsigned literals of base b, o or h
 unfoldable pub wild_of : ℕ → Bool → ℕ → List ℕ → ℕ → Option (Kind × Literal)
 wild_of size signed radix digits value =
     if (size == 0) || (signed || (radix == 10)) then None
@@ -69,7 +69,7 @@ based_literal size signed radix digits =
     digits_value radix digits >>= λ value.
     if has_wild digits then wild_of size signed radix digits value else number_of size signed value
 
--- a plain decimal alone, which is signed
+-- a plain decimal alone, which is signed (clause 3.5.1)
 unfoldable pub plain_literal : List ℕ → Option (Kind × Literal)
 plain_literal digits = digits_value 10 digits >>= λ value. number_of 0 true value
 

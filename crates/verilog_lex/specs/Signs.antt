@@ -1,4 +1,4 @@
--- The operators and the other signs (IEEE 1364-2005, clause 3.3 and annex A), by their lengths.
+-- The operators and the other signs (IEEE 1364-2005, clause 3.4 and annex A), by their lengths.
 use Rattle.std.specs.Prelude.{ℕ, List, [], ◌∷◌, codes}
 use Rattle.verilog_lex.specs.declared.kind.Kind.{Kind}
 use Rattle.verilog_lex.specs.declared.kind.Kind.TheVariants as kind

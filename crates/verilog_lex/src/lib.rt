@@ -6,6 +6,7 @@ mod cursor;
 mod cut;
 mod keyword;
 mod kind;
+mod laws;
 mod lexeme;
 mod lexer;
 mod literal;
@@ -16,6 +17,7 @@ mod shape;
 mod token;
 
 pub use kind::Kind;
+pub use laws::{groups_of_lexemes, readings_of_pieces, stretches_of_texts};
 pub use lexer::lex;
 pub use literal::Literal;
 pub use token::Token;

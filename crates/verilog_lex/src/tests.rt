@@ -152,6 +152,40 @@ fn numbers_have_their_values(rt: HostRuntime) {
     );
 }
 
+// The first of 33 hexadecimal digits stands for the bits 128 to 131, which no literal has; the second for 124 to 127.
+#[test]
+fn wildcard_digits_may_lead_long_literals(rt: HostRuntime) {
+    let alloc = rt.alloc();
+    assert!(rt;
+        is_literal(
+            alloc,
+            b"128'h??0000000000000000000000000000001",
+            128,
+            false,
+            1,
+            0xf000_0000_0000_0000_0000_0000_0000_0000
+        )
+    );
+    assert!(rt;
+        is_literal(
+            alloc,
+            b"8'h?0000000000000000000000000000000?",
+            8,
+            false,
+            0,
+            15
+        )
+    );
+    assert!(rt;
+        has_kinds(
+            alloc,
+            b"128'h?00000000000000000000000000000001",
+            &[Kind::Wild]
+        )
+    );
+    assert!(rt; is_refused(alloc, b"128'h?100000000000000000000000000000000", 14, 1, 1));
+}
+
 #[test]
 fn signs_are_the_longest_that_fit(rt: HostRuntime) {
     let alloc = rt.alloc();
