@@ -167,7 +167,8 @@ takes_widths (Compare op) a b = a == b
 takes_widths (Logical op) a b = true
 takes_widths (Shift op) a b = true
 
--- whether the widths within an expression agree, and are 1 to 128
+-- whether the widths within an expression agree, and are 1 to 128; that of a concatenation is the sum of its parts', that of a
+-- replication so many times its part's (5.4.1)
 abbrev pub agrees : Sized → Bool
 agrees (Constant width value) = is_width width && nat_lt value (2 ^ width)
 agrees (Name signal width) = is_width width
