@@ -391,6 +391,44 @@ fn the_outside_fails(rt: HostRuntime) -> Result<(), Fail> {
     Ok(())
 }
 
+// A block, `run 5` and two `show`, with a write that fails: the status and how many bytes were written before it.
+#[test]
+fn replies_are_written_whole(rt: HostRuntime) -> Result<(), Fail> {
+    let alloc = rt.alloc();
+    let body: &[u8] = b"reg [7:0] acc = 8'h00;\nalways @(posedge clk) acc <= acc + 8'h03;";
+    let lines: &[u8] =
+        b"ok edit v=1 built=1 kept=0 from=0\nok run cycle=5\nshow cycle=5 settled v=1\ntop.acc 0f\nshow cycle=5 settled v=1\ntop.acc 0f\n";
+    let rows: [(u64, u8, usize); 5] = [(0, 4, 0), (1, 4, 34), (2, 4, 49), (3, 4, 85), (4, 0, 121)];
+    for (write, status, length) in rows {
+        let script = joined(alloc, &[HEAD, body, TAIL, b"run 5\nshow\nshow\n"])?;
+        let (outcome, written) = lived(
+            &rt,
+            alloc,
+            script,
+            Vec::new(alloc),
+            vec![in alloc; write]?,
+        )?;
+        assert_eq!(rt; outcome.status, status);
+        assert!(rt; written.as_slice() == &lines[..length]);
+    }
+    Ok(())
+}
+
+// One use of a macro more than the limit allows, and what a designer sees of it.
+#[test]
+fn too_many_uses_are_refused(rt: HostRuntime) -> Result<(), Fail> {
+    let alloc = rt.alloc();
+    let mut script = joined(alloc, &[b"edit\ntop top\nclock clk\nfile a.v\n`define A\n"])?;
+    for _ in 0..1_048_577 {
+        script.extend_from_slice(b"`A\n")?;
+    }
+    script.extend_from_slice(b".\nend\n")?;
+    let (_, written) = lived(&rt, alloc, script, Vec::new(alloc), Vec::new(alloc))?;
+    let want: &[u8] = b"refused 10 TextTooLong a.v:1048578:1 -\n";
+    assert!(rt; written.as_slice() == want);
+    Ok(())
+}
+
 #[test]
 fn limit_of_the_input(rt: HostRuntime) -> Result<(), Fail> {
     let alloc = rt.alloc();

@@ -164,11 +164,11 @@ first_cut file offset (a ∷ []) some = line (a == 10) refl
     line false e =
         subst (Cut file offset (a ∷ []))
         (sym (ap (λ t. cond t (cut.Gap 2) (cond ((a == 47) && false) (cut.Last (prefix_len not_newline (a ∷ []))) (cond ((a == 47) && false) (comment_or [] (comment_len 0 0 []))
-            (cond ((a == 96) && false) (cut.Use (1 + prefix_len is_word_byte [])) (cut.Run (run_len 0 1 [])))))) (never (a == 92))
-            ∙ ap (λ t. cond t (cut.Last (prefix_len not_newline (a ∷ []))) (cond ((a == 47) && false) (comment_or [] (comment_len 0 0 []))
-            (cond ((a == 96) && false) (cut.Use (1 + prefix_len is_word_byte [])) (cut.Run (run_len 0 1 []))))) (never (a == 47))
-            ∙ ap (λ t. cond t (comment_or [] (comment_len 0 0 [])) (cond ((a == 96) && false) (cut.Use (1 + prefix_len is_word_byte [])) (cut.Run (run_len 0 1 [])))) (never (a == 47))
-            ∙ ap (λ t. cond t (cut.Use (1 + prefix_len is_word_byte [])) (cut.Run (run_len 0 1 []))) (never (a == 96))))
+        (cond ((a == 96) && false) (cut.Use (1 + prefix_len is_word_byte [])) (cut.Run (run_len 0 1 [])))))) (never (a == 92))
+        ∙ ap (λ t. cond t (cut.Last (prefix_len not_newline (a ∷ []))) (cond ((a == 47) && false) (comment_or [] (comment_len 0 0 []))
+        (cond ((a == 96) && false) (cut.Use (1 + prefix_len is_word_byte [])) (cut.Run (run_len 0 1 []))))) (never (a == 47))
+        ∙ ap (λ t. cond t (comment_or [] (comment_len 0 0 [])) (cond ((a == 96) && false) (cut.Use (1 + prefix_len is_word_byte [])) (cut.Run (run_len 0 1 [])))) (never (a == 47))
+        ∙ ap (λ t. cond t (cut.Use (1 + prefix_len is_word_byte [])) (cut.Run (run_len 0 1 []))) (never (a == 96))))
         (run file offset a [] e tt)
 first_cut file offset (a ∷ b ∷ bs) some = line (a == 10) refl
   where
@@ -196,7 +196,7 @@ first_cut file offset (a ∷ b ∷ bs) some = line (a == 10) refl
 
     slashes : (a == 10) ≡ false → ((a == 92) && (b == 10)) ≡ false → (t : Bool) → ((a == 47) && (b == 47)) ≡ t
         → Cut file offset (a ∷ b ∷ bs) (cond t (cut.Last (prefix_len not_newline (a ∷ b ∷ bs))) (cond ((a == 47) && (b == 42)) (comment_or bs (comment_len 0 0 bs))
-            (cond ((a == 96) && is_letter b) (cut.Use (1 + prefix_len is_word_byte (b ∷ bs))) (cut.Run (run_len 0 1 (b ∷ bs))))))
+        (cond ((a == 96) && is_letter b) (cut.Use (1 + prefix_len is_word_byte (b ∷ bs))) (cut.Run (run_len 0 1 (b ∷ bs))))))
     slashes d e true f =
         let is : ((a == 47) ≡ true) × ((b == 47) ≡ true) = and_both (a == 47) (b == 47) f in
         subst (λ x. Cut file offset (x ∷ b ∷ bs) (cut.Last (prefix_len not_newline (x ∷ b ∷ bs)))) (sym (eqb-true a 47 is.0))
@@ -205,7 +205,7 @@ first_cut file offset (a ∷ b ∷ bs) some = line (a == 10) refl
 
     continued : (a == 10) ≡ false → (t : Bool) → ((a == 92) && (b == 10)) ≡ t
         → Cut file offset (a ∷ b ∷ bs) (cond t (cut.Gap 2) (cond ((a == 47) && (b == 47)) (cut.Last (prefix_len not_newline (a ∷ b ∷ bs))) (cond ((a == 47) && (b == 42)) (comment_or bs (comment_len 0 0 bs))
-            (cond ((a == 96) && is_letter b) (cut.Use (1 + prefix_len is_word_byte (b ∷ bs))) (cut.Run (run_len 0 1 (b ∷ bs)))))))
+        (cond ((a == 96) && is_letter b) (cut.Use (1 + prefix_len is_word_byte (b ∷ bs))) (cut.Run (run_len 0 1 (b ∷ bs)))))))
     continued d true e =
         let is : ((a == 92) ≡ true) × ((b == 10) ≡ true) = and_both (a == 92) (b == 10) e in
         On (a ∷ b ∷ []) bs (cut.Gap 2) refl refl refl (omega arith) (Continued (ap (λ x. x ∷ b ∷ []) (eqb-true a 92 is.0) ∙ ap (λ y. 92 ∷ y ∷ []) (eqb-true b 10 is.1)))
@@ -213,7 +213,7 @@ first_cut file offset (a ∷ b ∷ bs) some = line (a == 10) refl
 
     line : (t : Bool) → (a == 10) ≡ t
         → Cut file offset (a ∷ b ∷ bs) (cond t (cut.Last 0) (cond ((a == 92) && (b == 10)) (cut.Gap 2) (cond ((a == 47) && (b == 47)) (cut.Last (prefix_len not_newline (a ∷ b ∷ bs)))
-            (cond ((a == 47) && (b == 42)) (comment_or bs (comment_len 0 0 bs)) (cond ((a == 96) && is_letter b) (cut.Use (1 + prefix_len is_word_byte (b ∷ bs))) (cut.Run (run_len 0 1 (b ∷ bs))))))))
+        (cond ((a == 47) && (b == 42)) (comment_or bs (comment_len 0 0 bs)) (cond ((a == 96) && is_letter b) (cut.Use (1 + prefix_len is_word_byte (b ∷ bs))) (cut.Run (run_len 0 1 (b ∷ bs))))))))
     line true e = Newline (b ∷ bs) (ap (λ x. x ∷ b ∷ bs) (eqb-true a 10 e))
     line false e = continued e ((a == 92) && (b == 10)) refl
 
@@ -235,12 +235,12 @@ whole_body (suc fuel) file offset (b ∷ bs) within =
         let short : length rest ≤ fuel = omega (arith, sum, some, within, sizes) in
         let behind : drop (length bytes) (b ∷ bs) ≡ rest = ap (drop (length bytes)) joined ∙ drop_seam bytes rest in
         let parts : body_parts file offset (b ∷ bs) ≡ cut_parts file offset (b ∷ bs) c ++ body_parts file (offset + length bytes) rest =
-            parts_on file offset (b ∷ bs) c (length bytes) (omega arith) is size some on
-            ∙ ap (λ xs. cut_parts file offset (b ∷ bs) c ++ body_parts file (offset + length bytes) xs) behind in
+        parts_on file offset (b ∷ bs) c (length bytes) (omega arith) is size some on
+        ∙ ap (λ xs. cut_parts file offset (b ∷ bs) c ++ body_parts file (offset + length bytes) xs) behind in
         let count : body_len (b ∷ bs) ≡ length bytes + body_len rest =
-            len_on (b ∷ bs) c (length bytes) (omega arith) is size some (omega (arith, sum, sizes)) on ∙ ap (λ xs. length bytes + body_len xs) behind in
+        len_on (b ∷ bs) c (length bytes) (omega arith) is size some (omega (arith, sum, sizes)) on ∙ ap (λ xs. length bytes + body_len xs) behind in
         let read : Body file offset (bytes ++ rest) (cut_parts file offset (b ∷ bs) c ++ body_parts file (offset + length bytes) rest) (length bytes + body_len rest) =
-            Goes offset bytes rest (cut_parts file offset (b ∷ bs) c) (body_parts file (offset + length bytes) rest) (body_len rest) gives (more (offset + length bytes) rest short) in
+        Goes offset bytes rest (cut_parts file offset (b ∷ bs) c) (body_parts file (offset + length bytes) rest) (body_len rest) gives (more (offset + length bytes) rest short) in
         subst (λ xs. Body file offset xs (body_parts file offset (b ∷ bs)) (body_len (b ∷ bs))) (sym joined)
         (subst (λ ps. Body file offset (bytes ++ rest) ps (body_len (b ∷ bs))) (sym parts)
         (subst (Body file offset (bytes ++ rest) (cut_parts file offset (b ∷ bs) c ++ body_parts file (offset + length bytes) rest)) (sym count) read))
@@ -328,7 +328,7 @@ closed_cut inside rest first on =
     ∙ ap (comment_or (inside ++ 42 ∷ 47 ∷ rest)) (closed_on_is 0 0 inside rest (with_zero (inside ++ 42 ∷ []) first) on)
     ∙ ap cut.Gap
     (let sum : length (inside ++ 42 ∷ 47 ∷ []) ≡ length inside + 2 = length-append inside (42 ∷ 47 ∷ []) in
-     let same : 2 + (0 + length inside + 2) ≡ length (47 ∷ 42 ∷ (inside ++ 42 ∷ 47 ∷ [])) = omega (arith, sum) in same)
+    let same : 2 + (0 + length inside + 2) ≡ length (47 ∷ 42 ∷ (inside ++ 42 ∷ 47 ∷ [])) = omega (arith, sum) in same)
 
 open_cut : (inside rest : List ℕ) → HasNo ends_comment inside → HasNo ends_line (0 ∷ inside) → LineEnds inside rest
     → body_cut (47 ∷ 42 ∷ (inside ++ rest)) ≡ cut.Open (length (47 ∷ 42 ∷ inside))
@@ -337,8 +337,8 @@ open_cut inside rest none on ends =
     ap (comment_or (inside ++ rest)) (open_is 0 0 inside rest (with_zero inside none) on ends)
     ∙ ap cut.Open
     (let counted : lines_len (0 == 92) 0 (inside ++ rest) ≡ 0 + length (line_of 0 (inside ++ rest)) = line_count 0 0 (inside ++ rest) in
-     let size : length (line_of 0 (inside ++ rest)) ≡ length inside = ap length (line_is 0 inside rest on ends) in
-     let same : 2 + lines_len false 0 (inside ++ rest) ≡ length (47 ∷ 42 ∷ inside) = omega (arith, counted, size) in same)
+    let size : length (line_of 0 (inside ++ rest)) ≡ length inside = ap length (line_is 0 inside rest on ends) in
+    let same : 2 + lines_len false 0 (inside ++ rest) ≡ length (47 ∷ 42 ∷ inside) = omega (arith, counted, size) in same)
 
 word_cut : (word rest : List ℕ) → IsWord word rest → body_cut (96 ∷ (word ++ rest)) ≡ cut.Use (length (96 ∷ word))
 unfolding body_cut
@@ -347,7 +347,7 @@ word_cut (w ∷ ws) rest is =
     ap (λ t. cond t (cut.Use (1 + prefix_len is_word_byte (w ∷ (ws ++ rest)))) (cut.Run (run_len 0 1 (w ∷ (ws ++ rest))))) is.begins
     ∙ ap cut.Use
     (let size : prefix_len is_word_byte ((w ∷ ws) ++ rest) ≡ length (w ∷ ws) = front_is is_word_byte (w ∷ ws) rest is.all is.ends in
-     let same : 1 + prefix_len is_word_byte ((w ∷ ws) ++ rest) ≡ length (96 ∷ w ∷ ws) = omega (arith, size) in same)
+    let same : 1 + prefix_len is_word_byte ((w ∷ ws) ++ rest) ≡ length (96 ∷ w ∷ ws) = omega (arith, size) in same)
 
 remark_cut : (inside rest : List ℕ) → AllAre not_newline inside → StopsAt not_newline rest → body_cut (47 ∷ 47 ∷ (inside ++ rest)) ≡ cut.Last (length (47 ∷ 47 ∷ inside))
 unfolding body_cut
@@ -401,17 +401,18 @@ goes_is : (file offset : ℕ) (bytes rest : List ℕ) (parts more : List Part) (
     → (more ≡ body_parts file (offset + length bytes) rest) × (n ≡ body_len rest)
     → (parts ++ more ≡ body_parts file offset (bytes ++ rest)) × (length bytes + n ≡ body_len (bytes ++ rest))
 goes_is file offset bytes rest parts more n c some behind =
-    let sum : length (bytes ++ rest) ≡ length bytes + length rest = length-append bytes rest in
-    (ap (λ ps. ps ++ more) (sym c.gives) ∙ ap (λ ps. cut_parts file offset (bytes ++ rest) c.cut ++ ps) behind.0
-       ∙ ap (λ xs. cut_parts file offset (bytes ++ rest) c.cut ++ body_parts file (offset + length bytes) xs) (sym (drop_seam bytes rest))
-       ∙ sym (parts_on file offset (bytes ++ rest) c.cut (length bytes) (longer bytes rest some) c.is c.size some c.on),
-     ap (λ k. length bytes + k) (behind.1 ∙ ap body_len (sym (drop_seam bytes rest)))
-       ∙ sym (len_on (bytes ++ rest) c.cut (length bytes) (longer bytes rest some) c.is c.size some (omega (arith, sum)) c.on))
+    let sum : length (bytes ++ rest) ≡ length bytes + length rest = length-append bytes rest in (
+      ap (λ ps. ps ++ more) (sym c.gives) ∙ ap (λ ps. cut_parts file offset (bytes ++ rest) c.cut ++ ps) behind.0
+          ∙ ap (λ xs. cut_parts file offset (bytes ++ rest) c.cut ++ body_parts file (offset + length bytes) xs) (sym (drop_seam bytes rest))
+          ∙ sym (parts_on file offset (bytes ++ rest) c.cut (length bytes) (longer bytes rest some) c.is c.size some c.on),
+      ap (λ k. length bytes + k) (behind.1 ∙ ap body_len (sym (drop_seam bytes rest)))
+          ∙ sym (len_on (bytes ++ rest) c.cut (length bytes) (longer bytes rest some) c.is c.size some (omega (arith, sum)) c.on),
+    )
 
 remark_is : (file offset : ℕ) (bytes rest : List ℕ) → IsLineComment bytes rest → ([] ≡ body_parts file offset (bytes ++ rest)) × (length bytes ≡ body_len (bytes ++ rest))
 remark_is file offset bytes rest is =
     let cut_is : cut.Last (length bytes) ≡ body_cut (bytes ++ rest) =
-        subst (λ xs. cut.Last (length xs) ≡ body_cut (xs ++ rest)) (sym is.is) (sym (remark_cut is.inside rest is.on_line is.ends)) in
+    subst (λ xs. cut.Last (length xs) ≡ body_cut (xs ++ rest)) (sym is.is) (sym (remark_cut is.inside rest is.on_line is.ends)) in
     let size : length bytes ≡ length (47 ∷ 47 ∷ is.inside) = ap length is.is in
     let some : 0 < length (bytes ++ rest) = longer bytes rest (omega (arith, size)) in
     (sym (parts_last file offset (bytes ++ rest) (cut.Last (length bytes)) some cut_is refl), sym (len_last (bytes ++ rest) (cut.Last (length bytes)) some cut_is refl))

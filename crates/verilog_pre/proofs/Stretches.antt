@@ -32,7 +32,7 @@ front_is p [] (y ∷ ys) all stops = ap (λ t. cond t (1 + prefix_len p ys) 0) s
 front_is p (x ∷ xs) ys all stops =
     ap (λ t. cond t (1 + prefix_len p (xs ++ ys)) 0) all.0
     ∙ (let more : prefix_len p (xs ++ ys) ≡ length xs = front_is p xs ys all.1 stops in
-       let same : 1 + prefix_len p (xs ++ ys) ≡ length (x ∷ xs) = omega (arith, more) in same)
+    let same : 1 + prefix_len p (xs ++ ys) ≡ length (x ∷ xs) = omega (arith, more) in same)
 
 -- ---- comments
 

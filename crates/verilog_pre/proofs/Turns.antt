@@ -77,7 +77,7 @@ block_comment files at offset st bs = told (through_pair 42 47 false 0 bs) refl
             (BlockComment (record { inside = cs; is = refl; first = no_more cs first }))
             (omega arith)
             (let sum : length (cs ++ 42 ∷ 47 ∷ []) ≡ length cs + 2 = length-append cs (42 ∷ 47 ∷ []) in
-             let same : length (47 ∷ 42 ∷ (cs ++ 42 ∷ 47 ∷ [])) ≡ 2 + m = omega (arith, sum, count) in same)
+            let same : length (47 ∷ 42 ∷ (cs ++ 42 ∷ 47 ∷ [])) ≡ 2 + m = omega (arith, sum, count) in same)
           where
             no_more : (cs : List ℕ) → HasNo ends_comment (c ∷ (cs ++ 42 ∷ [])) → HasNo ends_comment (cs ++ 42 ∷ [])
             no_more [] has = tt
@@ -122,7 +122,7 @@ directive files at offset st b bs letter = told (directive_read files at (offset
         (BadDirective word left refl
         (record { begins = begins; all = front_all is_word_byte (b ∷ bs); ends = subst (StopsAt is_word_byte) (sym (append-nil left)) (front_stops is_word_byte (b ∷ bs)) })
         e (ap (λ o. directive_read files at o word st (left ++ [])) (ap (λ k. offset + 1 + k) counted)
-           ∙ ap (λ xs. directive_read files at (offset + 1 + n) word st xs) (append-nil left) ∙ is))
+        ∙ ap (λ xs. directive_read files at (offset + 1 + n) word st xs) (append-nil left) ∙ is))
     told (Ok t) is =
         let m : ℕ = t.1 in
         let within : m ≤ length left = directive_within files at (offset + 1 + n) word st left t is in
@@ -134,7 +134,7 @@ directive files at offset st b bs letter = told (directive_read files at (offset
         (record { begins = begins; all = front_all is_word_byte (b ∷ bs); ends = subst (StopsAt is_word_byte) (sym (take-append-drop m left)) (front_stops is_word_byte (b ∷ bs)) })
         t.0
         (ap (λ o. directive_read files at o word st (take m left ++ drop m left)) (ap (λ k. offset + 1 + k) counted)
-         ∙ ap (λ xs. directive_read files at (offset + 1 + n) word st xs) (take-append-drop m left) ∙ is ∙ ap (λ k. Ok (t.0, k)) (sym size)))
+        ∙ ap (λ xs. directive_read files at (offset + 1 + n) word st xs) (take-append-drop m left) ∙ is ∙ ap (λ k. Ok (t.0, k)) (sym size)))
         (omega arith)
         (let same : length (96 ∷ (word ++ take m left)) ≡ 1 + length word + m = omega (arith, sum, size) in same)
       where
@@ -186,7 +186,7 @@ run files at offset st a bs has =
         let short : st.out.bytes < length cut = ltb-true st.out.bytes (length cut) low in
         subst (Turned files at offset st (a ∷ bs))
         (sym (ap (λ t. cond t (Err (fault_at 10 (cond t (place_after at (take st.out.bytes (a ∷ bs))) at) [])) (Ok (more_out at offset st (length cut))) >>= λ out. Ok (with_out st out, length cut)) low
-            ∙ ap (λ xs. Err (fault_at 10 (place_after at xs) [])) (ap (take st.out.bytes) joined ∙ take-append-le st.out.bytes cut rest (omega (arith, short)))))
+        ∙ ap (λ xs. Err (fault_at 10 (place_after at xs) [])) (ap (take st.out.bytes) joined ∙ take-append-le st.out.bytes cut rest (omega (arith, short)))))
         (Failed cut rest (fault_at 10 (place_after at (take st.out.bytes cut)) []) joined (FullRun is e short))
     full e false room =
         subst (Turned files at offset st (a ∷ bs))
@@ -223,8 +223,8 @@ turned files at offset st [] some = absurd (omega arith)
 turned files at offset st (a ∷ []) some =
     subst (Turned files at offset st (a ∷ []))
     (sym (ap (λ t. cond t (Ok (st, prefix_len not_newline (a ∷ []))) (cond ((a == 47) && false) (comment_read at st (through_pair 42 47 false 0 [])) (cond ((a == 96) && false) (word_read files at offset st (a ∷ [])) (run_read at offset st (a ∷ []) (plain_len 0 1 []))))) (never (a == 47))
-        ∙ ap (λ t. cond t (comment_read at st (through_pair 42 47 false 0 [])) (cond ((a == 96) && false) (word_read files at offset st (a ∷ [])) (run_read at offset st (a ∷ []) (plain_len 0 1 [])))) (never (a == 47))
-        ∙ ap (λ t. cond t (word_read files at offset st (a ∷ [])) (run_read at offset st (a ∷ []) (plain_len 0 1 []))) (never (a == 96))))
+    ∙ ap (λ t. cond t (comment_read at st (through_pair 42 47 false 0 [])) (cond ((a == 96) && false) (word_read files at offset st (a ∷ [])) (run_read at offset st (a ∷ []) (plain_len 0 1 [])))) (never (a == 47))
+    ∙ ap (λ t. cond t (word_read files at offset st (a ∷ [])) (run_read at offset st (a ∷ []) (plain_len 0 1 []))) (never (a == 96))))
     (run files at offset st a [] tt)
   where
     never : (x : Bool) → (x && false) ≡ false
@@ -251,7 +251,7 @@ turned files at offset st (a ∷ b ∷ bs) some = line ((a == 47) && (b == 47)) 
 
     block : ((a == 47) && (b == 47)) ≡ false → (t : Bool) → ((a == 47) && (b == 42)) ≡ t
         → Turned files at offset st (a ∷ b ∷ bs) (cond t (comment_read at st (through_pair 42 47 false 0 bs))
-            (cond ((a == 96) && is_letter b) (word_read files at offset st (a ∷ b ∷ bs)) (run_read at offset st (a ∷ b ∷ bs) (plain_len 0 1 (b ∷ bs)))))
+        (cond ((a == 96) && is_letter b) (word_read files at offset st (a ∷ b ∷ bs)) (run_read at offset st (a ∷ b ∷ bs) (plain_len 0 1 (b ∷ bs)))))
     block e true f =
         let is : (a ≡ 47) × (b ≡ 42) = (eqb-true a 47 (both (a == 47) (b == 42) f).0, eqb-true b 42 (both (a == 47) (b == 42) f).1) in
         subst (λ x. Turned files at offset st (x ∷ b ∷ bs) (comment_read at st (through_pair 42 47 false 0 bs))) (sym is.0)
@@ -260,8 +260,8 @@ turned files at offset st (a ∷ b ∷ bs) some = line ((a == 47) && (b == 47)) 
 
     line : (t : Bool) → ((a == 47) && (b == 47)) ≡ t
         → Turned files at offset st (a ∷ b ∷ bs) (cond t (Ok (st, prefix_len not_newline (a ∷ b ∷ bs)))
-            (cond ((a == 47) && (b == 42)) (comment_read at st (through_pair 42 47 false 0 bs))
-            (cond ((a == 96) && is_letter b) (word_read files at offset st (a ∷ b ∷ bs)) (run_read at offset st (a ∷ b ∷ bs) (plain_len 0 1 (b ∷ bs))))))
+        (cond ((a == 47) && (b == 42)) (comment_read at st (through_pair 42 47 false 0 bs))
+        (cond ((a == 96) && is_letter b) (word_read files at offset st (a ∷ b ∷ bs)) (run_read at offset st (a ∷ b ∷ bs) (plain_len 0 1 (b ∷ bs))))))
     line true e =
         let is : (a ≡ 47) × (b ≡ 47) = (eqb-true a 47 (both (a == 47) (b == 47) e).0, eqb-true b 47 (both (a == 47) (b == 47) e).1) in
         subst (λ x. Turned files at offset st (x ∷ b ∷ bs) (Ok (st, prefix_len not_newline (x ∷ b ∷ bs)))) (sym is.0)
@@ -307,9 +307,9 @@ whole (suc fuel) files at offset st (b ∷ bs) within =
         let short : length rest ≤ fuel = omega (arith, size, some, within, sizes) in
         let turns : turn files at offset st (cut ++ rest) ≡ Ok (next, length cut) = ap (turn files at offset st) (sym joined) ∙ is in
         let read : Reads files at offset st (cut ++ rest) (text_read files at offset st (cut ++ rest)) =
-            subst (Reads files at offset st (cut ++ rest)) (sym (goes_on files at offset st next cut rest some turns))
-            (Goes at offset st next cut rest (text_read files (place_after at cut) (offset + length cut) next rest) does
-            (more (place_after at cut) (offset + length cut) next rest short)) in
+        subst (Reads files at offset st (cut ++ rest)) (sym (goes_on files at offset st next cut rest some turns))
+        (Goes at offset st next cut rest (text_read files (place_after at cut) (offset + length cut) next rest) does
+        (more (place_after at cut) (offset + length cut) next rest short)) in
         subst (λ text. Reads files at offset st text (text_read files at offset st text)) (sym joined) read
     told r is (Failed cut rest e joined does) more =
         let read : Reads files at offset st (cut ++ rest) (Err e) = Fails at offset st cut rest e does in
@@ -345,9 +345,9 @@ run_turn files at offset st a zs has =
     let b : ℕ = slice_index (a ∷ zs) 1 in
     let none = first_is_none a zs has in
     ap (λ t. cond t (Ok (st, prefix_len not_newline (a ∷ zs))) (cond ((a == 47) && (b == 42)) (comment_read at st (through_pair 42 47 false 0 (drop 2 (a ∷ zs))))
-        (cond ((a == 96) && is_letter b) (word_read files at offset st (a ∷ zs)) (run_read at offset st (a ∷ zs) (plain_len 0 1 zs))))) none.0
+    (cond ((a == 96) && is_letter b) (word_read files at offset st (a ∷ zs)) (run_read at offset st (a ∷ zs) (plain_len 0 1 zs))))) none.0
     ∙ ap (λ t. cond t (comment_read at st (through_pair 42 47 false 0 (drop 2 (a ∷ zs))))
-        (cond ((a == 96) && is_letter b) (word_read files at offset st (a ∷ zs)) (run_read at offset st (a ∷ zs) (plain_len 0 1 zs)))) none.1
+    (cond ((a == 96) && is_letter b) (word_read files at offset st (a ∷ zs)) (run_read at offset st (a ∷ zs) (plain_len 0 1 zs)))) none.1
     ∙ ap (λ t. cond t (word_read files at offset st (a ∷ zs)) (run_read at offset st (a ∷ zs) (plain_len 0 1 zs))) none.2
 
 -- a run at the front is read as one
@@ -391,7 +391,7 @@ does_block files at offset st inside rest first =
     ∙ ap (comment_read at st) (closed_is 0 0 inside rest (with_zero (inside ++ 42 ∷ []) first))
     ∙ ap (λ n. Ok (st, n))
     (let sum : length (inside ++ 42 ∷ 47 ∷ []) ≡ length inside + 2 = length-append inside (42 ∷ 47 ∷ []) in
-     let same : 2 + (0 + length inside + 2) ≡ length (47 ∷ 42 ∷ (inside ++ 42 ∷ 47 ∷ [])) = omega (arith, sum) in same)
+    let same : 2 + (0 + length inside + 2) ≡ length (47 ∷ 42 ∷ (inside ++ 42 ∷ 47 ∷ [])) = omega (arith, sum) in same)
 
 does_open : (files : List SourceFile) (at : Place) (offset : ℕ) (st : State) (inside : List ℕ) → HasNo ends_comment inside
     → turn files at offset st (47 ∷ 42 ∷ (inside ++ [])) ≡ Err (fault_at 12 at [])
@@ -435,14 +435,14 @@ does_is files at offset st cut rest r (FullRun is e short) =
 does_is files at offset st cut rest r (Directive word behind is word_is next read) =
     subst (λ xs. turn files at offset st (xs ++ rest) ≡ Ok (next, length xs)) (sym is)
     (ap (λ xs. turn files at offset st (96 ∷ xs)) (append_assoc word behind rest)
-     ∙ reads_word files at offset st word (behind ++ rest) word_is ∙ ap (behind_word word) read
-     ∙ ap (λ n. Ok (next, n))
-     (let sum : length (word ++ behind) ≡ length word + length behind = length-append word behind in
-      let same : 1 + length word + length behind ≡ length (96 ∷ (word ++ behind)) = omega (arith, sum) in same))
+    ∙ reads_word files at offset st word (behind ++ rest) word_is ∙ ap (behind_word word) read
+    ∙ ap (λ n. Ok (next, n))
+    (let sum : length (word ++ behind) ≡ length word + length behind = length-append word behind in
+    let same : 1 + length word + length behind ≡ length (96 ∷ (word ++ behind)) = omega (arith, sum) in same))
 does_is files at offset st cut rest r (BadDirective word behind is word_is e read) =
     subst (λ xs. turn files at offset st (xs ++ rest) ≡ Err e) (sym is)
     (ap (λ xs. turn files at offset st (96 ∷ xs)) (append_assoc word behind rest)
-     ∙ reads_word files at offset st word (behind ++ rest) word_is ∙ ap (behind_word word) read)
+    ∙ reads_word files at offset st word (behind ++ rest) word_is ∙ ap (behind_word word) read)
 
 -- and it isn't empty
 does_some : (files : List SourceFile) (at : Place) (offset : ℕ) (st : State) (cut rest : List ℕ) (r : Result State TextFault)

@@ -68,9 +68,9 @@ name_within rest =
     let n : ℕ = prefix_len is_word_byte (drop blank rest) in
     at (is_letter (slice_index (drop blank rest) 0)) (take n (drop blank rest)) (blank + n)
     (let first : blank ≤ length rest = prefix_len-le-length is_blank rest in
-     let second : n ≤ length (drop blank rest) = prefix_len-le-length is_word_byte (drop blank rest) in
-     let left : length (drop blank rest) ≡ length rest - blank = length-drop blank rest in
-     omega (arith, first, second, left))
+    let second : n ≤ length (drop blank rest) = prefix_len-le-length is_word_byte (drop blank rest) in
+    let left : length (drop blank rest) ≡ length rest - blank = length-drop blank rest in
+    omega (arith, first, second, left))
   where
     at : (t : Bool) (name : List ℕ) (k : ℕ) → k ≤ length rest → NameWithin rest (cond t (Some (name, k)) None)
     at true name k h = h

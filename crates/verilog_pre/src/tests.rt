@@ -108,6 +108,15 @@ fn runs_and_bodies_are_pieces(rt: HostRuntime) {
         )
     );
     assert!(rt; has_pieces(alloc, b"`define A x\r\n`A\r\n", &[b"\n", b"x", b"\r\n"]));
+    // A comment takes the backslash at its end with it; a reserved word may name a macro.
+    assert!(rt; has_pieces(alloc, b"`define A x // y \\\nz\n`A", &[b"\nz\n", b"x"]));
+    assert!(rt;
+        has_pieces(
+            alloc,
+            b"`define wire reg\n`wire a;",
+            &[b"\n", b"reg", b" a;"]
+        )
+    );
     assert!(rt; has_pieces(alloc, b"`define A 8'\n`A h1", &[b"\n", b"8'", b" h1"]));
 }
 
