@@ -391,14 +391,14 @@ fn a_link_given_up_is_open(rt: HostRuntime) -> Result<(), Fail> {
     given_up::<Brand, HostRuntime>(&rt, rt.alloc(), Blank::new(1))
 }
 
-/// The session's room of one entry is full after the open, and a close still has its place. The workers' room of one entry
-/// holds no claim, since a claim needs room for its install too.
+/// The session's room of one entry is full after the open, and a close still has its place: two places are all that
+/// these rooms reserve. Without a room for workers no claim is answered.
 #[test]
 fn a_room_of_one_entry(rt: HostRuntime) -> Result<(), Fail> {
     let alloc = rt.alloc();
     let rooms = Rooms {
         session: 1,
-        workers: 1,
+        workers: 0,
     };
     let mut boxed = Book::<TallyMachine>::new(alloc, 2, 1, rooms)?;
     let book: &mut Book<TallyMachine> = &mut boxed;

@@ -362,14 +362,23 @@ fn two_runs<L: Ledger, R: Abort>(rt: &R, alloc: Global, blank: Blank) -> Result<
     requires some { 0 < blank.parts }
 {
     let mut steps = Steps::<L>::start(blank);
-    // Marks at 0, 1, .. 6; at 0, 2, 3, 4, 6; at 0, 3, 6; at 0, 3, 4, 6; at 0, 3, 6.
-    for (interval, marks) in [(1, 7), (2, 5), (3, 3), (4, 4), (7, 3)] {
+    // Marks at 0, 1, .. 6; at 0, 2, 3, 4, 6; at 0, 3, 6; at 0, 3, 4, 6; at 0, 3, 6: how many, the last before cycle 6 and
+    // the first after cycle 0.
+    for (interval, marks, last, first) in [
+        (1, 7, 5, 1),
+        (2, 5, 4, 2),
+        (3, 3, 3, 3),
+        (4, 4, 4, 3),
+        (7, 3, 3, 3),
+    ] {
         let mut boxed = Book::<TallyMachine>::new(alloc, interval, 1, ROOMS)?;
         let book: &mut Book<TallyMachine> = &mut boxed;
         begin(book, adds(alloc, 1, 3)?)?;
         run(book, alloc, 3, &mut steps)?;
         run(book, alloc, 3, &mut steps)?;
         assert_eq!(rt; (book.marks(), current(book)?), (marks, 18));
+        assert_eq!(rt; reload(book, adds(alloc, 2, 4)?, &mut steps)?, last);
+        assert_eq!(rt; claim_one(book, alloc, 1)?, Ok((1, 0, first, 0)));
     }
     Ok(())
 }

@@ -2,7 +2,7 @@
 ghost use Rattle.std.specs.Prelude.{◌≤◌, length};
 
 use super::*;
-use ls_text::{Names, NoMemory, Refusal, SourceFile, TextBytes, fault_line};
+use ls_text::{Names, NoMemory, Place, Refusal, SourceFile, TextBytes, fault_line};
 use std::alloc::Global;
 
 // The pieces of two files.
@@ -195,6 +195,12 @@ fn uses_that_fail_are_refused(rt: HostRuntime) {
     assert!(rt; is_bad(alloc, b"a\r\n/* b", b"2:1 -\n"));
     assert!(rt; is_bad(alloc, b"a /*/", b"1:3 -\n"));
     assert!(rt; is_bad(alloc, b"`define A /* b\n`A", b"2:1 -\n"));
+    assert!(rt; is_bad(alloc, b"`define A `A\n`A", b"2:1 A\n"));
+    // Columns count bytes; skipped text is read for comments too; a fault stops the reading before a conditional is known to
+    // stay open.
+    assert!(rt; is_bad(alloc, b"/* \xc3\xa9 */ `x", b"1:10 x\n"));
+    assert!(rt; is_bad(alloc, b"`ifdef A\n/* x\n`endif", b"2:1 -\n"));
+    assert!(rt; is_bad(alloc, b"`ifndef A\n`B\n", b"2:1 B\n"));
 }
 
 #[test]
@@ -220,6 +226,13 @@ fn branches_that_fail_are_refused(rt: HostRuntime) {
     assert!(rt; is_bad(alloc, b"`ifdef A\n`endif\n`else", b"3:1 else\n"));
     assert!(rt; is_bad(alloc, b"`ifdef A\n`else\n`else\n`endif", b"3:1 else\n"));
     assert!(rt; is_bad(alloc, b"`ifdef A\n`else\n `elsif A\n`endif", b"3:2 elsif\n"));
+    assert!(rt;
+        is_bad(
+            alloc,
+            b"`ifdef A\n`ifdef B\n`else\n`else\n`endif\n`endif",
+            b"4:1 else\n"
+        )
+    );
     assert!(rt; is_bad(alloc, b" `ifdef A\n`ifdef B\n", b"1:2 ifdef\n"));
     assert!(rt; is_bad(alloc, b"`ifdef A\n`endif\n `ifndef B\n", b"3:2 ifndef\n"));
     assert!(rt;
@@ -306,19 +319,46 @@ fn too_much_is_refused(rt: HostRuntime) {
     );
 }
 
-// How many pieces two files have.
-fn piece_count(alloc: Global, first: &[u8], second: &[u8]) -> Option<usize>
+// The place in the second file.
+fn second(line: u32, col: u32) -> Place {
+    Place { file: 1, line, col }
+}
+
+// Whether two files have these pieces.
+fn are_pieces(alloc: Global, first: &[u8], second: &[u8], expected: &[Piece]) -> bool
     requires first { length first.now ≤ 4194304 }
     requires second { length second.now ≤ 4194304 }
 {
     match read(alloc, first, second) {
-        Ok(pieces) => Some(pieces.len()),
-        Err(_) => None,
+        Ok(pieces) => pieces.as_slice() == expected,
+        Err(_) => false,
     }
 }
 
+// The body stands in the first file, its use in the second.
 #[test]
 fn macros_carry_over(rt: HostRuntime) {
+    let run = Piece {
+        file: 1,
+        start: 0,
+        end: 2,
+        at: second(1, 1),
+        fixed: false,
+    };
+    let body = Piece {
+        file: 0,
+        start: 10,
+        end: 11,
+        at: second(2, 2),
+        fixed: true,
+    };
+    let rest = Piece {
+        file: 1,
+        start: 4,
+        end: 5,
+        at: second(2, 4),
+        fixed: false,
+    };
     let alloc = rt.alloc();
-    assert!(rt; piece_count(alloc, b"`define A x", b"`A") == Some(1));
+    assert!(rt; are_pieces(alloc, b"`define A x ", b"\n `A ", &[run, body, rest]));
 }
