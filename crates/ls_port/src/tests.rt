@@ -53,3 +53,12 @@ fn a_reader_and_a_writer_of_std_hand_their_bytes_on(rt: HostRuntime) -> Result<(
     assert!(rt; written.as_slice() == b"abc".as_slice());
     Ok(())
 }
+
+#[test]
+fn nobody_waits_at_an_open_gate(rt: HostRuntime) -> Result<(), Fail> {
+    let gate = OpenGate;
+    gate.before(1, GateStep::Verify);
+    gate.before(1, GateStep::Install);
+    assert!(rt; GateStep::Verify != GateStep::Install);
+    Ok(())
+}
