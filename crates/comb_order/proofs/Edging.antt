@@ -1,19 +1,19 @@
 -- Edges by masks are edges by bits.
-use Rattle.std.proofs.Common.{◌≡◌, ℕ, zero, suc, ◌+◌, ◌-◌, ◌%◌, ◌^◌, ◌<◌, ◌≤◌, ◌==◌, ◌⊎◌, inl, inr, min, Bool, true, false, ◌||◌, ◌&&◌, not, nat_lt, List, [], ◌∷◌, ◌++◌, length, refl, sym, ◌∙◌, ap, ap₂, subst, arith, true≢false}
+use Rattle.std.proofs.Common.{◌≡◌, ℕ, zero, suc, ◌+◌, ◌%◌, ◌^◌, ◌<◌, ◌≤◌, ◌==◌, ◌⊎◌, inl, inr, min, Bool, true, false, ◌||◌, ◌&&◌, not, nat_lt, List, [], ◌∷◌, length, refl, sym, ◌∙◌, ap, subst, arith, true≢false}
 use Rattle.std.specs.Prelude.{bit_and, slice_index}
 use Rattle.std.specs.declared.vec.Vec.{Vec}
 use Rattle.std.specs.Global.{Global}
 use Rattle.std.specs.Int.{bit_at}
 use Rattle.std.proofs.lemmas.Bool.{eqb-true, eqb-false, eq-eqb, ne_eqb, ltb-true, ltb-false, lt-ltb}
-use Rattle.std.proofs.lemmas.Nat.{pow_pos, mod_below}
+use Rattle.std.proofs.lemmas.Nat.{pow_pos}
 use Rattle.std.proofs.lemmas.Nat.Bits.{bit_at_and, bit_at-lt, bit_at-zero, same_from_bits_below}
 use Rattle.bits.proofs.Runs.{below_pow, bit_at-mod_in}
 use Rattle.typed_ir.specs.declared.touch.Touch.{Touch}
 use Rattle.typed_ir.specs.Valuations.{Places, nowhere}
-use Rattle.typed_ir.specs.Nodes.{FlatNode, node_drives, node_reads, drives_at, reads_at, are_legal, is_legal_node}
+use Rattle.typed_ir.specs.Nodes.{FlatNode, node_drives, drives_at, reads_at, are_legal, is_legal_node}
 use Rattle.typed_ir.specs.Orders.{Each, at_or, Precedes}
 use Rattle.typed_ir.specs.Flats.{NodeWritesFirst}
-use Rattle.typed_ir.specs.Touches.{has_bit, touched, mentions, is_block}
+use Rattle.typed_ir.specs.Touches.{has_bit, touched, mentions}
 use Rattle.typed_ir.proofs.Cases.{by_cases, left_or, right_or, and_left, and_right, and_both}
 use Rattle.typed_ir.proofs.Mentions.{reads_foreign, reads_mentioned, drive_reads, block_apart, drives_small}
 use Rattle.comb_order.specs.declared.drivers.Driver.{Driver}
@@ -26,20 +26,22 @@ use Rattle.comb_order.proofs.Tables.{row_past}
 -- some number below k passes the test, or none does
 find : (k : ℕ) (test : ℕ → Bool) → ((i : ℕ) × (i < k) × (test i ≡ true)) ⊎ ((i : ℕ) → i < k → test i ≡ false)
 find zero test = inr (λ i h. absurd (omega (arith, h)))
-find (suc k) test = elim (find k test) as (λ _. ((i : ℕ) × (i < suc k) × (test i ≡ true)) ⊎ ((i : ℕ) → i < suc k → test i ≡ false))
-    [ inl f ↦ (let small : f.0 < k = f.1 in inl (f.0, omega (arith, small), f.2))
-    | inr none ↦ by_cases (test k) (λ yes. inl (k, omega arith, yes))
-        (λ out. inr (λ i h. by_cases (i == k) (λ e. ap test (eqb-true i k e) ∙ out)
-            (λ n. none i (let apart : i ≡ k → ⊥ = eqb-false i k n in omega (arith, h, apart))))) ]
+find (suc k) test = elim (find k test) as (λ _. ((i : ℕ) × (i < suc k) × (test i ≡ true)) ⊎ ((i : ℕ) → i < suc k → test i ≡ false)) [
+  | inl f ↦ (let small : f.0 < k = f.1 in inl (f.0, omega (arith, small), f.2))
+  | inr none ↦ by_cases (test k) (λ yes. inl (k, omega arith, yes))
+      (λ out. inr (λ i h. by_cases (i == k) (λ e. ap test (eqb-true i k e) ∙ out)
+      (λ n. none i (let apart : i ≡ k → ⊥ = eqb-false i k n in omega (arith, h, apart)))))
+]
 
 -- the bits below 128 of a sum of masks
 both_bits : (m n i : ℕ) → i < 128 → bit_at (bit_and m n % 2 ^ 128) i ≡ min (bit_at m i) (bit_at n i)
 both_bits m n i h = bit_at-mod_in (bit_and m n) 128 i h ∙ bit_at_and m n i
 
 pub common_bit : (m n : ℕ) → common m n ≡ true → (i : ℕ) × (i < 128) × (has_bit m i ≡ true) × (has_bit n i ≡ true)
-common_bit m n h = elim (find 128 (λ i. has_bit m i && has_bit n i)) as (λ _. (i : ℕ) × (i < 128) × (has_bit m i ≡ true) × (has_bit n i ≡ true))
-    [ inl f ↦ (f.0, f.1, and_left (has_bit m f.0) (has_bit n f.0) f.2, and_right (has_bit m f.0) (has_bit n f.0) f.2)
-    | inr none ↦ absurd (never none) ]
+common_bit m n h = elim (find 128 (λ i. has_bit m i && has_bit n i)) as (λ _. (i : ℕ) × (i < 128) × (has_bit m i ≡ true) × (has_bit n i ≡ true)) [
+  | inl f ↦ (f.0, f.1, and_left (has_bit m f.0) (has_bit n f.0) f.2, and_right (has_bit m f.0) (has_bit n f.0) f.2)
+  | inr none ↦ absurd (never none)
+]
   where
     no_bit : (i : ℕ) → i < 128 → (has_bit m i && has_bit n i) ≡ false → bit_at (bit_and m n % 2 ^ 128) i ≡ bit_at 0 i
     no_bit i h out =
@@ -80,9 +82,13 @@ some_true (d ∷ ds) mask a h =
     let here = (a == d.node) && common d.mask mask in
     by_cases here
     (λ yes. let c : (i : ℕ) × (i < 128) × (has_bit d.mask i ≡ true) × (has_bit mask i ≡ true) =
-    common_bit d.mask mask (and_right (a == d.node) (common d.mask mask) yes) in
-    (c.0, c.1, left_or ((a == d.node) && has_bit d.mask c.0) (drives_in ds a c.0)
-    (and_both (a == d.node) (has_bit d.mask c.0) (and_left (a == d.node) (common d.mask mask) yes) c.2), c.3))
+    common_bit d.mask mask (and_right (a == d.node) (common d.mask mask) yes) in (
+      c.0,
+      c.1,
+      left_or ((a == d.node) && has_bit d.mask c.0) (drives_in ds a c.0)
+          (and_both (a == d.node) (has_bit d.mask c.0) (and_left (a == d.node) (common d.mask mask) yes) c.2),
+      c.3,
+    ))
     (λ out. let r : (i : ℕ) × (i < 128) × (drives_in ds a i ≡ true) × (has_bit mask i ≡ true) =
     some_true ds mask a (only_right here (drives_some ds mask a) out h) in
     (r.0, r.1, right_or ((a == d.node) && has_bit d.mask r.0) (drives_in ds a r.0) r.2, r.3))
@@ -107,9 +113,14 @@ any_true table (t ∷ ts) a h =
     let here = drives_some (row_in table t.signal) t.mask a in
     by_cases here
     (λ yes. let r : (i : ℕ) × (i < 128) × (drives_in (row_in table t.signal) a i ≡ true) × (has_bit t.mask i ≡ true) =
-    some_true (row_in table t.signal) t.mask a yes in
-    (t.signal, r.0, r.1, r.2, left_or ((t.signal == t.signal) && has_bit t.mask r.0) (touched ts t.signal r.0)
-    (and_both (t.signal == t.signal) (has_bit t.mask r.0) (eq-eqb t.signal t.signal refl) r.3)))
+    some_true (row_in table t.signal) t.mask a yes in (
+      t.signal,
+      r.0,
+      r.1,
+      r.2,
+      left_or ((t.signal == t.signal) && has_bit t.mask r.0) (touched ts t.signal r.0)
+          (and_both (t.signal == t.signal) (has_bit t.mask r.0) (eq-eqb t.signal t.signal refl) r.3),
+    ))
     (λ out. let r : Shared table ts a = any_true table ts a (only_right here (drives_any table ts a) out h) in
     (r.0, r.1, r.2, r.3, right_or ((r.0 == t.signal) && has_bit t.mask r.1) (touched ts r.0 r.1) r.4))
 
@@ -178,12 +189,16 @@ joins_sound nodes table ts a b is plain same h apart =
     let there : s < length table = by_cases (nat_lt s (length table)) (λ yes. ltb-true s (length table) yes)
     (λ out. absurd (true≢false (sym f.3 ∙ ap (λ r. drives_in r a i) (row_past table s (ltb-false s (length table) out))))) in
     let d : drives_at nodes a s i ≡ true = sym (is.drives a s i there f.2) ∙ f.3 in
-    let m : mentions_at nodes b s i ≡ true = sym (same s i f.2) ∙ f.4 in
-    (s, i, d, by_cases (block_at nodes b)
-    (λ block. by_cases (drives_at nodes b s i)
-    (λ own. absurd (true≢false (sym (and_both (block_at nodes b) (a == b) block (eq-eqb a b (plain.one a b s i d own))) ∙ apart)))
-    (λ foreign. at_foreign nodes b s i foreign m))
-    (λ drive. at_drive nodes b s i drive m))
+    let m : mentions_at nodes b s i ≡ true = sym (same s i f.2) ∙ f.4 in (
+      s,
+      i,
+      d,
+      by_cases (block_at nodes b)
+          (λ block. by_cases (drives_at nodes b s i)
+          (λ own. absurd (true≢false (sym (and_both (block_at nodes b) (a == b) block (eq-eqb a b (plain.one a b s i d own))) ∙ apart)))
+          (λ foreign. at_foreign nodes b s i foreign m))
+          (λ drive. at_drive nodes b s i drive m),
+    )
 
 joins_whole : (nodes : List FlatNode) (table : List (Vec Driver Global)) (ts : List Touch) (a b : ℕ) → IsTable nodes table → IsPlain nodes
     → ((s i : ℕ) → i < 128 → touched ts s i ≡ mentions_at nodes b s i)
@@ -196,8 +211,8 @@ joins_whole nodes table ts a b is plain same p =
     (any_whole table ts a s i place.1 (is.drives a s i place.0 place.1 ∙ p.2) (same s i place.1 ∙ at_mentioned nodes b s i p.3))
     (ap not (by_cases (block_at nodes b && (a == b))
     (λ own. absurd (true≢false (sym p.2
-        ∙ ap (λ k. drives_at nodes k s i) (eqb-true a b (and_right (block_at nodes b) (a == b) own))
-        ∙ plain.apart b s i (and_left (block_at nodes b) (a == b) own) p.3)))
+    ∙ ap (λ k. drives_at nodes k s i) (eqb-true a b (and_right (block_at nodes b) (a == b) own))
+    ∙ plain.apart b s i (and_left (block_at nodes b) (a == b) own) p.3)))
     (λ out. out)))
 
 edge_inside : (rows : List (List ℕ)) (a t : ℕ) → HasEdge rows a t → a < length rows
@@ -229,10 +244,12 @@ edges_step nodes table old new b ts is plain same long eq was = record {
       only_right (edge old a t) ((t == b) && (drives_any table ts a && not (block_at nodes b && (a == b)))) out joined in
       let here : t ≡ b = eqb-true t b (and_left (t == b) (drives_any table ts a && not (block_at nodes b && (a == b))) fresh) in
       let both : (drives_any table ts a && not (block_at nodes b && (a == b))) ≡ true =
-      and_right (t == b) (drives_any table ts a && not (block_at nodes b && (a == b))) fresh in
-      (omega (arith, here), subst (Before nodes a) (sym here)
-      (joins_sound nodes table ts a b is plain same (and_left (drives_any table ts a) (not (block_at nodes b && (a == b))) both)
-      (not_true (block_at nodes b && (a == b)) (and_right (drives_any table ts a) (not (block_at nodes b && (a == b))) both))))));
+      and_right (t == b) (drives_any table ts a && not (block_at nodes b && (a == b))) fresh in (
+        omega (arith, here),
+        subst (Before nodes a) (sym here)
+            (joins_sound nodes table ts a b is plain same (and_left (drives_any table ts a) (not (block_at nodes b && (a == b))) both)
+            (not_true (block_at nodes b && (a == b)) (and_right (drives_any table ts a) (not (block_at nodes b && (a == b))) both))),
+      )));
   whole = λ a t small p.
       (let there : a < length nodes = driver_there nodes a p.0 p.1 p.2 in
       let count : length old ≡ length nodes = was.size in
@@ -257,7 +274,7 @@ no_edges nodes rows size none = record {
   whole = λ a t small p. absurd (omega (arith, small));
 }
 
-reader_there : (nodes : List FlatNode) (b s i : ℕ) → reads_at nodes b s i ≡ true → b < length nodes
+pub reader_there : (nodes : List FlatNode) (b s i : ℕ) → reads_at nodes b s i ≡ true → b < length nodes
 reader_there [] b s i r = absurd (true≢false (sym r))
 reader_there (n ∷ ns) zero s i r = omega arith
 reader_there (n ∷ ns) (suc b) s i r = let h : b < length ns = reader_there ns b s i r in omega (arith, h)

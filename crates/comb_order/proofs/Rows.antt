@@ -1,11 +1,11 @@
 -- Rows in which no node stands twice.
-use Rattle.std.proofs.Common.{◌≡◌, ℕ, zero, suc, ◌+◌, ◌-◌, ◌<◌, ◌≤◌, ◌^◌, ◌==◌, Bool, true, false, ◌||◌, ◌&&◌, not, ◌⊎◌, inl, inr, nat_lt, List, [], ◌∷◌, ◌++◌, length, set, refl, sym, ◌∙◌, ap, ap₂, subst, arith, true≢false}
+use Rattle.std.proofs.Common.{◌≡◌, ℕ, suc, ◌+◌, ◌-◌, ◌<◌, ◌≤◌, ◌==◌, Bool, true, false, ◌||◌, ◌&&◌, not, ◌⊎◌, inl, inr, nat_lt, List, [], ◌∷◌, ◌++◌, length, set, refl, sym, ◌∙◌, ap, ap₂, subst, arith, true≢false}
 use Rattle.std.specs.Prelude.{slice_index}
 use Rattle.std.specs.declared.vec.Vec.{Vec}
 use Rattle.std.specs.Global.{Global}
 use Rattle.std.proofs.lemmas.Bool.{eqb-true, eqb-false, eq-eqb, ne_eqb, ltb-true, lt-ltb}
 use Rattle.std.proofs.lemmas.List.{length-append}
-use Rattle.typed_ir.proofs.Cases.{by_cases, and_left, and_right, and_both, left_or, right_or, or_both}
+use Rattle.typed_ir.proofs.Cases.{by_cases, and_left, and_right, and_both, left_or, right_or}
 use Rattle.comb_order.specs.Graphs.{times, row_at, rows_of, waiting}
 use Rattle.comb_order.specs.Driving.{row_in, edge, ends_with, IsRow, AreRows}
 use Rattle.comb_order.proofs.Counts.{times-at}
@@ -91,9 +91,9 @@ rows_next rows b h a = record {
 
 pub rows_empty : (rows : List (List ℕ)) (b : ℕ) → ((a : ℕ) → row_at rows a ≡ []) → AreRows b rows
 rows_empty rows b h a = subst (IsRow b) (sym (h a)) (record {
-    once = λ x. omega arith;
-    up_to = λ x some. absurd (omega (arith, some));
-    last = λ some. absurd (omega (arith, some));
+  once = λ x. omega arith;
+  up_to = λ x some. absurd (omega (arith, some));
+  last = λ some. absurd (omega (arith, some));
 })
 
 -- one row was written

@@ -1,10 +1,9 @@
 -- The nodes that drive bits of each signal, as the code keeps them, and the edges that they make.
-use Rattle.std.specs.Prelude.{◌≡◌, ℕ, zero, suc, ◌+◌, ◌-◌, ◌<◌, ◌≤◌, ◌%◌, ◌^◌, ◌==◌, Bool, true, false, not, ◌&&◌, ◌||◌, nat_lt, List, [], ◌∷◌, length, bit_and, slice_index}
+use Rattle.std.specs.Prelude.{◌≡◌, ℕ, zero, suc, ◌-◌, ◌<◌, ◌≤◌, ◌%◌, ◌^◌, ◌==◌, Bool, true, false, not, ◌&&◌, ◌||◌, nat_lt, List, [], ◌∷◌, length, bit_and, slice_index}
 use Rattle.std.specs.declared.vec.Vec.{Vec}
 use Rattle.std.specs.Global.{Global}
 use Rattle.typed_ir.specs.declared.touch.Touch.{Touch}
-use Rattle.typed_ir.specs.Valuations.{Places}
-use Rattle.typed_ir.specs.Nodes.{FlatNode, drives_at, reads_at, node_drives}
+use Rattle.typed_ir.specs.Nodes.{FlatNode, drives_at, reads_at}
 use Rattle.typed_ir.specs.Orders.{at_or, Precedes}
 use Rattle.typed_ir.specs.Touches.{has_bit, is_block}
 use Rattle.comb_order.specs.declared.drivers.Driver.{Driver}

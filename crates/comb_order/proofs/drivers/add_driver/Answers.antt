@@ -1,4 +1,4 @@
-use Rattle.std.proofs.Common.{◌≡◌, ◌++◌, ◌∷◌, [], ◌∙◌, ◌==◌, ◌&&◌, ◌||◌, sym, ap}
+use Rattle.std.proofs.Common.{◌++◌, ◌∷◌, [], ◌∙◌, ◌==◌, ◌&&◌, ◌||◌, sym, ap}
 use Rattle.typed_ir.specs.Touches.{has_bit}
 use Rattle.comb_order.specs.Driving.{drives_in}
 use Rattle.comb_order.proofs.Tables.{drives_merged, drives_both, drives_one}

@@ -1,4 +1,4 @@
-use Rattle.std.proofs.Common.{◌∙◌, ◌||◌, ◌&&◌, ◌==◌, ap, sym, arith}
+use Rattle.std.proofs.Common.{◌∙◌, ◌||◌, ◌&&◌, ◌==◌, ap, sym}
 use Rattle.typed_ir.specs.Touches.{has_bit}
 use Rattle.comb_order.specs.Driving.{drives_in}
 use Rattle.comb_order.proofs.Tables.{touch_added, row_read}

@@ -1,9 +1,9 @@
-use Rattle.std.proofs.Common.{◌≡◌, ◌<◌, ◌+◌, ◌∙◌, ◌||◌, ◌&&◌, ◌==◌, ◌++◌, take, drop, length, ap, ap₂, sym, arith}
+use Rattle.std.proofs.Common.{◌≡◌, ◌∙◌, ◌||◌, ◌&&◌, ◌==◌, ◌++◌, take, drop, length, ap, ap₂, sym, arith}
 use Rattle.typed_ir.specs.FlatNodes.{node_of}
 use Rattle.typed_ir.specs.Nodes.{node_drives}
 use Rattle.typed_ir.specs.Touches.{touched}
 use Rattle.comb_order.specs.Driving.{row_in, drives_in}
-use Rattle.comb_order.proofs.Tables.{written_back, drives_more, all_nodes}
+use Rattle.comb_order.proofs.Tables.{written_back, drives_more}
 use Rattle.comb_order.proofs.drivers.drivers_of.Goals as goal
 
 pub loop-k-preserved : goal.loop-k-preserved
@@ -15,7 +15,7 @@ loop-k-preserved c =
     written_back table.len new table.items (omega (arith, c.add_touches.auto.table, ap length c.deref_mut.ensures.value)) (omega (arith, c.add_touches.auto.table, c.deref_mut.ensures.len)) in
     record {
       length = (let e : length (take table.len (new ++ drop (length new) table.items)) ≡ length new = ap length whole in
-      omega (arith, e, c.add_touches.auto.table, ap length c.deref_mut.ensures.value, c.loop-k.invariant.length));
+          omega (arith, e, c.add_touches.auto.table, ap length c.deref_mut.ensures.value, c.loop-k.invariant.length));
       drives = λ a s i small low.
           (let k = c.loop-k.k in
           let own = node_drives (node_of x) s i in

@@ -1,5 +1,5 @@
 use Rattle.std.proofs.Common.{◌∙◌, ◌||◌, ◌==◌, ap, sym, subst, nat_lt}
-use Rattle.comb_order.specs.Graphs.{times, rows_of}
+use Rattle.comb_order.specs.Graphs.{times}
 use Rattle.comb_order.specs.Driving.{IsRow}
 use Rattle.comb_order.proofs.Tables.{rows_row, row_read}
 use Rattle.comb_order.proofs.Rows.{rows_set, edges_set, not_own}

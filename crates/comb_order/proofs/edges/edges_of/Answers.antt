@@ -9,7 +9,7 @@ use Rattle.comb_order.specs.Driving.{drives_any, edge, block_at, AreRows}
 use Rattle.comb_order.proofs.Counts.{length_rows}
 use Rattle.comb_order.proofs.Tables.{written_back}
 use Rattle.comb_order.proofs.Rows.{rows_next, rows_empty}
-use Rattle.comb_order.proofs.Edging.{AreEdges, mentions_at, edges_step, no_edges, all_edges}
+use Rattle.comb_order.proofs.Edging.{AreEdges, edges_step, no_edges, all_edges}
 use Rattle.comb_order.proofs.edges.edges_of.Goals as goal
 
 pub loop-b-preserved : goal.loop-b-preserved
@@ -26,7 +26,7 @@ loop-b-preserved c =
     c.is_block.ensures ∙ sym (at_read is_block false node_of nodes b x c.loop-b-test.true c.index-nodes-b.is) in
     record {
       size = (let e : length (take rows.len (new ++ drop (length new) rows.items)) ≡ length new = ap length whole in
-      omega (arith, e, same, c.loop-b.invariant.size));
+          omega (arith, e, same, c.loop-b.invariant.size));
       rows = subst (λ z. AreRows (b + 1) (rows_of z)) (sym whole) (rows_next (rows_of new) b c.in_ok-connect.ensures.rows);
       edges = subst (λ z. AreEdges (map node_of nodes) (b + 1) (rows_of z)) (sym whole)
           (edges_step (map node_of nodes) c.args.table.now (rows_of rows.items) (rows_of new) b c.note_reads.new.touches.items c.requires.table c.requires.plain
