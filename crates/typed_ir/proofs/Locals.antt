@@ -57,11 +57,11 @@ value_local (Choice c a b) v w h =
     (ap (λ n. n == 0) (value_local c v w (λ s i r. h s i (left_or (reads c s i) (reads a s i || reads b s i) r))))
     (λ t. value_local b v w (λ s i r. h s i (right_or (reads c s i) (reads a s i || reads b s i) (right_or (reads a s i) (reads b s i) r))))
     (λ t. value_local a v w (λ s i r. h s i (right_or (reads c s i) (reads a s i || reads b s i) (left_or (reads a s i) (reads b s i) r))))
-value_local (Concat a b) v w h =
+value_local (Concat width a b) v w h =
     ap₂ (λ x y. x * 2 ^ width_of b + y)
     (value_local a v w (λ s i r. h s i (left_or (reads a s i) (reads b s i) r)))
     (value_local b v w (λ s i r. h s i (right_or (reads a s i) (reads b s i) r)))
-value_local (Repeat count a) v w h = ap (copies count (width_of a)) (value_local a v w h)
+value_local (Repeat width count a) v w h = ap (copies count (width_of a)) (value_local a v w h)
 value_local (Resized a width signed) v w h = ap (λ x. resized (width_of a) x width signed) (value_local a v w h)
 
 -- ---- assignments

@@ -30,10 +30,10 @@ pub data Sized : Type 0 where
   Binary : (op : BinaryOperator) (a b : Sized) → Sized
   -- c ? a : b
   Choice : (c a b : Sized) → Sized
-  -- a above b
-  Concat : (a b : Sized) → Sized
-  -- so many copies of a
-  Repeat : (count : ℕ) (a : Sized) → Sized
+  -- a above b, at the width of both together
+  Concat : (width : ℕ) (a b : Sized) → Sized
+  -- so many copies of a, at the width of all together
+  Repeat : (width count : ℕ) (a : Sized) → Sized
   -- a at another width, extended by its sign where it is signed
   Resized : (a : Sized) (width : ℕ) (signed : Bool) → Sized
 
@@ -62,8 +62,8 @@ width_of (Pick signal width below signed index) = width
 width_of (Unary op a) = unary_width op (width_of a)
 width_of (Binary op a b) = binary_width op (width_of a)
 width_of (Choice c a b) = width_of a
-width_of (Concat a b) = width_of a + width_of b
-width_of (Repeat count a) = count * width_of a
+width_of (Concat width a b) = width
+width_of (Repeat width count a) = width
 width_of (Resized a width signed) = width
 
 -- ---- values
@@ -136,8 +136,8 @@ value_of (Pick signal width below signed index) env =
 value_of (Unary op a) env = apply_unary op (width_of a) (value_of a env)
 value_of (Binary op a b) env = apply_binary op (width_of a) (value_of a env) (value_of b env)
 value_of (Choice c a b) env = if value_of c env == 0 then value_of b env else value_of a env
-value_of (Concat a b) env = value_of a env * 2 ^ width_of b + value_of b env
-value_of (Repeat count a) env = copies count (width_of a) (value_of a env)
+value_of (Concat width a b) env = value_of a env * 2 ^ width_of b + value_of b env
+value_of (Repeat width count a) env = copies count (width_of a) (value_of a env)
 value_of (Resized a width signed) env = resized (width_of a) (value_of a env) width signed
 
 -- ---- reads
@@ -151,8 +151,8 @@ reads (Pick signal width below signed index) = λ s i. (s == signal) || reads in
 reads (Unary op a) = reads a
 reads (Binary op a b) = λ s i. reads a s i || reads b s i
 reads (Choice c a b) = λ s i. reads c s i || (reads a s i || reads b s i)
-reads (Concat a b) = λ s i. reads a s i || reads b s i
-reads (Repeat count a) = reads a
+reads (Concat width a b) = λ s i. reads a s i || reads b s i
+reads (Repeat width count a) = reads a
 reads (Resized a width signed) = reads a
 
 -- ---- widths that agree
@@ -167,7 +167,8 @@ takes_widths (Compare op) a b = a == b
 takes_widths (Logical op) a b = true
 takes_widths (Shift op) a b = true
 
--- whether the widths within an expression agree, and are 1 to 128
+-- whether the widths within an expression agree, and are 1 to 128; that of a concatenation is the sum of its parts', that of a
+-- replication so many times its part's (5.4.1)
 abbrev pub agrees : Sized → Bool
 agrees (Constant width value) = is_width width && nat_lt value (2 ^ width)
 agrees (Name signal width) = is_width width
@@ -176,8 +177,8 @@ agrees (Pick signal width below signed index) = is_width width && agrees index
 agrees (Unary op a) = agrees a
 agrees (Binary op a b) = takes_widths op (width_of a) (width_of b) && (agrees a && agrees b)
 agrees (Choice c a b) = (width_of a == width_of b) && (agrees c && (agrees a && agrees b))
-agrees (Concat a b) = nat_le (width_of a + width_of b) 128 && (agrees a && agrees b)
-agrees (Repeat count a) = nat_le 1 count && (nat_le (count * width_of a) 128 && agrees a)
+agrees (Concat width a b) = (width == width_of a + width_of b) && (nat_le width 128 && (agrees a && agrees b))
+agrees (Repeat width count a) = (width == count * width_of a) && (nat_le 1 count && (nat_le width 128 && agrees a))
 agrees (Resized a width signed) = is_width width && agrees a
 
 -- a signal has this number and width
@@ -199,6 +200,6 @@ fits_signals (Pick signal width below signed index) widths = nat_lt signal (leng
 fits_signals (Unary op a) widths = fits_signals a widths
 fits_signals (Binary op a b) widths = fits_signals a widths && fits_signals b widths
 fits_signals (Choice c a b) widths = fits_signals c widths && (fits_signals a widths && fits_signals b widths)
-fits_signals (Concat a b) widths = fits_signals a widths && fits_signals b widths
-fits_signals (Repeat count a) widths = fits_signals a widths
+fits_signals (Concat width a b) widths = fits_signals a widths && fits_signals b widths
+fits_signals (Repeat width count a) widths = fits_signals a widths
 fits_signals (Resized a width signed) widths = fits_signals a widths

@@ -1,5 +1,5 @@
 // What the operators make of values.
-ghost use Rattle.std.specs.Prelude.{◌≡◌, ◌≤◌, ◌*◌, IsTrue, unsigned_abs, MatchOption, if◌then◌else◌};
+ghost use Rattle.std.specs.Prelude.{◌≡◌, ◌≤◌, ◌+◌, ◌*◌, ◌^◌, IsTrue, unsigned_abs, MatchOption, if◌then◌else◌};
 ghost use Rattle.bits.specs.Runs.{selected};
 ghost use Rattle.typed_ir.specs.Sized.{apply_unary, unary_width, apply_binary, binary_width, apply_arithmetic, apply_comparison, apply_logical, apply_shift, takes_widths, place_of, copies};
 
@@ -155,22 +155,36 @@ pub fn picked(x: Bits, width: u8, below: u32, signed: bool, index: Bits) -> Bits
     }
 }
 
-/// So many copies of `x` after each other.
-pub fn copied(count: u8, x: Bits) -> Bits
+/// `upper` above `lower`, at the sum of their widths.
+pub fn joined(width: u8, upper: Bits, lower: Bits) -> Bits
+    requires sum { width ≡ upper.width + lower.width }
+    requires at_most_128 { width ≤ 128 }
+    ensures width { result.width ≡ width }
+    ensures value { result.value ≡ upper.value * 2 ^ lower.width + lower.value }
+{
+    Bits {
+        width,
+        value: upper.value << lower.width | lower.value,
+    }
+}
+
+/// So many copies of `x` after each other, at the width of all together.
+pub fn copied(width: u8, count: u8, x: Bits) -> Bits
+    requires product { width ≡ count * x.width }
     requires some { 1 ≤ count }
-    requires few { count * x.width ≤ 128 }
-    ensures width { result.width ≡ count * x.width }
+    requires at_most_128 { width ≤ 128 }
+    ensures width { result.width ≡ width }
     ensures value { result.value ≡ copies count x.width x.value }
 {
     if x.value == 0 {
-        return Bits::new(count * x.width, 0);
+        return Bits::new(width, 0);
     }
     if x.width == 1 {
-        return Bits::new(count, 0).not();
+        return Bits::new(width, 0).not();
     }
-    let mut all = x;
+    let mut all = x.value;
     for _done in 1..count {
-        all = all.concat(x);
+        all = all << x.width | x.value;
     }
-    all
+    Bits { width, value: all }
 }

@@ -4,12 +4,12 @@ ghost use Rattle.typed_ir.specs.Sized.{value_of, width_of, agrees, fits_signals,
 ghost use Rattle.typed_ir.specs.Forms.{sized};
 ghost use Rattle.typed_ir.specs.Views.{widths, env_of};
 
-use crate::apply::{apply_binary, apply_unary, copied, picked};
+use crate::apply::{apply_binary, apply_unary, copied, joined, picked};
 use crate::operators::{BinaryOperator, UnaryOperator};
 use crate::span::Span;
 use bits::Bits;
 
-/// A sized expression: what each part is, with the widths that can't be told from its parts.
+/// A sized expression: what each part is. A width is stored wherever it isn't that of a part or 1.
 #[derive(Drop)]
 pub enum Form {
     Constant(Bits),
@@ -23,9 +23,10 @@ pub enum Form {
     Binary(BinaryOperator, Box<Form>, Box<Form>),
     /// A condition, and what stands where it isn't 0 and where it is.
     Choice(Box<Form>, Box<Form>, Box<Form>),
-    /// The upper part, and the lower.
-    Concat(Box<Form>, Box<Form>),
-    Repeat(u8, Box<Form>),
+    /// The width, the upper part, and the lower.
+    Concat(u8, Box<Form>, Box<Form>),
+    /// The width, the number of copies, and the part.
+    Repeat(u8, u8, Box<Form>),
     /// At another width, extended by its sign where the flag is set.
     Resized(Box<Form>, u8, bool),
 }
@@ -65,8 +66,8 @@ impl Form {
             Form::Unary(op, a) => unary(*op, a, env),
             Form::Binary(op, a, b) => binary(*op, a, b, env),
             Form::Choice(c, a, b) => choice(c, a, b, env),
-            Form::Concat(a, b) => concat(a, b, env),
-            Form::Repeat(count, a) => repeat(*count, a, env),
+            Form::Concat(width, a, b) => concat(*width, a, b, env),
+            Form::Repeat(width, count, a) => repeat(*width, *count, a, env),
             Form::Resized(a, width, signed) => resized(a, *width, *signed, env),
         }
     }
@@ -85,8 +86,8 @@ impl Form {
             Form::Unary(_, a) => a.fits(env),
             Form::Binary(_, a, b) => a.fits(env) && b.fits(env),
             Form::Choice(c, a, b) => c.fits(env) && a.fits(env) && b.fits(env),
-            Form::Concat(a, b) => a.fits(env) && b.fits(env),
-            Form::Repeat(_, a) => a.fits(env),
+            Form::Concat(_, a, b) => a.fits(env) && b.fits(env),
+            Form::Repeat(_, _, a) => a.fits(env),
             Form::Resized(a, _, _) => a.fits(env),
         }
     }
@@ -146,24 +147,24 @@ fn choice(c: &Form, a: &Form, b: &Form, env: &[Bits]) -> Bits
 
 // One value above the other.
 #[cycle(value)]
-fn concat(a: &Form, b: &Form, env: &[Bits]) -> Bits
-    requires agrees { IsTrue (agrees (Concat (sized a.now) (sized b.now))) }
-    requires fits { IsTrue (fits_signals (Concat (sized a.now) (sized b.now)) (widths env.now)) }
-    ensures width { result.width ≡ width_of (Concat (sized a.now) (sized b.now)) }
-    ensures value { result.value ≡ value_of (Concat (sized a.now) (sized b.now)) (env_of env.now) }
+fn concat(width: u8, a: &Form, b: &Form, env: &[Bits]) -> Bits
+    requires agrees { IsTrue (agrees (Concat width (sized a.now) (sized b.now))) }
+    requires fits { IsTrue (fits_signals (Concat width (sized a.now) (sized b.now)) (widths env.now)) }
+    ensures width { result.width ≡ width_of (Concat width (sized a.now) (sized b.now)) }
+    ensures value { result.value ≡ value_of (Concat width (sized a.now) (sized b.now)) (env_of env.now) }
 {
-    a.value(env).concat(b.value(env))
+    joined(width, a.value(env), b.value(env))
 }
 
 // Copies of one value.
 #[cycle(value)]
-fn repeat(count: u8, a: &Form, env: &[Bits]) -> Bits
-    requires agrees { IsTrue (agrees (Repeat count (sized a.now))) }
-    requires fits { IsTrue (fits_signals (Repeat count (sized a.now)) (widths env.now)) }
-    ensures width { result.width ≡ width_of (Repeat count (sized a.now)) }
-    ensures value { result.value ≡ value_of (Repeat count (sized a.now)) (env_of env.now) }
+fn repeat(width: u8, count: u8, a: &Form, env: &[Bits]) -> Bits
+    requires agrees { IsTrue (agrees (Repeat width count (sized a.now))) }
+    requires fits { IsTrue (fits_signals (Repeat width count (sized a.now)) (widths env.now)) }
+    ensures width { result.width ≡ width_of (Repeat width count (sized a.now)) }
+    ensures value { result.value ≡ value_of (Repeat width count (sized a.now)) (env_of env.now) }
 {
-    copied(count, a.value(env))
+    copied(width, count, a.value(env))
 }
 
 // A value at another width.

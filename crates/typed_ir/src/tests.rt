@@ -363,6 +363,18 @@ fn replications(rt: HostRuntime) -> Result<(), Fail> {
     );
     let ones = Typed::repeat(rt.alloc(), 128, number(&rt, 1, 1))?;
     assert_eq!(rt; value_in(&rt, &ones, &env), ONES);
+    // {42{3'b101}}: 101101, and then 101101101101 ten times
+    let fives = Typed::repeat(rt.alloc(), 42, number(&rt, 3, 5))?;
+    assert_eq!(rt; fives.width, 126);
+    assert_eq!(rt;
+        value_in(&rt, &fives, &env),
+        0x2d_b6db6d_b6db6d_b6db6d_b6db6d_b6db6d
+    );
+    let zeros = Typed::repeat(rt.alloc(), 42, number(&rt, 3, 0))?;
+    assert_eq!(rt; zeros.width, 126);
+    assert_eq!(rt; value_in(&rt, &zeros, &env), 0);
+    let once = Typed::repeat(rt.alloc(), 1, Typed::name(1, 128))?;
+    assert_eq!(rt; value_in(&rt, &once, &env), TOP + 1);
     Ok(())
 }
 

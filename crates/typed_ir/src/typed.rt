@@ -139,12 +139,12 @@ impl Typed {
     pub fn concat(alloc: Global, high: Typed, low: Typed) -> Result<Typed, NoMemory>
         requires { high.width + low.width ≤ 128 }
         ensures width { IfOk result (λ e. e.width ≡ high.width + low.width) }
-        ensures form { IfOk result (λ e. sized e.form ≡ Concat (sized high.form) (sized low.form)) }
+        ensures form { IfOk result (λ e. sized e.form ≡ Concat (high.width + low.width) (sized high.form) (sized low.form)) }
     {
         let width = high.width + low.width;
         let upper = Box::new(alloc, high.form)?;
         let lower = Box::new(alloc, low.form)?;
-        let form = Form::Concat(upper, lower);
+        let form = Form::Concat(width, upper, lower);
         Ok(Typed { width, form })
     }
 
@@ -153,10 +153,10 @@ impl Typed {
         requires some { 1 ≤ count }
         requires few { count * a.width ≤ 128 }
         ensures width { IfOk result (λ e. e.width ≡ count * a.width) }
-        ensures form { IfOk result (λ e. sized e.form ≡ Repeat count (sized a.form)) }
+        ensures form { IfOk result (λ e. sized e.form ≡ Repeat (count * a.width) count (sized a.form)) }
     {
         let width = count * a.width;
-        let form = Form::Repeat(count, Box::new(alloc, a.form)?);
+        let form = Form::Repeat(width, count, Box::new(alloc, a.form)?);
         Ok(Typed { width, form })
     }
 
