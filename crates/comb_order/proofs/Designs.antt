@@ -9,7 +9,7 @@ use Rattle.typed_ir.specs.declared.flat.Flat.{Flat as Flat'}
 use Rattle.typed_ir.specs.declared.signal.Signal.{Signal as Signal'}
 use Rattle.typed_ir.specs.Flats.{signal_widths}
 use Rattle.typed_ir.specs.Linkeds.{flat}
-use Rattle.typed_ir.specs.Nodes.{FlatNode, drives_at, reads_at, IsOrder}
+use Rattle.typed_ir.specs.Nodes.{FlatNode, drives_at, reads_at, IsOrder, are_legal}
 use Rattle.typed_ir.specs.Orders.{EachAfter, IsOrderOf, Precedes}
 use Rattle.comb_order.specs.declared.drivers.Driver.{Driver}
 use Rattle.comb_order.specs.declared.refusing.OrderRefusal.{OrderRefusal}
@@ -120,15 +120,20 @@ design_plain design = record {
   apart = λ b s i block r. ∥∥₁_elim design.sound (hlevel props) (λ f. at_apart (flat design).nodes f.first b s i block r);
 }
 
-pub design_table : (design : Flat') (table : List (Vec Driver Global)) → length table ≡ length design.signals.items
-    → ((a s i : ℕ) → s < length design.signals.items → i < 128 → drives_in (row_in table s) a i ≡ drives_at (flat design).nodes a s i)
-    → IsTable (flat design).nodes table
-design_table design table long drives = record {
+pub parts_table : (signals : List Signal') (nodes : List FlatNode) (table : List (Vec Driver Global)) → are_legal nodes (signal_widths signals) ≡ true
+    → length table ≡ length signals
+    → ((a s i : ℕ) → s < length signals → i < 128 → drives_in (row_in table s) a i ≡ drives_at nodes a s i)
+    → IsTable nodes table
+parts_table signals nodes table legal long drives = record {
   inside = λ a s i d.
-      (let h : (s < length (signal_widths design.signals.items)) × (i < 128) =
-      at_small (flat design).nodes (signal_widths design.signals.items) (narrow design.signals.items) design.legal a s i d in
-      let e : length (signal_widths design.signals.items) ≡ length design.signals.items = widths_long design.signals.items in
-      let there : s < length (signal_widths design.signals.items) = h.0 in
+      (let h : (s < length (signal_widths signals)) × (i < 128) = at_small nodes (signal_widths signals) (narrow signals) legal a s i d in
+      let e : length (signal_widths signals) ≡ length signals = widths_long signals in
+      let there : s < length (signal_widths signals) = h.0 in
       (omega (arith, there, e, long), h.1));
   drives = λ a s i h low. drives a s i (omega (arith, h, long)) low;
 }
+
+pub design_table : (design : Flat') (table : List (Vec Driver Global)) → length table ≡ length design.signals.items
+    → ((a s i : ℕ) → s < length design.signals.items → i < 128 → drives_in (row_in table s) a i ≡ drives_at (flat design).nodes a s i)
+    → IsTable (flat design).nodes table
+design_table design table long drives = parts_table design.signals.items (flat design).nodes table design.legal long drives

@@ -10,8 +10,8 @@ use no_memory::NoMemory;
 use std::alloc::Global;
 use typed_ir::{Node, Touch, note_reads};
 
-// Whether two masks have a bit in common.
-fn meet(a: u128, b: u128) -> bool
+/// Whether two masks have a bit in common.
+pub fn meet(a: u128, b: u128) -> bool
     ensures { result ≡ common a b }
 {
     a & b != 0
@@ -89,8 +89,8 @@ fn connect_signal(
     Ok(())
 }
 
-// The drivers of a signal; none where there is no such signal.
-fn drivers_at(table: &[Vec<Driver>], signal: u32) -> &[Driver]
+/// The drivers of a signal; none where there is no such signal.
+pub fn drivers_at(table: &[Vec<Driver>], signal: u32) -> &[Driver]
     ensures { result.now ≡ row_in table.now signal }
 {
     let index = signal as usize;

@@ -67,8 +67,8 @@ fn note_form(form: &Form, touches: &mut Vec<Touch>) -> Result<(), NoMemory>
             note_signal(*signal, touches)?;
             note_form(index, touches)
         }
-        Form::Unary(_, a) | Form::Repeat(_, a) | Form::Resized(a, _, _) => note_form(a, touches),
-        Form::Binary(_, a, b) | Form::Concat(a, b) => {
+        Form::Unary(_, a) | Form::Repeat(_, _, a) | Form::Resized(a, _, _) => note_form(a, touches),
+        Form::Binary(_, a, b) | Form::Concat(_, a, b) => {
             note_form(a, touches)?;
             note_form(b, touches)
         }
