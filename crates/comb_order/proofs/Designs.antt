@@ -1,6 +1,6 @@
 -- What is so of the graph is so of the nodes.
 use Rattle.std.proofs.Common.{◌≡◌, ℕ, zero, suc, ◌<◌, ◌≤◌, ◌^◌, true, List, [], ◌∷◌, length, refl, sym, ◌∙◌, ap, subst, arith, true≢false}
-use Rattle.std.specs.Prelude.{slice_index}
+use Rattle.std.specs.Prelude.{All, slice_index}
 use Rattle.std.specs.declared.vec.Vec.{Vec}
 use Rattle.std.specs.Global.{Global}
 use Rattle.std.proofs.Math.Logic.{∥∥₁_elim}
@@ -10,7 +10,7 @@ use Rattle.typed_ir.specs.declared.signal.Signal.{Signal as Signal'}
 use Rattle.typed_ir.specs.Flats.{signal_widths}
 use Rattle.typed_ir.specs.Linkeds.{flat}
 use Rattle.typed_ir.specs.Nodes.{FlatNode, drives_at, reads_at, IsOrder, are_legal}
-use Rattle.typed_ir.specs.Orders.{EachAfter, IsOrderOf, Precedes}
+use Rattle.typed_ir.specs.Orders.{Member, EachAfter, IsOrderOf, Precedes}
 use Rattle.comb_order.specs.declared.drivers.Driver.{Driver}
 use Rattle.comb_order.specs.declared.refusing.OrderRefusal.{OrderRefusal}
 use Rattle.comb_order.specs.declared.refusing.OrderRefusal.TheVariants.{Loop, NoMemory}
@@ -137,3 +137,12 @@ pub design_table : (design : Flat') (table : List (Vec Driver Global)) → lengt
     → ((a s i : ℕ) → s < length design.signals.items → i < 128 → drives_in (row_in table s) a i ≡ drives_at (flat design).nodes a s i)
     → IsTable (flat design).nodes table
 design_table design table long drives = parts_table design.signals.items (flat design).nodes table design.legal long drives
+
+-- what an order lists is in range
+pub all_of : (P : ℕ → Type 0) (xs : List ℕ) → ((k : ℕ) → Member k xs → P k) → All P xs
+all_of P xs h k d small = h (get_or xs k d) (member_at xs k d small)
+  where
+    member_at : (xs : List ℕ) (k d : ℕ) → k < length xs → Member (get_or xs k d) xs
+    member_at [] k d small = omega (arith, small)
+    member_at (x ∷ xs) zero d small = inl refl
+    member_at (x ∷ xs) (suc k) d small = inr (member_at xs k d (omega (arith, small)))

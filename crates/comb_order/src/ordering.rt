@@ -12,7 +12,7 @@ use crate::edges::edges_of;
 use crate::refusing::{OrderRefusal, ordered};
 use no_memory::NoMemory;
 use std::alloc::Global;
-use typed_ir::Flat;
+use typed_ir::{Flat, Linked};
 
 // The graph of a design's nodes.
 fn graph_of(alloc: Global, design: &Flat) -> Result<Vec<Vec<u32>>, NoMemory>
@@ -39,4 +39,16 @@ pub fn order(alloc: Global, design: &Flat) -> Result<Vec<u32>, OrderRefusal>
         Err(_) => return Err(OrderRefusal::NoMemory),
     };
     ordered(alloc, &graph)
+}
+
+/// The design with an order of its nodes; or the loop, as `order` says.
+pub fn linked(alloc: Global, design: Flat) -> Result<Linked, OrderRefusal>
+    ensures design { IfOk result (λ linked. linked.design ≡ design) }
+    ensures refusal { IfErr result (λ refusal.
+        IsRefusal (Precedes (drives_at (flat design).nodes) (reads_at (flat design).nodes)) (length (flat design).nodes) refusal) }
+{
+    match order(alloc, &design) {
+        Ok(order) => Ok(Linked { design, order }),
+        Err(refusal) => Err(refusal),
+    }
 }

@@ -1,4 +1,4 @@
-use Rattle.std.proofs.Common.{◌≡◌, map, drop}
+use Rattle.std.proofs.Common.{◌≡◌, drop}
 use Rattle.typed_ir.specs.Flats.{are_below}
 use Rattle.comb_order.proofs.legal.are_below.Given as goal
 

@@ -1,4 +1,4 @@
-use Rattle.std.proofs.Common.{◌≡◌, map, drop}
+use Rattle.std.proofs.Common.{◌≡◌, drop}
 use Rattle.typed_ir.specs.Flats.{are_clocked}
 use Rattle.typed_ir.specs.Views.{widths}
 use Rattle.comb_order.proofs.legal.are_clocked.Given as goal

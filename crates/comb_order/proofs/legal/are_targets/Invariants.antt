@@ -1,4 +1,4 @@
-use Rattle.std.proofs.Common.{◌≡◌, map, drop}
+use Rattle.std.proofs.Common.{◌≡◌, drop}
 use Rattle.typed_ir.specs.Stmts.{are_targets}
 use Rattle.typed_ir.specs.Targets.{targets_of}
 use Rattle.typed_ir.specs.Views.{widths}

@@ -1,4 +1,4 @@
-use Rattle.std.proofs.Common.{◌≡◌, map, drop}
+use Rattle.std.proofs.Common.{◌≡◌, drop}
 use Rattle.comb_order.specs.Parts.{is_member}
 use Rattle.comb_order.proofs.members.is_member.Given as goal
 

@@ -1,4 +1,4 @@
-use Rattle.std.proofs.Common.{◌≡◌, map, drop}
+use Rattle.std.proofs.Common.{◌≡◌, drop}
 use Rattle.comb_order.specs.Parts.{none_in}
 use Rattle.comb_order.proofs.members.none_in.Given as goal
 

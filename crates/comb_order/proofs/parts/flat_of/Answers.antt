@@ -1,4 +1,4 @@
-use Rattle.std.proofs.Common.{Vec, ◌≡◌, ◌<◌, ◌&&◌, ◌∙◌, ℕ, Bool, List, true, map, length, sym, ap, subst, arith, rules}
+use Rattle.std.proofs.Common.{Vec, ◌≡◌, ◌&&◌, ◌∙◌, ℕ, List, true, map, length, sym, ap, subst, arith, rules}
 use Rattle.std.specs.Global.{Global}
 use Rattle.typed_ir.specs.Flats.{signal_widths, are_clocked, are_below, flat_from}
 use Rattle.typed_ir.specs.FlatNodes.{node_of}

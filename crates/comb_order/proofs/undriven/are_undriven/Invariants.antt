@@ -1,4 +1,4 @@
-use Rattle.std.proofs.Common.{◌≡◌, map, drop}
+use Rattle.std.proofs.Common.{◌≡◌, drop}
 use Rattle.comb_order.specs.Parts.{are_undriven}
 use Rattle.comb_order.proofs.undriven.are_undriven.Given as goal
 

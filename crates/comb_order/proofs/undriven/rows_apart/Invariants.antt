@@ -1,4 +1,4 @@
-use Rattle.std.proofs.Common.{◌≡◌, map, drop}
+use Rattle.std.proofs.Common.{◌≡◌, drop}
 use Rattle.comb_order.specs.Parts.{rows_apart}
 use Rattle.comb_order.proofs.undriven.rows_apart.Given as goal
 
