@@ -21,10 +21,6 @@ rows_of graph = map (λ (r : Vec ℕ Global). r.items) graph
 abbrev pub HasEdge : List (List ℕ) → ℕ → ℕ → Type 0
 HasEdge rows a b = 0 < times b (row_at rows a)
 
--- what can be placed: all that comes before it can be
-pub data Placeable (rows : List (List ℕ)) : ℕ → Type 0 where
-  Place : (k : ℕ) → ((a : ℕ) → HasEdge rows a k → Placeable rows a) → Placeable rows k
-
 -- the counts after the nodes of a row have lost one predecessor each
 abbrev pub lowered : List ℕ → (ℕ → ℕ) → ℕ → ℕ
 lowered [] c = c

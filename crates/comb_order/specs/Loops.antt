@@ -1,35 +1,39 @@
--- The loop of a graph that has no order.
-use Rattle.std.specs.Prelude.{◌≡◌, ℕ, zero, suc, ◌+◌, ◌<◌, List, [], ◌∷◌, length, Bool, not, ◌&&◌, nat_lt, if◌then◌else◌}
+-- The loop of nodes that have no order, by what comes before what.
+use Rattle.std.specs.Prelude.{◌≡◌, ℕ, zero, suc, ◌+◌, ◌<◌, List, [], ◌∷◌, Bool, not, ◌&&◌, nat_lt, if◌then◌else◌}
 use Rattle.typed_ir.specs.Orders.{Member, Distinct}
 use Rattle.typed_ir.specs.Valuations.{put}
-use Rattle.comb_order.specs.Graphs.{times, HasEdge, Placeable}
+use Rattle.comb_order.specs.Graphs.{times, HasEdge}
 
 -- the least number of which P is true
 abbrev pub IsLeast : (ℕ → Type 0) → ℕ → Type 0
 IsLeast P k = P k × ((j : ℕ) → j < k → P j → ⊥)
 
--- a node that can't be placed
-abbrev pub IsStuck : List (List ℕ) → ℕ → Type 0
-IsStuck rows k = (k < length rows) × (Placeable rows k → ⊥)
+-- what can be placed: all that comes before it can be
+pub data Placeable (before : ℕ → ℕ → Type 0) : ℕ → Type 0 where
+  Place : (k : ℕ) → ((a : ℕ) → before a k → Placeable before a) → Placeable before k
+
+-- one of so many that can't be placed
+abbrev pub IsStuck : (ℕ → ℕ → Type 0) → ℕ → ℕ → Type 0
+IsStuck before count k = (k < count) × (Placeable before k → ⊥)
 
 -- from a node to its least predecessor that can't be placed
-abbrev pub Next : List (List ℕ) → ℕ → ℕ → Type 0
-Next rows k a = IsLeast (λ j. IsStuck rows j × HasEdge rows j k) a
+abbrev pub Next : (ℕ → ℕ → Type 0) → ℕ → ℕ → ℕ → Type 0
+Next before count k a = IsLeast (λ j. IsStuck before count j × before j k) a
 
 -- from one node over these to another, step by step
-abbrev pub IsWalk : List (List ℕ) → ℕ → List ℕ → ℕ → Type 0
-IsWalk rows a [] b = a ≡ b
-IsWalk rows a (x ∷ xs) b = (a ≡ x) × ((n : ℕ) × Next rows x n × IsWalk rows n xs b)
+abbrev pub IsWalk : (ℕ → ℕ → Type 0) → ℕ → ℕ → List ℕ → ℕ → Type 0
+IsWalk before count a [] b = a ≡ b
+IsWalk before count a (x ∷ xs) b = (a ≡ x) × ((n : ℕ) × Next before count x n × IsWalk before count n xs b)
 
 -- the walk from the least node that can't be placed ends in this circle, which is listed from its least node along predecessors
-pub record IsLoop (rows : List (List ℕ)) (first : ℕ) (rest : List ℕ) : Type 0 where
+pub record IsLoop (before : ℕ → ℕ → Type 0) (count : ℕ) (first : ℕ) (rest : List ℕ) : Type 0 where
   pub start : ℕ
   pub lead : List ℕ
   pub enters : ℕ
-  pub starts : IsLeast (IsStuck rows) start
-  pub walks : IsWalk rows start lead enters
+  pub starts : IsLeast (IsStuck before count) start
+  pub walks : IsWalk before count start lead enters
   pub on : Member enters (first ∷ rest)
-  pub circle : IsWalk rows first (first ∷ rest) first
+  pub circle : IsWalk before count first (first ∷ rest) first
   pub once : Distinct (first ∷ rest)
   pub least : (k : ℕ) → Member k rest → first < k
 

@@ -79,7 +79,7 @@ pub fn place_nodes(alloc: Global, graph: &[Vec<u32>]) -> Result<Placing, AllocEr
 
 /// Where an order exists no node can't be placed, and none is on a circle.
 pub fn order_says()
-    ensures placed { (rows : List (List ℕ)) (order : List ℕ) → IsOrderOf (HasEdge rows) (length rows) order → (t : ℕ) → IsStuck rows t → ⊥ }
+    ensures placed { (rows : List (List ℕ)) (order : List ℕ) → IsOrderOf (HasEdge rows) (length rows) order → (t : ℕ) → IsStuck (HasEdge rows) (length rows) t → ⊥ }
     ensures circle { (rows : List (List ℕ)) (order : List ℕ) → IsOrderOf (HasEdge rows) (length rows) order
         → (a n : ℕ) → a < length rows → Path rows a n a → ⊥ }
 {}

@@ -5,6 +5,8 @@ mod as_machine;
 mod carrying;
 mod cycle;
 mod design;
+#[cfg(test)]
+mod design_tests;
 mod no_row;
 mod run;
 mod state;

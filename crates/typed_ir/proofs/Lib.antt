@@ -9,3 +9,5 @@ pub mod Views
 pub mod Lists
 pub mod Steps
 pub mod Ready
+pub mod Masks
+pub mod Mentions

@@ -12,3 +12,4 @@ pub mod FlatNodes
 pub mod Flats
 pub mod Linkeds
 pub mod States
+pub mod Touches

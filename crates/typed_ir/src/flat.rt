@@ -1,5 +1,5 @@
 // Flat designs.
-ghost use Rattle.std.specs.Prelude.{IsTrue, map, length};
+ghost use Rattle.std.specs.Prelude.{◌<◌, ◌^◌, IsTrue, map, length};
 ghost use Rattle.typed_ir.specs.Nodes.{are_legal};
 ghost use Rattle.typed_ir.specs.FlatNodes.{node_of};
 ghost use Rattle.typed_ir.specs.Flats.{signal_widths, are_clocked, are_below, flat_from, IsFlat};
@@ -23,5 +23,6 @@ pub struct Flat {
     ghost blocks: { IsTrue (are_clocked clocked.items (signal_widths signals.items)) },
     ghost registers_there: { IsTrue (are_below registers.items (length signals.items)) },
     ghost inputs_there: { IsTrue (are_below inputs.items (length signals.items)) },
+    ghost few: { length nodes.items < 2 ^ 32 },
     ghost sound: { ∥ IsFlat (flat_from signals.items registers.items inputs.items nodes.items clocked.items) ∥₁ },
 }

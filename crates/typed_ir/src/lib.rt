@@ -20,6 +20,7 @@ mod target;
 #[cfg(test)]
 mod tests;
 mod touch;
+mod touching;
 mod typed;
 mod update;
 
@@ -41,5 +42,6 @@ pub use span::Span;
 pub use stmt::{Item, Stmt};
 pub use target::Target;
 pub use touch::Touch;
+pub use touching::{note_drives, note_reads};
 pub use typed::{Typed, fits, value};
 pub use update::Update;

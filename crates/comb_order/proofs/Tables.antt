@@ -1,0 +1,151 @@
+-- Tables by rows, and the drivers of a signal.
+use Rattle.std.proofs.Common.{◌≡◌, ℕ, zero, suc, ◌+◌, ◌<◌, ◌≤◌, ◌==◌, Bool, true, false, ◌||◌, ◌&&◌, List, [], ◌∷◌, ◌++◌, length, map, take, drop, get_or, set, refl, sym, ◌∙◌, ap, ap₂, arith, append-nil}
+use Rattle.std.proofs.lemmas.List.{drop_all, take_all}
+use Rattle.std.specs.declared.vec.Vec.{Vec}
+use Rattle.std.specs.Global.{Global}
+use Rattle.std.specs.Prelude.{bit_or}
+use Rattle.std.specs.Int.{bit_at}
+use Rattle.std.proofs.lemmas.Bool.{eqb-true, eqb-false, eq-eqb, ne_eqb}
+use Rattle.std.proofs.lemmas.Nat.Bits.{bit_at_or, bit_at-lt}
+use Rattle.typed_ir.specs.declared.node.Node.{Node}
+use Rattle.typed_ir.specs.FlatNodes.{node_of}
+use Rattle.typed_ir.specs.Nodes.{drives_at, node_drives}
+use Rattle.typed_ir.specs.Touches.{has_bit}
+use Rattle.typed_ir.proofs.Cases.{by_cases}
+use Rattle.comb_order.specs.declared.drivers.Driver.{Driver}
+use Rattle.comb_order.specs.Graphs.{row_at, rows_of}
+use Rattle.comb_order.specs.Driving.{row_in, drives_in}
+
+-- ---- rows
+
+pub rows_row : (g : List (Vec ℕ Global)) (k : ℕ) → row_at (rows_of g) k ≡ row_in g k
+rows_row [] k = refl
+rows_row (r ∷ rs) zero = refl
+rows_row (r ∷ rs) (suc k) = rows_row rs k
+
+pub row_same : {A : Type 0} (table : List (Vec A Global)) (k : ℕ) (r : Vec A Global) → k < length table → row_in (set table k r) k ≡ r.items
+row_same [] k r h = absurd (omega (arith, h))
+row_same (x ∷ xs) zero r h = refl
+row_same (x ∷ xs) (suc k) r h = row_same xs k r (omega (arith, h))
+
+pub row_other : {A : Type 0} (table : List (Vec A Global)) (k s : ℕ) (r : Vec A Global) → (s ≡ k → ⊥) → row_in (set table k r) s ≡ row_in table s
+row_other [] k s r h = refl
+row_other (x ∷ xs) zero zero r h = absurd (h refl)
+row_other (x ∷ xs) zero (suc s) r h = refl
+row_other (x ∷ xs) (suc k) zero r h = refl
+row_other (x ∷ xs) (suc k) (suc s) r h = row_other xs k s r (λ e. h (ap suc e))
+
+pub row_read : {A : Type 0} (table : List (Vec A Global)) (k : ℕ) (r : Vec A Global) → k < length table → row_in table k ≡ (get_or table k r).items
+row_read [] k r h = absurd (omega (arith, h))
+row_read (x ∷ xs) zero r h = refl
+row_read (x ∷ xs) (suc k) r h = row_read xs k r (omega (arith, h))
+
+-- past the end there is none
+pub row_past : {A : Type 0} (table : List (Vec A Global)) (k : ℕ) → length table ≤ k → row_in table k ≡ []
+row_past [] k h = refl
+row_past (x ∷ xs) zero h = absurd (omega (arith, h))
+row_past (x ∷ xs) (suc k) h = row_past xs k (omega (arith, h))
+
+-- one more empty row
+pub row_more : {A : Type 0} (table : List (Vec A Global)) (r : Vec A Global) → r.items ≡ [] → ((s : ℕ) → row_in table s ≡ []) → (s : ℕ) → row_in (table ++ r ∷ []) s ≡ []
+row_more [] r e h zero = e
+row_more [] r e h (suc s) = refl
+row_more (x ∷ xs) r e h zero = h zero
+row_more (x ∷ xs) r e h (suc s) = row_more xs r e (λ k. h (suc k)) s
+
+-- ---- drivers
+
+or_assoc : (a b c : Bool) → ((a || b) || c) ≡ (a || (b || c))
+or_assoc true b c = refl
+or_assoc false b c = refl
+
+or_none : (a : Bool) → (a || false) ≡ a
+or_none true = refl
+or_none false = refl
+
+and_or : (a b c : Bool) → (a && (b || c)) ≡ ((a && b) || (a && c))
+and_or true b c = refl
+and_or false b c = refl
+
+pub drives_both : (xs ys : List Driver) (a i : ℕ) → drives_in (xs ++ ys) a i ≡ (drives_in xs a i || drives_in ys a i)
+drives_both [] ys a i = refl
+drives_both (x ∷ xs) ys a i =
+    ap (λ t. ((a == x.node) && has_bit x.mask i) || t) (drives_both xs ys a i)
+    ∙ sym (or_assoc ((a == x.node) && has_bit x.mask i) (drives_in xs a i) (drives_in ys a i))
+
+pub drives_one : (d : Driver) (a i : ℕ) → drives_in (d ∷ []) a i ≡ ((a == d.node) && has_bit d.mask i)
+drives_one d a i = or_none ((a == d.node) && has_bit d.mask i)
+
+-- the bits of two masks together
+pub has_either : (m n i : ℕ) → has_bit (bit_or m n) i ≡ (has_bit m i || has_bit n i)
+has_either m n i =
+    let e = bit_at_or m n i in
+    let s : bit_at m i < 2 = bit_at-lt m i in
+    let t : bit_at n i < 2 = bit_at-lt n i in
+    grind (arith, e, s, t)
+
+-- the last driver's mask takes more bits
+pub drives_merged : (xs : List Driver) (node m n a i : ℕ)
+    → drives_in (xs ++ record { node = node; mask = bit_or m n } ∷ []) a i
+    ≡ (drives_in (xs ++ record { node = node; mask = m } ∷ []) a i || ((a == node) && has_bit n i))
+drives_merged xs node m n a i =
+    let d : Driver = record { node = node; mask = m } in
+    let e : Driver = record { node = node; mask = bit_or m n } in
+    drives_both xs (e ∷ []) a i ∙ ap (λ t. drives_in xs a i || t)
+    (drives_one e a i ∙ ap (λ t. (a == node) && t) (has_either m n i) ∙ and_or (a == node) (has_bit m i) (has_bit n i)
+    ∙ ap (λ t. t || ((a == node) && has_bit n i)) (sym (drives_one d a i)))
+    ∙ sym (or_assoc (drives_in xs a i) (drives_in (d ∷ []) a i) ((a == node) && has_bit n i))
+    ∙ ap (λ t. t || ((a == node) && has_bit n i)) (sym (drives_both xs (d ∷ []) a i))
+
+-- one row of the table takes more bits of a node
+pub touch_added : (table : List (Vec Driver Global)) (k : ℕ) (r : Vec Driver Global) (node mask : ℕ) → k < length table
+    → ((a i : ℕ) → drives_in r.items a i ≡ (drives_in (row_in table k) a i || ((a == node) && has_bit mask i)))
+    → (a s i : ℕ) → drives_in (row_in (set table k r) s) a i ≡ (drives_in (row_in table s) a i || ((a == node) && ((s == k) && has_bit mask i)))
+touch_added table k r node mask h step a s i =
+    by_cases (s == k)
+    (λ yes. let e : s ≡ k = eqb-true s k yes in
+    ap (λ z. drives_in (row_in (set table k r) z) a i) e ∙ ap (λ z. drives_in z a i) (row_same table k r h) ∙ step a i
+    ∙ sym (ap₂ (λ z t. drives_in (row_in table z) a i || ((a == node) && (t && has_bit mask i))) e yes))
+    (λ out. ap (λ z. drives_in z a i) (row_other table k s r (eqb-false s k out))
+    ∙ sym (ap (λ t. drives_in (row_in table s) a i || ((a == node) && (t && has_bit mask i))) out ∙ idle (drives_in (row_in table s) a i) (a == node)))
+  where
+    idle : (x b : Bool) → (x || (b && false)) ≡ x
+    idle true b = refl
+    idle false true = refl
+    idle false false = refl
+
+-- a vector that was handed to a call as a slice
+pub written_back : {A : Type 0} (n : ℕ) (new old : List A) → length new ≡ length old → length new ≡ n → take n (new ++ drop (length new) old) ≡ new
+written_back n new old same is =
+    let few : length old ≤ length new = omega (arith, same) in
+    let all : length new ≤ n = omega (arith, is) in
+    ap (λ zs. take n (new ++ zs)) (drop_all (length new) old few) ∙ ap (take n) (append-nil new) ∙ take_all n new all
+
+-- ---- nodes by number
+
+-- one more node
+pub drives_more : (nodes : List Node) (k : ℕ) (x : Node) (a s i : ℕ) → k < length nodes → x ≡ get_or nodes k x
+    → drives_at (map node_of (take (k + 1) nodes)) a s i ≡ (drives_at (map node_of (take k nodes)) a s i || ((a == k) && node_drives (node_of x) s i))
+drives_more nodes k x a s i h is =
+    let more : k + 1 ≡ suc k = omega arith in
+    ap (λ n. drives_at (map node_of (take n nodes)) a s i) more ∙ go nodes k a h is
+  where
+    same_suc : (a k : ℕ) → (suc a == suc k) ≡ (a == k)
+    same_suc a k = by_cases (a == k)
+        (λ same. eq-eqb (suc a) (suc k) (ap suc (eqb-true a k same)) ∙ sym same)
+        (λ out. ne_eqb (suc a) (suc k) (λ e. eqb-false a k out (omega (arith, e))) ∙ sym out)
+
+    go : (ns : List Node) (k a : ℕ) → k < length ns → x ≡ get_or ns k x
+        → drives_at (map node_of (take (suc k) ns)) a s i ≡ (drives_at (map node_of (take k ns)) a s i || ((a == k) && node_drives (node_of x) s i))
+    go [] k a h is = absurd (omega (arith, h))
+    go (n ∷ ns) zero zero h is = ap (λ z. node_drives (node_of z) s i) (sym is)
+    go (n ∷ ns) zero (suc a) h is = sym (ap (λ b. b && node_drives (node_of x) s i) (ne_eqb (suc a) 0 (λ e. omega (arith, e))))
+    go (n ∷ ns) (suc k) zero h is =
+        sym (ap (λ b. node_drives (node_of n) s i || (b && node_drives (node_of x) s i)) (ne_eqb 0 (suc k) (λ e. omega (arith, e)))
+        ∙ or_none (node_drives (node_of n) s i))
+    go (n ∷ ns) (suc k) (suc a) h is =
+        go ns k a (omega (arith, h)) is
+        ∙ ap (λ b. drives_at (map node_of (take k ns)) a s i || (b && node_drives (node_of x) s i)) (sym (same_suc a k))
+
+pub all_nodes : (nodes : List Node) (k a s i : ℕ) → length nodes ≤ k → drives_at (map node_of (take k nodes)) a s i ≡ drives_at (map node_of nodes) a s i
+all_nodes nodes k a s i h = ap (λ ns. drives_at (map node_of ns) a s i) (take_all k nodes h)

@@ -1,0 +1,14 @@
+use Rattle.std.proofs.Common.{Vec, ◌∙◌, ap, sym}
+use Rattle.std.specs.Global.{Global}
+use Rattle.comb_order.specs.declared.drivers.Driver.{Driver}
+use Rattle.comb_order.proofs.Tables.{row_read, row_past}
+use Rattle.comb_order.proofs.edges.drivers_at.Goals as goal
+
+pub returns-then-index-table : goal.returns-then-index-table
+returns-then-index-table c =
+    let table = c.args.table.now in
+    c.deref.ensures.value ∙ ap (λ (r : Vec Driver Global). r.items) c.index-table-index.is
+    ∙ sym (row_read table c.args.signal c.index-table-index.result c.if-index-table.true)
+
+pub returns-else-index-table : goal.returns-else-index-table
+returns-else-index-table c = sym (row_past c.args.table.now c.args.signal c.if-index-table.false)

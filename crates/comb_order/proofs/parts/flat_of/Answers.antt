@@ -1,0 +1,47 @@
+use Rattle.std.proofs.Common.{Vec, ◌≡◌, ◌&&◌, ◌∙◌, ℕ, List, true, map, length, sym, ap, subst, arith, rules}
+use Rattle.std.specs.Global.{Global}
+use Rattle.typed_ir.specs.Flats.{signal_widths, are_clocked, are_below, flat_from}
+use Rattle.typed_ir.specs.FlatNodes.{node_of}
+use Rattle.typed_ir.specs.Statements.{stmt_of}
+use Rattle.typed_ir.specs.Nodes.{are_legal, drives_at}
+use Rattle.typed_ir.specs.Views.{widths}
+use Rattle.comb_order.specs.declared.drivers.Driver.{Driver}
+use Rattle.comb_order.specs.Driving.{IsTable}
+use Rattle.comb_order.specs.Parts.{are_distinct, none_in, blocks_in, rows_apart, are_undriven}
+use Rattle.comb_order.proofs.Flatten.{All4, all_four, flat_sound}
+use Rattle.comb_order.proofs.Designs.{parts_table}
+use Rattle.comb_order.proofs.parts.flat_of.Goals as goal
+
+pub invariant_of-result : goal.invariant_of-result
+invariant_of-result c =
+    let signals = c.args.parts.signals.items in
+    let registers = c.args.parts.registers.items in
+    let inputs = c.args.parts.inputs.items in
+    let nodes = c.args.parts.nodes.items in
+    let clocked = c.args.parts.clocked.items in
+    let table = c.in_ok-table.table.items in
+    let ws = signal_widths signals in
+    let widths_are : widths c.deref-2.result.now ≡ ws =
+    ap widths c.deref-2.ensures.value ∙ c.in_ok-env.ensures ∙ ap signal_widths c.deref.ensures.value in
+    let sized : All4 (are_legal (map node_of nodes) ws) (are_clocked clocked ws) (are_below registers (length signals)) (are_below inputs (length signals)) =
+    all_four _ _ _ _
+    (subst (λ (w : List ℕ). (are_legal (map node_of nodes) w && (are_clocked clocked w && (are_below registers (length signals) && are_below inputs (length signals)))) ≡ true)
+    widths_are (sym c.are_sized.ensures ∙ c.if-not-are_sized.false)) in
+    let held : All4 (are_distinct registers) (are_distinct inputs) (none_in inputs registers) (blocks_in registers (map stmt_of clocked)) =
+    all_four _ _ _ _ (sym c.are_held.ensures ∙ c.if-not-are_held.false) in
+    let count : c.len.result ≡ length signals = search (rules, c.len.ensures) in
+    let is : IsTable (map node_of nodes) table =
+    parts_table signals (map node_of nodes) table sized.one (c.in_ok-table.ensures.length ∙ count)
+    (λ a s i h low. c.in_ok-table.ensures.drives a s i (omega (arith, h, count)) low
+    ∙ ap (λ ns. drives_at (map node_of ns) a s i) c.deref-3.ensures.value) in
+    let driven : (rows_apart table && (are_undriven table registers && are_undriven table inputs)) ≡ true =
+    subst (λ (t : List (Vec Driver Global)). (rows_apart t && (are_undriven t registers && are_undriven t inputs)) ≡ true) c.deref-4.ensures.value
+    (sym c.are_driven_once.ensures ∙ c.if-not-are_driven_once.false) in
+    record {
+      legal = sized.one;
+      blocks = sized.two;
+      registers_there = sized.three;
+      inputs_there = sized.four;
+      few = c.requires.few;
+      sound = ∣ flat_sound (flat_from signals registers inputs nodes clocked) table is c.requires.complete c.requires.first held driven ∣₁;
+    }

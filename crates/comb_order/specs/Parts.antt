@@ -1,0 +1,51 @@
+-- What is checked of the parts of a flat design.
+use Rattle.std.specs.Prelude.{ℕ, Bool, true, not, ◌&&◌, ◌||◌, ◌==◌, false, List, [], ◌∷◌, length, bit_or}
+use Rattle.std.specs.declared.vec.Vec.{Vec}
+use Rattle.std.specs.Global.{Global}
+use Rattle.typed_ir.specs.Stmts.{SizedStmt, later_signals}
+use Rattle.typed_ir.specs.Nodes.{FlatNode}
+use Rattle.typed_ir.specs.Touches.{is_block}
+use Rattle.comb_order.specs.declared.drivers.Driver.{Driver}
+use Rattle.comb_order.specs.Driving.{row_in, common}
+
+abbrev pub is_member : ℕ → List ℕ → Bool
+is_member x [] = false
+is_member x (y ∷ ys) = (x == y) || is_member x ys
+
+-- all of the second list are in the first
+abbrev pub all_in : List ℕ → List ℕ → Bool
+all_in all [] = true
+all_in all (x ∷ xs) = is_member x all && all_in all xs
+
+-- none of the second list is in the first
+abbrev pub none_in : List ℕ → List ℕ → Bool
+none_in all [] = true
+none_in all (x ∷ xs) = not (is_member x all) && none_in all xs
+
+abbrev pub are_distinct : List ℕ → Bool
+are_distinct [] = true
+are_distinct (x ∷ xs) = not (is_member x xs) && are_distinct xs
+
+-- the masks share no bit with those that are taken, nor with each other
+abbrev pub are_apart : ℕ → List Driver → Bool
+are_apart taken [] = true
+are_apart taken (d ∷ ds) = not (common taken d.mask) && are_apart (bit_or taken d.mask) ds
+
+-- so in each row
+abbrev pub rows_apart : List (Vec Driver Global) → Bool
+rows_apart [] = true
+rows_apart (r ∷ rs) = are_apart 0 r.items && rows_apart rs
+
+-- these signals have no driver
+abbrev pub are_undriven : List (Vec Driver Global) → List ℕ → Bool
+are_undriven table [] = true
+are_undriven table (s ∷ ss) = (length (row_in table s) == 0) && are_undriven table ss
+
+-- all clocked blocks write signals of the list alone
+abbrev pub blocks_in : List ℕ → List SizedStmt → Bool
+blocks_in registers [] = true
+blocks_in registers (st ∷ sts) = all_in registers (later_signals st) && blocks_in registers sts
+
+abbrev pub has_block : List FlatNode → Bool
+has_block [] = false
+has_block (n ∷ ns) = is_block n || has_block ns

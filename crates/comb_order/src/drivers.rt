@@ -1,0 +1,98 @@
+// For each signal the nodes that drive bits of it.
+ghost use Rattle.std.specs.Prelude.{◌≡◌, ◌<◌, ◌^◌, ◌==◌, ◌&&◌, ◌||◌, ℕ, [], IfOk, length, map};
+ghost use Rattle.typed_ir.specs.FlatNodes.{node_of};
+ghost use Rattle.typed_ir.specs.Nodes.{drives_at};
+ghost use Rattle.typed_ir.specs.Touches.{has_bit, touched};
+ghost use Rattle.comb_order.specs.Driving.{row_in, drives_in};
+
+use no_memory::NoMemory;
+use std::alloc::Global;
+use typed_ir::{Node, Touch, note_drives};
+
+/// A node, and the bits of a signal that it drives.
+#[derive(Clone, Copy, Debug, PartialEq, Eq)]
+pub struct Driver {
+    pub node: u32,
+    pub mask: u128,
+}
+
+// The bits that the last driver's node drives join its mask, so a signal has no more drivers than bits.
+fn add_driver(row: &mut Vec<Driver>, driver: Driver) -> Result<(), NoMemory>
+    ensures { IfOk result (λ _. (a i : ℕ) → drives_in row.new.items a i
+        ≡ (drives_in row.old.items a i || ((a == driver.node) && has_bit driver.mask i))) }
+{
+    match row.pop() {
+        Some(last) => {
+            if last.node == driver.node {
+                let mask = last.mask | driver.mask;
+                row.push(Driver {
+                    node: driver.node,
+                    mask,
+                })?;
+            } else {
+                row.push(last)?;
+                row.push(driver)?;
+            }
+        }
+        None => row.push(driver)?,
+    }
+    Ok(())
+}
+
+// A node drives these bits of a signal too.
+fn add_touch(table: &mut [Vec<Driver>], node: u32, touch: Touch) -> Result<(), NoMemory>
+    ensures { IfOk result (λ _. (a s i : ℕ) → s < length table.old → drives_in (row_in table.new s) a i
+        ≡ (drives_in (row_in table.old s) a i || ((a == node) && ((s == touch.signal) && has_bit touch.mask i)))) }
+{
+    let signal = touch.signal as usize;
+    if signal >= table.len() {
+        return Ok(());
+    }
+    let mask = touch.mask;
+    add_driver(&mut table[signal], Driver { node, mask })?;
+    Ok(())
+}
+
+// A node drives these bits too.
+fn add_touches(table: &mut [Vec<Driver>], node: u32, touches: &[Touch]) -> Result<(), NoMemory>
+    ensures { IfOk result (λ _. (a s i : ℕ) → s < length table.old → drives_in (row_in table.new s) a i
+        ≡ (drives_in (row_in table.old s) a i || ((a == node) && touched touches.now s i))) }
+{
+    for touch in touches {
+        add_touch(table, node, *touch)?;
+    }
+    Ok(())
+}
+
+// So many empty rows.
+fn empty_table(alloc: Global, count: usize) -> Result<Vec<Vec<Driver>>, NoMemory>
+    ensures length { IfOk result (λ table. length table.items ≡ count) }
+    ensures empty { IfOk result (λ table. (s : ℕ) → row_in table.items s ≡ []) }
+{
+    let mut table = Vec::new(alloc);
+    for _signal in 0..count {
+        table.push(Vec::new(alloc))?;
+    }
+    Ok(table)
+}
+
+/// For each of so many signals the nodes that drive bits of it, in their order.
+pub fn drivers_of(
+    alloc: Global,
+    nodes: &[Node],
+    signals: usize,
+) -> Result<Vec<Vec<Driver>>, NoMemory>
+    requires few { length nodes.now < 2 ^ 32 }
+    ensures length { IfOk result (λ table. length table.items ≡ signals) }
+    ensures drives { IfOk result (λ table. (a s i : ℕ) → s < signals → i < 128
+        → drives_in (row_in table.items s) a i ≡ drives_at (map node_of nodes.now) a s i) }
+{
+    let mut table = empty_table(alloc, signals)?;
+    let mut touches = Vec::new(alloc);
+    for k in 0..nodes.len() {
+        touches.clear();
+        note_drives(&nodes[k], &mut touches)?;
+        add_touches(&mut table, k as u32, &touches)?;
+    }
+    Ok(table)
+}

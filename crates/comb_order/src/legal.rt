@@ -1,0 +1,166 @@
+// Whether the widths within nodes and blocks agree with those of the signals.
+ghost use Rattle.std.specs.Prelude.{◌≡◌, map};
+ghost use Rattle.typed_ir.specs.Sized.{is_span, is_signal, is_width};
+ghost use Rattle.typed_ir.specs.Stmts.{is_sized, is_target, are_targets, are_items, is_legal, is_clocked};
+ghost use Rattle.typed_ir.specs.Forms.{sized};
+ghost use Rattle.typed_ir.specs.Targets.{target_of, targets_of};
+ghost use Rattle.typed_ir.specs.Statements.{item_of, stmt_of};
+ghost use Rattle.typed_ir.specs.Nodes.{are_lanes, is_legal_node, are_legal};
+ghost use Rattle.typed_ir.specs.FlatNodes.{node_of};
+ghost use Rattle.typed_ir.specs.Flats.{are_clocked, are_below};
+ghost use Rattle.typed_ir.specs.Views.{widths};
+
+use bits::Bits;
+use typed_ir::{Item, Lane, Node, Span, Stmt, Target, Typed};
+
+fn is_width(width: u8) -> bool
+    ensures { result ≡ is_width width }
+{
+    1 <= width && width <= 128
+}
+
+// Whether a signal has this number and width.
+fn is_signal(signal: u32, width: u8, env: &[Bits]) -> bool
+    ensures { result ≡ is_signal signal width (widths env.now) }
+{
+    let index = signal as usize;
+    index < env.len() && env[index].width == width
+}
+
+// Whether the span lies in its signal.
+fn is_span(span: Span, env: &[Bits]) -> bool
+    ensures { result ≡ is_span span (widths env.now) }
+{
+    let index = span.signal as usize;
+    if index >= env.len() || span.width == 0 {
+        return false;
+    }
+    let width = env[index].width;
+    span.low <= width && span.width <= width - span.low
+}
+
+fn is_sized(e: &Typed, env: &[Bits]) -> bool
+    ensures { result ≡ is_sized (sized e.now.form) (widths env.now) }
+{
+    e.form.fits(env)
+}
+
+fn is_target(part: &Target, env: &[Bits]) -> bool
+    ensures { result ≡ is_target (target_of part.now) (widths env.now) }
+{
+    match part {
+        Target::Fixed(lane) => lane.shift < 128 && is_span(lane.span, env),
+        Target::Moving(reach, index) => {
+            (reach.shift < 128 && (is_width(reach.width) && is_width(reach.total)))
+                && (is_signal(reach.signal, reach.total, env) && is_sized(index, env))
+        }
+    }
+}
+
+fn are_targets(parts: &[Target], env: &[Bits]) -> bool
+    ensures { result ≡ are_targets (targets_of parts.now) (widths env.now) }
+{
+    for part in parts {
+        if !is_target(part, env) {
+            return false;
+        }
+    }
+    true
+}
+
+fn are_items(items: &[Item], env: &[Bits]) -> bool
+    ensures { result ≡ are_items (map item_of items.now) (widths env.now) }
+{
+    for item in items {
+        if !is_sized(&item.item, env) {
+            return false;
+        }
+    }
+    true
+}
+
+fn is_legal(st: &Stmt, env: &[Bits]) -> bool
+    ensures { result ≡ is_legal (stmt_of st.now) (widths env.now) }
+{
+    match st {
+        Stmt::Skip => true,
+        Stmt::Assign(parts, e) | Stmt::Later(parts, e) => {
+            are_targets(parts, env) && is_sized(e, env)
+        }
+        Stmt::Then(a, b) => is_legal(a, env) && is_legal(b, env),
+        Stmt::If(c, a, b) => is_sized(c, env) && (is_legal(a, env) && is_legal(b, env)),
+        Stmt::Case(e, arms) => is_sized(e, env) && is_legal(arms, env),
+        Stmt::Arm(items, body, rest) => {
+            are_items(items, env) && (is_legal(body, env) && is_legal(rest, env))
+        }
+    }
+}
+
+fn is_clocked(st: &Stmt) -> bool
+    ensures { result ≡ is_clocked (stmt_of st.now) }
+{
+    match st {
+        Stmt::Skip | Stmt::Later(_, _) => true,
+        Stmt::Assign(_, _) => false,
+        Stmt::Then(a, b) | Stmt::If(_, a, b) => is_clocked(a) && is_clocked(b),
+        Stmt::Case(_, arms) => is_clocked(arms),
+        Stmt::Arm(_, body, rest) => is_clocked(body) && is_clocked(rest),
+    }
+}
+
+/// Whether the clocked blocks are of these widths and have nonblocking assignments alone.
+pub fn are_clocked(blocks: &[Stmt], env: &[Bits]) -> bool
+    ensures { result ≡ are_clocked blocks.now (widths env.now) }
+{
+    for block in blocks {
+        if !(is_legal(block, env) && is_clocked(block)) {
+            return false;
+        }
+    }
+    true
+}
+
+fn are_lanes(lanes: &[Lane], env: &[Bits]) -> bool
+    ensures { result ≡ are_lanes lanes.now (widths env.now) }
+{
+    for lane in lanes {
+        if !(lane.shift < 128 && is_span(lane.span, env)) {
+            return false;
+        }
+    }
+    true
+}
+
+#[tactic(auto, unfolding(typed_ir::specs::Nodes::is_legal_node))]
+fn is_legal_node(node: &Node, env: &[Bits]) -> bool
+    ensures { result ≡ is_legal_node (node_of node.now) (widths env.now) }
+{
+    match node {
+        Node::Drive(lanes, e) => are_lanes(lanes, env) && is_sized(e, env),
+        Node::Block(body) => is_legal(body, env),
+    }
+}
+
+/// Whether the nodes are of these widths.
+pub fn are_legal(nodes: &[Node], env: &[Bits]) -> bool
+    ensures { result ≡ are_legal (map node_of nodes.now) (widths env.now) }
+{
+    for node in nodes {
+        if !is_legal_node(node, env) {
+            return false;
+        }
+    }
+    true
+}
+
+/// Whether all numbers are below a count.
+pub fn are_below(numbers: &[u32], count: usize) -> bool
+    ensures { result ≡ are_below numbers.now count }
+{
+    for number in numbers {
+        if *number as usize >= count {
+            return false;
+        }
+    }
+    true
+}

@@ -1,0 +1,54 @@
+// An order of the nodes of a design, or the loop.
+ghost use Rattle.std.specs.Prelude.{◌≡◌, true, ℕ, List, IfOk, IfErr, length};
+ghost use Rattle.typed_ir.specs.Linkeds.{flat};
+ghost use Rattle.typed_ir.specs.Nodes.{IsOrder, drives_at, reads_at};
+ghost use Rattle.typed_ir.specs.Orders.{Precedes};
+ghost use Rattle.comb_order.specs.Graphs.{rows_of};
+ghost use Rattle.comb_order.specs.Driving.{AreRows, IsGraph};
+ghost use Rattle.comb_order.specs.Refusals.{IsRefusal, is_loop};
+
+use crate::drivers::drivers_of;
+use crate::edges::edges_of;
+use crate::refusing::{OrderRefusal, ordered};
+use no_memory::NoMemory;
+use std::alloc::Global;
+use typed_ir::{Flat, Linked};
+
+// The graph of a design's nodes.
+fn graph_of(alloc: Global, design: &Flat) -> Result<Vec<Vec<u32>>, NoMemory>
+    ensures rows { IfOk result (λ rows. AreRows (length (flat design.now).nodes) (rows_of rows.items)) }
+    ensures graph { IfOk result (λ rows. IsGraph (flat design.now).nodes (rows_of rows.items)) }
+{
+    let table = drivers_of(alloc, &design.nodes, design.signals.len())?;
+    let rows = edges_of(alloc, &design.nodes, &table)?;
+    Ok(rows)
+}
+
+/// An order of the nodes of a design: each once, after those that drive a bit that it reads. Or the loop: it is listed along
+/// predecessors, and then there is no order.
+pub fn order(alloc: Global, design: &Flat) -> Result<Vec<u32>, OrderRefusal>
+    ensures order { IfOk result (λ order. IsOrder (flat design.now).nodes order.items) }
+    ensures refusal { IfErr result (λ refusal.
+        IsRefusal (Precedes (drives_at (flat design.now).nodes) (reads_at (flat design.now).nodes)) (length (flat design.now).nodes) refusal) }
+
+    // Where the loop is answered no order exists.
+    ensures none { IfErr result (λ refusal. is_loop refusal ≡ true → (order : List ℕ) → IsOrder (flat design.now).nodes order → ⊥) }
+{
+    let graph = match graph_of(alloc, design) {
+        Ok(graph) => graph,
+        Err(_) => return Err(OrderRefusal::NoMemory),
+    };
+    ordered(alloc, &graph)
+}
+
+/// The design with an order of its nodes; or the loop, as `order` says.
+pub fn linked(alloc: Global, design: Flat) -> Result<Linked, OrderRefusal>
+    ensures design { IfOk result (λ linked. linked.design ≡ design) }
+    ensures refusal { IfErr result (λ refusal.
+        IsRefusal (Precedes (drives_at (flat design).nodes) (reads_at (flat design).nodes)) (length (flat design).nodes) refusal) }
+{
+    match order(alloc, &design) {
+        Ok(order) => Ok(Linked { design, order }),
+        Err(refusal) => Err(refusal),
+    }
+}

@@ -1,0 +1,114 @@
+// The parts of a flat design, and whether they make one.
+ghost use Rattle.std.specs.Prelude.{◌≡◌, ◌<◌, ◌^◌, ◌&&◌, not, IfOk, IfSome, map, length};
+ghost use Rattle.typed_ir.specs.Flats.{signal_widths, are_clocked, are_below, flat_from, NodeWritesFirst};
+ghost use Rattle.typed_ir.specs.FlatNodes.{node_of};
+ghost use Rattle.typed_ir.specs.Linkeds.{flat};
+ghost use Rattle.typed_ir.specs.Nodes.{IsComplete, are_legal};
+ghost use Rattle.typed_ir.specs.Statements.{stmt_of};
+ghost use Rattle.typed_ir.specs.Orders.{Each};
+ghost use Rattle.typed_ir.specs.Views.{widths};
+ghost use Rattle.comb_order.specs.Parts.{has_block, are_distinct, none_in, blocks_in, rows_apart, are_undriven};
+
+use crate::drivers::{Driver, drivers_of};
+use crate::legal::{are_below, are_clocked, are_legal};
+use crate::members::{are_distinct, none_in, write_registers};
+use crate::undriven::{are_undriven, rows_apart};
+use bits::Bits;
+use no_memory::NoMemory;
+use std::alloc::Global;
+use typed_ir::{Flat, Node, Signal, Stmt};
+
+/// What a flat design is made of.
+#[derive(Drop)]
+pub struct Parts {
+    pub signals: Vec<Signal>,
+    pub registers: Vec<u32>,
+    pub inputs: Vec<u32>,
+    pub nodes: Vec<Node>,
+    pub clocked: Vec<Stmt>,
+}
+
+// 0 for each signal.
+fn zeros(alloc: Global, signals: &[Signal]) -> Result<Vec<Bits>, NoMemory>
+    ensures { IfOk result (λ env. widths env.items ≡ signal_widths signals.now) }
+{
+    let mut env = Vec::new(alloc);
+    for signal in signals {
+        env.push(Bits::new(signal.width, 0))?;
+    }
+    Ok(env)
+}
+
+/// Whether no node is a block.
+pub fn no_block(nodes: &[Node]) -> bool
+    ensures { result ≡ not (has_block (map node_of nodes.now)) }
+{
+    for node in nodes {
+        match node {
+            Node::Drive(_, _) => {}
+            Node::Block(_) => return false,
+        }
+    }
+    true
+}
+
+// Whether the widths agree and each number names a signal.
+fn are_sized(parts: &Parts, env: &[Bits]) -> bool
+    ensures { result ≡ (are_legal (map node_of parts.now.nodes.items) (widths env.now)
+        && (are_clocked parts.now.clocked.items (widths env.now)
+        && (are_below parts.now.registers.items (length parts.now.signals.items)
+        && are_below parts.now.inputs.items (length parts.now.signals.items)))) }
+{
+    let count = parts.signals.len();
+    are_legal(&parts.nodes, env)
+        && (are_clocked(&parts.clocked, env)
+            && (are_below(&parts.registers, count) && are_below(&parts.inputs, count)))
+}
+
+// Whether registers and data inputs are apart, each once, and clocked blocks write registers alone.
+fn are_held(parts: &Parts) -> bool
+    ensures { result ≡ (are_distinct parts.now.registers.items
+        && (are_distinct parts.now.inputs.items
+        && (none_in parts.now.inputs.items parts.now.registers.items
+        && blocks_in parts.now.registers.items (map stmt_of parts.now.clocked.items)))) }
+{
+    are_distinct(&parts.registers)
+        && (are_distinct(&parts.inputs)
+            && (none_in(&parts.inputs, &parts.registers)
+                && write_registers(&parts.clocked, &parts.registers)))
+}
+
+// Whether no bit has two drivers, and registers and data inputs have none.
+fn are_driven_once(parts: &Parts, table: &[Vec<Driver>]) -> bool
+    ensures { result ≡ (rows_apart table.now
+        && (are_undriven table.now parts.now.registers.items && are_undriven table.now parts.now.inputs.items)) }
+{
+    rows_apart(table)
+        && (are_undriven(table, &parts.registers) && are_undriven(table, &parts.inputs))
+}
+
+/// The flat design of these parts. None where widths don't agree, a number names no signal, a bit has two drivers, a clocked
+/// block writes what isn't a register, or a register or data input is driven or stands twice.
+pub fn flat_of(alloc: Global, parts: Parts) -> Result<Option<Flat>, NoMemory>
+    requires complete { Each IsComplete (map node_of parts.nodes.items) }
+    requires first { Each NodeWritesFirst (map node_of parts.nodes.items) }
+    requires few { length parts.nodes.items < 2 ^ 32 }
+    ensures { IfOk result (λ found. IfSome found (λ design.
+        flat design ≡ flat_from parts.signals.items parts.registers.items parts.inputs.items parts.nodes.items parts.clocked.items)) }
+{
+    let env = zeros(alloc, &parts.signals)?;
+    if !are_sized(&parts, &env) || !are_held(&parts) {
+        return Ok(None);
+    }
+    let table = drivers_of(alloc, &parts.nodes, parts.signals.len())?;
+    if !are_driven_once(&parts, &table) {
+        return Ok(None);
+    }
+    Ok(Some(Flat {
+        signals: parts.signals,
+        registers: parts.registers,
+        inputs: parts.inputs,
+        nodes: parts.nodes,
+        clocked: parts.clocked,
+    }))
+}

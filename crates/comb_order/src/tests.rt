@@ -1,0 +1,190 @@
+// Orders and loops of small designs, worked out by hand, and of a long chain.
+ghost use Rattle.std.specs.Prelude.{◌≡◌};
+
+use crate::{OrderRefusal, Parts, flat_of, no_block, order};
+use no_memory::NoMemory;
+use std::alloc::Global;
+use std::process::Abort;
+use std::test::Fail;
+use typed_ir::{ArithmeticOperator, BinaryOperator, Lane, Node, Signal, Span, Typed};
+
+fn bit(signal: u32, low: u8) -> Span
+    ensures width { result.width ≡ 1 }
+    ensures low { result.low ≡ low }
+{
+    Span {
+        signal,
+        low,
+        width: 1,
+    }
+}
+
+// A continuous assignment to these bits.
+fn assign(alloc: Global, span: Span, e: Typed) -> Result<Node, NoMemory> {
+    let mut lanes = Vec::new(alloc);
+    lanes.push(Lane { shift: 0, span })?;
+    Ok(Node::Drive(lanes, e))
+}
+
+// assign TO = FROM; both of one bit
+fn copy(alloc: Global, to: u32, from: u32) -> Result<Node, NoMemory> {
+    assign(alloc, bit(to, 0), Typed::name(from, 1))
+}
+
+// assign TO[I] = FROM[J];
+fn copy_bit(rt: &impl Abort, alloc: Global, to: (u32, u8), from: (u32, u8)) -> Result<Node, NoMemory> {
+    assert!(rt; from.1 < 128);
+    assign(alloc, bit(to.0, to.1), Typed::part(bit(from.0, from.1)))
+}
+
+// What the order of a design with signals of these widths and these nodes is: true and an order, or false and the loop.
+#[tactic(auto, using(crate::proofs::Flatten::complete_of, crate::proofs::Flatten::first_of))]
+fn answer(
+    rt: &impl Abort,
+    alloc: Global,
+    widths: &[u8],
+    nodes: Vec<Node>,
+) -> Result<(bool, Vec<u32>), NoMemory> {
+    let mut signals = Vec::new(alloc);
+    for width in widths {
+        assert!(rt; 1 <= *width && *width <= 128);
+        signals.push(Signal {
+            path: Vec::new(alloc),
+            lsb: 0,
+            signed: false,
+            width: *width,
+            initial: 0,
+        })?;
+    }
+    assert!(rt; no_block(&nodes));
+    assert!(rt; nodes.len() < 1_000_000);
+    let parts = Parts {
+        signals,
+        registers: Vec::new(alloc),
+        inputs: Vec::new(alloc),
+        nodes,
+        clocked: Vec::new(alloc),
+    };
+    let design = flat_of(alloc, parts)?.expect(rt, "a design");
+    match order(alloc, &design) {
+        Ok(order) => Ok((true, order)),
+        Err(OrderRefusal::Loop(circle)) => Ok((false, circle)),
+        Err(OrderRefusal::NoMemory) => Err(NoMemory),
+    }
+}
+
+#[test]
+fn a_chain_written_backwards(rt: HostRuntime) -> Result<(), Fail> {
+    let alloc = rt.alloc();
+    let nodes = vec![in alloc; copy(alloc, 3, 2)?, copy(alloc, 2, 1)?, copy(alloc, 1, 0)?]?;
+    let (placed, list) = answer(&rt, alloc, &[1; 4], nodes)?;
+    assert!(rt; placed);
+    assert_eq!(rt; list.as_slice(), [2, 1, 0].as_slice());
+    Ok(())
+}
+
+#[test]
+fn two_ways_that_join(rt: HostRuntime) -> Result<(), Fail> {
+    let alloc = rt.alloc();
+    // assign s3 = s1 & s2, s1 = s0, s2 = s0;
+    let both = BinaryOperator::Arithmetic(ArithmeticOperator::And);
+    let sum = Typed::binary(alloc, both, Typed::name(1, 1), Typed::name(2, 1))?;
+    let nodes = vec![in alloc; assign(alloc, bit(3, 0), sum)?, copy(alloc, 1, 0)?, copy(alloc, 2, 0)?]?;
+    let (placed, list) = answer(&rt, alloc, &[1; 4], nodes)?;
+    assert!(rt; placed);
+    assert_eq!(rt; list.len(), 3);
+    assert_eq!(rt; list[2], 0);
+    Ok(())
+}
+
+#[test]
+fn a_bus_bit_by_bit(rt: HostRuntime) -> Result<(), Fail> {
+    let alloc = rt.alloc();
+    // assign s1[2] = s1[1], s1[1] = s1[0], s1[0] = s0;
+    let nodes = vec![in alloc;
+        copy_bit(&rt, alloc, (1, 2), (1, 1))?,
+        copy_bit(&rt, alloc, (1, 1), (1, 0))?,
+        copy_bit(&rt, alloc, (1, 0), (0, 0))?,
+    ]?;
+    let (placed, list) = answer(&rt, alloc, &[1, 3], nodes)?;
+    assert!(rt; placed);
+    assert_eq!(rt; list.as_slice(), [2, 1, 0].as_slice());
+    Ok(())
+}
+
+#[test]
+fn one_bit_from_another_of_its_signal(rt: HostRuntime) -> Result<(), Fail> {
+    let alloc = rt.alloc();
+    // assign c[1] = c[0], c[0] = d[0];
+    let nodes = vec![in alloc; copy_bit(&rt, alloc, (0, 1), (0, 0))?, copy_bit(&rt, alloc, (0, 0), (1, 0))?]?;
+    let (placed, list) = answer(&rt, alloc, &[2, 8], nodes)?;
+    assert!(rt; placed);
+    assert_eq!(rt; list.as_slice(), [1, 0].as_slice());
+    Ok(())
+}
+
+#[test]
+fn a_select_at_run_time_reads_the_whole_signal(rt: HostRuntime) -> Result<(), Fail> {
+    let alloc = rt.alloc();
+    // assign c[1] = c[d];
+    let pick = Typed::pick(alloc, 0, 1, 0, false, Typed::name(1, 1))?;
+    let nodes = vec![in alloc; assign(alloc, bit(0, 1), pick)?]?;
+    let (placed, list) = answer(&rt, alloc, &[2, 1], nodes)?;
+    assert!(rt; !placed);
+    assert_eq!(rt; list.as_slice(), [0].as_slice());
+    Ok(())
+}
+
+#[test]
+fn two_in_a_circle(rt: HostRuntime) -> Result<(), Fail> {
+    let alloc = rt.alloc();
+    // assign x = y, y = x;
+    let nodes = vec![in alloc; copy(alloc, 0, 1)?, copy(alloc, 1, 0)?]?;
+    let (placed, list) = answer(&rt, alloc, &[1; 2], nodes)?;
+    assert!(rt; !placed);
+    assert_eq!(rt; list.as_slice(), [0, 1].as_slice());
+    Ok(())
+}
+
+// Node 0 reads a signal of a circle of three; the circle is listed from its least node along predecessors.
+#[test]
+fn three_in_a_circle_with_a_tail(rt: HostRuntime) -> Result<(), Fail> {
+    let alloc = rt.alloc();
+    // what node 0 reads, what the nodes 1, 2 and 3 read, which drive the signals 1, 2 and 3; and the loop
+    let table = [
+        ([1, 2, 3, 1], [1, 2, 3]),
+        ([1, 3, 1, 2], [1, 3, 2]),
+        ([3, 2, 3, 1], [1, 2, 3]),
+        ([2, 3, 1, 2], [1, 3, 2]),
+    ];
+    for (reads, wanted) in table {
+        let nodes = vec![in alloc;
+            copy(alloc, 0, reads[0])?,
+            copy(alloc, 1, reads[1])?,
+            copy(alloc, 2, reads[2])?,
+            copy(alloc, 3, reads[3])?,
+        ]?;
+        let (placed, list) = answer(&rt, alloc, &[1; 4], nodes)?;
+        assert!(rt; !placed);
+        assert_eq!(rt; list.as_slice(), wanted.as_slice());
+    }
+    Ok(())
+}
+
+// 100,000 nodes, each of which reads what the next one drives.
+#[test]
+fn a_long_chain(rt: HostRuntime) -> Result<(), Fail> {
+    let alloc = rt.alloc();
+    let mut nodes = Vec::new(alloc);
+    let mut widths = vec![in alloc; 1u8]?;
+    for k in 0..100_000u32 {
+        nodes.push(copy(alloc, k, k + 1)?)?;
+        widths.push(1)?;
+    }
+    let (placed, list) = answer(&rt, alloc, &widths, nodes)?;
+    assert!(rt; placed);
+    assert_eq!(rt; list.len(), 100_000);
+    assert_eq!(rt; list[0], 99_999);
+    assert_eq!(rt; list[99_999], 0);
+    Ok(())
+}

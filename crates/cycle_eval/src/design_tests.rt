@@ -1,0 +1,279 @@
+// Cycles of small designs, worked out by hand, and one cycle of a long chain.
+ghost use Rattle.std.specs.Prelude.{◌≡◌, ◌<◌};
+
+use crate::Design;
+use bits::Bits;
+use comb_order::{Parts, flat_of, linked, no_block};
+use machine::steps::Steps;
+use no_memory::NoMemory;
+use std::alloc::Global;
+use std::marker::Brand;
+use std::process::Abort;
+use std::sync::ledger::{Blank, Ledger};
+use std::test::Fail;
+use typed_ir::{
+    ArithmeticOperator, BinaryOperator, Item, Lane, Node, Reach, Signal, Span, Stmt,
+    Target, Typed,
+};
+
+// Signals of these widths and values at the beginning.
+fn signals(rt: &impl Abort, alloc: Global, list: &[(u8, u128)]) -> Result<Vec<Signal>, NoMemory> {
+    let mut signals = Vec::new(alloc);
+    for (width, initial) in list {
+        assert!(rt; 1 <= *width && *width <= 128);
+        signals.push(Signal {
+            path: Vec::new(alloc),
+            lsb: 0,
+            signed: false,
+            width: *width,
+            initial: Bits::new(*width, *initial).value(),
+        })?;
+    }
+    Ok(signals)
+}
+
+#[tactic(auto, using(comb_order::proofs::Flatten::complete_of, comb_order::proofs::Flatten::first_of))]
+fn design_of(rt: &impl Abort, alloc: Global, parts: Parts) -> Result<Design, NoMemory> {
+    assert!(rt; no_block(&parts.nodes));
+    assert!(rt; parts.nodes.len() < 1_000_000);
+    let design = flat_of(alloc, parts)?.expect(rt, "a design");
+    match linked(alloc, design) {
+        Ok(linked) => Ok(Design::make(linked)),
+        Err(_) => Err(NoMemory),
+    }
+}
+
+// What the registers have after so many cycles from the beginning.
+fn values_after<L: Ledger>(
+    alloc: Global,
+    design: &Design,
+    cycles: u64,
+    steps: &mut Steps<L>,
+) -> Result<Vec<u128>, NoMemory> {
+    let start = design.reset_state(alloc)?;
+    let mut env = design.loaded(alloc, &start)?;
+    let mut updates = Vec::new(alloc);
+    design.run(&mut env, &mut updates, cycles, steps)?;
+    let state = design.state_of(alloc, &env)?;
+    let mut values = Vec::new(alloc);
+    for i in 0..state.len() {
+        values.push(state.get(i).value())?;
+    }
+    Ok(values)
+}
+
+// The same with a counter of its own.
+fn counted<L: Ledger>(
+    alloc: Global,
+    design: &Design,
+    cycles: u64,
+    blank: Blank,
+) -> Result<Vec<u128>, NoMemory>
+    requires name { blank.name ≡ L.name }
+    requires parts { blank.parts ≡ L.parts }
+    requires some { 0 < blank.parts }
+{
+    let mut steps = Steps::<L>::start(blank);
+    values_after(alloc, design, cycles, &mut steps)
+}
+
+fn after(alloc: Global, design: &Design, cycles: u64) -> Result<Vec<u128>, NoMemory> {
+    counted::<Brand>(alloc, design, cycles, Blank::new(1))
+}
+
+fn whole(signal: u32, width: u8) -> Lane {
+    Lane {
+        shift: 0,
+        span: Span {
+            signal,
+            low: 0,
+            width,
+        },
+    }
+}
+
+// SIGNAL <= E;
+fn later(alloc: Global, signal: u32, width: u8, e: Typed) -> Result<Stmt, NoMemory> {
+    let mut parts = Vec::new(alloc);
+    parts.push(Target::Fixed(whole(signal, width)))?;
+    Ok(Stmt::Later(parts, e))
+}
+
+fn then(alloc: Global, a: Stmt, b: Stmt) -> Result<Stmt, NoMemory> {
+    let first = Box::new(alloc, a)?;
+    let second = Box::new(alloc, b)?;
+    Ok(Stmt::Then(first, second))
+}
+
+// assign SIGNAL = E;
+fn assign(alloc: Global, signal: u32, width: u8, e: Typed) -> Result<Node, NoMemory> {
+    let mut lanes = Vec::new(alloc);
+    lanes.push(whole(signal, width))?;
+    Ok(Node::Drive(lanes, e))
+}
+
+fn number(n: u8, width: u8) -> Typed
+    requires some { 0 < width }
+    requires few { width < 9 }
+    ensures { result.width ≡ width }
+{
+    Typed::constant(Bits::new(width, u128::from(n)))
+}
+
+fn plus(alloc: Global, signal: u32, width: u8, n: u8) -> Result<Typed, NoMemory>
+    requires some { 0 < width }
+    requires few { width < 9 }
+{
+    let sum = BinaryOperator::Arithmetic(ArithmeticOperator::Sum);
+    Typed::binary(alloc, sum, Typed::name(signal, width), number(n, width))
+}
+
+// reg [7:0] a = 1, b = 2, c; always @(posedge clk) begin a <= b; b <= a; c <= 1; c <= 2; end
+#[test]
+fn right_sides_read_old_registers(rt: HostRuntime) -> Result<(), Fail> {
+    let alloc = rt.alloc();
+    let swap = then(
+        alloc,
+        later(alloc, 0, 8, Typed::name(1, 8))?,
+        later(alloc, 1, 8, Typed::name(0, 8))?,
+    )?;
+    let twice = then(
+        alloc,
+        later(alloc, 2, 8, number(1, 8))?,
+        later(alloc, 2, 8, number(2, 8))?,
+    )?;
+    let parts = Parts {
+        signals: signals(&rt, alloc, &[(8, 1), (8, 2), (8, 0)])?,
+        registers: vec![in alloc; 0, 1, 2]?,
+        inputs: Vec::new(alloc),
+        nodes: Vec::new(alloc),
+        clocked: vec![in alloc; then(alloc, swap, twice)?]?,
+    };
+    let design = design_of(&rt, alloc, parts)?;
+    assert_eq!(rt; after(alloc, &design, 0)?.as_slice(), [1, 2, 0].as_slice());
+    assert_eq!(rt; after(alloc, &design, 1)?.as_slice(), [2, 1, 2].as_slice());
+    assert_eq!(rt; after(alloc, &design, 2)?.as_slice(), [1, 2, 2].as_slice());
+    Ok(())
+}
+
+// reg [3:0] q; reg [2:0] i; always @(posedge clk) begin q[i] <= 1; i <= i + 1; end
+#[test]
+fn a_place_known_at_run_time(rt: HostRuntime) -> Result<(), Fail> {
+    let alloc = rt.alloc();
+    let reach = Reach {
+        shift: 0,
+        signal: 0,
+        total: 4,
+        width: 1,
+        below: 0,
+        signed: false,
+    };
+    let places = vec![in alloc; Target::Moving(reach, Typed::name(1, 3))]?;
+    let one = Stmt::Later(places, number(1, 1));
+    let next = later(alloc, 1, 3, plus(alloc, 1, 3, 1)?)?;
+    let parts = Parts {
+        signals: signals(&rt, alloc, &[(4, 0), (3, 0)])?,
+        registers: vec![in alloc; 0, 1]?,
+        inputs: Vec::new(alloc),
+        nodes: Vec::new(alloc),
+        clocked: vec![in alloc; then(alloc, one, next)?]?,
+    };
+    let design = design_of(&rt, alloc, parts)?;
+    assert_eq!(rt; after(alloc, &design, 3)?.as_slice(), [0b0111, 3].as_slice());
+    assert_eq!(rt; after(alloc, &design, 4)?.as_slice(), [0b1111, 4].as_slice());
+    // Places 4 to 7 lie outside of q.
+    assert_eq!(rt; after(alloc, &design, 8)?.as_slice(), [0b1111, 0].as_slice());
+    Ok(())
+}
+
+// casez (s) ITEM: y <= N; default or the arms after it
+fn arm(alloc: Global, ignored: u128, item: u8, n: u8, rest: Stmt) -> Result<Stmt, NoMemory> {
+    let item = Item {
+        ignored,
+        item: number(item, 4),
+    };
+    let items = vec![in alloc; item]?;
+    let body = Box::new(alloc, later(alloc, 1, 2, number(n, 2))?)?;
+    let others = Box::new(alloc, rest)?;
+    Ok(Stmt::Arm(items, body, others))
+}
+
+// reg [3:0] s = 5; reg [1:0] y; always @(posedge clk) begin
+//   s <= s + 6; casez (s) 4'b01??: y <= 1; 4'b0???: y <= 2; default: y <= 3; endcase end
+#[test]
+fn a_case_with_dont_cares(rt: HostRuntime) -> Result<(), Fail> {
+    let alloc = rt.alloc();
+    let otherwise = later(alloc, 1, 2, number(3, 2))?;
+    let second = arm(alloc, 0b0111, 0b0000, 2, otherwise)?;
+    let first = arm(alloc, 0b0011, 0b0100, 1, second)?;
+    let arms = Box::new(alloc, first)?;
+    let next = later(alloc, 0, 4, plus(alloc, 0, 4, 6)?)?;
+    let parts = Parts {
+        signals: signals(&rt, alloc, &[(4, 5), (2, 0)])?,
+        registers: vec![in alloc; 0, 1]?,
+        inputs: Vec::new(alloc),
+        nodes: Vec::new(alloc),
+        clocked: vec![in alloc; then(alloc, next, Stmt::Case(Typed::name(0, 4), arms))?]?,
+    };
+    let design = design_of(&rt, alloc, parts)?;
+    let table = [[11, 1], [1, 3], [7, 2], [13, 1], [3, 3]];
+    for cycles in 0..table.len() {
+        let values = after(alloc, &design, cycles as u64 + 1)?;
+        assert_eq!(rt; values.as_slice(), table[cycles].as_slice());
+    }
+    Ok(())
+}
+
+// reg [3:0] q; reg [3:0] r = 9; reg [3:0] p; wire [3:0] v, w, u; input [3:0] d;
+// assign w = v ^ 3; assign v = q + 1; always @(posedge clk) q <= w; always @(posedge clk) begin r <= u; p <= d + 1; end
+#[test]
+fn wires_written_backwards(rt: HostRuntime) -> Result<(), Fail> {
+    let alloc = rt.alloc();
+    let xor = BinaryOperator::Arithmetic(ArithmeticOperator::Xor);
+    let nodes = vec![in alloc;
+        assign(alloc, 4, 4, Typed::binary(alloc, xor, Typed::name(3, 4), number(3, 4))?)?,
+        assign(alloc, 3, 4, plus(alloc, 0, 4, 1)?)?,
+    ]?;
+    let others = then(
+        alloc,
+        later(alloc, 1, 4, Typed::name(5, 4))?,
+        later(alloc, 2, 4, plus(alloc, 6, 4, 1)?)?,
+    )?;
+    let parts = Parts {
+        signals: signals(&rt, alloc, &[(4, 0), (4, 9), (4, 0), (4, 0), (4, 0), (4, 0), (4, 0)])?,
+        registers: vec![in alloc; 0, 1, 2]?,
+        inputs: vec![in alloc; 6]?,
+        nodes,
+        clocked: vec![in alloc; later(alloc, 0, 4, Typed::name(4, 4))?, others]?,
+    };
+    let design = design_of(&rt, alloc, parts)?;
+    // (0 + 1) ^ 3 is 2, and (2 + 1) ^ 3 is 0; a wire without a driver and an input that isn't set read 0
+    assert_eq!(rt; after(alloc, &design, 0)?.as_slice(), [0, 9, 0].as_slice());
+    assert_eq!(rt; after(alloc, &design, 1)?.as_slice(), [2, 0, 1].as_slice());
+    assert_eq!(rt; after(alloc, &design, 2)?.as_slice(), [0, 0, 1].as_slice());
+    assert_eq!(rt; after(alloc, &design, 3)?.as_slice(), [2, 0, 1].as_slice());
+    Ok(())
+}
+
+// 100,000 wires, each the next one plus 1; the last is a register of 8 bits at 7, which takes the first: 7 + 100,000 = 390 * 256 + 167
+#[test]
+fn a_long_chain(rt: HostRuntime) -> Result<(), Fail> {
+    let alloc = rt.alloc();
+    let mut nodes = Vec::new(alloc);
+    let mut all = signals(&rt, alloc, &[])?;
+    for k in 0..100_000u32 {
+        nodes.push(assign(alloc, k, 8, plus(alloc, k + 1, 8, 1)?)?)?;
+        all.append(&mut signals(&rt, alloc, &[(8, 0)])?)?;
+    }
+    all.append(&mut signals(&rt, alloc, &[(8, 7)])?)?;
+    let parts = Parts {
+        signals: all,
+        registers: vec![in alloc; 100_000]?,
+        inputs: Vec::new(alloc),
+        nodes,
+        clocked: vec![in alloc; later(alloc, 100_000, 8, Typed::name(0, 8))?]?,
+    };
+    let design = design_of(&rt, alloc, parts)?;
+    assert_eq!(rt; after(alloc, &design, 1)?.as_slice(), [167].as_slice());
+    Ok(())
+}

@@ -1,0 +1,9 @@
+use Rattle.std.proofs.Common.{◌≡◌, ◌<◌, ◌||◌, ℕ, drop}
+use Rattle.typed_ir.specs.Stmts.{index_reads}
+use Rattle.typed_ir.specs.Targets.{targets_of}
+use Rattle.typed_ir.specs.Touches.{touched}
+use Rattle.typed_ir.proofs.touching.note_indices.Given as goal
+
+abbrev pub invariant-loop-part : goal.invariant-loop-part
+invariant-loop-part l = (s i : ℕ) → i < 128
+    → (touched l.touches.items s i || index_reads (targets_of (drop l.part-index l.parts)) s i) ≡ (touched l.initial.touches.items s i || index_reads (targets_of l.parts) s i)

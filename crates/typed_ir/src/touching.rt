@@ -1,0 +1,211 @@
+// Which bits a node drives and which its text reads, as masks.
+ghost use Rattle.std.specs.Prelude.{◌≡◌, ◌+◌, ◌<◌, ◌&&◌, ◌==◌, ℕ, IfOk, nat_le, nat_lt, map};
+ghost use Rattle.typed_ir.specs.Valuations.{within, any_within};
+ghost use Rattle.typed_ir.specs.Sized.{reads};
+ghost use Rattle.typed_ir.specs.Stmts.{targets, span_of, index_reads, item_reads};
+ghost use Rattle.typed_ir.specs.Nodes.{node_drives, lane_spans};
+ghost use Rattle.typed_ir.specs.Forms.{sized};
+ghost use Rattle.typed_ir.specs.Targets.{target_of, targets_of};
+ghost use Rattle.typed_ir.specs.Statements.{item_of, stmt_of};
+ghost use Rattle.typed_ir.specs.FlatNodes.{node_of};
+ghost use Rattle.typed_ir.specs.Touches.{has_bit, Adds, all_reads, mentions};
+
+use crate::form::Form;
+use crate::lane::Lane;
+use crate::node::Node;
+use crate::span::Span;
+use crate::stmt::{Item, Stmt};
+use crate::target::Target;
+use crate::touch::Touch;
+use no_memory::NoMemory;
+
+// The bits of a run, of which only those below 128 have a place in a mask.
+fn run_mask(low: u8, width: u8) -> u128
+    ensures { (i : ℕ) → i < 128 → has_bit result i ≡ (nat_le low i && nat_lt i (low + width)) }
+{
+    if low >= 128 || width == 0 {
+        return 0;
+    }
+    let below = (1u128 << low) - 1;
+    if width >= 128 - low {
+        return u128::MAX - below;
+    }
+    (u128::MAX >> (128 - (low + width))) - below
+}
+
+// Notes the bits of a span.
+fn note_span(span: Span, touches: &mut Vec<Touch>) -> Result<(), NoMemory>
+    ensures { IfOk result (λ _. Adds touches.old.items touches.new.items (within span)) }
+{
+    touches.push(Touch {
+        signal: span.signal,
+        mask: run_mask(span.low, span.width),
+    })?;
+    Ok(())
+}
+
+// Notes all bits of a signal.
+fn note_signal(signal: u32, touches: &mut Vec<Touch>) -> Result<(), NoMemory>
+    ensures { IfOk result (λ _. Adds touches.old.items touches.new.items (λ s i. s == signal)) }
+{
+    touches.push(Touch {
+        signal,
+        mask: u128::MAX,
+    })?;
+    Ok(())
+}
+
+// Notes the bits that the text of an expression reads.
+fn note_form(form: &Form, touches: &mut Vec<Touch>) -> Result<(), NoMemory>
+    ensures { IfOk result (λ _. Adds touches.old.items touches.new.items (reads (sized form.now))) }
+{
+    match form {
+        Form::Constant(_) => Ok(()),
+        Form::Name(signal, _) => note_signal(*signal, touches),
+        Form::Part(span) => note_span(*span, touches),
+        Form::Pick(signal, _, _, _, index) => {
+            note_signal(*signal, touches)?;
+            note_form(index, touches)
+        }
+        Form::Unary(_, a) | Form::Repeat(_, _, a) | Form::Resized(a, _, _) => note_form(a, touches),
+        Form::Binary(_, a, b) | Form::Concat(_, a, b) => {
+            note_form(a, touches)?;
+            note_form(b, touches)
+        }
+        Form::Choice(c, a, b) => {
+            note_form(c, touches)?;
+            note_form(a, touches)?;
+            note_form(b, touches)
+        }
+    }
+}
+
+// Notes the bits that the indices left of an assignment read.
+fn note_indices(parts: &[Target], touches: &mut Vec<Touch>) -> Result<(), NoMemory>
+    ensures { IfOk result (λ _. Adds touches.old.items touches.new.items (index_reads (targets_of parts.now))) }
+{
+    for part in parts {
+        match part {
+            Target::Fixed(_) => {}
+            Target::Moving(_, index) => note_form(&index.form, touches)?,
+        }
+    }
+    Ok(())
+}
+
+// Notes the bits that the items of an arm read.
+fn note_items(items: &[Item], touches: &mut Vec<Touch>) -> Result<(), NoMemory>
+    ensures { IfOk result (λ _. Adds touches.old.items touches.new.items (item_reads (map item_of items.now))) }
+{
+    for item in items {
+        note_form(&item.item.form, touches)?;
+    }
+    Ok(())
+}
+
+// Notes the bits that are read anywhere in a statement.
+fn note_stmt(st: &Stmt, touches: &mut Vec<Touch>) -> Result<(), NoMemory>
+    ensures { IfOk result (λ _. Adds touches.old.items touches.new.items (all_reads (stmt_of st.now))) }
+{
+    match st {
+        Stmt::Skip => Ok(()),
+        Stmt::Assign(parts, e) | Stmt::Later(parts, e) => {
+            note_form(&e.form, touches)?;
+            note_indices(parts, touches)
+        }
+        Stmt::Then(a, b) => {
+            note_stmt(a, touches)?;
+            note_stmt(b, touches)
+        }
+        Stmt::If(c, a, b) => {
+            note_form(&c.form, touches)?;
+            note_stmt(a, touches)?;
+            note_stmt(b, touches)
+        }
+        Stmt::Case(e, arms) => {
+            note_form(&e.form, touches)?;
+            note_stmt(arms, touches)
+        }
+        Stmt::Arm(items, body, rest) => {
+            note_items(items, touches)?;
+            note_stmt(body, touches)?;
+            note_stmt(rest, touches)
+        }
+    }
+}
+
+// Notes the bits of a target's lanes.
+fn note_lanes(lanes: &[Lane], touches: &mut Vec<Touch>) -> Result<(), NoMemory>
+    ensures { IfOk result (λ _. Adds touches.old.items touches.new.items (any_within (lane_spans lanes.now))) }
+{
+    for lane in lanes {
+        note_span(lane.span, touches)?;
+    }
+    Ok(())
+}
+
+// The bits that an assignment to a part may write.
+fn span_of(part: &Target) -> Span
+    ensures { result ≡ span_of (target_of part.now) }
+{
+    match part {
+        Target::Fixed(lane) => lane.span,
+        Target::Moving(reach, _) => Span {
+            signal: reach.signal,
+            low: 0,
+            width: reach.total,
+        },
+    }
+}
+
+// Notes the bits that an assignment to these parts may write.
+fn note_parts(parts: &[Target], touches: &mut Vec<Touch>) -> Result<(), NoMemory>
+    ensures { IfOk result (λ _. Adds touches.old.items touches.new.items (any_within (map span_of (targets_of parts.now)))) }
+{
+    for part in parts {
+        note_span(span_of(part), touches)?;
+    }
+    Ok(())
+}
+
+// Notes the bits that the blocking assignments of a statement may write.
+#[tactic(auto, using(crate::proofs::Masks::both_spans))]
+fn note_targets(st: &Stmt, touches: &mut Vec<Touch>) -> Result<(), NoMemory>
+    ensures { IfOk result (λ _. Adds touches.old.items touches.new.items (any_within (targets (stmt_of st.now)))) }
+{
+    match st {
+        Stmt::Skip | Stmt::Later(_, _) => Ok(()),
+        Stmt::Assign(parts, _) => note_parts(parts, touches),
+        Stmt::Then(a, b) | Stmt::If(_, a, b) => {
+            note_targets(a, touches)?;
+            note_targets(b, touches)
+        }
+        Stmt::Case(_, arms) => note_targets(arms, touches),
+        Stmt::Arm(_, body, rest) => {
+            note_targets(body, touches)?;
+            note_targets(rest, touches)
+        }
+    }
+}
+
+/// Adds the bits that the text of a node reads: a select whose bits are known its bits, a name or a select at run time the
+/// whole signal. A block's reads of what it wrote before are among them.
+pub fn note_reads(node: &Node, touches: &mut Vec<Touch>) -> Result<(), NoMemory>
+    ensures { IfOk result (λ _. Adds touches.old.items touches.new.items (mentions (node_of node.now))) }
+{
+    match node {
+        Node::Drive(_, e) => note_form(&e.form, touches),
+        Node::Block(body) => note_stmt(body, touches),
+    }
+}
+
+/// Adds the bits that a node drives.
+#[tactic(auto, unfolding(crate::specs::Nodes::node_drives))]
+pub fn note_drives(node: &Node, touches: &mut Vec<Touch>) -> Result<(), NoMemory>
+    ensures { IfOk result (λ _. Adds touches.old.items touches.new.items (node_drives (node_of node.now))) }
+{
+    match node {
+        Node::Drive(lanes, _) => note_lanes(lanes, touches),
+        Node::Block(body) => note_targets(body, touches),
+    }
+}
