@@ -58,9 +58,10 @@ foreign_of all (x ∷ xs) h s (inr m) n = foreign_of all xs (and_right (not (is_
 
 pub written_of : (registers : List ℕ) (sts : List SizedStmt) → blocks_in registers sts ≡ true → WritesRegisters registers sts
 written_of registers [] h = tt
-written_of registers (st ∷ sts) h =
-    (each (later_signals st) (and_left (all_in registers (later_signals st)) (blocks_in registers sts) h),
-    written_of registers sts (and_right (all_in registers (later_signals st)) (blocks_in registers sts) h))
+written_of registers (st ∷ sts) h = (
+  each (later_signals st) (and_left (all_in registers (later_signals st)) (blocks_in registers sts) h),
+  written_of registers sts (and_right (all_in registers (later_signals st)) (blocks_in registers sts) h),
+)
   where
     each : (ss : List ℕ) → all_in registers ss ≡ true → Each (λ s. Member s registers) ss
     each [] k = tt
@@ -195,7 +196,8 @@ flat_sound design table is complete first held driven =
       registers_once = distinct_of design.registers held.one;
       inputs_once = distinct_of design.inputs held.two;
       apart = λ s r i. foreign_of design.inputs design.registers held.three s r i;
-      held = λ s i m. elim m as (λ _. any_drives node_drives design.nodes s i ≡ false)
-          [ inl r ↦ undriven_of design.nodes table design.registers is (and_left (are_undriven table design.registers) (are_undriven table design.inputs) free) s i r
-          | inr d ↦ undriven_of design.nodes table design.inputs is (and_right (are_undriven table design.registers) (are_undriven table design.inputs) free) s i d ];
+      held = λ s i m. elim m as (λ _. any_drives node_drives design.nodes s i ≡ false) [
+        | inl r ↦ undriven_of design.nodes table design.registers is (and_left (are_undriven table design.registers) (are_undriven table design.inputs) free) s i r
+        | inr d ↦ undriven_of design.nodes table design.inputs is (and_right (are_undriven table design.registers) (are_undriven table design.inputs) free) s i d
+      ];
     }
