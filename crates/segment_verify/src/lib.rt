@@ -1,4 +1,5 @@
-// The verification of a stretch between two marks: its ticket's own machine runs over the ticket's rows.
+// The verification of a stretch between two marks: its ticket's own machine runs over the ticket's rows. And the worker
+// that claims such stretches from a shared book, verifies and installs them.
 #![tactic(auto)]
 
 ghost use Rattle.std.specs.Prelude.{◌≡◌, ◌+◌, ◌-◌, ◌*◌, ◌≤◌};
@@ -9,6 +10,7 @@ mod held;
 #[cfg(test)]
 mod tests;
 pub mod verification;
+pub mod worker;
 
 use checkpoint_book::ticket::Ticket;
 use checkpoint_book::verified::Verified;

@@ -1,0 +1,102 @@
+-- What one turn of a worker asks and gives, by the call that it makes on the book.
+use Rattle.std.proofs.Common.{◌≡◌, ℕ, Bool, true, false, List, [], ◌∷◌, ◌++◌, ◌||◌, Result, Ok, Err, Option, Some, IfOk, OnErr, eqb, refl, sym, ap, ◌∙◌, subst}
+use Rattle.std.proofs.lemmas.Bool.{eq-eqb, cond-true}
+use Rattle.machine.specs.Kit.{Kit}
+use Rattle.book_history.specs.declared.who.Who.{Who}
+use Rattle.book_history.specs.declared.who.Who.TheVariants.{Worker}
+use Rattle.book_history.specs.Book.{Settings, Event, Claimed, Ticket as Drawn, replay}
+use Rattle.book_history.specs.Journal.{Journal}
+use Rattle.book_history.specs.Owned.{is_owned}
+use Rattle.book_history.specs.Outs.{IsOutFor}
+use Rattle.book_history.specs.Tickets.{is_among, is_used, without, kept, MayAdd}
+use Rattle.book_history.proofs.Bridge.{still_out}
+use Rattle.book_turn.specs.Known.{Known, entered, left}
+use Rattle.book_turn.specs.Rule.{MayLeave, Learned}
+use Rattle.book_turn.proofs.Callers.{may_leave_one, may_leave_none, tickets_one, tickets_none}
+use Rattle.book_turn.proofs.Holdings.{used_append}
+use Rattle.checkpoint_book.specs.declared.claimed.Claimed.{Claimed as Answer}
+use Rattle.checkpoint_book.specs.declared.claimed.Claimed.TheVariants.{Ticket, Nothing}
+use Rattle.checkpoint_book.specs.Claims.{ClaimIs, claims_nothing}
+use Rattle.checkpoint_book.specs.Views.{book_of}
+use Rattle.segment_verify.specs.Workers.{is_closed, IsFree, IsOutAfter, HasTicket, HasDrawn}
+
+or_first : (b : Bool) → b ≡ true → b || false ≡ true
+or_first true e = refl
+or_first false e = e
+
+or_second : (a b : Bool) → a || b ≡ false → b ≡ false
+or_second true b e = absurd cc
+or_second false b e = e
+
+mine : (n : ℕ) (ts : List ℕ) → ts ≡ n ∷ [] → is_among n ts ≡ true
+mine n ts is = ap (λ l. is_among n l) is ∙ or_first (eqb n n) (eq-eqb n n refl)
+
+none_left : (n : ℕ) (ts : List ℕ) → ts ≡ n ∷ [] → without n ts ≡ []
+none_left n ts is = ap (λ l. without n l) is ∙ cond-true (eqb n n) [] (n ∷ []) (eq-eqb n n refl)
+
+-- v is what the pass knew before it entered, w what it then knows; j is the book that it was given, i the book behind the
+-- reference, and l the book after the call
+module _ {D S R O : Type 0} (k : Kit D S R O) where
+  -- a ticket of the pass is still out in the book that it is given
+  pub out_now : (v : Known D R O) (i j : Journal D R O) (t : ℕ × Drawn D S R) (by : Who) → i ≡ j → Learned v j → HasTicket k by t v → IsOutFor (book_of k i) t.0 t.1 by
+  out_now v i j t by same learned has =
+      let es : List (Event D R O) = learned.begins.0 in
+      let unused : is_used t.0 es ≡ false =
+      or_second (is_used t.0 v.seen) (is_used t.0 es) (sym (used_append t.0 v.seen es) ∙ ap (λ h. is_used t.0 h) (sym learned.begins.1) ∙ (learned.are_out t.0 (mine t.0 v.tickets has.tickets)).unused) in
+      let before : IsOutAfter k (Some j.settings) v.seen t by = subst (λ (st : Option Settings). IsOutAfter k st v.seen t by) learned.carries has.is_out in
+      let now : IsOutFor (replay k j.settings (v.seen ++ es)) t.0 t.1 by = still_out k j.settings v.seen es t.0 t.1 by before unused in
+      subst (λ (x : Journal D R O). IsOutFor (book_of k x) t.0 t.1 by) (sym same) (subst (λ h. IsOutFor (replay k j.settings h) t.0 t.1 by) (sym learned.begins.1) now)
+
+  carried : (v : Known D R O) (j l : Journal D R O) → Learned v j → l.settings ≡ j.settings → v.settings ≡ Some l.settings
+  carried v j l learned kept_settings = learned.carries ∙ ap Some (sym kept_settings)
+
+  -- one entry of a worker's was added to the book j
+  one : (v : Known D R O) (j l : Journal D R O) (e : Event D R O) → Learned v j → v.session ≡ false → l.settings ≡ j.settings → l.events ≡ j.events ++ e ∷ [] → is_owned e ≡ false
+      → MayAdd j.events v.tickets e → MayLeave (entered v j) l
+  one v j l e learned worker settings events own may = may_leave_one (entered v j) l e refl (carried v j l learned settings) events (own ∙ sym worker) may
+
+  none : (v : Known D R O) (j l : Journal D R O) → Learned v j → l.settings ≡ j.settings → l.events ≡ j.events → MayLeave (entered v j) l
+  none v j l learned settings events = may_leave_none (entered v j) l refl (carried v j l learned settings) events
+
+  module _ {E : Type 0} where
+    claim_leaves : (v : Known D R O) (j l : Journal D R O) (by : ℕ) (r : Result (Answer D S R O) E) → Learned v j → v.session ≡ false → l.settings ≡ j.settings
+        → IfOk r (ClaimIs k (Worker by) j l) → OnErr r ((l.events ≡ j.events) × (claims_nothing k (Worker by) j ≡ false)) → MayLeave (entered v j) l
+    claim_leaves v j l by (Ok (Ticket t)) learned worker settings ok err = one v j l (Claimed t.0 t.1.a t.1.b (Worker by)) learned worker settings ok.0.events refl (ok.0.not_drawn, ok.0.not_used)
+    claim_leaves v j l by (Ok (Nothing full closed)) learned worker settings ok err = none v j l learned settings ok.0
+    claim_leaves v j l by (Err e) learned worker settings ok err = none v j l learned settings err.0
+
+    claim_gives : (v : Known D R O) (j l : Journal D R O) (by : ℕ) (r : Result (Answer D S R O) E) → IsFree v → Learned v j → l.settings ≡ j.settings
+        → IfOk r (ClaimIs k (Worker by) j l) → OnErr r ((l.events ≡ j.events) × (claims_nothing k (Worker by) j ≡ false)) → HasDrawn k (Worker by) r (left (entered v j) l)
+    claim_gives v j l by (Ok (Ticket t)) free learned settings ok err = record {
+      outside = refl;
+      tickets = tickets_one (entered v j) l (Claimed t.0 t.1.a t.1.b (Worker by)) ok.0.events ∙ ap (λ ts. t.0 ∷ ts) free.no_ticket;
+      is_out = subst (λ (st : Option Settings). IsOutAfter k st l.events t (Worker by)) (sym (carried v j l learned settings)) ok.0.is_out;
+    }
+    claim_gives v j l by (Ok (Nothing full closed)) free learned settings ok err =
+        (record { outside = refl; no_ticket = tickets_none (entered v j) l ok.0 ∙ free.no_ticket }, ok.3 ∙ ap (λ (h : List (Event D R O)). is_closed h) (sym ok.0))
+    claim_gives v j l by (Err e) free learned settings ok err = record { outside = refl; no_ticket = tickets_none (entered v j) l err.0 ∙ free.no_ticket }
+
+    pub may_claim : (v w : Known D R O) (i j l : Journal D R O) (by : ℕ) (r : Result (Answer D S R O) E) → w ≡ entered v j → i ≡ j → Learned v j → v.session ≡ false → l.settings ≡ i.settings
+        → IfOk r (ClaimIs k (Worker by) i l) → OnErr r ((l.events ≡ i.events) × (claims_nothing k (Worker by) i ≡ false)) → MayLeave w l
+    may_claim v w i j l by r knows same learned worker settings ok err =
+        subst (λ (y : Known D R O). MayLeave y l) (ap (λ y. entered v y) same ∙ sym knows)
+        (claim_leaves v i l by r (subst (λ (y : Journal D R O). Learned v y) (sym same) learned) worker settings ok err)
+
+    pub has_drawn : (v w x : Known D R O) (i j l : Journal D R O) (by : ℕ) (r : Result (Answer D S R O) E) → w ≡ entered v j → x ≡ left w l → i ≡ j → IsFree v → Learned v j → l.settings ≡ i.settings
+        → IfOk r (ClaimIs k (Worker by) i l) → OnErr r ((l.events ≡ i.events) × (claims_nothing k (Worker by) i ≡ false)) → HasDrawn k (Worker by) r x
+    has_drawn v w x i j l by r knows leaves same free learned settings ok err =
+        subst (λ (y : Known D R O). HasDrawn k (Worker by) r y) (ap (λ (y : Journal D R O). left (entered v y) l) same ∙ ap (λ (y : Known D R O). left y l) (sym knows) ∙ sym leaves)
+        (claim_gives v i l by r free (subst (λ (y : Journal D R O). Learned v y) (sym same) learned) settings ok err)
+
+  -- the ticket n of the pass was used up by the entry e
+  pub may_use : (v w : Known D R O) (i j l : Journal D R O) (t : ℕ × Drawn D S R) (by : Who) (e : Event D R O) → w ≡ entered v j → i ≡ j → Learned v j → v.session ≡ false → HasTicket k by t v
+      → l.settings ≡ i.settings → l.events ≡ i.events ++ e ∷ [] → is_owned e ≡ false → (is_among t.0 v.tickets ≡ true → MayAdd i.events v.tickets e) → MayLeave w l
+  may_use v w i j l t by e knows same learned worker has settings events own uses =
+      subst (λ (y : Known D R O). MayLeave y l) (ap (λ y. entered v y) same ∙ sym knows)
+      (one v i l e (subst (λ (y : Journal D R O). Learned v y) (sym same) learned) worker settings events own (uses (mine t.0 v.tickets has.tickets)))
+
+  pub is_free : (v w x : Known D R O) (i j l : Journal D R O) (t : ℕ × Drawn D S R) (by : Who) (e : Event D R O) → w ≡ entered v j → x ≡ left w l → i ≡ j → HasTicket k by t v
+      → l.events ≡ i.events ++ e ∷ [] → kept v.tickets e ≡ without t.0 v.tickets → IsFree x
+  is_free v w x i j l t by e knows leaves same has events uses =
+      subst (λ (y : Known D R O). IsFree y) (ap (λ (y : Journal D R O). left (entered v y) l) same ∙ ap (λ (y : Known D R O). left y l) (sym knows) ∙ sym leaves)
+      (record { outside = refl; no_ticket = tickets_one (entered v i) l e events ∙ uses ∙ none_left t.0 v.tickets has.tickets })

@@ -1,0 +1,4 @@
+use Rattle.segment_verify.proofs.worker.work_on.Given as goal
+
+abbrev pub ghosts-uncounted : goal.ghosts-uncounted
+ghosts-uncounted g a = record { name = a.blank.name; parts = a.blank.parts }

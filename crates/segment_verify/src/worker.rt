@@ -1,0 +1,157 @@
+// What a worker does: it claims in one turn of the book, verifies outside of it, and installs in another, until the book
+// is closed.
+ghost use Rattle.std.specs.Prelude.{◌≡◌, ◌<◌, false};
+ghost use Rattle.book_history.specs.declared.who.Who.TheVariants.{Worker};
+ghost use Rattle.book_turn.specs.Passes.{IsOf, known};
+ghost use Rattle.segment_verify.specs.Outcome.{IsOf as IsTicketOf};
+ghost use Rattle.segment_verify.specs.Workers.{IsFree, HasEnded, HasTicket, HasDrawn};
+
+use crate::verification::Verification;
+use crate::verify;
+use book_history::who::Who;
+use book_turn::{Turn, WorkerPass};
+use checkpoint_book::book::Book;
+use checkpoint_book::claimed::Claimed;
+use checkpoint_book::ticket::Ticket;
+use checkpoint_book::verified::Verified;
+use crossbeam_utils::Backoff;
+use ls_port::{Gate, GateStep};
+use machine::Machine;
+use machine::steps::Steps;
+use no_memory::NoMemory;
+use std::alloc::Global;
+use std::marker::Brand;
+use std::sync::Wait;
+use std::sync::ledger::{Blank, Ledger};
+
+/// Claims, verifies and installs as worker `number` until a claim tells that the book is closed. The pass comes back free,
+/// and has seen the Close.
+///
+/// The gate is asked before each verification and before each install, while others may have the book. A ticket whose
+/// verification wants memory is given up. Where no link is open, or a claim wants memory, it backs off and tries again.
+pub fn worker_loop<M: Machine, G: Gate, R: Wait>(
+    rt: &R,
+    alloc: Global,
+    turn: &Turn<Book<M>>,
+    mut pass: WorkerPass<Book<M>>,
+    number: u16,
+    gate: &G,
+) -> WorkerPass<Book<M>>
+    requires turn { IsOf turn.now pass false }
+    requires free { IsFree (known pass) }
+    ensures turn { IsOf turn.now result false }
+    ensures ended { HasEnded (known result) }
+{
+    let backoff = Backoff::new();
+    for _ in rt.forever() {
+        match claim(rt, alloc, turn, &mut pass, number) {
+            Ok(Claimed::Ticket(ticket)) => {
+                work_on(rt, alloc, turn, &mut pass, number, gate, ticket);
+                backoff.reset();
+            }
+            Ok(Claimed::Nothing { closed: true, .. }) => return pass,
+            Ok(Claimed::Nothing { closed: false, .. }) => backoff.snooze(),
+            Err(NoMemory) => backoff.snooze(),
+        }
+    }
+    unreachable!()
+}
+
+/// Verifies a ticket while others may have the book, and installs it, or gives it up where memory runs out.
+fn work_on<M: Machine, G: Gate, R: Wait>(
+    rt: &R,
+    alloc: Global,
+    turn: &Turn<Book<M>>,
+    pass: &mut WorkerPass<Book<M>>,
+    number: u16,
+    gate: &G,
+    ticket: Ticket<M>,
+)
+    requires turn { IsOf turn.now pass.old false }
+    requires ticket { HasTicket M.kit (Worker number) ticket (known pass.old) }
+    ensures turn { IsOf turn.now pass.new false }
+    ensures free { IsFree (known pass.new) }
+{
+    let drawn = ticket.number();
+    gate.before(drawn, GateStep::Verify);
+    match uncounted::<M, Brand>(alloc, ticket, Blank::new(1)) {
+        Verification::Done(verified) => {
+            gate.before(drawn, GateStep::Install);
+            install(rt, turn, pass, number, verified);
+        }
+        Verification::NoMemory(ticket) => release(rt, turn, pass, number, ticket),
+    }
+}
+
+/// Verifies with a counter of its own, which nobody reads.
+fn uncounted<M: Machine, L: Ledger>(
+    alloc: Global,
+    ticket: Ticket<M>,
+    blank: Blank,
+) -> Verification<M>
+    requires name { blank.name ≡ L.name }
+    requires parts { blank.parts ≡ L.parts }
+    requires some { 0 < blank.parts }
+    ensures { IsTicketOf ticket result }
+{
+    let mut steps = Steps::<L>::start(blank);
+    verify(alloc, ticket, &mut steps)
+}
+
+/// Claims in one turn of the book.
+fn claim<M: Machine, R: Wait>(
+    rt: &R,
+    alloc: Global,
+    turn: &Turn<Book<M>>,
+    pass: &mut WorkerPass<Book<M>>,
+    number: u16,
+) -> Result<Claimed<M>, NoMemory>
+    requires turn { IsOf turn.now pass.old false }
+    requires free { IsFree (known pass.old) }
+    ensures turn { IsOf turn.now pass.new false }
+    ensures drawn { HasDrawn M.kit (Worker number) result (known pass.new) }
+{
+    let mut boxed = turn.enter(rt, pass);
+    let book: &mut Book<M> = &mut boxed;
+    let answer = book.claim(alloc, number);
+    turn.leave(rt, pass, boxed);
+    answer
+}
+
+/// Installs in one turn of the book.
+fn install<M: Machine, R: Wait>(
+    rt: &R,
+    turn: &Turn<Book<M>>,
+    pass: &mut WorkerPass<Book<M>>,
+    number: u16,
+    verified: Verified<M>,
+)
+    requires turn { IsOf turn.now pass.old false }
+    requires ticket { HasTicket M.kit (Worker number) verified (known pass.old) }
+    ensures turn { IsOf turn.now pass.new false }
+    ensures free { IsFree (known pass.new) }
+{
+    let mut boxed = turn.enter(rt, pass);
+    let book: &mut Book<M> = &mut boxed;
+    let _ = book.install(Who::Worker(number), verified);
+    turn.leave(rt, pass, boxed);
+}
+
+/// Gives a ticket up in one turn of the book.
+fn release<M: Machine, R: Wait>(
+    rt: &R,
+    turn: &Turn<Book<M>>,
+    pass: &mut WorkerPass<Book<M>>,
+    number: u16,
+    ticket: Ticket<M>,
+)
+    requires turn { IsOf turn.now pass.old false }
+    requires ticket { HasTicket M.kit (Worker number) ticket (known pass.old) }
+    ensures turn { IsOf turn.now pass.new false }
+    ensures free { IsFree (known pass.new) }
+{
+    let mut boxed = turn.enter(rt, pass);
+    let book: &mut Book<M> = &mut boxed;
+    book.release(Who::Worker(number), ticket);
+    turn.leave(rt, pass, boxed);
+}
