@@ -1,5 +1,5 @@
 -- What the checks of parts say.
-use Rattle.std.proofs.Common.{◌≡◌, ℕ, zero, suc, ◌<◌, ◌⊎◌, inl, inr, Bool, true, false, not, ◌||◌, ◌&&◌, ◌==◌, List, [], ◌∷◌, ◌++◌, length, map, refl, sym, ◌∙◌, ap, arith, true≢false}
+use Rattle.std.proofs.Common.{◌≡◌, ℕ, zero, suc, ◌<◌, inl, inr, Bool, true, false, not, ◌||◌, ◌&&◌, ◌==◌, List, [], ◌∷◌, ◌++◌, length, refl, sym, ◌∙◌, ap, arith, true≢false}
 use Rattle.std.specs.Prelude.{bit_or}
 use Rattle.std.specs.declared.vec.Vec.{Vec}
 use Rattle.std.specs.Global.{Global}
@@ -7,7 +7,7 @@ use Rattle.std.proofs.lemmas.Bool.{eqb-true, eq-eqb}
 use Rattle.typed_ir.specs.Stmts.{SizedStmt, later_signals}
 use Rattle.typed_ir.specs.Nodes.{FlatNode, Drive, Block, node_drives, drives_at, OneDriver, IsComplete}
 use Rattle.typed_ir.specs.Orders.{Member, Each, Distinct, any_drives}
-use Rattle.typed_ir.specs.Cycles.{Flat, WritesRegisters, IsSound}
+use Rattle.typed_ir.specs.Cycles.{Flat, WritesRegisters}
 use Rattle.typed_ir.specs.Flats.{NodeWritesFirst, IsFlat}
 use Rattle.typed_ir.specs.Touches.{has_bit, is_block}
 use Rattle.typed_ir.proofs.Cases.{by_cases, left_or, right_or, and_left, and_right, or_left, or_right}
@@ -58,9 +58,10 @@ foreign_of all (x ∷ xs) h s (inr m) n = foreign_of all xs (and_right (not (is_
 
 pub written_of : (registers : List ℕ) (sts : List SizedStmt) → blocks_in registers sts ≡ true → WritesRegisters registers sts
 written_of registers [] h = tt
-written_of registers (st ∷ sts) h =
-    (each (later_signals st) (and_left (all_in registers (later_signals st)) (blocks_in registers sts) h),
-    written_of registers sts (and_right (all_in registers (later_signals st)) (blocks_in registers sts) h))
+written_of registers (st ∷ sts) h = (
+  each (later_signals st) (and_left (all_in registers (later_signals st)) (blocks_in registers sts) h),
+  written_of registers sts (and_right (all_in registers (later_signals st)) (blocks_in registers sts) h),
+)
   where
     each : (ss : List ℕ) → all_in registers ss ≡ true → Each (λ s. Member s registers) ss
     each [] k = tt
@@ -195,7 +196,8 @@ flat_sound design table is complete first held driven =
       registers_once = distinct_of design.registers held.one;
       inputs_once = distinct_of design.inputs held.two;
       apart = λ s r i. foreign_of design.inputs design.registers held.three s r i;
-      held = λ s i m. elim m as (λ _. any_drives node_drives design.nodes s i ≡ false)
-          [ inl r ↦ undriven_of design.nodes table design.registers is (and_left (are_undriven table design.registers) (are_undriven table design.inputs) free) s i r
-          | inr d ↦ undriven_of design.nodes table design.inputs is (and_right (are_undriven table design.registers) (are_undriven table design.inputs) free) s i d ];
+      held = λ s i m. elim m as (λ _. any_drives node_drives design.nodes s i ≡ false) [
+        | inl r ↦ undriven_of design.nodes table design.registers is (and_left (are_undriven table design.registers) (are_undriven table design.inputs) free) s i r
+        | inr d ↦ undriven_of design.nodes table design.inputs is (and_right (are_undriven table design.registers) (are_undriven table design.inputs) free) s i d
+      ];
     }

@@ -32,7 +32,12 @@ fn copy(alloc: Global, to: u32, from: u32) -> Result<Node, NoMemory> {
 }
 
 // assign TO[I] = FROM[J];
-fn copy_bit(rt: &impl Abort, alloc: Global, to: (u32, u8), from: (u32, u8)) -> Result<Node, NoMemory> {
+fn copy_bit(
+    rt: &impl Abort,
+    alloc: Global,
+    to: (u32, u8),
+    from: (u32, u8),
+) -> Result<Node, NoMemory> {
     assert!(rt; from.1 < 128);
     assign(alloc, bit(to.0, to.1), Typed::part(bit(from.0, from.1)))
 }
@@ -89,7 +94,11 @@ fn two_ways_that_join(rt: HostRuntime) -> Result<(), Fail> {
     // assign s3 = s1 & s2, s1 = s0, s2 = s0;
     let both = BinaryOperator::Arithmetic(ArithmeticOperator::And);
     let sum = Typed::binary(alloc, both, Typed::name(1, 1), Typed::name(2, 1))?;
-    let nodes = vec![in alloc; assign(alloc, bit(3, 0), sum)?, copy(alloc, 1, 0)?, copy(alloc, 2, 0)?]?;
+    let nodes = vec![in alloc;
+        assign(alloc, bit(3, 0), sum)?,
+        copy(alloc, 1, 0)?,
+        copy(alloc, 2, 0)?,
+    ]?;
     let (placed, list) = answer(&rt, alloc, &[1; 4], nodes)?;
     assert!(rt; placed);
     assert_eq!(rt; list.len(), 3);
@@ -116,7 +125,10 @@ fn a_bus_bit_by_bit(rt: HostRuntime) -> Result<(), Fail> {
 fn one_bit_from_another_of_its_signal(rt: HostRuntime) -> Result<(), Fail> {
     let alloc = rt.alloc();
     // assign c[1] = c[0], c[0] = d[0];
-    let nodes = vec![in alloc; copy_bit(&rt, alloc, (0, 1), (0, 0))?, copy_bit(&rt, alloc, (0, 0), (1, 0))?]?;
+    let nodes = vec![in alloc;
+        copy_bit(&rt, alloc, (0, 1), (0, 0))?,
+        copy_bit(&rt, alloc, (0, 0), (1, 0))?,
+    ]?;
     let (placed, list) = answer(&rt, alloc, &[2, 8], nodes)?;
     assert!(rt; placed);
     assert_eq!(rt; list.as_slice(), [1, 0].as_slice());

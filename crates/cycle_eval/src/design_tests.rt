@@ -12,8 +12,7 @@ use std::process::Abort;
 use std::sync::ledger::{Blank, Ledger};
 use std::test::Fail;
 use typed_ir::{
-    ArithmeticOperator, BinaryOperator, Item, Lane, Node, Reach, Signal, Span, Stmt,
-    Target, Typed,
+    ArithmeticOperator, BinaryOperator, Item, Lane, Node, Reach, Signal, Span, Stmt, Target, Typed,
 };
 
 // Signals of these widths and values at the beginning.
@@ -179,10 +178,19 @@ fn a_place_known_at_run_time(rt: HostRuntime) -> Result<(), Fail> {
         clocked: vec![in alloc; then(alloc, one, next)?]?,
     };
     let design = design_of(&rt, alloc, parts)?;
-    assert_eq!(rt; after(alloc, &design, 3)?.as_slice(), [0b0111, 3].as_slice());
-    assert_eq!(rt; after(alloc, &design, 4)?.as_slice(), [0b1111, 4].as_slice());
+    assert_eq!(rt;
+        after(alloc, &design, 3)?.as_slice(),
+        [0b0111, 3].as_slice()
+    );
+    assert_eq!(rt;
+        after(alloc, &design, 4)?.as_slice(),
+        [0b1111, 4].as_slice()
+    );
     // Places 4 to 7 lie outside of q.
-    assert_eq!(rt; after(alloc, &design, 8)?.as_slice(), [0b1111, 0].as_slice());
+    assert_eq!(rt;
+        after(alloc, &design, 8)?.as_slice(),
+        [0b1111, 0].as_slice()
+    );
     Ok(())
 }
 
@@ -231,7 +239,12 @@ fn wires_written_backwards(rt: HostRuntime) -> Result<(), Fail> {
     let alloc = rt.alloc();
     let xor = BinaryOperator::Arithmetic(ArithmeticOperator::Xor);
     let nodes = vec![in alloc;
-        assign(alloc, 4, 4, Typed::binary(alloc, xor, Typed::name(3, 4), number(3, 4))?)?,
+        assign(
+            alloc,
+            4,
+            4,
+            Typed::binary(alloc, xor, Typed::name(3, 4), number(3, 4))?
+        )?,
         assign(alloc, 3, 4, plus(alloc, 0, 4, 1)?)?,
     ]?;
     let others = then(
@@ -240,7 +253,11 @@ fn wires_written_backwards(rt: HostRuntime) -> Result<(), Fail> {
         later(alloc, 2, 4, plus(alloc, 6, 4, 1)?)?,
     )?;
     let parts = Parts {
-        signals: signals(&rt, alloc, &[(4, 0), (4, 9), (4, 0), (4, 0), (4, 0), (4, 0), (4, 0)])?,
+        signals: signals(
+            &rt,
+            alloc,
+            &[(4, 0), (4, 9), (4, 0), (4, 0), (4, 0), (4, 0), (4, 0)],
+        )?,
         registers: vec![in alloc; 0, 1, 2]?,
         inputs: vec![in alloc; 6]?,
         nodes,
