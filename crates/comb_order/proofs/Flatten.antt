@@ -1,5 +1,5 @@
 -- What the checks of parts say.
-use Rattle.std.proofs.Common.{◌≡◌, ℕ, zero, suc, ◌<◌, ◌⊎◌, inl, inr, Bool, true, false, not, ◌||◌, ◌&&◌, ◌==◌, List, [], ◌∷◌, ◌++◌, length, map, refl, sym, ◌∙◌, ap, arith, true≢false}
+use Rattle.std.proofs.Common.{◌≡◌, ℕ, zero, suc, ◌<◌, inl, inr, Bool, true, false, not, ◌||◌, ◌&&◌, ◌==◌, List, [], ◌∷◌, ◌++◌, length, refl, sym, ◌∙◌, ap, arith, true≢false}
 use Rattle.std.specs.Prelude.{bit_or}
 use Rattle.std.specs.declared.vec.Vec.{Vec}
 use Rattle.std.specs.Global.{Global}
@@ -7,7 +7,7 @@ use Rattle.std.proofs.lemmas.Bool.{eqb-true, eq-eqb}
 use Rattle.typed_ir.specs.Stmts.{SizedStmt, later_signals}
 use Rattle.typed_ir.specs.Nodes.{FlatNode, Drive, Block, node_drives, drives_at, OneDriver, IsComplete}
 use Rattle.typed_ir.specs.Orders.{Member, Each, Distinct, any_drives}
-use Rattle.typed_ir.specs.Cycles.{Flat, WritesRegisters, IsSound}
+use Rattle.typed_ir.specs.Cycles.{Flat, WritesRegisters}
 use Rattle.typed_ir.specs.Flats.{NodeWritesFirst, IsFlat}
 use Rattle.typed_ir.specs.Touches.{has_bit, is_block}
 use Rattle.typed_ir.proofs.Cases.{by_cases, left_or, right_or, and_left, and_right, or_left, or_right}

@@ -26,20 +26,27 @@ fn assign(alloc: Global, span: Span, e: Typed) -> Result<Node, NoMemory> {
     Ok(Node::Drive(lanes, e))
 }
 
-// assign TO = FROM; both of one bit
-fn copy(alloc: Global, to: u32, from: u32) -> Result<Node, NoMemory> {
-    assign(alloc, bit(to, 0), Typed::name(from, 1))
+// assign TO = FROM; both of one bit, for each pair
+fn copies(alloc: Global, pairs: &[(u32, u32)]) -> Result<Vec<Node>, NoMemory> {
+    let mut nodes = Vec::new(alloc);
+    for (to, from) in pairs {
+        nodes.push(assign(alloc, bit(*to, 0), Typed::name(*from, 1))?)?;
+    }
+    Ok(nodes)
 }
 
-// assign TO[I] = FROM[J];
-fn copy_bit(
+// assign TO[I] = FROM[J]; for each line of the table: TO, I, FROM and J
+fn bit_copies(
     rt: &impl Abort,
     alloc: Global,
-    to: (u32, u8),
-    from: (u32, u8),
-) -> Result<Node, NoMemory> {
-    assert!(rt; from.1 < 128);
-    assign(alloc, bit(to.0, to.1), Typed::part(bit(from.0, from.1)))
+    table: &[(u32, u8, u32, u8)],
+) -> Result<Vec<Node>, NoMemory> {
+    let mut nodes = Vec::new(alloc);
+    for (to, i, from, j) in table {
+        assert!(rt; *j < 128);
+        nodes.push(assign(alloc, bit(*to, *i), Typed::part(bit(*from, *j)))?)?;
+    }
+    Ok(nodes)
 }
 
 // What the order of a design with signals of these widths and these nodes is: true and an order, or false and the loop.
@@ -78,107 +85,102 @@ fn answer(
     }
 }
 
-#[test]
-fn a_chain_written_backwards(rt: HostRuntime) -> Result<(), Fail> {
-    let alloc = rt.alloc();
-    let nodes = vec![in alloc; copy(alloc, 3, 2)?, copy(alloc, 2, 1)?, copy(alloc, 1, 0)?]?;
-    let (placed, list) = answer(&rt, alloc, &[1; 4], nodes)?;
+// That this is the only order.
+fn expect_order(
+    rt: &impl Abort,
+    alloc: Global,
+    widths: &[u8],
+    nodes: Vec<Node>,
+    wanted: &[u32],
+) -> Result<(), NoMemory> {
+    let (placed, list) = answer(rt, alloc, widths, nodes)?;
     assert!(rt; placed);
-    assert_eq!(rt; list.as_slice(), [2, 1, 0].as_slice());
+    assert_eq!(rt; list.as_slice(), wanted);
     Ok(())
 }
 
+// That this is the loop.
+fn expect_loop(
+    rt: &impl Abort,
+    alloc: Global,
+    widths: &[u8],
+    nodes: Vec<Node>,
+    wanted: &[u32],
+) -> Result<(), NoMemory> {
+    let (placed, list) = answer(rt, alloc, widths, nodes)?;
+    assert!(rt; !placed);
+    assert_eq!(rt; list.as_slice(), wanted);
+    Ok(())
+}
+
+#[test]
+fn a_chain_written_backwards(rt: HostRuntime) -> Result<(), Fail> {
+    let nodes = copies(rt.alloc(), &[(3, 2), (2, 1), (1, 0)])?;
+    expect_order(&rt, rt.alloc(), &[1; 4], nodes, &[2, 1, 0])?;
+    Ok(())
+}
+
+// assign s1 = s0, s2 = s0, s3 = s1 & s2;
 #[test]
 fn two_ways_that_join(rt: HostRuntime) -> Result<(), Fail> {
     let alloc = rt.alloc();
-    // assign s3 = s1 & s2, s1 = s0, s2 = s0;
     let both = BinaryOperator::Arithmetic(ArithmeticOperator::And);
     let sum = Typed::binary(alloc, both, Typed::name(1, 1), Typed::name(2, 1))?;
-    let nodes = vec![in alloc;
-        assign(alloc, bit(3, 0), sum)?,
-        copy(alloc, 1, 0)?,
-        copy(alloc, 2, 0)?,
-    ]?;
+    let mut nodes = copies(alloc, &[(1, 0), (2, 0)])?;
+    nodes.push(assign(alloc, bit(3, 0), sum)?)?;
     let (placed, list) = answer(&rt, alloc, &[1; 4], nodes)?;
-    assert!(rt; placed);
-    assert_eq!(rt; list.len(), 3);
-    assert_eq!(rt; list[2], 0);
+    assert!(rt; placed && list.len() == 3);
+    assert_eq!(rt; list[2], 2);
     Ok(())
 }
 
+// assign s1[2] = s1[1], s1[1] = s1[0], s1[0] = s0;
 #[test]
 fn a_bus_bit_by_bit(rt: HostRuntime) -> Result<(), Fail> {
-    let alloc = rt.alloc();
-    // assign s1[2] = s1[1], s1[1] = s1[0], s1[0] = s0;
-    let nodes = vec![in alloc;
-        copy_bit(&rt, alloc, (1, 2), (1, 1))?,
-        copy_bit(&rt, alloc, (1, 1), (1, 0))?,
-        copy_bit(&rt, alloc, (1, 0), (0, 0))?,
-    ]?;
-    let (placed, list) = answer(&rt, alloc, &[1, 3], nodes)?;
-    assert!(rt; placed);
-    assert_eq!(rt; list.as_slice(), [2, 1, 0].as_slice());
+    let nodes = bit_copies(&rt, rt.alloc(), &[(1, 2, 1, 1), (1, 1, 1, 0), (1, 0, 0, 0)])?;
+    expect_order(&rt, rt.alloc(), &[1, 3], nodes, &[2, 1, 0])?;
     Ok(())
 }
 
+// assign c[1] = c[0], c[0] = d[0];
 #[test]
 fn one_bit_from_another_of_its_signal(rt: HostRuntime) -> Result<(), Fail> {
-    let alloc = rt.alloc();
-    // assign c[1] = c[0], c[0] = d[0];
-    let nodes = vec![in alloc;
-        copy_bit(&rt, alloc, (0, 1), (0, 0))?,
-        copy_bit(&rt, alloc, (0, 0), (1, 0))?,
-    ]?;
-    let (placed, list) = answer(&rt, alloc, &[2, 8], nodes)?;
-    assert!(rt; placed);
-    assert_eq!(rt; list.as_slice(), [1, 0].as_slice());
+    let nodes = bit_copies(&rt, rt.alloc(), &[(0, 1, 0, 0), (0, 0, 1, 0)])?;
+    expect_order(&rt, rt.alloc(), &[2, 8], nodes, &[1, 0])?;
     Ok(())
 }
 
+// assign c[1] = c[d];
 #[test]
 fn a_select_at_run_time_reads_the_whole_signal(rt: HostRuntime) -> Result<(), Fail> {
     let alloc = rt.alloc();
-    // assign c[1] = c[d];
     let pick = Typed::pick(alloc, 0, 1, 0, false, Typed::name(1, 1))?;
-    let nodes = vec![in alloc; assign(alloc, bit(0, 1), pick)?]?;
-    let (placed, list) = answer(&rt, alloc, &[2, 1], nodes)?;
-    assert!(rt; !placed);
-    assert_eq!(rt; list.as_slice(), [0].as_slice());
+    let mut nodes = Vec::new(alloc);
+    nodes.push(assign(alloc, bit(0, 1), pick)?)?;
+    expect_loop(&rt, alloc, &[2, 1], nodes, &[0])?;
     Ok(())
 }
 
 #[test]
 fn two_in_a_circle(rt: HostRuntime) -> Result<(), Fail> {
-    let alloc = rt.alloc();
-    // assign x = y, y = x;
-    let nodes = vec![in alloc; copy(alloc, 0, 1)?, copy(alloc, 1, 0)?]?;
-    let (placed, list) = answer(&rt, alloc, &[1; 2], nodes)?;
-    assert!(rt; !placed);
-    assert_eq!(rt; list.as_slice(), [0, 1].as_slice());
+    let nodes = copies(rt.alloc(), &[(0, 1), (1, 0)])?;
+    expect_loop(&rt, rt.alloc(), &[1; 2], nodes, &[0, 1])?;
     Ok(())
 }
 
 // Node 0 reads a signal of a circle of three; the circle is listed from its least node along predecessors.
 #[test]
 fn three_in_a_circle_with_a_tail(rt: HostRuntime) -> Result<(), Fail> {
-    let alloc = rt.alloc();
     // what node 0 reads, what the nodes 1, 2 and 3 read, which drive the signals 1, 2 and 3; and the loop
     let table = [
-        ([1, 2, 3, 1], [1, 2, 3]),
-        ([1, 3, 1, 2], [1, 3, 2]),
-        ([3, 2, 3, 1], [1, 2, 3]),
-        ([2, 3, 1, 2], [1, 3, 2]),
+        ([(0, 1), (1, 2), (2, 3), (3, 1)], [1, 2, 3]),
+        ([(0, 1), (1, 3), (2, 1), (3, 2)], [1, 3, 2]),
+        ([(0, 3), (1, 2), (2, 3), (3, 1)], [1, 2, 3]),
+        ([(0, 2), (1, 3), (2, 1), (3, 2)], [1, 3, 2]),
     ];
-    for (reads, wanted) in table {
-        let nodes = vec![in alloc;
-            copy(alloc, 0, reads[0])?,
-            copy(alloc, 1, reads[1])?,
-            copy(alloc, 2, reads[2])?,
-            copy(alloc, 3, reads[3])?,
-        ]?;
-        let (placed, list) = answer(&rt, alloc, &[1; 4], nodes)?;
-        assert!(rt; !placed);
-        assert_eq!(rt; list.as_slice(), wanted.as_slice());
+    for (pairs, wanted) in table {
+        let nodes = copies(rt.alloc(), &pairs)?;
+        expect_loop(&rt, rt.alloc(), &[1; 4], nodes, &wanted)?;
     }
     Ok(())
 }
@@ -187,15 +189,15 @@ fn three_in_a_circle_with_a_tail(rt: HostRuntime) -> Result<(), Fail> {
 #[test]
 fn a_long_chain(rt: HostRuntime) -> Result<(), Fail> {
     let alloc = rt.alloc();
-    let mut nodes = Vec::new(alloc);
-    let mut widths = vec![in alloc; 1u8]?;
+    let mut pairs = Vec::new(alloc);
+    let mut widths = Vec::new(alloc);
     for k in 0..100_000u32 {
-        nodes.push(copy(alloc, k, k + 1)?)?;
+        pairs.push((k, k + 1))?;
         widths.push(1)?;
     }
-    let (placed, list) = answer(&rt, alloc, &widths, nodes)?;
-    assert!(rt; placed);
-    assert_eq!(rt; list.len(), 100_000);
+    widths.push(1)?;
+    let (placed, list) = answer(&rt, alloc, &widths, copies(alloc, &pairs)?)?;
+    assert!(rt; placed && list.len() == 100_000);
     assert_eq!(rt; list[0], 99_999);
     assert_eq!(rt; list[99_999], 0);
     Ok(())

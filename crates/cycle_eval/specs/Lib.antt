@@ -3,3 +3,4 @@ pub mod States
 pub mod Kits
 pub mod Paths
 pub mod DesignLaws
+pub mod Words

@@ -37,7 +37,7 @@ fn design_of(rt: &impl Abort, alloc: Global, parts: Parts) -> Result<Design, NoM
     assert!(rt; parts.nodes.len() < 1_000_000);
     let design = flat_of(alloc, parts)?.expect(rt, "a design");
     match linked(alloc, design) {
-        Ok(linked) => Ok(Design::make(linked)),
+        Ok(linked) => Ok(Design::make(alloc, linked).expect(rt, "few words")),
         Err(_) => Err(NoMemory),
     }
 }

@@ -4,6 +4,7 @@ ghost use Rattle.machine.specs.Rows.{Covers};
 
 use crate::{Design, NoOps, NoRow};
 use bits::Bits;
+use ls_text::Refusal;
 use machine::Machine;
 use machine::row_run::RowRun;
 use machine::row_runs::RowRuns;
@@ -110,13 +111,13 @@ fn by_rows<L: Ledger>(
     Ok((first(&end), first(&carried), same))
 }
 
-fn figures<L: Ledger>(alloc: Global, blank: Blank) -> Result<Vec<u128>, NoMemory>
+fn figures<L: Ledger>(alloc: Global, blank: Blank) -> Result<Vec<u128>, Refusal>
     requires name { blank.name ≡ L.name }
     requires parts { blank.parts ≡ L.parts }
     requires some { 0 < blank.parts }
 {
     let mut steps = Steps::<L>::start(blank);
-    let design = Design::make(counter(alloc)?);
+    let design = Design::make(alloc, counter(alloc)?)?;
     let mut all = Vec::new(alloc);
     for cycles in 0..4u64 {
         all.push(after(alloc, &design, cycles, &mut steps)?)?;
@@ -130,7 +131,7 @@ fn figures<L: Ledger>(alloc: Global, blank: Blank) -> Result<Vec<u128>, NoMemory
 
 #[test]
 fn counts_by_three(rt: HostRuntime) -> Result<(), Fail> {
-    let all = figures::<Brand>(rt.alloc(), Blank::new(1))?;
+    let all = figures::<Brand>(rt.alloc(), Blank::new(1)).expect(&rt, "a design");
     assert_eq!(rt; all.as_slice(), [14, 1, 4, 7, 7, 14, 1].as_slice());
     Ok(())
 }

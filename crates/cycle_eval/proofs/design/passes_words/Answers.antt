@@ -1,0 +1,44 @@
+use Rattle.std.proofs.Common.{◌≡◌, ◌+◌, ◌/◌, ◌<◌, ◌∙◌, ℕ, length, map, drop, get_or, sym, ap, arith}
+use Rattle.std.proofs.lemmas.Bool.{lt-ltb}
+use Rattle.typed_ir.proofs.Lists.{drop_split}
+use Rattle.cycle_eval.specs.Paths.{width_in}
+use Rattle.cycle_eval.specs.Words.{words_of}
+use Rattle.cycle_eval.proofs.Loads.{below_read}
+use Rattle.cycle_eval.proofs.Carries.{width_read}
+use Rattle.cycle_eval.proofs.design.passes_words.Goals as goal
+
+pub bounds-signals-register : goal.bounds-signals-register
+bounds-signals-register c = below_read c.args.registers.now (length c.args.signals.now) c.loop-register.register-index c.requires c.loop-register-test.true
+
+pub returns-then-words-left : goal.returns-then-words-left
+returns-then-words-left c =
+    let signals = c.args.signals.now in
+    let rs = c.args.registers.now in
+    let i = c.loop-register.register-index in
+    let r = get_or rs i 0 in
+    let f : ℕ → ℕ = width_in signals in
+    let there : r < length signals = below_read rs (length signals) i c.requires c.loop-register-test.true in
+    let words : (c.from.result + 63) / 64 ≡ (f r + 63) / 64 =
+    ap (λ n. (n + 63) / 64) (c.from.ensures ∙ width_read signals r c.index-signals-register.result there c.index-signals-register.is) in
+    let split : words_of (map f (drop i rs)) ≡ (f r + 63) / 64 + words_of (map f (drop (i + 1) rs)) =
+    ap (λ z. words_of (map f z)) (drop_split rs i 0 c.loop-register-test.true) in
+    let total : words_of (map f rs) + c.loop-register.left ≡ 65536 + words_of (map f (drop i rs)) = c.loop-register.invariant.total in
+    sym (lt-ltb 65536 (words_of (map f rs)) (omega (arith, total, split, words, c.if-words-left.true)))
+
+pub loop-register-preserved : goal.loop-register-preserved
+loop-register-preserved c =
+    let signals = c.args.signals.now in
+    let rs = c.args.registers.now in
+    let i = c.loop-register.register-index in
+    let r = get_or rs i 0 in
+    let f : ℕ → ℕ = width_in signals in
+    let there : r < length signals = below_read rs (length signals) i c.requires c.loop-register-test.true in
+    let words : (c.from.result + 63) / 64 ≡ (f r + 63) / 64 =
+    ap (λ n. (n + 63) / 64) (c.from.ensures ∙ width_read signals r c.index-signals-register.result there c.index-signals-register.is) in
+    let split : words_of (map f (drop i rs)) ≡ (f r + 63) / 64 + words_of (map f (drop (i + 1) rs)) =
+    ap (λ z. words_of (map f z)) (drop_split rs i 0 c.loop-register-test.true) in
+    let total : words_of (map f rs) + c.loop-register.left ≡ 65536 + words_of (map f (drop i rs)) = c.loop-register.invariant.total in
+    record {
+      most = omega (arith, c.loop-register.invariant.most);
+      total = omega (arith, total, split, words, c.if-words-left.false);
+    }
