@@ -1,0 +1,120 @@
+-- What one turn of the session asks and gives, and what joins keep.
+use Rattle.std.proofs.Common.{◌≡◌, ℕ, if◌then◌else◌, Bool, true, false, List, [], ◌∷◌, ◌++◌, Some, refl, sym, ap, ◌∙◌, subst}
+use Rattle.book_history.specs.declared.who.Who.{Who}
+use Rattle.book_history.specs.declared.who.Who.TheVariants.{Session, Worker}
+use Rattle.book_history.specs.Book.{Event, Opened, Ran, Reloaded, Claimed, Installed, Released, Shown, Closed}
+use Rattle.book_history.specs.Journal.{Journal}
+use Rattle.book_history.specs.Owned.{is_owned, owned, added, IsPrefix}
+use Rattle.book_history.specs.Rooms.{Counts, count, counted, count_all, no_entry}
+use Rattle.book_history.specs.Tickets.{kept, MayAdd}
+use Rattle.book_turn.specs.Known.{Known, begun, entered, left, not_alone, joined}
+use Rattle.book_turn.specs.Rule.{MayLeave, Learned}
+use Rattle.book_turn.proofs.Callers.{may_leave_one, may_leave_none, tickets_one, tickets_none}
+use Rattle.book_turn.proofs.Histories.{added_append, prefix_refl, prefix_trans}
+use Rattle.checkpoint_book.specs.Views.{counts_of}
+use Rattle.segment_verify.specs.Workers.{is_closed, IsFree}
+use Rattle.worker_scope.specs.Scope.{HasHeard, HasClosed}
+
+counted_same : (n m : Counts) (by : Who) → n.closed ≡ m.closed → (counted n by).closed ≡ m.closed
+counted_same n m Session e = e
+counted_same n m (Worker w) e = e
+
+module _ {D R O : Type 0} where
+  -- a Close is the session's own
+  closed_owned : (n m : Counts) (h : List (Event D R O)) → n.closed ≡ m.closed → (count_all n (owned h)).closed ≡ (count_all m h).closed
+  closed_owned n m [] e = e
+  closed_owned n m (Opened v d ∷ es) e = closed_owned (counted n Session) (counted m Session) es e
+  closed_owned n m (Ran x rows ∷ es) e = closed_owned (counted n Session) (counted m Session) es e
+  closed_owned n m (Reloaded v d ops from ∷ es) e = closed_owned (counted n Session) (counted m Session) es e
+  closed_owned n m (Claimed i a b Session ∷ es) e = closed_owned (counted n Session) (counted m Session) es e
+  closed_owned n m (Claimed i a b (Worker w) ∷ es) e = closed_owned n (counted m (Worker w)) es e
+  closed_owned n m (Installed i j Session ∷ es) e = closed_owned (counted n Session) (counted m Session) es e
+  closed_owned n m (Installed i j (Worker w) ∷ es) e = closed_owned n (counted m (Worker w)) es e
+  closed_owned n m (Released i Session ∷ es) e = closed_owned (counted n Session) (counted m Session) es e
+  closed_owned n m (Released i (Worker w) ∷ es) e = closed_owned n (counted m (Worker w)) es e
+  closed_owned n m (Shown s ∷ es) e = closed_owned (counted n Session) (counted m Session) es e
+  closed_owned n m (Closed ∷ es) e =
+      closed_owned (record { session = n.session; workers = n.workers; closed = true }) (record { session = m.session; workers = m.workers; closed = true }) es refl
+
+  -- the book is closed exactly where the session has closed it
+  pub closed_by_own : (h : List (Event D R O)) → is_closed h ≡ is_closed (owned h)
+  closed_by_own h = sym (closed_owned no_entry no_entry h refl)
+
+  pub open_now : (v : Known D R O) (i j : Journal D R O) → i ≡ j → Learned v j → v.session ≡ true → is_closed v.own ≡ false → (counts_of i).closed ≡ false
+  open_now v i j same learned session open' =
+      ap (λ (x : Journal D R O). (counts_of x).closed) same ∙ closed_by_own j.events ∙ ap (λ (h : List (Event D R O)). is_closed h) (learned.own session) ∙ open'
+
+  -- the pass of a turn that was just made
+  pub begun_open : (v : Known D R O) (j : Journal D R O) → v ≡ begun j → (counts_of j).closed ≡ false → is_closed v.own ≡ false
+  begun_open v j is open' = ap (λ (y : Known D R O). is_closed y.own) is ∙ sym (closed_by_own j.events) ∙ open'
+
+  pub begun_free : (v : Known D R O) (j : Journal D R O) → v ≡ begun j → IsFree v
+  begun_free v j is = subst (λ (y : Known D R O). IsFree y) (sym is) (record { outside = refl; no_ticket = refl })
+
+  -- v is what the pass knew before it entered, w what it then knows, x what it knows after it has left; j is the book that it
+  -- was given, i the book behind the reference, and l the book after the call, which added the entry e
+  module _ (v w x : Known D R O) (i j l : Journal D R O) (e : Event D R O) (knows : w ≡ entered v j) (same : i ≡ j) (learned : Learned v j) (settings : l.settings ≡ i.settings) (events : l.events ≡ i.events ++ e ∷ []) where
+    known_here : w ≡ entered v i
+    known_here = knows ∙ ap (λ y. entered v y) (sym same)
+
+    learned_here : Learned v i
+    learned_here = subst (λ (y : Journal D R O). Learned v y) (sym same) learned
+
+    pub may_add : v.session ≡ true → is_owned e ≡ true → MayAdd i.events v.tickets e → MayLeave w l
+    may_add session own may =
+        subst (λ (y : Known D R O). MayLeave y l) (sym known_here)
+        (may_leave_one (entered v i) l e refl (learned_here.carries ∙ ap Some (sym settings)) events (own ∙ sym session) may)
+
+    module _ (leaves : x ≡ left w l) where
+      left_here : x ≡ left (entered v i) l
+      left_here = leaves ∙ ap (λ (y : Known D R O). left y l) known_here
+
+      pub own_more : is_owned e ≡ true → x.own ≡ v.own ++ e ∷ []
+      own_more own =
+          ap (λ (y : Known D R O). y.own) left_here
+          ∙ ap (λ (h : List (Event D R O)). v.own ++ owned (added i.events h)) events
+          ∙ ap (λ (h : List (Event D R O)). v.own ++ owned h) (added_append i.events (e ∷ []))
+          ∙ ap (λ b. v.own ++ (if b then e ∷ [] else [])) own
+
+      pub seen_more : IsPrefix v.seen x.seen
+      seen_more =
+          subst (λ (y : Known D R O). IsPrefix v.seen y.seen) (sym left_here)
+          (prefix_trans v.seen i.events l.events learned_here.begins (e ∷ [], events))
+
+      pub free_after : IsFree v → kept v.tickets e ≡ v.tickets → IsFree x
+      free_after free keeps =
+          subst (λ (y : Known D R O). IsFree y) (sym left_here)
+          (record { outside = refl; no_ticket = tickets_one (entered v i) l e events ∙ keeps ∙ free.no_ticket })
+
+      pub same_settings : x.settings ≡ v.settings
+      same_settings = ap (λ (y : Known D R O). y.settings) left_here
+
+      pub same_alone : x.alone ≡ v.alone
+      same_alone = ap (λ (y : Known D R O). y.alone) left_here
+
+  pub heard_none : (v : Known D R O) → HasHeard v v
+  heard_none v = record { own = refl; settings = refl; alone = refl; begins = prefix_refl v.seen }
+
+  pub heard_join : (v w x u : Known D R O) → HasHeard v w → x ≡ joined w u → IsPrefix w.seen x.seen → HasHeard v x
+  heard_join v w x u h is begins = record {
+    own = ap (λ (y : Known D R O). y.own) is ∙ h.own;
+    settings = ap (λ (y : Known D R O). y.settings) is ∙ h.settings;
+    alone = ap (λ (y : Known D R O). y.alone) is ∙ h.alone;
+    begins = prefix_trans v.seen w.seen x.seen h.begins begins;
+  }
+
+  pub free_join : (w x u : Known D R O) → x ≡ joined w u → IsFree w → IsFree x
+  free_join w x u is free = subst (λ (y : Known D R O). IsFree y) (sym is) (record { outside = free.outside; no_ticket = free.no_ticket })
+
+  pub started_more : (v w x : Known D R O) → x ≡ not_alone w → not_alone w ≡ not_alone v → not_alone x ≡ not_alone v
+  started_more v w x is same = ap (λ (y : Known D R O). not_alone y) is ∙ same
+
+  pub free_started : (w x : Known D R O) → x ≡ not_alone w → IsFree w → IsFree x
+  free_started w x is free = subst (λ (y : Known D R O). IsFree y) (sym is) (record { outside = free.outside; no_ticket = free.no_ticket })
+
+  pub own_started : (v w : Known D R O) → not_alone w ≡ not_alone v → is_closed v.own ≡ false → is_closed w.own ≡ false
+  own_started v w same open' = ap (λ (y : Known D R O). is_closed y.own) same ∙ open'
+
+  pub closed_heard : (v w x : Known D R O) → HasClosed v w → HasHeard w x → HasClosed v x
+  closed_heard v w x c h =
+      record { own = h.own ∙ c.own; settings = h.settings ∙ c.settings; alone = h.alone ∙ c.alone; begins = prefix_trans v.seen w.seen x.seen c.begins h.begins }

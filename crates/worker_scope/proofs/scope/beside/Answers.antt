@@ -1,0 +1,20 @@
+use Rattle.book_turn.specs.Passes.{known}
+use Rattle.worker_scope.proofs.Sessions.{own_started, closed_heard}
+use Rattle.worker_scope.proofs.scope.beside.Goals as goal
+
+pub work-answer-requires-clause-open : goal.work-answer-requires-clause-open
+work-answer-requires-clause-open g c = own_started (known c.args.pass) (known c.start-children.new.pass) c.start-children.ensures.started c.requires.open
+
+pub work-answer-requires-clause-ready : goal.work-answer-requires-clause-ready
+work-answer-requires-clause-ready g c = c.requires.ready _ c.start-children.ensures.started
+
+pub returns-clause-worked : goal.returns-clause-worked
+returns-clause-worked g c = record {
+  before = known c.start-children.new.pass;
+  started = c.start-children.ensures.started;
+  worked = record {
+    after = known c.work-answer.new.pass;
+    did = c.work-answer.ensures.does;
+    closed = closed_heard _ _ _ c.close.ensures.closed c.join_all.ensures.heard;
+  };
+}

@@ -1,0 +1,17 @@
+// What a worker's thread promises.
+ghost use Rattle.std.specs.Prelude.{false};
+ghost use Rattle.book_turn.specs.Passes.{IsOf, known};
+ghost use Rattle.segment_verify.specs.Workers.{HasEnded};
+
+use book_history::historied::Historied;
+use book_turn::{Turn, WorkerPass};
+use std::snapshot::Snapshot;
+use std::thread::Promise;
+
+/// That the pass which comes back is of this turn, is free, and has seen a Close.
+#[derive(Drop)]
+pub struct Ends<B: Historied>(pub(crate) Snapshot<Turn<B>>);
+
+impl<B: Historied> Promise<WorkerPass<B>> for Ends<B> {
+    ghost kept_by = { λ p r. IsOf p.0.value r false × HasEnded (known r) };
+}
