@@ -6,9 +6,10 @@ use Rattle.typed_ir.specs.Stmts.{SizedStmt, all_applied, pending, later_signals}
 use Rattle.typed_ir.specs.Nodes.{FlatNode, drive, node_drives, OneDriver, IsComplete}
 use Rattle.typed_ir.specs.Orders.{round_by, any_drives, Each, Member}
 
--- a net or variable: its hierarchical name, the lower bound of its declared range, its sign and width (3.3, 3.9, 12.4),
--- and what it has at the beginning where it is a register
+-- a net or variable: the module that declares it, its hierarchical name, the lower bound of its declared range, its sign and
+-- width (3.3, 3.9, 12.4), and what it has at the beginning where it is a register
 pub record Signal : Type 0 where
+  pub module : ℕ
   pub path : List ℕ
   pub lsb : ℕ
   pub signed : Bool

@@ -1,5 +1,5 @@
 -- Statements: what they do, which bits they write, and which they read before they wrote them (IEEE Std 1364-2005, 9.2, 9.4, 9.5).
-use Rattle.std.specs.Prelude.{◌≡◌, ℕ, suc, ◌-◌, ◌/◌, ◌^◌, min, Bool, true, false, not, ◌&&◌, ◌||◌, ◌==◌, nat_lt, if◌then◌else◌, List, [], ◌∷◌, ◌++◌, map, bit_or, ℤ, pos, negsuc}
+use Rattle.std.specs.Prelude.{◌≡◌, ℕ, suc, ◌+◌, ◌-◌, ◌/◌, ◌^◌, min, Bool, true, false, not, ◌&&◌, ◌||◌, ◌==◌, nat_lt, if◌then◌else◌, List, [], ◌∷◌, ◌++◌, map, length, bit_or, ℤ, pos, negsuc}
 use Rattle.typed_ir.specs.declared.span.Span.{Span}
 use Rattle.typed_ir.specs.declared.lane.Lane.{Lane}
 use Rattle.typed_ir.specs.declared.reach.Reach.{Reach}
@@ -106,6 +106,16 @@ pending_at (Arm items body rest) subject env =
 
 abbrev pub pending : SizedStmt → Valuation → List Update
 pending st env = pending_at st 0 env
+
+-- how many parts its nonblocking assignments have: no execution notes more updates
+abbrev pub most_updates : SizedStmt → ℕ
+most_updates Skip = 0
+most_updates (Assign parts e) = 0
+most_updates (Later parts e) = length parts
+most_updates (Then a b) = most_updates a + most_updates b
+most_updates (If c a b) = most_updates a + most_updates b
+most_updates (Case e arms) = most_updates arms
+most_updates (Arm items body rest) = most_updates body + most_updates rest
 
 -- ---- bits that are written and read, by the text
 

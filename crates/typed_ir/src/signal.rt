@@ -6,6 +6,8 @@ use ls_text::NameId;
 /// A net or variable of a flat design.
 #[derive(Drop)]
 pub struct Signal {
+    /// The module that declares it.
+    pub module: NameId,
     /// The names of the instances from the top on, and its own.
     pub path: Vec<NameId>,
     /// The lower bound of its declared range, 0 without a range.

@@ -1,6 +1,6 @@
 // Statements, and the execution of one.
-ghost use Rattle.std.specs.Prelude.{◌≡◌, ◌++◌, IsTrue, IfOk, map};
-ghost use Rattle.typed_ir.specs.Stmts.{exec, exec_at, pending, pending_at, is_legal, is_clocked, matches_any, matches_item, are_items, is_sized};
+ghost use Rattle.std.specs.Prelude.{◌≡◌, ◌≤◌, ◌+◌, ◌-◌, ◌^◌, min, ◌++◌, IsTrue, map, vec_len, vec_capacity};
+ghost use Rattle.typed_ir.specs.Stmts.{exec, exec_at, pending, pending_at, most_updates, is_legal, is_clocked, matches_any, matches_item, are_items, is_sized};
 ghost use Rattle.typed_ir.specs.Statements.{item_of, stmt_of};
 ghost use Rattle.typed_ir.specs.Views.{widths, env_of};
 
@@ -8,7 +8,6 @@ use crate::target::{Target, note_all, write_all};
 use crate::typed::Typed;
 use crate::update::Update;
 use bits::Bits;
-use no_memory::NoMemory;
 
 /// An expression of a case item.
 #[derive(Drop)]
@@ -102,36 +101,52 @@ impl Stmt {
         }
     }
 
-    /// Notes the nonblocking updates of a clocked block, in the order of execution.
-    pub fn note(&self, env: &[Bits], updates: &mut Vec<Update>) -> Result<(), NoMemory>
+    /// How many updates its execution notes at most: one for each part of a nonblocking assignment. The largest number stands
+    /// for itself and for all above it.
+    pub fn most_updates(&self) -> usize
+        ensures { result ≡ min (most_updates (stmt_of self.now)) (2 ^ 64 - 1) }
+    {
+        match self {
+            Stmt::Skip | Stmt::Assign(_, _) => 0,
+            Stmt::Later(parts, _) => parts.len(),
+            Stmt::Then(a, b) | Stmt::If(_, a, b) => a
+                .most_updates()
+                .saturating_add(b.most_updates()),
+            Stmt::Case(_, arms) => arms.most_updates(),
+            Stmt::Arm(_, body, rest) => body.most_updates().saturating_add(rest.most_updates()),
+        }
+    }
+
+    /// Notes the nonblocking updates of a clocked block, in the order of execution. It takes no memory: there is room for them.
+    pub fn note(&self, env: &[Bits], updates: &mut Vec<Update>)
         requires legal { IsTrue (is_legal (stmt_of self.now) (widths env.now)) }
         requires clocked { IsTrue (is_clocked (stmt_of self.now)) }
-        ensures { IfOk result (λ _. updates.new.items ≡ updates.old.items ++ pending (stmt_of self.now) (env_of env.now)) }
+        requires room { vec_len updates.old + most_updates (stmt_of self.now) ≤ vec_capacity updates.old }
+        ensures noted { updates.new.items ≡ updates.old.items ++ pending (stmt_of self.now) (env_of env.now) }
+        ensures few { vec_len updates.new ≤ vec_len updates.old + most_updates (stmt_of self.now) }
+        ensures capacity { vec_capacity updates.new ≡ vec_capacity updates.old }
     {
         self.note_at(0, env, updates)
     }
 
     // The same, within a case whose expression has this value.
     #[tactic(auto, using(crate::proofs::Pending::pending_then))]
-    fn note_at(
-        &self,
-        subject: u128,
-        env: &[Bits],
-        updates: &mut Vec<Update>,
-    ) -> Result<(), NoMemory>
+    fn note_at(&self, subject: u128, env: &[Bits], updates: &mut Vec<Update>)
         requires legal { IsTrue (is_legal (stmt_of self.now) (widths env.now)) }
         requires clocked { IsTrue (is_clocked (stmt_of self.now)) }
-        ensures { IfOk result (λ _. updates.new.items ≡ updates.old.items ++ pending_at (stmt_of self.now) subject (env_of env.now)) }
+        requires room { vec_len updates.old + most_updates (stmt_of self.now) ≤ vec_capacity updates.old }
+        ensures noted { updates.new.items ≡ updates.old.items ++ pending_at (stmt_of self.now) subject (env_of env.now) }
+        ensures few { vec_len updates.new ≤ vec_len updates.old + most_updates (stmt_of self.now) }
+        ensures capacity { vec_capacity updates.new ≡ vec_capacity updates.old }
     {
         match self {
-            Stmt::Skip => Ok(()),
-            Stmt::Assign(_, _) => Ok(()),
+            Stmt::Skip | Stmt::Assign(_, _) => {}
             Stmt::Later(parts, e) => {
                 let x = e.form.value(env).value;
                 note_all(parts, env, x, updates)
             }
             Stmt::Then(a, b) => {
-                a.note_at(subject, env, updates)?;
+                a.note_at(subject, env, updates);
                 b.note_at(subject, env, updates)
             }
             Stmt::If(c, a, b) => {

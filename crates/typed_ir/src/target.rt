@@ -1,5 +1,5 @@
 // What stands left of an assignment.
-ghost use Rattle.std.specs.Prelude.{◌≡◌, ◌≤◌, ◌+◌, IsTrue, IfOk, IfSome, option_to_list, ◌++◌};
+ghost use Rattle.std.specs.Prelude.{◌≡◌, ◌≤◌, ◌<◌, ◌+◌, IsTrue, IfSome, option_to_list, ◌++◌, length, vec_len, vec_capacity};
 ghost use Rattle.typed_ir.specs.Sized.{is_span};
 ghost use Rattle.typed_ir.specs.Stmts.{update_of, moved, is_target, all_applied, written, updates_of, are_targets};
 ghost use Rattle.typed_ir.specs.Targets.{target_of, targets_of};
@@ -13,7 +13,6 @@ use crate::span::Span;
 use crate::typed::Typed;
 use crate::update::Update;
 use bits::Bits;
-use no_memory::NoMemory;
 
 /// One part of what stands left of an assignment.
 #[derive(Drop)]
@@ -92,17 +91,16 @@ impl Target {
         }
     }
 
-    /// Notes what is to be written to it.
-    pub fn note(&self, env: &[Bits], x: u128, updates: &mut Vec<Update>) -> Result<(), NoMemory>
-        requires { IsTrue (is_target (target_of self.now) (widths env.now)) }
-        ensures { IfOk result (λ _. updates.new.items ≡ updates.old.items ++ update_of (target_of self.now) x (env_of env.now)) }
+    /// Notes what is to be written to it. It takes no memory: there is room for one update.
+    pub fn note(&self, env: &[Bits], x: u128, updates: &mut Vec<Update>)
+        requires legal { IsTrue (is_target (target_of self.now) (widths env.now)) }
+        requires room { vec_len updates.old < vec_capacity updates.old }
+        ensures noted { updates.new.items ≡ updates.old.items ++ update_of (target_of self.now) x (env_of env.now) }
+        ensures few { vec_len updates.new ≤ vec_len updates.old + 1 }
+        ensures capacity { vec_capacity updates.new ≡ vec_capacity updates.old }
     {
-        match self.update(env, x) {
-            Some(update) => {
-                updates.push(update)?;
-                Ok(())
-            }
-            None => Ok(()),
+        if let Some(update) = self.update(env, x) {
+            updates.push_reserved(update);
         }
     }
 }
@@ -118,18 +116,15 @@ pub fn write_all(parts: &[Target], env: &mut [Bits], x: u128)
     }
 }
 
-/// Notes what is to be written to all parts.
-pub fn note_all(
-    parts: &[Target],
-    env: &[Bits],
-    x: u128,
-    updates: &mut Vec<Update>,
-) -> Result<(), NoMemory>
-    requires { IsTrue (are_targets (targets_of parts.now) (widths env.now)) }
-    ensures { IfOk result (λ _. updates.new.items ≡ updates.old.items ++ updates_of (targets_of parts.now) x (env_of env.now)) }
+/// Notes what is to be written to all parts. It takes no memory: there is room for one update a part.
+pub fn note_all(parts: &[Target], env: &[Bits], x: u128, updates: &mut Vec<Update>)
+    requires legal { IsTrue (are_targets (targets_of parts.now) (widths env.now)) }
+    requires room { vec_len updates.old + length parts.now ≤ vec_capacity updates.old }
+    ensures noted { updates.new.items ≡ updates.old.items ++ updates_of (targets_of parts.now) x (env_of env.now) }
+    ensures few { vec_len updates.new ≤ vec_len updates.old + length parts.now }
+    ensures capacity { vec_capacity updates.new ≡ vec_capacity updates.old }
 {
     for part in parts {
-        part.note(env, x, updates)?;
+        part.note(env, x, updates);
     }
-    Ok(())
 }
