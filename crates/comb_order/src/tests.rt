@@ -61,7 +61,7 @@ fn answer(
     for width in widths {
         assert!(rt; 1 <= *width && *width <= 128);
         signals.push(Signal {
-            module: NameId(0),
+            in_module: NameId(0),
             path: Vec::new(alloc),
             lsb: 0,
             signed: false,

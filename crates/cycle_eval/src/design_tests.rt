@@ -21,7 +21,7 @@ fn signals(rt: &impl Abort, alloc: Global, list: &[(u8, u128)]) -> Result<Vec<Si
     for (width, initial) in list {
         assert!(rt; 1 <= *width && *width <= 128);
         signals.push(Signal {
-            module: NameId(0),
+            in_module: NameId(0),
             path: Vec::new(alloc),
             lsb: 0,
             signed: false,

@@ -24,7 +24,7 @@ use typed_ir::{
 fn counter(alloc: Global) -> Result<Linked, NoMemory> {
     let mut signals = Vec::new(alloc);
     signals.push(Signal {
-        module: NameId(0),
+        in_module: NameId(0),
         path: Vec::new(alloc),
         lsb: 0,
         signed: false,

@@ -47,7 +47,7 @@ right_side width (target, first, more) =
 -- a design of one register of this path, width and initial value, which takes the right side at each edge of the clock
 abbrev pub one_register : List ℕ → ℕ → ℕ → Sized → Flat
 one_register path width initial next = record {
-  signals = record { module = 0; path = path; lsb = 0; signed = false; width = width; initial = initial } ∷ [];
+  signals = record { in_module = 0; path = path; lsb = 0; signed = false; width = width; initial = initial } ∷ [];
   registers = 0 ∷ [];
   inputs = [];
   nodes = [];

@@ -9,7 +9,7 @@ use Rattle.typed_ir.specs.Orders.{round_by, any_drives, Each, Member}
 -- a net or variable: the module that declares it, its hierarchical name, the lower bound of its declared range, its sign and
 -- width (3.3, 3.9, 12.4), and what it has at the beginning where it is a register
 pub record Signal : Type 0 where
-  pub module : ℕ
+  pub in_module : ℕ
   pub path : List ℕ
   pub lsb : ℕ
   pub signed : Bool

@@ -13,7 +13,7 @@ use Rattle.typed_ir.specs.declared.stmt.Stmt.{Stmt}
 
 abbrev pub signal_of : Signal' → Signal
 signal_of x = record {
-  module = x.module.0;
+  in_module = x.in_module.0;
   path = map (λ (n : NameId). n.0) x.path.items;
   lsb = x.lsb;
   signed = x.signed;

@@ -7,7 +7,7 @@ use ls_text::NameId;
 #[derive(Drop)]
 pub struct Signal {
     /// The module that declares it.
-    pub module: NameId,
+    pub in_module: NameId,
     /// The names of the instances from the top on, and its own.
     pub path: Vec<NameId>,
     /// The lower bound of its declared range, 0 without a range.
