@@ -2,6 +2,7 @@
 ghost use Rattle.std.specs.Prelude.{◌≡◌};
 
 use crate::{OrderRefusal, Parts, flat_of, no_block, order};
+use ls_text::NameId;
 use no_memory::NoMemory;
 use std::alloc::Global;
 use std::process::Abort;

@@ -5,6 +5,7 @@ use crate::Design;
 use bits::Bits;
 use comb_order::{Parts, flat_of, linked, no_block};
 use machine::steps::Steps;
+use ls_text::NameId;
 use no_memory::NoMemory;
 use std::alloc::Global;
 use std::marker::Brand;

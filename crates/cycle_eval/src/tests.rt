@@ -4,7 +4,7 @@ ghost use Rattle.machine.specs.Rows.{Covers};
 
 use crate::{Design, NoOps, NoRow};
 use bits::Bits;
-use ls_text::Refusal;
+use ls_text::{NameId, Refusal};
 use machine::Machine;
 use machine::row_run::RowRun;
 use machine::row_runs::RowRuns;
