@@ -1,14 +1,13 @@
 -- Registers one by one, and what their signals have.
-use Rattle.std.proofs.Common.{◌≡◌, ℕ, zero, suc, ◌+◌, ◌<◌, List, [], ◌∷◌, ◌++◌, length, map, get_or, drop, append_assoc, refl, sym, ◌∙◌, ap, ap₂, arith, cond}
+use Rattle.std.proofs.Common.{◌≡◌, ℕ, zero, suc, ◌+◌, ◌<◌, List, [], ◌∷◌, ◌++◌, length, map, get_or, drop, append_assoc, refl, sym, ◌∙◌, ap, arith}
 use Rattle.bits.specs.declared.Bits.{Bits}
 use Rattle.typed_ir.specs.declared.signal.Signal.{Signal as Signal'}
 use Rattle.typed_ir.specs.States.{sized_value}
-use Rattle.typed_ir.specs.Cycles.{Signal}
 use Rattle.typed_ir.specs.Flats.{signal_of}
 use Rattle.typed_ir.proofs.Lists.{drop_split}
 use Rattle.typed_ir.proofs.Views.{at_read}
-use Rattle.cycle_eval.specs.Kits.{carried_value, same_path}
-use Rattle.cycle_eval.specs.Paths.{ids, path_in, width_in, initial_in}
+use Rattle.cycle_eval.specs.Kits.{Register, register_of}
+use Rattle.cycle_eval.specs.Paths.{ids, path_in, register_in, width_in, initial_in}
 
 pub width_read : (signals : List Signal') (r : ℕ) (x : Signal') → r < length signals → x ≡ get_or signals r x → x.width ≡ width_in signals r
 width_read [] r x h is = absurd (omega (arith, h))
@@ -20,8 +19,11 @@ initial_read [] r x h is = absurd (omega (arith, h))
 initial_read (y ∷ ys) zero x h is = ap (λ (z : Signal'). z.initial) is
 initial_read (y ∷ ys) (suc r) x h is = initial_read ys r x (omega (arith, h)) is
 
+pub register_read : (signals : List Signal') (r : ℕ) (x : Signal') → r < length signals → x ≡ get_or signals r x → register_of (signal_of x) ≡ register_in signals r
+register_read signals r x h is = sym (at_read register_of (record { path = []; in_module = 0 }) signal_of signals r x h is)
+
 pub path_read : (signals : List Signal') (r : ℕ) (x : Signal') → r < length signals → x ≡ get_or signals r x → ids x.path.items ≡ path_in signals r
-path_read signals r x h is = sym (at_read (λ (z : Signal). z.path) [] signal_of signals r x h is)
+path_read signals r x h is = ap (λ (k : Register). k.path) (register_read signals r x h is)
 
 -- one more register written
 pub push_step : (f : ℕ → ℕ × ℕ) (rs : List ℕ) (i : ℕ) (old new : List Bits) (b : Bits) → i < length rs → sized_value b ≡ f (get_or rs i 0)
@@ -39,10 +41,3 @@ push_step f rs i old new b h here e =
 
 abbrev pub pair : ℕ → ℕ → ℕ × ℕ
 pair w x = (w, x)
-
--- one more older register that has another path
-pub value_step : (f : ℕ → List ℕ) (rs xs path : List ℕ) (initial i : ℕ) → i < length rs → i < length xs
-    → carried_value (map f (drop i rs)) (drop i xs) path initial
-    ≡ cond (same_path (f (get_or rs i 0)) path) (get_or xs i 0) (carried_value (map f (drop (i + 1) rs)) (drop (i + 1) xs) path initial)
-value_step f rs xs path initial i h k =
-    ap₂ (λ (ks zs : List ℕ). carried_value (map f ks) zs path initial) (drop_split rs i 0 h) (drop_split xs i 0 k)

@@ -2,4 +2,5 @@ pub mod Blocks
 pub mod Passes
 pub mod Loads
 pub mod Carries
+pub mod Finding
 pub mod Laws

@@ -5,7 +5,7 @@ use Rattle.std.proofs.lemmas.Bool.{eqb-true, eq-eqb}
 use Rattle.std.proofs.lemmas.List.{append-nil, length-append}
 use Rattle.typed_ir.specs.Stmts.{all_applied}
 use Rattle.typed_ir.specs.Cycles.{Flat, width_at, initial_at, wires, all_pending, input, step, seg}
-use Rattle.cycle_eval.specs.Kits.{run_of, register_widths, Fits, reset_of, carried_of, carried_value, path_at}
+use Rattle.cycle_eval.specs.Kits.{run_of, register_widths, Fits, reset_of, carried_of, carried_value, register_at}
 use Rattle.cycle_eval.specs.States.{paired, state_widths, state_values, are_alike}
 
 -- each register's width with its value
@@ -55,7 +55,7 @@ reset_fits design = paired_widths (width_at design) (initial_at design) design.r
 pub carried_fits : (old new : Flat) (s : List (ℕ × ℕ)) → Fits new (carried_of old new s)
 carried_fits old new s =
     paired_widths (width_at new)
-    (λ r. carried_value (map (path_at old) old.registers) (state_values s) (path_at new r) (initial_at new r) % 2 ^ width_at new r) new.registers
+    (λ r. carried_value (map (register_at old) old.registers) (state_values s) (register_at new r) (initial_at new r) % 2 ^ width_at new r) new.registers
 
 and_left : (a b : Bool) → (a && b) ≡ true → a ≡ true
 and_left true b h = refl

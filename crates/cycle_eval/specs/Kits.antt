@@ -19,7 +19,12 @@ run_of design (row ∷ rows) s = paired (register_widths design) (seg design (λ
 abbrev pub Fits : Flat → List (ℕ × ℕ) → Type 0
 Fits design s = map (λ (p : ℕ × ℕ). p.0) s ≡ register_widths design
 
--- ---- carrying without operations: register by register, by the path
+-- ---- carrying without operations: register by register, by the path and the module
+
+-- by what a register is found again: its path, and the module that declares it
+pub record Register : Type 0 where
+  pub path : List ℕ
+  pub in_module : ℕ
 
 abbrev pub same_path : List ℕ → List ℕ → Bool
 same_path [] [] = true
@@ -27,17 +32,21 @@ same_path [] (y ∷ ys) = false
 same_path (x ∷ xs) [] = false
 same_path (x ∷ xs) (y ∷ ys) = (x == y) && same_path xs ys
 
-abbrev pub path_at : Flat → ℕ → List ℕ
-path_at design s = at_or (λ (x : Signal). x.path) [] design.signals s
+abbrev pub register_of : Signal → Register
+register_of x = record { path = x.path; in_module = x.in_module }
 
--- the value of the first register of that path, else the initial value
-abbrev pub carried_value : List (List ℕ) → List ℕ → List ℕ → ℕ → ℕ
-carried_value [] xs path initial = initial
-carried_value (p ∷ ps) [] path initial = initial
-carried_value (p ∷ ps) (x ∷ xs) path initial = if same_path p path then x else carried_value ps xs path initial
+abbrev pub register_at : Flat → ℕ → Register
+register_at design s = at_or register_of (record { path = []; in_module = 0 }) design.signals s
+
+-- the value of the first of these registers with the path, where its module is the same; else the initial value
+abbrev pub carried_value : List Register → List ℕ → Register → ℕ → ℕ
+carried_value [] xs register initial = initial
+carried_value (r ∷ rs) [] register initial = initial
+carried_value (r ∷ rs) (x ∷ xs) register initial =
+    if same_path r.path register.path then (if r.in_module == register.in_module then x else initial) else carried_value rs xs register initial
 
 -- an old value is cut, or filled with zeros, to the new width
 abbrev pub carried_of : Flat → Flat → List (ℕ × ℕ) → List (ℕ × ℕ)
 carried_of old new s =
     paired (register_widths new)
-    (map (λ (r : ℕ). carried_value (map (path_at old) old.registers) (state_values s) (path_at new r) (initial_at new r) % 2 ^ width_at new r) new.registers)
+    (map (λ (r : ℕ). carried_value (map (register_at old) old.registers) (state_values s) (register_at new r) (initial_at new r) % 2 ^ width_at new r) new.registers)

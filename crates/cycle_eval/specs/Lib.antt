@@ -4,3 +4,6 @@ pub mod Kits
 pub mod Paths
 pub mod DesignLaws
 pub mod Words
+pub mod Updates
+pub mod Places
+pub mod Found

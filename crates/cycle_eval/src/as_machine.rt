@@ -77,8 +77,8 @@ impl Machine for Design {
             return from.share();
         }
         let mut env = self.loaded(alloc, from)?;
-        let mut updates = Vec::with_capacity(alloc, self.updates)?;
-        self.run(&mut env, &mut updates, b - a, steps)?;
+        let mut updates = self.room(alloc)?;
+        self.run(&mut env, &mut updates, b - a, steps);
         self.state_of(alloc, &env)
     }
 

@@ -1,50 +1,42 @@
 // The beginning state of a design, and the state that an edit leaves it.
-ghost use Rattle.std.specs.Prelude.{◌≡◌, IsTrue, IfOk, map, length};
-ghost use Rattle.typed_ir.specs.Flats.{are_below};
+ghost use Rattle.std.specs.Prelude.{◌≡◌, ℕ, List, IsTrue, IfOk, map, length};
+ghost use Rattle.typed_ir.specs.Flats.{are_below, signal_of};
 ghost use Rattle.cycle_eval.specs.Designs.{flat_of};
-ghost use Rattle.cycle_eval.specs.Kits.{Fits, reset_of, carried_of, carried_value, same_path};
-ghost use Rattle.cycle_eval.specs.Paths.{ids, path_in, width_in, initial_in, carried_in};
+ghost use Rattle.cycle_eval.specs.Kits.{Fits, reset_of, carried_of, carried_value, register_of};
+ghost use Rattle.cycle_eval.specs.Paths.{path_in, register_in, width_in, initial_in, carried_in};
+ghost use Rattle.cycle_eval.specs.Places.{place_from};
+ghost use Rattle.cycle_eval.specs.Found.{place_in};
 ghost use Rattle.cycle_eval.specs.States.{paired, state_values};
 
 use crate::design::Design;
+use crate::places::{Places, places_of};
 use bits::Bits;
-use ls_text::NameId;
 use no_memory::NoMemory;
 use std::alloc::Global;
 use typed_ir::{RegState, Signal};
 
-// Whether two paths are the same.
-fn same_path(a: &[NameId], b: &[NameId]) -> bool
-    ensures { result ≡ same_path (ids a.now) (ids b.now) }
-{
-    match a {
-        [] => b.is_empty(),
-        [x, xs @ ..] => match b {
-            [] => false,
-            [y, ys @ ..] => x.0 == y.0 && same_path(xs, ys),
-        },
-    }
-}
-
-// What the first register of a path has; the last argument where there is none.
+// What a register takes from the state of older ones, of which these are the places.
 fn value_at(
-    signals: &[Signal],
-    registers: &[u32],
+    places: &Places<'_>,
+    old_signals: &[Signal],
+    old_registers: &[u32],
     state: &RegState,
-    path: &[NameId],
-    otherwise: u128,
+    signal: &Signal,
 ) -> u128
-    requires there { IsTrue (are_below registers.now (length signals.now)) }
-    requires one { length state.now ≡ length registers.now }
-    ensures { result ≡ carried_value (map (path_in signals.now) registers.now) (state_values state.now) (ids path.now) otherwise }
+    requires old_there { IsTrue (are_below old_registers.now (length old_signals.now)) }
+    requires one { length state.now ≡ length old_registers.now }
+    requires first { (path : List ℕ) → place_in places.now path ≡ place_from 0 (map (path_in old_signals.now) old_registers.now) path }
+    ensures { result ≡ carried_value (map (register_in old_signals.now) old_registers.now) (state_values state.now) (register_of (signal_of signal.now)) signal.now.initial }
 {
-    for i in 0..registers.len() {
-        let signal = &signals[registers[i] as usize];
-        if same_path(&signal.path, path) {
-            return state.get(i).value;
-        }
+    let Some(place) = places.get(&signal.path) else {
+        return signal.initial;
+    };
+    let old = &old_signals[old_registers[place] as usize];
+    if old.in_module.0 == signal.in_module.0 {
+        state.get(place).value
+    } else {
+        signal.initial
     }
-    otherwise
 }
 
 // The beginning values of these registers.
@@ -75,16 +67,11 @@ fn carried_into(
     ensures { IfOk result (λ s. s ≡ paired (map (width_in signals.now) registers.now)
         (map (carried_in signals.now old_signals.now old_registers.now (state_values state.now)) registers.now)) }
 {
+    let places = places_of(alloc, old_signals, old_registers)?;
     let mut values = Vec::new(alloc);
     for register in registers {
         let signal = &signals[*register as usize];
-        let value = value_at(
-            old_signals,
-            old_registers,
-            state,
-            &signal.path,
-            signal.initial,
-        );
+        let value = value_at(&places, old_signals, old_registers, state, signal);
         values.push(Bits::new(signal.width, value))?;
     }
     RegState::new(values)
@@ -100,8 +87,8 @@ impl Design {
         beginnings(alloc, &design.signals, &design.registers)
     }
 
-    /// The state of an older design, carried into this one: each register takes the value of the register of its path,
-    /// cut or filled with zeros to its width; else it begins anew.
+    /// The state of an older design, carried into this one: each register takes the value of the register of its path, where it
+    /// is of the same module, cut or filled with zeros to its width; else it begins anew. Registers are found by hash.
     pub fn carried(
         &self,
         alloc: Global,

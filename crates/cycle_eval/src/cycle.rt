@@ -1,5 +1,5 @@
 // One cycle, in place.
-ghost use Rattle.std.specs.Prelude.{◌≡◌, ◌≤◌, ◌<◌, ◌+◌, ◌++◌, ℕ, List, IsTrue, All, IfOk, OnOk, map, length};
+ghost use Rattle.std.specs.Prelude.{◌≡◌, ◌≤◌, ◌<◌, ◌+◌, ◌++◌, ℕ, List, IsTrue, All, map, length, vec_len, vec_capacity};
 ghost use Rattle.typed_ir.specs.Nodes.{are_legal, drive_at};
 ghost use Rattle.typed_ir.specs.Orders.{pass};
 ghost use Rattle.typed_ir.specs.Cycles.{wires, step, all_pending, IsReady};
@@ -8,11 +8,11 @@ ghost use Rattle.typed_ir.specs.FlatNodes.{node_of};
 ghost use Rattle.typed_ir.specs.Statements.{stmt_of};
 ghost use Rattle.typed_ir.specs.Views.{widths, env_of};
 ghost use Rattle.cycle_eval.specs.Designs.{flat_of, work_of};
+ghost use Rattle.cycle_eval.specs.Updates.{all_updates};
 
 use crate::design::Design;
 use bits::Bits;
 use machine::steps::Steps;
-use no_memory::NoMemory;
 use std::sync::ledger::Ledger;
 use typed_ir::{Node, Stmt, Update, apply_all};
 
@@ -36,18 +36,17 @@ fn note_blocks<L: Ledger>(
     env: &[Bits],
     updates: &mut Vec<Update>,
     steps: &mut Steps<L>,
-) -> Result<(), NoMemory>
-    requires { IsTrue (are_clocked blocks.now (widths env.now)) }
-    ensures value { IfOk result (λ _. updates.new.items ≡ updates.old.items ++ all_pending (map stmt_of blocks.now) (env_of env.now)) }
-    ensures taken { OnOk result (steps.new ≡ steps.old + length blocks.now) }
-    ensures rises { steps.old ≤ steps.new }
-    ensures most { steps.new ≤ steps.old + length blocks.now }
+)
+    requires legal { IsTrue (are_clocked blocks.now (widths env.now)) }
+    requires room { vec_len updates.old + all_updates (map stmt_of blocks.now) ≤ vec_capacity updates.old }
+    ensures noted { updates.new.items ≡ updates.old.items ++ all_pending (map stmt_of blocks.now) (env_of env.now) }
+    ensures capacity { vec_capacity updates.new ≡ vec_capacity updates.old }
+    ensures taken { steps.new ≡ steps.old + length blocks.now }
 {
     for block in blocks {
-        block.note(env, updates)?;
+        block.note(env, updates);
         steps.tick();
     }
-    Ok(())
 }
 
 impl Design {
@@ -62,29 +61,29 @@ impl Design {
         pass_over(&self.linked.design.nodes, &self.linked.order, env, steps)
     }
 
-    /// One cycle: the registers in `env` go on to their next values. Nothing is cleared before or after it.
+    /// One cycle: the registers in `env` go on to their next values. Nothing is cleared before or after it, and it takes no
+    /// memory: `updates` has room for all that the clocked blocks may note.
     pub fn cycle<L: Ledger>(
         &self,
         env: &mut [Bits],
         updates: &mut Vec<Update>,
         steps: &mut Steps<L>,
-    ) -> Result<(), NoMemory>
-        requires { widths env.old ≡ signal_widths self.now.linked.design.signals.items }
+    )
+        requires widths { widths env.old ≡ signal_widths self.now.linked.design.signals.items }
+        requires room { all_updates (flat_of self.now).clocked ≤ vec_capacity updates.old }
         ensures widths { widths env.new ≡ widths env.old }
-        ensures value { IfOk result (λ _. (state inputs : List ℕ) → IsReady (flat_of self.now) state inputs (env_of env.old)
-            → map (env_of env.new) self.now.linked.design.registers.items ≡ step (flat_of self.now) state inputs) }
+        ensures value { (state inputs : List ℕ) → IsReady (flat_of self.now) state inputs (env_of env.old)
+            → map (env_of env.new) self.now.linked.design.registers.items ≡ step (flat_of self.now) state inputs }
 
         // It is ready for the next cycle under the same inputs.
-        ensures ready { IfOk result (λ _. (state inputs : List ℕ) → IsReady (flat_of self.now) state inputs (env_of env.old)
-            → IsReady (flat_of self.now) (step (flat_of self.now) state inputs) inputs (env_of env.new)) }
-        ensures taken { OnOk result (steps.new ≡ steps.old + work_of self.now) }
-        ensures rises { steps.old ≤ steps.new }
-        ensures most { steps.new ≤ steps.old + work_of self.now }
+        ensures ready { (state inputs : List ℕ) → IsReady (flat_of self.now) state inputs (env_of env.old)
+            → IsReady (flat_of self.now) (step (flat_of self.now) state inputs) inputs (env_of env.new) }
+        ensures capacity { vec_capacity updates.new ≡ vec_capacity updates.old }
+        ensures taken { steps.new ≡ steps.old + work_of self.now }
     {
         self.settle(env, steps);
         updates.clear();
-        note_blocks(&self.linked.design.clocked, env, updates, steps)?;
+        note_blocks(&self.linked.design.clocked, env, updates, steps);
         apply_all(env, updates.as_slice());
-        Ok(())
     }
 }

@@ -4,8 +4,8 @@ ghost use Rattle.std.specs.Prelude.{◌≡◌, ◌<◌};
 use crate::Design;
 use bits::Bits;
 use comb_order::{Parts, flat_of, linked, no_block};
-use machine::steps::Steps;
 use ls_text::NameId;
+use machine::steps::Steps;
 use no_memory::NoMemory;
 use std::alloc::Global;
 use std::marker::Brand;
@@ -53,8 +53,8 @@ fn values_after<L: Ledger>(
 ) -> Result<Vec<u128>, NoMemory> {
     let start = design.reset_state(alloc)?;
     let mut env = design.loaded(alloc, &start)?;
-    let mut updates = Vec::new(alloc);
-    design.run(&mut env, &mut updates, cycles, steps)?;
+    let mut updates = design.room(alloc)?;
+    design.run(&mut env, &mut updates, cycles, steps);
     let state = design.state_of(alloc, &env)?;
     let mut values = Vec::new(alloc);
     for i in 0..state.len() {

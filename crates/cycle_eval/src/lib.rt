@@ -7,7 +7,9 @@ mod cycle;
 mod design;
 #[cfg(test)]
 mod design_tests;
+mod making;
 mod no_row;
+mod places;
 mod run;
 mod state;
 #[cfg(test)]

@@ -1,11 +1,12 @@
 // Runs of a design, as a machine without rows.
-ghost use Rattle.std.specs.Prelude.{◌≡◌, ◌≤◌, ◌+◌, ◌*◌, ℕ, List, [], IfOk, OnOk, map, length};
+ghost use Rattle.std.specs.Prelude.{◌≡◌, ◌≤◌, ◌+◌, ◌*◌, ℕ, List, [], IfOk, map, length, vec_capacity};
 ghost use Rattle.typed_ir.specs.Cycles.{base, input, seg, IsReady};
 ghost use Rattle.typed_ir.specs.Flats.{signal_widths};
 ghost use Rattle.typed_ir.specs.Views.{widths, env_of};
 ghost use Rattle.cycle_eval.specs.Designs.{flat_of, work_of};
 ghost use Rattle.cycle_eval.specs.Kits.{Fits, register_widths};
 ghost use Rattle.cycle_eval.specs.States.{paired, state_values};
+ghost use Rattle.cycle_eval.specs.Updates.{all_updates};
 
 use crate::design::Design;
 use crate::state::{load, stored, zeros};
@@ -28,28 +29,26 @@ impl Design {
         Ok(env)
     }
 
-    /// So many cycles in place, under inputs that read 0.
+    /// So many cycles in place, under inputs that read 0. It takes no memory: `updates` has room for those of a cycle.
     pub fn run<L: Ledger>(
         &self,
         env: &mut [Bits],
         updates: &mut Vec<Update>,
         cycles: u64,
         steps: &mut Steps<L>,
-    ) -> Result<(), NoMemory>
-        requires { widths env.old ≡ signal_widths self.now.linked.design.signals.items }
-        ensures widths { IfOk result (λ _. widths env.new ≡ widths env.old) }
-        ensures value { IfOk result (λ _. (state : List ℕ)
+    )
+        requires widths { widths env.old ≡ signal_widths self.now.linked.design.signals.items }
+        requires room { all_updates (flat_of self.now).clocked ≤ vec_capacity updates.old }
+        ensures widths { widths env.new ≡ widths env.old }
+        ensures value { (state : List ℕ)
             → IsReady (flat_of self.now) state (input (flat_of self.now) []) (env_of env.old)
             → map (env_of env.old) self.now.linked.design.registers.items ≡ state
-            → map (env_of env.new) self.now.linked.design.registers.items ≡ seg (flat_of self.now) (λ t. []) 0 cycles state) }
-        ensures taken { OnOk result (steps.new ≡ steps.old + cycles * work_of self.now) }
-        ensures rises { steps.old ≤ steps.new }
-        ensures most { steps.new ≤ steps.old + cycles * work_of self.now }
+            → map (env_of env.new) self.now.linked.design.registers.items ≡ seg (flat_of self.now) (λ t. []) 0 cycles state }
+        ensures taken { steps.new ≡ steps.old + cycles * work_of self.now }
     {
         for _cycle in 0..cycles {
-            self.cycle(env, updates, steps)?;
+            self.cycle(env, updates, steps);
         }
-        Ok(())
     }
 
     /// The registers of an environment, as a state.

@@ -91,8 +91,8 @@ fn after<L: Ledger>(
 ) -> Result<u128, NoMemory> {
     let start = design.reset_state(alloc)?;
     let mut env = design.loaded(alloc, &start)?;
-    let mut updates = Vec::new(alloc);
-    design.run(&mut env, &mut updates, cycles, steps)?;
+    let mut updates = design.room(alloc)?;
+    design.run(&mut env, &mut updates, cycles, steps);
     let state = design.state_of(alloc, &env)?;
     Ok(first(&state))
 }

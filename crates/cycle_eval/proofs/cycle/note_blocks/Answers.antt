@@ -10,11 +10,11 @@ note-requires-clause-legal g c =
     let x = c.block-item.result in
     let ws = widths c.args.env.now in
     and_left (is_legal (stmt_of x) ws) (is_clocked (stmt_of x))
-    (clocked_read c.args.blocks.now ws c.loop-block.block-index x c.loop-block-test.true c.block-item.is c.requires)
+    (clocked_read c.args.blocks.now ws c.loop-block.block-index x c.loop-block-test.true c.block-item.is c.requires.legal)
 
 pub note-requires-clause-clocked : goal.note-requires-clause-clocked
 note-requires-clause-clocked g c =
     let x = c.block-item.result in
     let ws = widths c.args.env.now in
     and_right (is_legal (stmt_of x) ws) (is_clocked (stmt_of x))
-    (clocked_read c.args.blocks.now ws c.loop-block.block-index x c.loop-block-test.true c.block-item.is c.requires)
+    (clocked_read c.args.blocks.now ws c.loop-block.block-index x c.loop-block-test.true c.block-item.is c.requires.legal)

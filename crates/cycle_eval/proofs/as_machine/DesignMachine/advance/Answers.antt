@@ -30,7 +30,7 @@ returns-clause-value g c =
     let held : map (env_of c.deref_mut.result.now) rs ≡ xs =
     ap (λ v. map v rs) start
     ∙ ∥∥₁_elim self.linked.design.sound (hlevel props) (λ f. fill_back rs xs (fill flat.inputs (input flat []) (λ s. 0)) f.registers_once count) in
-    let ends : map (env_of c.run.new.env) rs ≡ seg flat (λ t. []) 0 n xs = c.in_ok-run.ensures.value xs ready held in
+    let ends : map (env_of c.run.new.env) rs ≡ seg flat (λ t. []) 0 n xs = c.run.ensures.value xs ready held in
     let whole : c.deref.result.now ≡ c.run.new.env =
     c.deref.ensures.value ∙ written_back env.len c.run.new.env env.items
     (omega (arith, c.run.auto.env, ap length c.deref_mut.ensures.value)) (omega (arith, c.run.auto.env, c.deref_mut.ensures.len)) in

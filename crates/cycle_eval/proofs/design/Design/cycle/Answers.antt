@@ -18,9 +18,9 @@ apply_all-requires g c =
     let ws = signal_widths design.signals.items in
     let blocks = map stmt_of design.clocked.items in
     let v = env_of c.settle.new.env in
-    let same : widths c.settle.new.env ≡ ws = c.settle.ensures.widths ∙ c.requires in
+    let same : widths c.settle.new.env ≡ ws = c.settle.ensures.widths ∙ c.requires.widths in
     let us : c.as_slice.result.now ≡ all_pending blocks v =
-    c.as_slice.ensures.value ∙ c.in_ok-note_blocks.ensures.value
+    c.as_slice.ensures.value ∙ c.note_blocks.ensures.noted
     ∙ ap₂ (λ xs bs. xs ++ all_pending (map stmt_of bs) v) c.clear.ensures.items c.deref.ensures.value in
     subst (λ zs. IsTrue (are_spans c.as_slice.result.now zs)) (sym same)
     (subst (λ xs. IsTrue (are_spans xs ws)) (sym us) (noted_spans design.clocked.items ws v design.blocks))
@@ -32,7 +32,7 @@ returns-clause-value g c = λ state inputs ready.
     let blocks = map stmt_of design.clocked.items in
     let v = env_of c.settle.new.env in
     let us : c.as_slice.result.now ≡ all_pending blocks v =
-    c.as_slice.ensures.value ∙ c.in_ok-note_blocks.ensures.value
+    c.as_slice.ensures.value ∙ c.note_blocks.ensures.noted
     ∙ ap₂ (λ xs bs. xs ++ all_pending (map stmt_of bs) v) c.clear.ensures.items c.deref.ensures.value in
     ap (λ e. map e design.registers.items)
     (c.apply_all.ensures.value ∙ ap (λ xs. all_applied xs v) us
@@ -45,7 +45,7 @@ returns-clause-ready g c = λ state inputs ready.
     let blocks = map stmt_of l.design.clocked.items in
     let v = env_of c.settle.new.env in
     let us : c.as_slice.result.now ≡ all_pending blocks v =
-    c.as_slice.ensures.value ∙ c.in_ok-note_blocks.ensures.value
+    c.as_slice.ensures.value ∙ c.note_blocks.ensures.noted
     ∙ ap₂ (λ xs bs. xs ++ all_pending (map stmt_of bs) v) c.clear.ensures.items c.deref.ensures.value in
     let is : env_of c.apply_all.new.env ≡ all_applied (all_pending blocks (wires flat state inputs)) (wires flat state inputs) =
     c.apply_all.ensures.value ∙ ap (λ xs. all_applied xs v) us

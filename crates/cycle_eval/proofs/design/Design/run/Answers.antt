@@ -15,8 +15,9 @@ loop-cycle-preserved g c =
     record {
       kept = c.cycle.ensures.widths ∙ c.loop-cycle.invariant.kept;
       ready = λ state h. subst (λ k. IsReady flat (seg flat (λ t. []) 0 k state) (input flat []) (env_of c.cycle.new.env)) more
-          (c.in_ok-cycle.ensures.ready (seg flat (λ t. []) 0 n state) (input flat []) (c.loop-cycle.invariant.ready state h));
+          (c.cycle.ensures.ready (seg flat (λ t. []) 0 n state) (input flat []) (c.loop-cycle.invariant.ready state h));
       value = λ state h start. subst (λ k. map (env_of c.cycle.new.env) self.linked.design.registers.items ≡ seg flat (λ t. []) 0 k state) more
-          (c.in_ok-cycle.ensures.value (seg flat (λ t. []) 0 n state) (input flat []) (c.loop-cycle.invariant.ready state h));
-      taken = c.in_ok-cycle.ensures.taken ∙ omega (arith, row, c.loop-cycle.invariant.taken);
+          (c.cycle.ensures.value (seg flat (λ t. []) 0 n state) (input flat []) (c.loop-cycle.invariant.ready state h));
+      room = c.cycle.ensures.capacity ∙ c.loop-cycle.invariant.room;
+      taken = c.cycle.ensures.taken ∙ omega (arith, row, c.loop-cycle.invariant.taken);
     }

@@ -1,4 +1,4 @@
-use Rattle.std.proofs.Common.{◌≡◌, ◌+◌, ◌*◌, ℕ, List, [], map}
+use Rattle.std.proofs.Common.{◌≡◌, ◌+◌, ◌*◌, ℕ, List, [], map, vec_capacity}
 use Rattle.typed_ir.specs.Cycles.{input, seg, IsReady}
 use Rattle.typed_ir.specs.Views.{widths, env_of}
 use Rattle.cycle_eval.specs.Designs.{flat_of, work_of}
@@ -12,5 +12,6 @@ invariant-loop-cycle g l = record {
   value : (state : List ℕ) → IsReady (flat_of l.self) state (input (flat_of l.self) []) (env_of l.initial.env)
       → map (env_of l.initial.env) l.self.linked.design.registers.items ≡ state
       → map (env_of l.env) l.self.linked.design.registers.items ≡ seg (flat_of l.self) (λ t. []) 0 l._cycle state;
+  room : vec_capacity l.updates ≡ vec_capacity l.initial.updates;
   taken : l.steps ≡ l.initial.steps + l._cycle * work_of l.self;
 }

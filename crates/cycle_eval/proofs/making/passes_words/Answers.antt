@@ -5,7 +5,7 @@ use Rattle.cycle_eval.specs.Paths.{width_in}
 use Rattle.cycle_eval.specs.Words.{words_of}
 use Rattle.cycle_eval.proofs.Loads.{below_read}
 use Rattle.cycle_eval.proofs.Carries.{width_read}
-use Rattle.cycle_eval.proofs.design.passes_words.Goals as goal
+use Rattle.cycle_eval.proofs.making.passes_words.Goals as goal
 
 pub bounds-signals-register : goal.bounds-signals-register
 bounds-signals-register c = below_read c.args.registers.now (length c.args.signals.now) c.loop-register.register-index c.requires c.loop-register-test.true

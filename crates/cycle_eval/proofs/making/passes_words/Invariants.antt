@@ -1,7 +1,7 @@
-use Rattle.std.proofs.Common.{◌≡◌, ◌≤◌, ◌+◌, ◌-◌, map, drop}
+use Rattle.std.proofs.Common.{◌≡◌, ◌≤◌, ◌+◌, map, drop}
 use Rattle.cycle_eval.specs.Paths.{width_in}
 use Rattle.cycle_eval.specs.Words.{words_of}
-use Rattle.cycle_eval.proofs.design.passes_words.Given as goal
+use Rattle.cycle_eval.proofs.making.passes_words.Given as goal
 
 abbrev pub invariant-loop-register : goal.invariant-loop-register
 invariant-loop-register l = record {

@@ -1,0 +1,36 @@
+use Rattle.std.proofs.Common.{◌≡◌, ◌+◌, ◌-◌, ◌<◌, ◌∙◌, ℕ, suc, List, Some, length, map, get_or, drop, sym, ap, ap₂, cond, arith}
+use Rattle.cycle_eval.specs.Kits.{same_path}
+use Rattle.cycle_eval.specs.Paths.{ids, path_in}
+use Rattle.cycle_eval.specs.Places.{place_from}
+use Rattle.cycle_eval.specs.Found.{place_in}
+use Rattle.cycle_eval.proofs.Loads.{below_read}
+use Rattle.cycle_eval.proofs.Carries.{path_read}
+use Rattle.cycle_eval.proofs.Finding.{place_step}
+use Rattle.cycle_eval.proofs.places.places_of.Goals as goal
+
+pub bounds-signals-registers : goal.bounds-signals-registers
+bounds-signals-registers c =
+    let within : c.loop-left.left - 1 < length c.args.registers.now = omega arith in
+    below_read c.args.registers.now (length c.args.signals.now) (c.loop-left.left - 1) c.requires within
+
+pub loop-left-preserved : goal.loop-left-preserved
+loop-left-preserved c =
+    let signals = c.args.signals.now in
+    let rs = c.args.registers.now in
+    let f : ℕ → List ℕ = path_in signals in
+    let i = c.loop-left.left - 1 in
+    let r = get_or rs i 0 in
+    let within : i < length rs = omega arith in
+    let there : r < length signals = below_read rs (length signals) i c.requires within in
+    let read : ids c.deref.result.now ≡ f r = ap ids c.deref.ensures.value ∙ path_read signals r c.index-signals-registers.result there c.index-signals-registers.is in
+    let more : i + 1 ≡ c.loop-left.left = omega arith in
+    let next : suc i ≡ c.loop-left.left = omega arith in
+    record {
+      within = omega arith;
+      found = λ path.
+          c.in_ok-put.ensures path
+          ∙ ap (λ p. cond (same_path p path) (Some i) (place_in c.loop-left.places path)) read
+          ∙ ap (cond (same_path (f r) path) (Some i))
+          (c.loop-left.invariant.found path ∙ sym (ap₂ (λ (n k : ℕ). place_from n (map f (drop k rs)) path) next more))
+          ∙ sym (place_step f rs i path within);
+    }
