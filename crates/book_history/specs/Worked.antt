@@ -36,6 +36,11 @@ reloaded_once = Opened 1 3 ∷ Ran 5 (0 ∷ 0 ∷ 0 ∷ 0 ∷ 0 ∷ []) ∷ Relo
 abbrev pub settled_first : List Tallied
 settled_first = Opened 1 3 ∷ Ran 5 (0 ∷ 0 ∷ 0 ∷ 0 ∷ 0 ∷ []) ∷ Reloaded 2 4 tt 4 ∷ Claimed 1 0 2 Session ∷ Installed 1 true Session ∷ []
 
+abbrev pub settled_second : List Tallied
+settled_second =
+    Opened 1 3 ∷ Ran 5 (0 ∷ 0 ∷ 0 ∷ 0 ∷ 0 ∷ []) ∷ Reloaded 2 4 tt 4 ∷ Claimed 1 0 2 Session ∷ Installed 1 true Session
+    ∷ Claimed 2 2 4 Session ∷ Installed 2 true Session ∷ []
+
 abbrev pub settled_all : List Tallied
 settled_all =
     Opened 1 3 ∷ Ran 5 (0 ∷ 0 ∷ 0 ∷ 0 ∷ 0 ∷ []) ∷ Reloaded 2 4 tt 4 ∷ Claimed 1 0 2 Session ∷ Installed 1 true Session

@@ -10,7 +10,7 @@ ghost use Rattle.book_history.specs.Law.{InstallIsRight, LeadFallsNot, AreCalm, 
 ghost use Rattle.book_history.specs.Outs.{IsOutFor, tickets_drawn};
 ghost use Rattle.book_history.specs.Tickets.{is_drawn, is_used};
 ghost use Rattle.book_history.specs.declared.link.Link.TheVariants.{Open, Joined};
-ghost use Rattle.book_history.specs.Worked.{tally, always_valid, settings, links_and_marks, mark, reloaded_once, settled_first, settled_all, claimed_twice, stale_once, stale_results, thinned, first_of};
+ghost use Rattle.book_history.specs.Worked.{tally, always_valid, settings, links_and_marks, mark, reloaded_once, settled_first, settled_second, settled_all, claimed_twice, stale_once, stale_results, thinned, first_of};
 
 use machine::Machine;
 
@@ -58,8 +58,10 @@ pub fn tickets_of_histories<M: Machine>()
 pub fn worked_histories()
     // Five cycles, a mark at each even one; the reload simulates the last cycle alone.
     ensures reload { links_and_marks (replay tally (settings 2 1) reloaded_once) ≡ mark Open 2 6 ∷ mark Open 4 12 ∷ mark Joined 5 16 ∷ [] }
-    // A result that differs from its mark takes its place and opens the next link.
+    // A result that differs from its mark takes its place.
     ensures first { links_and_marks (replay tally (settings 2 1) settled_first) ≡ mark Joined 2 8 ∷ mark Open 4 12 ∷ mark Joined 5 16 ∷ [] }
+    // So does the second one, which opens the next link: the reload had joined it.
+    ensures second { links_and_marks (replay tally (settings 2 1) settled_second) ≡ mark Joined 2 8 ∷ mark Joined 4 16 ∷ mark Open 5 16 ∷ [] }
     ensures all { links_and_marks (replay tally (settings 2 1) settled_all) ≡ mark Joined 2 8 ∷ mark Joined 4 16 ∷ mark Joined 5 20 ∷ [] }
     ensures all_legal { Legal tally always_valid (settings 2 1) settled_all }
     // A second install for a link that is joined changes nothing.

@@ -8,3 +8,4 @@ pub mod Keeps
 pub mod Lengths
 pub mod Uses
 pub mod Entries
+pub mod FirstLinks

@@ -1,12 +1,12 @@
 use Rattle.std.proofs.Common.{◌≡◌, ℕ, zero, suc, ◌+◌, ◌-◌, ◌*◌, ◌<◌, ◌≤◌, List, [], ◌∷◌, ◌++◌, length, take, drop, set, get_or, refl, sym, ◌∙◌, ap, arith, eqb, length-append}
 use Rattle.std.proofs.Math.Seq.{drop-append-add, drop-cons, take-suc}
-use Rattle.std.proofs.lemmas.List.{append-nil, append_assoc, drop_all, take_all, take-set-le}
+use Rattle.std.proofs.lemmas.List.{append-nil, drop_all, take_all, take-set-le}
 use Rattle.std.specs.List.{SwappedAt}
 use Rattle.std.proofs.lemmas.Bool.{cond_both, eqb-false}
 use Rattle.book_history.specs.declared.segment.Segment.{Segment}
 use Rattle.book_history.specs.declared.link.Link.TheVariants.{Joined}
 use Rattle.machine.specs.Kit.{Kit}
-use Rattle.book_history.specs.Book.{both, thin, last_state, add_mark, extend, grid, slice}
+use Rattle.book_history.specs.Book.{thin, last_state, add_mark, extend, grid, slice}
 use Rattle.checkpoint_book.specs.Grid.{next_mark, AgreeFrom}
 use Rattle.checkpoint_book.proofs.Grids.{grid_step}
 

@@ -8,7 +8,7 @@ ghost use Rattle.book_history.specs.Truth.{True};
 ghost use Rattle.checkpoint_book.specs.Answers.{is_joined_answer, shown_to};
 ghost use Rattle.book_history.specs.declared.who.Who.TheVariants.{Session, Worker};
 ghost use Rattle.checkpoint_book.specs.Claims.{IsDrawn, ClaimIs, claims_nothing};
-ghost use Rattle.checkpoint_book.specs.Views.{book_of, counts_of, IsOpened, version_in, cycle_in, links_in, marks_in, work_in, IsLast, LeadTo, chosen_in, shown_in, answer_in, none_free, is_full, HasSessionRoom, HasRoomFor};
+ghost use Rattle.checkpoint_book.specs.Views.{book_of, counts_of, IsOpened, version_in, cycle_in, links_in, marks_in, work_in, IsLast, LeadTo, chosen_in, shown_in, answer_in, is_none, none_free, is_full, HasSessionRoom, HasRoomFor};
 
 use crate::begin::begun;
 use crate::claimed::Claimed;
@@ -73,7 +73,9 @@ impl<M: Machine> Historied for Book<M> {
 }
 
 impl<M: Machine> Book<M> {
-    /// A book without a version, with room for its whole history.
+    /// A book without a version, with room for its whole history: as many entries as its rooms allow, and a close. `interval`
+    /// is the distance of two marks in cycles, at least 1; `lookback` is how many cycles before the current one a reload
+    /// begins, at the last mark that is so early. No call but this one takes memory for entries.
     pub fn new(
         alloc: Global,
         interval: u64,
@@ -185,7 +187,7 @@ impl<M: Machine> Book<M> {
         self.counters.closed = true;
     }
 
-    /// The first version: one mark, the machine's reset at cycle 0.
+    /// The first version: one mark, the machine's reset at cycle 0. After want of memory the book is as before.
     pub fn open(&mut self, version: Arc<Version<M>, Global>) -> Result<(), NoMemory>
         requires never { book_of M.kit self.old ≡ None }
         requires number { version.value.number ≡ 1 }
@@ -203,8 +205,9 @@ impl<M: Machine> Book<M> {
         Ok(())
     }
 
-    /// Runs the next `n` cycles over their rows, with a mark at each multiple of the interval on the way and one at the
-    /// end. The counter rises by the machine's steps for each cycle.
+    /// Runs the next `n` cycles, at least 1 and up to cycle 2^40, over their rows, with a mark at each multiple of the interval
+    /// on the way and one at the end. The counter rises by the machine's steps for each cycle. After want of memory the book is
+    /// as before, and the counter has risen by no more than that.
     pub fn run<L: Ledger>(
         &mut self,
         rows: RowRuns<M::Row>,
@@ -236,7 +239,8 @@ impl<M: Machine> Book<M> {
     }
 
     /// The next version: marks up to the chosen one are carried over, those after it are simulated from it. The counter
-    /// rises by the new machine's steps for each cycle from the chosen one on. The chosen cycle is the answer.
+    /// rises by the new machine's steps for each cycle from the chosen one on. The chosen cycle is the answer. After want of
+    /// memory the book is as before, and the counter has risen by no more than that.
     pub fn reload<L: Ledger>(
         &mut self,
         version: Arc<Version<M>, Global>,
@@ -334,6 +338,9 @@ impl<M: Machine> Book<M> {
         ensures none { IfOk result (λ r. IfNone r ((self.new.events ≡ self.old.events) × (none_free Session (book_of M.kit self.old) ≡ true))) }
         ensures some { IfOk result (λ r. IfSome r (λ t. IsDrawn M.kit Session self.old self.new t)) }
         ensures free { IfOk result (λ r. IfSome r (λ t. none_free Session (book_of M.kit self.old) ≡ false)) }
+
+        // It is None exactly where a show would answer Settled.
+        ensures settled { IfOk result (λ r. is_none r ≡ is_none (shown_in (book_of M.kit self.old))) }
         ensures err { OnErr result ((self.new.events ≡ self.old.events) × (none_free Session (book_of M.kit self.old) ≡ false)) }
     {
         self.take(alloc, Who::Session)

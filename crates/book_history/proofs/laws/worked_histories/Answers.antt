@@ -7,6 +7,9 @@ returns-clause-reload c = refl
 pub returns-clause-first : goal.returns-clause-first
 returns-clause-first c = refl
 
+pub returns-clause-second : goal.returns-clause-second
+returns-clause-second c = refl
+
 pub returns-clause-all : goal.returns-clause-all
 returns-clause-all c = refl
 
