@@ -367,6 +367,39 @@ fn installs_go_on_after_a_close(rt: HostRuntime) -> Result<(), Fail> {
     closed::<Brand, HostRuntime>(&rt, rt.alloc(), Blank::new(1))
 }
 
+/// A worker gives its ticket up after the close.
+fn closed_and_given_up<L: Ledger, R: Abort>(rt: &R, alloc: Global, blank: Blank) -> Result<(), Fail>
+    requires name { blank.name ≡ L.name }
+    requires parts { blank.parts ≡ L.parts }
+    requires some { 0 < blank.parts }
+{
+    let mut steps = Steps::<L>::start(blank);
+    let mut boxed = Book::<TallyMachine>::new(alloc, 2, 1, ROOMS)?;
+    let book: &mut Book<TallyMachine> = &mut boxed;
+    assert_eq!(rt; edited(book, alloc, &mut steps)?, 4);
+    let ticket = take(book, alloc, Who::Worker(7))?;
+    book.close();
+    give_up(book, Who::Worker(7), ticket)?;
+    let Claimed::Nothing { full, closed } = book.claim(alloc, 7)? else {
+        return Err("a claim after the close")?;
+    };
+    assert_eq!(rt; (full, closed), (false, true));
+    let history = Book::into_history(boxed);
+    // An open, a run, a reload, a claim, the close and the release.
+    assert_eq!(rt; history.entries().len(), 6);
+    let by = Who::Worker(7);
+    assert_eq!(rt;
+        history.entries()[5],
+        Entry::Release { ticket: 1, by }
+    );
+    Ok(())
+}
+
+#[test]
+fn releases_go_on_after_a_close(rt: HostRuntime) -> Result<(), Fail> {
+    closed_and_given_up::<Brand, HostRuntime>(&rt, rt.alloc(), Blank::new(1))
+}
+
 /// The session gives a ticket up, and its link is open again.
 fn given_up<L: Ledger, R: Abort>(rt: &R, alloc: Global, blank: Blank) -> Result<(), Fail>
     requires name { blank.name ≡ L.name }

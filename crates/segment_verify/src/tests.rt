@@ -80,6 +80,38 @@ pub fn run<L: Ledger>(
     Ok(())
 }
 
+/// Runs three cycles over rows of 1 and two over rows of 10, which are two stored runs.
+fn run_changing<L: Ledger>(
+    book: &mut Book<TallyMachine>,
+    alloc: Global,
+    steps: &mut Steps<L>,
+) -> Result<(), Fail>
+    requires { (counts_of book.old).closed ≡ false }
+    ensures { (counts_of book.new).closed ≡ false }
+{
+    let start = book.cycle();
+    if book.version() == 0 || book.session_room() == 0 || start > 1000000 {
+        return Err("no run")?;
+    }
+    let mut runs = Vec::new(alloc);
+    runs.push(RowRun {
+        start,
+        end: start + 3,
+        row: Arc::new(alloc, 1)?,
+    })?;
+    runs.push(RowRun {
+        start: start + 3,
+        end: start + 5,
+        row: Arc::new(alloc, 10)?,
+    })?;
+    let rows = RowRuns::new(start, start + 5, runs)?;
+    if rows.end() != start + 5 {
+        return Err("no rows")?;
+    }
+    book.run(rows, 5, steps)?;
+    Ok(())
+}
+
 /// The next version of a book; the answer is the chosen cycle.
 pub fn reload<L: Ledger>(
     book: &mut Book<TallyMachine>,
@@ -256,6 +288,43 @@ fn link_by_link<L: Ledger, R: Abort>(rt: &R, alloc: Global, blank: Blank) -> Res
 #[test]
 fn settles_link_by_link(rt: HostRuntime) -> Result<(), Fail> {
     link_by_link::<Brand, HostRuntime>(&rt, rt.alloc(), Blank::new(1))
+}
+
+/// Rows that change within a link: 4, 8, 12, 25, 38 under a machine that adds 3; the cycles 2 and 3 are one link.
+fn rows_that_change<L: Ledger, R: Abort>(rt: &R, alloc: Global, blank: Blank) -> Result<(), Fail>
+    requires name { blank.name ≡ L.name }
+    requires parts { blank.parts ≡ L.parts }
+    requires some { 0 < blank.parts }
+{
+    let mut steps = Steps::<L>::start(blank);
+    let mut boxed = Book::<TallyMachine>::new(alloc, 2, 1, ROOMS)?;
+    let book: &mut Book<TallyMachine> = &mut boxed;
+    begin(book, adds(alloc, 1, 3)?)?;
+    run_changing(book, alloc, &mut steps)?;
+    assert_eq!(rt; (current(book)?, book.marks()), (38, 4));
+    // With 4: 25 + 14 at first, and then 5, 10, 15, 29, 43 from reset.
+    assert_eq!(rt; reload(book, adds(alloc, 2, 4)?, &mut steps)?, 4);
+    assert_eq!(rt; current(book)?, 39);
+    assert_eq!(rt;
+        settle_one(book, alloc, &mut steps)?,
+        Some((1, 0, 2, 0, Installed::Joined))
+    );
+    assert_eq!(rt;
+        settle_one(book, alloc, &mut steps)?,
+        Some((2, 2, 4, 10, Installed::Joined))
+    );
+    assert_eq!(rt;
+        settle_one(book, alloc, &mut steps)?,
+        Some((3, 4, 5, 29, Installed::Joined))
+    );
+    assert_eq!(rt; current(book)?, 43);
+    assert_eq!(rt; show(book)?, Shown::Settled);
+    Ok(())
+}
+
+#[test]
+fn verifies_links_over_rows_that_change(rt: HostRuntime) -> Result<(), Fail> {
+    rows_that_change::<Brand, HostRuntime>(&rt, rt.alloc(), Blank::new(1))
 }
 
 pub const ROOMS: Rooms = Rooms {
