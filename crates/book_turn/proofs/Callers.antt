@@ -35,3 +35,9 @@ module _ {D R O : Type 0} where
 
   pub tickets_none : (v : Known D R O) (j : Journal D R O) → j.events ≡ v.seen → (left v j).tickets ≡ v.tickets
   tickets_none v j is = ap (λ l. kept_all v.tickets l) (added_one v.seen j.events [] (is ∙ sym (append-nil v.seen)))
+
+  pub own_one : (v : Known D R O) (j : Journal D R O) (e : Event D R O) → j.events ≡ v.seen ++ e ∷ [] → (left v j).own ≡ v.own ++ e ∷ []
+  own_one v j e is = ap (λ l. v.own ++ l) (added_one v.seen j.events (e ∷ []) is)
+
+  pub own_none : (v : Known D R O) (j : Journal D R O) → j.events ≡ v.seen → (left v j).own ≡ v.own
+  own_none v j is = ap (λ l. v.own ++ l) (added_one v.seen j.events [] (is ∙ sym (append-nil v.seen))) ∙ append-nil v.own

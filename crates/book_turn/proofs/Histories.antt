@@ -75,3 +75,11 @@ module _ {D R O : Type 0} where
   pub none_owned : (es : List (Event D R O)) → AllOwned false es → owned es ≡ []
   none_owned [] h = refl
   none_owned (e ∷ es) h = not_owned (is_owned e) e (owned es) h.0 (none_owned es h.1)
+
+  is_kept : (b : Bool) (x : Event D R O) (a c : List (Event D R O)) → b ≡ true → a ≡ c → (if b then x ∷ a else a) ≡ x ∷ c
+  is_kept true x a c t e = ap (λ l. x ∷ l) e
+  is_kept false x a c t e = absurd (true≢false (sym t))
+
+  pub all_owned : (es : List (Event D R O)) → AllOwned true es → owned es ≡ es
+  all_owned [] h = refl
+  all_owned (e ∷ es) h = is_kept (is_owned e) e (owned es) es h.0 (all_owned es h.1)

@@ -11,7 +11,7 @@ use Rattle.book_history.specs.Owned.{owned, AllOwned, IsPrefix, added}
 use Rattle.book_history.specs.Tickets.{is_among, IsOut, AreOut}
 use Rattle.book_turn.specs.Known.{Known, opening, begun, entered, left, not_alone, worker_of, joined, spent}
 use Rattle.book_turn.specs.Rule.{IsAt, Fits, Apart, EachFits, EachApart, EachBegins, HasBook, MayLeave, Learned, Ruled}
-use Rattle.book_turn.proofs.Histories.{prefix_refl, prefix_trans, added_is, longer_prefix, longer_whole, longer_begins, owned_append, none_owned}
+use Rattle.book_turn.proofs.Histories.{prefix_refl, prefix_trans, added_is, longer_prefix, longer_whole, longer_begins, owned_append, all_owned, none_owned}
 use Rattle.book_turn.proofs.Holdings.{all_mine, all_theirs}
 
 module _ {A : Type 0} where
@@ -168,7 +168,11 @@ module _ {T D R O : Type 0} (journal : T → Journal D R O) where
         hears = tt;
         carries = f.carries;
         holding = λ b. absurd (true≢false (sym b));
-        own = λ s. ((f.own s).0, ap (λ l. l ++ owned es) ((f.own s).1 ∙ ap owned (sym hold.2)) ∙ sym (owned_append v.seen es) ∙ ap owned whole);
+        own = λ s. (
+          (f.own s).0,
+          ap (λ l. l ++ es) ((f.own s).1 ∙ ap owned (sym hold.2)) ∙ ap (λ l. owned v.seen ++ l) (sym (all_owned es (subst (λ b. AllOwned b es) s may.own)))
+          ∙ sym (owned_append v.seen es) ∙ ap owned whole,
+        );
         whole = λ _. refl;
         are_out = subst (λ l. AreOut w.tickets l) whole (all_mine v.seen v.tickets es may.tickets out);
       } in (

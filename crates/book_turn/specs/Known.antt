@@ -6,7 +6,8 @@ use Rattle.book_history.specs.Owned.{owned, added}
 use Rattle.book_history.specs.Tickets.{kept_all}
 
 -- `seen` is the history that the holder has seen, and `heard` what it and a worker had seen when the worker's pass was last joined in.
--- `own` is the session's own list. The settings are none until the book is in its turn
+-- `own` is the holder's own list, what it has added; the session's begins with the session's entries of the history that was put into
+-- the turn. The settings are none until the book is in its turn
 pub record Known (D R O : Type 0) : Type 0 where
   pub live : Bool
   pub session : Bool
@@ -43,7 +44,7 @@ module _ {D R O : Type 0} where
     holds = false;
     seen = j.events;
     heard = [];
-    own = v.own ++ owned (added v.seen j.events);
+    own = v.own ++ added v.seen j.events;
     tickets = kept_all v.tickets (added v.seen j.events);
     settings = v.settings;
   }

@@ -1,5 +1,5 @@
 -- What one turn of a worker asks and gives, by the call that it makes on the book.
-use Rattle.std.proofs.Common.{◌≡◌, ℕ, Bool, true, false, List, [], ◌∷◌, ◌++◌, ◌||◌, Result, Ok, Err, Option, Some, IfOk, OnErr, eqb, refl, sym, ap, ◌∙◌, subst}
+use Rattle.std.proofs.Common.{◌≡◌, ℕ, Bool, true, false, List, [], ◌∷◌, ◌++◌, ◌||◌, Result, Ok, Err, Option, Some, IfOk, OnErr, eqb, refl, sym, ap, ◌∙◌, subst, append_assoc, append-nil}
 use Rattle.std.proofs.lemmas.Bool.{eq-eqb, cond-true}
 use Rattle.machine.specs.Kit.{Kit}
 use Rattle.book_history.specs.declared.who.Who.{Who}
@@ -12,12 +12,13 @@ use Rattle.book_history.specs.Tickets.{is_among, is_used, without, kept, MayAdd}
 use Rattle.book_history.proofs.Bridge.{still_out}
 use Rattle.book_turn.specs.Known.{Known, entered, left}
 use Rattle.book_turn.specs.Rule.{MayLeave, Learned}
-use Rattle.book_turn.proofs.Callers.{may_leave_one, may_leave_none, tickets_one, tickets_none}
+use Rattle.book_turn.proofs.Callers.{may_leave_one, may_leave_none, tickets_one, tickets_none, own_one, own_none}
 use Rattle.book_turn.proofs.Holdings.{used_append}
 use Rattle.checkpoint_book.specs.declared.claimed.Claimed.{Claimed as Answer}
 use Rattle.checkpoint_book.specs.declared.claimed.Claimed.TheVariants.{Ticket, Nothing}
 use Rattle.checkpoint_book.specs.Claims.{ClaimIs, claims_nothing}
 use Rattle.checkpoint_book.specs.Views.{book_of}
+use Rattle.segment_verify.specs.Entries.{IsEnd, AreTurns, no_turn, one_more, HasHandedIn, HasTurned, HasAsked}
 use Rattle.segment_verify.specs.Workers.{is_closed, IsFree, IsOutAfter, HasTicket, HasDrawn}
 
 or_first : (b : Bool) → b ≡ true → b || false ≡ true
@@ -76,6 +77,18 @@ module _ {D S R O : Type 0} (k : Kit D S R O) where
         (record { outside = refl; no_ticket = tickets_none (entered v j) l ok.0 ∙ free.no_ticket }, ok.3 ∙ ap (λ (h : List (Event D R O)). is_closed h) (sym ok.0))
     claim_gives v j l by (Err e) free learned settings ok err = record { outside = refl; no_ticket = tickets_none (entered v j) l err.0 ∙ free.no_ticket }
 
+    claim_adds : (v : Known D R O) (j l : Journal D R O) (by : Who) (r : Result (Answer D S R O) E)
+        → IfOk r (ClaimIs k by j l) → OnErr r ((l.events ≡ j.events) × (claims_nothing k by j ≡ false)) → HasAsked by r v (left (entered v j) l)
+    claim_adds v j l by (Ok (Ticket t)) ok err = own_one (entered v j) l (Claimed t.0 t.1.a t.1.b by) ok.0.events
+    claim_adds v j l by (Ok (Nothing full closed)) ok err = own_none (entered v j) l ok.0
+    claim_adds v j l by (Err e) ok err = own_none (entered v j) l err.0
+
+    pub has_asked : (v w x : Known D R O) (i j l : Journal D R O) (by : Who) (r : Result (Answer D S R O) E) → w ≡ entered v j → x ≡ left w l → i ≡ j
+        → IfOk r (ClaimIs k by i l) → OnErr r ((l.events ≡ i.events) × (claims_nothing k by i ≡ false)) → HasAsked by r v x
+    has_asked v w x i j l by r knows leaves same ok err =
+        subst (λ (y : Known D R O). HasAsked by r v y) (ap (λ (y : Journal D R O). left (entered v y) l) same ∙ ap (λ (y : Known D R O). left y l) (sym knows) ∙ sym leaves)
+        (claim_adds v i l by r ok err)
+
     pub may_claim : (v w : Known D R O) (i j l : Journal D R O) (by : ℕ) (r : Result (Answer D S R O) E) → w ≡ entered v j → i ≡ j → Learned v j → v.session ≡ false → l.settings ≡ i.settings
         → IfOk r (ClaimIs k (Worker by) i l) → OnErr r ((l.events ≡ i.events) × (claims_nothing k (Worker by) i ≡ false)) → MayLeave w l
     may_claim v w i j l by r knows same learned worker settings ok err =
@@ -100,3 +113,28 @@ module _ {D S R O : Type 0} (k : Kit D S R O) where
   is_free v w x i j l t by e knows leaves same has events uses =
       subst (λ (y : Known D R O). IsFree y) (ap (λ (y : Journal D R O). left (entered v y) l) same ∙ ap (λ (y : Known D R O). left y l) (sym knows) ∙ sym leaves)
       (record { outside = refl; no_ticket = tickets_one (entered v i) l e events ∙ uses ∙ none_left t.0 v.tickets has.tickets })
+
+module _ {D R O : Type 0} where
+  pub has_handed_in : (v w x : Known D R O) (i j l : Journal D R O) (n : ℕ) (by : Who) (e : Event D R O) → w ≡ entered v j → x ≡ left w l → i ≡ j → l.events ≡ i.events ++ e ∷ []
+      → IsEnd by n e → HasHandedIn by n v x
+  has_handed_in v w x i j l n by e knows leaves same events is = record {
+    entry = e;
+    is_end = is;
+    own = ap (λ (y : Known D R O). y.own) (leaves ∙ ap (λ (y : Known D R O). left y l) (knows ∙ ap (λ (y : Journal D R O). entered v y) (sym same))) ∙ own_one (entered v i) l e events;
+  }
+
+  pub turned_none : (by : Who) (v : Known D R O) → HasTurned by v v
+  turned_none by v = record { entries = []; turns = no_turn; own = sym (append-nil v.own) }
+
+  pub turned_same : (by : Who) (v w x : Known D R O) → HasTurned by v w → x.own ≡ w.own → HasTurned by v x
+  turned_same by v w x h same = record { entries = h.entries; turns = h.turns; own = same ∙ h.own }
+
+  pub turned_more : (by : Who) (v w x y : Known D R O) (n a b : ℕ) → HasTurned by v w → x.own ≡ w.own ++ Claimed n a b by ∷ [] → HasHandedIn by n x y → HasTurned by v y
+  turned_more by v w x y n a b h asked handed = record {
+    entries = h.entries ++ Claimed n a b by ∷ handed.entry ∷ [];
+    turns = one_more h.entries n a b handed.entry h.turns handed.is_end;
+    own = handed.own ∙ ap (λ l. l ++ handed.entry ∷ []) (asked ∙ ap (λ l. l ++ Claimed n a b by ∷ []) h.own)
+        ∙ ap (λ l. l ++ handed.entry ∷ []) (append_assoc v.own h.entries (Claimed n a b by ∷ []))
+        ∙ append_assoc v.own (h.entries ++ Claimed n a b by ∷ []) (handed.entry ∷ [])
+        ∙ ap (λ l. v.own ++ l) (append_assoc h.entries (Claimed n a b by ∷ []) (handed.entry ∷ []));
+  }

@@ -1,3 +1,4 @@
+pub mod Entries
 pub mod Outcome
 pub mod Outs
 pub mod Workers

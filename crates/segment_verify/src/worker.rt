@@ -4,6 +4,7 @@ ghost use Rattle.std.specs.Prelude.{◌≡◌, ◌<◌, false};
 ghost use Rattle.book_history.specs.declared.who.Who.TheVariants.{Worker};
 ghost use Rattle.book_turn.specs.Passes.{IsOf, known};
 ghost use Rattle.segment_verify.specs.Outcome.{IsOf as IsTicketOf};
+ghost use Rattle.segment_verify.specs.Entries.{HasHandedIn, HasTurned, HasAsked};
 ghost use Rattle.segment_verify.specs.Workers.{IsFree, HasEnded, HasTicket, HasDrawn};
 
 use crate::verification::Verification;
@@ -25,10 +26,12 @@ use std::sync::Wait;
 use std::sync::ledger::{Blank, Ledger};
 
 /// Claims, verifies and installs as worker `number` until a claim tells that the book is closed. The pass comes back free,
-/// and has seen the Close.
+/// and has seen the Close; what it added are, for each ticket that it drew, its claim and its install or release, all by
+/// `number`.
 ///
 /// The gate is asked before each verification and before each install, while others may have the book. A ticket whose
 /// verification wants memory is given up. Where no link is open, or a claim wants memory, it backs off and tries again.
+#[tactic(auto, using(crate::proofs::Turns::turned_none, crate::proofs::Turns::turned_same, crate::proofs::Turns::turned_more))]
 pub fn worker_loop<M: Machine, G: Gate, R: Wait>(
     rt: &R,
     alloc: Global,
@@ -41,6 +44,7 @@ pub fn worker_loop<M: Machine, G: Gate, R: Wait>(
     requires free { IsFree (known pass) }
     ensures turn { IsOf turn.now result false }
     ensures ended { HasEnded (known result) }
+    ensures entries { HasTurned (Worker number) (known pass) (known result) }
 {
     let backoff = Backoff::new();
     for _ in rt.forever() {
@@ -71,6 +75,7 @@ fn work_on<M: Machine, G: Gate, R: Wait>(
     requires ticket { HasTicket M.kit (Worker number) ticket (known pass.old) }
     ensures turn { IsOf turn.now pass.new false }
     ensures free { IsFree (known pass.new) }
+    ensures entries { HasHandedIn (Worker number) ticket.0 (known pass.old) (known pass.new) }
 {
     let drawn = ticket.number();
     gate.before(drawn, GateStep::Verify);
@@ -110,6 +115,7 @@ fn claim<M: Machine, R: Wait>(
     requires free { IsFree (known pass.old) }
     ensures turn { IsOf turn.now pass.new false }
     ensures drawn { HasDrawn M.kit (Worker number) result (known pass.new) }
+    ensures entries { HasAsked (Worker number) result (known pass.old) (known pass.new) }
 {
     let mut boxed = turn.enter(rt, pass);
     let book: &mut Book<M> = &mut boxed;
@@ -130,6 +136,7 @@ fn install<M: Machine, R: Wait>(
     requires ticket { HasTicket M.kit (Worker number) verified (known pass.old) }
     ensures turn { IsOf turn.now pass.new false }
     ensures free { IsFree (known pass.new) }
+    ensures entries { HasHandedIn (Worker number) verified.0 (known pass.old) (known pass.new) }
 {
     let mut boxed = turn.enter(rt, pass);
     let book: &mut Book<M> = &mut boxed;
@@ -149,6 +156,7 @@ fn release<M: Machine, R: Wait>(
     requires ticket { HasTicket M.kit (Worker number) ticket (known pass.old) }
     ensures turn { IsOf turn.now pass.new false }
     ensures free { IsFree (known pass.new) }
+    ensures entries { HasHandedIn (Worker number) ticket.0 (known pass.old) (known pass.new) }
 {
     let mut boxed = turn.enter(rt, pass);
     let book: &mut Book<M> = &mut boxed;

@@ -1,5 +1,5 @@
 -- What one turn of the session asks and gives, and what joins keep.
-use Rattle.std.proofs.Common.{◌≡◌, ℕ, if◌then◌else◌, Bool, true, false, List, [], ◌∷◌, ◌++◌, Some, refl, sym, ap, ◌∙◌, subst}
+use Rattle.std.proofs.Common.{◌≡◌, ℕ, Bool, true, false, List, [], ◌∷◌, ◌++◌, Some, refl, sym, ap, ◌∙◌, subst}
 use Rattle.book_history.specs.declared.who.Who.{Who}
 use Rattle.book_history.specs.declared.who.Who.TheVariants.{Session, Worker}
 use Rattle.book_history.specs.Book.{Event, Opened, Ran, Reloaded, Claimed, Installed, Released, Shown, Closed}
@@ -69,12 +69,11 @@ module _ {D R O : Type 0} where
       left_here : x ≡ left (entered v i) l
       left_here = leaves ∙ ap (λ (y : Known D R O). left y l) known_here
 
-      pub own_more : is_owned e ≡ true → x.own ≡ v.own ++ e ∷ []
-      own_more own =
+      pub own_more : x.own ≡ v.own ++ e ∷ []
+      own_more =
           ap (λ (y : Known D R O). y.own) left_here
-          ∙ ap (λ (h : List (Event D R O)). v.own ++ owned (added i.events h)) events
-          ∙ ap (λ (h : List (Event D R O)). v.own ++ owned h) (added_append i.events (e ∷ []))
-          ∙ ap (λ b. v.own ++ (if b then e ∷ [] else [])) own
+          ∙ ap (λ (h : List (Event D R O)). v.own ++ added i.events h) events
+          ∙ ap (λ (h : List (Event D R O)). v.own ++ h) (added_append i.events (e ∷ []))
 
       pub seen_more : IsPrefix v.seen x.seen
       seen_more =

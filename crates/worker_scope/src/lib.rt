@@ -1,9 +1,23 @@
 // Workers in threads beside the session: a scope in which they start, and after which all have ended.
 #![tactic(auto)]
 
+#[cfg(test)]
+mod asking;
+#[cfg(test)]
+mod drawn;
 mod ends;
+#[cfg(test)]
+mod meeting;
+#[cfg(test)]
+mod refusing;
+#[cfg(test)]
+mod reloading;
+#[cfg(test)]
+mod replay;
 mod scope;
 mod session_work;
+#[cfg(test)]
+mod tests;
 
 pub use scope::with_workers;
 pub use session_work::SessionWork;

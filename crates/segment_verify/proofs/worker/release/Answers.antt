@@ -1,5 +1,6 @@
 use Rattle.std.proofs.Common.{lit<, refl}
-use Rattle.segment_verify.proofs.Turns.{out_now, may_use, is_free}
+use Rattle.segment_verify.specs.Entries.{is_given_up}
+use Rattle.segment_verify.proofs.Turns.{out_now, may_use, is_free, has_handed_in}
 use Rattle.segment_verify.proofs.worker.release.Goals as goal
 
 pub release-requires-clause-out : goal.release-requires-clause-out
@@ -18,3 +19,6 @@ leave-requires-after_bounds g c κs within = (
 pub returns-clause-free : goal.returns-clause-free
 returns-clause-free g c =
     is_free g.M.Machine.kit _ _ _ _ _ c.release.new.self c.args.ticket _ _ c.enter-boxed.ensures.known c.leave.ensures.known c.deref_mut-book.ensures.value c.requires.ticket c.release.ensures.events refl
+
+pub returns-clause-entries : goal.returns-clause-entries
+returns-clause-entries g c = has_handed_in _ _ _ _ _ c.release.new.self _ _ _ c.enter-boxed.ensures.known c.leave.ensures.known c.deref_mut-book.ensures.value c.release.ensures.events is_given_up

@@ -22,7 +22,7 @@ returns-clause-free g c =
 
 pub returns-clause-closed : goal.returns-clause-closed
 returns-clause-closed g c = record {
-  own = own_more _ _ _ _ _ _ _ c.enter-boxed.ensures.known c.deref_mut-book.ensures.value c.enter-boxed.ensures.learned c.close.ensures.settings c.close.ensures.events c.leave.ensures.known refl;
+  own = own_more _ _ _ _ _ _ _ c.enter-boxed.ensures.known c.deref_mut-book.ensures.value c.enter-boxed.ensures.learned c.close.ensures.settings c.close.ensures.events c.leave.ensures.known;
   settings = same_settings _ _ _ _ _ _ _ c.enter-boxed.ensures.known c.deref_mut-book.ensures.value c.enter-boxed.ensures.learned c.close.ensures.settings c.close.ensures.events c.leave.ensures.known;
   alone = same_alone _ _ _ _ _ _ _ c.enter-boxed.ensures.known c.deref_mut-book.ensures.value c.enter-boxed.ensures.learned c.close.ensures.settings c.close.ensures.events c.leave.ensures.known;
   begins = seen_more _ _ _ _ _ _ _ c.enter-boxed.ensures.known c.deref_mut-book.ensures.value c.enter-boxed.ensures.learned c.close.ensures.settings c.close.ensures.events c.leave.ensures.known;

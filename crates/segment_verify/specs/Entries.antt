@@ -1,0 +1,36 @@
+-- The entries that a worker adds to the history by its turns.
+use Rattle.std.specs.Prelude.{◌≡◌, ℕ, List, [], ◌∷◌, ◌++◌, Bool, Result, Ok, Err}
+use Rattle.book_history.specs.declared.who.Who.{Who}
+use Rattle.book_history.specs.Book.{Event, Claimed, Installed, Released}
+use Rattle.book_turn.specs.Known.{Known}
+use Rattle.checkpoint_book.specs.declared.claimed.Claimed.{Claimed as Answer}
+use Rattle.checkpoint_book.specs.declared.claimed.Claimed.TheVariants.{Ticket, Nothing}
+
+-- ticket n, which is this asker's, comes back verified or is given up
+pub data IsEnd {D R O : Type 0} (by : Who) (n : ℕ) : Event D R O → Type 0 where
+  comes_back : {joined : Bool} → IsEnd by n (Installed n joined by)
+  is_given_up : IsEnd by n (Released n by)
+
+-- for each ticket its claim, and right behind it its end; all are this asker's
+pub data AreTurns {D R O : Type 0} (by : Who) : List (Event D R O) → Type 0 where
+  no_turn : AreTurns by []
+  one_more : (es : List (Event D R O)) (n a b : ℕ) (e : Event D R O) → AreTurns by es → IsEnd by n e → AreTurns by (es ++ Claimed n a b by ∷ e ∷ [])
+
+module _ {D R O : Type 0} where
+  -- the holder has added the end of this ticket
+  pub record HasHandedIn (by : Who) (n : ℕ) (v w : Known D R O) : Type 0 where
+    pub entry : Event D R O
+    pub is_end : IsEnd by n entry
+    pub own : w.own ≡ v.own ++ entry ∷ []
+
+  -- the holder has added such turns of this asker's, and nothing else
+  pub record HasTurned (by : Who) (v w : Known D R O) : Type 0 where
+    pub entries : List (Event D R O)
+    pub turns : AreTurns by entries
+    pub own : w.own ≡ v.own ++ entries
+
+  -- by the answer of a claim: the holder has added its claim, or nothing
+  abbrev pub HasAsked : {S E : Type 0} → Who → Result (Answer D S R O) E → Known D R O → Known D R O → Type 0
+  HasAsked by (Ok (Ticket t)) v w = w.own ≡ v.own ++ Claimed t.0 t.1.a t.1.b by ∷ []
+  HasAsked by (Ok (Nothing full closed)) v w = w.own ≡ v.own
+  HasAsked by (Err e) v w = w.own ≡ v.own

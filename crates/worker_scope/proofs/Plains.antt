@@ -1,0 +1,113 @@
+-- One turn of the session in which it adds plain entries alone.
+use Rattle.std.proofs.Common.{◌≡◌, ℕ, Bool, true, false, List, [], ◌∷◌, ◌++◌, Some, refl, sym, ap, ◌∙◌, subst, append-nil}
+use Rattle.book_history.specs.Book.{Event, Opened, Ran, Reloaded, Claimed, Installed, Released, Shown, Closed}
+use Rattle.book_history.specs.Journal.{Journal}
+use Rattle.book_history.specs.Owned.{is_owned, AllOwned, added}
+use Rattle.book_history.specs.Rooms.{Counts, count, count_all, no_entry}
+use Rattle.book_history.specs.Tickets.{kept, kept_all, MayAdd, MayAddAll}
+use Rattle.book_turn.specs.Known.{Known, entered, left}
+use Rattle.book_turn.specs.Rule.{MayLeave, Learned}
+use Rattle.book_turn.proofs.Histories.{added_append}
+use Rattle.segment_verify.specs.Workers.{is_closed, IsFree}
+use Rattle.worker_scope.specs.Plain.{is_plain, AllPlain, AddsPlain}
+
+module _ {D R O : Type 0} where
+  pub none_added : (j l : Journal D R O) → l.settings ≡ j.settings → l.events ≡ j.events → AddsPlain j l
+  none_added j l settings events = record { entries = []; plain = tt; settings = settings; events = events ∙ sym (append-nil j.events) }
+
+  pub one_added : (j l : Journal D R O) (e : Event D R O) → l.settings ≡ j.settings → l.events ≡ j.events ++ e ∷ [] → is_plain e ≡ true → AddsPlain j l
+  one_added j l e settings events plain = record { entries = e ∷ []; plain = (plain, tt); settings = settings; events = events }
+
+  plain_owned : (e : Event D R O) → is_plain e ≡ true → is_owned e ≡ true
+  plain_owned (Opened v m) p = refl
+  plain_owned (Ran n rows) p = refl
+  plain_owned (Reloaded v m ops from) p = refl
+  plain_owned (Claimed n a b by) p = absurd cc
+  plain_owned (Installed n j by) p = absurd cc
+  plain_owned (Released n by) p = absurd cc
+  plain_owned (Shown s) p = refl
+  plain_owned Closed p = absurd cc
+
+  plain_kept : (e : Event D R O) (ts : List ℕ) → is_plain e ≡ true → kept ts e ≡ ts
+  plain_kept (Opened v m) ts p = refl
+  plain_kept (Ran n rows) ts p = refl
+  plain_kept (Reloaded v m ops from) ts p = refl
+  plain_kept (Claimed n a b by) ts p = absurd cc
+  plain_kept (Installed n j by) ts p = absurd cc
+  plain_kept (Released n by) ts p = absurd cc
+  plain_kept (Shown s) ts p = refl
+  plain_kept Closed ts p = refl
+
+  plain_may : (e : Event D R O) (h : List (Event D R O)) (ts : List ℕ) → is_plain e ≡ true → MayAdd h ts e
+  plain_may (Opened v m) h ts p = tt
+  plain_may (Ran n rows) h ts p = tt
+  plain_may (Reloaded v m ops from) h ts p = tt
+  plain_may (Claimed n a b by) h ts p = absurd cc
+  plain_may (Installed n j by) h ts p = absurd cc
+  plain_may (Released n by) h ts p = absurd cc
+  plain_may (Shown s) h ts p = tt
+  plain_may Closed h ts p = tt
+
+  plain_open : (e : Event D R O) (n : Counts) → is_plain e ≡ true → (count n e).closed ≡ n.closed
+  plain_open (Opened v m) n p = refl
+  plain_open (Ran x rows) n p = refl
+  plain_open (Reloaded v m ops from) n p = refl
+  plain_open (Claimed i a b by) n p = absurd cc
+  plain_open (Installed i j by) n p = absurd cc
+  plain_open (Released i by) n p = absurd cc
+  plain_open (Shown s) n p = refl
+  plain_open Closed n p = absurd cc
+
+  all_owned : (es : List (Event D R O)) → AllPlain es → AllOwned true es
+  all_owned [] p = tt
+  all_owned (e ∷ es) p = (plain_owned e p.0, all_owned es p.1)
+
+  all_kept : (es : List (Event D R O)) (ts : List ℕ) → AllPlain es → kept_all ts es ≡ ts
+  all_kept [] ts p = refl
+  all_kept (e ∷ es) ts p = all_kept es (kept ts e) p.1 ∙ plain_kept e ts p.0
+
+  all_may : (es h : List (Event D R O)) (ts : List ℕ) → AllPlain es → MayAddAll h ts es
+  all_may [] h ts p = tt
+  all_may (e ∷ es) h ts p = (plain_may e h ts p.0, all_may es (h ++ e ∷ []) (kept ts e) p.1)
+
+  all_open : (es : List (Event D R O)) (n : Counts) → AllPlain es → (count_all n es).closed ≡ n.closed
+  all_open [] n p = refl
+  all_open (e ∷ es) n p = all_open es (count n e) p.1 ∙ plain_open e n p.0
+
+  count_more : (xs ys : List (Event D R O)) (n : Counts) → count_all n (xs ++ ys) ≡ count_all (count_all n xs) ys
+  count_more [] ys n = refl
+  count_more (x ∷ xs) ys n = count_more xs ys (count n x)
+
+  still_open : (h es : List (Event D R O)) → AllPlain es → is_closed h ≡ false → is_closed (h ++ es) ≡ false
+  still_open h es p open' = ap (λ (x : Counts). x.closed) (count_more h es no_entry) ∙ all_open es (count_all no_entry h) p ∙ open'
+
+  -- v is what the pass knew before it entered, w what it then knows, x what it knows after it has left; j is the book that it
+  -- was given, i the book behind the reference, and l the book after the calls
+  module _ (v w : Known D R O) (i j l : Journal D R O) (knows : w ≡ entered v j) (same : i ≡ j) (adds : AddsPlain i l) where
+    known_here : w ≡ entered v i
+    known_here = knows ∙ ap (λ y. entered v y) (sym same)
+
+    new : added i.events l.events ≡ adds.entries
+    new = ap (λ (h : List (Event D R O)). added i.events h) adds.events ∙ added_append i.events adds.entries
+
+    pub plain_leaves : Learned v j → v.session ≡ true → MayLeave w l
+    plain_leaves learned session = subst (λ (y : Known D R O). MayLeave y l) (sym known_here) (record {
+      holds = refl;
+      carries = (subst (λ (y : Journal D R O). Learned v y) (sym same) learned).carries ∙ ap Some (sym adds.settings);
+      extends = (adds.entries, adds.events);
+      own = subst (λ (h : List (Event D R O)). AllOwned v.session h) (sym new) (subst (λ b. AllOwned b adds.entries) (sym session) (all_owned adds.entries adds.plain));
+      tickets = subst (λ (h : List (Event D R O)). MayAddAll i.events v.tickets h) (sym new) (all_may adds.entries i.events v.tickets adds.plain);
+    })
+
+    module _ (x : Known D R O) (leaves : x ≡ left w l) where
+      left_here : x ≡ left (entered v i) l
+      left_here = leaves ∙ ap (λ (y : Known D R O). left y l) known_here
+
+      pub plain_free : IsFree v → IsFree x
+      plain_free free =
+          subst (λ (y : Known D R O). IsFree y) (sym left_here)
+          (record { outside = refl; no_ticket = ap (λ (h : List (Event D R O)). kept_all v.tickets h) new ∙ all_kept adds.entries v.tickets adds.plain ∙ free.no_ticket })
+
+      pub plain_still_open : is_closed v.own ≡ false → is_closed x.own ≡ false
+      plain_still_open open' =
+          ap (λ (y : Known D R O). is_closed y.own) left_here ∙ ap (λ (h : List (Event D R O)). is_closed (v.own ++ h)) new ∙ still_open v.own adds.entries adds.plain open'

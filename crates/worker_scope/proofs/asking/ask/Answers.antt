@@ -1,0 +1,19 @@
+use Rattle.std.proofs.Common.{lit<}
+use Rattle.book_turn.specs.Passes.{known}
+use Rattle.worker_scope.proofs.Plains.{plain_leaves, plain_free, plain_still_open}
+use Rattle.worker_scope.proofs.asking.ask.Goals as goal
+
+pub leave-requires-after_bounds : goal.leave-requires-after_bounds
+leave-requires-after_bounds g c κs within = (
+  lit< tt,
+  (
+    c.enter-boxed.ensures.turn,
+    plain_leaves _ (known c.enter-boxed.new.pass) _ _ _ c.enter-boxed.ensures.known c.deref_mut-book.ensures.value c.is_settled-answer.ensures c.enter-boxed.ensures.learned c.requires.turn.kind,
+  ),
+)
+
+pub returns-clause-free : goal.returns-clause-free
+returns-clause-free g c = plain_free _ _ _ _ _ c.enter-boxed.ensures.known c.deref_mut-book.ensures.value c.is_settled-answer.ensures _ c.leave.ensures.known c.requires.free
+
+pub returns-clause-open : goal.returns-clause-open
+returns-clause-open g c = plain_still_open _ _ _ _ _ c.enter-boxed.ensures.known c.deref_mut-book.ensures.value c.is_settled-answer.ensures _ c.leave.ensures.known c.requires.open
