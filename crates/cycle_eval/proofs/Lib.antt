@@ -4,3 +4,4 @@ pub mod Loads
 pub mod Carries
 pub mod Finding
 pub mod Laws
+pub mod Temporaries

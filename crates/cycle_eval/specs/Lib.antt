@@ -7,3 +7,4 @@ pub mod Words
 pub mod Updates
 pub mod Places
 pub mod Found
+pub mod Temporary

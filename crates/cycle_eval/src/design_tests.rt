@@ -1,5 +1,15 @@
 // Cycles of small designs, worked out by hand, and one cycle of a long chain.
-ghost use Rattle.std.specs.Prelude.{◌≡◌, ◌<◌};
+ghost use Rattle.std.specs.Prelude.{◌≡◌, ◌<◌, map, IfOk};
+ghost use Rattle.typed_ir.specs.FlatNodes.{node_of};
+ghost use Rattle.typed_ir.specs.Flats.{NodeWritesFirst};
+ghost use Rattle.typed_ir.specs.Nodes.{Block, IsComplete};
+ghost use Rattle.typed_ir.specs.Orders.{Each};
+ghost use Rattle.typed_ir.specs.Statements.{stmt_of};
+ghost use Rattle.typed_ir.specs.Stmts.{Assign, Then};
+ghost use Rattle.typed_ir.specs.Forms.{sized};
+ghost use Rattle.typed_ir.specs.declared.operators.ArithmeticOperator.TheVariants.{Sum, Xor};
+ghost use Rattle.typed_ir.specs.declared.operators.BinaryOperator.TheVariants.{Arithmetic};
+ghost use Rattle.cycle_eval.specs.Temporary.{all_of, temporary};
 
 use crate::Design;
 use bits::Bits;
@@ -33,9 +43,18 @@ fn signals(rt: &impl Abort, alloc: Global, list: &[(u8, u128)]) -> Result<Vec<Si
     Ok(signals)
 }
 
+// A design without a combinational block.
 #[tactic(auto, using(comb_order::proofs::Flatten::complete_of, comb_order::proofs::Flatten::first_of))]
-fn design_of(rt: &impl Abort, alloc: Global, parts: Parts) -> Result<Design, NoMemory> {
+pub fn design_of(rt: &impl Abort, alloc: Global, parts: Parts) -> Result<Design, NoMemory> {
     assert!(rt; no_block(&parts.nodes));
+    design_with(rt, alloc, parts)
+}
+
+// A design whose blocks write each of their bits on every path, and before they read it.
+fn design_with(rt: &impl Abort, alloc: Global, parts: Parts) -> Result<Design, NoMemory>
+    requires complete { Each IsComplete (map node_of parts.nodes.items) }
+    requires first { Each NodeWritesFirst (map node_of parts.nodes.items) }
+{
     assert!(rt; parts.nodes.len() < 1_000_000);
     let design = flat_of(alloc, parts)?.expect(rt, "a design");
     match linked(alloc, design) {
@@ -82,7 +101,9 @@ fn after(alloc: Global, design: &Design, cycles: u64) -> Result<Vec<u128>, NoMem
     counted::<Brand>(alloc, design, cycles, Blank::new(1))
 }
 
-fn whole(signal: u32, width: u8) -> Lane {
+fn whole(signal: u32, width: u8) -> Lane
+    ensures { result ≡ record { shift = 0; span = record { signal = signal; low = 0; width = width } } }
+{
     Lane {
         shift: 0,
         span: Span {
@@ -100,7 +121,9 @@ fn later(alloc: Global, signal: u32, width: u8, e: Typed) -> Result<Stmt, NoMemo
     Ok(Stmt::Later(parts, e))
 }
 
-fn then(alloc: Global, a: Stmt, b: Stmt) -> Result<Stmt, NoMemory> {
+fn then(alloc: Global, a: Stmt, b: Stmt) -> Result<Stmt, NoMemory>
+    ensures { IfOk result (λ st. stmt_of st ≡ Then (stmt_of a) (stmt_of b)) }
+{
     let first = Box::new(alloc, a)?;
     let second = Box::new(alloc, b)?;
     Ok(Stmt::Then(first, second))
@@ -271,6 +294,56 @@ fn wires_written_backwards(rt: HostRuntime) -> Result<(), Fail> {
     assert_eq!(rt; after(alloc, &design, 1)?.as_slice(), [2, 0, 1].as_slice());
     assert_eq!(rt; after(alloc, &design, 2)?.as_slice(), [0, 0, 1].as_slice());
     assert_eq!(rt; after(alloc, &design, 3)?.as_slice(), [2, 0, 1].as_slice());
+    Ok(())
+}
+
+// SIGNAL = E;
+fn now(alloc: Global, signal: u32, e: Typed) -> Result<Stmt, NoMemory>
+    ensures { IfOk result (λ st. stmt_of st ≡ Assign (all_of signal) (sized e.form)) }
+{
+    let mut parts = Vec::new(alloc);
+    parts.push(Target::Fixed(whole(signal, 4)))?;
+    Ok(Stmt::Assign(parts, e))
+}
+
+// always @* begin t = q + 1; t = t ^ 6; y = t; end
+fn block(alloc: Global) -> Result<Node, NoMemory>
+    ensures { IfOk result (λ n. node_of n ≡ Block (temporary (Arithmetic Sum) (Arithmetic Xor))) }
+{
+    let sum = BinaryOperator::Arithmetic(ArithmeticOperator::Sum);
+    let xor = BinaryOperator::Arithmetic(ArithmeticOperator::Xor);
+    let one = Typed::constant(Bits::new(4, 1));
+    let six = Typed::constant(Bits::new(4, 6));
+    let more = Typed::binary(alloc, sum, Typed::name(0, 4), one)?;
+    let mixed = Typed::binary(alloc, xor, Typed::name(1, 4), six)?;
+    let second = then(
+        alloc,
+        now(alloc, 1, mixed)?,
+        now(alloc, 2, Typed::name(1, 4))?,
+    )?;
+    Ok(Node::Block(then(alloc, now(alloc, 1, more)?, second)?))
+}
+
+// reg [3:0] q = 4; reg [3:0] t, y; the block; always @(posedge clk) q <= y;
+#[test]
+fn a_block_with_a_temporary(rt: HostRuntime) -> Result<(), Fail> {
+    let alloc = rt.alloc();
+    let nodes = vec![in alloc; block(alloc)?]?;
+    let parts = Parts {
+        signals: signals(&rt, alloc, &[(4, 4), (4, 0), (4, 0)])?,
+        registers: vec![in alloc; 0]?,
+        inputs: Vec::new(alloc),
+        nodes,
+        clocked: vec![in alloc; later(alloc, 0, 4, Typed::name(2, 4))?]?,
+    };
+    let design = design_with(&rt, alloc, parts)?;
+    // 5 ^ 6 is 3, 4 ^ 6 is 2, 3 ^ 6 is 5, 6 ^ 6 is 0, and 1 ^ 6 is 7.
+    for (cycles, wanted) in [(0, 4), (1, 3), (2, 2), (3, 5), (4, 0), (5, 7)] {
+        assert_eq!(rt;
+            after(alloc, &design, cycles)?.as_slice(),
+            [wanted].as_slice()
+        );
+    }
     Ok(())
 }
 

@@ -2,6 +2,8 @@
 #![tactic(auto)]
 
 mod as_machine;
+#[cfg(test)]
+mod carry_tests;
 mod carrying;
 mod cycle;
 mod design;
