@@ -171,7 +171,7 @@ module _ {T D R O : Type 0} (journal : T → Journal D R O) where
         own = λ s. (
           (f.own s).0,
           ap (λ l. l ++ es) ((f.own s).1 ∙ ap owned (sym hold.2)) ∙ ap (λ l. owned v.seen ++ l) (sym (all_owned es (subst (λ b. AllOwned b es) s may.own)))
-          ∙ sym (owned_append v.seen es) ∙ ap owned whole,
+              ∙ sym (owned_append v.seen es) ∙ ap owned whole,
         );
         whole = λ _. refl;
         are_out = subst (λ l. AreOut w.tickets l) whole (all_mine v.seen v.tickets es may.tickets out);

@@ -18,7 +18,7 @@ use Rattle.checkpoint_book.specs.declared.claimed.Claimed.{Claimed as Answer}
 use Rattle.checkpoint_book.specs.declared.claimed.Claimed.TheVariants.{Ticket, Nothing}
 use Rattle.checkpoint_book.specs.Claims.{ClaimIs, claims_nothing}
 use Rattle.checkpoint_book.specs.Views.{book_of}
-use Rattle.segment_verify.specs.Entries.{IsEnd, AreTurns, no_turn, one_more, HasHandedIn, HasTurned, HasAsked}
+use Rattle.segment_verify.specs.Entries.{IsEnd, no_turn, one_more, HasHandedIn, HasTurned, HasAsked}
 use Rattle.segment_verify.specs.Workers.{is_closed, IsFree, IsOutAfter, HasTicket, HasDrawn}
 
 or_first : (b : Bool) → b ≡ true → b || false ≡ true
@@ -138,3 +138,7 @@ module _ {D R O : Type 0} where
         ∙ append_assoc v.own (h.entries ++ Claimed n a b by ∷ []) (handed.entry ∷ [])
         ∙ ap (λ l. v.own ++ l) (append_assoc h.entries (Claimed n a b by ∷ []) (handed.entry ∷ []));
   }
+
+  pub turned_by : {S E : Type 0} (by : Who) (v w x y : Known D R O) (r : Result (Answer D S R O) E) (t : ℕ × Drawn D S R) → r ≡ Ok (Ticket t) → HasTurned by v w → HasAsked by r w x → HasHandedIn by t.0 x y → HasTurned by v y
+  turned_by {S} {E} by v w x y r t is h asked handed =
+      turned_more by v w x y t.0 t.1.a t.1.b h (subst (λ (z : Result (Answer D S R O) E). HasAsked by z w x) is asked) handed

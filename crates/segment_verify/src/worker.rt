@@ -31,7 +31,7 @@ use std::sync::ledger::{Blank, Ledger};
 ///
 /// The gate is asked before each verification and before each install, while others may have the book. A ticket whose
 /// verification wants memory is given up. Where no link is open, or a claim wants memory, it backs off and tries again.
-#[tactic(auto, using(crate::proofs::Turns::turned_none, crate::proofs::Turns::turned_same, crate::proofs::Turns::turned_more))]
+#[tactic(auto, using(crate::proofs::Turns::turned_none, crate::proofs::Turns::turned_same))]
 pub fn worker_loop<M: Machine, G: Gate, R: Wait>(
     rt: &R,
     alloc: Global,
