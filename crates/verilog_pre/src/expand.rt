@@ -317,7 +317,8 @@ pub fn expand(
     };
     let number = number_of(macros, word)?;
     match enter(alloc, names, macros, out, &mut nest, at, number) {
-        Ok(()) => work_off(alloc, names, macros, out, &mut nest, at),
-        Err(refusal) => Err(refusal),
+        Ok(()) => {}
+        Err(refusal) => return Err(refusal),
     }
+    work_off(alloc, names, macros, out, &mut nest, at)
 }

@@ -9,7 +9,7 @@ use Rattle.verilog_pre.proofs.files.read_text.Goals as goal
 pub returns-in-Err-clause-read : goal.returns-in-Err-clause-read
 returns-in-Err-clause-read c =
     let R : Result State TextFault → Type 0 = λ r. Refuses c.read_turn.new.names c.in-Err.refusal r in
-    subst R c.loop-rest.invariant.same (text_refused _ c.in-Err.refusal _ _ _ _ c.loop-rest.rest.now (grind arith) c.in-Err.ensures.read)
+    subst R c.loop-rest.invariant.same (text_refused _ c.in-Err.refusal _ _ _ c.loop-rest.rest.now (grind arith) c.in-Err.ensures.read)
 
 pub loop-rest-preserved : goal.loop-rest-preserved
 loop-rest-preserved c = record {
