@@ -1,4 +1,5 @@
 pub mod Numbers
+pub mod Masks
 pub mod Lexemes
 pub mod Runs
 pub mod Attributes

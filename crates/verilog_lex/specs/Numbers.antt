@@ -37,16 +37,18 @@ small value = value >>= λ n. guard (nat_lt n (2 ^ 128)) n
 unfoldable pub digits_value : ℕ → List ℕ → Option ℕ
 digits_value radix digits = small (value_from radix 0 digits)
 
--- the 128 bits that wildcard digits cover (clauses 3.5.1 and 9.5.1), behind digits that cover those of n
-abbrev pub mask_from : ℕ → ℕ → List ℕ → ℕ
-mask_from radix n [] = n
-mask_from radix n (c ∷ cs) =
-    if c == 95 then mask_from radix n cs
-    else mask_from radix (((n * radix) % 2 ^ 128 + (if is_wild c then radix - 1 else 0)) % 2 ^ 128) cs
+-- what a digit covers: a wildcard digit all its bits, which is the highest digit, and another none (clauses 3.5.1 and 9.5.1)
+abbrev pub covered : ℕ → ℕ → ℕ
+covered radix c = if is_wild c then radix - 1 else 0
 
--- a leftmost wildcard digit fills the literal (clause 3.5.1)
+-- the value of the digits that are covered, behind those that have the value n; _ counts for nothing
+abbrev pub covered_from : ℕ → ℕ → List ℕ → ℕ
+covered_from radix n [] = n
+covered_from radix n (c ∷ cs) = if c == 95 then covered_from radix n cs else covered_from radix (n * radix + covered radix c) cs
+
+-- the lowest 128 bits that are covered; a leftmost wildcard digit goes on to the left (clause 3.5.1)
 unfoldable pub digits_mask : ℕ → List ℕ → ℕ
-digits_mask radix digits = mask_from radix (if is_wild (slice_index digits 0) then 2 ^ 128 - 1 else 0) digits
+digits_mask radix digits = covered_from radix (if is_wild (slice_index digits 0) then 2 ^ 128 - 1 else 0) digits % 2 ^ 128
 
 abbrev pub has_wild : List ℕ → Bool
 has_wild digits = list_any is_wild digits

@@ -1,7 +1,7 @@
 // The literals that decimals and based parts stand for.
-ghost use Rattle.std.specs.Prelude.{◌≡◌, ◌%◌, ◌^◌, ◌<◌, ◌≤◌, IfSome, Some};
+ghost use Rattle.std.specs.Prelude.{◌≡◌, ◌+◌, ◌*◌, ◌%◌, ◌^◌, ◌<◌, ◌≤◌, ◌==◌, if◌then◌else◌, IfSome, Some};
 ghost use Rattle.std.specs.Option.{option_map};
-ghost use Rattle.verilog_lex.specs.Numbers.{digit_of, digits_value, digits_mask, has_wild, number_of, wild_of, based_literal, plain_literal, size_of, sized_literal};
+ghost use Rattle.verilog_lex.specs.Numbers.{digit_of, digits_value, covered, digits_mask, has_wild, number_of, wild_of, based_literal, plain_literal, size_of, sized_literal};
 
 use crate::based::is_wild;
 use crate::shape::Based;
@@ -43,6 +43,20 @@ fn digits_value(radix: u8, digits: &[u8]) -> Option<u128>
     Some(value)
 }
 
+// The 128 bits that are covered, with those of one more byte.
+#[tactic(auto, using(crate::proofs::Masks::added))]
+fn mask_more(radix: u8, mask: u128, byte: u8) -> u128
+    requires { 1 ≤ radix }
+    ensures { result ≡ (if byte == 95 then mask else (mask * radix + covered radix byte) % 2 ^ 128) }
+{
+    if byte == b'_' {
+        return mask;
+    }
+    let covered = if is_wild(byte) { radix - 1 } else { 0 };
+    mask.wrapping_mul(radix as u128)
+        .wrapping_add(covered as u128)
+}
+
 // The 128 bits that wildcard digits cover.
 #[tactic(auto, unfolding(crate::specs::Numbers::digits_mask))]
 fn digits_mask(radix: u8, digits: &[u8]) -> u128
@@ -55,12 +69,7 @@ fn digits_mask(radix: u8, digits: &[u8]) -> u128
         0
     };
     for byte in digits {
-        if *byte != b'_' {
-            let covered = if is_wild(*byte) { radix - 1 } else { 0 };
-            mask = mask
-                .wrapping_mul(radix as u128)
-                .wrapping_add(covered as u128);
-        }
+        mask = mask_more(radix, mask, *byte);
     }
     mask
 }

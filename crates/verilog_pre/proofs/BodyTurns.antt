@@ -1,13 +1,12 @@
 -- A body has the parts that its stretches give, and no others.
-use Rattle.std.proofs.Common.{◌≡◌, ℕ, zero, suc, ◌+◌, ◌<◌, ◌≤◌, ◌==◌, ◌&&◌, ◌||◌, not, Bool, true, false, cond, List, [], ◌∷◌, ◌++◌, length, take, drop, Option, Some, None, refl, sym, ap, subst, ◌∙◌, arith, append_assoc, true≢false}
+use Rattle.std.proofs.Common.{◌≡◌, ℕ, zero, suc, ◌+◌, ◌-◌, ◌<◌, ◌≤◌, ◌==◌, ◌&&◌, ◌||◌, not, Bool, true, false, cond, List, [], ◌∷◌, ◌++◌, length, take, drop, Option, Some, None, refl, sym, ap, subst, ◌∙◌, arith, append_assoc, true≢false}
 use Rattle.std.specs.Prelude.{slice_index}
 use Rattle.std.specs.List.{prefix_len}
 use Rattle.std.proofs.lemmas.Bool.{eqb-true}
 use Rattle.std.proofs.lemmas.List.{take-append-drop, length-append}
 use Rattle.std.proofs.lemmas.List.Folds.{length-prefix_len}
 use Rattle.source_text.specs.Bytes.{is_letter, is_digit, is_word_byte}
-use Rattle.verilog_pre.specs.declared.part.Part.{Part}
-use Rattle.verilog_pre.specs.declared.part.PartKind.TheVariants.{Use, Open}
+use Rattle.verilog_pre.specs.Parts.{Part, Use, Open}
 use Rattle.verilog_pre.specs.declared.body_cut.BodyCut.{BodyCut}
 use Rattle.verilog_pre.specs.declared.body_cut.BodyCut.TheVariants as cut
 use Rattle.verilog_pre.specs.Bodies.{begins_cut, lines_len, comment_len, run_len, comment_or, body_cut, cut_len, goes_on, run_part, cut_parts, body_parts, body_len}
@@ -64,14 +63,13 @@ comment file offset bs = told (comment_len 0 0 bs) refl
         let counted : lines_len (0 == 92) 0 bs ≡ 0 + length (line_of 0 bs) = line_count 0 0 bs in
         let size : length (47 ∷ 42 ∷ line_of 0 bs) ≡ 2 + lines_len false 0 bs = omega (arith, counted) in
         On (47 ∷ 42 ∷ line_of 0 bs) (after_line 0 bs) (cut.Open (2 + lines_len false 0 bs)) (ap (λ xs. 47 ∷ 42 ∷ xs) (sym (line_and_after 0 bs))) refl size (omega arith)
-        (subst (λ n. Gives file offset (47 ∷ 42 ∷ line_of 0 bs) (after_line 0 bs) (record { kind = Open; file = file; start = offset; end = offset + n } ∷ [])) size
-        (Unclosed (record { inside = line_of 0 bs; is = refl; none = tail ends_comment 0 (line_of 0 bs) (open_plain 0 0 bs e); on_lines = line_plain 0 bs; ends = line_ends 0 bs })))
+        (Unclosed (record { inside = line_of 0 bs; is = refl; none = tail ends_comment 0 (line_of 0 bs) (open_plain 0 0 bs e); on_lines = line_plain 0 bs; ends = line_ends 0 bs }))
     told (Some m) e = let c : ClosedOn (0 ∷ bs) 0 m = closes_on 0 0 m bs e in from m c.inside c.rest c.is c.count c.first c.on_lines
 
 macro : (file offset b : ℕ) (bs : List ℕ) → is_letter b ≡ true → Cut file offset (96 ∷ b ∷ bs) (cut.Use (1 + prefix_len is_word_byte (b ∷ bs)))
 macro file offset b bs letter =
     On (96 ∷ take n (b ∷ bs)) (drop n (b ∷ bs)) (cut.Use (1 + n)) (ap (λ xs. 96 ∷ xs) (sym (take-append-drop n (b ∷ bs)))) refl size (omega arith)
-    (subst (λ k. Gives file offset (96 ∷ take n (b ∷ bs)) (drop n (b ∷ bs)) (record { kind = Use; file = file; start = offset + 1; end = offset + k } ∷ [])) size
+    (subst (λ k. Gives file offset (96 ∷ take n (b ∷ bs)) (drop n (b ∷ bs)) (Use (take k (b ∷ bs)) ∷ [])) (let same : n ≡ 1 + n - 1 = omega arith in same)
     (Macro (take n (b ∷ bs)) refl (record { begins = begins; all = front_all is_word_byte (b ∷ bs); ends = front_stops is_word_byte (b ∷ bs) })))
   where
     n : ℕ
@@ -357,6 +355,10 @@ continued_cut : (rest : List ℕ) → cut.Gap 2 ≡ body_cut (92 ∷ 10 ∷ rest
 unfolding body_cut
 continued_cut rest = refl
 
+front_word : (word rest : List ℕ) → take (length (96 ∷ word) - 1) (drop 1 ((96 ∷ word) ++ rest)) ≡ word
+front_word word rest =
+    let same : length (96 ∷ word) - 1 ≡ length word = omega arith in ap (λ n. take n (word ++ rest)) same ∙ take_seam word rest
+
 gives_is : (file offset : ℕ) (bytes rest : List ℕ) (parts : List Part) → Gives file offset bytes rest parts → IsCut file offset bytes rest parts
 gives_is file offset bytes rest parts (Run is) = run_cut file offset bytes rest is
 gives_is file offset bytes rest parts (Continued is) =
@@ -383,7 +385,7 @@ gives_is file offset bytes rest parts (Macro word is word_is) =
       is = subst (λ xs. cut.Use (length xs) ≡ body_cut (xs ++ rest)) (sym is) (sym (word_cut word rest word_is));
       on = refl;
       size = refl;
-      gives = refl;
+      gives = ap (λ w. Use w ∷ []) (subst (λ xs. take (length xs - 1) (drop 1 (xs ++ rest)) ≡ word) (sym is) (front_word word rest));
     }
 
 gives_some : (file offset : ℕ) (bytes rest : List ℕ) (parts : List Part) → Gives file offset bytes rest parts → 0 < length bytes

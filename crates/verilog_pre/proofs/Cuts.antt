@@ -1,7 +1,7 @@
 -- The first cut of a body.
 use Rattle.std.proofs.Common.{◌≡◌, ℕ, zero, suc, ◌+◌, ◌-◌, ◌<◌, ◌≤◌, true, false, cond, List, [], ◌∷◌, ◌++◌, length, drop, refl, sym, ap, ◌∙◌, arith, append_assoc}
 use Rattle.std.proofs.lemmas.List.{append-nil}
-use Rattle.verilog_pre.specs.declared.part.Part.{Part}
+use Rattle.verilog_pre.specs.Parts.{Part}
 use Rattle.verilog_pre.specs.declared.body_cut.BodyCut.{BodyCut}
 use Rattle.verilog_pre.specs.Bodies.{body_cut, cut_len, goes_on, cut_parts, parts_from, body_from, body_parts, body_len}
 

@@ -1,4 +1,5 @@
 pub mod Cuts
+pub mod Parts
 pub mod Words
 pub mod Shown
 pub mod Nests
@@ -11,3 +12,5 @@ pub mod BodyStretches
 pub mod Within
 pub mod Turns
 pub mod BodyTurns
+pub mod Expanded
+pub mod FileReadings

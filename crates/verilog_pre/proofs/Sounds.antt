@@ -5,14 +5,15 @@ use Rattle.std.specs.Option.{IfSome}
 use Rattle.verilog_pre.specs.declared.macro_body.Macro.{Macro}
 use Rattle.verilog_pre.specs.declared.macros.Macros.{Macros}
 use Rattle.verilog_pre.specs.Tables.{Sound, Table, with_macro}
+use Rattle.verilog_pre.specs.Views.{IsListed}
 
 weaker : (P Q : Macro → Type 0) → ((m : Macro) → P m → Q m) → (o : Option Macro) → IfSome o P → IfSome o Q
 weaker P Q f None h = tt
 weaker P Q f (Some m) h = f m h
 
-pub sound_more : (old new : Macros) → Sound old → new.words ≡ old.words → new.known ≡ old.known
+pub sound_more : (old new : Macros) → Sound old → new.words ≡ old.words → new.known ≡ old.known → All (IsListed (length new.words)) new.parts.items
     → length old.parts.items ≤ length new.parts.items → length old.places.items ≤ length new.places.items → Sound new
-sound_more old new sound words known parts places = record {
+sound_more old new sound words known uses parts places = record {
   words = omega (arith, sound.words, ap length words, ap (λ k. length k.items) known);
   bodies =
       let Bodies : List (Option Macro) → Type 0 = λ os. All (λ (o : Option Macro). IfSome o (λ (k : Macro). k.last ≤ length new.parts.items)) os in
@@ -22,6 +23,7 @@ sound_more old new sound words known parts places = record {
       let Places : List (Option Macro) → Type 0 = λ os. All (λ (o : Option Macro). IfSome o (λ (k : Macro). k.number < length new.places.items)) os in
       subst Places (sym (ap (λ k. k.items) known)) (λ k d within.
       weaker (λ m. m.number < length old.places.items) (λ m. m.number < length new.places.items) (λ m h. omega (arith, h, places)) _ (sound.places k d within));
+  uses = uses;
 }
 
 pub added : (name : List ℕ) (n n_new f f_new l l_new : ℕ) (t t_new : Table) → n_new ≡ n → f_new ≡ f → l_new ≡ l → t_new ≡ t

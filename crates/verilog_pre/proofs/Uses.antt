@@ -2,7 +2,6 @@
 use Rattle.std.proofs.Common.{◌≡◌, ℕ, zero, suc, ◌+◌, ◌-◌, ◌<◌, true, false, cond, List, [], ◌∷◌, length, take, drop, Result, Ok, refl, sym, ap, subst, ◌∙◌, arith}
 use Rattle.ls_text.specs.declared.place.Place.{Place}
 use Rattle.ls_text.specs.declared.refusal.Refusal.{Refusal}
-use Rattle.ls_text.specs.declared.source_file.SourceFile.{SourceFile}
 use Rattle.source_text.specs.Faults.{TextFault, Refuses, ◌>>=◌}
 use Rattle.source_text.proofs.Refused.{refused_on}
 use Rattle.source_text.specs.Places.{step, place_after}
@@ -44,42 +43,42 @@ run_err names e at full offset st text n read is refused =
     let R : Read → Type 0 = λ r. Refuses names e r in
     subst R (sym (run_is at full offset st text n read is)) (refused_on names e _ (λ o. Ok (with_out st o, n)) refused)
 
-text_skip : (files : List SourceFile) (at : Place) (offset : ℕ) (st : State) (k : ℕ) (bs : List ℕ)
-    → text_from files at offset st k bs ≡ text_from files (place_after at (take k bs)) (offset + k) st 0 (drop k bs)
-text_skip files at offset st zero bs = ap (λ o. text_from files at o st 0 bs) (let same : offset ≡ offset + 0 = omega arith in same)
-text_skip files at offset st (suc k) [] = refl
-text_skip files at offset st (suc k) (b ∷ bs) =
-    text_skip files (step at b) (offset + 1) st k bs
-    ∙ ap (λ o. text_from files (place_after (step at b) (take k bs)) o st 0 (drop k bs)) (let same : offset + 1 + k ≡ offset + suc k = omega arith in same)
+text_skip : (at : Place) (offset : ℕ) (st : State) (k : ℕ) (bs : List ℕ)
+    → text_from at offset st k bs ≡ text_from (place_after at (take k bs)) (offset + k) st 0 (drop k bs)
+text_skip at offset st zero bs = ap (λ o. text_from at o st 0 bs) (let same : offset ≡ offset + 0 = omega arith in same)
+text_skip at offset st (suc k) [] = refl
+text_skip at offset st (suc k) (b ∷ bs) =
+    text_skip (step at b) (offset + 1) st k bs
+    ∙ ap (λ o. text_from (place_after (step at b) (take k bs)) o st 0 (drop k bs)) (let same : offset + 1 + k ≡ offset + suc k = omega arith in same)
 
-text_is : (files : List SourceFile) (at : Place) (offset : ℕ) (st : State) (text : List ℕ) → 0 < length text
-    → text_read files at offset st text ≡ (turn files at offset st text >>= λ t. text_from files (place_after at (take 1 text)) (offset + 1) t.0 (t.1 - 1) (drop 1 text))
+text_is : (at : Place) (offset : ℕ) (st : State) (text : List ℕ) → 0 < length text
+    → text_read at offset st text ≡ (turn at offset st text >>= λ t. text_from (place_after at (take 1 text)) (offset + 1) t.0 (t.1 - 1) (drop 1 text))
 unfolding text_read
-text_is files at offset st [] some = absurd (omega arith)
-text_is files at offset st (b ∷ bs) some = refl
+text_is at offset st [] some = absurd (omega arith)
+text_is at offset st (b ∷ bs) some = refl
 
 -- a turn, and the text behind it
-pub text_on : (files : List SourceFile) (at next : Place) (offset : ℕ) (st new : State) (text rest : List ℕ) (n : ℕ) → 0 < length text → 0 < n
-    → turn files at offset st text ≡ Ok (new, n) → next ≡ place_after at (take n text) → rest ≡ drop n text
-    → text_read files at offset st text ≡ text_read files next (offset + n) new rest
+pub text_on : (at next : Place) (offset : ℕ) (st new : State) (text rest : List ℕ) (n : ℕ) → 0 < length text → 0 < n
+    → turn at offset st text ≡ Ok (new, n) → next ≡ place_after at (take n text) → rest ≡ drop n text
+    → text_read at offset st text ≡ text_read next (offset + n) new rest
 unfolding text_read
-text_on files at next offset st new [] rest n some more turns moves behind = absurd (omega arith)
-text_on files at next offset st new (b ∷ bs) rest n some more turns moves behind =
-    ap (λ r. r >>= λ t. text_from files (step at b) (offset + 1) t.0 (t.1 - 1) bs) turns
-    ∙ text_skip files (step at b) (offset + 1) new (n - 1) bs
+text_on at next offset st new [] rest n some more turns moves behind = absurd (omega arith)
+text_on at next offset st new (b ∷ bs) rest n some more turns moves behind =
+    ap (λ r. r >>= λ t. text_from (step at b) (offset + 1) t.0 (t.1 - 1) bs) turns
+    ∙ text_skip (step at b) (offset + 1) new (n - 1) bs
     ∙ at_n n more
-    ∙ ap (λ place. text_from files place (offset + n) new 0 (drop n (b ∷ bs))) (sym moves)
-    ∙ ap (λ left. text_from files next (offset + n) new 0 left) (sym behind)
+    ∙ ap (λ place. text_from place (offset + n) new 0 (drop n (b ∷ bs))) (sym moves)
+    ∙ ap (λ left. text_from next (offset + n) new 0 left) (sym behind)
   where
-    at_n : (n : ℕ) → 0 < n → text_from files (place_after (step at b) (take (n - 1) bs)) (offset + 1 + (n - 1)) new 0 (drop (n - 1) bs)
-        ≡ text_from files (place_after at (take n (b ∷ bs))) (offset + n) new 0 (drop n (b ∷ bs))
+    at_n : (n : ℕ) → 0 < n → text_from (place_after (step at b) (take (n - 1) bs)) (offset + 1 + (n - 1)) new 0 (drop (n - 1) bs)
+        ≡ text_from (place_after at (take n (b ∷ bs))) (offset + n) new 0 (drop n (b ∷ bs))
     at_n zero more = absurd (omega arith)
     at_n (suc k) more =
-        ap (λ j. text_from files (place_after (step at b) (take j bs)) (offset + 1 + j) new 0 (drop j bs)) (let same : suc k - 1 ≡ k = omega arith in same)
-        ∙ ap (λ o. text_from files (place_after (step at b) (take k bs)) o new 0 (drop k bs)) (let same : offset + 1 + k ≡ offset + suc k = omega arith in same)
+        ap (λ j. text_from (place_after (step at b) (take j bs)) (offset + 1 + j) new 0 (drop j bs)) (let same : suc k - 1 ≡ k = omega arith in same)
+        ∙ ap (λ o. text_from (place_after (step at b) (take k bs)) o new 0 (drop k bs)) (let same : offset + 1 + k ≡ offset + suc k = omega arith in same)
 
-pub text_refused : (names : List (List ℕ)) (e : Refusal) (files : List SourceFile) (at : Place) (offset : ℕ) (st : State) (text : List ℕ) → 0 < length text
-    → Refuses names e (turn files at offset st text) → Refuses names e (text_read files at offset st text)
-text_refused names e files at offset st text some refused =
+pub text_refused : (names : List (List ℕ)) (e : Refusal) (at : Place) (offset : ℕ) (st : State) (text : List ℕ) → 0 < length text
+    → Refuses names e (turn at offset st text) → Refuses names e (text_read at offset st text)
+text_refused names e at offset st text some refused =
     let R : Result State TextFault → Type 0 = λ r. Refuses names e r in
-    subst R (sym (text_is files at offset st text some)) (refused_on names e _ (λ t. text_from files (place_after at (take 1 text)) (offset + 1) t.0 (t.1 - 1) (drop 1 text)) refused)
+    subst R (sym (text_is at offset st text some)) (refused_on names e _ (λ t. text_from (place_after at (take 1 text)) (offset + 1) t.0 (t.1 - 1) (drop 1 text)) refused)

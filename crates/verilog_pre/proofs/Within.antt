@@ -5,7 +5,6 @@ use Rattle.std.specs.List.{prefix_len}
 use Rattle.std.proofs.lemmas.List.{length-drop}
 use Rattle.std.proofs.lemmas.List.Sums.{prefix_len-le-length}
 use Rattle.ls_text.specs.declared.place.Place.{Place}
-use Rattle.ls_text.specs.declared.source_file.SourceFile.{SourceFile}
 use Rattle.source_text.specs.Bytes.{is_letter, is_word_byte, is_blank}
 use Rattle.source_text.specs.Faults.{TextFault, ◌>>=◌}
 use Rattle.verilog_pre.specs.declared.body_cut.BodyCut.{BodyCut}
@@ -109,30 +108,30 @@ use_within : (st : State) (k : ℕ) (r : Result Output TextFault) → ReadWithin
 use_within st k (Ok out) = omega arith
 use_within st k (Err e) = tt
 
-at_within : (files : List SourceFile) (at : Place) (offset : ℕ) (word : List ℕ) (st : State) (rest : List ℕ) (d : Directive)
-    → ReadWithin (length rest) (directive_at files at offset word st rest d)
-at_within files at offset word st rest directive.Define = named_within at word rest _ (name_at rest) (name_within rest) (define_within at offset word st rest)
-at_within files at offset word st rest directive.Undef = named_within at word rest _ (name_at rest) (name_within rest) (λ n within. within)
-at_within files at offset word st rest directive.Ifdef = named_within at word rest _ (name_at rest) (name_within rest) (λ n within. within)
-at_within files at offset word st rest directive.Ifndef = named_within at word rest _ (name_at rest) (name_within rest) (λ n within. within)
-at_within files at offset word st rest directive.Elsif =
+at_within : (at : Place) (offset : ℕ) (word : List ℕ) (st : State) (rest : List ℕ) (d : Directive)
+    → ReadWithin (length rest) (directive_at at offset word st rest d)
+at_within at offset word st rest directive.Define = named_within at word rest _ (name_at rest) (name_within rest) (define_within at offset word st rest)
+at_within at offset word st rest directive.Undef = named_within at word rest _ (name_at rest) (name_within rest) (λ n within. within)
+at_within at offset word st rest directive.Ifdef = named_within at word rest _ (name_at rest) (name_within rest) (λ n within. within)
+at_within at offset word st rest directive.Ifndef = named_within at word rest _ (name_at rest) (name_within rest) (λ n within. within)
+at_within at offset word st rest directive.Elsif =
     named_within at word rest _ (name_at rest) (name_within rest) (λ n within. nest_within at word st n.1 (length rest) (continued (is_some (st.table n.0)) false st.nest) within)
-at_within files at offset word st rest directive.Else = nest_within at word st 0 (length rest) (continued true true st.nest) (omega arith)
-at_within files at offset word st rest directive.Endif = nest_within at word st 0 (length rest) (closed st.nest) (omega arith)
-at_within files at offset word st rest directive.RestOfLine = prefix_len-le-length (λ b. not (b == 10)) rest
-at_within files at offset word st rest directive.NoEffect = omega arith
-at_within files at offset word st rest directive.Use =
-    use_within st (length rest) (expanded (record { table = st.table; parts = st.parts; files = files; at = at }) word st.out)
+at_within at offset word st rest directive.Else = nest_within at word st 0 (length rest) (continued true true st.nest) (omega arith)
+at_within at offset word st rest directive.Endif = nest_within at word st 0 (length rest) (closed st.nest) (omega arith)
+at_within at offset word st rest directive.RestOfLine = prefix_len-le-length (λ b. not (b == 10)) rest
+at_within at offset word st rest directive.NoEffect = omega arith
+at_within at offset word st rest directive.Use =
+    use_within st (length rest) (expanded (record { table = st.table; parts = st.parts; at = at }) word st.out)
 
-read_within : (files : List SourceFile) (at : Place) (offset : ℕ) (word : List ℕ) (st : State) (rest : List ℕ)
-    → ReadWithin (length rest) (directive_read files at offset word st rest)
+read_within : (at : Place) (offset : ℕ) (word : List ℕ) (st : State) (rest : List ℕ)
+    → ReadWithin (length rest) (directive_read at offset word st rest)
 unfolding directive_read
-read_within files at offset word st rest = told (is_read st.nest || is_conditional (directive_of word))
+read_within at offset word st rest = told (is_read st.nest || is_conditional (directive_of word))
   where
-    told : (t : Bool) → ReadWithin (length rest) (cond t (directive_at files at offset word st rest (directive_of word)) (Ok (st, 0)))
-    told true = at_within files at offset word st rest (directive_of word)
+    told : (t : Bool) → ReadWithin (length rest) (cond t (directive_at at offset word st rest (directive_of word)) (Ok (st, 0)))
+    told true = at_within at offset word st rest (directive_of word)
     told false = omega arith
 
-pub directive_within : (files : List SourceFile) (at : Place) (offset : ℕ) (word : List ℕ) (st : State) (rest : List ℕ) (t : State × ℕ)
-    → directive_read files at offset word st rest ≡ Ok t → t.1 ≤ length rest
-directive_within files at offset word st rest t is = subst (ReadWithin (length rest)) is (read_within files at offset word st rest)
+pub directive_within : (at : Place) (offset : ℕ) (word : List ℕ) (st : State) (rest : List ℕ) (t : State × ℕ)
+    → directive_read at offset word st rest ≡ Ok t → t.1 ≤ length rest
+directive_within at offset word st rest t is = subst (ReadWithin (length rest)) is (read_within at offset word st rest)

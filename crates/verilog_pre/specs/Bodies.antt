@@ -2,8 +2,7 @@
 use Rattle.std.specs.Prelude.{ℕ, zero, suc, ◌+◌, ◌-◌, Bool, true, false, ◌&&◌, ◌||◌, ◌==◌, not, nat_lt, if◌then◌else◌, List, [], ◌∷◌, ◌++◌, take, drop, slice_index, Option, Some, None}
 use Rattle.std.specs.List.{prefix_len, suffix_len}
 use Rattle.source_text.specs.Bytes.{is_letter, is_word_byte, is_space}
-use Rattle.verilog_pre.specs.declared.part.Part.{Part}
-use Rattle.verilog_pre.specs.declared.part.PartKind.TheVariants.{Text, Use, Open}
+use Rattle.verilog_pre.specs.Parts.{Part, Text, Use, Open}
 use Rattle.verilog_pre.specs.declared.body_cut.BodyCut.{BodyCut}
 use Rattle.verilog_pre.specs.declared.body_cut.BodyCut.TheVariants as cut
 
@@ -70,13 +69,13 @@ goes_on (cut.Last n) = false
 abbrev pub run_part : ℕ → ℕ → ℕ → List ℕ → List Part
 run_part file offset n run =
     let lead = prefix_len is_space run in
-    if nat_lt lead n then record { kind = Text; file = file; start = offset + lead; end = offset + (n - suffix_len is_space run) } ∷ [] else []
+    if nat_lt lead n then Text (record { file = file; start = offset + lead; end = offset + (n - suffix_len is_space run) }) ∷ [] else []
 
 abbrev pub cut_parts : ℕ → ℕ → List ℕ → BodyCut → List Part
 cut_parts file offset text (cut.Run n) = run_part file offset n (take n text)
-cut_parts file offset text (cut.Use n) = record { kind = Use; file = file; start = offset + 1; end = offset + n } ∷ []
+cut_parts file offset text (cut.Use n) = Use (take (n - 1) (drop 1 text)) ∷ []
 cut_parts file offset text (cut.Gap n) = []
-cut_parts file offset text (cut.Open n) = record { kind = Open; file = file; start = offset; end = offset + n } ∷ []
+cut_parts file offset text (cut.Open n) = Open ∷ []
 cut_parts file offset text (cut.Last n) = []
 
 -- the parts of a body whose text begins at an offset of a file, of which the first so many bytes are cut

@@ -1,8 +1,7 @@
 -- What stands in the body of a macro, stretch by stretch (IEEE 1364-2005, clause 19.3.1): runs of bytes, uses of macros,
 -- comments and continued lines, up to the end of the line.
 use Rattle.std.specs.Prelude.{◌≡◌, ◌<◌, ℕ, ◌+◌, Bool, not, ◌&&◌, ◌||◌, ◌==◌, ◌⊎◌, List, [], ◌∷◌, ◌++◌, length, take}
-use Rattle.verilog_pre.specs.declared.part.Part.{Part}
-use Rattle.verilog_pre.specs.declared.part.PartKind.TheVariants.{Use, Open}
+use Rattle.verilog_pre.specs.Parts.{Part, Use, Open}
 use Rattle.verilog_pre.specs.Bodies.{begins_cut, run_part}
 use Rattle.verilog_pre.specs.Stretches.{HasNo, BeginsWith, AllAre, StopsAt, ends_comment, IsLineComment, IsWord}
 
@@ -49,9 +48,8 @@ pub data Gives (file offset : ℕ) (cut rest : List ℕ) : List Part → Type 0 
   Run : IsBodyRun cut rest → Gives file offset cut rest (run_part file offset (length cut) cut)
   Continued : cut ≡ 92 ∷ 10 ∷ [] → Gives file offset cut rest []
   Comment : IsBodyComment cut → Gives file offset cut rest []
-  Unclosed : IsOpenComment cut rest → Gives file offset cut rest (record { kind = Open; file = file; start = offset; end = offset + length cut } ∷ [])
-  Macro : (word : List ℕ) → cut ≡ 96 ∷ word → IsWord word rest
-      → Gives file offset cut rest (record { kind = Use; file = file; start = offset + 1; end = offset + length cut } ∷ [])
+  Unclosed : IsOpenComment cut rest → Gives file offset cut rest (Open ∷ [])
+  Macro : (word : List ℕ) → cut ≡ 96 ∷ word → IsWord word rest → Gives file offset cut rest (Use word ∷ [])
 
 -- The parts of a body at the front of a text, and how many bytes the body has.
 pub data Body (file : ℕ) : ℕ → List ℕ → List Part → ℕ → Type 0 where

@@ -3,18 +3,14 @@ use Rattle.std.specs.Prelude.{◌≡◌, ◌<◌, ℕ, zero, suc, ◌-◌, Bool,
 use Rattle.std.specs.List.{list_any}
 use Rattle.ls_text.specs.declared.place.Place.{Place}
 use Rattle.ls_text.specs.declared.refusal.Refusal.{Refusal}
-use Rattle.ls_text.specs.declared.source_file.SourceFile.{SourceFile}
 use Rattle.source_text.specs.Faults.{TextFault, fault_at, Refuses, ◌>>=◌}
-use Rattle.source_text.specs.Files.{text_between}
 use Rattle.verilog_pre.specs.declared.piece.Piece.{Piece}
-use Rattle.verilog_pre.specs.declared.part.Part.{Part}
-use Rattle.verilog_pre.specs.declared.part.PartKind.{PartKind}
-use Rattle.verilog_pre.specs.declared.part.PartKind.TheVariants.{Text, Use, Open}
-use Rattle.verilog_pre.specs.declared.item.Item.{Item}
-use Rattle.verilog_pre.specs.declared.item.Item.TheVariants as item
+use Rattle.verilog_pre.specs.declared.stretch.Stretch.{Stretch}
 use Rattle.verilog_pre.specs.declared.macro_body.Macro.{Macro}
 use Rattle.verilog_pre.specs.declared.output.Output as code
 use Rattle.verilog_pre.specs.Conditionals.{but_last}
+use Rattle.verilog_pre.specs.Parts.{Part, Text, Use, Open, Item, Read, Leave}
+use Rattle.verilog_pre.specs.Views.{parts_of}
 use Rattle.verilog_pre.specs.declared.macros.Macros.{Macros}
 use Rattle.verilog_pre.specs.Tables.{Table, table_of}
 
@@ -37,34 +33,29 @@ emitted at piece len out =
 pub record Context : Type 0 where
   pub table : Table
   pub parts : List Part
-  pub files : List SourceFile
   -- the place of the use in the text, which all its pieces have
   pub at : Place
 
-abbrev pub part_piece : Place → Part → Piece
-part_piece at p = record { file = p.file; start = p.start; end = p.end; at = at; fixed = true }
+abbrev pub stretch_piece : Place → Stretch → Piece
+stretch_piece at s = record { file = s.file; start = s.start; end = s.end; at = at; fixed = true }
 
-abbrev pub part_word : List SourceFile → Part → List ℕ
-part_word files p = text_between files p.file p.start p.end
-
-abbrev pub part_with : (List ℕ → Result Output TextFault) → (Output → Result Output TextFault) → Context → Output → Part → PartKind → Result Output TextFault
-part_with enter next c out p Text = emitted c.at (part_piece c.at p) (p.end - p.start) out >>= next
-part_with enter next c out p Use = enter (part_word c.files p)
-part_with enter next c out p Open = Err (fault_at 12 c.at [])
+abbrev pub part_with : (List ℕ → Result Output TextFault) → (Output → Result Output TextFault) → Context → Output → Part → Result Output TextFault
+part_with enter next c out (Text s) = emitted c.at (stretch_piece c.at s) (s.end - s.start) out >>= next
+part_with enter next c out (Use word) = enter word
+part_with enter next c out Open = Err (fault_at 12 c.at [])
 
 -- What work gives, item by item: parts of bodies, and the ends of uses. `open` has the numbers of the uses that are
 -- open, and `use` says what the use of a word gives before the rest of the work.
 abbrev pub work_with : (List ℕ → List ℕ → Output → List Item → Result Output TextFault) → Context → List ℕ → Output → List Item → Result Output TextFault
 work_with enter c nest out [] = Ok out
-work_with enter c nest out (item.Leave ∷ work) = work_with enter c (but_last nest) out work
-work_with enter c nest out (item.Part p ∷ work) =
-    part_with (λ word. enter word nest out work) (λ o. work_with enter c nest o work) c out p p.kind
+work_with enter c nest out (Leave ∷ work) = work_with enter c (but_last nest) out work
+work_with enter c nest out (Read p ∷ work) = part_with (λ word. enter word nest out work) (λ o. work_with enter c nest o work) c out p
 
 abbrev pub is_open : List ℕ → ℕ → Bool
 is_open nest number = list_any (λ k. k == number) nest
 
 abbrev pub body_items : List Part → Macro → List Item
-body_items parts m = map item.Part (take (m.last - m.first) (drop m.first parts))
+body_items parts m = map Read (take (m.last - m.first) (drop m.first parts))
 
 -- a word that no macro has, or one that is being expanded, is refused with 12
 abbrev pub entered : Context → List ℕ → List ℕ → (Macro → Result Output TextFault) → Option Macro → Result Output TextFault
@@ -76,7 +67,7 @@ abbrev pub use_with : ℕ → Context → List ℕ → List ℕ → Output → L
 use_with zero c word nest out work = Err (fault_at 10 c.at [])
 use_with (suc n) c word nest out work =
     entered c word nest
-    (λ m. work_with (use_with n c) c (nest ++ m.number ∷ []) (record { uses = n; bytes = out.bytes; pieces = out.pieces }) (body_items c.parts m ++ item.Leave ∷ work))
+    (λ m. work_with (use_with n c) c (nest ++ m.number ∷ []) (record { uses = n; bytes = out.bytes; pieces = out.pieces }) (body_items c.parts m ++ Leave ∷ work))
     (c.table word)
 
 unfoldable pub work_on : Context → List ℕ → Output → List Item → Result Output TextFault
@@ -99,11 +90,12 @@ pub record Placed (places nest : List ℕ) : Type 0 where
   pub listed : (i : ℕ) → i < length nest → slice_index nest i < length places
   pub placed : (i : ℕ) → i < length nest → slice_index places (slice_index nest i) ≡ i
 
-abbrev pub context : Macros → List SourceFile → Place → Context
-context m files at = record { table = table_of m; parts = m.parts.items; files = files; at = at }
+abbrev pub context : Macros → Place → Context
+context m at = record { table = table_of m; parts = parts_of m; at = at }
 
 -- looking words up and using macros keeps what the words name
 pub record Keeps (old new : Macros) : Type 0 where
   pub table : table_of new ≡ table_of old
-  pub parts : new.parts ≡ old.parts
+  pub parts : parts_of new ≡ parts_of old
+  pub kept : new.parts ≡ old.parts
   pub count : length new.places.items ≡ length old.places.items

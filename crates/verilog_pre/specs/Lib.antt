@@ -1,3 +1,5 @@
+pub mod Parts
+pub mod Views
 pub mod Bodies
 pub mod Tables
 pub mod Directives
@@ -7,3 +9,5 @@ pub mod States
 pub mod Reading
 pub mod Stretches
 pub mod BodyStretches
+pub mod Uses
+pub mod FileReadings

@@ -9,7 +9,7 @@ use Rattle.source_text.specs.Places.{step, place_after, file_start}
 use Rattle.verilog_pre.specs.declared.directive.Directive.{Directive}
 use Rattle.verilog_pre.specs.declared.directive.Directive.TheVariants as directive
 use Rattle.verilog_pre.specs.declared.conditional.Conditional.{Conditional}
-use Rattle.verilog_pre.specs.declared.part.Part.{Part}
+use Rattle.verilog_pre.specs.Parts.{Part}
 use Rattle.verilog_pre.specs.declared.piece.Piece.{Piece}
 use Rattle.verilog_pre.specs.Bodies.{begins_cut, body_parts, body_len}
 use Rattle.verilog_pre.specs.Conditionals.{is_read, opened, continued, closed}
@@ -72,26 +72,26 @@ nest_or_bad at word st n (Some nest) = Ok (with_nest st nest, n)
 abbrev pub elsif_name : Place → List ℕ → State → List ℕ × ℕ → Read
 elsif_name at word st n = nest_or_bad at word st n.1 (continued (is_some (st.table n.0)) false st.nest)
 
-abbrev pub use_macro : List SourceFile → Place → List ℕ → State → Read
-use_macro files at word st =
-    expanded (record { table = st.table; parts = st.parts; files = files; at = at }) word st.out >>= λ out. Ok (with_out st out, 0)
+abbrev pub use_macro : Place → List ℕ → State → Read
+use_macro at word st =
+    expanded (record { table = st.table; parts = st.parts; at = at }) word st.out >>= λ out. Ok (with_out st out, 0)
 
-abbrev pub directive_at : List SourceFile → Place → ℕ → List ℕ → State → List ℕ → Directive → Read
-directive_at files at offset word st rest directive.Define = named at word (define_name at offset word st rest) (name_at rest)
-directive_at files at offset word st rest directive.Undef = named at word (undef_name st) (name_at rest)
-directive_at files at offset word st rest directive.Ifdef = named at word (ifdef_name at false st) (name_at rest)
-directive_at files at offset word st rest directive.Ifndef = named at word (ifdef_name at true st) (name_at rest)
-directive_at files at offset word st rest directive.Elsif = named at word (elsif_name at word st) (name_at rest)
-directive_at files at offset word st rest directive.Else = nest_or_bad at word st 0 (continued true true st.nest)
-directive_at files at offset word st rest directive.Endif = nest_or_bad at word st 0 (closed st.nest)
-directive_at files at offset word st rest directive.RestOfLine = Ok (st, prefix_len (λ b. not (b == 10)) rest)
-directive_at files at offset word st rest directive.NoEffect = Ok (st, 0)
-directive_at files at offset word st rest directive.Use = use_macro files at word st
+abbrev pub directive_at : Place → ℕ → List ℕ → State → List ℕ → Directive → Read
+directive_at at offset word st rest directive.Define = named at word (define_name at offset word st rest) (name_at rest)
+directive_at at offset word st rest directive.Undef = named at word (undef_name st) (name_at rest)
+directive_at at offset word st rest directive.Ifdef = named at word (ifdef_name at false st) (name_at rest)
+directive_at at offset word st rest directive.Ifndef = named at word (ifdef_name at true st) (name_at rest)
+directive_at at offset word st rest directive.Elsif = named at word (elsif_name at word st) (name_at rest)
+directive_at at offset word st rest directive.Else = nest_or_bad at word st 0 (continued true true st.nest)
+directive_at at offset word st rest directive.Endif = nest_or_bad at word st 0 (closed st.nest)
+directive_at at offset word st rest directive.RestOfLine = Ok (st, prefix_len (λ b. not (b == 10)) rest)
+directive_at at offset word st rest directive.NoEffect = Ok (st, 0)
+directive_at at offset word st rest directive.Use = use_macro at word st
 
 -- skipped text is read for the five directives of conditionals alone
-unfoldable pub directive_read : List SourceFile → Place → ℕ → List ℕ → State → List ℕ → Read
-directive_read files at offset word st rest =
-    if is_read st.nest || is_conditional (directive_of word) then directive_at files at offset word st rest (directive_of word) else Ok (st, 0)
+unfoldable pub directive_read : Place → ℕ → List ℕ → State → List ℕ → Read
+directive_read at offset word st rest =
+    if is_read st.nest || is_conditional (directive_of word) then directive_at at offset word st rest (directive_of word) else Ok (st, 0)
 
 -- how many bytes stand before the next comment or directive, behind n bytes of which the last is told; 0 tells that
 -- it begins none
@@ -118,31 +118,31 @@ comment_read at st (Some n) = Ok (st, 2 + n)
 abbrev pub behind_word : List ℕ → Read → Read
 behind_word word read = read >>= λ t. Ok (t.0, 1 + length word + t.1)
 
-unfoldable pub word_read : List SourceFile → Place → ℕ → State → List ℕ → Read
-word_read files at offset st text =
+unfoldable pub word_read : Place → ℕ → State → List ℕ → Read
+word_read at offset st text =
     let n = prefix_len is_word_byte (drop 1 text) in
     let word = take n (drop 1 text) in
-    behind_word word (directive_read files at (offset + 1 + n) word st (drop n (drop 1 text)))
+    behind_word word (directive_read at (offset + 1 + n) word st (drop n (drop 1 text)))
 
 -- what begins a text that isn't empty, and how many bytes it has
-unfoldable pub turn : List SourceFile → Place → ℕ → State → List ℕ → Read
-turn files at offset st text =
+unfoldable pub turn : Place → ℕ → State → List ℕ → Read
+turn at offset st text =
     let a = slice_index text 0 in
     let b = slice_index text 1 in
     if (a == 47) && (b == 47) then Ok (st, prefix_len (λ c. not (c == 10)) text)
     else if (a == 47) && (b == 42) then comment_read at st (through_pair 42 47 false 0 (drop 2 text))
-    else if (a == 96) && is_letter b then word_read files at offset st text
+    else if (a == 96) && is_letter b then word_read at offset st text
     else run_read at offset st text (plain_len 0 1 (drop 1 text))
 
 -- a text, of which the first so many bytes are read
-abbrev pub text_from : List SourceFile → Place → ℕ → State → ℕ → List ℕ → Result State TextFault
-text_from files at offset st skip [] = Ok st
-text_from files at offset st (suc k) (b ∷ bs) = text_from files (step at b) (offset + 1) st k bs
-text_from files at offset st zero (b ∷ bs) =
-    turn files at offset st (b ∷ bs) >>= λ t. text_from files (step at b) (offset + 1) t.0 (t.1 - 1) bs
+abbrev pub text_from : Place → ℕ → State → ℕ → List ℕ → Result State TextFault
+text_from at offset st skip [] = Ok st
+text_from at offset st (suc k) (b ∷ bs) = text_from (step at b) (offset + 1) st k bs
+text_from at offset st zero (b ∷ bs) =
+    turn at offset st (b ∷ bs) >>= λ t. text_from (step at b) (offset + 1) t.0 (t.1 - 1) bs
 
-unfoldable pub text_read : List SourceFile → Place → ℕ → State → List ℕ → Result State TextFault
-text_read files at offset st text = text_from files at offset st 0 text
+unfoldable pub text_read : Place → ℕ → State → List ℕ → Result State TextFault
+text_read at offset st text = text_from at offset st 0 text
 
 abbrev pub opening_word : Bool → List ℕ
 opening_word negated = if negated then codes "ifndef" else codes "ifdef"
@@ -152,14 +152,14 @@ abbrev pub ended : State → Option Conditional → Result State TextFault
 ended st None = Ok st
 ended st (Some c) = bad c.at (opening_word c.negated)
 
-unfoldable pub file_read : List SourceFile → ℕ → State → List ℕ → Result State TextFault
-file_read files file st text =
-    text_read files (file_start file) 0 st text >>= λ st. ended st (slice_get st.nest 0)
+unfoldable pub file_read : ℕ → State → List ℕ → Result State TextFault
+file_read file st text =
+    text_read (file_start file) 0 st text >>= λ st. ended st (slice_get st.nest 0)
 
 -- macros carry over from file to file
-abbrev pub files_from : List SourceFile → ℕ → State → List SourceFile → Result State TextFault
-files_from files file st [] = Ok st
-files_from files file st (f ∷ fs) = file_read files file st f.text >>= λ st. files_from files (file + 1) st fs
+abbrev pub files_from : ℕ → State → List SourceFile → Result State TextFault
+files_from file st [] = Ok st
+files_from file st (f ∷ fs) = file_read file st f.text >>= λ st. files_from (file + 1) st fs
 
 abbrev pub no_pieces : Output
 no_pieces = record { uses = 1048576; bytes = 16777216; pieces = [] }
@@ -168,4 +168,4 @@ abbrev pub at_first : State
 at_first = record { table = no_macros; parts = []; count = 0; out = no_pieces; nest = [] }
 
 unfoldable pub pieces : List SourceFile → Result (List Piece) TextFault
-pieces files = files_from files 0 at_first files >>= λ st. Ok st.out.pieces
+pieces files = files_from 0 at_first files >>= λ st. Ok st.out.pieces

@@ -2,7 +2,6 @@
 -- the longest runs of other bytes between them.
 use Rattle.std.specs.Prelude.{◌≡◌, ◌<◌, ◌≤◌, ℕ, ◌+◌, ◌-◌, Bool, false, true, not, ◌&&◌, ◌==◌, ◌⊎◌, List, [], ◌∷◌, ◌++◌, length, take, slice_index, Result, Ok, Err}
 use Rattle.ls_text.specs.declared.place.Place.{Place}
-use Rattle.ls_text.specs.declared.source_file.SourceFile.{SourceFile}
 use Rattle.source_text.specs.Bytes.{is_letter, is_word_byte}
 use Rattle.source_text.specs.Faults.{TextFault, fault_at}
 use Rattle.source_text.specs.Places.{place_after}
@@ -70,30 +69,30 @@ with_run at offset st cut = with_out st (record {
 })
 
 -- What the stretch `cut` does before `rest`, from one state to the next, or its fault.
-pub data Does (files : List SourceFile) (at : Place) (offset : ℕ) (st : State) (cut rest : List ℕ) : Result State TextFault → Type 0 where
-  LineComment : IsLineComment cut rest → Does files at offset st cut rest (Ok st)
-  BlockComment : IsBlockComment cut → Does files at offset st cut rest (Ok st)
+pub data Does (at : Place) (offset : ℕ) (st : State) (cut rest : List ℕ) : Result State TextFault → Type 0 where
+  LineComment : IsLineComment cut rest → Does at offset st cut rest (Ok st)
+  BlockComment : IsBlockComment cut → Does at offset st cut rest (Ok st)
   -- a `/*` that no `*/` closes
   OpenComment : (inside : List ℕ) → cut ≡ 47 ∷ 42 ∷ inside → rest ≡ [] → HasNo ends_comment inside
-      → Does files at offset st cut rest (Err (fault_at 12 at []))
-  Skipped : IsRun cut rest → is_read st.nest ≡ false → Does files at offset st cut rest (Ok st)
-  Run : IsRun cut rest → is_read st.nest ≡ true → length cut ≤ st.out.bytes → Does files at offset st cut rest (Ok (with_run at offset st cut))
+      → Does at offset st cut rest (Err (fault_at 12 at []))
+  Skipped : IsRun cut rest → is_read st.nest ≡ false → Does at offset st cut rest (Ok st)
+  Run : IsRun cut rest → is_read st.nest ≡ true → length cut ≤ st.out.bytes → Does at offset st cut rest (Ok (with_run at offset st cut))
   -- the place is that of the first byte too many
   FullRun : IsRun cut rest → is_read st.nest ≡ true → st.out.bytes < length cut
-      → Does files at offset st cut rest (Err (fault_at 10 (place_after at (take st.out.bytes cut)) []))
+      → Does at offset st cut rest (Err (fault_at 10 (place_after at (take st.out.bytes cut)) []))
   -- a backquote, a word, and what belongs to the directive behind it
   Directive : (word behind : List ℕ) → cut ≡ 96 ∷ (word ++ behind) → IsWord word (behind ++ rest)
-      → (next : State) → directive_read files at (offset + 1 + length word) word st (behind ++ rest) ≡ Ok (next, length behind)
-      → Does files at offset st cut rest (Ok next)
+      → (next : State) → directive_read at (offset + 1 + length word) word st (behind ++ rest) ≡ Ok (next, length behind)
+      → Does at offset st cut rest (Ok next)
   BadDirective : (word behind : List ℕ) → cut ≡ 96 ∷ (word ++ behind) → IsWord word (behind ++ rest)
-      → (e : TextFault) → directive_read files at (offset + 1 + length word) word st (behind ++ rest) ≡ Err e
-      → Does files at offset st cut rest (Err e)
+      → (e : TextFault) → directive_read at (offset + 1 + length word) word st (behind ++ rest) ≡ Err e
+      → Does at offset st cut rest (Err e)
 
 -- What the stretches of a text do one after another, up to its end or the first fault.
-pub data Reads (files : List SourceFile) : Place → ℕ → State → List ℕ → Result State TextFault → Type 0 where
-  AtEnd : (at : Place) (offset : ℕ) (st : State) → Reads files at offset st [] (Ok st)
+pub data Reads : Place → ℕ → State → List ℕ → Result State TextFault → Type 0 where
+  AtEnd : (at : Place) (offset : ℕ) (st : State) → Reads at offset st [] (Ok st)
   Goes : (at : Place) (offset : ℕ) (st next : State) (cut rest : List ℕ) (r : Result State TextFault)
-      → Does files at offset st cut rest (Ok next) → Reads files (place_after at cut) (offset + length cut) next rest r
-      → Reads files at offset st (cut ++ rest) r
+      → Does at offset st cut rest (Ok next) → Reads (place_after at cut) (offset + length cut) next rest r
+      → Reads at offset st (cut ++ rest) r
   Fails : (at : Place) (offset : ℕ) (st : State) (cut rest : List ℕ) (e : TextFault)
-      → Does files at offset st cut rest (Err e) → Reads files at offset st (cut ++ rest) (Err e)
+      → Does at offset st cut rest (Err e) → Reads at offset st (cut ++ rest) (Err e)

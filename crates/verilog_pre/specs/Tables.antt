@@ -4,6 +4,7 @@ use Rattle.std.specs.List.{All}
 use Rattle.std.specs.Str.{bytes_eq}
 use Rattle.verilog_pre.specs.declared.macro_body.Macro.{Macro}
 use Rattle.verilog_pre.specs.declared.macros.Macros.{Macros}
+use Rattle.verilog_pre.specs.Views.{IsListed}
 
 abbrev pub Table : Type 0
 Table = List ℕ → Option Macro
@@ -24,8 +25,10 @@ found (w ∷ ws) (m ∷ ms) word = if bytes_eq w word then m else found ws ms wo
 unfoldable pub table_of : Macros → Table
 table_of m = found m.words m.known.items
 
--- the bodies of all macros are parts of the list of parts, and each macro has its place in the list of places
+-- the bodies of all macros are parts of the list of parts, each macro has its place in the list of places, and the words
+-- that parts use are in the table of words
 pub record Sound (m : Macros) : Type 0 where
   pub words : length m.known.items ≤ length m.words
   pub bodies : All (λ (o : Option Macro). IfSome o (λ (k : Macro). k.last ≤ length m.parts.items)) m.known.items
   pub places : All (λ (o : Option Macro). IfSome o (λ (k : Macro). k.number < length m.places.items)) m.known.items
+  pub uses : All (IsListed (length m.words)) m.parts.items

@@ -1,9 +1,15 @@
 // The body of a macro.
 ghost use Rattle.std.specs.Prelude.{◌≡◌, ◌<◌, ◌≤◌, ◌+◌, ◌++◌, ◌∷◌, [], length, IfSome, IfOk, OnOk, IsTrue, false};
+ghost use Rattle.verilog_pre.specs.Parts.{Use};
+ghost use Rattle.verilog_pre.specs.Tables.{table_of, Sound};
+ghost use Rattle.verilog_pre.specs.Views.{part_of, parts_of, IsListed};
 ghost use Rattle.verilog_pre.specs.Bodies.{lines_len, comment_len, begins_cut, run_len, comment_or, body_cut, cut_len, goes_on, run_part, cut_parts, body_parts, body_len};
 
 use crate::body_cut::BodyCut;
-use crate::part::{Part, PartKind};
+use crate::macros::Macros;
+use crate::part::Part;
+use crate::stretch::Stretch;
+use crate::table::number_of;
 use ls_text::NoMemory;
 use source_text::{
     behind, byte_at, front, is_letter, line_len, space_len, trailing_space_len, word_len,
@@ -113,80 +119,97 @@ fn body_cut(text: &[u8]) -> BodyCut
     }
 }
 
+// Adds a part.
+#[tactic(auto, unfolding(crate::specs::Tables::table_of, crate::specs::Views::parts_of), using(crate::proofs::Parts::one_more, crate::proofs::Sounds::sound_more))]
+fn push_part(macros: &mut Macros, part: Part) -> Result<(), NoMemory>
+    requires sound { Sound macros.old }
+    requires listed { IsListed (length macros.old.words) part }
+    ensures parts { OnOk result (parts_of macros.new ≡ parts_of macros.old ++ part_of macros.old.words part ∷ []) }
+    ensures table { OnOk result (table_of macros.new ≡ table_of macros.old) }
+    ensures places { OnOk result (macros.new.places ≡ macros.old.places) }
+    ensures sound { OnOk result (Sound macros.new) }
+{
+    macros.parts.push(part)?;
+    Ok(())
+}
+
 // Adds a run without the white space at its ends.
-fn push_run(parts: &mut Vec<Part>, file: u16, offset: u32, run: &[u8]) -> Result<(), NoMemory>
-    requires { offset + length run.now ≤ 4194304 }
-    ensures { OnOk result (parts.new.items ≡ parts.old.items ++ run_part file offset (length run.now) run.now) }
+fn push_run(macros: &mut Macros, file: u16, offset: u32, run: &[u8]) -> Result<(), NoMemory>
+    requires sound { Sound macros.old }
+    requires room { offset + length run.now ≤ 4194304 }
+    ensures parts { OnOk result (parts_of macros.new ≡ parts_of macros.old ++ run_part file offset (length run.now) run.now) }
+    ensures table { OnOk result (table_of macros.new ≡ table_of macros.old) }
+    ensures places { OnOk result (macros.new.places ≡ macros.old.places) }
+    ensures sound { OnOk result (Sound macros.new) }
 {
     let lead = space_len(run);
     if lead < run.len() {
         let trail = trailing_space_len(run);
-        parts.push(Part {
-            kind: PartKind::Text,
-            file,
-            start: offset + lead as u32,
-            end: offset + (run.len() - trail) as u32,
-        })?;
+        let start = offset + lead as u32;
+        let end = offset + (run.len() - trail) as u32;
+        return push_part(macros, Part::Text(Stretch { file, start, end }));
     }
     Ok(())
 }
 
+// Adds the use of a word.
+fn push_use(macros: &mut Macros, word: &[u8]) -> Result<(), NoMemory>
+    requires { Sound macros.old }
+    ensures parts { OnOk result (parts_of macros.new ≡ parts_of macros.old ++ Use word.now ∷ []) }
+    ensures table { OnOk result (table_of macros.new ≡ table_of macros.old) }
+    ensures places { OnOk result (macros.new.places ≡ macros.old.places) }
+    ensures sound { OnOk result (Sound macros.new) }
+{
+    let id = number_of(macros, word)?;
+    push_part(macros, Part::Use(id))
+}
+
 // Adds the parts of a cut.
 fn push_cut(
-    parts: &mut Vec<Part>,
+    macros: &mut Macros,
     file: u16,
     offset: u32,
     text: &[u8],
     cut: BodyCut,
 ) -> Result<(), NoMemory>
+    requires sound { Sound macros.old }
     requires room { offset + length text.now ≤ 4194304 }
     requires within { cut_len cut ≤ length text.now }
-    ensures { OnOk result (parts.new.items ≡ parts.old.items ++ cut_parts file offset text.now cut) }
+    ensures parts { OnOk result (parts_of macros.new ≡ parts_of macros.old ++ cut_parts file offset text.now cut) }
+    ensures table { OnOk result (table_of macros.new ≡ table_of macros.old) }
+    ensures places { OnOk result (macros.new.places ≡ macros.old.places) }
+    ensures sound { OnOk result (Sound macros.new) }
 {
     match cut {
-        BodyCut::Run(n) => push_run(parts, file, offset, front(text, n)),
-        BodyCut::Use(n) => push_part(parts, PartKind::Use, file, offset + 1, offset + n as u32),
-        BodyCut::Open(n) => push_part(parts, PartKind::Open, file, offset, offset + n as u32),
+        BodyCut::Run(n) => push_run(macros, file, offset, front(text, n)),
+        BodyCut::Use(n) => push_use(macros, front(behind(text, 1), n.saturating_sub(1))),
+        BodyCut::Open(_) => push_part(macros, Part::Open),
         BodyCut::Gap(_) | BodyCut::Last(_) => Ok(()),
     }
-}
-
-fn push_part(
-    parts: &mut Vec<Part>,
-    kind: PartKind,
-    file: u16,
-    start: u32,
-    end: u32,
-) -> Result<(), NoMemory>
-    ensures { OnOk result (parts.new.items ≡ parts.old.items ++ record { kind = kind; file = file; start = start; end = end } ∷ []) }
-{
-    parts.push(Part {
-        kind,
-        file,
-        start,
-        end,
-    })?;
-    Ok(())
 }
 
 // Adds the parts of the body that begins a text, and answers how many bytes the body has.
 #[tactic(auto, unfolding(crate::specs::Bodies::body_parts, crate::specs::Bodies::body_len))]
 pub fn read_body(
-    parts: &mut Vec<Part>,
+    macros: &mut Macros,
     file: u16,
     offset: u32,
     text: &[u8],
 ) -> Result<usize, NoMemory>
-    requires { offset + length text.now ≤ 4194304 }
-    ensures parts { OnOk result (parts.new.items ≡ parts.old.items ++ body_parts file offset text.now) }
+    requires sound { Sound macros.old }
+    requires room { offset + length text.now ≤ 4194304 }
+    ensures parts { OnOk result (parts_of macros.new ≡ parts_of macros.old ++ body_parts file offset text.now) }
     ensures length { IfOk result (λ n. n ≡ body_len text.now) }
     ensures within { IfOk result (λ n. n ≤ length text.now) }
+    ensures table { OnOk result (table_of macros.new ≡ table_of macros.old) }
+    ensures places { OnOk result (macros.new.places ≡ macros.old.places) }
+    ensures sound { OnOk result (Sound macros.new) }
 {
     let mut rest = text;
     let mut at = offset;
     while !rest.is_empty() {
         let cut = body_cut(rest);
-        push_cut(parts, file, at, rest, cut)?;
+        push_cut(macros, file, at, rest, cut)?;
         let n = cut.len();
         if !cut.goes_on() {
             return Ok(text.len() - rest.len() + n);

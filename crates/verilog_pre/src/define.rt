@@ -7,6 +7,7 @@ ghost use Rattle.verilog_pre.specs.Reading.{define_name, undef_name, with_body, 
 ghost use Rattle.verilog_pre.specs.States.{state};
 ghost use Rattle.verilog_pre.specs.Directives.{name_at};
 ghost use Rattle.verilog_pre.specs.Tables.{table_of, with_macro, Sound};
+ghost use Rattle.verilog_pre.specs.Views.{parts_of};
 
 use crate::body::read_body;
 use crate::directives::{directive_of, is_use, name_at};
@@ -34,16 +35,16 @@ fn add_macro(
     ensures within { IfOk result (λ n. n ≤ length text.now) }
     ensures table { OnOk result (table_of macros.new ≡ with_macro name.now (Some (record {
       number = length macros.old.places.items;
-      first = length macros.old.parts.items;
-      last = length (macros.old.parts.items ++ body_parts file offset text.now);
+      first = length (parts_of macros.old);
+      last = length (parts_of macros.old ++ body_parts file offset text.now);
     })) (table_of macros.old)) }
-    ensures parts { OnOk result (macros.new.parts.items ≡ macros.old.parts.items ++ body_parts file offset text.now) }
+    ensures parts { OnOk result (parts_of macros.new ≡ parts_of macros.old ++ body_parts file offset text.now) }
     ensures count { OnOk result (length macros.new.places.items ≡ length macros.old.places.items + 1) }
     ensures sound { OnOk result (Sound macros.new) }
 {
     let first = macros.parts.len();
     let number = macros.places.len();
-    let n = read_body(&mut macros.parts, file, offset, text)?;
+    let n = read_body(macros, file, offset, text)?;
     let last = macros.parts.len();
     macros.places.push(0)?;
     let body = Macro {

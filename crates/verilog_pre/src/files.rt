@@ -22,14 +22,13 @@ use std::alloc::Global;
 fn read_text(
     alloc: Global,
     names: &mut Names,
-    files: &[SourceFile],
     reader: &mut Reader,
     start: Place,
     text: &[u8],
 ) -> Result<(), Refusal>
     requires sound { Sound reader.old.macros }
     requires room { length text.now ≤ 4194304 }
-    ensures read { Gives names.new (λ u. state reader.new) result (text_read files.now start 0 (state reader.old) text.now) }
+    ensures read { Gives names.new (λ u. state reader.new) result (text_read start 0 (state reader.old) text.now) }
     ensures sound { OnOk result (Sound reader.new.macros) }
     ensures known { IfErr result (CanShow (length names.new)) }
     ensures grows { Grows names.old names.new }
@@ -38,7 +37,7 @@ fn read_text(
     let mut at = start;
     let mut offset = 0u32;
     while !rest.is_empty() {
-        let n = match read_turn(alloc, names, files, reader, at, offset, rest) {
+        let n = match read_turn(alloc, names, reader, at, offset, rest) {
             Ok(n) => n,
             Err(refusal) => return Err(refusal),
         };
@@ -76,19 +75,18 @@ fn end_file(alloc: Global, names: &mut Names, reader: &Reader) -> Result<(), Ref
 fn read_file(
     alloc: Global,
     names: &mut Names,
-    files: &[SourceFile],
     reader: &mut Reader,
     file: u16,
     text: &[u8],
 ) -> Result<(), Refusal>
     requires sound { Sound reader.old.macros }
     requires room { length text.now ≤ 4194304 }
-    ensures read { Gives names.new (λ u. state reader.new) result (file_read files.now file (state reader.old) text.now) }
+    ensures read { Gives names.new (λ u. state reader.new) result (file_read file (state reader.old) text.now) }
     ensures sound { OnOk result (Sound reader.new.macros) }
     ensures known { IfErr result (CanShow (length names.new)) }
     ensures grows { Grows names.old names.new }
 {
-    match read_text(alloc, names, files, reader, file_start(file), text) {
+    match read_text(alloc, names, reader, file_start(file), text) {
         Ok(()) => end_file(alloc, names, reader),
         Err(refusal) => Err(refusal),
     }
@@ -104,7 +102,7 @@ fn read_files(
     requires sound { Sound reader.old.macros }
     requires files { length files.now ≤ 256 }
     requires texts { All (λ f. length f.text ≤ 4194304) files.now }
-    ensures read { Gives names.new (λ u. state reader.new) result (files_from files.now 0 (state reader.old) files.now) }
+    ensures read { Gives names.new (λ u. state reader.new) result (files_from 0 (state reader.old) files.now) }
     ensures known { IfErr result (CanShow (length names.new)) }
     ensures grows { Grows names.old names.new }
 {
@@ -112,7 +110,6 @@ fn read_files(
         match read_file(
             alloc,
             names,
-            files,
             reader,
             number as u16,
             file.text.bytes(),

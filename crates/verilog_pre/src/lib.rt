@@ -21,10 +21,13 @@ mod part;
 mod piece;
 mod reader;
 mod reading;
+mod stretch;
 mod table;
 
 pub use files::preprocess;
-pub use laws::{bodies_are_stretches, texts_are_stretches};
+pub use laws::{
+    bodies_are_stretches, files_have_pieces, texts_are_stretches, uses_are_expansions,
+};
 pub use piece::Piece;
 
 #[cfg(test)]

@@ -1,21 +1,14 @@
 // A part of a macro's body.
+use crate::stretch::Stretch;
+use ls_text::NameId;
 
-/// What a part of a body is.
-#[derive(Clone, Copy, Debug, PartialEq, Eq)]
-pub enum PartKind {
+/// A part of a macro's body.
+#[derive(Clone, Copy, Debug)]
+pub enum Part {
     /// Bytes that hold tokens.
-    Text,
-    /// The use of a macro: its word.
-    Use,
+    Text(Stretch),
+    /// The use of a macro: its word, by its number in the table of words.
+    Use(NameId),
     /// A comment that isn't closed.
     Open,
-}
-
-/// A part of a macro's body: its bytes in their file.
-#[derive(Clone, Copy, Debug)]
-pub struct Part {
-    pub kind: PartKind,
-    pub file: u16,
-    pub start: u32,
-    pub end: u32,
 }

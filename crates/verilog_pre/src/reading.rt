@@ -17,24 +17,22 @@ use crate::directive::Directive;
 use crate::directives::{directive_of, is_conditional};
 use crate::expand::{emit, expand};
 use crate::reader::Reader;
-use ls_text::{Names, Place, Refusal, SourceFile};
+use ls_text::{Names, Place, Refusal};
 use source_text::{
     behind, byte_at, front, is_letter, line_len, place_after, text_fault, through_pair, word_len,
 };
 use std::alloc::Global;
 
 // Carries out the use of a macro.
-
 fn use_macro(
     alloc: Global,
     names: &mut Names,
-    files: &[SourceFile],
     reader: &mut Reader,
     at: Place,
     word: &[u8],
 ) -> Result<usize, Refusal>
     requires { Sound reader.old.macros }
-    ensures read { Gives names.new (λ n. (state reader.new, n)) result (use_macro files.now at word.now (state reader.old)) }
+    ensures read { Gives names.new (λ n. (state reader.new, n)) result (use_macro at word.now (state reader.old)) }
     ensures sound { OnOk result (Sound reader.new.macros) }
     ensures within { IfOk result (λ n. n ≡ 0) }
     ensures known { IfErr result (CanShow (length names.new)) }
@@ -43,7 +41,6 @@ fn use_macro(
     match expand(
         alloc,
         names,
-        files,
         &mut reader.macros,
         &mut reader.out,
         at,
@@ -58,7 +55,6 @@ fn use_macro(
 fn directive(
     alloc: Global,
     names: &mut Names,
-    files: &[SourceFile],
     reader: &mut Reader,
     at: Place,
     offset: u32,
@@ -68,7 +64,7 @@ fn directive(
     requires sound { Sound reader.old.macros }
     requires room { offset + length rest.now ≤ 4194304 }
     ensures read { Gives names.new (λ n. (state reader.new, n)) result
-        (directive_at files.now at offset word.now (state reader.old) rest.now (directive_of word.now)) }
+        (directive_at at offset word.now (state reader.old) rest.now (directive_of word.now)) }
     ensures sound { OnOk result (Sound reader.new.macros) }
     ensures within { IfOk result (λ n. n ≤ length rest.now) }
     ensures known { IfErr result (CanShow (length names.new)) }
@@ -84,7 +80,7 @@ fn directive(
         Directive::Endif => endif(alloc, names, reader, at, word),
         Directive::RestOfLine => Ok(line_len(rest)),
         Directive::NoEffect => Ok(0),
-        Directive::Use => use_macro(alloc, names, files, reader, at, word),
+        Directive::Use => use_macro(alloc, names, reader, at, word),
     }
 }
 
@@ -93,7 +89,6 @@ fn directive(
 fn read_directive(
     alloc: Global,
     names: &mut Names,
-    files: &[SourceFile],
     reader: &mut Reader,
     at: Place,
     offset: u32,
@@ -103,14 +98,14 @@ fn read_directive(
     requires sound { Sound reader.old.macros }
     requires room { offset + length rest.now ≤ 4194304 }
     ensures read { Gives names.new (λ n. (state reader.new, n)) result
-        (directive_read files.now at offset word.now (state reader.old) rest.now) }
+        (directive_read at offset word.now (state reader.old) rest.now) }
     ensures sound { OnOk result (Sound reader.new.macros) }
     ensures within { IfOk result (λ n. n ≤ length rest.now) }
     ensures known { IfErr result (CanShow (length names.new)) }
     ensures grows { Grows names.old names.new }
 {
     if is_read(&reader.nest) || is_conditional(directive_of(word)) {
-        directive(alloc, names, files, reader, at, offset, word, rest)
+        directive(alloc, names, reader, at, offset, word, rest)
     } else {
         Ok(0)
     }
@@ -121,7 +116,6 @@ fn read_directive(
 fn read_word(
     alloc: Global,
     names: &mut Names,
-    files: &[SourceFile],
     reader: &mut Reader,
     at: Place,
     offset: u32,
@@ -130,7 +124,7 @@ fn read_word(
     requires sound { Sound reader.old.macros }
     requires some { 0 < length text.now }
     requires room { offset + length text.now ≤ 4194304 }
-    ensures read { Gives names.new (λ n. (state reader.new, n)) result (word_read files.now at offset (state reader.old) text.now) }
+    ensures read { Gives names.new (λ n. (state reader.new, n)) result (word_read at offset (state reader.old) text.now) }
     ensures sound { OnOk result (Sound reader.new.macros) }
     ensures within { IfOk result (λ n. n ≤ length text.now) }
     ensures some { IfOk result (λ n. 0 < n) }
@@ -142,7 +136,7 @@ fn read_word(
     let word = front(name, n);
     let rest = behind(name, n);
     let offset = offset + 1 + n as u32;
-    match read_directive(alloc, names, files, reader, at, offset, word, rest) {
+    match read_directive(alloc, names, reader, at, offset, word, rest) {
         Ok(m) => Ok(1 + word.len() + m),
         Err(refusal) => Err(refusal),
     }
@@ -233,7 +227,6 @@ fn read_comment(alloc: Global, at: Place, inside: &[u8]) -> Result<usize, Refusa
 pub fn read_turn(
     alloc: Global,
     names: &mut Names,
-    files: &[SourceFile],
     reader: &mut Reader,
     at: Place,
     offset: u32,
@@ -242,7 +235,7 @@ pub fn read_turn(
     requires sound { Sound reader.old.macros }
     requires some { 0 < length text.now }
     requires room { offset + length text.now ≤ 4194304 }
-    ensures read { Gives names.new (λ n. (state reader.new, n)) result (turn files.now at offset (state reader.old) text.now) }
+    ensures read { Gives names.new (λ n. (state reader.new, n)) result (turn at offset (state reader.old) text.now) }
     ensures sound { OnOk result (Sound reader.new.macros) }
     ensures within { IfOk result (λ n. n ≤ length text.now) }
     ensures some { IfOk result (λ n. 0 < n) }
@@ -256,7 +249,7 @@ pub fn read_turn(
     } else if first == b'/' && second == b'*' {
         read_comment(alloc, at, behind(text, 2))
     } else if first == b'`' && is_letter(second) {
-        read_word(alloc, names, files, reader, at, offset, text)
+        read_word(alloc, names, reader, at, offset, text)
     } else {
         read_run(
             alloc,

@@ -118,6 +118,14 @@ fn runs_and_bodies_are_pieces(rt: HostRuntime) {
         )
     );
     assert!(rt; has_pieces(alloc, b"`define A 8'\n`A h1", &[b"\n", b"8'", b" h1"]));
+    // What a word in a body names is known at the use alone; all of a long name counts.
+    assert!(rt;
+        has_pieces(
+            alloc,
+            b"`define B `A`AA\n`define A x\n`define AA y\n`B",
+            &[b"\n", b"\n", b"\n", b"x", b"y"]
+        )
+    );
 }
 
 #[test]
@@ -196,6 +204,13 @@ fn uses_that_fail_are_refused(rt: HostRuntime) {
     assert!(rt; is_bad(alloc, b"a /*/", b"1:3 -\n"));
     assert!(rt; is_bad(alloc, b"`define A /* b\n`A", b"2:1 -\n"));
     assert!(rt; is_bad(alloc, b"`define A `A\n`A", b"2:1 A\n"));
+    assert!(rt;
+        is_bad(
+            alloc,
+            b"`define A x\n`define B `A\n`undef A\n`B",
+            b"4:1 A\n"
+        )
+    );
     // Columns count bytes; skipped text is read for comments too; a fault stops the reading before a conditional is known to
     // stay open.
     assert!(rt; is_bad(alloc, b"/* \xc3\xa9 */ `x", b"1:10 x\n"));

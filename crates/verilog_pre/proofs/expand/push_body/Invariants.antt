@@ -5,7 +5,7 @@ use Rattle.verilog_pre.proofs.expand.push_body.Given as goal
 -- the parts from the next on stand before the work
 abbrev pub invariant-loop-next : goal.invariant-loop-next
 invariant-loop-next l = record {
-  work : l.nest.work.items ≡ map item.Part (take (l.body.last - l.next) (drop l.next l.parts)) ++ l.fn.nest.work.items;
+  work : l.nest.work.items ≡ map item.Part (take (l.body.last - l.next) (drop l.next l.macros.parts.items)) ++ l.fn.nest.work.items;
   open_ : l.nest.open ≡ l.fn.nest.open;
   within : l.next ≤ l.body.last;
   lower : (l.body.first ≤ l.next) ⊎ (l.next ≡ l.body.last);

@@ -8,7 +8,7 @@ use Rattle.verilog_pre.proofs.files.read_files.Given as goal
 -- the files that are left give what all give
 abbrev pub invariant-loop-number : goal.invariant-loop-number
 invariant-loop-number l = record {
-  same : files_from l.files l.number (state l.reader) (drop l.number l.files) ≡ files_from l.files 0 (state l.fn.reader) l.files;
+  same : files_from l.number (state l.reader) (drop l.number l.files) ≡ files_from 0 (state l.fn.reader) l.files;
   sound : Sound l.reader.macros;
   grows : Grows l.fn.names l.names;
 }

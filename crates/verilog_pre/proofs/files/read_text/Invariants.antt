@@ -8,7 +8,7 @@ use Rattle.verilog_pre.proofs.files.read_text.Given as goal
 -- what is left gives what the text gives
 abbrev pub invariant-loop-rest : goal.invariant-loop-rest
 invariant-loop-rest l = record {
-  same : text_read l.files l.at l.offset (state l.reader) l.rest ≡ text_read l.files l.fn.start 0 (state l.fn.reader) l.text;
+  same : text_read l.at l.offset (state l.reader) l.rest ≡ text_read l.fn.start 0 (state l.fn.reader) l.text;
   sound : Sound l.reader.macros;
   room : l.offset + length l.rest ≤ 4194304;
   grows : Grows l.fn.names l.names;

@@ -18,5 +18,6 @@ loop-macros-preserved c = record {
     words = omega (arith, c.in_ok-push.ensures.len, c.loop-macros.invariant.sound.words, ap length c.loop-macros.invariant.words, c.requires.within);
     bodies = push_none (λ k. k.last ≤ length c.loop-macros.macros.parts.items) _ _ c.in_ok-push.ensures.items c.loop-macros.invariant.sound.bodies;
     places = push_none (λ k. k.number < length c.loop-macros.macros.places.items) _ _ c.in_ok-push.ensures.items c.loop-macros.invariant.sound.places;
+    uses = c.loop-macros.invariant.sound.uses;
   };
 }
