@@ -1,4 +1,7 @@
 // Expressions, and the names with their selects that stand in them.
+ghost use Rattle.std.specs.Prelude.{◌≡◌};
+ghost use Rattle.verilog_ast.specs.Places.{place_of_expression, place_of_reference};
+
 use crate::identifier::Identifier;
 use crate::number::Number;
 use crate::operator::{BinaryOperator, UnaryOperator};
@@ -36,4 +39,37 @@ pub enum Reference {
     Upward(Identifier, Boxed<Expression>, Boxed<Expression>),
     /// `x[base -: width]`
     Downward(Identifier, Boxed<Expression>, Boxed<Expression>),
+}
+
+impl Expression {
+    /// The place of its first token.
+    pub fn place(&self) -> Place
+        ensures { result ≡ place_of_expression self.now }
+    {
+        match self {
+            Expression::Number(at, _)
+            | Expression::Unary(at, _, _)
+            | Expression::Concatenation(at, _)
+            | Expression::Replication(at, _, _)
+            | Expression::Bracketed(at, _) => *at,
+            Expression::Read(reference) => reference.place(),
+            Expression::Binary(_, left, _) => left.get().place(),
+            Expression::Conditional(condition, _, _) => condition.get().place(),
+        }
+    }
+}
+
+impl Reference {
+    /// The place of its name.
+    pub fn place(&self) -> Place
+        ensures { result ≡ place_of_reference self.now }
+    {
+        match self {
+            Reference::Whole(name)
+            | Reference::Bit(name, _)
+            | Reference::Part(name, _, _)
+            | Reference::Upward(name, _, _)
+            | Reference::Downward(name, _, _) => name.at,
+        }
+    }
 }

@@ -1,4 +1,7 @@
 // Items of modules and of generate blocks.
+ghost use Rattle.std.specs.Prelude.{◌≡◌};
+ghost use Rattle.verilog_ast.specs.Places.{place_of_branches, place_of_generate_item, place_of_item, place_of_plain_item};
+
 use crate::connection::{Connections, Instance};
 use crate::declaration::{Parameter, PortNet, Shape, Variable};
 use crate::expression::Expression;
@@ -68,4 +71,64 @@ pub enum Item {
     /// `generate .. endgenerate`
     Region(Place, Items<GenerateItem>),
     Item(GenerateItem),
+}
+
+impl PlainItem {
+    /// The place of its first token.
+    pub fn place(&self) -> Place
+        ensures { result ≡ place_of_plain_item self.now }
+    {
+        match self {
+            PlainItem::Wire(at, _, _)
+            | PlainItem::Reg(at, _, _)
+            | PlainItem::LocalParameter(at, _, _)
+            | PlainItem::Genvar(at, _)
+            | PlainItem::Assign(at, _)
+            | PlainItem::Combinational(at, _)
+            | PlainItem::Clocked(at, _, _) => *at,
+            PlainItem::Instances(module, _, _) => module.at,
+        }
+    }
+}
+
+// The place of the first branch.
+fn first_place(branches: &[Branch]) -> Place
+    ensures { result ≡ place_of_branches branches.now }
+{
+    match branches.split_first() {
+        Some((first, _)) => first.at,
+        None => Place {
+            file: 0,
+            line: 1,
+            col: 1,
+        },
+    }
+}
+
+impl GenerateItem {
+    /// The place of its first token.
+    pub fn place(&self) -> Place
+        ensures { result ≡ place_of_generate_item self.now }
+    {
+        match self {
+            GenerateItem::Plain(item) => item.place(),
+            GenerateItem::For(at, _, _, _) => *at,
+            GenerateItem::If(branches) => first_place(branches.as_slice()),
+        }
+    }
+}
+
+impl Item {
+    /// The place of its first token.
+    pub fn place(&self) -> Place
+        ensures { result ≡ place_of_item self.now }
+    {
+        match self {
+            Item::Input(at, _, _, _)
+            | Item::Output(at, _, _, _)
+            | Item::Parameter(at, _, _)
+            | Item::Region(at, _) => *at,
+            Item::Item(item) => item.place(),
+        }
+    }
 }

@@ -1,4 +1,7 @@
 // Statements of an `always` block.
+ghost use Rattle.std.specs.Prelude.{◌≡◌};
+ghost use Rattle.verilog_ast.specs.Places.{place_of_statement};
+
 use crate::expression::Expression;
 use crate::identifier::Identifier;
 use crate::number::Pattern;
@@ -50,4 +53,20 @@ pub enum Label {
     /// A literal with don't-cares, in a `casez` alone.
     Pattern(Place, Pattern),
     Expression(Boxed<Expression>),
+}
+
+impl Statement {
+    /// The place of its first token.
+    pub fn place(&self) -> Place
+        ensures { result ≡ place_of_statement self.now }
+    {
+        match self {
+            Statement::Block(at, _, _)
+            | Statement::If(at, _, _)
+            | Statement::IfElse(at, _, _, _)
+            | Statement::Case(at, _, _, _)
+            | Statement::Empty(at) => *at,
+            Statement::Assign(target, _) => target.place(),
+        }
+    }
 }

@@ -3,3 +3,7 @@ pub mod Lists
 pub mod Entries
 pub mod Trees
 pub mod Complete
+pub mod Suffixes
+pub mod Weights
+pub mod Endings
+pub mod Refusals

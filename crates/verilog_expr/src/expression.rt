@@ -13,7 +13,7 @@ ghost use Rattle.verilog_expr.specs.Spells.{Spells, AChain, AnOperand, APart, AB
 use crate::error::ParseError;
 use crate::leaf::{identifier, number};
 use crate::operators::level;
-use crate::parser::Parser;
+use crate::parser::{Parser, is_too_heavy};
 use ls_text::Place;
 use sqlite_items::{Boxed, Items};
 use verilog_ast::{Expression, Identifier, Range, Reference};
@@ -83,6 +83,22 @@ impl<'a> Parser<'a> {
             return Ok(Reference::Downward(name, first, width));
         }
         Ok(Reference::Bit(name, first))
+    }
+
+    /// An expression, whatever is open at its first token.
+    #[tactic(auto, using(crate::proofs::Runs::runs, crate::proofs::Weights::weights))]
+    pub fn expression_at(&mut self, weight: u32) -> Result<Expression, ParseError>
+        ensures machine { Reads (N grammar.AnExpression weight ∷ []) self.old result self.new }
+        ensures tree { IfOk result (λ x. Spells (spells.AnExpression x) self.old self.new) }
+        ensures shorter { OnOk result (length self.new < length self.old) }
+    {
+        if is_too_heavy(weight) {
+            if self.sees_expression() {
+                return Err(self.heavy());
+            }
+            return Err(self.stuck());
+        }
+        self.expression(weight)
     }
 
     /// An expression.

@@ -7,9 +7,15 @@ mod expression;
 mod fault;
 mod leaf;
 mod operators;
+mod parsed_expr;
 mod parser;
+mod parsing;
+mod showing;
 
 pub use error::ParseError;
 pub use fault::{ParseFault, Stop};
 pub use leaf::{identifier, number, pattern};
+pub use parsed_expr::ParsedExpr;
 pub use parser::Parser;
+pub use parsing::parse_expr;
+pub use showing::shown;

@@ -18,6 +18,13 @@ use verilog_lex::{Kind, Token};
 /// The most that may be open at a token: operators, brackets, branches, statements and generate blocks.
 const MAX_WEIGHT: u32 = 256;
 
+/// Whether no token may be taken where so much is open.
+pub fn is_too_heavy(weight: u32) -> bool
+    ensures { MatchBool result (max_weight < weight) (weight ≤ max_weight) }
+{
+    weight > MAX_WEIGHT
+}
+
 /// The tokens that are left to read.
 #[derive(Drop)]
 pub struct Parser<'a> {
@@ -87,6 +94,8 @@ impl<'a> Parser<'a> {
         }
     }
 
+    /// The allocator that the cursor was made with. The view of a cursor is its tokens alone, and what is read doesn't
+    /// depend on the allocator, so no clause speaks of it.
     pub fn alloc(&self) -> Global {
         self.alloc
     }
@@ -183,5 +192,12 @@ impl<'a> Parser<'a> {
         ensures { result ≡ ParseError.Fault (ParseFault.Stuck Stop.NotInProfile (length self.now)) }
     {
         ParseError::Fault(ParseFault::Stuck(Stop::NotInProfile, self.rest.len()))
+    }
+
+    /// The fault at the next token, where too much is open.
+    pub fn heavy(&self) -> ParseError
+        ensures { result ≡ ParseError.Fault (ParseFault.Heavy (length self.now)) }
+    {
+        ParseError::Fault(ParseFault::Heavy(self.rest.len()))
     }
 }

@@ -2,6 +2,5 @@ pub mod StatementTrees
 pub mod ItemTrees
 pub mod ModuleTrees
 pub mod Complete
-pub mod Suffixes
 pub mod Digits
 pub mod Wholes

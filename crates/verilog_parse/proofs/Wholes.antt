@@ -7,22 +7,20 @@ use Rattle.verilog_lex.specs.declared.kind.Kind.TheVariants as k
 use Rattle.verilog_lex.specs.Ends.{EndsOnce}
 use Rattle.verilog_ast.specs.declared.module.Module.{Module}
 use Rattle.verilog_expr.specs.declared.fault.ParseFault.{ParseFault}
-use Rattle.verilog_expr.specs.declared.fault.ParseFault.TheVariants.{Stuck, Heavy}
-use Rattle.verilog_expr.specs.declared.error.ParseError.{ParseError}
-use Rattle.verilog_expr.specs.declared.error.ParseError.TheVariants as errors
 use Rattle.verilog_expr.specs.Tokens.{Takes, taken}
 use Rattle.verilog_expr.specs.Grammar as g
 use Rattle.verilog_expr.specs.Grammar.{Symbol, T, N}
-use Rattle.verilog_expr.specs.Machine.{Outcome, Run, ends}
-use Rattle.verilog_expr.specs.Reads.{Fails, at_fault}
+use Rattle.verilog_expr.specs.Machine.{Run, ends}
+use Rattle.verilog_expr.specs.Shown.{IsShownAs}
 use Rattle.verilog_expr.proofs.Runs.{then}
 use Rattle.verilog_expr.proofs.Entries.{modules_skip}
-use Rattle.verilog_expr.proofs.Complete.{Gets, through, too_heavy, gets_end, gets_token, gets_skip, ◌⊳◌, one_end}
+use Rattle.verilog_expr.proofs.Complete.{Gets, gets_end, gets_token, gets_skip, ◌⊳◌}
+use Rattle.verilog_expr.proofs.Refusals.{heavy_alone}
+use Rattle.verilog_expr.proofs.Suffixes.{suffix, ends_last, taken_part}
 use Rattle.verilog_parse.specs.Modules as m
 use Rattle.verilog_parse.specs.Spellings.{spelling}
-use Rattle.verilog_parse.specs.Files.{file, IsSpelledAs, SpellsAll, no_module, another_module, Stands, IsSpelled, IsShownAs}
+use Rattle.verilog_parse.specs.Files.{file, IsSpelledAs, SpellsAll, no_module, another_module, Stands, IsSpelled}
 use Rattle.verilog_parse.proofs.Complete.{seen, module_}
-use Rattle.verilog_parse.proofs.Suffixes.{suffix, ends_last, taken_part}
 
 -- ---- one module
 
@@ -59,29 +57,9 @@ stands_so names xs s p q r t is once tree run takes end =
 
 -- ---- faults
 
-run_of : {stack : List Symbol} {s : List Token} {f : ParseFault} → Fails stack s (errors.Fault f) → Run stack s (Err f)
-run_of (at_fault r) = r
-
-pub run_at : {stack : List Symbol} {s : List Token} {f : ParseFault} {e : ParseError} → e ≡ errors.Fault f → Fails stack s e → Run stack s (Err f)
-run_at {stack} {s} is h = run_of (subst (λ (e : ParseError). Fails stack s e) is h)
-
 gets_all : {names : List (List ℕ)} {xs : List Module} {s r : List Token} → SpellsAll names xs s r → Gets (N g.Modules 0 ∷ []) s r
 gets_all (no_module free) = gets_skip (modules_skip 0 _ free) gets_end
 gets_all (another_module is x xs) = seen is refl (module_ x.tree 0 ⊳ gets_all xs ⊳ gets_end)
 
-stuck_not_ok : {s r : List Token} {f : ParseFault} → Run file s (Ok r) → Run file s (Err f) → ⊥
-stuck_not_ok {r = r} {f = f} p q = apart r f _ (one_end p p) (one_end p q)
-  where
-    apart : (r : List Token) (f : ParseFault) (o : Outcome) → o ≡ Ok r → o ≡ Err f → ⊥
-    apart r f o a b = cc
-
-heavy_code : (s : List Token) (f : ParseFault) (fault : Fault) (n : ℕ) (o : Outcome) → o ≡ Err f → o ≡ Err (Heavy n) → IsShownAs s f fault → fault.code ≡ 16
-heavy_code s (Heavy k) fault n o is at shown = shown.code
-heavy_code s (Stuck stop k) fault n o is at shown = absurd cc
-
 pub spelled_only : (s : List Token) (f : ParseFault) (fault : Fault) → IsSpelled s → Run file s (Err f) → IsShownAs s f fault → fault.code ≡ 16
-spelled_only s f fault spelled run shown = only (gets_all spelled.tree ⊳ gets_token spelled.ends ⊳ gets_end)
-  where
-    only : {r : List Token} → Gets file s r → fault.code ≡ 16
-    only (through p) = absurd (stuck_not_ok p run)
-    only (too_heavy {n = n} p) = heavy_code s f fault n _ (one_end run run) (one_end run p) shown
+spelled_only s f fault spelled run shown = heavy_alone (gets_all spelled.tree ⊳ gets_token spelled.ends ⊳ gets_end) run shown

@@ -6,14 +6,14 @@ ghost use Rattle.verilog_lex.specs.Ends.{EndsOnce};
 ghost use Rattle.verilog_expr.specs.Grammar as grammar;
 ghost use Rattle.verilog_expr.specs.Grammar.{N};
 ghost use Rattle.verilog_expr.specs.Reads.{Reads, Fails};
-ghost use Rattle.verilog_parse.specs.Files.{IsShownAs, IsSpelledAs, SpellsAll, Stands, file};
+ghost use Rattle.verilog_parse.specs.Files.{IsSpelledAs, SpellsAll, Stands, file};
 
 use crate::modules::module;
 use crate::spelling::spelling;
-use ls_text::{At, Fault, NameList, Names, NoMemory, Place, TextBytes};
+use ls_text::{Names, TextBytes};
 use std::alloc::Global;
 use verilog_ast::Module;
-use verilog_expr::{ParseError, ParseFault, Parser, Stop};
+use verilog_expr::{ParseError, Parser};
 use verilog_lex::{Kind, Token};
 
 // A module with its spelling.
@@ -58,35 +58,4 @@ pub fn whole_file(alloc: Global, names: &Names, tokens: &[Token]) -> Result<Vec<
     let all = modules(&mut p, names)?;
     p.expect(Kind::End, 0)?;
     Ok(all)
-}
-
-/// What a fault of the grammar shows.
-pub fn shown(alloc: Global, tokens: &[Token], fault: ParseFault) -> Result<Fault, NoMemory>
-    ensures { IfOk result (λ f. IsShownAs tokens.now fault f) }
-{
-    let (code, left, has_name) = match fault {
-        ParseFault::Stuck(Stop::Syntax, left) => (15, left, true),
-        ParseFault::Stuck(Stop::NotInProfile, left) => (38, left, true),
-        ParseFault::Heavy(left) => (16, left, false),
-    };
-    let mut ids = Vec::new(alloc);
-    let token = tokens.get(tokens.len().saturating_sub(left));
-    let at = match token {
-        Some(token) => token.at,
-        None => Place {
-            file: 0,
-            line: 1,
-            col: 1,
-        },
-    };
-    if let Some(token) = token {
-        if has_name {
-            ids.push(token.text)?;
-        }
-    }
-    Ok(Fault {
-        code,
-        at: At::Text(at),
-        names: NameList::new(ids),
-    })
 }

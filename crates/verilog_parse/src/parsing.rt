@@ -1,13 +1,14 @@
 // The modules of a text, or its first fault.
 ghost use Rattle.std.specs.Prelude.{◌≡◌, ◌<◌, length, All, IfOk, IfErr};
 ghost use Rattle.verilog_lex.specs.Ends.{EndsOnce};
-ghost use Rattle.verilog_parse.specs.Files.{Refuses, Stands, IsSpelled, IsMemoryOrHeavy};
+ghost use Rattle.verilog_expr.specs.Shown.{Refuses, IsMemoryOrHeavy};
+ghost use Rattle.verilog_parse.specs.Files.{Stands, IsSpelled, file};
 
-use crate::file::{shown, whole_file};
+use crate::file::whole_file;
 use ls_text::{Names, Refusal};
 use std::alloc::Global;
 use verilog_ast::Module;
-use verilog_expr::ParseError;
+use verilog_expr::{ParseError, shown};
 use verilog_lex::Token;
 
 /// The modules of a text.
@@ -18,7 +19,7 @@ pub fn parse(alloc: Global, names: &mut Names, tokens: &[Token]) -> Result<Vec<M
     requires ends { EndsOnce tokens.now }
     requires named { All (λ t. t.text.0 < length names.old) tokens.now }
     ensures tree { IfOk result (λ all. Stands names.old all.items tokens.now) }
-    ensures fault { IfErr result (Refuses tokens.now) }
+    ensures fault { IfErr result (Refuses file tokens.now) }
 
     // What the grammar has is read, unless memory runs out or too much is open at a token.
     ensures only { IsSpelled tokens.now → IfErr result IsMemoryOrHeavy }

@@ -2,8 +2,9 @@
 #![tactic(auto, using(verilog_expr::proofs::Runs::runs, verilog_expr::proofs::Runs::loops, verilog_expr::proofs::Entries::plain_entries, crate::proofs::ItemTrees::item_trees))]
 
 ghost use Rattle.std.specs.Prelude.{◌≡◌, ◌≤◌, ◌<◌, ◌+◌, ◌^◌, [], ◌∷◌, length, OnOk, IfOk};
+ghost use Rattle.verilog_lex.specs.declared.kind.Kind.TheVariants.{Wire, Reg, LocalParam, Semicolon};
 ghost use Rattle.verilog_expr.specs.Grammar as grammar;
-ghost use Rattle.verilog_expr.specs.Grammar.{N};
+ghost use Rattle.verilog_expr.specs.Grammar.{N, T};
 ghost use Rattle.verilog_expr.specs.Reads.{Reads};
 ghost use Rattle.verilog_parse.specs.Items as spells;
 ghost use Rattle.verilog_parse.specs.Items.{Spells};
@@ -27,25 +28,16 @@ pub fn plain_item(p: &mut Parser<'_>, weight: u32) -> Result<PlainItem, ParseErr
 {
     match p.peek() {
         Kind::Wire => {
-            let at = p.expect(Kind::Wire, weight)?.at;
-            let shape = shape(p, weight)?;
-            let all = variables(p, weight)?;
-            p.expect(Kind::Semicolon, weight)?;
-            Ok(PlainItem::Wire(at, shape, all))
+            let item = wire_item(p, weight)?;
+            Ok(item)
         }
         Kind::Reg => {
-            let at = p.expect(Kind::Reg, weight)?.at;
-            let shape = shape(p, weight)?;
-            let all = variables(p, weight)?;
-            p.expect(Kind::Semicolon, weight)?;
-            Ok(PlainItem::Reg(at, shape, all))
+            let item = reg_item(p, weight)?;
+            Ok(item)
         }
         Kind::LocalParam => {
-            let at = p.expect(Kind::LocalParam, weight)?.at;
-            let shape = shape(p, weight)?;
-            let all = parameters(p, weight)?;
-            p.expect(Kind::Semicolon, weight)?;
-            Ok(PlainItem::LocalParameter(at, shape, all))
+            let item = local_parameter_item(p, weight)?;
+            Ok(item)
         }
         Kind::Genvar => {
             let at = p.expect(Kind::Genvar, weight)?.at;
@@ -73,6 +65,48 @@ pub fn plain_item(p: &mut Parser<'_>, weight: u32) -> Result<PlainItem, ParseErr
         }
         _ => Err(p.stuck()),
     }
+}
+
+// `wire` and what it declares.
+fn wire_item(p: &mut Parser<'_>, weight: u32) -> Result<PlainItem, ParseError>
+    requires { weight < 2 ^ 30 }
+    ensures machine { Reads (T Wire weight ∷ N grammar.AShape weight ∷ N grammar.Variables weight ∷ T Semicolon weight ∷ []) p.old result p.new }
+    ensures tree { IfOk result (λ x. Spells (spells.APlainItem x) p.old p.new) }
+    ensures shorter { OnOk result (length p.new < length p.old) }
+{
+    let at = p.expect(Kind::Wire, weight)?.at;
+    let shape = shape(p, weight)?;
+    let all = variables(p, weight)?;
+    p.expect(Kind::Semicolon, weight)?;
+    Ok(PlainItem::Wire(at, shape, all))
+}
+
+// `reg` and what it declares.
+fn reg_item(p: &mut Parser<'_>, weight: u32) -> Result<PlainItem, ParseError>
+    requires { weight < 2 ^ 30 }
+    ensures machine { Reads (T Reg weight ∷ N grammar.AShape weight ∷ N grammar.Variables weight ∷ T Semicolon weight ∷ []) p.old result p.new }
+    ensures tree { IfOk result (λ x. Spells (spells.APlainItem x) p.old p.new) }
+    ensures shorter { OnOk result (length p.new < length p.old) }
+{
+    let at = p.expect(Kind::Reg, weight)?.at;
+    let shape = shape(p, weight)?;
+    let all = variables(p, weight)?;
+    p.expect(Kind::Semicolon, weight)?;
+    Ok(PlainItem::Reg(at, shape, all))
+}
+
+// `localparam` and what it declares.
+fn local_parameter_item(p: &mut Parser<'_>, weight: u32) -> Result<PlainItem, ParseError>
+    requires { weight < 2 ^ 30 }
+    ensures machine { Reads (T LocalParam weight ∷ N grammar.AShape weight ∷ N grammar.Parameters weight ∷ T Semicolon weight ∷ []) p.old result p.new }
+    ensures tree { IfOk result (λ x. Spells (spells.APlainItem x) p.old p.new) }
+    ensures shorter { OnOk result (length p.new < length p.old) }
+{
+    let at = p.expect(Kind::LocalParam, weight)?.at;
+    let shape = shape(p, weight)?;
+    let all = parameters(p, weight)?;
+    p.expect(Kind::Semicolon, weight)?;
+    Ok(PlainItem::LocalParameter(at, shape, all))
 }
 
 // What follows `always @`.

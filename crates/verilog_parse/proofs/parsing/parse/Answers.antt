@@ -1,5 +1,6 @@
-use Rattle.verilog_parse.specs.Files.{no_memory, at_fault}
-use Rattle.verilog_parse.proofs.Wholes.{run_at, spelled_only}
+use Rattle.verilog_expr.specs.Shown.{no_memory, at_fault}
+use Rattle.verilog_expr.proofs.Refusals.{run_at}
+use Rattle.verilog_parse.proofs.Wholes.{spelled_only}
 use Rattle.verilog_parse.proofs.parsing.parse.Goals as goal
 
 pub returns-in-Err-NoMemory-clause-fault : goal.returns-in-Err-NoMemory-clause-fault

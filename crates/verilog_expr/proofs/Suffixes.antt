@@ -1,7 +1,7 @@
 -- What a run leaves is an end of its tokens.
-use Rattle.std.proofs.Common.{◌≡◌, ◌-◌, ℕ, List, [], ◌∷◌, ◌++◌, length, take, Ok, Err, refl, ap, ◌∙◌, arith}
+use Rattle.std.proofs.Common.{◌≡◌, ◌-◌, ℕ, List, [], ◌∷◌, ◌++◌, length, take, drop, Ok, Err, refl, ap, ◌∙◌, arith}
 use Rattle.std.proofs.lemmas.List.{length-append}
-use Rattle.std.proofs.Math.Seq.{take-append_seam}
+use Rattle.std.proofs.Math.Seq.{take-append_seam, drop-append_seam}
 use Rattle.verilog_lex.specs.declared.token.Token.{Token}
 use Rattle.verilog_lex.specs.declared.kind.Kind.TheVariants as k
 use Rattle.verilog_lex.specs.Ends.{EndsOnce}
@@ -37,3 +37,9 @@ pub taken_part : (own r : List Token) → take (length (own ++ r) - length r) (o
 taken_part own r =
     let n : length (own ++ r) - length r ≡ length own = omega (arith, length-append own r) in
     ap (λ (k : ℕ). take k (own ++ r)) n ∙ take-append_seam own r
+
+-- what is left behind those tokens
+pub left_part : (own r : List Token) → drop (length (own ++ r) - length r) (own ++ r) ≡ r
+left_part own r =
+    let n : length (own ++ r) - length r ≡ length own = omega (arith, length-append own r) in
+    ap (λ (k : ℕ). drop k (own ++ r)) n ∙ drop-append_seam own r
