@@ -8,6 +8,7 @@ use Rattle.book_history.specs.Tickets.{kept, kept_all, MayAdd, MayAddAll}
 use Rattle.book_turn.specs.Known.{Known, entered, left}
 use Rattle.book_turn.specs.Rule.{MayLeave, Learned}
 use Rattle.book_turn.proofs.Histories.{added_append}
+use Rattle.checkpoint_book.specs.Views.{counts_of}
 use Rattle.segment_verify.specs.Workers.{is_closed, IsFree}
 use Rattle.worker_scope.specs.Plain.{is_plain, AllPlain, AddsPlain}
 
@@ -111,3 +112,6 @@ module _ {D R O : Type 0} where
       pub plain_still_open : is_closed v.own ≡ false → is_closed x.own ≡ false
       plain_still_open open' =
           ap (λ (y : Known D R O). is_closed y.own) left_here ∙ ap (λ (h : List (Event D R O)). is_closed (v.own ++ h)) new ∙ still_open v.own adds.entries adds.plain open'
+
+  pub open_with : (j l : Journal D R O) → AddsPlain j l → (counts_of j).closed ≡ false → (counts_of l).closed ≡ false
+  open_with j l adds open' = ap (λ (h : List (Event D R O)). is_closed h) adds.events ∙ still_open j.events adds.entries adds.plain open'

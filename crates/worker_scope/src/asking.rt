@@ -4,11 +4,13 @@ ghost use Rattle.book_turn.specs.Passes.{IsOf, known};
 ghost use Rattle.segment_verify.specs.Workers.{is_closed, IsFree};
 ghost use Rattle.worker_scope.specs.Plain.{AddsPlain};
 
+use crate::refusing::RefusingMachine;
 use crate::session_work::SessionWork;
 use book_turn::{SessionPass, Turn};
 use checkpoint_book::book::Book;
 use checkpoint_book::shown::Shown;
 use machine::Machine;
+use machine::tally::TallyMachine;
 use std::sync::Wait;
 use std::thread::{Threads, yield_now};
 
@@ -18,7 +20,7 @@ pub struct Asking {
     pub times: u32,
 }
 
-impl<M: Machine> SessionWork<M> for Asking {
+impl SessionWork<TallyMachine> for Asking {
     type Answer = bool;
 
     ghost ready = { λ s v. Unit {0} };
@@ -28,8 +30,25 @@ impl<M: Machine> SessionWork<M> for Asking {
     fn work<R: Threads + Wait + Sync>(
         self,
         rt: &R,
-        turn: &Turn<Book<M>>,
-        pass: &mut SessionPass<Book<M>>,
+        turn: &Turn<Book<TallyMachine>>,
+        pass: &mut SessionPass<Book<TallyMachine>>,
+    ) -> bool {
+        ask_often(rt, turn, pass, self.times)
+    }
+}
+
+impl SessionWork<RefusingMachine> for Asking {
+    type Answer = bool;
+
+    ghost ready = { λ s v. Unit {0} };
+
+    ghost does = { λ s v w a. Unit {0} };
+
+    fn work<R: Threads + Wait + Sync>(
+        self,
+        rt: &R,
+        turn: &Turn<Book<RefusingMachine>>,
+        pass: &mut SessionPass<Book<RefusingMachine>>,
     ) -> bool {
         ask_often(rt, turn, pass, self.times)
     }
@@ -66,11 +85,7 @@ fn rest() {
 }
 
 /// Whether all links are joined, in one turn of the book.
-fn ask<M: Machine, R: Wait>(
-    rt: &R,
-    turn: &Turn<Book<M>>,
-    pass: &mut SessionPass<Book<M>>,
-) -> bool
+fn ask<M: Machine, R: Wait>(rt: &R, turn: &Turn<Book<M>>, pass: &mut SessionPass<Book<M>>) -> bool
     requires turn { IsOf turn.now pass.old true }
     requires free { IsFree (known pass.old) }
     requires open { is_closed (known pass.old).own ≡ false }

@@ -34,8 +34,14 @@ impl Meeting {
 
     /// The first ticket waits for the second.
     fn reach(&self, ticket: u64) {
-        if self.first.compare_exchange(0, ticket, Ordering::SeqCst, Ordering::SeqCst).is_err() {
-            let _ = self.second.compare_exchange(0, ticket, Ordering::SeqCst, Ordering::SeqCst);
+        if self
+            .first
+            .compare_exchange(0, ticket, Ordering::SeqCst, Ordering::SeqCst)
+            .is_err()
+        {
+            let _ = self
+                .second
+                .compare_exchange(0, ticket, Ordering::SeqCst, Ordering::SeqCst);
             return;
         }
         for _ in 0..1000000000 {

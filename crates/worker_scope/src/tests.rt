@@ -42,33 +42,48 @@ const ROOMS: Rooms = Rooms {
     workers: 80000,
 };
 
-/// The first version, and eight cycles over rows of this row.
-fn begin<M: Machine, L: Ledger>(
-    book: &mut Book<M>,
-    alloc: Global,
-    version: Arc<Version<M>, Global>,
-    row: M::Row,
-    steps: &mut Steps<L>,
-) -> Result<(), Fail>
+/// The first version of a book that has none.
+fn begin<M: Machine>(book: &mut Book<M>, version: Arc<Version<M>, Global>) -> Result<(), Fail>
     requires { book.old.events ≡ [] }
     ensures { (counts_of book.new).closed ≡ false }
 {
-    if version.number != 1 || book.session_room() < 2 {
+    if version.number != 1 || book.session_room() == 0 {
         return Err("no version 1")?;
     }
     book.open(version)?;
+    Ok(())
+}
+
+/// Eight cycles over rows of this row.
+fn run_eight<M: Machine, L: Ledger>(
+    book: &mut Book<M>,
+    alloc: Global,
+    row: M::Row,
+    steps: &mut Steps<L>,
+) -> Result<(), Fail>
+    requires { (counts_of book.old).closed ≡ false }
+    ensures { (counts_of book.new).closed ≡ false }
+{
+    let start = book.cycle();
+    if book.version() == 0 || book.session_room() == 0 || start > 1000000 {
+        return Err("no run")?;
+    }
     let mut runs = Vec::new(alloc);
     runs.push(RowRun {
-        start: 0,
-        end: 8,
+        start,
+        end: start + 8,
         row: Arc::new(alloc, row)?,
     })?;
-    let rows = RowRuns::new(0, 8, runs)?;
+    let rows = RowRuns::new(start, start + 8, runs)?;
+    if rows.end() != start + 8 {
+        return Err("no rows")?;
+    }
     book.run(rows, 8, steps)?;
     Ok(())
 }
 
 /// Eight cycles under a machine that adds 3, and a reload with one that adds 4.
+#[tactic(auto, using(crate::proofs::Plains::open_with))]
 fn edited<L: Ledger>(alloc: Global, blank: Blank) -> Result<Box<Book<TallyMachine>>, Fail>
     requires name { blank.name ≡ L.name }
     requires parts { blank.parts ≡ L.parts }
@@ -78,7 +93,8 @@ fn edited<L: Ledger>(alloc: Global, blank: Blank) -> Result<Box<Book<TallyMachin
     let mut steps = Steps::<L>::start(blank);
     let mut boxed = Book::<TallyMachine>::new(alloc, 1, 1, ROOMS)?;
     let book: &mut Book<TallyMachine> = &mut boxed;
-    begin(book, alloc, numbered(alloc, 1)?, 0, &mut steps)?;
+    begin(book, numbered(alloc, 1)?)?;
+    run_eight(book, alloc, 0, &mut steps)?;
     if !reload_next(book, alloc, &mut steps) {
         return Err("no reload")?;
     }
@@ -197,7 +213,10 @@ fn meet<R: Threads + Wait + Sync + Abort>(rt: &R, alloc: Global, workers: u16) -
     let Some((first, second)) = gate.met() else {
         return Err("no second ticket came")?;
     };
-    assert_eq!(rt; (installs(&history, first), installs(&history, second)), (1, 1));
+    assert_eq!(rt;
+        (installs(&history, first), installs(&history, second)),
+        (1, 1)
+    );
     Ok(())
 }
 
@@ -249,7 +268,8 @@ fn refused<L: Ledger>(alloc: Global, blank: Blank) -> Result<Box<Book<RefusingMa
     let mut steps = Steps::<L>::start(blank);
     let mut boxed = Book::<RefusingMachine>::new(alloc, 1, 1, ROOMS)?;
     let book: &mut Book<RefusingMachine> = &mut boxed;
-    begin(book, alloc, refusing(alloc, 1, false)?, 0, &mut steps)?;
+    begin(book, refusing(alloc, 1, false)?)?;
+    run_eight(book, alloc, 0, &mut steps)?;
     refuse_next(book, alloc, &mut steps)?;
     Ok(boxed)
 }

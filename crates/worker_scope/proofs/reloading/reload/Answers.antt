@@ -13,7 +13,7 @@ leave-requires-after_bounds g c κs within = (
 )
 
 pub returns-clause-free : goal.returns-clause-free
-returns-clause-free g c = plain_free _ _ _ _ _ c.enter-boxed.ensures.known c.deref_mut-book.ensures.value c.reload_next-answer.ensures _ c.leave.ensures.known c.requires.free
+returns-clause-free g c = plain_free _ (known c.enter-boxed.new.pass) _ _ _ c.enter-boxed.ensures.known c.deref_mut-book.ensures.value c.reload_next-answer.ensures (known c.leave.new.pass) c.leave.ensures.known c.requires.free
 
 pub returns-clause-open : goal.returns-clause-open
-returns-clause-open g c = plain_still_open _ _ _ _ _ c.enter-boxed.ensures.known c.deref_mut-book.ensures.value c.reload_next-answer.ensures _ c.leave.ensures.known c.requires.open
+returns-clause-open g c = plain_still_open (known c.args.pass.now) (known c.enter-boxed.new.pass) _ _ _ c.enter-boxed.ensures.known c.deref_mut-book.ensures.value c.reload_next-answer.ensures (known c.leave.new.pass) c.leave.ensures.known c.requires.open
