@@ -6,7 +6,7 @@ use Rattle.std.proofs.lemmas.Bool.{eqb-true}
 use Rattle.std.proofs.lemmas.List.{take-append-drop, length-append}
 use Rattle.std.proofs.lemmas.List.Folds.{length-prefix_len}
 use Rattle.source_text.specs.Bytes.{is_letter, is_digit, is_word_byte}
-use Rattle.verilog_pre.specs.Parts.{Part, Use, Open}
+use Rattle.verilog_pre.specs.Parts.{Part, Use}
 use Rattle.verilog_pre.specs.declared.body_cut.BodyCut.{BodyCut}
 use Rattle.verilog_pre.specs.declared.body_cut.BodyCut.TheVariants as cut
 use Rattle.verilog_pre.specs.Bodies.{begins_cut, lines_len, comment_len, run_len, comment_or, body_cut, cut_len, goes_on, run_part, cut_parts, body_parts, body_len}

@@ -1,5 +1,5 @@
 -- The uses that are refused.
-use Rattle.std.proofs.Common.{◌≡◌, ◌<◌, ◌-◌, ℕ, zero, suc, Bool, true, false, cond, List, [], ◌∷◌, ◌++◌, Option, Some, None, Result, Err, sym, ap, ◌∙◌, arith}
+use Rattle.std.proofs.Common.{◌≡◌, ◌<◌, ◌-◌, ℕ, zero, suc, true, false, cond, List, [], ◌∷◌, ◌++◌, Some, None, Result, Err, sym, ap, ◌∙◌, arith}
 use Rattle.source_text.specs.Faults.{TextFault, fault_at}
 use Rattle.verilog_pre.specs.Parts.{Item, Leave}
 use Rattle.verilog_pre.specs.declared.macro_body.Macro.{Macro}

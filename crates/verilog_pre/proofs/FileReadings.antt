@@ -1,12 +1,12 @@
 -- Files are read as the relation on files says, and in no other way.
-use Rattle.std.proofs.Common.{◌≡◌, ℕ, ◌+◌, length, List, [], ◌∷◌, Option, Some, None, Result, Ok, Err, refl, sym, ap, subst, ◌∙◌, arith}
+use Rattle.std.proofs.Common.{◌≡◌, ℕ, ◌+◌, length, List, [], ◌∷◌, Result, Ok, Err, refl, sym, ap, subst, ◌∙◌, arith}
 use Rattle.std.specs.Prelude.{slice_get}
 use Rattle.ls_text.specs.declared.source_file.SourceFile.{SourceFile}
-use Rattle.source_text.specs.Faults.{TextFault, fault_at, ◌>>=◌}
+use Rattle.source_text.specs.Faults.{TextFault, ◌>>=◌}
 use Rattle.source_text.specs.Places.{file_start}
 use Rattle.verilog_pre.specs.declared.conditional.Conditional.{Conditional}
 use Rattle.verilog_pre.specs.declared.piece.Piece.{Piece}
-use Rattle.verilog_pre.specs.Reading.{text_read, opening_word, ended, file_read, files_from, at_first, pieces}
+use Rattle.verilog_pre.specs.Reading.{text_read, ended, file_read, files_from, at_first, pieces}
 use Rattle.verilog_pre.specs.States.{State}
 use Rattle.verilog_pre.specs.Stretches.{Reads}
 use Rattle.verilog_pre.specs.FileReadings.{ReadsFiles, AtEnd, Goes, LeftOpen, Fails, HavePieces}

@@ -107,13 +107,7 @@ fn read_files(
     ensures grows { Grows names.old names.new }
 {
     for (number, file) in files.iter().enumerate() {
-        match read_file(
-            alloc,
-            names,
-            reader,
-            number as u16,
-            file.text.bytes(),
-        ) {
+        match read_file(alloc, names, reader, number as u16, file.text.bytes()) {
             Ok(()) => {}
             Err(refusal) => return Err(refusal),
         }

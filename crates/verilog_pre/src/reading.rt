@@ -38,14 +38,7 @@ fn use_macro(
     ensures known { IfErr result (CanShow (length names.new)) }
     ensures grows { Grows names.old names.new }
 {
-    match expand(
-        alloc,
-        names,
-        &mut reader.macros,
-        &mut reader.out,
-        at,
-        word,
-    ) {
+    match expand(alloc, names, &mut reader.macros, &mut reader.out, at, word) {
         Ok(()) => Ok(0),
         Err(refusal) => Err(refusal),
     }

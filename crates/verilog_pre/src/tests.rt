@@ -300,6 +300,25 @@ fn fault_of_bytes(alloc: Global, uses: u32, others: u32) -> Result<Vec<u8>, NoMe
     fault_of(alloc, &text, b"")
 }
 
+// The line that shows the first fault of a text in which a body of sixteen uses is used so many times, and each of these
+// uses a macro eight times whose name has 400,000 bytes. Looking that name up at each use would take minutes.
+fn fault_of_long_names(alloc: Global, uses: u32) -> Result<Vec<u8>, NoMemory> {
+    let mut name = Vec::from_slice(alloc, b"`")?;
+    add_times(&mut name, b"n", 400_000)?;
+    let mut text = Vec::from_slice(alloc, b"`define ")?;
+    add_times(&mut text, b"n", 400_000)?;
+    add_times(&mut text, b"\n`define B ", 1)?;
+    add_times(&mut text, &name, 8)?;
+    add_times(&mut text, b"\n`define A ", 1)?;
+    add_times(&mut text, b"`B", 16)?;
+    text.push(b'\n')?;
+    add_times(&mut text, b"`A\n", uses)?;
+    if text.len() > 4_194_304 {
+        return Err(NoMemory);
+    }
+    fault_of(alloc, &text, b"")
+}
+
 // Whether a fault has this line; an empty one where there is no fault.
 fn is_line(shown: Result<Vec<u8>, NoMemory>, line: &[u8]) -> bool {
     match shown {
@@ -330,6 +349,19 @@ fn too_much_is_refused(rt: HostRuntime) {
         is_line(
             fault_of_bytes(alloc, 16, 0),
             b"refused 10 TextTooLong a.v:2:31 -\n"
+        )
+    );
+}
+
+// Each use of the outer macro is 145 uses, so 7,231 of them are 1,048,495.
+#[test]
+fn long_names_cost_no_more(rt: HostRuntime) {
+    let alloc = rt.alloc();
+    assert!(rt; is_line(fault_of_long_names(alloc, 7_231), b""));
+    assert!(rt;
+        is_line(
+            fault_of_long_names(alloc, 7_232),
+            b"refused 10 TextTooLong a.v:7235:1 -\n"
         )
     );
 }

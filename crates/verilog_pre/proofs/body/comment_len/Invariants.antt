@@ -1,4 +1,4 @@
-use Rattle.std.proofs.Common.{◌≡◌, ◌+◌, ◌≤◌, ◌⊎◌, false, drop}
+use Rattle.std.proofs.Common.{◌≡◌, drop}
 use Rattle.verilog_pre.specs.Bodies.{comment_len}
 use Rattle.verilog_pre.proofs.body.comment_len.Given as goal
 

@@ -1,4 +1,4 @@
-use Rattle.std.proofs.Common.{◌≡◌, ◌+◌, ◌≤◌, ◌⊎◌, false, drop}
+use Rattle.std.proofs.Common.{◌≡◌, false, drop}
 use Rattle.verilog_pre.specs.Bodies.{lines_len}
 use Rattle.verilog_pre.proofs.body.lines_len.Given as goal
 

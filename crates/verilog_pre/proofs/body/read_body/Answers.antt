@@ -1,6 +1,6 @@
-use Rattle.std.proofs.Common.{◌≡◌, ◌<◌, ◌+◌, ◌-◌, ◌++◌, length, drop, ap, sym, ◌∙◌, arith, append_assoc, true, false}
+use Rattle.std.proofs.Common.{◌≡◌, ◌<◌, ◌+◌, ◌++◌, length, drop, ap, sym, ◌∙◌, arith, true}
 use Rattle.verilog_pre.specs.Views.{parts_of}
-use Rattle.verilog_pre.specs.Bodies.{body_parts, body_len, cut_parts, goes_on, cut_len}
+use Rattle.verilog_pre.specs.Bodies.{body_len, goes_on, cut_len}
 use Rattle.verilog_pre.proofs.Cuts.{parts_more, parts_last, len_on, len_last}
 use Rattle.verilog_pre.proofs.body.read_body.Goals as goal
 

@@ -1,4 +1,4 @@
-use Rattle.std.proofs.Common.{◌≡◌, ◌+◌, ◌≤◌, ◌⊎◌, false, drop}
+use Rattle.std.proofs.Common.{◌≡◌, ◌+◌, ◌≤◌, ◌⊎◌, drop}
 use Rattle.verilog_pre.specs.Bodies.{run_len}
 use Rattle.verilog_pre.proofs.body.run_len.Given as goal
 

@@ -1,10 +1,10 @@
-use Rattle.std.proofs.Common.{◌≡◌, ◌++◌, List, ℕ, length, map, refl, sym, ap, subst, ◌∙◌, arith, rules}
+use Rattle.std.proofs.Common.{◌++◌, length, map, refl, sym, ap, subst, ◌∙◌, arith, rules}
 use Rattle.std.specs.List.{All}
 use Rattle.std.proofs.lemmas.List.{length-set}
 use Rattle.std.proofs.lemmas.List.Elements.{All-cons}
 use Rattle.ls_text.specs.Texts.{text_at}
 use Rattle.verilog_pre.specs.declared.item.Item.TheVariants as item
-use Rattle.verilog_pre.specs.Expansions.{Placed, is_open, body_items, context, output}
+use Rattle.verilog_pre.specs.Expansions.{is_open, body_items, context, output}
 use Rattle.verilog_pre.specs.Tables.{table_of}
 use Rattle.verilog_pre.specs.Views.{item_of, parts_of, work_of, IsListedItem}
 use Rattle.verilog_pre.proofs.Entries.{unknown_word, open_word, entered_word}

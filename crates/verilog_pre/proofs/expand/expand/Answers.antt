@@ -1,4 +1,4 @@
-use Rattle.std.proofs.Common.{◌≡◌, refl, sym, ap, subst, ◌∙◌, Result}
+use Rattle.std.proofs.Common.{sym, subst, ◌∙◌, Result}
 use Rattle.source_text.specs.Faults.{TextFault, Refuses, Gives}
 use Rattle.verilog_pre.specs.Expansions.{Output, output}
 use Rattle.verilog_pre.proofs.Steps.{moved_on, use_is}

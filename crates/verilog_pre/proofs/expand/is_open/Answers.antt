@@ -1,4 +1,4 @@
-use Rattle.std.proofs.Common.{◌≡◌, sym, arith}
+use Rattle.std.proofs.Common.{sym, arith}
 use Rattle.verilog_pre.proofs.Nests.{not_open}
 use Rattle.verilog_pre.proofs.expand.is_open.Goals as goal
 

@@ -1,4 +1,4 @@
-use Rattle.std.proofs.Common.{◌≡◌, ◌∷◌, ap, ◌∙◌, arith, inl}
+use Rattle.std.proofs.Common.{◌∷◌, ap, ◌∙◌, arith, inl}
 use Rattle.verilog_pre.specs.declared.item.Item.TheVariants as item
 use Rattle.verilog_pre.specs.Views.{parts_of}
 use Rattle.verilog_pre.proofs.Nests.{pushed_one, pushed_all}

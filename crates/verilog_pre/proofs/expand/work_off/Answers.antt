@@ -1,4 +1,4 @@
-use Rattle.std.proofs.Common.{◌≡◌, ◌+◌, ◌*◌, ℕ, List, length, sym, ap, subst, ◌∙◌, arith}
+use Rattle.std.proofs.Common.{ℕ, List, length, sym, subst}
 use Rattle.std.specs.List.{All}
 use Rattle.ls_text.proofs.Growth.{grows_on}
 use Rattle.verilog_pre.specs.Views.{IsListedItem}

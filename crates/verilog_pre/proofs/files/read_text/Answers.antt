@@ -1,4 +1,4 @@
-use Rattle.std.proofs.Common.{◌≡◌, ◌<◌, ◌+◌, length, Result, sym, ap, subst, ◌∙◌, arith}
+use Rattle.std.proofs.Common.{Result, sym, ap, subst, ◌∙◌, arith}
 use Rattle.source_text.specs.Faults.{TextFault, Refuses}
 use Rattle.source_text.specs.Places.{place_after}
 use Rattle.ls_text.proofs.Growth.{grows_on}

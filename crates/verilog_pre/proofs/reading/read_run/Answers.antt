@@ -1,4 +1,4 @@
-use Rattle.std.proofs.Common.{◌≡◌, sym, ap, ◌∙◌}
+use Rattle.std.proofs.Common.{sym, ap, ◌∙◌}
 use Rattle.verilog_pre.specs.Conditionals.{is_read}
 use Rattle.verilog_pre.specs.Expansions.{output}
 use Rattle.verilog_pre.specs.States.{state}

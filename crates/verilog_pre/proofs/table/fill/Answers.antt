@@ -1,8 +1,4 @@
-use Rattle.std.proofs.Common.{◌≡◌, ◌≤◌, ◌<◌, ◌++◌, ◌∷◌, [], List, Option, Some, None, length, ap, sym, subst, ◌∙◌, arith}
-use Rattle.std.specs.List.{All}
-use Rattle.std.specs.Option.{IfSome}
-use Rattle.std.proofs.lemmas.List.Elements.{All-push}
-use Rattle.verilog_pre.specs.declared.macro_body.Macro.{Macro}
+use Rattle.std.proofs.Common.{◌≤◌, ◌<◌, length, ap, ◌∙◌, arith}
 use Rattle.verilog_pre.specs.Tables.{table_of, found}
 use Rattle.verilog_pre.proofs.Words.{table_none, push_none}
 use Rattle.verilog_pre.proofs.table.fill.Goals as goal

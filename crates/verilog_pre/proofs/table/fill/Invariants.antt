@@ -1,4 +1,4 @@
-use Rattle.std.proofs.Common.{◌≡◌, ◌+◌, ◌-◌, ◌<◌, length}
+use Rattle.std.proofs.Common.{◌≡◌, ◌+◌, ◌-◌, length}
 use Rattle.verilog_pre.specs.Tables.{table_of, Sound}
 use Rattle.verilog_pre.proofs.table.fill.Given as goal
 

@@ -1,4 +1,3 @@
-use Rattle.std.proofs.Common.{◌≡◌}
 use Rattle.verilog_pre.specs.Views.{parts_of}
 use Rattle.verilog_pre.proofs.Parts.{same_parts}
 use Rattle.verilog_pre.proofs.table.number_of.Goals as goal

@@ -1,4 +1,4 @@
-use Rattle.std.proofs.Common.{◌≡◌, List, ℕ, sym, ap, subst, ◌∙◌}
+use Rattle.std.proofs.Common.{List, ℕ, sym, ap, subst, ◌∙◌}
 use Rattle.ls_text.specs.Texts.{IsIdOf}
 use Rattle.verilog_pre.specs.Tables.{table_of, with_macro}
 use Rattle.verilog_pre.proofs.Words.{table_set}
