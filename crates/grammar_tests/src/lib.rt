@@ -2,9 +2,13 @@
 #![tactic(auto)]
 
 #[cfg(test)]
+mod fault_rows;
+#[cfg(test)]
 mod reading;
 #[cfg(test)]
 mod tests;
+#[cfg(test)]
+mod tree_rows;
 #[cfg(test)]
 mod written;
 #[cfg(test)]
