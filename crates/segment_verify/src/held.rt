@@ -388,10 +388,7 @@ fn closed_and_given_up<L: Ledger, R: Abort>(rt: &R, alloc: Global, blank: Blank)
     // An open, a run, a reload, a claim, the close and the release.
     assert_eq!(rt; history.entries().len(), 6);
     let by = Who::Worker(7);
-    assert_eq!(rt;
-        history.entries()[5],
-        Entry::Release { ticket: 1, by }
-    );
+    assert_eq!(rt; history.entries()[5], Entry::Release { ticket: 1, by });
     Ok(())
 }
 
