@@ -1,15 +1,15 @@
 -- What one turn of the session asks and gives, and what joins keep.
-use Rattle.std.proofs.Common.{◌≡◌, ℕ, Bool, true, false, List, [], ◌∷◌, ◌++◌, Some, refl, sym, ap, ◌∙◌, subst}
+use Rattle.std.proofs.Common.{◌≡◌, true, false, List, [], ◌∷◌, ◌++◌, Some, refl, sym, ap, ◌∙◌, subst}
 use Rattle.book_history.specs.declared.who.Who.{Who}
 use Rattle.book_history.specs.declared.who.Who.TheVariants.{Session, Worker}
 use Rattle.book_history.specs.Book.{Event, Opened, Ran, Reloaded, Claimed, Installed, Released, Shown, Closed}
 use Rattle.book_history.specs.Journal.{Journal}
 use Rattle.book_history.specs.Owned.{is_owned, owned, added, IsPrefix}
-use Rattle.book_history.specs.Rooms.{Counts, count, counted, count_all, no_entry}
+use Rattle.book_history.specs.Rooms.{Counts, counted, count_all, no_entry}
 use Rattle.book_history.specs.Tickets.{kept, MayAdd}
 use Rattle.book_turn.specs.Known.{Known, begun, entered, left, not_alone, joined}
 use Rattle.book_turn.specs.Rule.{MayLeave, Learned}
-use Rattle.book_turn.proofs.Callers.{may_leave_one, may_leave_none, tickets_one, tickets_none}
+use Rattle.book_turn.proofs.Callers.{may_leave_one, tickets_one}
 use Rattle.book_turn.proofs.Histories.{added_append, prefix_refl, prefix_trans}
 use Rattle.checkpoint_book.specs.Views.{counts_of}
 use Rattle.segment_verify.specs.Workers.{is_closed, IsFree}

@@ -1,5 +1,5 @@
 -- What the session's pass knows before, while and after workers run beside it.
-use Rattle.std.specs.Prelude.{◌≡◌, List, [], ◌∷◌, ◌++◌}
+use Rattle.std.specs.Prelude.{◌≡◌, [], ◌∷◌, ◌++◌}
 use Rattle.book_history.specs.Book.{Closed}
 use Rattle.book_history.specs.Owned.{IsPrefix}
 use Rattle.book_turn.specs.Known.{Known, not_alone}
