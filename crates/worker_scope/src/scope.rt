@@ -19,9 +19,10 @@ use std::thread;
 use std::thread::{PromisedHandle, Scope, Threads};
 
 /// Has so many workers, numbered from 0, run beside the session's work, and closes the book behind it. The answer is the
-/// session's pass, with what all workers have seen, and that of the work.
+/// session's pass and that of the work.
 ///
-/// A worker that can't be started is left out. All that were started have ended.
+/// Where a worker can't be started, the session goes on with those before it. All that were started have ended, and each one's
+/// pass is joined into the session's.
 pub fn with_workers<'s, M: Machine, G: Gate, W: SessionWork<M>, R: Threads + Wait + Sync>(
     rt: &'s R,
     alloc: Global,
