@@ -37,11 +37,11 @@ fill [] xs env = env
 fill (s ∷ ss) [] env = env
 fill (s ∷ ss) (x ∷ xs) env = put (fill ss xs env) s x
 
--- registers and inputs as given, all else 0
+-- registers and inputs as given, all else 0: a variable keeps its value between assignments (3.2.2)
 abbrev pub base : Flat → List ℕ → List ℕ → Valuation
 base design state inputs = fill design.registers state (fill design.inputs inputs (λ s. 0))
 
--- all nodes at once; what no node drives is as in `base`
+-- all nodes at once (6.1.2, 9.7.5, 11.6.1); what no node drives is as in `base`
 abbrev pub round : Flat → List ℕ → List ℕ → Valuation → Valuation
 round design state inputs v = round_by drive design.nodes v (base design state inputs)
 
@@ -49,10 +49,11 @@ abbrev pub repeated : ℕ → (Valuation → Valuation) → Valuation → Valuat
 repeated zero f v = v
 repeated (suc n) f v = f (repeated n f v)
 
--- the settled wires: as many rounds as there are nodes, from all wires 0
+-- the settled wires, where no event is active any more (11.3): as many rounds as there are nodes, from all wires 0
 unfoldable pub wires : Flat → List ℕ → List ℕ → Valuation
 wires design state inputs = repeated (length design.nodes) (round design state inputs) (base design state inputs)
 
+-- no node would change it: nothing is left to evaluate (11.3)
 abbrev pub Satisfies : Flat → List ℕ → List ℕ → Valuation → Type 0
 Satisfies design state inputs v = round design state inputs v ≡ v
 
@@ -61,7 +62,7 @@ pub record IsSound (design : Flat) : Type 0 where
   pub one_driver : OneDriver design.nodes
   pub complete : Each IsComplete design.nodes
 
--- the updates of all clocked blocks, over the settled wires and the old registers
+-- the updates of all clocked blocks, over the settled wires and the old registers (9.2.2, 11.3)
 abbrev pub all_pending : List SizedStmt → Valuation → List Update
 all_pending [] env = []
 all_pending (st ∷ sts) env = pending st env ++ all_pending sts env
@@ -75,11 +76,11 @@ WritesRegisters registers (st ∷ sts) = Each (λ s. Member s registers) (later_
 abbrev pub IsReady : Flat → List ℕ → List ℕ → Valuation → Type 0
 IsReady design state inputs env = (s i : ℕ) → any_drives node_drives design.nodes s i ≡ false → look env s i ≡ look (base design state inputs) s i
 
--- the registers at the beginning
+-- the registers at the beginning: the values of their declarations (6.2.1), else 0, which is this project's own
 abbrev pub reset : Flat → List ℕ
 reset design = map (initial_at design) design.registers
 
--- the registers after one cycle
+-- the registers after one cycle: an edge of the clock (9.7.2), the blocks that wait for it, and then their updates (9.2.2)
 unfoldable pub step : Flat → List ℕ → List ℕ → List ℕ
 step design state inputs =
     let v = wires design state inputs in map (all_applied (all_pending design.clocked v) v) design.registers
@@ -90,11 +91,11 @@ cut_to [] xs = []
 cut_to (w ∷ ws) [] = 0 ∷ cut_to ws []
 cut_to (w ∷ ws) (x ∷ xs) = x % 2 ^ w ∷ cut_to ws xs
 
--- the data inputs that a row gives, each modulo 2 ^ width
+-- the data inputs that a row gives, each modulo 2 ^ width, as an assignment cuts (5.6); rows are this project's own
 abbrev pub input : Flat → List ℕ → List ℕ
 input design row = cut_to (map (width_at design) design.inputs) row
 
--- the state after n cycles, from cycle `a` on
+-- the state after n cycles, from cycle `a` on: cycle after cycle, which is this project's own
 abbrev pub seg : Flat → (ℕ → List ℕ) → ℕ → ℕ → List ℕ → List ℕ
 seg design rows a zero state = state
 seg design rows a (suc n) state = step design (seg design rows a n state) (input design (rows (a + n)))
