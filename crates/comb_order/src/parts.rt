@@ -9,9 +9,9 @@ ghost use Rattle.typed_ir.specs.Orders.{Each};
 ghost use Rattle.typed_ir.specs.Views.{widths};
 ghost use Rattle.comb_order.specs.Parts.{has_block, are_distinct, none_in, blocks_in, rows_apart, are_undriven};
 
+use crate::belonging::{are_distinct, members_of, none_in, write_registers};
 use crate::drivers::{Driver, drivers_of};
 use crate::legal::{are_below, are_clocked, are_legal};
-use crate::members::{are_distinct, none_in, write_registers};
 use crate::undriven::{are_undriven, rows_apart};
 use bits::Bits;
 use no_memory::NoMemory;
@@ -66,16 +66,20 @@ fn are_sized(parts: &Parts, env: &[Bits]) -> bool
 }
 
 // Whether registers and data inputs are apart, each once, and clocked blocks write registers alone.
-fn are_held(parts: &Parts) -> bool
-    ensures { result ≡ (are_distinct parts.now.registers.items
+fn are_held(alloc: Global, parts: &Parts) -> Result<bool, NoMemory>
+    ensures { IfOk result (λ held. held ≡ (are_distinct parts.now.registers.items
         && (are_distinct parts.now.inputs.items
         && (none_in parts.now.inputs.items parts.now.registers.items
-        && blocks_in parts.now.registers.items (map stmt_of parts.now.clocked.items)))) }
+        && blocks_in parts.now.registers.items (map stmt_of parts.now.clocked.items))))) }
 {
-    are_distinct(&parts.registers)
-        && (are_distinct(&parts.inputs)
-            && (none_in(&parts.inputs, &parts.registers)
-                && write_registers(&parts.clocked, &parts.registers)))
+    let once = are_distinct(alloc, &parts.registers)?;
+    let once_too = are_distinct(alloc, &parts.inputs)?;
+    let registers = members_of(alloc, &parts.registers)?;
+    let inputs = members_of(alloc, &parts.inputs)?;
+    Ok(
+        once && (once_too
+            && (none_in(&inputs, &parts.registers) && write_registers(&parts.clocked, &registers))),
+    )
 }
 
 // Whether no bit has two drivers, and registers and data inputs have none.
@@ -97,7 +101,11 @@ pub fn flat_of(alloc: Global, parts: Parts) -> Result<Option<Flat>, NoMemory>
         flat design ≡ flat_from parts.signals.items parts.registers.items parts.inputs.items parts.nodes.items parts.clocked.items)) }
 {
     let env = zeros(alloc, &parts.signals)?;
-    if !are_sized(&parts, &env) || !are_held(&parts) {
+    if !are_sized(&parts, &env) {
+        return Ok(None);
+    }
+    let held = are_held(alloc, &parts)?;
+    if !held {
         return Ok(None);
     }
     let table = drivers_of(alloc, &parts.nodes, parts.signals.len())?;

@@ -28,7 +28,7 @@ invariant_of-result c =
     (subst (λ (w : List ℕ). (are_legal (map node_of nodes) w && (are_clocked clocked w && (are_below registers (length signals) && are_below inputs (length signals)))) ≡ true)
     widths_are (sym c.are_sized.ensures ∙ c.if-not-are_sized.false)) in
     let held : All4 (are_distinct registers) (are_distinct inputs) (none_in inputs registers) (blocks_in registers (map stmt_of clocked)) =
-    all_four _ _ _ _ (sym c.are_held.ensures ∙ c.if-not-are_held.false) in
+    all_four _ _ _ _ (sym c.in_ok-held.ensures ∙ c.if-not-held.false) in
     let count : c.len.result ≡ length signals = search (rules, c.len.ensures) in
     let is : IsTable (map node_of nodes) table =
     parts_table signals (map node_of nodes) table sized.one (c.in_ok-table.ensures.length ∙ count)

@@ -1,0 +1,63 @@
+-- Sets of the numbers of a list.
+use Rattle.std.proofs.Common.{◌≡◌, ℕ, zero, suc, ◌+◌, ◌<◌, Bool, true, false, not, ◌&&◌, ◌||◌, ◌==◌, cond, List, [], ◌∷◌, length, get_or, drop, refl, sym, ◌∙◌, ap, ap₂, true≢false}
+use Rattle.std.proofs.lemmas.Bool.{eqb-true, eq-eqb}
+use Rattle.typed_ir.proofs.Cases.{by_cases}
+use Rattle.typed_ir.proofs.Lists.{drop_split}
+use Rattle.comb_order.specs.Parts.{is_member, are_distinct}
+
+swap : (x q : ℕ) → (x == q) ≡ (q == x)
+swap x q = by_cases (x == q)
+    (λ t. t ∙ sym (eq-eqb q x (sym (eqb-true x q t))))
+    (λ f. f ∙ sym (by_cases (q == x) (λ t. absurd (true≢false (sym (eq-eqb x q (sym (eqb-true q x t))) ∙ f))) (λ g. g)))
+
+pub or_false : (b : Bool) → (b || false) ≡ b
+or_false true = refl
+or_false false = refl
+
+mix : (b c m : Bool) → (cond b true c || m) ≡ (c || (b || m))
+mix true true m = refl
+mix true false m = refl
+mix false c m = refl
+
+-- one more number of the list in the set
+pub one_more : (xs : List ℕ) (i q : ℕ) (c : Bool) → i < length xs
+    → (cond (get_or xs i 0 == q) true c || is_member q (drop (i + 1) xs)) ≡ (c || is_member q (drop i xs))
+one_more xs i q c h =
+    mix (get_or xs i 0 == q) c (is_member q (drop (i + 1) xs))
+    ∙ ap (λ b. c || (b || is_member q (drop (i + 1) xs))) (swap (get_or xs i 0) q)
+    ∙ ap (λ zs. c || is_member q zs) (sym (drop_split xs i 0 h))
+
+joined : (b m : Bool) → cond b true m ≡ (b || m)
+joined true m = refl
+joined false m = refl
+
+-- from the end
+pub one_before : (xs : List ℕ) (i q : ℕ) → i < length xs → cond (get_or xs i 0 == q) true (is_member q (drop (i + 1) xs)) ≡ is_member q (drop i xs)
+one_before xs i q h =
+    joined (get_or xs i 0 == q) (is_member q (drop (i + 1) xs))
+    ∙ ap (λ b. b || is_member q (drop (i + 1) xs)) (swap (get_or xs i 0) q)
+    ∙ ap (is_member q) (sym (drop_split xs i 0 h))
+
+pub still_distinct : (xs : List ℕ) (i : ℕ) → i < length xs → is_member (get_or xs i 0) (drop (i + 1) xs) ≡ false → are_distinct (drop (i + 1) xs) ≡ true
+    → are_distinct (drop i xs) ≡ true
+still_distinct xs i h new rest = ap are_distinct (drop_split xs i 0 h) ∙ ap₂ (λ (a b : Bool). not a && b) new rest
+
+pub twice : (xs : List ℕ) (i : ℕ) → i < length xs → is_member (get_or xs i 0) (drop (i + 1) xs) ≡ true → are_distinct xs ≡ false
+twice xs i h old = later xs i (ap are_distinct (drop_split xs i 0 h) ∙ ap (λ a. not a && are_distinct (drop (i + 1) xs)) old)
+  where
+    and_false : (a b : Bool) → b ≡ false → (a && b) ≡ false
+    and_false true b e = e
+    and_false false b e = refl
+
+    later : (ys : List ℕ) (j : ℕ) → are_distinct (drop j ys) ≡ false → are_distinct ys ≡ false
+    later ys zero e = e
+    later [] (suc j) e = e
+    later (y ∷ ys) (suc j) e = and_false (not (is_member y ys)) (are_distinct ys) (later ys j e)
+
+pub not_true : (b : Bool) → not b ≡ true → b ≡ false
+not_true true h = sym h
+not_true false h = refl
+
+pub not_false : (b : Bool) → not b ≡ false → b ≡ true
+not_false true h = refl
+not_false false h = sym h

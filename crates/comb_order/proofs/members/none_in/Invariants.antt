@@ -1,6 +1,0 @@
-use Rattle.std.proofs.Common.{◌≡◌, drop}
-use Rattle.comb_order.specs.Parts.{none_in}
-use Rattle.comb_order.proofs.members.none_in.Given as goal
-
-abbrev pub invariant-loop-x : goal.invariant-loop-x
-invariant-loop-x l = none_in l.all (drop l.x-index l.xs) ≡ none_in l.all l.xs
