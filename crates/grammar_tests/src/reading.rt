@@ -18,6 +18,9 @@ use verilog_pre::Piece;
 fn tokens_of(alloc: Global, names: &mut Names, text: &[u8]) -> Result<Option<Vec<Token>>, NoMemory>
     ensures { IfOk result (λ read. IfSome read (λ tokens. EndsOnce tokens.items × All (λ t. t.text.0 < length names.new) tokens.items)) }
 {
+    if text.len() > 4_194_304 {
+        return Ok(None);
+    }
     let file = SourceFile {
         name: names.intern(b"a.v")?,
         text: TextBytes::new(Vec::from_slice(alloc, text)?),
@@ -104,7 +107,7 @@ pub fn spelled(alloc: Global, text: &[u8]) -> Result<Vec<u8>, NoMemory> {
             }
         }
         Err(Refusal::NoMemory) => return Err(NoMemory),
-        Err(Refusal::Fault(_)) => {}
+        Err(Refusal::Fault(_fault)) => {}
     }
     Ok(out)
 }
@@ -185,7 +188,7 @@ pub fn places(alloc: Global, text: &[u8]) -> Result<Vec<u8>, NoMemory> {
             }
         }
         Err(Refusal::NoMemory) => return Err(NoMemory),
-        Err(Refusal::Fault(_)) => {}
+        Err(Refusal::Fault(_fault)) => {}
     }
     Ok(out)
 }
