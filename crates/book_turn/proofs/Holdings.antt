@@ -3,6 +3,7 @@ use Rattle.std.proofs.Common.{◌≡◌, ◌≢◌, ℕ, Bool, true, false, true
 use Rattle.std.proofs.lemmas.Bool.{eqb-true, eq-eqb}
 use Rattle.book_history.specs.Event.{Event, Opened, Ran, Reloaded, Claimed, Installed, Released, Shown, Closed}
 use Rattle.book_history.specs.Tickets.{is_among, without, draws, uses, is_drawn, is_used, IsOut, AreOut, kept, kept_all, MayAdd, MayAddAll}
+use Rattle.book_turn.specs.Rule.{AreOnce}
 
 or_assoc : (a b c : Bool) → (a || b) || c ≡ a || (b || c)
 or_assoc true b c = refl
@@ -44,6 +45,15 @@ among_without n k (m ∷ ms) e = go (eqb m k) refl (among_without n k ms) e
     go : (b : Bool) → eqb m k ≡ b → (is_among n (without k ms) ≡ true → (is_among n ms ≡ true) × (n ≢ k)) → is_among n (if b then without k ms else m ∷ without k ms) ≡ true → ((eqb n m || is_among n ms) ≡ true) × (n ≢ k)
     go true t more e = let r = more e in (or_right (eqb n m) (is_among n ms) r.0, r.1)
     go false t more e = here (eqb n m) refl t more e
+
+-- taking a ticket out leaves the others once each
+without_once : (k : ℕ) (ts : List ℕ) → AreOnce ts → AreOnce (without k ts)
+without_once k [] o = tt
+without_once k (m ∷ ms) o = go (eqb m k) (without_once k ms o.1)
+  where
+    go : (b : Bool) → AreOnce (without k ms) → AreOnce (if b then without k ms else m ∷ without k ms)
+    go true r = r
+    go false r = (not_true (is_among m (without k ms)) (λ s. true≢false (sym (among_without m k ms s).0 ∙ o.0)), r)
 
 module _ {D R O : Type 0} where
   pub drawn_append : (n : ℕ) (xs ys : List (Event D R O)) → is_drawn n (xs ++ ys) ≡ is_drawn n xs || is_drawn n ys
@@ -98,6 +108,17 @@ module _ {D R O : Type 0} where
   theirs h ts (Shown s) may n o a = (stays_out n h _ refl o, a)
   theirs h ts Closed may n o a = (stays_out n h _ refl o, a)
 
+  -- a ticket that is drawn is new, so the holder has none twice
+  once_kept : (h : List (Event D R O)) (ts : List ℕ) (e : Event D R O) → MayAdd h ts e → AreOut ts h → AreOnce ts → AreOnce (kept ts e)
+  once_kept h ts (Opened v m) may o once = once
+  once_kept h ts (Ran k rows) may o once = once
+  once_kept h ts (Reloaded v m ops from) may o once = once
+  once_kept h ts (Claimed k x y by) may o once = (not_true (is_among k ts) (λ t. true≢false (sym (o k t).drawn ∙ may.0)), once)
+  once_kept h ts (Installed k j by) may o once = without_once k ts once
+  once_kept h ts (Released k by) may o once = without_once k ts once
+  once_kept h ts (Shown s) may o once = once
+  once_kept h ts Closed may o once = once
+
   pub all_mine : (h : List (Event D R O)) (ts : List ℕ) (es : List (Event D R O)) → MayAddAll h ts es → AreOut ts h → AreOut (kept_all ts es) (h ++ es)
   all_mine h ts [] may o = subst (λ l. AreOut ts l) (sym (append-nil h)) o
   all_mine h ts (e ∷ es) may o = subst (λ l. AreOut (kept_all (kept ts e) es) l) (append_assoc h (e ∷ []) es) (all_mine (h ++ e ∷ []) (kept ts e) es may.1 (mine h ts e may.0 o))
@@ -108,3 +129,7 @@ module _ {D R O : Type 0} where
       let s = theirs h ts e may.0 n o a in
       let r = all_theirs (h ++ e ∷ []) (kept ts e) es may.1 n s.0 s.1 in
       (subst (λ l. IsOut n l) (append_assoc h (e ∷ []) es) r.0, r.1)
+
+  pub all_once : (h : List (Event D R O)) (ts : List ℕ) (es : List (Event D R O)) → MayAddAll h ts es → AreOut ts h → AreOnce ts → AreOnce (kept_all ts es)
+  all_once h ts [] may o once = once
+  all_once h ts (e ∷ es) may o once = all_once (h ++ e ∷ []) (kept ts e) es may.1 (mine h ts e may.0 o) (once_kept h ts e may.0 o once)

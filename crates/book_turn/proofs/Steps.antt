@@ -12,7 +12,7 @@ use Rattle.book_history.specs.Tickets.{is_among, IsOut, AreOut}
 use Rattle.book_turn.specs.Known.{Known, opening, begun, entered, left, not_alone, worker_of, joined, spent}
 use Rattle.book_turn.specs.Rule.{IsAt, Fits, Apart, EachFits, EachApart, EachBegins, HasBook, MayLeave, Learned, Ruled}
 use Rattle.book_turn.proofs.Histories.{prefix_refl, prefix_trans, added_is, longer_prefix, longer_whole, longer_begins, owned_append, all_owned, none_owned}
-use Rattle.book_turn.proofs.Holdings.{all_mine, all_theirs}
+use Rattle.book_turn.proofs.Holdings.{all_mine, all_theirs, all_once}
 
 module _ {A : Type 0} where
   at_here : (l : List A) (i : ℕ) (a b : A) → get_elem? l i ≡ some a → get_elem? (set l i b) i ≡ some b
@@ -108,7 +108,7 @@ module _ {T D R O : Type 0} (journal : T → Journal D R O) where
       at_first (suc j) u e = absurd (some-ne-none u (sym e))
 
       fits : Fits {D = D} {R = R} {O = O} true 0 0 None [] 0 opening
-      fits = record { begins = ([], refl); hears = tt; carries = refl; holding = λ _. (refl, refl, refl); own = λ _. (refl, refl); whole = λ _. refl; are_out = λ n a. absurd (true≢false (sym a)) }
+      fits = record { begins = ([], refl); hears = tt; carries = refl; holding = λ _. (refl, refl, refl); own = λ _. (refl, refl); whole = λ _. refl; are_out = λ n a. absurd (true≢false (sym a)); once = tt }
 
       each : EachFits {D = D} {R = R} {O = O} true 0 0 None [] (opening ∷ [])
       each j u e l = let x = at_first j u e in subst (λ (y : ℕ × Known D R O). Fits true 0 0 None [] y.0 y.1) (λ i. (sym x.0 i, x.1 i)) fits
@@ -136,6 +136,7 @@ module _ {T D R O : Type 0} (journal : T → Journal D R O) where
         own = λ _. (own.0, refl);
         whole = λ _. refl;
         are_out = λ m a. absurd (true≢false (sym a));
+        once = tt;
       } in (
         w,
         after items views p v w r at live false r.holder (Some j.settings) j.events (items ++ x ∷ []) place fits
@@ -175,6 +176,7 @@ module _ {T D R O : Type 0} (journal : T → Journal D R O) where
         );
         whole = λ _. refl;
         are_out = subst (λ l. AreOut w.tickets l) whole (all_mine v.seen v.tickets es may.tickets out);
+        once = all_once v.seen v.tickets es may.tickets out f.once;
       } in (
         w,
         after items views p v w r at live false r.holder r.settings j.events (items ++ x ∷ []) place fits
@@ -194,6 +196,7 @@ module _ {T D R O : Type 0} (journal : T → Journal D R O) where
                 );
                 whole = λ y. absurd (a.lone y);
                 are_out = λ m t. subst (λ h. IsOut m h) whole (still m t).0;
+                once = old.once;
               },
               record { lone = a.lone; tickets = λ m t. (still m t).1 },
               record { lone = b.lone; tickets = λ m t s. (still m s).1 t },
@@ -221,6 +224,7 @@ module _ {T D R O : Type 0} (journal : T → Journal D R O) where
         own = f.own;
         whole = λ _. one.3;
         are_out = f.are_out;
+        once = f.once;
       } in (
         w,
         after (x ∷ items) views p v w r at live true p r.settings r.history items (subst (λ l. IsAt journal true r.settings r.history l) (sym one.0) refl) fits
@@ -233,6 +237,7 @@ module _ {T D R O : Type 0} (journal : T → Journal D R O) where
                 own = old.own;
                 whole = old.whole;
                 are_out = old.are_out;
+                once = old.once;
               },
               record { lone = a.lone; tickets = a.tickets },
               record { lone = b.lone; tickets = b.tickets },
@@ -288,6 +293,7 @@ module _ {T D R O : Type 0} (journal : T → Journal D R O) where
         own = f.own;
         whole = λ a. absurd (true≢false (sym a));
         are_out = f.are_out;
+        once = f.once;
       } in
       let beside : Ruled journal items (set views p w) = after items views p v w r at live r.out r.holder r.settings r.history items r.place fits
       (λ k u other l old a b. (old, record { lone = a.lone; tickets = a.tickets }, record { lone = λ y. true≢false (sym y); tickets = b.tickets }))
@@ -300,6 +306,7 @@ module _ {T D R O : Type 0} (journal : T → Journal D R O) where
         own = λ s. absurd (true≢false (sym s));
         whole = λ a. absurd (true≢false (sym a));
         are_out = λ n a. absurd (true≢false (sym a));
+        once = tt;
       } in
       joins_in items (set views p w) (worker_of v) beside new
       (λ j u e l. ⊎_elim (λ (x : (j ≡ p) × (w ≡ u)). λ a. true≢false (sym (ap (λ (z : Known D R O). z.alone) x.1 ∙ a)))
@@ -345,6 +352,7 @@ module _ {T D R O : Type 0} (journal : T → Journal D R O) where
         own = f.own;
         whole = λ a. longer_whole v.seen u.seen r.history (f.whole a) g.begins;
         are_out = f.are_out;
+        once = f.once;
       } in
       let both : Ruled journal items (set views p w) = after items views p v w r at live r.out r.holder r.settings r.history items r.place fits
       (λ k y other l old a b. (old, record { lone = a.lone; tickets = a.tickets }, record { lone = b.lone; tickets = b.tickets }))

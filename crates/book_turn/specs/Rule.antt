@@ -14,6 +14,11 @@ IsAt journal out st h [] = out ≡ true
 IsAt journal out st h (b ∷ []) = (out ≡ false) × (st ≡ Some (journal b).settings) × ((journal b).events ≡ h)
 IsAt journal out st h (b ∷ c ∷ rest) = ⊥
 
+-- no ticket stands twice in the list
+abbrev pub AreOnce : List ℕ → Type 0
+AreOnce [] = Unit {0}
+AreOnce (n ∷ ns) = (is_among n ns ≡ false) × AreOnce ns
+
 -- the list begins with each of these
 abbrev pub EachBegins : {E : Type 0} → List (List E) → List E → Type 0
 EachBegins [] ys = Unit {0}
@@ -29,6 +34,7 @@ module _ {D R O : Type 0} where
     pub own : u.session ≡ true → (port ≡ session) × (u.own ≡ owned h)
     pub whole : u.alone ≡ true → u.seen ≡ h
     pub are_out : AreOut u.tickets h
+    pub once : AreOnce u.tickets
 
   -- of two passes: the one is not alone, and no ticket is of both
   pub record Apart (u v : Known D R O) : Type 0 where
