@@ -3,19 +3,21 @@ use ls_port::{Gate, GateStep};
 use std::sync::atomic::{AtomicBool, AtomicU64, Ordering};
 use std::thread::yield_now;
 
-/// Holds the first ticket that reaches Install until another one reaches it, for 1,000,000,000 turns at most. Tickets are
+/// Holds the first ticket that reaches a step until another one reaches it, for 1,000,000,000 turns at most. Tickets are
 /// numbered from 1, and 0 stands for none.
 #[derive(Drop)]
 pub struct Meeting {
+    step: GateStep,
     first: AtomicU64,
     second: AtomicU64,
     missed: AtomicBool,
 }
 
 impl Meeting {
-    /// Nobody has come yet.
-    pub fn new() -> Meeting {
+    /// The meeting before this step. Nobody has come yet.
+    pub fn at(step: GateStep) -> Meeting {
         Meeting {
+            step,
             first: AtomicU64::new(0),
             second: AtomicU64::new(0),
             missed: AtomicBool::new(false),
@@ -56,9 +58,8 @@ impl Meeting {
 
 impl Gate for Meeting {
     fn before(&self, ticket: u64, step: GateStep) {
-        match step {
-            GateStep::Verify => {}
-            GateStep::Install => self.reach(ticket),
+        if step == self.step {
+            self.reach(ticket);
         }
     }
 }

@@ -17,7 +17,7 @@ use book_history::rooms::Rooms;
 use book_history::version::Version;
 use book_turn::Turn;
 use checkpoint_book::book::Book;
-use ls_port::{Gate, OpenGate};
+use ls_port::{Gate, GateStep, OpenGate};
 use machine::Machine;
 use machine::row_run::RowRun;
 use machine::row_runs::RowRuns;
@@ -201,10 +201,16 @@ fn eight_workers_beside_a_thousand_reloads(rt: HostRuntime) -> Result<(), Fail> 
     Ok(())
 }
 
-/// Two tickets reach Install before either is installed, so both were verified outside of the turn, and in two threads.
-fn meet<R: Threads + Wait + Sync + Abort>(rt: &R, alloc: Global, workers: u16) -> Result<(), Fail> {
+/// Two tickets reach this step before either is behind it, so the book was free while the first one waited there, and a
+/// second thread worked on the other.
+fn meet<R: Threads + Wait + Sync + Abort>(
+    rt: &R,
+    alloc: Global,
+    workers: u16,
+    step: GateStep,
+) -> Result<(), Fail> {
     let book = edited::<Brand>(alloc, Blank::new(1))?;
-    let gate = Meeting::new();
+    let gate = Meeting::at(step);
     let (book, settled) = beside(rt, alloc, book, workers, &gate, Asking { times: TIMES })?;
     assert!(rt; settled);
     assert_eq!(rt; *last(&book)?, 32);
@@ -221,13 +227,23 @@ fn meet<R: Threads + Wait + Sync + Abort>(rt: &R, alloc: Global, workers: u16) -
 }
 
 #[test]
-fn a_ticket_waits_for_that_of_the_other_worker(rt: HostRuntime) -> Result<(), Fail> {
-    meet(&rt, rt.alloc(), 2)
+fn a_ticket_waits_at_install_for_that_of_the_other_worker(rt: HostRuntime) -> Result<(), Fail> {
+    meet(&rt, rt.alloc(), 2, GateStep::Install)
 }
 
 #[test]
-fn a_ticket_waits_for_that_of_another_worker(rt: HostRuntime) -> Result<(), Fail> {
-    meet(&rt, rt.alloc(), 8)
+fn a_ticket_waits_at_install_for_that_of_another_worker(rt: HostRuntime) -> Result<(), Fail> {
+    meet(&rt, rt.alloc(), 8, GateStep::Install)
+}
+
+#[test]
+fn a_ticket_waits_at_verify_for_that_of_the_other_worker(rt: HostRuntime) -> Result<(), Fail> {
+    meet(&rt, rt.alloc(), 2, GateStep::Verify)
+}
+
+#[test]
+fn a_ticket_waits_at_verify_for_that_of_another_worker(rt: HostRuntime) -> Result<(), Fail> {
+    meet(&rt, rt.alloc(), 8, GateStep::Verify)
 }
 
 /// The version of this number for the machine that adds the number and 2, and whether it refuses once.
