@@ -1,12 +1,13 @@
 // The tokens of pieces.
-ghost use Rattle.std.specs.Prelude.{◌≡◌, ◌<◌, ◌≤◌, ◌++◌, ◌∷◌, [], length, map, codes, IfOk, IfErr, IfSome};
+ghost use Rattle.std.specs.Prelude.{◌≡◌, ◌<◌, ◌≤◌, ◌++◌, ◌∷◌, [], List, Result, length, map, codes, IfOk, IfErr, IfSome};
 ghost use Rattle.std.specs.Option.{option_map};
 ghost use Rattle.std.specs.List.{All};
 ghost use Rattle.ls_text.specs.Texts.{Grows};
-ghost use Rattle.source_text.specs.Faults.{Gives, CanShow};
+ghost use Rattle.source_text.specs.Faults.{TextFault, Gives, CanShow};
 ghost use Rattle.verilog_lex.specs.Ends.{EndsOnce};
 ghost use Rattle.verilog_lex.specs.Numbers.{decimal_literal};
-ghost use Rattle.verilog_lex.specs.Tokens.{plain, number_at, first_part, token_at, taken, tokens_from, lexeme_tokens, end_place, tokens};
+ghost use Rattle.verilog_lex.specs.Readings.{Reads};
+ghost use Rattle.verilog_lex.specs.Tokens.{Said, plain, number_at, first_part, token_at, taken, tokens_from, lexeme_tokens, end_place, tokens};
 ghost use Rattle.verilog_lex.specs.Views.{said, IsNamed, lexeme, left, part_view, Turns};
 
 use crate::cursor::Cursor;
@@ -195,14 +196,9 @@ fn with_end(
     Ok(tokens)
 }
 
-/// The tokens of the pieces of these files, or the first fault: 13 for a byte that begins no token, 14 for a
-/// number whose digits stand for none.
-///
-/// A token is the longest one at its place, and none crosses the end of a piece; but a plain decimal takes the
-/// based part that comes next. White space and attributes stand between tokens. The list ends with its only End,
-/// which has the place after the last byte of the last file.
+// The tokens of the pieces of these files, or the first fault, by the walk over them.
 #[tactic(auto, unfolding(crate::specs::Tokens::tokens))]
-pub fn lex(
+fn tokens_of(
     alloc: Global,
     names: &mut Names,
     files: &[SourceFile],
@@ -227,4 +223,30 @@ pub fn lex(
         Ok(tokens) => Ok(with_end(names, files, tokens)?),
         Err(refusal) => Err(refusal),
     }
+}
+
+/// The tokens of the pieces of these files, or the first fault: 13 for a byte that begins no token, 14 for a
+/// number whose digits stand for none.
+///
+/// A token is the longest one at its place, and none crosses the end of a piece; but a plain decimal takes the
+/// based part that comes next. White space and attributes stand between tokens. The list ends with its only End,
+/// which has the place after the last byte of the last file.
+pub fn lex(
+    alloc: Global,
+    names: &mut Names,
+    files: &[SourceFile],
+    pieces: &[Piece],
+) -> Result<Vec<Token>, Refusal>
+    requires { length files.now ≤ 256 }
+    ensures tokens { Gives names.new (λ ts. map (said names.new) ts.items) result (tokens files.now pieces.now) }
+
+    // It is the one reading of whole pieces that the relation on them has.
+    ensures reads { (read : Result (List Said) TextFault) × Reads files.now pieces.now read
+        × Gives names.new (λ ts. map (said names.new) ts.items) result read }
+    ensures named { IfOk result (λ ts. All (IsNamed (length names.new)) ts.items) }
+    ensures ends { IfOk result (λ ts. EndsOnce ts.items) }
+    ensures known { IfErr result (CanShow (length names.new)) }
+    ensures grows { Grows names.old names.new }
+{
+    tokens_of(alloc, names, files, pieces)
 }

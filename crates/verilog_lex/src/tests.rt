@@ -18,7 +18,7 @@ const START: Place = Place {
 
 // The tokens of one file that is one piece.
 fn read(alloc: Global, text: &[u8]) -> Result<Vec<Token>, Refusal>
-    requires { length text.now ≤ 1000 }
+    requires { length text.now ≤ 4194304 }
 {
     let mut names = Names::new(alloc);
     let file = SourceFile {
@@ -628,4 +628,89 @@ fn tokens_of_a_body_stand_at_its_use(rt: HostRuntime) {
     );
     assert!(rt; has_places(alloc, b"`define W 8\n `W'h2a x", &[(2, 2), (2, 9), (2, 10)]));
     assert!(rt; has_places(alloc, b"`define H 'hF\n4 /* */ `H", &[(2, 1), (2, 11)]));
+}
+
+// The tokens of so many lines.
+fn read_lines(alloc: Global, lines: u32) -> Result<Vec<Token>, Refusal> {
+    let mut text = Vec::new(alloc);
+    for _ in 0..lines {
+        text.extend_from_slice(b"a;\n")?;
+    }
+    if text.len() > 4_194_304 {
+        return Err(Refusal::NoMemory);
+    }
+    read(alloc, &text)
+}
+
+#[test]
+fn a_million_tokens(rt: HostRuntime) {
+    let Ok(tokens) = read_lines(rt.alloc(), 500_000) else {
+        assert!(rt; false);
+        return;
+    };
+    assert_eq!(rt; tokens.len(), 1_000_001);
+    let end = Place {
+        file: 0,
+        line: 500_001,
+        col: 1,
+    };
+    assert!(rt; matches!(tokens.last(), Some(token) if token.at == end));
+}
+
+// The line that shows the first fault of two files; an empty one where they have none.
+#[tactic(auto, using(ls_text::proofs::Growth::grown_id))]
+fn fault_of_two(alloc: Global, first: &[u8], second: &[u8]) -> Result<Vec<u8>, NoMemory>
+    requires first { length first.now ≤ 4194304 }
+    requires second { length second.now ≤ 4194304 }
+{
+    let mut names = Names::new(alloc);
+    let a = names.intern(b"a.v")?;
+    let b = names.intern(b"b.v")?;
+    let files = [
+        SourceFile {
+            name: a,
+            text: TextBytes::new(Vec::from_slice(alloc, first)?),
+        },
+        SourceFile {
+            name: b,
+            text: TextBytes::new(Vec::from_slice(alloc, second)?),
+        },
+    ];
+    match tokens_of(alloc, &mut names, &files) {
+        Ok(_) => Ok(Vec::new(alloc)),
+        Err(Refusal::NoMemory) => Err(NoMemory),
+        Err(Refusal::Fault(fault)) => fault_line(alloc, &names, &files, 0, &fault),
+    }
+}
+
+// Whether this line shows the first fault of two files.
+fn shows_of_two(alloc: Global, first: &[u8], second: &[u8], line: &[u8]) -> bool
+    requires first { length first.now ≤ 4194304 }
+    requires second { length second.now ≤ 4194304 }
+{
+    match fault_of_two(alloc, first, second) {
+        Ok(shown) => shown.as_slice() == line,
+        Err(_) => false,
+    }
+}
+
+#[test]
+fn the_first_fault_in_the_text_is_shown(rt: HostRuntime) {
+    let alloc = rt.alloc();
+    assert!(rt; shows(alloc, b"\" 4'b2", b"refused 13 BadToken a.v:1:1 -\n"));
+    assert!(rt; shows(alloc, b"4'b2 \"", b"refused 14 BadNumber a.v:1:1 -\n"));
+    assert!(rt; shows(alloc, b"8'q", b"refused 13 BadToken a.v:1:2 -\n"));
+    assert!(rt; shows(alloc, b"a \xc3\xa4", b"refused 13 BadToken a.v:1:3 -\n"));
+    assert!(rt; shows(alloc, b"always @(* /* all */ ) ;", b""));
+    // A size at the end of a file takes the based part at the beginning of the next.
+    assert!(rt; shows_of_two(alloc, b"a = 4 ", b" 'hF", b""));
+    assert!(rt;
+        shows_of_two(
+            alloc,
+            b"a = 4 ",
+            b" 'b2",
+            b"refused 14 BadNumber a.v:1:5 -\n"
+        )
+    );
+    assert!(rt; shows_of_two(alloc, b"\n", b" $", b"refused 13 BadToken b.v:1:2 -\n"));
 }

@@ -1,8 +1,10 @@
 // Reading texts and files.
-ghost use Rattle.std.specs.Prelude.{◌≡◌, ◌<◌, ◌≤◌, ◌+◌, length, slice_get, if◌then◌else◌, IfOk, IfErr, OnOk, codes};
+ghost use Rattle.std.specs.Prelude.{◌≡◌, ◌<◌, ◌≤◌, ◌+◌, List, Result, length, slice_get, if◌then◌else◌, IfOk, IfErr, OnOk, codes};
 ghost use Rattle.std.specs.List.{All};
 ghost use Rattle.ls_text.specs.Texts.{Grows};
-ghost use Rattle.source_text.specs.Faults.{Gives, CanShow};
+ghost use Rattle.source_text.specs.Faults.{TextFault, Gives, CanShow};
+ghost use Rattle.verilog_pre.specs.declared.piece.Piece.{Piece};
+ghost use Rattle.verilog_pre.specs.FileReadings.{HavePieces};
 ghost use Rattle.verilog_pre.specs.Reading.{text_read, opening_word, ended, file_read, files_from, pieces};
 ghost use Rattle.verilog_pre.specs.States.{state};
 ghost use Rattle.verilog_pre.specs.Tables.{Sound};
@@ -115,20 +117,9 @@ fn read_files(
     Ok(())
 }
 
-/// The pieces of files, or the first fault.
-///
-/// Comments, directives and skipped text are in no piece. A piece is a longest remaining run of bytes, or a part of
-/// the body of a macro that is used; a part has no white space at its ends, and the place of the use in the text.
-/// Macros carry over from file to file, conditionals don't.
-///
-/// Faults: 12 at a directive that can't be carried out, at a comment or a conditional that isn't closed; 10 at the
-/// byte or use that would pass 16,777,216 bytes of pieces or 1,048,576 uses.
+// The pieces of files, or the first fault, by the walk over them.
 #[tactic(auto, unfolding(crate::specs::Reading::pieces))]
-pub fn preprocess(
-    alloc: Global,
-    names: &mut Names,
-    files: &[SourceFile],
-) -> Result<Vec<Piece>, Refusal>
+fn pieces_of(alloc: Global, names: &mut Names, files: &[SourceFile]) -> Result<Vec<Piece>, Refusal>
     requires files { length files.now ≤ 256 }
     requires texts { All (λ f. length f.text ≤ 4194304) files.now }
     ensures pieces { Gives names.new (λ ps. ps.items) result (pieces files.now) }
@@ -148,4 +139,29 @@ pub fn preprocess(
         Ok(()) => Ok(reader.out.pieces),
         Err(refusal) => Err(refusal),
     }
+}
+
+/// The pieces of files, or the first fault.
+///
+/// Comments, directives and skipped text are in no piece. A piece is a longest remaining run of bytes, or a part of
+/// the body of a macro that is used; a part has no white space at its ends, and the place of the use in the text.
+/// Macros carry over from file to file, conditionals don't.
+///
+/// Faults: 12 at a directive that can't be carried out, at a comment or a conditional that isn't closed; 10 at the
+/// byte or use that would pass 16,777,216 bytes of pieces or 1,048,576 uses.
+pub fn preprocess(
+    alloc: Global,
+    names: &mut Names,
+    files: &[SourceFile],
+) -> Result<Vec<Piece>, Refusal>
+    requires files { length files.now ≤ 256 }
+    requires texts { All (λ f. length f.text ≤ 4194304) files.now }
+    ensures pieces { Gives names.new (λ ps. ps.items) result (pieces files.now) }
+
+    // It is the one reading of whole files that the relation on them has.
+    ensures reads { (read : Result (List Piece) TextFault) × HavePieces files.now read × Gives names.new (λ ps. ps.items) result read }
+    ensures known { IfErr result (CanShow (length names.new)) }
+    ensures grows { Grows names.old names.new }
+{
+    pieces_of(alloc, names, files)
 }

@@ -2,7 +2,7 @@
 ghost use Rattle.std.specs.Prelude.{◌≤◌, length};
 
 use super::*;
-use ls_text::{Names, NoMemory, Place, Refusal, SourceFile, TextBytes, fault_line};
+use ls_text::{Names, NoMemory, Place, Refusal, SourceFile, TextBytes, fault_line, push_decimal};
 use std::alloc::Global;
 
 // The pieces of two files.
@@ -362,6 +362,70 @@ fn long_names_cost_no_more(rt: HostRuntime) {
         is_line(
             fault_of_long_names(alloc, 7_232),
             b"refused 10 TextTooLong a.v:7235:1 -\n"
+        )
+    );
+}
+
+// The line that shows the first fault of a text with so many conditionals within each other, and so many ends.
+fn fault_of_nest(alloc: Global, opened: u32, closed: u32) -> Result<Vec<u8>, NoMemory> {
+    let mut text = Vec::new(alloc);
+    add_times(&mut text, b"`ifndef A\n", opened)?;
+    add_times(&mut text, b"x\n", 1)?;
+    add_times(&mut text, b"`endif\n", closed)?;
+    if text.len() > 4_194_304 {
+        return Err(NoMemory);
+    }
+    fault_of(alloc, &text, b"")
+}
+
+#[test]
+fn conditionals_nest_without_a_bound(rt: HostRuntime) {
+    let alloc = rt.alloc();
+    assert!(rt; is_line(fault_of_nest(alloc, 200_000, 200_000), b""));
+    assert!(rt;
+        is_line(
+            fault_of_nest(alloc, 200_000, 199_999),
+            b"refused 12 BadDirective a.v:1:1 ifndef\n"
+        )
+    );
+    assert!(rt;
+        is_line(
+            fault_of_nest(alloc, 200_000, 200_001),
+            b"refused 12 BadDirective a.v:400002:1 endif\n"
+        )
+    );
+}
+
+// The line that shows the first fault of a text in which each of so many macros uses the one before it, and the last
+// is used. The first has a body, or isn't there.
+fn fault_of_chain(alloc: Global, begins: bool, macros: u32) -> Result<Vec<u8>, NoMemory> {
+    let mut text = Vec::new(alloc);
+    if begins {
+        add_times(&mut text, b"`define M0 x\n", 1)?;
+    }
+    for number in 0..macros {
+        text.extend_from_slice(b"`define M")?;
+        push_decimal(&mut text, u64::from(number) + 1)?;
+        text.extend_from_slice(b" `M")?;
+        push_decimal(&mut text, u64::from(number))?;
+        text.push(b'\n')?;
+    }
+    text.extend_from_slice(b"`M")?;
+    push_decimal(&mut text, u64::from(macros))?;
+    if text.len() > 4_194_304 {
+        return Err(NoMemory);
+    }
+    fault_of(alloc, &text, b"")
+}
+
+#[test]
+fn macros_use_each_other_without_a_bound(rt: HostRuntime) {
+    let alloc = rt.alloc();
+    assert!(rt; is_line(fault_of_chain(alloc, true, 100_000), b""));
+    assert!(rt;
+        is_line(
+            fault_of_chain(alloc, false, 100_000),
+            b"refused 12 BadDirective a.v:100001:1 M0\n"
         )
     );
 }
