@@ -24,7 +24,7 @@ use Rattle.comb_order.proofs.Tables.{row_past}
 -- ---- masks
 
 -- some number below k passes the test, or none does
-find : (k : ℕ) (test : ℕ → Bool) → ((i : ℕ) × (i < k) × (test i ≡ true)) ⊎ ((i : ℕ) → i < k → test i ≡ false)
+pub find : (k : ℕ) (test : ℕ → Bool) → ((i : ℕ) × (i < k) × (test i ≡ true)) ⊎ ((i : ℕ) → i < k → test i ≡ false)
 find zero test = inr (λ i h. absurd (omega (arith, h)))
 find (suc k) test = elim (find k test) as (λ _. ((i : ℕ) × (i < suc k) × (test i ≡ true)) ⊎ ((i : ℕ) → i < suc k → test i ≡ false)) [
   | inl f ↦ (let small : f.0 < k = f.1 in inl (f.0, omega (arith, small), f.2))

@@ -1,5 +1,5 @@
 -- What the checks of parts say.
-use Rattle.std.proofs.Common.{◌≡◌, ℕ, zero, suc, ◌<◌, inl, inr, Bool, true, false, not, ◌||◌, ◌&&◌, ◌==◌, List, [], ◌∷◌, ◌++◌, length, refl, sym, ◌∙◌, ap, arith, true≢false}
+use Rattle.std.proofs.Common.{◌≡◌, ℕ, zero, suc, ◌<◌, inl, inr, Bool, true, false, not, ◌||◌, ◌&&◌, ◌==◌, List, [], ◌∷◌, ◌++◌, length, refl, sym, ◌∙◌, ap, true≢false}
 use Rattle.std.specs.Prelude.{bit_or}
 use Rattle.std.specs.declared.vec.Vec.{Vec}
 use Rattle.std.specs.Global.{Global}
@@ -14,9 +14,10 @@ use Rattle.typed_ir.proofs.Cases.{by_cases, left_or, right_or, and_left, and_rig
 use Rattle.typed_ir.proofs.Numbered.{driver_index}
 use Rattle.comb_order.specs.declared.drivers.Driver.{Driver}
 use Rattle.comb_order.specs.Driving.{row_in, drives_in, common, IsTable}
-use Rattle.comb_order.specs.Parts.{is_member, all_in, none_in, are_distinct, are_apart, rows_apart, are_undriven, blocks_in, has_block}
+use Rattle.comb_order.specs.Parts.{is_member, all_in, none_in, are_distinct, are_apart, rows_apart, are_idle, are_undriven, blocks_in, has_block}
 use Rattle.comb_order.proofs.Tables.{has_either}
 use Rattle.comb_order.proofs.Edging.{common_of}
+use Rattle.comb_order.proofs.Idle.{idle_drives}
 
 -- ---- lists
 
@@ -29,7 +30,7 @@ all_in_both all [] ys = refl
 all_in_both all (x ∷ xs) ys =
     ap (λ t. is_member x all && t) (all_in_both all xs ys) ∙ sym (and_assoc (is_member x all) (all_in all xs) (all_in all ys))
 
-member_of : (x : ℕ) (xs : List ℕ) → is_member x xs ≡ true → Member x xs
+pub member_of : (x : ℕ) (xs : List ℕ) → is_member x xs ≡ true → Member x xs
 member_of x [] h = true≢false (sym h)
 member_of x (y ∷ ys) h = by_cases (x == y) (λ same. inl (eqb-true x y same)) (λ out. inr (member_of x ys (only_right (x == y) (is_member x ys) out h)))
   where
@@ -37,7 +38,7 @@ member_of x (y ∷ ys) h = by_cases (x == y) (λ same. inl (eqb-true x y same)) 
     only_right true b out h = absurd (true≢false out)
     only_right false b out h = h
 
-is_of : (x : ℕ) (xs : List ℕ) → Member x xs → is_member x xs ≡ true
+pub is_of : (x : ℕ) (xs : List ℕ) → Member x xs → is_member x xs ≡ true
 is_of x [] m = absurd m
 is_of x (y ∷ ys) (inl e) = left_or (x == y) (is_member x ys) (eq-eqb x y e)
 is_of x (y ∷ ys) (inr m) = right_or (x == y) (is_member x ys) (is_of x ys m)
@@ -140,22 +141,17 @@ one_driver_of nodes table is h a b s i d e =
     let place : (s < length table) × (i < 128) = is.inside a s i d in
     one_of 0 (row_in table s) a b i place.1 (row_apart table s h) (is.drives a s i place.0 place.1 ∙ d) (is.drives b s i place.0 place.1 ∙ e)
 
-empty_row : (table : List (Vec Driver Global)) (ss : List ℕ) (s : ℕ) → are_undriven table ss ≡ true → Member s ss → row_in table s ≡ []
-empty_row table [] s h m = absurd m
-empty_row table (x ∷ ss) s h (inl e) =
-    ap (row_in table) e ∙ none (row_in table x) (eqb-true (length (row_in table x)) 0 (and_left (length (row_in table x) == 0) (are_undriven table ss) h))
-  where
-    none : (ds : List Driver) → length ds ≡ 0 → ds ≡ []
-    none [] h = refl
-    none (d ∷ ds) h = absurd (omega (arith, h))
-empty_row table (x ∷ ss) s h (inr m) = empty_row table ss s (and_right (length (row_in table x) == 0) (are_undriven table ss) h) m
+idle_row : (table : List (Vec Driver Global)) (ss : List ℕ) (s : ℕ) → are_undriven table ss ≡ true → Member s ss → are_idle (row_in table s) ≡ true
+idle_row table [] s h m = absurd m
+idle_row table (x ∷ ss) s h (inl e) = ap (λ k. are_idle (row_in table k)) e ∙ and_left (are_idle (row_in table x)) (are_undriven table ss) h
+idle_row table (x ∷ ss) s h (inr m) = idle_row table ss s (and_right (are_idle (row_in table x)) (are_undriven table ss) h) m
 
 pub undriven_of : (nodes : List FlatNode) (table : List (Vec Driver Global)) (ss : List ℕ) → IsTable nodes table → are_undriven table ss ≡ true
     → (s i : ℕ) → Member s ss → any_drives node_drives nodes s i ≡ false
 undriven_of nodes table ss is h s i m = by_cases (any_drives node_drives nodes s i)
     (λ some. let k : (k : ℕ) × (k < length nodes) × (drives_at nodes k s i ≡ true) = driver_index nodes s i some in
     let place : (s < length table) × (i < 128) = is.inside k.0 s i k.2 in
-    absurd (true≢false (sym (is.drives k.0 s i place.0 place.1 ∙ k.2) ∙ ap (λ r. drives_in r k.0 i) (empty_row table ss s h m))))
+    absurd (true≢false (sym (is.drives k.0 s i place.0 place.1 ∙ k.2) ∙ idle_drives (row_in table s) k.0 i place.1 (idle_row table ss s h m))))
     (λ out. out)
 
 -- ---- the design

@@ -1,5 +1,5 @@
 -- The nodes that drive bits of each signal, as the code keeps them, and the edges that they make.
-use Rattle.std.specs.Prelude.{◌≡◌, ℕ, zero, suc, ◌-◌, ◌<◌, ◌≤◌, ◌%◌, ◌^◌, ◌==◌, Bool, true, false, not, ◌&&◌, ◌||◌, nat_lt, List, [], ◌∷◌, length, bit_and, slice_index}
+use Rattle.std.specs.Prelude.{◌≡◌, ℕ, zero, suc, ◌+◌, ◌-◌, ◌<◌, ◌≤◌, ◌%◌, ◌^◌, ◌==◌, Bool, true, false, not, ◌&&◌, ◌||◌, nat_lt, List, [], ◌∷◌, length, bit_and, slice_index}
 use Rattle.std.specs.declared.vec.Vec.{Vec}
 use Rattle.std.specs.Global.{Global}
 use Rattle.typed_ir.specs.declared.touch.Touch.{Touch}
@@ -19,6 +19,15 @@ row_in (r ∷ rs) (suc k) = row_in rs k
 abbrev pub drives_in : List Driver → ℕ → ℕ → Bool
 drives_in [] a i = false
 drives_in (d ∷ ds) a i = ((a == d.node) && has_bit d.mask i) || drives_in ds a i
+
+-- the nodes of these drivers rise, from low on, and stay below high; so none stands twice
+abbrev pub Rises : ℕ → List Driver → ℕ → Type 0
+Rises low [] high = low ≤ high
+Rises low (d ∷ ds) high = (low ≤ d.node) × Rises (d.node + 1) ds high
+
+-- so in each row
+abbrev pub AllRise : List (Vec Driver Global) → ℕ → Type 0
+AllRise table high = (s : ℕ) → Rises 0 (row_in table s) high
 
 -- two masks of 128 bits have a bit in common
 abbrev pub common : ℕ → ℕ → Bool

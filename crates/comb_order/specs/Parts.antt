@@ -1,12 +1,23 @@
--- What is checked of the parts of a flat design.
-use Rattle.std.specs.Prelude.{ℕ, Bool, true, not, ◌&&◌, ◌||◌, ◌==◌, false, List, [], ◌∷◌, length, bit_or}
+-- What is checked of the parts of a flat design, and when they make one.
+use Rattle.std.specs.Prelude.{ℕ, ◌%◌, ◌^◌, Bool, true, not, ◌&&◌, ◌||◌, ◌==◌, false, IsTrue, List, [], ◌∷◌, length, map, bit_or}
 use Rattle.std.specs.declared.vec.Vec.{Vec}
 use Rattle.std.specs.Global.{Global}
 use Rattle.typed_ir.specs.Stmts.{SizedStmt, later_signals}
-use Rattle.typed_ir.specs.Nodes.{FlatNode}
+use Rattle.typed_ir.specs.Nodes.{FlatNode, are_legal}
+use Rattle.typed_ir.specs.FlatNodes.{node_of}
+use Rattle.typed_ir.specs.Flats.{signal_widths, are_clocked, are_below, flat_from, IsFlat}
 use Rattle.typed_ir.specs.Touches.{is_block}
 use Rattle.comb_order.specs.declared.drivers.Driver.{Driver}
+use Rattle.comb_order.specs.declared.parts.Parts.{Parts}
 use Rattle.comb_order.specs.Driving.{row_in, common}
+
+-- the parts make a flat design: widths agree, numbers name signals, and all is so that a flat design keeps
+pub record IsDesign (parts : Parts) : Type 0 where
+  pub legal : IsTrue (are_legal (map node_of parts.nodes.items) (signal_widths parts.signals.items))
+  pub blocks : IsTrue (are_clocked parts.clocked.items (signal_widths parts.signals.items))
+  pub registers_there : IsTrue (are_below parts.registers.items (length parts.signals.items))
+  pub inputs_there : IsTrue (are_below parts.inputs.items (length parts.signals.items))
+  pub flat : IsFlat (flat_from parts.signals.items parts.registers.items parts.inputs.items parts.nodes.items parts.clocked.items)
 
 abbrev pub is_member : ℕ → List ℕ → Bool
 is_member x [] = false
@@ -36,10 +47,18 @@ abbrev pub rows_apart : List (Vec Driver Global) → Bool
 rows_apart [] = true
 rows_apart (r ∷ rs) = are_apart 0 r.items && rows_apart rs
 
--- these signals have no driver
+-- a driver of no bit
+abbrev pub is_idle : Driver → Bool
+is_idle d = d.mask % 2 ^ 128 == 0
+
+abbrev pub are_idle : List Driver → Bool
+are_idle [] = true
+are_idle (d ∷ ds) = is_idle d && are_idle ds
+
+-- no bit of these signals has a driver
 abbrev pub are_undriven : List (Vec Driver Global) → List ℕ → Bool
 are_undriven table [] = true
-are_undriven table (s ∷ ss) = (length (row_in table s) == 0) && are_undriven table ss
+are_undriven table (s ∷ ss) = are_idle (row_in table s) && are_undriven table ss
 
 -- all clocked blocks write signals of the list alone
 abbrev pub blocks_in : List ℕ → List SizedStmt → Bool

@@ -1,9 +1,9 @@
 // For each signal the nodes that drive bits of it.
-ghost use Rattle.std.specs.Prelude.{◌≡◌, ◌<◌, ◌^◌, ◌==◌, ◌&&◌, ◌||◌, ℕ, [], IfOk, length, map};
+ghost use Rattle.std.specs.Prelude.{◌≡◌, ◌+◌, ◌<◌, ◌^◌, ◌==◌, ◌&&◌, ◌||◌, ℕ, [], IfOk, length, map};
 ghost use Rattle.typed_ir.specs.FlatNodes.{node_of};
 ghost use Rattle.typed_ir.specs.Nodes.{drives_at};
 ghost use Rattle.typed_ir.specs.Touches.{has_bit, touched};
-ghost use Rattle.comb_order.specs.Driving.{row_in, drives_in};
+ghost use Rattle.comb_order.specs.Driving.{row_in, drives_in, Rises, AllRise};
 
 use no_memory::NoMemory;
 use std::alloc::Global;
@@ -18,8 +18,10 @@ pub struct Driver {
 
 // The bits that the last driver's node drives join its mask, so a signal has no more drivers than bits.
 fn add_driver(row: &mut Vec<Driver>, driver: Driver) -> Result<(), NoMemory>
-    ensures { IfOk result (λ _. (a i : ℕ) → drives_in row.new.items a i
+    requires { Rises 0 row.old.items (driver.node + 1) }
+    ensures drives { IfOk result (λ _. (a i : ℕ) → drives_in row.new.items a i
         ≡ (drives_in row.old.items a i || ((a == driver.node) && has_bit driver.mask i))) }
+    ensures rises { IfOk result (λ _. Rises 0 row.new.items (driver.node + 1)) }
 {
     match row.pop() {
         Some(last) => {
@@ -41,8 +43,10 @@ fn add_driver(row: &mut Vec<Driver>, driver: Driver) -> Result<(), NoMemory>
 
 // A node drives these bits of a signal too.
 fn add_touch(table: &mut [Vec<Driver>], node: u32, touch: Touch) -> Result<(), NoMemory>
-    ensures { IfOk result (λ _. (a s i : ℕ) → s < length table.old → drives_in (row_in table.new s) a i
+    requires { AllRise table.old (node + 1) }
+    ensures drives { IfOk result (λ _. (a s i : ℕ) → s < length table.old → drives_in (row_in table.new s) a i
         ≡ (drives_in (row_in table.old s) a i || ((a == node) && ((s == touch.signal) && has_bit touch.mask i)))) }
+    ensures rises { IfOk result (λ _. AllRise table.new (node + 1)) }
 {
     let signal = touch.signal as usize;
     if signal >= table.len() {
@@ -55,8 +59,10 @@ fn add_touch(table: &mut [Vec<Driver>], node: u32, touch: Touch) -> Result<(), N
 
 // A node drives these bits too.
 fn add_touches(table: &mut [Vec<Driver>], node: u32, touches: &[Touch]) -> Result<(), NoMemory>
-    ensures { IfOk result (λ _. (a s i : ℕ) → s < length table.old → drives_in (row_in table.new s) a i
+    requires { AllRise table.old (node + 1) }
+    ensures drives { IfOk result (λ _. (a s i : ℕ) → s < length table.old → drives_in (row_in table.new s) a i
         ≡ (drives_in (row_in table.old s) a i || ((a == node) && touched touches.now s i))) }
+    ensures rises { IfOk result (λ _. AllRise table.new (node + 1)) }
 {
     for touch in touches {
         add_touch(table, node, *touch)?;
@@ -76,7 +82,7 @@ fn empty_table(alloc: Global, count: usize) -> Result<Vec<Vec<Driver>>, NoMemory
     Ok(table)
 }
 
-/// For each of so many signals the nodes that drive bits of it, in their order.
+/// For each of so many signals the nodes that drive bits of it, in their order, each once.
 pub fn drivers_of(
     alloc: Global,
     nodes: &[Node],
@@ -86,6 +92,7 @@ pub fn drivers_of(
     ensures length { IfOk result (λ table. length table.items ≡ signals) }
     ensures drives { IfOk result (λ table. (a s i : ℕ) → s < signals → i < 128
         → drives_in (row_in table.items s) a i ≡ drives_at (map node_of nodes.now) a s i) }
+    ensures rises { IfOk result (λ table. AllRise table.items (length nodes.now)) }
 {
     let mut table = empty_table(alloc, signals)?;
     let mut touches = Vec::new(alloc);

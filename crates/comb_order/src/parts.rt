@@ -1,5 +1,5 @@
 // The parts of a flat design, and whether they make one.
-ghost use Rattle.std.specs.Prelude.{◌≡◌, ◌<◌, ◌^◌, ◌&&◌, not, IfOk, IfSome, map, length};
+ghost use Rattle.std.specs.Prelude.{◌≡◌, ◌<◌, ◌^◌, ◌&&◌, not, IfOk, IfSome, IfNone, map, length};
 ghost use Rattle.typed_ir.specs.Flats.{signal_widths, are_clocked, are_below, flat_from, NodeWritesFirst};
 ghost use Rattle.typed_ir.specs.FlatNodes.{node_of};
 ghost use Rattle.typed_ir.specs.Linkeds.{flat};
@@ -7,7 +7,7 @@ ghost use Rattle.typed_ir.specs.Nodes.{IsComplete, are_legal};
 ghost use Rattle.typed_ir.specs.Statements.{stmt_of};
 ghost use Rattle.typed_ir.specs.Orders.{Each};
 ghost use Rattle.typed_ir.specs.Views.{widths};
-ghost use Rattle.comb_order.specs.Parts.{has_block, are_distinct, none_in, blocks_in, rows_apart, are_undriven};
+ghost use Rattle.comb_order.specs.Parts.{has_block, are_distinct, none_in, blocks_in, rows_apart, are_undriven, IsDesign};
 
 use crate::belonging::{are_distinct, members_of, none_in, write_registers};
 use crate::drivers::{Driver, drivers_of};
@@ -91,14 +91,16 @@ fn are_driven_once(parts: &Parts, table: &[Vec<Driver>]) -> bool
         && (are_undriven(table, &parts.registers) && are_undriven(table, &parts.inputs))
 }
 
-/// The flat design of these parts. None where widths don't agree, a number names no signal, a bit has two drivers, a clocked
-/// block writes what isn't a register, or a register or data input is driven or stands twice.
+/// The flat design of these parts; None just where they make none. So it is where widths don't agree, a number names no signal, a bit
+/// has two drivers, a clocked block has a blocking assignment or writes what isn't a register, a register or data input is driven
+/// or stands twice, or a signal is both of them.
 pub fn flat_of(alloc: Global, parts: Parts) -> Result<Option<Flat>, NoMemory>
     requires complete { Each IsComplete (map node_of parts.nodes.items) }
     requires first { Each NodeWritesFirst (map node_of parts.nodes.items) }
     requires few { length parts.nodes.items < 2 ^ 32 }
-    ensures { IfOk result (λ found. IfSome found (λ design.
+    ensures design { IfOk result (λ found. IfSome found (λ design.
         flat design ≡ flat_from parts.signals.items parts.registers.items parts.inputs.items parts.nodes.items parts.clocked.items)) }
+    ensures refused { IfOk result (λ found. IfNone found (IsDesign parts → ⊥)) }
 {
     let env = zeros(alloc, &parts.signals)?;
     if !are_sized(&parts, &env) {

@@ -1,7 +1,7 @@
 // Whether a bit has two drivers, and whether signals have none.
 ghost use Rattle.std.specs.Prelude.{◌≡◌};
 ghost use Rattle.comb_order.specs.Driving.{row_in};
-ghost use Rattle.comb_order.specs.Parts.{are_apart, rows_apart, are_undriven};
+ghost use Rattle.comb_order.specs.Parts.{are_apart, rows_apart, is_idle, are_idle, are_undriven};
 
 use crate::drivers::Driver;
 use crate::edges::{drivers_at, meet};
@@ -32,12 +32,31 @@ pub fn rows_apart(table: &[Vec<Driver>]) -> bool
     true
 }
 
-/// Whether these signals have no driver.
+// Whether a driver drives no bit.
+fn is_idle(driver: Driver) -> bool
+    ensures { result ≡ is_idle driver }
+{
+    driver.mask == 0
+}
+
+// Whether the drivers of a row drive no bit.
+fn are_idle(row: &[Driver]) -> bool
+    ensures { result ≡ are_idle row.now }
+{
+    for driver in row {
+        if !is_idle(*driver) {
+            return false;
+        }
+    }
+    true
+}
+
+/// Whether no bit of these signals has a driver.
 pub fn are_undriven(table: &[Vec<Driver>], signals: &[u32]) -> bool
     ensures { result ≡ are_undriven table.now signals.now }
 {
     for signal in signals {
-        if !drivers_at(table, *signal).is_empty() {
+        if !are_idle(drivers_at(table, *signal)) {
             return false;
         }
     }
