@@ -3,14 +3,14 @@ ghost use Rattle.std.specs.Prelude.{◌≡◌, ℕ, IfOk, map, nat_eq};
 ghost use Rattle.indexmap.specs.IndexSet.{contains};
 ghost use Rattle.typed_ir.specs.Stmts.{later_signals, span_of, SizedTarget};
 ghost use Rattle.typed_ir.specs.Targets.{target_of, targets_of};
-ghost use Rattle.typed_ir.specs.Statements.{stmt_of};
+ghost use Rattle.typed_ir.specs.Statements.{stmt_of, arm_of, sequence_of, arms_before};
 ghost use Rattle.comb_order.specs.Parts.{is_member, all_in, none_in, are_distinct, blocks_in};
 
 use crate::members::Members;
 use indexmap::IndexSet;
 use no_memory::NoMemory;
 use std::alloc::Global;
-use typed_ir::{Stmt, Target};
+use typed_ir::{Arm, Stmt, Target};
 
 // The set of a list's numbers.
 fn set_of(alloc: Global, xs: &[u32]) -> Result<IndexSet<u32>, NoMemory>
@@ -86,21 +86,43 @@ fn parts_in(parts: &[Target], registers: &Members<'_>) -> bool
     true
 }
 
-#[tactic(auto, using(crate::proofs::Flatten::all_in_both))]
+#[cycle(registers)]
 fn writes_registers(st: &Stmt, registers: &Members<'_>) -> bool
     ensures { result ≡ all_in registers.now.listed.now (later_signals (stmt_of st.now)) }
 {
     match st {
         Stmt::Skip | Stmt::Assign(_, _) => true,
         Stmt::Later(parts, _) => parts_in(parts, registers),
-        Stmt::Then(a, b) | Stmt::If(_, a, b) => {
-            writes_registers(a, registers) && writes_registers(b, registers)
-        }
-        Stmt::Case(_, arms) => writes_registers(arms, registers),
-        Stmt::Arm(_, body, rest) => {
-            writes_registers(body, registers) && writes_registers(rest, registers)
+        Stmt::Sequence(list) => all_write_registers(list, registers),
+        Stmt::If(_, a, b) => writes_registers(a, registers) && writes_registers(b, registers),
+        Stmt::Case(_, arms, otherwise) => arms_write_registers(arms, otherwise, registers),
+    }
+}
+
+// The same of statements one after another.
+#[cycle(registers)]
+fn all_write_registers(list: &[Stmt], registers: &Members<'_>) -> bool
+    ensures { result ≡ all_in registers.now.listed.now (later_signals (sequence_of (map stmt_of list.now))) }
+{
+    for st in list {
+        if !writes_registers(st, registers) {
+            return false;
         }
     }
+    true
+}
+
+// The same of the arms of a case and its default.
+#[cycle(registers)]
+fn arms_write_registers(arms: &[Arm], otherwise: &Stmt, registers: &Members<'_>) -> bool
+    ensures { result ≡ all_in registers.now.listed.now (later_signals (arms_before (map arm_of arms.now) (stmt_of otherwise.now))) }
+{
+    for arm in arms {
+        if !writes_registers(&arm.body, registers) {
+            return false;
+        }
+    }
+    writes_registers(otherwise, registers)
 }
 
 /// Whether clocked blocks write registers alone.

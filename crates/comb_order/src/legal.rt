@@ -4,14 +4,14 @@ ghost use Rattle.typed_ir.specs.Sized.{is_span, is_signal, is_width};
 ghost use Rattle.typed_ir.specs.Stmts.{is_sized, is_target, are_targets, are_items, is_legal, is_clocked};
 ghost use Rattle.typed_ir.specs.Forms.{sized};
 ghost use Rattle.typed_ir.specs.Targets.{target_of, targets_of};
-ghost use Rattle.typed_ir.specs.Statements.{item_of, stmt_of};
+ghost use Rattle.typed_ir.specs.Statements.{item_of, stmt_of, arm_of, sequence_of, arms_before};
 ghost use Rattle.typed_ir.specs.Nodes.{are_lanes, is_legal_node, are_legal};
 ghost use Rattle.typed_ir.specs.FlatNodes.{node_of};
 ghost use Rattle.typed_ir.specs.Flats.{are_clocked, are_below};
 ghost use Rattle.typed_ir.specs.Views.{widths};
 
 use bits::Bits;
-use typed_ir::{Item, Lane, Node, Span, Stmt, Target, Typed};
+use typed_ir::{Arm, Item, Lane, Node, Span, Stmt, Target, Typed};
 
 fn is_width(width: u8) -> bool
     ensures { result ≡ is_width width }
@@ -79,6 +79,7 @@ fn are_items(items: &[Item], env: &[Bits]) -> bool
     true
 }
 
+#[cycle(legal)]
 fn is_legal(st: &Stmt, env: &[Bits]) -> bool
     ensures { result ≡ is_legal (stmt_of st.now) (widths env.now) }
 {
@@ -87,25 +88,75 @@ fn is_legal(st: &Stmt, env: &[Bits]) -> bool
         Stmt::Assign(parts, e) | Stmt::Later(parts, e) => {
             are_targets(parts, env) && is_sized(e, env)
         }
-        Stmt::Then(a, b) => is_legal(a, env) && is_legal(b, env),
+        Stmt::Sequence(list) => all_legal(list, env),
         Stmt::If(c, a, b) => is_sized(c, env) && (is_legal(a, env) && is_legal(b, env)),
-        Stmt::Case(e, arms) => is_sized(e, env) && is_legal(arms, env),
-        Stmt::Arm(items, body, rest) => {
-            are_items(items, env) && (is_legal(body, env) && is_legal(rest, env))
-        }
+        Stmt::Case(e, arms, otherwise) => is_sized(e, env) && arms_legal(arms, otherwise, env),
     }
 }
 
+// The same of statements one after another.
+#[cycle(legal)]
+fn all_legal(list: &[Stmt], env: &[Bits]) -> bool
+    ensures { result ≡ is_legal (sequence_of (map stmt_of list.now)) (widths env.now) }
+{
+    for st in list {
+        if !is_legal(st, env) {
+            return false;
+        }
+    }
+    true
+}
+
+// The same of the arms of a case and its default.
+#[cycle(legal)]
+fn arms_legal(arms: &[Arm], otherwise: &Stmt, env: &[Bits]) -> bool
+    ensures { result ≡ is_legal (arms_before (map arm_of arms.now) (stmt_of otherwise.now)) (widths env.now) }
+{
+    for arm in arms {
+        if !(are_items(&arm.items, env) && is_legal(&arm.body, env)) {
+            return false;
+        }
+    }
+    is_legal(otherwise, env)
+}
+
+#[cycle(clocked)]
 fn is_clocked(st: &Stmt) -> bool
     ensures { result ≡ is_clocked (stmt_of st.now) }
 {
     match st {
         Stmt::Skip | Stmt::Later(_, _) => true,
         Stmt::Assign(_, _) => false,
-        Stmt::Then(a, b) | Stmt::If(_, a, b) => is_clocked(a) && is_clocked(b),
-        Stmt::Case(_, arms) => is_clocked(arms),
-        Stmt::Arm(_, body, rest) => is_clocked(body) && is_clocked(rest),
+        Stmt::Sequence(list) => all_clocked(list),
+        Stmt::If(_, a, b) => is_clocked(a) && is_clocked(b),
+        Stmt::Case(_, arms, otherwise) => arms_clocked(arms, otherwise),
     }
+}
+
+// The same of statements one after another.
+#[cycle(clocked)]
+fn all_clocked(list: &[Stmt]) -> bool
+    ensures { result ≡ is_clocked (sequence_of (map stmt_of list.now)) }
+{
+    for st in list {
+        if !is_clocked(st) {
+            return false;
+        }
+    }
+    true
+}
+
+// The same of the arms of a case and its default.
+#[cycle(clocked)]
+fn arms_clocked(arms: &[Arm], otherwise: &Stmt) -> bool
+    ensures { result ≡ is_clocked (arms_before (map arm_of arms.now) (stmt_of otherwise.now)) }
+{
+    for arm in arms {
+        if !is_clocked(&arm.body) {
+            return false;
+        }
+    }
+    is_clocked(otherwise)
 }
 
 /// Whether the clocked blocks are of these widths and have nonblocking assignments alone.

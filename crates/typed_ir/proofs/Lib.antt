@@ -11,3 +11,4 @@ pub mod Steps
 pub mod Ready
 pub mod Masks
 pub mod Mentions
+pub mod Listed

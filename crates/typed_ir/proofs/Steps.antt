@@ -6,7 +6,7 @@ use Rattle.typed_ir.specs.declared.lane.Lane.{Lane}
 use Rattle.typed_ir.specs.declared.reach.Reach.{Reach}
 use Rattle.typed_ir.specs.declared.update.Update.{Update}
 use Rattle.typed_ir.specs.declared.target.Target.{Target}
-use Rattle.typed_ir.specs.declared.stmt.Item.{Item}
+use Rattle.typed_ir.specs.declared.item.Item.{Item}
 use Rattle.typed_ir.specs.Valuations.{Valuation, placed}
 use Rattle.typed_ir.specs.Sized.{is_span}
 use Rattle.typed_ir.specs.Stmts.{moved, all_applied, update_of, updates_of, written, is_target, are_targets, matches_item, matches_any, is_sized, are_items}

@@ -1,20 +1,43 @@
 -- What a statement of the code means.
-use Rattle.std.specs.Prelude.{map}
+use Rattle.std.specs.Prelude.{List, [], ◌∷◌, map}
 use Rattle.typed_ir.specs.Stmts.{SizedItem, SizedStmt, Skip, Assign, Later, Then, If, Case, Arm}
 use Rattle.typed_ir.specs.Forms.{sized}
 use Rattle.typed_ir.specs.Targets.{targets_of}
-use Rattle.typed_ir.specs.declared.stmt.Item.{Item}
+use Rattle.typed_ir.specs.declared.item.Item.{Item}
+use Rattle.typed_ir.specs.declared.arm.Arm.{Arm as Arm'}
 use Rattle.typed_ir.specs.declared.stmt.Stmt.{Stmt}
-use Rattle.typed_ir.specs.declared.stmt.Stmt.TheVariants.{Skip as Skip', Assign as Assign', Later as Later', Then', If', Case', Arm'}
+use Rattle.typed_ir.specs.declared.stmt.Stmt.TheOpen.{Stmt-F, Arm-F}
+use Rattle.typed_ir.specs.declared.stmt.Stmt.TheFolds.{fold-Stmt, fold-Arm}
 
 abbrev pub item_of : Item → SizedItem
 item_of x = record { ignored = x.ignored; item = sized x.item.form }
 
+-- one after another, from the first on
+abbrev pub sequence_of : List SizedStmt → SizedStmt
+sequence_of [] = Skip
+sequence_of (first ∷ rest) = Then first (sequence_of rest)
+
+-- the arms of a case before what is done where none matches; each puts itself before the others
+abbrev pub arms_before : List (SizedStmt → SizedStmt) → SizedStmt → SizedStmt
+arms_before [] otherwise = otherwise
+arms_before (arm ∷ arms) otherwise = arm (arms_before arms otherwise)
+
+-- one statement, with what each statement and each arm in it means in its place
+abbrev pub stmt_step : Stmt-F SizedStmt (SizedStmt → SizedStmt) → SizedStmt
+stmt_step (Stmt-F.Skip) = Skip
+stmt_step (Stmt-F.Assign parts e) = Assign (targets_of parts.items) (sized e.form)
+stmt_step (Stmt-F.Later parts e) = Later (targets_of parts.items) (sized e.form)
+stmt_step (Stmt-F.Sequence list) = sequence_of list.items
+stmt_step (Stmt-F.If c a b) = If (sized c.form) a.value b.value
+stmt_step (Stmt-F.Case e arms otherwise) = Case (sized e.form) (arms_before arms.items otherwise.value)
+
+-- the same of an arm
+abbrev pub arm_step : Arm-F SizedStmt (SizedStmt → SizedStmt) → SizedStmt → SizedStmt
+arm_step arm = Arm (map item_of arm.items.items) arm.body
+
 abbrev pub stmt_of : Stmt → SizedStmt
-stmt_of Skip' = Skip
-stmt_of (Assign' parts e) = Assign (targets_of parts.items) (sized e.form)
-stmt_of (Later' parts e) = Later (targets_of parts.items) (sized e.form)
-stmt_of (Then' p a q b) = Then (stmt_of a) (stmt_of b)
-stmt_of (If' c p a q b) = If (sized c.form) (stmt_of a) (stmt_of b)
-stmt_of (Case' e p arms) = Case (sized e.form) (stmt_of arms)
-stmt_of (Arm' items p body q rest) = Arm (map item_of items.items) (stmt_of body) (stmt_of rest)
+stmt_of = fold-Stmt SizedStmt (SizedStmt → SizedStmt) stmt_step arm_step
+
+-- what an arm is before the arms after it, or the default
+abbrev pub arm_of : Arm' → SizedStmt → SizedStmt
+arm_of = fold-Arm SizedStmt (SizedStmt → SizedStmt) stmt_step arm_step

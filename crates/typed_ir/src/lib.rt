@@ -2,9 +2,11 @@
 #![tactic(auto)]
 
 mod apply;
+mod arm;
 mod env;
 mod flat;
 mod form;
+mod item;
 mod lane;
 mod laws;
 mod linked;
@@ -24,9 +26,11 @@ mod touching;
 mod typed;
 mod update;
 
+pub use arm::Arm;
 pub use env::Env;
 pub use flat::Flat;
 pub use form::Form;
+pub use item::Item;
 pub use lane::Lane;
 pub use laws::order_settles;
 pub use linked::Linked;
@@ -39,7 +43,7 @@ pub use reach::Reach;
 pub use reg_state::RegState;
 pub use signal::Signal;
 pub use span::Span;
-pub use stmt::{Item, Stmt};
+pub use stmt::Stmt;
 pub use target::Target;
 pub use touch::Touch;
 pub use touching::{note_drives, note_reads};

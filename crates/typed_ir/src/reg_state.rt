@@ -26,6 +26,8 @@ impl Model for RegState {
 }
 
 impl RegState {
+    /// The state in which the registers have these values, in their order: each of 1 to 128 bits, with its own width. There may
+    /// be any number of them, none too. Want of memory is `NoMemory`, and nothing else is refused.
     pub fn new(values: Vec<Bits>) -> Result<RegState, NoMemory>
         ensures { IfOk result (λ s. s ≡ map sized_value values.items) }
     {

@@ -1,56 +1,116 @@
 // Statements, and the execution of one.
 ghost use Rattle.std.specs.Prelude.{◌≡◌, ◌≤◌, ◌+◌, ◌-◌, ◌^◌, min, ◌++◌, IsTrue, map, vec_len, vec_capacity};
-ghost use Rattle.typed_ir.specs.Stmts.{exec, exec_at, pending, pending_at, most_updates, is_legal, is_clocked, matches_any, matches_item, are_items, is_sized};
-ghost use Rattle.typed_ir.specs.Statements.{item_of, stmt_of};
+ghost use Rattle.typed_ir.specs.Stmts.{exec, exec_at, pending, pending_at, most_updates, is_legal, is_clocked};
+ghost use Rattle.typed_ir.specs.Statements.{stmt_of, arm_of, sequence_of, arms_before};
 ghost use Rattle.typed_ir.specs.Views.{widths, env_of};
 
+use crate::arm::Arm;
+use crate::item::matches_any;
 use crate::target::{Target, note_all, write_all};
 use crate::typed::Typed;
 use crate::update::Update;
 use bits::Bits;
 
-/// An expression of a case item.
+/// A statement; its statements and arms stand in lists, so that it is only as deep as the text nests them.
 #[derive(Drop)]
-pub struct Item {
-    /// The bits of don't-care digits, which match any bit.
-    pub ignored: u128,
-    pub item: Typed,
-}
-
-#[derive(Drop)]
+#[cycle(statement)]
 pub enum Stmt {
+    /// The null statement.
     Skip,
     /// A blocking assignment to these parts, from left to right.
     Assign(Vec<Target>, Typed),
     /// A nonblocking one.
     Later(Vec<Target>, Typed),
-    Then(Box<Stmt>, Box<Stmt>),
+    /// `begin .. end`: one after another.
+    Sequence(Vec<Stmt>),
+    /// A condition, what is done where it isn't 0, and what is done where it is.
     If(Typed, Box<Stmt>, Box<Stmt>),
-    /// A case's expression, and its arms.
-    Case(Typed, Box<Stmt>),
-    /// The items of an arm, what it does, and the arms after it or the default.
-    Arm(Vec<Item>, Box<Stmt>, Box<Stmt>),
+    /// A case's expression, its arms in their order, and what is done where none matches.
+    Case(Typed, Vec<Arm>, Box<Stmt>),
 }
 
-// Whether an item matches a value.
-fn matches_item(item: &Item, subject: u128, env: &[Bits]) -> bool
-    requires { IsTrue (is_sized (item_of item.now).item (widths env.now)) }
-    ensures { result ≡ matches_item subject (item_of item.now) (env_of env.now) }
+// Executes statements one after another.
+#[cycle(run)]
+fn run_all(list: &[Stmt], subject: u128, env: &mut [Bits])
+    requires { IsTrue (is_legal (sequence_of (map stmt_of list.now)) (widths env.old)) }
+    ensures widths { widths env.new ≡ widths env.old }
+    ensures value { env_of env.new ≡ exec_at (sequence_of (map stmt_of list.now)) subject (env_of env.old) }
 {
-    subject | item.ignored == item.item.form.value(env).value | item.ignored
+    for st in list {
+        st.run_at(subject, env);
+    }
 }
 
-// Whether one of the items does.
-fn matches_any(items: &[Item], subject: u128, env: &[Bits]) -> bool
-    requires { IsTrue (are_items (map item_of items.now) (widths env.now)) }
-    ensures { result ≡ matches_any subject (map item_of items.now) (env_of env.now) }
+// Executes the first arm that matches the value of a case's expression, or the default.
+#[cycle(run)]
+fn run_arms(arms: &[Arm], otherwise: &Stmt, subject: u128, env: &mut [Bits])
+    requires { IsTrue (is_legal (arms_before (map arm_of arms.now) (stmt_of otherwise.now)) (widths env.old)) }
+    ensures widths { widths env.new ≡ widths env.old }
+    ensures value { env_of env.new ≡ exec_at (arms_before (map arm_of arms.now) (stmt_of otherwise.now)) subject (env_of env.old) }
 {
-    for item in items {
-        if matches_item(item, subject, env) {
-            return true;
+    for arm in arms {
+        if matches_any(&arm.items, subject, env) {
+            return arm.body.run_at(subject, env);
         }
     }
-    false
+    otherwise.run_at(subject, env)
+}
+
+// How many updates statements note at most.
+#[cycle(count)]
+fn most_of_all(list: &[Stmt]) -> usize
+    ensures { result ≡ min (most_updates (sequence_of (map stmt_of list.now))) (2 ^ 64 - 1) }
+{
+    let mut most = 0usize;
+    for st in list {
+        most = most.saturating_add(st.most_updates());
+    }
+    most
+}
+
+// The same of the arms of a case and its default.
+#[cycle(count)]
+fn most_of_arms(arms: &[Arm], otherwise: &Stmt) -> usize
+    ensures { result ≡ min (most_updates (arms_before (map arm_of arms.now) (stmt_of otherwise.now))) (2 ^ 64 - 1) }
+{
+    let mut most = 0usize;
+    for arm in arms {
+        most = most.saturating_add(arm.body.most_updates());
+    }
+    most.saturating_add(otherwise.most_updates())
+}
+
+// Notes the updates of statements one after another.
+#[cycle(note)]
+fn note_statements(list: &[Stmt], subject: u128, env: &[Bits], updates: &mut Vec<Update>)
+    requires legal { IsTrue (is_legal (sequence_of (map stmt_of list.now)) (widths env.now)) }
+    requires clocked { IsTrue (is_clocked (sequence_of (map stmt_of list.now))) }
+    requires room { vec_len updates.old + most_updates (sequence_of (map stmt_of list.now)) ≤ vec_capacity updates.old }
+    ensures noted { updates.new.items ≡ updates.old.items ++ pending_at (sequence_of (map stmt_of list.now)) subject (env_of env.now) }
+    ensures few { vec_len updates.new ≤ vec_len updates.old + most_updates (sequence_of (map stmt_of list.now)) }
+    ensures capacity { vec_capacity updates.new ≡ vec_capacity updates.old }
+{
+    for st in list {
+        st.note_at(subject, env, updates);
+    }
+}
+
+// Notes the updates of the first arm that matches the value of a case's expression, or of the default.
+#[cycle(note)]
+fn note_arms(arms: &[Arm], otherwise: &Stmt, subject: u128, env: &[Bits], updates: &mut Vec<Update>)
+    requires legal { IsTrue (is_legal (arms_before (map arm_of arms.now) (stmt_of otherwise.now)) (widths env.now)) }
+    requires clocked { IsTrue (is_clocked (arms_before (map arm_of arms.now) (stmt_of otherwise.now))) }
+    requires room { vec_len updates.old + most_updates (arms_before (map arm_of arms.now) (stmt_of otherwise.now)) ≤ vec_capacity updates.old }
+    ensures noted { updates.new.items ≡ updates.old.items ++ pending_at (arms_before (map arm_of arms.now) (stmt_of otherwise.now)) subject (env_of env.now) }
+    ensures few { vec_len updates.new ≤ vec_len updates.old + most_updates (arms_before (map arm_of arms.now) (stmt_of otherwise.now)) }
+    ensures capacity { vec_capacity updates.new ≡ vec_capacity updates.old }
+{
+    for arm in arms {
+        if matches_any(&arm.items, subject, env) {
+            return arm.body.note_at(subject, env, updates);
+        }
+    }
+    otherwise.note_at(subject, env, updates)
 }
 
 impl Stmt {
@@ -64,6 +124,7 @@ impl Stmt {
     }
 
     // The same, within a case whose expression has this value.
+    #[cycle(run)]
     fn run_at(&self, subject: u128, env: &mut [Bits])
         requires { IsTrue (is_legal (stmt_of self.now) (widths env.old)) }
         ensures widths { widths env.new ≡ widths env.old }
@@ -76,10 +137,7 @@ impl Stmt {
                 write_all(parts, env, x)
             }
             Stmt::Later(_, _) => {}
-            Stmt::Then(a, b) => {
-                a.run_at(subject, env);
-                b.run_at(subject, env)
-            }
+            Stmt::Sequence(list) => run_all(list, subject, env),
             Stmt::If(c, a, b) => {
                 if c.form.value(env).value == 0 {
                     b.run_at(subject, env)
@@ -87,33 +145,25 @@ impl Stmt {
                     a.run_at(subject, env)
                 }
             }
-            Stmt::Case(e, arms) => {
+            Stmt::Case(e, arms, otherwise) => {
                 let inner = e.form.value(env).value;
-                arms.run_at(inner, env)
-            }
-            Stmt::Arm(items, body, rest) => {
-                if matches_any(items, subject, env) {
-                    body.run_at(subject, env)
-                } else {
-                    rest.run_at(subject, env)
-                }
+                run_arms(arms, otherwise, inner, env)
             }
         }
     }
 
     /// How many updates its execution notes at most: one for each part of a nonblocking assignment. The largest number stands
     /// for itself and for all above it.
+    #[cycle(count)]
     pub fn most_updates(&self) -> usize
         ensures { result ≡ min (most_updates (stmt_of self.now)) (2 ^ 64 - 1) }
     {
         match self {
             Stmt::Skip | Stmt::Assign(_, _) => 0,
             Stmt::Later(parts, _) => parts.len(),
-            Stmt::Then(a, b) | Stmt::If(_, a, b) => a
-                .most_updates()
-                .saturating_add(b.most_updates()),
-            Stmt::Case(_, arms) => arms.most_updates(),
-            Stmt::Arm(_, body, rest) => body.most_updates().saturating_add(rest.most_updates()),
+            Stmt::Sequence(list) => most_of_all(list),
+            Stmt::If(_, a, b) => a.most_updates().saturating_add(b.most_updates()),
+            Stmt::Case(_, arms, otherwise) => most_of_arms(arms, otherwise),
         }
     }
 
@@ -130,7 +180,7 @@ impl Stmt {
     }
 
     // The same, within a case whose expression has this value.
-    #[tactic(auto, using(crate::proofs::Pending::pending_then))]
+    #[cycle(note)]
     fn note_at(&self, subject: u128, env: &[Bits], updates: &mut Vec<Update>)
         requires legal { IsTrue (is_legal (stmt_of self.now) (widths env.now)) }
         requires clocked { IsTrue (is_clocked (stmt_of self.now)) }
@@ -145,10 +195,7 @@ impl Stmt {
                 let x = e.form.value(env).value;
                 note_all(parts, env, x, updates)
             }
-            Stmt::Then(a, b) => {
-                a.note_at(subject, env, updates);
-                b.note_at(subject, env, updates)
-            }
+            Stmt::Sequence(list) => note_statements(list, subject, env, updates),
             Stmt::If(c, a, b) => {
                 if c.form.value(env).value == 0 {
                     b.note_at(subject, env, updates)
@@ -156,16 +203,9 @@ impl Stmt {
                     a.note_at(subject, env, updates)
                 }
             }
-            Stmt::Case(e, arms) => {
+            Stmt::Case(e, arms, otherwise) => {
                 let inner = e.form.value(env).value;
-                arms.note_at(inner, env, updates)
-            }
-            Stmt::Arm(items, body, rest) => {
-                if matches_any(items, subject, env) {
-                    body.note_at(subject, env, updates)
-                } else {
-                    rest.note_at(subject, env, updates)
-                }
+                note_arms(arms, otherwise, inner, env, updates)
             }
         }
     }

@@ -6,15 +6,17 @@ ghost use Rattle.typed_ir.specs.Stmts.{targets, span_of, index_reads, item_reads
 ghost use Rattle.typed_ir.specs.Nodes.{node_drives, lane_spans};
 ghost use Rattle.typed_ir.specs.Forms.{sized};
 ghost use Rattle.typed_ir.specs.Targets.{target_of, targets_of};
-ghost use Rattle.typed_ir.specs.Statements.{item_of, stmt_of};
+ghost use Rattle.typed_ir.specs.Statements.{item_of, stmt_of, arm_of, sequence_of, arms_before};
 ghost use Rattle.typed_ir.specs.FlatNodes.{node_of};
 ghost use Rattle.typed_ir.specs.Touches.{has_bit, Adds, all_reads, mentions};
 
+use crate::arm::Arm;
 use crate::form::Form;
+use crate::item::Item;
 use crate::lane::Lane;
 use crate::node::Node;
 use crate::span::Span;
-use crate::stmt::{Item, Stmt};
+use crate::stmt::Stmt;
 use crate::target::Target;
 use crate::touch::Touch;
 use no_memory::NoMemory;
@@ -104,7 +106,8 @@ fn note_items(items: &[Item], touches: &mut Vec<Touch>) -> Result<(), NoMemory>
 }
 
 // Notes the bits that are read anywhere in a statement.
-fn note_stmt(st: &Stmt, touches: &mut Vec<Touch>) -> Result<(), NoMemory>
+#[cycle(reads)]
+fn note_reads_of(st: &Stmt, touches: &mut Vec<Touch>) -> Result<(), NoMemory>
     ensures { IfOk result (λ _. Adds touches.old.items touches.new.items (all_reads (stmt_of st.now))) }
 {
     match st {
@@ -113,25 +116,44 @@ fn note_stmt(st: &Stmt, touches: &mut Vec<Touch>) -> Result<(), NoMemory>
             note_form(&e.form, touches)?;
             note_indices(parts, touches)
         }
-        Stmt::Then(a, b) => {
-            note_stmt(a, touches)?;
-            note_stmt(b, touches)
-        }
+        Stmt::Sequence(list) => note_reads_of_all(list, touches),
         Stmt::If(c, a, b) => {
             note_form(&c.form, touches)?;
-            note_stmt(a, touches)?;
-            note_stmt(b, touches)
+            note_reads_of(a, touches)?;
+            note_reads_of(b, touches)
         }
-        Stmt::Case(e, arms) => {
+        Stmt::Case(e, arms, otherwise) => {
             note_form(&e.form, touches)?;
-            note_stmt(arms, touches)
-        }
-        Stmt::Arm(items, body, rest) => {
-            note_items(items, touches)?;
-            note_stmt(body, touches)?;
-            note_stmt(rest, touches)
+            note_reads_of_arms(arms, otherwise, touches)
         }
     }
+}
+
+// The same of statements one after another.
+#[cycle(reads)]
+fn note_reads_of_all(list: &[Stmt], touches: &mut Vec<Touch>) -> Result<(), NoMemory>
+    ensures { IfOk result (λ _. Adds touches.old.items touches.new.items (all_reads (sequence_of (map stmt_of list.now)))) }
+{
+    for st in list {
+        note_reads_of(st, touches)?;
+    }
+    Ok(())
+}
+
+// The same of the arms of a case and its default.
+#[cycle(reads)]
+fn note_reads_of_arms(
+    arms: &[Arm],
+    otherwise: &Stmt,
+    touches: &mut Vec<Touch>,
+) -> Result<(), NoMemory>
+    ensures { IfOk result (λ _. Adds touches.old.items touches.new.items (all_reads (arms_before (map arm_of arms.now) (stmt_of otherwise.now)))) }
+{
+    for arm in arms {
+        note_items(&arm.items, touches)?;
+        note_reads_of(&arm.body, touches)?;
+    }
+    note_reads_of(otherwise, touches)
 }
 
 // Notes the bits of a target's lanes.
@@ -169,23 +191,46 @@ fn note_parts(parts: &[Target], touches: &mut Vec<Touch>) -> Result<(), NoMemory
 }
 
 // Notes the bits that the blocking assignments of a statement may write.
-#[tactic(auto, using(crate::proofs::Masks::both_spans))]
+#[cycle(targets)]
 fn note_targets(st: &Stmt, touches: &mut Vec<Touch>) -> Result<(), NoMemory>
     ensures { IfOk result (λ _. Adds touches.old.items touches.new.items (any_within (targets (stmt_of st.now)))) }
 {
     match st {
         Stmt::Skip | Stmt::Later(_, _) => Ok(()),
         Stmt::Assign(parts, _) => note_parts(parts, touches),
-        Stmt::Then(a, b) | Stmt::If(_, a, b) => {
+        Stmt::Sequence(list) => note_targets_of_all(list, touches),
+        Stmt::If(_, a, b) => {
             note_targets(a, touches)?;
             note_targets(b, touches)
         }
-        Stmt::Case(_, arms) => note_targets(arms, touches),
-        Stmt::Arm(_, body, rest) => {
-            note_targets(body, touches)?;
-            note_targets(rest, touches)
-        }
+        Stmt::Case(_, arms, otherwise) => note_targets_of_arms(arms, otherwise, touches),
     }
+}
+
+// The same of statements one after another.
+#[cycle(targets)]
+fn note_targets_of_all(list: &[Stmt], touches: &mut Vec<Touch>) -> Result<(), NoMemory>
+    ensures { IfOk result (λ _. Adds touches.old.items touches.new.items (any_within (targets (sequence_of (map stmt_of list.now))))) }
+{
+    for st in list {
+        note_targets(st, touches)?;
+    }
+    Ok(())
+}
+
+// The same of the arms of a case and its default.
+#[cycle(targets)]
+fn note_targets_of_arms(
+    arms: &[Arm],
+    otherwise: &Stmt,
+    touches: &mut Vec<Touch>,
+) -> Result<(), NoMemory>
+    ensures { IfOk result (λ _. Adds touches.old.items touches.new.items (any_within (targets (arms_before (map arm_of arms.now) (stmt_of otherwise.now))))) }
+{
+    for arm in arms {
+        note_targets(&arm.body, touches)?;
+    }
+    note_targets(otherwise, touches)
 }
 
 /// Adds the bits that the text of a node reads: a select whose bits are known its bits, a name or a select at run time the
@@ -195,7 +240,7 @@ pub fn note_reads(node: &Node, touches: &mut Vec<Touch>) -> Result<(), NoMemory>
 {
     match node {
         Node::Drive(_, e) => note_form(&e.form, touches),
-        Node::Block(body) => note_stmt(body, touches),
+        Node::Block(body) => note_reads_of(body, touches),
     }
 }
 

@@ -40,6 +40,7 @@ pub fn fits(e: &Typed, env: &Env) -> bool
 
 /// Simple operands.
 impl Typed {
+    /// A constant: these bits, 1 to 128 of them, at their own width. None is refused.
     pub fn constant(bits: Bits) -> Typed
         ensures width { result.width ≡ bits.width }
         ensures form { sized result.form ≡ Constant bits.width bits.value }
@@ -100,6 +101,8 @@ impl Typed {
 
 /// Operators.
 impl Typed {
+    /// An operator of one operand, which may have any width from 1 to 128 bits. `~` and `-` give as many bits as the operand
+    /// has, a reduction and `!` one bit. No width is refused; want of memory is `NoMemory`.
     pub fn unary(alloc: Global, op: UnaryOperator, a: Typed) -> Result<Typed, NoMemory>
         ensures width { IfOk result (λ e. e.width ≡ unary_width op a.width) }
         ensures form { IfOk result (λ e. sized e.form ≡ Unary op (sized a.form)) }
@@ -109,6 +112,9 @@ impl Typed {
         Ok(Typed { width, form })
     }
 
+    /// An operator of two operands. Arithmetic and comparisons take operands of one width alone, `&&`, `||` and shifts those
+    /// of any two widths; `BinaryOperator::takes` is the test. Arithmetic and shifts give as many bits as `a` has, comparisons,
+    /// `&&` and `||` one bit. Want of memory is `NoMemory`.
     pub fn binary(alloc: Global, op: BinaryOperator, a: Typed, b: Typed) -> Result<Typed, NoMemory>
         requires { IsTrue (takes_widths op a.width b.width) }
         ensures width { IfOk result (λ e. e.width ≡ binary_width op a.width) }

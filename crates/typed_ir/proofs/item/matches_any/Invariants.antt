@@ -2,7 +2,7 @@ use Rattle.std.proofs.Common.{◌≡◌, drop, map, IsTrue}
 use Rattle.typed_ir.specs.Stmts.{matches_any, are_items}
 use Rattle.typed_ir.specs.Statements.{item_of}
 use Rattle.typed_ir.specs.Views.{widths, env_of}
-use Rattle.typed_ir.proofs.stmt.matches_any.Given as goal
+use Rattle.typed_ir.proofs.item.matches_any.Given as goal
 
 abbrev pub invariant-loop-item : goal.invariant-loop-item
 invariant-loop-item l = record {

@@ -1,0 +1,110 @@
+-- Statements and arms of lists, taken one by one.
+use Rattle.std.proofs.Common.{◌≡◌, ℕ, ◌+◌, ◌<◌, ◌≤◌, true, ◌||◌, List, ◌∷◌, ◌++◌, map, length, get_or, drop, Result, Ok, Err, Box, Global, IfOk, sym, ◌∙◌, ap}
+use Rattle.std.proofs.lemmas.List.{at_drop_all}
+use Rattle.typed_ir.specs.declared.arm.Arm.{Arm as Arm'}
+use Rattle.typed_ir.specs.declared.stmt.Stmt.{Stmt}
+use Rattle.typed_ir.specs.declared.stmt.Stmt.TheFolds.{fold-roll-Stmt, fold_out-Arm}
+use Rattle.typed_ir.specs.declared.stmt.Stmt.TheOpen.{Stmt-F}
+use Rattle.typed_ir.specs.declared.stmt.Stmt.TheVariants.{If as If', rolls-If}
+use Rattle.typed_ir.specs.declared.typed.Typed.{Typed}
+use Rattle.typed_ir.specs.declared.touch.Touch.{Touch}
+use Rattle.typed_ir.specs.declared.update.Update.{Update}
+use Rattle.typed_ir.specs.Valuations.{Valuation, Places, any_within}
+use Rattle.typed_ir.specs.Stmts.{SizedStmt, If, Arm, pending_at, is_legal, is_clocked, most_updates, targets}
+use Rattle.typed_ir.specs.Statements.{stmt_step, arm_step, stmt_of, arm_of, item_of, sequence_of, arms_before}
+use Rattle.typed_ir.specs.Forms.{sized}
+use Rattle.typed_ir.specs.Touches.{touched, Adds}
+use Rattle.typed_ir.proofs.Cases.{and_left, and_right}
+use Rattle.typed_ir.proofs.Lists.{drop_read}
+use Rattle.typed_ir.proofs.Masks.{or_assoc, both_spans}
+use Rattle.typed_ir.proofs.Pending.{pending_then}
+
+-- what holds where a call succeeds
+pub if_ok : {A E : Type 0} (r : Result A E) (P Q : A → Type 0) → ((x : A) → P x → Q x) → IfOk r P → IfOk r Q
+if_ok (Ok x) P Q f h = f x h
+if_ok (Err e) P Q f h = tt
+
+pub adds_two : (old mid new : List Touch) (p q : Places) → Adds old mid p → Adds mid new q → Adds old new (λ s i. p s i || q s i)
+adds_two old mid new p q h k = record {
+  says = λ s i small. k.says s i small ∙ ap (λ b. b || q s i) (h.says s i small) ∙ or_assoc (touched old s i) (p s i) (q s i);
+}
+
+pub adds_targets : (old mid new : List Touch) (a b : SizedStmt) → Adds old mid (any_within (targets a)) → Adds mid new (any_within (targets b))
+    → Adds old new (any_within (targets a ++ targets b))
+adds_targets old mid new a b h k = record {
+  says = λ s i small. (adds_two old mid new (any_within (targets a)) (any_within (targets b)) h k).says s i small
+      ∙ ap (λ t. touched old s i || t) (sym (both_spans (targets a) (targets b) s i));
+}
+
+pub if_is : (c : Typed) (a b : Box Stmt Global) → stmt_of (If' c a b) ≡ If (sized c.form) (stmt_of a.value) (stmt_of b.value)
+if_is c a b = ap stmt_of (sym (rolls-If c a b)) ∙ fold-roll-Stmt SizedStmt (SizedStmt → SizedStmt) stmt_step arm_step (Stmt-F.If c a b)
+
+-- one arm before the others
+pub arm_is : (arm : Arm') (rest : SizedStmt) → arm_of arm rest ≡ Arm (map item_of arm.items.items) (stmt_of arm.body) rest
+arm_is arm rest = ap (λ f. f rest) (fold_out-Arm SizedStmt (SizedStmt → SizedStmt) stmt_step arm_step arm)
+
+-- one more statement of a list
+pub rest_legal : (list : List Stmt) (k : ℕ) (x : Stmt) (ws : List ℕ) → k < length list → x ≡ get_or list k x
+    → is_legal (sequence_of (map stmt_of (drop k list))) ws ≡ true → is_legal (sequence_of (map stmt_of (drop (k + 1) list))) ws ≡ true
+rest_legal list k x ws h is legal =
+    and_right (is_legal (stmt_of x) ws) (is_legal (sequence_of (map stmt_of (drop (k + 1) list))) ws)
+    (sym (ap (λ zs. is_legal (sequence_of (map stmt_of zs)) ws) (drop_read list k x h is)) ∙ legal)
+
+pub rest_clocked : (list : List Stmt) (k : ℕ) (x : Stmt) → k < length list → x ≡ get_or list k x
+    → is_clocked (sequence_of (map stmt_of (drop k list))) ≡ true → is_clocked (sequence_of (map stmt_of (drop (k + 1) list))) ≡ true
+rest_clocked list k x h is clocked =
+    and_right (is_clocked (stmt_of x)) (is_clocked (sequence_of (map stmt_of (drop (k + 1) list))))
+    (sym (ap (λ zs. is_clocked (sequence_of (map stmt_of zs))) (drop_read list k x h is)) ∙ clocked)
+
+pub most_next : (list : List Stmt) (k : ℕ) (x : Stmt) → k < length list → x ≡ get_or list k x
+    → most_updates (sequence_of (map stmt_of (drop k list))) ≡ most_updates (stmt_of x) + most_updates (sequence_of (map stmt_of (drop (k + 1) list)))
+most_next list k x h is = ap (λ zs. most_updates (sequence_of (map stmt_of zs))) (drop_read list k x h is)
+
+pub noted_next : (list : List Stmt) (k : ℕ) (x : Stmt) (subject : ℕ) (env : Valuation) (old mid new : List Update) → k < length list → x ≡ get_or list k x
+    → is_clocked (sequence_of (map stmt_of (drop k list))) ≡ true
+    → new ≡ mid ++ pending_at (stmt_of x) subject env
+    → mid ++ pending_at (sequence_of (map stmt_of (drop k list))) subject env ≡ old
+    → new ++ pending_at (sequence_of (map stmt_of (drop (k + 1) list))) subject env ≡ old
+noted_next list k x subject env old mid new h is clocked noted left =
+    let rest = sequence_of (map stmt_of (drop (k + 1) list)) in
+    let one : drop k list ≡ x ∷ drop (k + 1) list = drop_read list k x h is in
+    ap (λ us. us ++ pending_at rest subject env) noted
+    ∙ pending_then (stmt_of x) rest subject env mid
+    (and_left (is_clocked (stmt_of x)) (is_clocked rest) (sym (ap (λ zs. is_clocked (sequence_of (map stmt_of zs))) one) ∙ clocked))
+    ∙ ap (λ zs. mid ++ pending_at (sequence_of (map stmt_of zs)) subject env) (sym one)
+    ∙ left
+
+pub targets_next : (list : List Stmt) (k : ℕ) (x : Stmt) (mid new : List Touch) (s i : ℕ) → k < length list → x ≡ get_or list k x → i < 128
+    → Adds mid new (any_within (targets (stmt_of x)))
+    → (touched new s i || any_within (targets (sequence_of (map stmt_of (drop (k + 1) list)))) s i)
+    ≡ (touched mid s i || any_within (targets (sequence_of (map stmt_of (drop k list)))) s i)
+targets_next list k x mid new s i h is small adds =
+    let rest = sequence_of (map stmt_of (drop (k + 1) list)) in
+    ap (λ b. b || any_within (targets rest) s i) (adds.says s i small)
+    ∙ or_assoc (touched mid s i) (any_within (targets (stmt_of x)) s i) (any_within (targets rest) s i)
+    ∙ ap (λ b. touched mid s i || b) (sym (both_spans (targets (stmt_of x)) (targets rest) s i))
+    ∙ ap (λ zs. touched mid s i || any_within (targets (sequence_of (map stmt_of zs))) s i) (sym (drop_read list k x h is))
+
+-- one more arm
+pub arm_targets_next : (arms : List Arm') (otherwise : SizedStmt) (k : ℕ) (x : Arm') (mid new : List Touch) (s i : ℕ) → k < length arms → x ≡ get_or arms k x
+    → i < 128 → Adds mid new (any_within (targets (stmt_of x.body)))
+    → (touched new s i || any_within (targets (arms_before (map arm_of (drop (k + 1) arms)) otherwise)) s i)
+    ≡ (touched mid s i || any_within (targets (arms_before (map arm_of (drop k arms)) otherwise)) s i)
+arm_targets_next arms otherwise k x mid new s i h is small adds =
+    let rest = arms_before (map arm_of (drop (k + 1) arms)) otherwise in
+    ap (λ b. b || any_within (targets rest) s i) (adds.says s i small)
+    ∙ or_assoc (touched mid s i) (any_within (targets (stmt_of x.body)) s i) (any_within (targets rest) s i)
+    ∙ ap (λ b. touched mid s i || b) (sym (both_spans (targets (stmt_of x.body)) (targets rest) s i))
+    ∙ ap (λ st. touched mid s i || any_within (targets st) s i) (sym (arm_is x rest))
+    ∙ ap (λ zs. touched mid s i || any_within (targets (arms_before (map arm_of zs) otherwise)) s i) (sym (drop_read arms k x h is))
+
+-- after all arms, the default
+pub arms_done : (places : SizedStmt → Places) (arms : List Arm') (otherwise : SizedStmt) (k : ℕ) (old mid new : List Touch) → length arms ≤ k
+    → ((s i : ℕ) → i < 128 → (touched mid s i || places (arms_before (map arm_of (drop k arms)) otherwise) s i)
+    ≡ (touched old s i || places (arms_before (map arm_of arms) otherwise) s i))
+    → Adds mid new (places otherwise) → Adds old new (places (arms_before (map arm_of arms) otherwise))
+arms_done places arms otherwise k old mid new h left adds = record {
+  says = λ s i small. adds.says s i small
+      ∙ sym (at_drop_all (λ (zs : List Arm'). touched mid s i || places (arms_before (map arm_of zs) otherwise) s i) arms k h)
+      ∙ left s i small;
+}
