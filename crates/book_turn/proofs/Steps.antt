@@ -10,7 +10,7 @@ use Rattle.book_history.specs.Journal.{Journal}
 use Rattle.book_history.specs.Owned.{owned, AllOwned, IsPrefix, added}
 use Rattle.book_history.specs.Tickets.{is_among, IsOut, AreOut}
 use Rattle.book_turn.specs.Known.{Known, opening, begun, entered, left, not_alone, worker_of, joined, spent}
-use Rattle.book_turn.specs.Rule.{IsAt, Fits, Apart, EachFits, EachApart, EachBegins, HasBook, MayLeave, Learned, Ruled}
+use Rattle.book_turn.specs.Rule.{IsAt, Fits, Apart, EachFits, EachApart, EachBegins, HasBook, HasSession, MayLeave, Learned, Ruled}
 use Rattle.book_turn.proofs.Histories.{prefix_refl, prefix_trans, added_is, longer_prefix, longer_whole, longer_begins, owned_append, all_owned, none_owned}
 use Rattle.book_turn.proofs.Holdings.{all_mine, all_theirs, all_once}
 
@@ -49,6 +49,16 @@ module _ {D R O : Type 0} where
           (w, ap (λ i. get_elem? (set views p w) i) same ∙ at_here views p v w at, live, keeps (ap (λ (y : Known D R O). y.holds) (sym is) ∙ b.3))
       go false t = (b.0, at_else views p holder b.0 w (eqb-false holder p t) b.1, b.2, b.3)
 
+  -- after a change of one pass that is the session's where it was
+  still_served : (session p : ℕ) (views : List (Known D R O)) (v w : Known D R O) → get_elem? views p ≡ some v → w.session ≡ v.session → w.live ≡ true → HasSession session views → HasSession session (set views p w)
+  still_served session p views v w at same live b = go (eqb session p) refl
+    where
+      go : (t : Bool) → eqb session p ≡ t → HasSession session (set views p w)
+      go true t = let here : session ≡ p = eqb-true session p t in
+          let is : b.0 ≡ v = some-injective b.0 v (sym b.1 ∙ ap (λ i. get_elem? views i) here ∙ at) in
+          (w, ap (λ i. get_elem? (set views p w) i) here ∙ at_here views p v w at, live, same ∙ ap (λ (y : Known D R O). y.session) (sym is) ∙ b.3)
+      go false t = (b.0, at_else views p session b.0 w (eqb-false session p t) b.1, b.2, b.3)
+
   -- a pass that has no ticket, beside another
   no_tickets : (u w : Known D R O) → u.alone ≢ true → w.tickets ≡ [] → Apart u w
   no_tickets u w lone none = record { lone = lone; tickets = λ n a b. true≢false (sym b ∙ ap (λ l. is_among n l) none) }
@@ -75,8 +85,9 @@ module _ {T D R O : Type 0} (journal : T → Journal D R O) where
       → ((j : ℕ) (u : Known D R O) → j ≢ p → u.live ≡ true → Fits r.out r.holder r.session r.settings r.history j u → Apart u v → Apart v u
       → Fits out holder r.session st h j u × Apart u w × Apart w u)
       → (out ≡ true → HasBook holder (set views p w))
+      → w.session ≡ v.session → w.live ≡ true
       → Ruled journal items' (set views p w)
-  after items views p v w r at live out holder st h items' place fits others held = record {
+  after items views p v w r at live out holder st h items' place fits others held kind stays = record {
     out = out;
     holder = holder;
     session = r.session;
@@ -94,6 +105,7 @@ module _ {T D R O : Type 0} (journal : T → Journal D R O) where
         (λ (y : (j ≢ p) × (get_elem? views j ≡ some b)). r.apart i j a b n x.1 y.1 la lb) (at_set views p j w b eb))
         (at_set views p i w a ea);
     held = held;
+    served = still_served r.session p views v w at kind stays r.served;
   }
     where
       other : (j : ℕ) (u : Known D R O) → j ≢ p → get_elem? views j ≡ some u → u.live ≡ true → Fits out holder r.session st h j u × Apart u w × Apart w u
@@ -101,7 +113,7 @@ module _ {T D R O : Type 0} (journal : T → Journal D R O) where
 
   -- make
   pub begins : Ruled journal [] (opening ∷ [])
-  begins = record { out = true; holder = 0; session = 0; settings = None; history = []; place = refl; each = each; apart = apart; held = λ _. (opening, refl, refl, refl) }
+  begins = record { out = true; holder = 0; session = 0; settings = None; history = []; place = refl; each = each; apart = apart; held = λ _. (opening, refl, refl, refl); served = (opening, refl, refl, refl) }
     where
       at_first : (j : ℕ) (u : Known D R O) → get_elem? (opening ∷ []) j ≡ some u → (j ≡ 0) × (opening ≡ u)
       at_first zero u e = (refl, some-injective opening u e)
@@ -140,7 +152,8 @@ module _ {T D R O : Type 0} (journal : T → Journal D R O) where
       } in (
         w,
         after items views p v w r at live false r.holder (Some j.settings) j.events (items ++ x ∷ []) place fits
-            (λ k u other l old a b. absurd (b.lone alone)) (λ o. absurd (true≢false (sym o))),
+            (λ k u other l old a b. absurd (b.lone alone)) (λ o. absurd (true≢false (sym o)))
+            (sym (ap (λ (y : Known D R O). y.session) is)) refl,
         refl,
       )
 
@@ -201,7 +214,7 @@ module _ {T D R O : Type 0} (journal : T → Journal D R O) where
               record { lone = a.lone; tickets = λ m t. (still m t).1 },
               record { lone = b.lone; tickets = λ m t s. (still m s).1 t },
             ))
-            (λ o. absurd (true≢false (sym o))),
+            (λ o. absurd (true≢false (sym o))) refl live,
         refl,
       )
     where
@@ -242,7 +255,7 @@ module _ {T D R O : Type 0} (journal : T → Journal D R O) where
               record { lone = a.lone; tickets = a.tickets },
               record { lone = b.lone; tickets = b.tickets },
             ))
-            (λ _. (w, at_here views p v w at, live, refl)),
+            (λ _. (w, at_here views p v w at, live, refl)) refl live,
         (
           refl,
           record {
@@ -277,6 +290,7 @@ module _ {T D R O : Type 0} (journal : T → Journal D R O) where
         (λ (y : (j ≡ length views) × (w ≡ b)). absurd (n (x.0 ∙ sym y.0))) (at_end views w b j eb))
         (at_end views w a i ea);
     held = λ o. let b = r.held o in (b.0, at_front views w b.0 r.holder b.1, b.2, b.3);
+    served = let b = r.served in (b.0, at_front views w b.0 r.session b.1, b.2, b.3);
   }
 
   -- split
@@ -297,7 +311,7 @@ module _ {T D R O : Type 0} (journal : T → Journal D R O) where
       } in
       let beside : Ruled journal items (set views p w) = after items views p v w r at live r.out r.holder r.settings r.history items r.place fits
       (λ k u other l old a b. (old, record { lone = a.lone; tickets = a.tickets }, record { lone = λ y. true≢false (sym y); tickets = b.tickets }))
-      (λ o. still_held r.holder p views v w at (λ h. h) live (r.held o)) in
+      (λ o. still_held r.holder p views v w at (λ h. h) live (r.held o)) refl live in
       let new : Fits r.out r.holder r.session r.settings r.history (length (set views p w)) (worker_of v) = record {
         begins = f.begins;
         hears = tt;
@@ -314,8 +328,8 @@ module _ {T D R O : Type 0} (journal : T → Journal D R O) where
       (λ a. true≢false (sym a)) refl
 
   -- a pass that does not hold the book is spent
-  spends : (items : List T) (views : List (Known D R O)) (q : ℕ) (u : Known D R O) → Ruled journal items views → get_elem? views q ≡ some u → u.holds ≡ false → Ruled journal items (set views q spent)
-  spends items views q u r at free = record {
+  spends : (items : List T) (views : List (Known D R O)) (q : ℕ) (u : Known D R O) → Ruled journal items views → get_elem? views q ≡ some u → u.holds ≡ false → u.session ≡ false → Ruled journal items (set views q spent)
+  spends items views q u r at free worker = record {
     out = r.out;
     holder = r.holder;
     session = r.session;
@@ -332,14 +346,22 @@ module _ {T D R O : Type 0} (journal : T → Journal D R O) where
       b.2,
       b.3,
     );
+    served = let b = r.served in (
+      b.0,
+      at_else views q r.session b.0 spent
+          (λ s. let is : b.0 ≡ u = some-injective b.0 u (sym b.1 ∙ ap (λ i. get_elem? views i) s ∙ at) in true≢false (sym b.3 ∙ ap (λ (z : Known D R O). z.session) is ∙ worker))
+          b.1,
+      b.2,
+      b.3,
+    );
   }
     where
       was : (j : ℕ) (v : Known D R O) → get_elem? (set views q spent) j ≡ some v → v.live ≡ true → get_elem? views j ≡ some v
       was j v e l = ⊎_elim (λ (x : (j ≡ q) × (spent ≡ v)). absurd (true≢false (sym (ap (λ (z : Known D R O). z.live) x.1 ∙ l)))) (λ (x : (j ≢ q) × (get_elem? views j ≡ some v)). x.1) (at_set views q j spent v e)
 
   -- join
-  pub worker_merges : (p : ℕ) (v : Known D R O) (q : ℕ) (u : Known D R O) → v.live ≡ true → u.live ≡ true → u.holds ≡ false → Merges (Ruled journal) p v q u (joined v u) spent
-  worker_merges p v q u live alive free items views r at two at' =
+  pub worker_merges : (p : ℕ) (v : Known D R O) (q : ℕ) (u : Known D R O) → v.live ≡ true → u.live ≡ true → u.holds ≡ false → u.session ≡ false → Merges (Ruled journal) p v q u (joined v u) spent
+  worker_merges p v q u live alive free worker items views r at two at' =
       let w : Known D R O = joined v u in
       let f = r.each p v at live in
       let was : get_elem? views q ≡ some u = ⊎_elim (λ (x : (q ≡ p) × (w ≡ u)). absurd (two x.0)) (λ (x : (q ≢ p) × (get_elem? views q ≡ some u)). x.1) (at_set views p q w u at') in
@@ -356,5 +378,5 @@ module _ {T D R O : Type 0} (journal : T → Journal D R O) where
       } in
       let both : Ruled journal items (set views p w) = after items views p v w r at live r.out r.holder r.settings r.history items r.place fits
       (λ k y other l old a b. (old, record { lone = a.lone; tickets = a.tickets }, record { lone = b.lone; tickets = b.tickets }))
-      (λ o. still_held r.holder p views v w at (λ h. h) live (r.held o)) in
-      spends items (set views p w) q u both at' free
+      (λ o. still_held r.holder p views v w at (λ h. h) live (r.held o)) refl live in
+      spends items (set views p w) q u both at' free worker

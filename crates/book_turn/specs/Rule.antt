@@ -51,6 +51,10 @@ module _ {D R O : Type 0} where
   abbrev pub HasBook : ℕ → List (Known D R O) → Type 0
   HasBook holder views = (v : Known D R O) × (get_elem? views holder ≡ some v) × (v.live ≡ true) × (v.holds ≡ true)
 
+  -- the session has a pass that isn't spent
+  abbrev pub HasSession : ℕ → List (Known D R O) → Type 0
+  HasSession session views = (v : Known D R O) × (get_elem? views session ≡ some v) × (v.live ≡ true) × (v.session ≡ true)
+
   -- what the holder may have added to the history when it puts the book back
   pub record MayLeave (v : Known D R O) (j : Journal D R O) : Type 0 where
     pub holds : v.holds ≡ true
@@ -77,3 +81,4 @@ pub record Ruled {T D R O : Type 0} (journal : T → Journal D R O) (items : Lis
   pub each : EachFits out holder session settings history views
   pub apart : EachApart views
   pub held : out ≡ true → HasBook holder views
+  pub served : HasSession session views

@@ -1,2 +1,3 @@
 pub mod Plains
 pub mod Sessions
+pub mod Numbers

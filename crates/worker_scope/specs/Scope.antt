@@ -1,8 +1,13 @@
 -- What the session's pass knows before, while and after workers run beside it.
-use Rattle.std.specs.Prelude.{◌≡◌, [], ◌∷◌, ◌++◌}
+use Rattle.std.specs.Prelude.{◌≡◌, ◌≤◌, ◌+◌, ℕ, List, [], ◌∷◌, ◌++◌}
 use Rattle.book_history.specs.Book.{Closed}
 use Rattle.book_history.specs.Owned.{IsPrefix}
 use Rattle.book_turn.specs.Known.{Known, not_alone}
+
+-- the numbers of these rise, from low on and below high; so no two are equal
+abbrev pub Rise : {A : Type 0} → (A → ℕ) → ℕ → ℕ → List A → Type 0
+Rise number low high [] = low ≤ high
+Rise number low high (x ∷ xs) = (low ≤ number x) × Rise number (number x + 1) high xs
 
 module _ {D R O : Type 0} where
   -- nothing has changed but that more may be seen

@@ -4,8 +4,8 @@ ghost use Rattle.book_turn.specs.Passes.{IsOf, known};
 ghost use Rattle.segment_verify.specs.Workers.{is_closed, IsFree};
 ghost use Rattle.worker_scope.specs.Plain.{AddsPlain};
 
-use crate::refusing::RefusingMachine;
 use crate::session_work::SessionWork;
+use crate::watched::WatchedMachine;
 use book_turn::{SessionPass, Turn};
 use checkpoint_book::book::Book;
 use checkpoint_book::shown::Shown;
@@ -37,7 +37,7 @@ impl SessionWork<TallyMachine> for Asking {
     }
 }
 
-impl SessionWork<RefusingMachine> for Asking {
+impl SessionWork<WatchedMachine> for Asking {
     type Answer = bool;
 
     ghost ready = { λ s v. Unit {0} };
@@ -47,8 +47,8 @@ impl SessionWork<RefusingMachine> for Asking {
     fn work<R: Threads + Wait + Sync>(
         self,
         rt: &R,
-        turn: &Turn<Book<RefusingMachine>>,
-        pass: &mut SessionPass<Book<RefusingMachine>>,
+        turn: &Turn<Book<WatchedMachine>>,
+        pass: &mut SessionPass<Book<WatchedMachine>>,
     ) -> bool {
         ask_often(rt, turn, pass, self.times)
     }

@@ -9,7 +9,7 @@ mod ends;
 #[cfg(test)]
 mod meeting;
 #[cfg(test)]
-mod refusing;
+mod meeting_gate;
 #[cfg(test)]
 mod reloading;
 #[cfg(test)]
@@ -18,6 +18,8 @@ mod scope;
 mod session_work;
 #[cfg(test)]
 mod tests;
+#[cfg(test)]
+mod watched;
 
 pub use scope::with_workers;
 pub use session_work::SessionWork;

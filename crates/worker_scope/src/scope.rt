@@ -1,9 +1,11 @@
 // The scope: workers start, the session does its work and closes the book, and all workers' passes are joined in.
-ghost use Rattle.std.specs.Prelude.{◌≡◌, true, false, All};
+ghost use Rattle.std.specs.Prelude.{◌≡◌, [], true, false, All};
+ghost use Rattle.book_history.specs.declared.who.Who.TheVariants.{Worker};
 ghost use Rattle.book_turn.specs.Known.{Known, not_alone};
 ghost use Rattle.book_turn.specs.Passes.{IsOf, known};
+ghost use Rattle.segment_verify.specs.Entries.{AreTurns};
 ghost use Rattle.segment_verify.specs.Workers.{is_closed, IsFree, HasEnded};
-ghost use Rattle.worker_scope.specs.Scope.{HasHeard, HasClosed, HasWorked, HasWorkedAlone};
+ghost use Rattle.worker_scope.specs.Scope.{HasHeard, HasClosed, HasWorked, HasWorkedAlone, Rise};
 
 use crate::ends::Ends;
 use crate::session_work::SessionWork;
@@ -21,8 +23,8 @@ use std::thread::{PromisedHandle, Scope, Threads};
 /// Has so many workers, numbered from 0, run beside the session's work, and closes the book behind it. The answer is the
 /// session's pass and that of the work.
 ///
-/// Where a worker can't be started, the session goes on with those before it. All that were started have ended, and each one's
-/// pass is joined into the session's.
+/// A worker that can't be started is left out. All that were started have ended, and each one's pass is joined into the
+/// session's.
 pub fn with_workers<'s, M: Machine, G: Gate, W: SessionWork<M>, R: Threads + Wait + Sync>(
     rt: &'s R,
     alloc: Global,
@@ -101,7 +103,7 @@ fn beside<'s, E, M: Machine + 's, G: Gate + 's, W: SessionWork<M>, R: Threads + 
 }
 
 /// Starts workers, as many as can be.
-#[tactic(auto, using(crate::proofs::Sessions::started_more, crate::proofs::Sessions::free_started))]
+#[tactic(auto, using(crate::proofs::Sessions::started_more, crate::proofs::Sessions::free_started, crate::proofs::Numbers::turned_alone, crate::proofs::Numbers::one_more, crate::proofs::Numbers::none_more))]
 fn start<'s, E, M: Machine + 's, G: Gate + 's, R: Threads + Wait + Sync>(
     scope: &Scope<'s, E>,
     rt: &'s R,
@@ -116,7 +118,10 @@ fn start<'s, E, M: Machine + 's, G: Gate + 's, R: Threads + Wait + Sync>(
     ensures turn { IsOf turn.now pass.new true }
     ensures free { IsFree (known pass.new) }
     ensures started { not_alone (known pass.new) ≡ not_alone (known pass.old) }
-    ensures children { All (λ h. h.promise.0.value ≡ turn.now) result.items }
+    ensures children { All (λ h. h.promise.turn.value ≡ turn.now) result.items }
+
+    // No two have one number.
+    ensures numbers { Rise (λ h. h.promise.number) 0 workers result.items }
 {
     let mut children = Vec::new(alloc);
     for number in 0..workers {
@@ -126,14 +131,16 @@ fn start<'s, E, M: Machine + 's, G: Gate + 's, R: Threads + Wait + Sync>(
         let Ok(worker) = turn.worker_pass(pass) else {
             break;
         };
-        let promise = Ends(Snapshot::of(turn));
+        let promise = Ends {
+            turn: Snapshot::of(turn),
+            number,
+        };
         let work = move ||
-            requires { IsOf turn.now worker false × IsFree (known worker) }
-            ensures { IsOf turn.entry.now result false × HasEnded (known result) }
+            requires { IsOf turn.now worker false × IsFree (known worker) × ((known worker).own ≡ []) }
+            ensures { IsOf turn.entry.now result false × HasEnded (known result) × AreTurns (Worker number) (known result).own }
         { worker_loop(rt, alloc, turn, worker, number, gate) };
-        match scope.spawn_with(promise, work) {
-            Ok(child) => children.push_reserved(child),
-            Err(_) => break,
+        if let Ok(child) = scope.spawn_with(promise, work) {
+            children.push_reserved(child);
         }
     }
     children
@@ -148,7 +155,7 @@ fn join_all<M: Machine, R: Threads>(
 )
     requires turn { IsOf turn.now pass.old true }
     requires free { IsFree (known pass.old) }
-    requires children { All (λ h. h.promise.0.value ≡ turn.now) children.items }
+    requires children { All (λ h. h.promise.turn.value ≡ turn.now) children.items }
     ensures turn { IsOf turn.now pass.new true }
     ensures free { IsFree (known pass.new) }
     ensures heard { HasHeard (known pass.old) (known pass.new) }

@@ -6,10 +6,11 @@ ghost use Rattle.checkpoint_book.specs.Views.{counts_of};
 
 use crate::asking::Asking;
 use crate::meeting::Meeting;
-use crate::refusing::RefusingMachine;
+use crate::meeting_gate::MeetingGate;
 use crate::reloading::{Reloading, numbered, reload_next};
 use crate::replay::Replay;
 use crate::session_work::SessionWork;
+use crate::watched::WatchedMachine;
 use crate::with_workers;
 use book_history::entry::Entry;
 use book_history::history::History;
@@ -210,13 +211,16 @@ fn meet<R: Threads + Wait + Sync + Abort>(
     step: GateStep,
 ) -> Result<(), Fail> {
     let book = edited::<Brand>(alloc, Blank::new(1))?;
-    let gate = Meeting::at(step);
+    let gate = MeetingGate {
+        step,
+        meeting: Meeting::new(),
+    };
     let (book, settled) = beside(rt, alloc, book, workers, &gate, Asking { times: TIMES })?;
     assert!(rt; settled);
     assert_eq!(rt; *last(&book)?, 32);
     let history = Book::into_history(book);
     assert!(rt; is_right(alloc, &history));
-    let Some((first, second)) = gate.met() else {
+    let Some((first, second)) = gate.meeting.met() else {
         return Err("no second ticket came")?;
     };
     assert_eq!(rt;
@@ -246,22 +250,28 @@ fn a_ticket_waits_at_verify_for_that_of_another_worker(rt: HostRuntime) -> Resul
     meet(&rt, rt.alloc(), 8, GateStep::Verify)
 }
 
-/// The version of this number for the machine that adds the number and 2, and whether it refuses once.
-fn refusing(
+/// The version of this number for the machine that adds the number and 2, and is watched so.
+fn watched(
     alloc: Global,
     number: u64,
     refuses: bool,
-) -> Result<Arc<Version<RefusingMachine>, Global>, NoMemory>
+    meeting: Option<Arc<Meeting, Global>>,
+) -> Result<Arc<Version<WatchedMachine>, Global>, NoMemory>
     ensures { IfOk result (λ v. v.value.number ≡ number) }
 {
-    let machine = Arc::new(alloc, RefusingMachine::new(number.wrapping_add(2), refuses))?;
+    let machine = Arc::new(
+        alloc,
+        WatchedMachine::new(number.wrapping_add(2), refuses, meeting),
+    )?;
     Ok(Arc::new(alloc, Version { number, machine })?)
 }
 
-/// The second version, which refuses once.
-fn refuse_next<L: Ledger>(
-    book: &mut Book<RefusingMachine>,
+/// The second version, which is watched so.
+fn watch_next<L: Ledger>(
+    book: &mut Book<WatchedMachine>,
     alloc: Global,
+    refuses: bool,
+    meeting: Option<Arc<Meeting, Global>>,
     steps: &mut Steps<L>,
 ) -> Result<(), Fail>
     requires { (counts_of book.old).closed ≡ false }
@@ -270,24 +280,57 @@ fn refuse_next<L: Ledger>(
     if book.version() != 1 || book.session_room() == 0 {
         return Err("no reload")?;
     }
-    book.reload(refusing(alloc, 2, true)?, (), steps)?;
+    book.reload(watched(alloc, 2, refuses, meeting)?, (), steps)?;
     Ok(())
 }
 
-/// Eight cycles under a machine that adds 3, and a reload with one that adds 4 and refuses once.
-fn refused<L: Ledger>(alloc: Global, blank: Blank) -> Result<Box<Book<RefusingMachine>>, Fail>
+/// Eight cycles under a machine that adds 3, and a reload with one that adds 4 and is watched so.
+fn edited_and_watched<L: Ledger>(
+    alloc: Global,
+    refuses: bool,
+    meeting: Option<Arc<Meeting, Global>>,
+    blank: Blank,
+) -> Result<Box<Book<WatchedMachine>>, Fail>
     requires name { blank.name ≡ L.name }
     requires parts { blank.parts ≡ L.parts }
     requires some { 0 < blank.parts }
     ensures { IfOk result (λ b. (counts_of b.value).closed ≡ false) }
 {
     let mut steps = Steps::<L>::start(blank);
-    let mut boxed = Book::<RefusingMachine>::new(alloc, 1, 1, ROOMS)?;
-    let book: &mut Book<RefusingMachine> = &mut boxed;
-    begin(book, refusing(alloc, 1, false)?)?;
+    let mut boxed = Book::<WatchedMachine>::new(alloc, 1, 1, ROOMS)?;
+    let book: &mut Book<WatchedMachine> = &mut boxed;
+    begin(book, watched(alloc, 1, false, None)?)?;
     run_eight(book, alloc, 0, &mut steps)?;
-    refuse_next(book, alloc, &mut steps)?;
+    watch_next(book, alloc, refuses, meeting, &mut steps)?;
     Ok(boxed)
+}
+
+/// Two verifications are under way at once, so neither has the book, and they are in two threads.
+fn verify_together<R: Threads + Wait + Sync + Abort>(
+    rt: &R,
+    alloc: Global,
+    workers: u16,
+) -> Result<(), Fail> {
+    let meeting = Arc::new(alloc, Meeting::new())?;
+    let watch = Some(Arc::try_clone(&meeting)?);
+    let book = edited_and_watched::<Brand>(alloc, false, watch, Blank::new(1))?;
+    let (book, settled) = beside(rt, alloc, book, workers, &OpenGate, Asking { times: TIMES })?;
+    assert!(rt; settled);
+    assert_eq!(rt; *last(&book)?, 32);
+    let history = Book::into_history(book);
+    assert!(rt; is_right(alloc, &history));
+    assert!(rt; meeting.met().is_some());
+    Ok(())
+}
+
+#[test]
+fn two_workers_verify_at_once(rt: HostRuntime) -> Result<(), Fail> {
+    verify_together(&rt, rt.alloc(), 2)
+}
+
+#[test]
+fn two_of_eight_workers_verify_at_once(rt: HostRuntime) -> Result<(), Fail> {
+    verify_together(&rt, rt.alloc(), 8)
 }
 
 /// The tickets that were given up.
@@ -302,7 +345,7 @@ fn releases<M: Machine>(history: &History<M>) -> usize {
 #[test]
 fn a_worker_gives_a_ticket_up_at_want_of_memory(rt: HostRuntime) -> Result<(), Fail> {
     let alloc = rt.alloc();
-    let book = refused::<Brand>(alloc, Blank::new(1))?;
+    let book = edited_and_watched::<Brand>(alloc, true, None, Blank::new(1))?;
     let (book, settled) = beside(&rt, alloc, book, 2, &OpenGate, Asking { times: TIMES })?;
     assert!(rt; settled);
     assert_eq!(rt; *last(&book)?, 32);

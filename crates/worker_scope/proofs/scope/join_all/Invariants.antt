@@ -10,4 +10,4 @@ invariant-loop-child g l =
     IsOf l.turn l.pass true
     × IsFree (known l.pass)
     × HasHeard (known l.fn.pass) (known l.pass)
-    × All (λ h. h.promise.0.value ≡ l.turn) (into_iter_items l.child-iterator)
+    × All (λ h. h.promise.turn.value ≡ l.turn) (into_iter_items l.child-iterator)

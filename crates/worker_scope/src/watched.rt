@@ -1,35 +1,50 @@
-// A machine whose first run from cycle 0 wants memory.
+// A machine whose runs are watched.
 ghost use Rattle.std.specs.Prelude.{◌≡◌, ℕ, List, [], ◌++◌, Bool, true, ◌↔◌, eqb, refl};
 ghost use Rattle.machine.specs.Tally.{tally_after};
 ghost use Rattle.machine.specs.TallyLaws.{tally_more, eqb_is};
 
+use crate::meeting::Meeting;
 use machine::Machine;
 use machine::row_runs::RowRuns;
 use machine::steps::Steps;
 use machine::tally::TallyMachine;
 use no_memory::NoMemory;
 use std::alloc::Global;
+use std::sync::Arc;
 use std::sync::atomic::{AtomicBool, Ordering};
 use std::sync::ledger::Ledger;
 
-/// The machine that adds, but that it answers want of memory once, at a run from cycle 0, where `refuses` is set.
+/// The machine that adds. Where `refuses` is set, it answers want of memory once, at a run from cycle 0. Where there is a
+/// meeting, a run from one of the cycles 0 to 6 reaches it.
 #[derive(Drop)]
-pub struct RefusingMachine {
+pub struct WatchedMachine {
     adds: TallyMachine,
     refuses: AtomicBool,
+    meeting: Option<Arc<Meeting, Global>>,
 }
 
-impl RefusingMachine {
+impl WatchedMachine {
     /// The machine that adds so much.
-    pub fn new(add: u64, refuses: bool) -> RefusingMachine {
-        RefusingMachine {
+    pub fn new(add: u64, refuses: bool, meeting: Option<Arc<Meeting, Global>>) -> WatchedMachine {
+        WatchedMachine {
             adds: TallyMachine { add },
             refuses: AtomicBool::new(refuses),
+            meeting,
+        }
+    }
+
+    /// Where a run begins.
+    fn begin(&self, cycle: u64) {
+        if cycle > 6 {
+            return;
+        }
+        if let Some(meeting) = &self.meeting {
+            meeting.reach(cycle + 1);
         }
     }
 }
 
-impl Machine for RefusingMachine {
+impl Machine for WatchedMachine {
     type State = u64;
 
     type Row = u64;
@@ -60,6 +75,7 @@ impl Machine for RefusingMachine {
         if a == 0 && self.refuses.swap(false, Ordering::SeqCst) {
             return Err(NoMemory);
         }
+        self.begin(a);
         self.adds.advance(alloc, rows, from, a, b, steps)
     }
 
