@@ -139,8 +139,9 @@ fn start<'s, E, M: Machine + 's, G: Gate + 's, R: Threads + Wait + Sync>(
             requires { IsOf turn.now worker false × IsFree (known worker) × ((known worker).own ≡ []) }
             ensures { IsOf turn.entry.now result false × HasEnded (known result) × AreTurns (Worker number) (known result).own }
         { worker_loop(rt, alloc, turn, worker, number, gate) };
-        if let Ok(child) = scope.spawn_with(promise, work) {
-            children.push_reserved(child);
+        match scope.spawn_with(promise, work) {
+            Ok(child) => children.push_reserved(child),
+            Err(_) => continue,
         }
     }
     children
