@@ -1,7 +1,6 @@
 -- The numbers of workers, and what a worker's pass has added from its beginning on.
-use Rattle.std.proofs.Common.{◌≡◌, ◌≤◌, ◌+◌, ℕ, List, [], ◌∷◌, ◌++◌, refl, sym, ap, ◌∙◌, subst, arith}
+use Rattle.std.proofs.Common.{◌≡◌, ◌≤◌, ◌+◌, ℕ, List, [], ◌∷◌, ◌++◌, sym, ap, ◌∙◌, subst, arith}
 use Rattle.book_history.specs.declared.who.Who.{Who}
-use Rattle.book_history.specs.Book.{Event}
 use Rattle.book_turn.specs.Known.{Known}
 use Rattle.segment_verify.specs.Entries.{AreTurns, HasTurned}
 use Rattle.worker_scope.specs.Scope.{Rise}
