@@ -37,6 +37,7 @@ pub record IsLoop (before : ℕ → ℕ → Type 0) (count : ℕ) (first : ℕ) 
   pub once : Distinct (first ∷ rest)
   pub least : (k : ℕ) → Member k rest → first < k
 
+-- no list is a loop
 abbrev pub HasNoLoop : (ℕ → ℕ → Type 0) → ℕ → Type 0
 HasNoLoop before count = (first : ℕ) (rest : List ℕ) → IsLoop before count first rest → ⊥
 
