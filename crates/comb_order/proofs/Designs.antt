@@ -87,7 +87,7 @@ refusal_of nodes rows NoMemory g h = tt
 pub no_order : (nodes : List FlatNode) (rows : List (List ℕ)) (r : OrderRefusal) (order : List ℕ) → IsGraph nodes rows → IsRefusal (HasEdge rows) (length rows) r
     → is_loop r ≡ true → IsOrder nodes order → ⊥
 no_order nodes rows (Loop circle) order g h is o =
-    no_stuck rows order (order_to (length nodes) (length rows) order (sym g.size) g.sound o) h.3.start h.3.starts.0
+    no_stuck (HasEdge rows) (length rows) order (order_to (length nodes) (length rows) order (sym g.size) g.sound o) h.3.start h.3.starts.0
 no_order nodes rows NoMemory order g h is o = true≢false (sym is)
 
 pub graph_closed : (nodes : List FlatNode) (rows : List (List ℕ)) → IsGraph nodes rows → IsClosed rows

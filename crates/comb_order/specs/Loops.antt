@@ -37,6 +37,15 @@ pub record IsLoop (before : ℕ → ℕ → Type 0) (count : ℕ) (first : ℕ) 
   pub once : Distinct (first ∷ rest)
   pub least : (k : ℕ) → Member k rest → first < k
 
+-- no list is a loop
+abbrev pub HasNoLoop : (ℕ → ℕ → Type 0) → ℕ → Type 0
+HasNoLoop before count = (first : ℕ) (rest : List ℕ) → IsLoop before count first rest → ⊥
+
+-- any two loops are the same list
+abbrev pub HasOneLoop : (ℕ → ℕ → Type 0) → ℕ → Type 0
+HasOneLoop before count = (first : ℕ) (rest : List ℕ) (other : ℕ) (more : List ℕ)
+    → IsLoop before count first rest → IsLoop before count other more → first ∷ rest ≡ other ∷ more
+
 -- a circle along edges: so many, back to where it began
 abbrev pub Path : List (List ℕ) → ℕ → ℕ → ℕ → Type 0
 Path rows a zero b = HasEdge rows a b

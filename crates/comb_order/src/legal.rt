@@ -1,6 +1,6 @@
 // Whether the widths within nodes and blocks agree with those of the signals.
 ghost use Rattle.std.specs.Prelude.{◌≡◌, map};
-ghost use Rattle.typed_ir.specs.Sized.{is_span, is_signal, is_width};
+ghost use Rattle.typed_ir.specs.Sized.{is_width};
 ghost use Rattle.typed_ir.specs.Stmts.{is_sized, is_target, are_targets, are_items, is_legal, is_clocked};
 ghost use Rattle.typed_ir.specs.Forms.{sized};
 ghost use Rattle.typed_ir.specs.Targets.{target_of, targets_of};
@@ -11,32 +11,12 @@ ghost use Rattle.typed_ir.specs.Flats.{are_clocked, are_below};
 ghost use Rattle.typed_ir.specs.Views.{widths};
 
 use bits::Bits;
-use typed_ir::{Arm, Item, Lane, Node, Span, Stmt, Target, Typed};
+use typed_ir::{Arm, Item, Lane, Node, Stmt, Target, Typed, is_signal, is_span};
 
 fn is_width(width: u8) -> bool
     ensures { result ≡ is_width width }
 {
     1 <= width && width <= 128
-}
-
-// Whether a signal has this number and width.
-fn is_signal(signal: u32, width: u8, env: &[Bits]) -> bool
-    ensures { result ≡ is_signal signal width (widths env.now) }
-{
-    let index = signal as usize;
-    index < env.len() && env[index].width == width
-}
-
-// Whether the span lies in its signal.
-fn is_span(span: Span, env: &[Bits]) -> bool
-    ensures { result ≡ is_span span (widths env.now) }
-{
-    let index = span.signal as usize;
-    if index >= env.len() || span.width == 0 {
-        return false;
-    }
-    let width = env[index].width;
-    span.low <= width && span.width <= width - span.low
 }
 
 fn is_sized(e: &Typed, env: &[Bits]) -> bool

@@ -46,6 +46,9 @@ pub fn linked(alloc: Global, design: Flat) -> Result<Linked, OrderRefusal>
     ensures design { IfOk result (λ linked. linked.design ≡ design) }
     ensures refusal { IfErr result (λ refusal.
         IsRefusal (Precedes (drives_at (flat design).nodes) (reads_at (flat design).nodes)) (length (flat design).nodes) refusal) }
+
+    // Where the loop is answered no order exists.
+    ensures none { IfErr result (λ refusal. is_loop refusal ≡ true → (order : List ℕ) → IsOrder (flat design).nodes order → ⊥) }
 {
     match order(alloc, &design) {
         Ok(order) => Ok(Linked { design, order }),

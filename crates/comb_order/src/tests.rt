@@ -170,19 +170,23 @@ fn two_in_a_circle(rt: HostRuntime) -> Result<(), Fail> {
     Ok(())
 }
 
-// Node 0 reads a signal of a circle of three; the circle is listed from its least node along predecessors.
+// Three of four nodes are in a circle, which is listed from its least node along predecessors. The fourth reads a signal of the
+// circle, or one that no node drives.
 #[test]
-fn three_in_a_circle_with_a_tail(rt: HostRuntime) -> Result<(), Fail> {
-    // what node 0 reads, what the nodes 1, 2 and 3 read, which drive the signals 1, 2 and 3; and the loop
+fn three_in_a_circle(rt: HostRuntime) -> Result<(), Fail> {
+    // what each node drives, which is the signal of its number, and what it reads; and the loop
     let table = [
         ([(0, 1), (1, 2), (2, 3), (3, 1)], [1, 2, 3]),
         ([(0, 1), (1, 3), (2, 1), (3, 2)], [1, 3, 2]),
         ([(0, 3), (1, 2), (2, 3), (3, 1)], [1, 2, 3]),
         ([(0, 2), (1, 3), (2, 1), (3, 2)], [1, 3, 2]),
+        ([(0, 2), (1, 0), (2, 1), (3, 1)], [0, 2, 1]),
+        ([(0, 3), (1, 2), (2, 0), (3, 2)], [0, 3, 2]),
+        ([(0, 4), (1, 3), (2, 1), (3, 2)], [1, 3, 2]),
     ];
     for (pairs, wanted) in table {
         let nodes = copies(rt.alloc(), &pairs)?;
-        expect_loop(&rt, rt.alloc(), &[1; 4], nodes, &wanted)?;
+        expect_loop(&rt, rt.alloc(), &[1; 5], nodes, &wanted)?;
     }
     Ok(())
 }

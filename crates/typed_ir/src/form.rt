@@ -178,16 +178,16 @@ fn resized(a: &Form, width: u8, signed: bool, env: &[Bits]) -> Bits
     a.value(env).resize(width, signed)
 }
 
-// Whether a signal has this number and width.
-fn is_signal(signal: u32, width: u8, env: &[Bits]) -> bool
+/// Whether a signal has this number and width.
+pub fn is_signal(signal: u32, width: u8, env: &[Bits]) -> bool
     ensures { result ≡ is_signal signal width (widths env.now) }
 {
     let index = signal as usize;
     index < env.len() && env[index].width == width
 }
 
-// Whether the span lies in its signal.
-fn is_span(span: Span, env: &[Bits]) -> bool
+/// Whether the span lies in its signal.
+pub fn is_span(span: Span, env: &[Bits]) -> bool
     ensures { result ≡ is_span span (widths env.now) }
 {
     let index = span.signal as usize;

@@ -29,7 +29,7 @@ mod update;
 pub use arm::Arm;
 pub use env::Env;
 pub use flat::Flat;
-pub use form::Form;
+pub use form::{Form, is_signal, is_span};
 pub use item::Item;
 pub use lane::Lane;
 pub use laws::order_settles;
