@@ -100,6 +100,6 @@ abbrev pub seg : Flat → (ℕ → List ℕ) → ℕ → ℕ → List ℕ → Li
 seg design rows a zero state = state
 seg design rows a (suc n) state = step design (seg design rows a n state) (input design (rows (a + n)))
 
--- the state at cycle c: that many cycles from reset
+-- the state at cycle c: that many cycles from reset, which is this project's own
 abbrev pub truth : Flat → (ℕ → List ℕ) → ℕ → List ℕ
 truth design rows c = seg design rows 0 c (reset design)

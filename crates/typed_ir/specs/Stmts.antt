@@ -79,7 +79,8 @@ abbrev pub matches_any : ℕ → List SizedItem → Valuation → Bool
 matches_any subject [] env = false
 matches_any subject (i ∷ is) env = matches_item subject i env || matches_any subject is env
 
--- the valuation after the blocking assignments; `subject` is the value of the case expression that an arm compares with
+-- the valuation after the blocking assignments (9.2.1), conditionals (9.4), cases (9.5) and statements in sequence (9.8.1);
+-- `subject` is the value of the case expression that an arm compares with
 abbrev pub exec_at : SizedStmt → ℕ → Valuation → Valuation
 exec_at Skip subject env = env
 exec_at (Assign parts e) subject env = written parts (value_of e env) env
@@ -93,7 +94,7 @@ exec_at (Arm items body rest) subject env =
 abbrev pub exec : SizedStmt → Valuation → Valuation
 exec st env = exec_at st 0 env
 
--- the nonblocking updates, in the order of execution
+-- the nonblocking updates, in the order of execution (9.2.2)
 abbrev pub pending_at : SizedStmt → ℕ → Valuation → List Update
 pending_at Skip subject env = []
 pending_at (Assign parts e) subject env = []
