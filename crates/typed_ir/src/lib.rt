@@ -34,7 +34,7 @@ pub use item::Item;
 pub use lane::Lane;
 pub use laws::order_settles;
 pub use linked::Linked;
-pub use node::{Node, settle};
+pub use node::Node;
 pub use operators::{
     ArithmeticOperator, BinaryOperator, Comparison, LogicalOperator, ShiftOperator, UnaryOperator,
 };
