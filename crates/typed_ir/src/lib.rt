@@ -32,7 +32,7 @@ pub use flat::Flat;
 pub use form::Form;
 pub use item::Item;
 pub use lane::Lane;
-pub use laws::order_settles;
+pub use laws::{order_settles, runs_join};
 pub use linked::Linked;
 pub use node::Node;
 pub use operators::{
