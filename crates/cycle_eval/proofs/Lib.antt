@@ -5,3 +5,4 @@ pub mod Carries
 pub mod Finding
 pub mod Laws
 pub mod Temporaries
+pub mod InputRows

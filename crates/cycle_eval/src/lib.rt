@@ -9,6 +9,7 @@ mod cycle;
 mod design;
 #[cfg(test)]
 mod design_tests;
+mod inputs;
 mod making;
 mod no_row;
 mod places;
