@@ -28,7 +28,7 @@ at_one : (p q : BinaryOperator) (i : ℕ) → WritesBit p q 1 i
 at_one p q i = go (nat_le 0 i && nat_lt i 4)
   where
     go : (b : Bool) → (b || (b || (false || false))) ≡ true
-        → (((false || false) || false) && true || ((((true || false) || false) && not (false || (b || false))) || ((true || false) && not ((false || (b || false)) || (b || false))))) ≡ false
+        → (((false || false) || false) && true || ((((true || false) || false) && not (false || (b || false))) || (((true || false) && not ((false || (b || false)) || (b || false))) || false))) ≡ false
     go true h = refl
     go false h = absurd (true≢false (sym h))
 

@@ -2,7 +2,7 @@
 use Rattle.std.specs.Prelude.{ℕ, List, [], ◌∷◌}
 use Rattle.typed_ir.specs.declared.operators.BinaryOperator.{BinaryOperator}
 use Rattle.typed_ir.specs.Sized.{Constant, Name, Binary}
-use Rattle.typed_ir.specs.Stmts.{SizedStmt, SizedTarget, Assign, Then, Fixed}
+use Rattle.typed_ir.specs.Stmts.{SizedStmt, SizedTarget, Skip, Assign, Then, Fixed}
 
 -- a whole signal of four bits, from the lowest bit of the value on
 abbrev pub all_of : ℕ → List SizedTarget
@@ -12,4 +12,4 @@ all_of signal = Fixed (record { shift = 0; span = record { signal = signal; low 
 abbrev pub temporary : BinaryOperator → BinaryOperator → SizedStmt
 temporary p q =
     Then (Assign (all_of 1) (Binary p (Name 0 4) (Constant 4 1)))
-    (Then (Assign (all_of 1) (Binary q (Name 1 4) (Constant 4 6))) (Assign (all_of 2) (Name 1 4)))
+    (Then (Assign (all_of 1) (Binary q (Name 1 4) (Constant 4 6))) (Then (Assign (all_of 2) (Name 1 4)) Skip))

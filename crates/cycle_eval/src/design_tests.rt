@@ -5,7 +5,7 @@ ghost use Rattle.typed_ir.specs.Flats.{NodeWritesFirst};
 ghost use Rattle.typed_ir.specs.Nodes.{Block, IsComplete};
 ghost use Rattle.typed_ir.specs.Orders.{Each};
 ghost use Rattle.typed_ir.specs.Statements.{stmt_of};
-ghost use Rattle.typed_ir.specs.Stmts.{Assign, Then};
+ghost use Rattle.typed_ir.specs.Stmts.{Assign};
 ghost use Rattle.typed_ir.specs.Forms.{sized};
 ghost use Rattle.typed_ir.specs.declared.operators.ArithmeticOperator.TheVariants.{Sum, Xor};
 ghost use Rattle.typed_ir.specs.declared.operators.BinaryOperator.TheVariants.{Arithmetic};
@@ -23,7 +23,8 @@ use std::process::Abort;
 use std::sync::ledger::{Blank, Ledger};
 use std::test::Fail;
 use typed_ir::{
-    ArithmeticOperator, BinaryOperator, Item, Lane, Node, Reach, Signal, Span, Stmt, Target, Typed,
+    ArithmeticOperator, Arm, BinaryOperator, Item, Lane, Node, Reach, Signal, Span, Stmt, Target,
+    Typed,
 };
 
 // Signals of these widths and values at the beginning.
@@ -121,14 +122,6 @@ fn later(alloc: Global, signal: u32, width: u8, e: Typed) -> Result<Stmt, NoMemo
     Ok(Stmt::Later(parts, e))
 }
 
-fn then(alloc: Global, a: Stmt, b: Stmt) -> Result<Stmt, NoMemory>
-    ensures { IfOk result (λ st. stmt_of st ≡ Then (stmt_of a) (stmt_of b)) }
-{
-    let first = Box::new(alloc, a)?;
-    let second = Box::new(alloc, b)?;
-    Ok(Stmt::Then(first, second))
-}
-
 // assign SIGNAL = E;
 fn assign(alloc: Global, signal: u32, width: u8, e: Typed) -> Result<Node, NoMemory> {
     let mut lanes = Vec::new(alloc);
@@ -156,22 +149,18 @@ fn plus(alloc: Global, signal: u32, width: u8, n: u8) -> Result<Typed, NoMemory>
 #[test]
 fn right_sides_read_old_registers(rt: HostRuntime) -> Result<(), Fail> {
     let alloc = rt.alloc();
-    let swap = then(
-        alloc,
+    let body = vec![in alloc;
         later(alloc, 0, 8, Typed::name(1, 8))?,
         later(alloc, 1, 8, Typed::name(0, 8))?,
-    )?;
-    let twice = then(
-        alloc,
         later(alloc, 2, 8, number(1, 8))?,
         later(alloc, 2, 8, number(2, 8))?,
-    )?;
+    ]?;
     let parts = Parts {
         signals: signals(&rt, alloc, &[(8, 1), (8, 2), (8, 0)])?,
         registers: vec![in alloc; 0, 1, 2]?,
         inputs: Vec::new(alloc),
         nodes: Vec::new(alloc),
-        clocked: vec![in alloc; then(alloc, swap, twice)?]?,
+        clocked: vec![in alloc; Stmt::Sequence(body)]?,
     };
     let design = design_of(&rt, alloc, parts)?;
     assert_eq!(rt; after(alloc, &design, 0)?.as_slice(), [1, 2, 0].as_slice());
@@ -195,12 +184,13 @@ fn a_place_known_at_run_time(rt: HostRuntime) -> Result<(), Fail> {
     let places = vec![in alloc; Target::Moving(reach, Typed::name(1, 3))]?;
     let one = Stmt::Later(places, number(1, 1));
     let next = later(alloc, 1, 3, plus(alloc, 1, 3, 1)?)?;
+    let body = vec![in alloc; one, next]?;
     let parts = Parts {
         signals: signals(&rt, alloc, &[(4, 0), (3, 0)])?,
         registers: vec![in alloc; 0, 1]?,
         inputs: Vec::new(alloc),
         nodes: Vec::new(alloc),
-        clocked: vec![in alloc; then(alloc, one, next)?]?,
+        clocked: vec![in alloc; Stmt::Sequence(body)]?,
     };
     let design = design_of(&rt, alloc, parts)?;
     assert_eq!(rt;
@@ -219,16 +209,15 @@ fn a_place_known_at_run_time(rt: HostRuntime) -> Result<(), Fail> {
     Ok(())
 }
 
-// casez (s) ITEM: y <= N; default or the arms after it
-fn arm(alloc: Global, ignored: u128, item: u8, n: u8, rest: Stmt) -> Result<Stmt, NoMemory> {
+// ITEM: y <= N;
+fn arm(alloc: Global, ignored: u128, item: u8, n: u8) -> Result<Arm, NoMemory> {
     let item = Item {
         ignored,
         item: number(item, 4),
     };
     let items = vec![in alloc; item]?;
-    let body = Box::new(alloc, later(alloc, 1, 2, number(n, 2))?)?;
-    let others = Box::new(alloc, rest)?;
-    Ok(Stmt::Arm(items, body, others))
+    let body = later(alloc, 1, 2, number(n, 2))?;
+    Ok(Arm { items, body })
 }
 
 // reg [3:0] s = 5; reg [1:0] y; always @(posedge clk) begin
@@ -236,17 +225,19 @@ fn arm(alloc: Global, ignored: u128, item: u8, n: u8, rest: Stmt) -> Result<Stmt
 #[test]
 fn a_case_with_dont_cares(rt: HostRuntime) -> Result<(), Fail> {
     let alloc = rt.alloc();
-    let otherwise = later(alloc, 1, 2, number(3, 2))?;
-    let second = arm(alloc, 0b0111, 0b0000, 2, otherwise)?;
-    let first = arm(alloc, 0b0011, 0b0100, 1, second)?;
-    let arms = Box::new(alloc, first)?;
+    let otherwise = Box::new(alloc, later(alloc, 1, 2, number(3, 2))?)?;
+    let arms = vec![in alloc;
+        arm(alloc, 0b0011, 0b0100, 1)?,
+        arm(alloc, 0b0111, 0b0000, 2)?,
+    ]?;
     let next = later(alloc, 0, 4, plus(alloc, 0, 4, 6)?)?;
+    let body = vec![in alloc; next, Stmt::Case(Typed::name(0, 4), arms, otherwise)]?;
     let parts = Parts {
         signals: signals(&rt, alloc, &[(4, 5), (2, 0)])?,
         registers: vec![in alloc; 0, 1]?,
         inputs: Vec::new(alloc),
         nodes: Vec::new(alloc),
-        clocked: vec![in alloc; then(alloc, next, Stmt::Case(Typed::name(0, 4), arms))?]?,
+        clocked: vec![in alloc; Stmt::Sequence(body)]?,
     };
     let design = design_of(&rt, alloc, parts)?;
     let table = [[11, 1], [1, 3], [7, 2], [13, 1], [3, 3]];
@@ -254,6 +245,32 @@ fn a_case_with_dont_cares(rt: HostRuntime) -> Result<(), Fail> {
         let values = after(alloc, &design, cycles as u64 + 1)?;
         assert_eq!(rt; values.as_slice(), table[cycles].as_slice());
     }
+    Ok(())
+}
+
+// reg [3:0] q; reg [1:0] y; always @(posedge clk) begin
+//   100,000 assignments q <= 0, q <= 1, .. by the lowest four bits of their numbers, of which the last wins: 99,999 = 6,249 * 16 + 15;
+//   case (q) with 100,000 arms 1: y <= 1; default: y <= 3; endcase end
+#[test]
+fn a_long_block(rt: HostRuntime) -> Result<(), Fail> {
+    let alloc = rt.alloc();
+    let mut body = Vec::new(alloc);
+    let mut arms = Vec::new(alloc);
+    for k in 0..100_000u32 {
+        body.push(later(alloc, 0, 4, number((k % 16) as u8, 4))?)?;
+        arms.push(arm(alloc, 0, 1, 1)?)?;
+    }
+    let otherwise = Box::new(alloc, later(alloc, 1, 2, number(3, 2))?)?;
+    body.push(Stmt::Case(Typed::name(0, 4), arms, otherwise))?;
+    let parts = Parts {
+        signals: signals(&rt, alloc, &[(4, 0), (2, 0)])?,
+        registers: vec![in alloc; 0, 1]?,
+        inputs: Vec::new(alloc),
+        nodes: Vec::new(alloc),
+        clocked: vec![in alloc; Stmt::Sequence(body)]?,
+    };
+    let design = design_of(&rt, alloc, parts)?;
+    assert_eq!(rt; after(alloc, &design, 1)?.as_slice(), [15, 3].as_slice());
     Ok(())
 }
 
@@ -272,11 +289,10 @@ fn wires_written_backwards(rt: HostRuntime) -> Result<(), Fail> {
         )?,
         assign(alloc, 3, 4, plus(alloc, 0, 4, 1)?)?,
     ]?;
-    let others = then(
-        alloc,
+    let others = vec![in alloc;
         later(alloc, 1, 4, Typed::name(5, 4))?,
         later(alloc, 2, 4, plus(alloc, 6, 4, 1)?)?,
-    )?;
+    ]?;
     let parts = Parts {
         signals: signals(
             &rt,
@@ -286,7 +302,10 @@ fn wires_written_backwards(rt: HostRuntime) -> Result<(), Fail> {
         registers: vec![in alloc; 0, 1, 2]?,
         inputs: vec![in alloc; 6]?,
         nodes,
-        clocked: vec![in alloc; later(alloc, 0, 4, Typed::name(4, 4))?, others]?,
+        clocked: vec![in alloc;
+            later(alloc, 0, 4, Typed::name(4, 4))?,
+            Stmt::Sequence(others),
+        ]?,
     };
     let design = design_of(&rt, alloc, parts)?;
     // (0 + 1) ^ 3 is 2, and (2 + 1) ^ 3 is 0; a wire without a driver and an input that isn't set read 0
@@ -316,12 +335,12 @@ fn block(alloc: Global) -> Result<Node, NoMemory>
     let six = Typed::constant(Bits::new(4, 6));
     let more = Typed::binary(alloc, sum, Typed::name(0, 4), one)?;
     let mixed = Typed::binary(alloc, xor, Typed::name(1, 4), six)?;
-    let second = then(
-        alloc,
+    let body = vec![in alloc;
+        now(alloc, 1, more)?,
         now(alloc, 1, mixed)?,
         now(alloc, 2, Typed::name(1, 4))?,
-    )?;
-    Ok(Node::Block(then(alloc, now(alloc, 1, more)?, second)?))
+    ]?;
+    Ok(Node::Block(Stmt::Sequence(body)))
 }
 
 // reg [3:0] q = 4; reg [3:0] t, y; the block; always @(posedge clk) q <= y;
