@@ -6,3 +6,4 @@ pub mod Finding
 pub mod Laws
 pub mod Temporaries
 pub mod InputRows
+pub mod Works
