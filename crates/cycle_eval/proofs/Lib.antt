@@ -5,3 +5,5 @@ pub mod Carries
 pub mod Finding
 pub mod Laws
 pub mod Temporaries
+pub mod InputRows
+pub mod Works

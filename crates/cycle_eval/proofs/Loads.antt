@@ -1,16 +1,16 @@
 -- States that are put into an environment, and read from it.
-use Rattle.std.proofs.Common.{◌≡◌, ℕ, zero, suc, ◌+◌, ◌<◌, ◌≤◌, ◌==◌, take, nat_lt, List, [], ◌∷◌, ◌++◌, length, map, get_or, set, drop, append_assoc, IsTrue, refl, sym, ◌∙◌, ap, ap₂, arith}
+use Rattle.std.proofs.Common.{◌≡◌, ℕ, zero, suc, ◌+◌, ◌<◌, ◌≤◌, take, nat_lt, List, [], ◌∷◌, ◌++◌, length, map, get_or, set, drop, append_assoc, IsTrue, refl, sym, ◌∙◌, ap, ap₂, arith}
 use Rattle.std.specs.Prelude.{slice_index, slice_get, Some}
 use Rattle.bits.specs.declared.Bits.{Bits}
 use Rattle.typed_ir.specs.States.{sized_value}
 use Rattle.typed_ir.specs.Views.{widths, env_of}
 use Rattle.typed_ir.proofs.Views.{map_set, set_same, widths-read, env_of-read}
 use Rattle.std.proofs.lemmas.List.{append-nil, drop_all, take_all}
-use Rattle.std.proofs.lemmas.Bool.{ltb-true, cond-true, cond-false}
+use Rattle.std.proofs.lemmas.Bool.{ltb-true}
 use Rattle.typed_ir.specs.Valuations.{Valuation, put}
-use Rattle.typed_ir.specs.Cycles.{fill, cut_to}
+use Rattle.typed_ir.specs.Cycles.{fill}
 use Rattle.typed_ir.specs.Flats.{are_below}
-use Rattle.typed_ir.proofs.Cases.{by_cases, and_left, and_right}
+use Rattle.typed_ir.proofs.Cases.{and_left, and_right}
 use Rattle.typed_ir.proofs.Lists.{drop_split}
 use Rattle.cycle_eval.specs.States.{paired, state_widths, state_values}
 
@@ -79,13 +79,7 @@ written_back n new old same is =
     let all : length new ≤ n = omega (arith, is) in
     ap (λ zs. take n (new ++ zs)) (drop_all (length new) old few) ∙ ap (take n) (append-nil new) ∙ take_all n new all
 
--- inputs that no row sets read 0
-pub zero_inputs : (ss ws : List ℕ) (env : Valuation) → ((s : ℕ) → env s ≡ 0) → env ≡ fill ss (cut_to ws []) (λ s. 0)
-zero_inputs ss ws env z = λ j s. (z s ∙ sym (all_zero ss ws s)) j
-  where
-    all_zero : (ss ws : List ℕ) (s : ℕ) → fill ss (cut_to ws []) (λ t. 0) s ≡ 0
-    all_zero [] ws s = refl
-    all_zero (t ∷ ts) [] s = refl
-    all_zero (t ∷ ts) (w ∷ ws) s = by_cases (s == t)
-        (λ yes. cond-true (s == t) 0 (fill ts (cut_to ws []) (λ u. 0) s) yes)
-        (λ no. cond-false (s == t) 0 (fill ts (cut_to ws []) (λ u. 0) s) no ∙ all_zero ts ws s)
+-- where no input is given, all of them are 0
+pub no_inputs : (ss : List ℕ) (env : Valuation) → ((s : ℕ) → env s ≡ 0) → env ≡ fill ss [] (λ s. 0)
+no_inputs [] env z = λ j s. z s j
+no_inputs (t ∷ ts) env z = λ j s. z s j

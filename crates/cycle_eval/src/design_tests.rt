@@ -1,5 +1,5 @@
 // Cycles of small designs, worked out by hand, and one cycle of a long chain.
-ghost use Rattle.std.specs.Prelude.{◌≡◌, ◌<◌, map, IfOk};
+ghost use Rattle.std.specs.Prelude.{◌≡◌, ◌<◌, ◌+◌, ◌*◌, map, length, IfOk};
 ghost use Rattle.typed_ir.specs.FlatNodes.{node_of};
 ghost use Rattle.typed_ir.specs.Flats.{NodeWritesFirst};
 ghost use Rattle.typed_ir.specs.Nodes.{Block, IsComplete};
@@ -9,6 +9,7 @@ ghost use Rattle.typed_ir.specs.Stmts.{Assign};
 ghost use Rattle.typed_ir.specs.Forms.{sized};
 ghost use Rattle.typed_ir.specs.declared.operators.ArithmeticOperator.TheVariants.{Sum, Xor};
 ghost use Rattle.typed_ir.specs.declared.operators.BinaryOperator.TheVariants.{Arithmetic};
+ghost use Rattle.cycle_eval.specs.Designs.{work_of};
 ghost use Rattle.cycle_eval.specs.Temporary.{all_of, temporary};
 
 use crate::Design;
@@ -23,12 +24,16 @@ use std::process::Abort;
 use std::sync::ledger::{Blank, Ledger};
 use std::test::Fail;
 use typed_ir::{
-    ArithmeticOperator, Arm, BinaryOperator, Item, Lane, Node, Reach, Signal, Span, Stmt, Target,
-    Typed,
+    ArithmeticOperator, Arm, BinaryOperator, Item, Lane, Node, Reach, RegState, Signal, Span, Stmt,
+    Target, Typed,
 };
 
 // Signals of these widths and values at the beginning.
-fn signals(rt: &impl Abort, alloc: Global, list: &[(u8, u128)]) -> Result<Vec<Signal>, NoMemory> {
+pub fn signals(
+    rt: &impl Abort,
+    alloc: Global,
+    list: &[(u8, u128)],
+) -> Result<Vec<Signal>, NoMemory> {
     let mut signals = Vec::new(alloc);
     for (width, initial) in list {
         assert!(rt; 1 <= *width && *width <= 128);
@@ -46,15 +51,19 @@ fn signals(rt: &impl Abort, alloc: Global, list: &[(u8, u128)]) -> Result<Vec<Si
 
 // A design without a combinational block.
 #[tactic(auto, using(comb_order::proofs::Flatten::complete_of, comb_order::proofs::Flatten::first_of))]
-pub fn design_of(rt: &impl Abort, alloc: Global, parts: Parts) -> Result<Design, NoMemory> {
+pub fn design_of(rt: &impl Abort, alloc: Global, parts: Parts) -> Result<Design, NoMemory>
+    ensures { IfOk result (λ design. work_of design ≡ length parts.nodes.items + length parts.clocked.items) }
+{
     assert!(rt; no_block(&parts.nodes));
     design_with(rt, alloc, parts)
 }
 
 // A design whose blocks write each of their bits on every path, and before they read it.
+#[tactic(auto, using(crate::proofs::Works::work_is))]
 fn design_with(rt: &impl Abort, alloc: Global, parts: Parts) -> Result<Design, NoMemory>
     requires complete { Each IsComplete (map node_of parts.nodes.items) }
     requires first { Each NodeWritesFirst (map node_of parts.nodes.items) }
+    ensures { IfOk result (λ design. work_of design ≡ length parts.nodes.items + length parts.clocked.items) }
 {
     assert!(rt; parts.nodes.len() < 1_000_000);
     let design = flat_of(alloc, parts)?.expect(rt, "a design");
@@ -64,23 +73,30 @@ fn design_with(rt: &impl Abort, alloc: Global, parts: Parts) -> Result<Design, N
     }
 }
 
-// What the registers have after so many cycles from the beginning.
-fn values_after<L: Ledger>(
-    alloc: Global,
-    design: &Design,
-    cycles: u64,
-    steps: &mut Steps<L>,
-) -> Result<Vec<u128>, NoMemory> {
-    let start = design.reset_state(alloc)?;
-    let mut env = design.loaded(alloc, &start)?;
-    let mut updates = design.room(alloc)?;
-    design.run(&mut env, &mut updates, cycles, steps);
-    let state = design.state_of(alloc, &env)?;
+// The numbers of a state.
+pub fn values_of(alloc: Global, state: &RegState) -> Result<Vec<u128>, NoMemory> {
     let mut values = Vec::new(alloc);
     for i in 0..state.len() {
         values.push(state.get(i).value())?;
     }
     Ok(values)
+}
+
+// What the registers have after so many cycles from the beginning.
+pub fn values_after<L: Ledger>(
+    alloc: Global,
+    design: &Design,
+    cycles: u64,
+    steps: &mut Steps<L>,
+) -> Result<Vec<u128>, NoMemory>
+    ensures { IfOk result (λ _. steps.new ≡ steps.old + cycles * work_of design.now) }
+{
+    let start = design.reset_state(alloc)?;
+    let mut env = design.loaded(alloc, &start)?;
+    let mut updates = design.room(alloc)?;
+    design.run(&mut env, &mut updates, cycles, steps);
+    let state = design.state_of(alloc, &env)?;
+    values_of(alloc, &state)
 }
 
 // The same with a counter of its own.
@@ -116,14 +132,14 @@ fn whole(signal: u32, width: u8) -> Lane
 }
 
 // SIGNAL <= E;
-fn later(alloc: Global, signal: u32, width: u8, e: Typed) -> Result<Stmt, NoMemory> {
+pub fn later(alloc: Global, signal: u32, width: u8, e: Typed) -> Result<Stmt, NoMemory> {
     let mut parts = Vec::new(alloc);
     parts.push(Target::Fixed(whole(signal, width)))?;
     Ok(Stmt::Later(parts, e))
 }
 
 // assign SIGNAL = E;
-fn assign(alloc: Global, signal: u32, width: u8, e: Typed) -> Result<Node, NoMemory> {
+pub fn assign(alloc: Global, signal: u32, width: u8, e: Typed) -> Result<Node, NoMemory> {
     let mut lanes = Vec::new(alloc);
     lanes.push(whole(signal, width))?;
     Ok(Node::Drive(lanes, e))
@@ -137,7 +153,7 @@ fn number(n: u8, width: u8) -> Typed
     Typed::constant(Bits::new(width, u128::from(n)))
 }
 
-fn plus(alloc: Global, signal: u32, width: u8, n: u8) -> Result<Typed, NoMemory>
+pub fn plus(alloc: Global, signal: u32, width: u8, n: u8) -> Result<Typed, NoMemory>
     requires some { 0 < width }
     requires few { width < 9 }
 {

@@ -9,11 +9,16 @@ mod cycle;
 mod design;
 #[cfg(test)]
 mod design_tests;
+#[cfg(test)]
+mod input_tests;
+mod inputs;
 mod making;
 mod no_row;
 mod places;
 mod run;
 mod state;
+#[cfg(test)]
+mod step_tests;
 #[cfg(test)]
 mod tests;
 

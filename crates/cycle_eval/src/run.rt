@@ -1,6 +1,6 @@
 // Runs of a design, as a machine without rows.
 ghost use Rattle.std.specs.Prelude.{◌≡◌, ◌≤◌, ◌+◌, ◌*◌, ℕ, List, [], IfOk, map, length, vec_capacity};
-ghost use Rattle.typed_ir.specs.Cycles.{base, input, seg, IsReady};
+ghost use Rattle.typed_ir.specs.Cycles.{base, seg, IsReady};
 ghost use Rattle.typed_ir.specs.Flats.{signal_widths};
 ghost use Rattle.typed_ir.specs.Views.{widths, env_of};
 ghost use Rattle.cycle_eval.specs.Designs.{flat_of, work_of};
@@ -22,14 +22,15 @@ impl Design {
     pub fn loaded(&self, alloc: Global, from: &RegState) -> Result<Vec<Bits>, NoMemory>
         requires { Fits (flat_of self.now) from.now }
         ensures widths { IfOk result (λ env. widths env.items ≡ signal_widths self.now.linked.design.signals.items) }
-        ensures value { IfOk result (λ env. env_of env.items ≡ base (flat_of self.now) (state_values from.now) (input (flat_of self.now) [])) }
+        ensures value { IfOk result (λ env. env_of env.items ≡ base (flat_of self.now) (state_values from.now) []) }
     {
         let mut env = zeros(alloc, &self.linked.design.signals)?;
         load(&self.linked.design.registers, from, &mut env);
         Ok(env)
     }
 
-    /// So many cycles in place, under inputs that read 0. It takes no memory: `updates` has room for those of a cycle.
+    /// So many cycles in place, all under the empty row, whatever the inputs were before. It takes no memory: `updates` has room for
+    /// those of a cycle.
     pub fn run<L: Ledger>(
         &self,
         env: &mut [Bits],
@@ -40,12 +41,13 @@ impl Design {
         requires widths { widths env.old ≡ signal_widths self.now.linked.design.signals.items }
         requires room { all_updates (flat_of self.now).clocked ≤ vec_capacity updates.old }
         ensures widths { widths env.new ≡ widths env.old }
-        ensures value { (state : List ℕ)
-            → IsReady (flat_of self.now) state (input (flat_of self.now) []) (env_of env.old)
+        ensures value { (state inputs : List ℕ)
+            → IsReady (flat_of self.now) state inputs (env_of env.old)
             → map (env_of env.old) self.now.linked.design.registers.items ≡ state
             → map (env_of env.new) self.now.linked.design.registers.items ≡ seg (flat_of self.now) (λ t. []) 0 cycles state }
         ensures taken { steps.new ≡ steps.old + cycles * work_of self.now }
     {
+        self.write_inputs(env, &[]);
         for _cycle in 0..cycles {
             self.cycle(env, updates, steps);
         }

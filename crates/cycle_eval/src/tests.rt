@@ -1,5 +1,6 @@
 // A counter, cycle by cycle, and its steps.
-ghost use Rattle.std.specs.Prelude.{◌≡◌, ◌<◌, IfOk};
+ghost use Rattle.std.specs.Prelude.{◌≡◌, ◌<◌, ◌+◌, ◌*◌, IfOk};
+ghost use Rattle.cycle_eval.specs.Designs.{work_of};
 ghost use Rattle.machine.specs.Rows.{Covers};
 
 use crate::{Design, NoOps, NoRow};
@@ -88,7 +89,9 @@ fn after<L: Ledger>(
     design: &Design,
     cycles: u64,
     steps: &mut Steps<L>,
-) -> Result<u128, NoMemory> {
+) -> Result<u128, NoMemory>
+    ensures { IfOk result (λ _. steps.new ≡ steps.old + cycles * work_of design.now) }
+{
     let start = design.reset_state(alloc)?;
     let mut env = design.loaded(alloc, &start)?;
     let mut updates = design.room(alloc)?;
@@ -102,7 +105,9 @@ fn by_rows<L: Ledger>(
     alloc: Global,
     design: &Design,
     steps: &mut Steps<L>,
-) -> Result<(u128, u128, bool), NoMemory> {
+) -> Result<(u128, u128, bool), NoMemory>
+    ensures { IfOk result (λ _. steps.new ≡ steps.old + 3 * work_of design.now) }
+{
     let rows = three_rows(alloc)?;
     let start = design.reset_state(alloc)?;
     let again = design.reset(alloc)?;

@@ -12,3 +12,4 @@ pub mod Ready
 pub mod Masks
 pub mod Mentions
 pub mod Listed
+pub mod Runs

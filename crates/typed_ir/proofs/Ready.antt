@@ -90,7 +90,7 @@ applied_others registers (u ∷ us) env s h ne =
     (λ yes. absurd (ne (subst (λ z. Member z registers) (sym (eqb-true s u.span.signal yes)) h.0)))
     (λ no. cond-false (s == u.span.signal) _ (env s) no)
 
-member_or : (s : ℕ) (xs : List ℕ) → Member s xs ⊎ (Member s xs → ⊥)
+pub member_or : (s : ℕ) (xs : List ℕ) → Member s xs ⊎ (Member s xs → ⊥)
 member_or s [] = inr (λ m. m)
 member_or s (x ∷ xs) = by_cases (s == x)
     (λ yes. inl (inl (eqb-true s x yes)))

@@ -4,6 +4,7 @@ pub mod Stmts
 pub mod Nodes
 pub mod Orders
 pub mod Cycles
+pub mod RunLaws
 pub mod Forms
 pub mod Views
 pub mod Targets

@@ -32,9 +32,9 @@ pub use flat::Flat;
 pub use form::{Form, is_signal, is_span};
 pub use item::Item;
 pub use lane::Lane;
-pub use laws::order_settles;
+pub use laws::{order_settles, runs_join};
 pub use linked::Linked;
-pub use node::{Node, settle};
+pub use node::Node;
 pub use operators::{
     ArithmeticOperator, BinaryOperator, Comparison, LogicalOperator, ShiftOperator, UnaryOperator,
 };

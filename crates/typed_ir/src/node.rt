@@ -1,7 +1,6 @@
-// Nodes, and one pass over them.
-ghost use Rattle.std.specs.Prelude.{◌≡◌, ◌<◌, IsTrue, All, map, length};
-ghost use Rattle.typed_ir.specs.Nodes.{drive, drive_at, is_legal_node, are_legal};
-ghost use Rattle.typed_ir.specs.Orders.{pass};
+// Nodes, each evaluated in place.
+ghost use Rattle.std.specs.Prelude.{◌≡◌, IsTrue};
+ghost use Rattle.typed_ir.specs.Nodes.{drive, is_legal_node};
 ghost use Rattle.typed_ir.specs.FlatNodes.{node_of};
 ghost use Rattle.typed_ir.specs.Views.{widths, env_of};
 
@@ -35,17 +34,5 @@ impl Node {
             }
             Node::Block(body) => body.run(env),
         }
-    }
-}
-
-/// One pass over the nodes in the order.
-pub fn settle(nodes: &[Node], order: &[u32], env: &mut [Bits])
-    requires legal { IsTrue (are_legal (map node_of nodes.now) (widths env.old)) }
-    requires in_range { All (λ k. k < length nodes.now) order.now }
-    ensures widths { widths env.new ≡ widths env.old }
-    ensures value { env_of env.new ≡ pass (drive_at (map node_of nodes.now)) order.now (env_of env.old) }
-{
-    for k in order {
-        nodes[*k as usize].settle(env);
     }
 }

@@ -4,7 +4,7 @@ use Rattle.std.proofs.Math.Logic.{∥∥₁_elim}
 use Rattle.std.proofs.Props.{props}
 use Rattle.std.proofs.lemmas.List.{length-map}
 use Rattle.typed_ir.specs.Valuations.{look}
-use Rattle.typed_ir.specs.Cycles.{base, input, seg, fill, width_at, IsReady}
+use Rattle.typed_ir.specs.Cycles.{base, seg, fill, width_at, IsReady}
 use Rattle.typed_ir.specs.Views.{env_of}
 use Rattle.cycle_eval.specs.Designs.{flat_of}
 use Rattle.cycle_eval.specs.Kits.{run_of, register_widths}
@@ -23,14 +23,14 @@ returns-clause-value g c =
     let xs = state_values from in
     let env = c.in_ok-env.env in
     let n = c.args.b - c.args.a in
-    let start : env_of c.deref_mut.result.now ≡ base flat xs (input flat []) = ap env_of c.deref_mut.ensures.value ∙ c.in_ok-env.ensures.value in
-    let ready : IsReady flat xs (input flat []) (env_of c.deref_mut.result.now) = λ s i free. ap (λ v. look v s i) start in
+    let start : env_of c.deref_mut.result.now ≡ base flat xs [] = ap env_of c.deref_mut.ensures.value ∙ c.in_ok-env.ensures.value in
+    let ready : IsReady flat xs [] (env_of c.deref_mut.result.now) = λ s i free. ap (λ v. look v s i) start in
     let count : length xs ≡ length rs =
     length-map from (λ (p : ℕ × ℕ). p.1) ∙ sym (length-map from (λ (p : ℕ × ℕ). p.0)) ∙ ap length c.requires.fits ∙ length-map rs (width_at flat) in
     let held : map (env_of c.deref_mut.result.now) rs ≡ xs =
     ap (λ v. map v rs) start
-    ∙ ∥∥₁_elim self.linked.design.sound (hlevel props) (λ f. fill_back rs xs (fill flat.inputs (input flat []) (λ s. 0)) f.registers_once count) in
-    let ends : map (env_of c.run.new.env) rs ≡ seg flat (λ t. []) 0 n xs = c.run.ensures.value xs ready held in
+    ∙ ∥∥₁_elim self.linked.design.sound (hlevel props) (λ f. fill_back rs xs (fill flat.inputs [] (λ s. 0)) f.registers_once count) in
+    let ends : map (env_of c.run.new.env) rs ≡ seg flat (λ t. []) 0 n xs = c.run.ensures.value xs [] ready held in
     let whole : c.deref.result.now ≡ c.run.new.env =
     c.deref.ensures.value ∙ written_back env.len c.run.new.env env.items
     (omega (arith, c.run.auto.env, ap length c.deref_mut.ensures.value)) (omega (arith, c.run.auto.env, c.deref_mut.ensures.len)) in

@@ -1,13 +1,13 @@
 use Rattle.std.proofs.Common.{◌≡◌, ◌++◌, ◌∙◌, ℕ, List, [], map, length, take, drop, sym, ap, ap₂, arith}
 use Rattle.std.specs.Prelude.{slice_index}
-use Rattle.typed_ir.specs.Cycles.{Signal, input, fill}
+use Rattle.typed_ir.specs.Cycles.{fill}
 use Rattle.typed_ir.specs.Flats.{signal_widths}
 use Rattle.typed_ir.specs.Views.{widths, env_of}
 use Rattle.typed_ir.specs.Valuations.{Valuation}
 use Rattle.cycle_eval.specs.Designs.{flat_of}
 use Rattle.cycle_eval.specs.States.{state_values}
 use Rattle.cycle_eval.proofs.Passes.{flat_widths}
-use Rattle.cycle_eval.proofs.Loads.{written_back, zero_inputs}
+use Rattle.cycle_eval.proofs.Loads.{written_back, no_inputs}
 use Rattle.cycle_eval.proofs.design.Design.loaded.Goals as goal
 
 pub load-requires-clause-fits : goal.load-requires-clause-fits
@@ -26,7 +26,7 @@ returns-clause-value c =
     let xs = state_values c.args.from.now in
     let whole : take env.len (c.load.new.env ++ drop (length c.load.new.env) env.items) ≡ c.load.new.env =
     written_back env.len c.load.new.env env.items (omega (arith, c.load.auto.env, ap length c.deref_mut.ensures.value)) (omega (arith, c.load.auto.env, c.deref_mut.ensures.len)) in
-    let zero : env_of c.deref_mut.result.now ≡ fill flat.inputs (input flat []) (λ s. 0) =
-    ap env_of c.deref_mut.ensures.value ∙ zero_inputs flat.inputs (map (λ (s : ℕ). slice_index (map (λ (x : Signal). x.width) flat.signals) s) flat.inputs) (env_of env.items) c.in_ok-env.ensures.value in
+    let zero : env_of c.deref_mut.result.now ≡ fill flat.inputs [] (λ s. 0) =
+    ap env_of c.deref_mut.ensures.value ∙ no_inputs flat.inputs (env_of env.items) c.in_ok-env.ensures.value in
     ap env_of whole ∙ c.load.ensures.value
     ∙ ap₂ (λ (rs : List ℕ) (v : Valuation). fill rs xs v) c.deref-2.ensures.value zero

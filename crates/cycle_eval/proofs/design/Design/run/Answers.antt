@@ -21,3 +21,10 @@ loop-cycle-preserved g c =
       room = c.cycle.ensures.capacity ∙ c.loop-cycle.invariant.room;
       taken = c.cycle.ensures.taken ∙ omega (arith, row, c.loop-cycle.invariant.taken);
     }
+
+pub returns-clause-value : goal.returns-clause-value
+returns-clause-value g c = λ state inputs ready start.
+    let flat = flat_of c.args.self.now in
+    let last : c.loop-cycle._cycle ≡ c.args.cycles = omega (arith, c.loop-cycle-test.false, c.loop-cycle.auto._cycle-end) in
+    c.loop-cycle.invariant.value state (c.write_inputs.ensures.ready state inputs ready) (c.write_inputs.ensures.registers ∙ start)
+    ∙ ap (λ n. seg flat (λ t. []) 0 n state) last

@@ -1,0 +1,58 @@
+use Rattle.std.proofs.Common.{◌≡◌, ◌+◌, ◌-◌, ◌<◌, ◌%◌, ◌^◌, ◌∙◌, ℕ, length, get_or, map, drop, sym, ap, ap₂, subst, arith}
+use Rattle.std.specs.Prelude.{slice_index}
+use Rattle.std.proofs.lemmas.List.{length-map}
+use Rattle.bits.specs.declared.Bits.{Bits}
+use Rattle.typed_ir.specs.Cycles.{fill, cut_to}
+use Rattle.typed_ir.specs.Views.{widths, env_of}
+use Rattle.typed_ir.proofs.Views.{env_of-set, get_or-map}
+use Rattle.cycle_eval.proofs.Loads.{below_read, fill_step, widths_put}
+use Rattle.cycle_eval.proofs.InputRows.{cut_length, cut_read}
+use Rattle.cycle_eval.proofs.inputs.put_row.Goals as goal
+
+pub bounds-env-input : goal.bounds-env-input
+bounds-env-input c =
+    let there : get_or c.args.inputs.now (c.loop-left.left - 1) 0 < length c.args.env.now =
+    below_read c.args.inputs.now (length c.args.env.now) (c.loop-left.left - 1) c.requires (omega arith) in
+    omega (arith, there, c.loop-left.auto.env)
+
+pub bounds-env-input-in-loop-left : goal.bounds-env-input-in-loop-left
+bounds-env-input-in-loop-left c = λ old.
+    let there : get_or c.args.inputs.now (c.loop-left.left - 1) 0 < length c.args.env.now =
+    below_read c.args.inputs.now (length c.args.env.now) (c.loop-left.left - 1) c.requires (omega arith) in
+    omega (arith, there, c.loop-left.auto.env)
+
+pub bounds-env-input-in-loop-left-2 : goal.bounds-env-input-in-loop-left-2
+bounds-env-input-in-loop-left-2 c =
+    let there : get_or c.args.inputs.now (c.loop-left.left - 1) 0 < length c.args.env.now =
+    below_read c.args.inputs.now (length c.args.env.now) (c.loop-left.left - 1) c.requires (omega arith) in
+    omega (arith, there, c.loop-left.auto.env)
+
+pub loop-left-preserved : goal.loop-left-preserved
+loop-left-preserved c =
+    let ss = c.args.inputs.now in
+    let old = c.args.env.now in
+    let env = c.loop-left.env in
+    let ws = map (λ (s : ℕ). slice_index (widths old) s) ss in
+    let row = c.args.row.now in
+    let i = c.loop-left.left - 1 in
+    let s = get_or ss i 0 in
+    let x = c.new.result in
+    let within : i < length ss = omega arith in
+    let there : s < length old = below_read ss (length old) i c.requires within in
+    let here : s < length env = omega (arith, there, c.loop-left.auto.env) in
+    let more : i + 1 ≡ c.loop-left.left = omega arith in
+    let count : length ws ≡ length ss = length-map ss (λ (s : ℕ). slice_index (widths old) s) in
+    let few : i < length ws = omega (arith, within, count) in
+    let width : x.width ≡ slice_index (widths env) s = c.new.ensures.width ∙ sym (get_or-map (λ (b : Bits). b.width) env s 0 c.index-env-input.result here) in
+    let declared : x.width ≡ get_or ws i 0 =
+    width ∙ ap (λ zs. slice_index zs s) c.loop-left.invariant.kept ∙ sym (get_or-map (λ (s : ℕ). slice_index (widths old) s) ss i 0 0 within) in
+    let cut : x.value ≡ get_or (cut_to ws row) i 0 =
+    c.new.ensures.value ∙ ap₂ (λ n w. n % 2 ^ w) c.number_at.ensures (sym c.new.ensures.width ∙ declared) ∙ cut_read ws row i few in
+    let size : length (cut_to ws row) ≡ length ws = cut_length ws row in
+    record {
+      within = omega arith;
+      kept = widths_put env s x width ∙ c.loop-left.invariant.kept;
+      value = env_of-set env s x here
+          ∙ fill_step ss (cut_to ws row) i (env_of old) (env_of env) s x.value within (omega (arith, few, size)) (λ j. s) cut
+          (subst (λ k. env_of env ≡ fill (drop k ss) (drop k (cut_to ws row)) (env_of old)) (sym more) c.loop-left.invariant.value);
+    }
