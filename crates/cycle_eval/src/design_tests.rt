@@ -290,6 +290,38 @@ fn a_long_block(rt: HostRuntime) -> Result<(), Fail> {
     Ok(())
 }
 
+// reg [1:0] h; reg [3:0] l = 9; reg n; always @(posedge clk) begin n <= n + 1; if (n) {h, l} <= 45; else ; end
+#[test]
+fn a_condition_and_two_parts(rt: HostRuntime) -> Result<(), Fail> {
+    let alloc = rt.alloc();
+    let high = Lane {
+        shift: 4,
+        span: Span {
+            signal: 0,
+            low: 0,
+            width: 2,
+        },
+    };
+    let places = vec![in alloc; Target::Fixed(high), Target::Fixed(whole(1, 4))]?;
+    let both = Box::new(alloc, Stmt::Later(places, number(45, 6)))?;
+    let nothing = Box::new(alloc, Stmt::Skip)?;
+    let next = later(alloc, 2, 1, plus(alloc, 2, 1, 1)?)?;
+    let body = vec![in alloc; next, Stmt::If(Typed::name(2, 1), both, nothing)]?;
+    let parts = Parts {
+        signals: signals(&rt, alloc, &[(2, 0), (4, 9), (1, 0)])?,
+        registers: vec![in alloc; 0, 1, 2]?,
+        inputs: Vec::new(alloc),
+        nodes: Vec::new(alloc),
+        clocked: vec![in alloc; Stmt::Sequence(body)]?,
+    };
+    let design = design_of(&rt, alloc, parts)?;
+    // 45 is 10 1101 in binary.
+    assert_eq!(rt; after(alloc, &design, 1)?.as_slice(), [0, 9, 1].as_slice());
+    assert_eq!(rt; after(alloc, &design, 2)?.as_slice(), [2, 13, 0].as_slice());
+    assert_eq!(rt; after(alloc, &design, 3)?.as_slice(), [2, 13, 1].as_slice());
+    Ok(())
+}
+
 // reg [3:0] q; reg [3:0] r = 9; reg [3:0] p; wire [3:0] v, w, u; input [3:0] d;
 // assign w = v ^ 3; assign v = q + 1; always @(posedge clk) q <= w; always @(posedge clk) begin r <= u; p <= d + 1; end
 #[test]
