@@ -1,7 +1,5 @@
-use Rattle.std.proofs.Common.{◌≡◌, ◌∙◌, sym, ap, subst, map, IsTrue}
+use Rattle.std.proofs.Common.{◌∙◌, sym, ap, subst, IsTrue}
 use Rattle.typed_ir.specs.Stmts.{all_applied, are_spans}
-use Rattle.typed_ir.specs.Cycles.{all_pending}
-use Rattle.typed_ir.specs.Statements.{stmt_of}
 use Rattle.typed_ir.specs.Views.{widths, env_of}
 use Rattle.cycle_eval.proofs.Blocks.{noted_spans}
 use Rattle.cycle_eval.proofs.cycle.update_registers.Goals as goal
