@@ -1,5 +1,5 @@
 -- The steps of a cycle, by the parts that a design is made of.
-use Rattle.std.proofs.Common.{◌≡◌, ◌+◌, List, length, sym, ◌∙◌, ap, ap₂, map}
+use Rattle.std.proofs.Common.{◌≡◌, ◌+◌, length, sym, ◌∙◌, ap, ap₂}
 use Rattle.std.proofs.lemmas.List.{length-map}
 use Rattle.comb_order.specs.declared.parts.Parts.{Parts}
 use Rattle.typed_ir.specs.declared.flat.Flat.{Flat as Flat'}

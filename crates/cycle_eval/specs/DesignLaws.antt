@@ -1,8 +1,9 @@
 -- The laws of a design as a machine.
 use Rattle.std.proofs.Common.{◌≡◌, ℕ, zero, suc, ◌+◌, ◌%◌, ◌^◌, Bool, true, false, ◌&&◌, ◌==◌, List, [], ◌∷◌, ◌++◌, length, map, refl, sym, ◌∙◌, ap, ap₂, ◌↔◌, true≢false}
-use Rattle.std.proofs.Math.Nat.{add-zero, add-suc, suc-add}
+use Rattle.std.proofs.Math.Nat.{suc-add}
 use Rattle.std.proofs.lemmas.Bool.{eqb-true, eq-eqb}
 use Rattle.std.proofs.lemmas.List.{append-nil, length-append}
+use Rattle.typed_ir.specs.RunLaws.{seg_more}
 use Rattle.typed_ir.specs.Stmts.{all_applied}
 use Rattle.typed_ir.specs.Cycles.{Flat, width_at, initial_at, wires, all_pending, input, step, seg}
 use Rattle.cycle_eval.specs.Kits.{run_of, register_widths, Fits, reset_of, carried_of, carried_value, register_at}
@@ -29,19 +30,22 @@ step_values : (design : Flat) (state inputs : List ℕ) → state_values (paired
 unfolding step
 step_values design state inputs = paired_values (width_at design) (next_value design state inputs) design.registers
 
+-- a run without rows is the same from each cycle on
+seg_at : (design : Flat) (a b n : ℕ) (state : List ℕ) → seg design (λ t. []) a n state ≡ seg design (λ t. []) b n state
+seg_at design a b zero state = refl
+seg_at design a b (suc n) state = ap (λ s. step design s (input design [])) (seg_at design a b n state)
+
 -- runs without rows follow each other
-pub seg_more : (design : Flat) (a b m n : ℕ) (state : List ℕ)
+runs_follow : (design : Flat) (a b m n : ℕ) (state : List ℕ)
     → seg design (λ t. []) a (m + n) state ≡ seg design (λ t. []) b n (seg design (λ t. []) a m state)
-seg_more design a b m zero state = ap (λ k. seg design (λ t. []) a k state) (add-zero m)
-seg_more design a b m (suc n) state =
-    ap (λ k. seg design (λ t. []) a k state) (add-suc m n) ∙ ap (λ s. step design s (input design [])) (seg_more design a b m n state)
+runs_follow design a b m n state = sym (seg_more design (λ t. []) a m n state) ∙ seg_at design (a + m) b n (seg design (λ t. []) a m state)
 
 pub run_more : {R : Type 0} (design : Flat) (xs ys : List R) (s : List (ℕ × ℕ)) → run_of design (xs ++ ys) s ≡ run_of design ys (run_of design xs s)
 run_more design [] ys s = refl
 run_more design (x ∷ xs) [] s = ap (λ n. paired (register_widths design) (seg design (λ t. []) 0 (suc n) (state_values s))) (ap length (append-nil xs))
 run_more design (x ∷ xs) (y ∷ ys) s =
     ap (λ n. paired (register_widths design) (seg design (λ t. []) 0 n (state_values s))) (ap suc (length-append xs (y ∷ ys)) ∙ sym (suc-add (length xs) (suc (length ys))))
-    ∙ ap (paired (register_widths design)) (seg_more design 0 0 (suc (length xs)) (suc (length ys)) (state_values s))
+    ∙ ap (paired (register_widths design)) (runs_follow design 0 0 (suc (length xs)) (suc (length ys)) (state_values s))
     ∙ ap (λ z. paired (register_widths design) (seg design (λ t. []) 0 (suc (length ys)) z))
     (sym (step_values design (seg design (λ t. []) 0 (length xs) (state_values s)) (input design [])))
 

@@ -6,6 +6,7 @@ ghost use Rattle.typed_ir.specs.Cycles.{wires, step, all_pending, IsReady};
 ghost use Rattle.typed_ir.specs.Flats.{signal_widths, are_clocked};
 ghost use Rattle.typed_ir.specs.FlatNodes.{node_of};
 ghost use Rattle.typed_ir.specs.Statements.{stmt_of};
+ghost use Rattle.typed_ir.specs.Stmts.{all_applied};
 ghost use Rattle.typed_ir.specs.Views.{widths, env_of};
 ghost use Rattle.cycle_eval.specs.Designs.{flat_of, work_of};
 ghost use Rattle.cycle_eval.specs.Updates.{all_updates};
@@ -16,6 +17,29 @@ use machine::steps::Steps;
 use std::sync::ledger::Ledger;
 use typed_ir::{Node, Stmt, Update, apply_all};
 
+// Evaluates the node of a number in place.
+#[tactic(auto, using(typed_ir::proofs::Views::legal_read))]
+fn evaluate(nodes: &[Node], k: u32, env: &mut [Bits])
+    requires legal { IsTrue (are_legal (map node_of nodes.now) (widths env.old)) }
+    requires there { k < length nodes.now }
+    ensures widths { widths env.new ≡ widths env.old }
+    ensures value { env_of env.new ≡ drive_at (map node_of nodes.now) k (env_of env.old) (env_of env.old) }
+{
+    nodes[k as usize].settle(env)
+}
+
+// The same, counted as one step.
+fn settle_node<L: Ledger>(nodes: &[Node], k: u32, env: &mut [Bits], steps: &mut Steps<L>)
+    requires legal { IsTrue (are_legal (map node_of nodes.now) (widths env.old)) }
+    requires there { k < length nodes.now }
+    ensures widths { widths env.new ≡ widths env.old }
+    ensures value { env_of env.new ≡ drive_at (map node_of nodes.now) k (env_of env.old) (env_of env.old) }
+    ensures taken { steps.new ≡ steps.old + 1 }
+{
+    evaluate(nodes, k, env);
+    steps.tick();
+}
+
 // One pass over the nodes in the order. Each node is one step.
 fn pass_over<L: Ledger>(nodes: &[Node], order: &[u32], env: &mut [Bits], steps: &mut Steps<L>)
     requires legal { IsTrue (are_legal (map node_of nodes.now) (widths env.old)) }
@@ -25,8 +49,7 @@ fn pass_over<L: Ledger>(nodes: &[Node], order: &[u32], env: &mut [Bits], steps: 
     ensures taken { steps.new ≡ steps.old + length order.now }
 {
     for k in order {
-        nodes[*k as usize].settle(env);
-        steps.tick();
+        settle_node(nodes, *k, env, steps);
     }
 }
 
@@ -47,6 +70,41 @@ fn note_blocks<L: Ledger>(
         block.note(env, updates);
         steps.tick();
     }
+}
+
+// The same into an empty list, for which there is room.
+fn note_updates<L: Ledger>(
+    blocks: &[Stmt],
+    env: &[Bits],
+    updates: &mut Vec<Update>,
+    steps: &mut Steps<L>,
+)
+    requires legal { IsTrue (are_clocked blocks.now (widths env.now)) }
+    requires room { all_updates (map stmt_of blocks.now) ≤ vec_capacity updates.old }
+    ensures noted { updates.new.items ≡ all_pending (map stmt_of blocks.now) (env_of env.now) }
+    ensures capacity { vec_capacity updates.new ≡ vec_capacity updates.old }
+    ensures taken { steps.new ≡ steps.old + length blocks.now }
+{
+    updates.clear();
+    note_blocks(blocks, env, updates, steps);
+}
+
+// All blocks read what is there now, and then everything that they noted is written.
+fn update_registers<L: Ledger>(
+    blocks: &[Stmt],
+    env: &mut [Bits],
+    updates: &mut Vec<Update>,
+    steps: &mut Steps<L>,
+)
+    requires legal { IsTrue (are_clocked blocks.now (widths env.old)) }
+    requires room { all_updates (map stmt_of blocks.now) ≤ vec_capacity updates.old }
+    ensures widths { widths env.new ≡ widths env.old }
+    ensures value { env_of env.new ≡ all_applied (all_pending (map stmt_of blocks.now) (env_of env.old)) (env_of env.old) }
+    ensures capacity { vec_capacity updates.new ≡ vec_capacity updates.old }
+    ensures taken { steps.new ≡ steps.old + length blocks.now }
+{
+    note_updates(blocks, env, updates, steps);
+    apply_all(env, updates.as_slice());
 }
 
 impl Design {
@@ -82,8 +140,6 @@ impl Design {
         ensures taken { steps.new ≡ steps.old + work_of self.now }
     {
         self.settle(env, steps);
-        updates.clear();
-        note_blocks(&self.linked.design.clocked, env, updates, steps);
-        apply_all(env, updates.as_slice());
+        update_registers(&self.linked.design.clocked, env, updates, steps);
     }
 }

@@ -14,8 +14,8 @@ use Rattle.typed_ir.specs.FlatNodes.{node_of}
 use Rattle.typed_ir.specs.declared.node.Node.{Node}
 use Rattle.typed_ir.specs.declared.update.Update.{Update}
 use Rattle.typed_ir.specs.Stmts.{all_applied, are_spans}
-use Rattle.typed_ir.specs.Nodes.{drive, drive_at, is_legal_node, are_legal}
-use Rattle.typed_ir.specs.Orders.{at_or, pass}
+use Rattle.typed_ir.specs.Nodes.{is_legal_node, are_legal}
+use Rattle.typed_ir.specs.Orders.{at_or}
 use Rattle.typed_ir.proofs.Cases.{by_cases, and_left, and_right}
 
 pub map_set : {A : Type 0} (f : A → ℕ) (xs : List A) (i : ℕ) (x : A) → map f (set xs i x) ≡ set (map f xs) i (f x)
@@ -97,17 +97,6 @@ legal_read (y ∷ ys) ws zero x h is l =
     ap (λ z. is_legal_node (node_of z) ws) is ∙ and_left (is_legal_node (node_of y) ws) (are_legal (map node_of ys) ws) l
 legal_read (y ∷ ys) ws (suc k) x h is l =
     legal_read ys ws k x (omega (arith, h)) is (and_right (is_legal_node (node_of y) ws) (are_legal (map node_of ys) ws) l)
-
--- one more node of the order
-pub pass_step : (nodes : List Node) (order : List ℕ) (j k : ℕ) (x : Node) (env next : Valuation) → j < length order → k ≡ get_or order j 0
-    → k < length nodes → x ≡ get_or nodes k x → next ≡ drive (node_of x) env env
-    → pass (drive_at (map node_of nodes)) (drop j order) env ≡ pass (drive_at (map node_of nodes)) (drop (j + 1) order) next
-pass_step nodes order j k x env next h at small is e =
-    let D = drive_at (map node_of nodes) in
-    let more : suc j ≡ j + 1 = omega arith in
-    ap (λ ks. pass D ks env) (drop-cons order j 0 h ∙ ap (λ z. z ∷ drop (suc j) order) (sym at))
-    ∙ ap (pass D (drop (suc j) order)) (ap (λ f. f env env) (at_read drive (λ v w. w) node_of nodes k x small is) ∙ sym e)
-    ∙ ap (λ n. pass D (drop n order) next) more
 
 -- one more update
 pub update-drop : (us : List Update) (i : ℕ) (d : Update) → i < length us → drop i us ≡ get_or us i d ∷ drop (i + 1) us

@@ -1,25 +1,20 @@
-use Rattle.std.proofs.Common.{◌∙◌, sym, subst, get_or, refl, length, ◌<◌, IsTrue, arith}
-use Rattle.typed_ir.specs.Nodes.{is_legal_node}
+use Rattle.std.proofs.Common.{◌∙◌, sym, subst, IsTrue, map, arith}
+use Rattle.typed_ir.specs.Nodes.{are_legal}
 use Rattle.typed_ir.specs.FlatNodes.{node_of}
-use Rattle.typed_ir.specs.Views.{widths}
-use Rattle.typed_ir.proofs.Views.{legal_read, pass_step}
+use Rattle.cycle_eval.proofs.Passes.{pass_more}
 use Rattle.cycle_eval.proofs.cycle.pass_over.Goals as goal
 
-pub settle-requires : goal.settle-requires
-settle-requires g c =
-    let k = get_or c.args.order.now c.loop-k.k-index 0 in
-    let small : k < length c.args.nodes.now = c.requires.in_range c.loop-k.k-index 0 c.loop-k-test.true in
-    subst (λ ws. IsTrue (is_legal_node (node_of c.index-nodes-k.result) ws)) (sym c.loop-k.invariant.widths)
-    (legal_read c.args.nodes.now (widths c.args.env.now) k c.index-nodes-k.result small c.index-nodes-k.is c.requires.legal)
+pub settle_node-requires-clause-legal : goal.settle_node-requires-clause-legal
+settle_node-requires-clause-legal g c =
+    subst (λ ws. IsTrue (are_legal (map node_of c.args.nodes.now) ws)) (sym c.loop-k.invariant.widths) c.requires.legal
+
+pub settle_node-requires-clause-there : goal.settle_node-requires-clause-there
+settle_node-requires-clause-there g c = c.requires.in_range c.loop-k.k-index 0 c.loop-k-test.true
 
 pub loop-k-preserved : goal.loop-k-preserved
-loop-k-preserved g c =
-    let k = get_or c.args.order.now c.loop-k.k-index 0 in
-    let small : k < length c.args.nodes.now = c.requires.in_range c.loop-k.k-index 0 c.loop-k-test.true in
-    record {
-      widths = c.settle.ensures.widths ∙ c.loop-k.invariant.widths;
-      left = sym (pass_step c.args.nodes.now c.args.order.now c.loop-k.k-index k c.index-nodes-k.result _ _
-          c.loop-k-test.true refl small c.index-nodes-k.is c.settle.ensures.value)
-          ∙ c.loop-k.invariant.left;
-      taken = omega (arith, c.tick.ensures, c.loop-k.invariant.taken);
-    }
+loop-k-preserved g c = record {
+  widths = c.settle_node.ensures.widths ∙ c.loop-k.invariant.widths;
+  left = pass_more (map node_of c.args.nodes.now) c.args.order.now c.loop-k.k-index _ _ c.loop-k-test.true c.settle_node.ensures.value
+      ∙ c.loop-k.invariant.left;
+  taken = omega (arith, c.settle_node.ensures.taken, c.loop-k.invariant.taken);
+}
