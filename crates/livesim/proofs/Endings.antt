@@ -85,9 +85,9 @@ module _ (left_old left_new written_old written_new : Option (List ℕ)) (bytes 
 
   -- the reading was cut: by a fault (3), or by the limit (6)
   cut : (ending : Ending) (n : ℕ) → 2 ≤ n → has_ended ending ≡ false → ((b : Bool) → status_of ending b ≡ n) → (n ≡ 6 → 67108864 < length bytes) → (67108864 < length bytes → n ≡ 6) → Consumes left_old left_new bytes → Finishes ending written_old written_new bytes status → Lived left_old left_new written_old written_new bytes (has_ended ending) status
-  cut ending n two open is six big consumed f = record {
+  cut ending n two unended is six big consumed f = record {
     consumed = consumed;
-    at_end = λ e. absurd (true≢false (sym e ∙ open));
+    at_end = λ e. absurd (true≢false (sym e ∙ unended));
     told = f.told;
     right = f.right;
     all = f.all;
@@ -95,7 +95,7 @@ module _ (left_old left_new written_old written_new : Option (List ℕ)) (bytes 
     begins_all = begins_all bytes (has_ended ending) _ f.begins;
     whole = λ h. absurd (no h);
     judged = λ h. absurd (no h);
-    cut = λ h. open;
+    cut = λ h. unended;
     written = f.written;
     front = f.front;
     too_much = λ z. six (sym (status_is ending f 6 z (λ e. omega (arith, e)) (λ e. omega (arith, e)) ∙ is (any_refused f.told fresh)));

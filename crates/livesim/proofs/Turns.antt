@@ -1,6 +1,6 @@
 -- One turn of a run: what it answers, and what was carried out.
-use Rattle.std.proofs.Common.{◌≡◌, ℕ, Bool, true, false, ◌||◌, List, [], ◌∷◌, ◌++◌, Option, Some, None, Result, Ok, Err, refl, sym, ap, ◌∙◌, subst, append-nil, append_assoc}
-use Rattle.std.specs.Prelude.{is_err}
+use Rattle.std.proofs.Common.{◌≡◌, ℕ, Bool, true, false, ◌||◌, List, [], ◌∷◌, ◌++◌, Option, Some, None, Result, Ok, Err, refl, sym, ap, ◌∙◌, subst, append-nil, append_assoc, true≢false}
+use Rattle.std.specs.Prelude.{is_err, IsErr}
 use Rattle.std.specs.Io.KnownBytes.{Appends}
 use Rattle.ls_port.specs.declared.sink.SinkRefusal.{SinkRefusal}
 use Rattle.livesim.specs.Script.{script_line}
@@ -77,7 +77,7 @@ pub record Done (all left : List Command) (w : World) (old new : Option (List �
   pub right : AreRight fresh told
   pub world : w ≡ world_after told fresh
   pub written : Appends old new (lines told fresh)
-  pub refused : refused ≡ any_refused told fresh
+  pub judged : refused ≡ any_refused told fresh
 
 nothing_appended : (o : Option (List ℕ)) → Appends o o []
 nothing_appended None = tt
@@ -85,7 +85,7 @@ nothing_appended (Some xs) = sym (append-nil xs)
 
 -- before the first
 pub none_done : (all : List Command) (w : World) (o : Option (List ℕ)) → w ≡ fresh → Done all all w o o false
-none_done all w o is = record { told = []; split = refl; right = tt; world = is; written = nothing_appended o; refused = refl }
+none_done all w o is = record { told = []; split = refl; right = tt; world = is; written = nothing_appended o; judged = refl }
 
 module _ (all left now later : List Command) (w x : World) (old mid new : Option (List ℕ)) (text : List ℕ) (refused so_far : Bool) (d : Done all left w old mid so_far) (is : left ≡ now ++ later) (r : RepliesAll now w x text refused) where
   split_more : commands_of (d.told ++ r.told) ++ later ≡ all
@@ -111,7 +111,7 @@ module _ (all left now later : List Command) (w x : World) (old mid new : Option
     right = right_more;
     world = r.world ∙ ap (world_after r.told) d.world ∙ sym (after-append d.told r.told fresh);
     written = subst (Appends old new) (sym lines_more) (appends_more old mid new (lines d.told fresh) text d.written written);
-    refused = ap (λ b. b || refused) d.refused ∙ ap (λ b. any_refused d.told fresh || b) r.refused
+    judged = ap (λ b. b || refused) d.judged ∙ ap (λ b. any_refused d.told fresh || b) r.refused
         ∙ ap (λ v. any_refused d.told fresh || any_refused r.told v) d.world ∙ sym (any_refused-append d.told r.told fresh);
   }
 
@@ -125,6 +125,11 @@ module _ (all left now later : List Command) (w x : World) (old mid new : Option
     whole = tt;
   }
 
+-- an answer that is an error
+pub err_carries : (all : List Command) (old new : Option (List ℕ)) (r : Result Bool SinkRefusal) → IsErr r → ((e : SinkRefusal) → Carries all old new (Err e)) → Carries all old new r
+err_carries all old new (Ok refused) is carries = absurd (true≢false (sym is))
+err_carries all old new (Err e) is carries = carries e
+
 -- a run that breaks off between turns
 pub cut_carries : (all left : List Command) (w : World) (old new : Option (List ℕ)) (refused : Bool) (e : SinkRefusal) → Done all left w old new refused → Carries all old new (Err e)
 cut_carries all left w old new refused e d = record {
@@ -136,13 +141,13 @@ cut_carries all left w old new refused e d = record {
 }
 
 -- a run whose commands are all carried out
-pub whole_carries : (all left : List Command) (w : World) (old new : Option (List ℕ)) (refused : Bool) → left ≡ [] → Done all left w old new refused → Carries all old new (Ok refused)
-whole_carries all left w old new refused none d = record {
+pub whole_carries : (all : List Command) (ended : Bool) (n : ℕ) (ls : List (List ℕ)) (w : World) (old new : Option (List ℕ)) (refused : Bool) → ls ≡ [] → Done all (commands_from ended n 0 ls) w old new refused → Carries all old new (Ok refused)
+whole_carries all ended n ls w old new refused none d = record {
   told = d.told;
   right = d.right;
-  begins = (left, d.split);
+  begins = (commands_from ended n 0 ls, d.split);
   front = front_all old new (lines d.told fresh) d.written;
-  whole = (sym (append-nil (commands_of d.told)) ∙ ap (λ cs. commands_of d.told ++ cs) (sym none) ∙ d.split, d.written, d.refused);
+  whole = (sym (append-nil (commands_of d.told)) ∙ ap (λ cs. commands_of d.told ++ cs) (sym (ap (commands_from ended n 0) none)) ∙ d.split, d.written, d.judged);
 }
 
 -- a line without a command

@@ -225,6 +225,7 @@ fn line_turn<'a>(
 }
 
 // Carries out the commands, and writes their replies: whether one was refused.
+#[tactic(auto, using(crate::proofs::Turns::none_done, crate::proofs::Turns::cut_carries, crate::proofs::Turns::whole_carries))]
 fn carry_out<K: Sink>(
     alloc: Global,
     ended: bool,
@@ -254,6 +255,16 @@ fn carry_out<K: Sink>(
     Ok(refused)
 }
 
+// Whether the input was read to its end.
+fn has_ended(ending: Ending) -> bool
+    ensures { result ≡ has_ended ending }
+{
+    match ending {
+        Ending::Whole => true,
+        Ending::Failed | Ending::TooMuch => false,
+    }
+}
+
 // Carries out what was read, and answers the status.
 fn finish<K: Sink>(alloc: Global, ending: Ending, bytes: &[u8], sink: &mut K) -> u8
     ensures finishes { Finishes ending (K.written sink.old) (K.written sink.new) bytes.now result }
@@ -262,10 +273,7 @@ fn finish<K: Sink>(alloc: Global, ending: Ending, bytes: &[u8], sink: &mut K) ->
     ensures known { result ≤ 6 }
     ensures words { result ≢ 2 }
 {
-    let ended = match ending {
-        Ending::Whole => true,
-        Ending::Failed | Ending::TooMuch => false,
-    };
+    let ended = has_ended(ending);
     match carry_out(alloc, ended, counted(ended, front(MAX_INPUT, bytes)), sink) {
         Err(SinkRefusal::Failed) => 4,
         Err(SinkRefusal::NoMemory) => 5,

@@ -105,7 +105,12 @@ fn declared(ports: &Ports) -> Option<&HeaderPort>
 
 // Whether a module begins with `module T(input C);`.
 #[tactic(auto, unfolding(crate::specs::Module::is_header))]
-fn is_header(known: KnownNames<'_>, top: &[u8], clock: &[u8], body: &ModuleBody) -> Result<bool, NoMemory>
+fn is_header(
+    known: KnownNames<'_>,
+    top: &[u8],
+    clock: &[u8],
+    body: &ModuleBody,
+) -> Result<bool, NoMemory>
     ensures { IfOk result (λ b. b ≡ is_header known.entry.names.now top.now clock.now body.now) }
 {
     if !is_named(known, top, body.name)? || body.parameters.len() != 0 {
@@ -129,7 +134,11 @@ fn plain(item: &Item) -> Option<&PlainItem>
 
 // `reg [M:0]` and `R = L`
 #[tactic(auto, unfolding(crate::specs::Module::variable_at))]
-fn variable<'a>(known: KnownNames<'a>, shape: &Shape, v: &Variable) -> Result<Option<RegisterItem<'a>>, NoMemory>
+fn variable<'a>(
+    known: KnownNames<'a>,
+    shape: &Shape,
+    v: &Variable,
+) -> Result<Option<RegisterItem<'a>>, NoMemory>
     ensures { IfOk result (λ o. option_map register_text o ≡ variable_at known.entry.names.now shape.now v.now) }
 {
     let Some(width) = shape_width(shape) else {
@@ -159,7 +168,10 @@ fn value(v: &Variable) -> Option<Bits>
 }
 
 // The register that an item declares.
-fn register<'a>(known: KnownNames<'a>, item: &PlainItem) -> Result<Option<RegisterItem<'a>>, NoMemory>
+fn register<'a>(
+    known: KnownNames<'a>,
+    item: &PlainItem,
+) -> Result<Option<RegisterItem<'a>>, NoMemory>
     ensures { IfOk result (λ o. option_map register_text o ≡ register_at known.entry.names.now item.now) }
 {
     match item {
@@ -183,7 +195,12 @@ fn named_term(known: KnownNames<'_>, register: &[u8], n: Identifier) -> Result<T
 }
 
 // A name other than the clock's, or a literal.
-fn lone(known: KnownNames<'_>, clock: &[u8], register: &[u8], e: &Expression) -> Result<Option<Term>, NoMemory>
+fn lone(
+    known: KnownNames<'_>,
+    clock: &[u8],
+    register: &[u8],
+    e: &Expression,
+) -> Result<Option<Term>, NoMemory>
     ensures { IfOk result (λ o. option_map operand o ≡ (part_at known.entry.names.now clock.now register.now e.now).lone) }
 {
     match e {
@@ -202,7 +219,13 @@ fn lone(known: KnownNames<'_>, clock: &[u8], register: &[u8], e: &Expression) ->
 }
 
 // The operands of a sum, which associates to the left.
-fn terms(alloc: Global, known: KnownNames<'_>, clock: &[u8], register: &[u8], e: &Expression) -> Result<Option<Terms>, NoMemory>
+fn terms(
+    alloc: Global,
+    known: KnownNames<'_>,
+    clock: &[u8],
+    register: &[u8],
+    e: &Expression,
+) -> Result<Option<Terms>, NoMemory>
     ensures { IfOk result (λ o. option_map sum o ≡ (part_at known.entry.names.now clock.now register.now e.now).sum) }
 {
     if let Expression::Binary(BinaryOperator::Add, left, right) = e {
@@ -235,7 +258,13 @@ fn target(x: &Target) -> Option<Identifier>
 }
 
 // `R <= X`
-fn assigned(alloc: Global, known: KnownNames<'_>, clock: &[u8], register: &[u8], x: &Statement) -> Result<Option<Assignment>, NoMemory>
+fn assigned(
+    alloc: Global,
+    known: KnownNames<'_>,
+    clock: &[u8],
+    register: &[u8],
+    x: &Statement,
+) -> Result<Option<Assignment>, NoMemory>
     ensures { IfOk result (λ o. option_map assignment o ≡ assignment_in known.entry.names.now clock.now register.now x.now) }
 {
     let Statement::Assign(left, right) = x else {
@@ -255,7 +284,13 @@ fn assigned(alloc: Global, known: KnownNames<'_>, clock: &[u8], register: &[u8],
 }
 
 // `always @(posedge C)` and the assignment.
-fn clocked(alloc: Global, known: KnownNames<'_>, clock: &[u8], register: &[u8], item: &PlainItem) -> Result<Option<Assignment>, NoMemory>
+fn clocked(
+    alloc: Global,
+    known: KnownNames<'_>,
+    clock: &[u8],
+    register: &[u8],
+    item: &PlainItem,
+) -> Result<Option<Assignment>, NoMemory>
     ensures { IfOk result (λ o. option_map assignment o ≡ clocked_at known.entry.names.now clock.now register.now item.now) }
 {
     match item {
@@ -271,7 +306,13 @@ fn clocked(alloc: Global, known: KnownNames<'_>, clock: &[u8], register: &[u8], 
 
 // The register and the assignment of two items.
 #[tactic(auto, unfolding(crate::specs::Module::items_at))]
-fn items<'a>(alloc: Global, known: KnownNames<'a>, clock: &[u8], one: &Item, other: &Item) -> Result<Option<(RegisterItem<'a>, Assignment)>, NoMemory>
+fn items<'a>(
+    alloc: Global,
+    known: KnownNames<'a>,
+    clock: &[u8],
+    one: &Item,
+    other: &Item,
+) -> Result<Option<(RegisterItem<'a>, Assignment)>, NoMemory>
     ensures { IfOk result (λ o. option_map (λ r. (register_text r.0, assignment r.1)) o
         ≡ items_at known.entry.names.now clock.now (one.now, other.now)) }
 {
@@ -295,7 +336,13 @@ fn items<'a>(alloc: Global, known: KnownNames<'a>, clock: &[u8], one: &Item, oth
 
 // The register and the assignment of a module.
 #[tactic(auto, unfolding(crate::specs::Module::body_at))]
-fn body<'a>(alloc: Global, known: KnownNames<'a>, top: &[u8], clock: &[u8], x: &ModuleBody) -> Result<Option<(RegisterItem<'a>, Assignment)>, NoMemory>
+fn body<'a>(
+    alloc: Global,
+    known: KnownNames<'a>,
+    top: &[u8],
+    clock: &[u8],
+    x: &ModuleBody,
+) -> Result<Option<(RegisterItem<'a>, Assignment)>, NoMemory>
     ensures { IfOk result (λ o. option_map (λ r. (register_text r.0, assignment r.1)) o
         ≡ body_at known.entry.names.now top.now clock.now x.now) }
 {
@@ -309,7 +356,13 @@ fn body<'a>(alloc: Global, known: KnownNames<'a>, top: &[u8], clock: &[u8], x: &
 }
 
 /// The register and the assignment of a text's modules, where they are of the form.
-pub fn module<'a>(alloc: Global, known: KnownNames<'a>, top: &[u8], clock: &[u8], modules: &[Module]) -> Result<Option<(RegisterItem<'a>, Assignment)>, NoMemory>
+pub fn module<'a>(
+    alloc: Global,
+    known: KnownNames<'a>,
+    top: &[u8],
+    clock: &[u8],
+    modules: &[Module],
+) -> Result<Option<(RegisterItem<'a>, Assignment)>, NoMemory>
     ensures { IfOk result (λ o. option_map (λ r. (register_text r.0, assignment r.1)) o
         ≡ module_at known.entry.names.now top.now clock.now modules.now) }
 {

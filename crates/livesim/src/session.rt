@@ -38,7 +38,6 @@ impl Session {
     }
 
     /// Takes a block of the form, whose `edit` has that line.
-    #[tactic(none)]
     pub fn edit(&mut self, alloc: Global, line: u64, given: Block<'_>) -> Result<Reply, NoMemory>
         ensures { IfOk result (λ r. RepliesTo (Load line (Some (block given.entry)))
             (world self.old) (world self.new) r.text.items r.refused) }

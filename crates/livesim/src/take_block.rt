@@ -16,7 +16,6 @@ use std::alloc::Global;
 const MAX_TEXT: usize = 4_194_304;
 
 /// Takes a first block of the form, whose `edit` has that line: its design, or its refusal.
-#[tactic(none)]
 pub fn take_block(alloc: Global, line: u64, given: Block<'_>) -> Result<Taken, NoMemory>
     ensures { IfOk result (Takes line (block given.entry)) }
 {
