@@ -9,12 +9,12 @@ use Rattle.livesim.proofs.Cuts.{counted_lines}
 use Rattle.livesim.proofs.Blocks.{more_rest, same_block}
 
 -- the second commands are the first ones, and then perhaps more
-abbrev pub Begins : List Command → List Command → Type 0
-Begins front all = (rest : List Command) × (all ≡ front ++ rest)
+abbrev pub Continues : List Command → List Command → Type 0
+Continues front all = (rest : List Command) × (all ≡ front ++ rest)
 
-module _ (n : ℕ) (ls more : List (List ℕ)) (later : (k : ℕ) → Begins (commands_from false (n + 1) k ls) (commands_from true (n + 1) k (ls ++ more))) where
+module _ (n : ℕ) (ls more : List (List ℕ)) (later : (k : ℕ) → Continues (commands_from false (n + 1) k ls) (commands_from true (n + 1) k (ls ++ more))) where
   -- an `edit`, by the end of its block
-  from_edit : (end : Option (ℕ × List (List ℕ))) → block_rest false 0 ls ≡ end → Begins (command_at false n Edit ls ++ commands_after false n Edit ls) (command_at true n Edit (ls ++ more) ++ commands_after true n Edit (ls ++ more))
+  from_edit : (end : Option (ℕ × List (List ℕ))) → block_rest false 0 ls ≡ end → Continues (command_at false n Edit ls ++ commands_after false n Edit ls) (command_at true n Edit (ls ++ more) ++ commands_after true n Edit (ls ++ more))
   from_edit None is =
       let all = command_at true n Edit (ls ++ more) ++ commands_after true n Edit (ls ++ more) in
       let none = ap (λ o. block_command false n ls o ++ commands_after false n Edit ls) is ∙ commands_after_cut false n 0 ls (sym is) in
@@ -28,7 +28,7 @@ module _ (n : ℕ) (ls more : List (List ℕ)) (later : (k : ℕ) → Begins (co
       (rest.0, all ∙ same ∙ ap (λ cs. Load n (block_at (n + 1) ls) ∷ cs) rest.1 ∙ ap (λ cs. cs ++ rest.0) (sym front))
 
   -- a line, by its form
-  from_line : (form : ScriptLine) → Begins (command_at false n form ls ++ commands_after false n form ls) (command_at true n form (ls ++ more) ++ commands_after true n form (ls ++ more))
+  from_line : (form : ScriptLine) → Continues (command_at false n form ls ++ commands_after false n form ls) (command_at true n form (ls ++ more) ++ commands_after true n form (ls ++ more))
   from_line Skipped = later 0
   from_line Edit = from_edit (block_rest false 0 ls) refl
   from_line (Run cycles) = let rest = later 0 in (rest.0, ap (λ cs. Advance n cycles ∷ cs) rest.1)
@@ -36,14 +36,14 @@ module _ (n : ℕ) (ls more : List (List ℕ)) (later : (k : ℕ) → Begins (co
   from_line Other = let rest = later 0 in (rest.0, ap (λ cs. Unbuilt n ∷ cs) rest.1)
 
 -- the commands of lines, where the input didn't end, begin those of the lines and more, where it did
-from_lines : (n k : ℕ) (ls more : List (List ℕ)) → Begins (commands_from false n k ls) (commands_from true n k (ls ++ more))
+from_lines : (n k : ℕ) (ls more : List (List ℕ)) → Continues (commands_from false n k ls) (commands_from true n k (ls ++ more))
 from_lines n zero [] more = (commands_from true n zero more, refl)
 from_lines n (suc k) [] more = (commands_from true n (suc k) more, refl)
 from_lines n (suc k) (l ∷ ls) more = from_lines (n + 1) k ls more
 from_lines n zero (l ∷ ls) more = from_line n ls more (λ k. from_lines (n + 1) k ls more) (script_line l)
 
 -- the commands of bytes that are cut begin those of the bytes with the input's end
-pub commands_begin : (bytes : List ℕ) → Begins (commands bytes false) (commands bytes true)
+pub commands_begin : (bytes : List ℕ) → Continues (commands bytes false) (commands bytes true)
 commands_begin bytes =
     let cut = counted_lines (take 67108864 bytes) in
     let rest = from_lines 1 0 (script_lines (counted_bytes false (take 67108864 bytes))) cut.0 in

@@ -1,11 +1,12 @@
 pub mod Lines
 pub mod Numbers
-pub mod Operands
 pub mod Shown
 pub mod Files
+pub mod Grammars
 pub mod Steps
 pub mod Commands
 pub mod Turns
+pub mod Loads
 pub mod Cuts
 pub mod Blocks
 pub mod Begins

@@ -1,19 +1,21 @@
 -- The design of a module of one register, and its runs.
-use Rattle.std.specs.Prelude.{ℕ, ◌-◌, max, false, List, [], ◌∷◌, ◌++◌, codes, length, slice_get, Option, Some, None, Result, Ok, Err}
+use Rattle.std.specs.Prelude.{ℕ, max, false, List, [], ◌∷◌, ◌++◌, codes, Option, Some, None, Result, Ok, Err}
 use Rattle.bits.specs.Values.{resized}
 use Rattle.typed_ir.specs.Sized.{Sized, Constant, Name, Binary, Resized}
 use Rattle.typed_ir.specs.declared.operators.ArithmeticOperator.TheVariants.{Sum}
 use Rattle.typed_ir.specs.declared.operators.BinaryOperator.TheVariants.{Arithmetic}
 use Rattle.typed_ir.specs.Stmts.{Later, Fixed}
 use Rattle.typed_ir.specs.Cycles.{Flat}
-use Rattle.verilog_lex.specs.Tokens.{Said}
-use Rattle.livesim.specs.Module.{RegisterText, Assignment, Operand, Register, Literal, Unknown, module_at, unknown_in}
+use Rattle.source_text.specs.Faults.{TextFault, fault_at}
+use Rattle.verilog_ast.specs.declared.identifier.Identifier.{Identifier}
+use Rattle.verilog_ast.specs.declared.module.Module.{Module}
+use Rattle.livesim.specs.Module.{RegisterText, Assignment, Operand, Register, Literal, Unknown, module_at, name_text, unknown_in}
 
 -- the larger of a width and an operand's
 abbrev pub wider : ℕ → Operand → ℕ
 wider width Register = width
 wider width (Literal size value) = max width size
-wider width (Unknown left) = width
+wider width (Unknown name) = width
 
 abbrev pub widest : ℕ → List Operand → ℕ
 widest width [] = width
@@ -23,7 +25,7 @@ widest width (o ∷ os) = widest (wider width o) os
 abbrev pub simple_sized : ℕ → Operand → Sized
 simple_sized width Register = Name 0 width
 simple_sized width (Literal size value) = Constant size value
-simple_sized width (Unknown left) = Name 0 width
+simple_sized width (Unknown name) = Name 0 width
 
 -- an operand at a length (5.4, 5.5): all are unsigned
 abbrev pub operand_sized : ℕ → ℕ → Operand → Sized
@@ -59,17 +61,25 @@ abbrev pub flat_of : List ℕ → RegisterText × Assignment → Flat
 flat_of top ((name, width, size, value), assignment) =
     one_register (top ++ codes "." ++ name) width (resized size value width false) (right_side width assignment)
 
-abbrev pub known_design : List ℕ → List Said → RegisterText × Assignment → Option ℕ → Result Flat (Option Said)
-known_design top ts parts None = Ok (flat_of top parts)
-known_design top ts parts (Some left) = Err (slice_get ts (length ts - left))
+-- what a text comes to: a design, a fault, or another form (`Err None`)
+abbrev pub Answer : Type 0
+Answer = Result Flat (Option TextFault)
 
-abbrev pub parts_design : List ℕ → List Said → Option (RegisterText × Assignment) → Result Flat (Option Said)
-parts_design top ts None = Err None
-parts_design top ts (Some parts) = known_design top ts parts (unknown_in parts.1)
+-- a name isn't known
+abbrev pub unknown_fault : List (List ℕ) → Identifier → TextFault
+unknown_fault names n = fault_at 29 n.at (name_text names n ∷ [])
 
--- the design of a module's tokens, or the first name that isn't known, or nothing where they are not of the form
-unfoldable pub design_at : List ℕ → List ℕ → List Said → Result Flat (Option Said)
-design_at top clock ts = parts_design top ts (module_at top clock ts)
+abbrev pub known_design : List (List ℕ) → List ℕ → RegisterText × Assignment → Option Identifier → Answer
+known_design names top parts None = Ok (flat_of top parts)
+known_design names top parts (Some n) = Err (Some (unknown_fault names n))
+
+abbrev pub parts_design : List (List ℕ) → List ℕ → Option (RegisterText × Assignment) → Answer
+parts_design names top None = Err None
+parts_design names top (Some parts) = known_design names top parts (unknown_in parts.1)
+
+-- the design of a text's modules, or the first name that isn't known, or nothing where they are not of the form
+unfoldable pub design_of : List (List ℕ) → List ℕ → List ℕ → List Module → Answer
+design_of names top clock xs = parts_design names top (module_at names top clock xs)
 
 -- the rows of a run without inputs
 abbrev pub no_rows : ℕ → List ℕ

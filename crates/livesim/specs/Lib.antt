@@ -5,6 +5,7 @@ pub mod Module
 pub mod Views
 pub mod Designs
 pub mod Flats
+pub mod Readings
 pub mod Script
 pub mod Blocks
 pub mod Commands

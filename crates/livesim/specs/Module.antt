@@ -1,147 +1,263 @@
--- The tokens of a module of one register, whose right side is a sum of names and literals.
-use Rattle.std.specs.Prelude.{ℕ, zero, suc, ◌+◌, not, ◌==◌, ◌&&◌, nat_le, List, [], ◌∷◌, length, codes, Option, Some, None, if◌then◌else◌}
+-- The tree of a module of one register, whose right side is a sum of names and literals.
+use Rattle.std.specs.Prelude.{ℕ, ◌+◌, ◌%◌, ◌^◌, Bool, false, not, ◌==◌, ◌&&◌, nat_le, List, [], ◌∷◌, ◌++◌, length, Option, Some, None, is_none, if◌then◌else◌}
 use Rattle.std.specs.Option.{option_map}
 use Rattle.std.specs.Str.{bytes_eq}
-use Rattle.verilog_lex.specs.Tokens.{Said}
-use Rattle.livesim.specs.Scan.{sign_at, name_at, this_name_at, decimal_at, literal_at, has_ended, guard, ◌>>=◌}
+use Rattle.ls_text.specs.Texts.{text_at}
+use Rattle.verilog_ast.specs.declared.identifier.Identifier.{Identifier}
+use Rattle.verilog_ast.specs.declared.number.Number.{Number}
+use Rattle.verilog_ast.specs.declared.operator.BinaryOperator.{BinaryOperator}
+use Rattle.verilog_ast.specs.declared.operator.BinaryOperator.TheVariants as operator
+use Rattle.verilog_ast.specs.declared.expression.Expression.{Expression, out-Expression}
+use Rattle.verilog_ast.specs.declared.expression.Expression.TheOpen.{Expression-F, Reference-F}
+use Rattle.verilog_ast.specs.declared.expression.Expression.TheFolds.{fold-Expression}
+use Rattle.verilog_ast.specs.declared.expression.Reference.{Reference, out-Reference}
+use Rattle.verilog_ast.specs.declared.declaration.Range.{Range}
+use Rattle.verilog_ast.specs.declared.declaration.Shape.{Shape}
+use Rattle.verilog_ast.specs.declared.declaration.PortNet.TheVariants as net
+use Rattle.verilog_ast.specs.declared.declaration.HeaderPort.{HeaderPort}
+use Rattle.verilog_ast.specs.declared.declaration.HeaderPort.TheVariants as port
+use Rattle.verilog_ast.specs.declared.declaration.Ports.{Ports}
+use Rattle.verilog_ast.specs.declared.declaration.Ports.TheVariants as ports
+use Rattle.verilog_ast.specs.declared.declaration.Variable.{Variable}
+use Rattle.verilog_ast.specs.declared.target.Target.{Target, out-Target}
+use Rattle.verilog_ast.specs.declared.target.Target.TheOpen.{Target-F}
+use Rattle.verilog_ast.specs.declared.statement.Statement.{Statement, out-Statement}
+use Rattle.verilog_ast.specs.declared.statement.Arm.{Arm}
+use Rattle.verilog_ast.specs.declared.statement.Arm.TheOpen.{Statement-F}
+use Rattle.verilog_ast.specs.declared.item.PlainItem.{PlainItem}
+use Rattle.verilog_ast.specs.declared.item.PlainItem.TheVariants as plain
+use Rattle.verilog_ast.specs.declared.item.Branch.{Branch}
+use Rattle.verilog_ast.specs.declared.item.GenerateItem.{GenerateItem, out-GenerateItem}
+use Rattle.verilog_ast.specs.declared.item.GenerateItem.TheOpen.{GenerateItem-F}
+use Rattle.verilog_ast.specs.declared.item.Item.{Item}
+use Rattle.verilog_ast.specs.declared.item.Item.TheVariants as item
+use Rattle.verilog_ast.specs.declared.module_body.ModuleBody.{ModuleBody}
+use Rattle.verilog_ast.specs.declared.module.Module.{Module}
+use Rattle.livesim.specs.Scan.{guard, ◌>>=◌}
 
--- the width of what follows a `[`: of `M:0]`
-unfoldable pub bounds_at : List Said → Option (ℕ × List Said)
-bounds_at ts = do
-  msb ← decimal_at ts
-  colon ← sign_at (codes ":") msb.1
-  lsb ← decimal_at colon
-  rest ← sign_at (codes "]") lsb.1
-  guard (nat_le msb.0 127 && (lsb.0 == 0)) (msb.0 + 1, rest)
+-- the text of a name
+abbrev pub name_text : List (List ℕ) → Identifier → List ℕ
+name_text names n = text_at names n.name.0
 
-abbrev pub or_one_bit : List Said → Option (List Said) → Option (ℕ × List Said)
-or_one_bit ts None = Some (1, ts)
-or_one_bit ts (Some rest) = bounds_at rest
+-- whether it is this text
+abbrev pub is_named : List (List ℕ) → List ℕ → Identifier → Bool
+is_named names text n = bytes_eq (name_text names n) text
+
+-- the only one of a list
+abbrev pub only : {A : Type 0} → List A → Option A
+only [] = None
+only (x ∷ []) = Some x
+only (x ∷ y ∷ rest) = None
+
+-- the first of two, and the second
+abbrev pub both : {A : Type 0} → List A → Option (A × A)
+both [] = None
+both (x ∷ []) = None
+both (x ∷ y ∷ []) = Some (x, y)
+both (x ∷ y ∷ z ∷ rest) = None
+
+-- a number, where an expression is just that
+abbrev pub number_of : Expression-F Expression Reference → Option Number
+number_of (Expression-F.Number at x) = Some x
+number_of _ = None
+
+abbrev pub number_in : Expression → Option Number
+number_in e = number_of (out-Expression e)
+
+-- a plain number
+abbrev pub plain_value : Number → Option ℕ
+plain_value x = guard ((x.size == 0) && x.signed) x.value
+
+-- an unsigned number with a size, its value cut to it
+abbrev pub literal_of : Number → Option (ℕ × ℕ)
+literal_of x = guard (nat_le 1 x.size && (nat_le x.size 128 && not x.signed)) (x.size, x.value % 2 ^ x.size)
+
+-- the width of `[M:0]`
+unfoldable pub bounds_width : Range → Option ℕ
+bounds_width r = do
+  high ← number_in r.high
+  msb ← plain_value high
+  low ← number_in r.low
+  lsb ← plain_value low
+  guard (nat_le msb 127 && (lsb == 0)) (msb + 1)
 
 -- the width of a range `[M:0]`, or of none
-unfoldable pub range_at : List Said → Option (ℕ × List Said)
-range_at ts = or_one_bit ts (sign_at (codes "[") ts)
+abbrev pub range_width : Option Range → Option ℕ
+range_width None = Some 1
+range_width (Some r) = bounds_width r
 
--- what follows `module T(input C);`
-unfoldable pub header_at : List ℕ → List ℕ → List Said → Option (List Said)
-header_at top clock ts = do
-  a ← sign_at (codes "module") ts
-  b ← this_name_at top a
-  c ← sign_at (codes "(") b
-  d ← sign_at (codes "input") c
-  e ← this_name_at clock d
-  f ← sign_at (codes ")") e
-  sign_at (codes ";") f
+-- unsigned, and of this width
+unfoldable pub shape_width : Shape → Option ℕ
+shape_width shape = if shape.signed then None else range_width shape.range
+
+-- `input C`
+abbrev pub is_clock_port : List (List ℕ) → List ℕ → HeaderPort → Bool
+is_clock_port names clock (port.Input at net.Nothing shape n) = not shape.signed && (is_none shape.range && is_named names clock n)
+is_clock_port names clock _ = false
+
+abbrev pub declared : Ports → Option HeaderPort
+declared (ports.Declarations xs) = only xs
+declared _ = None
+
+abbrev pub some_clock_port : List (List ℕ) → List ℕ → Option HeaderPort → Bool
+some_clock_port names clock None = false
+some_clock_port names clock (Some p) = is_clock_port names clock p
+
+-- `module T(input C);`
+unfoldable pub is_header : List (List ℕ) → List ℕ → List ℕ → ModuleBody → Bool
+is_header names top clock body =
+    is_named names top body.name && ((length body.parameters == 0) && some_clock_port names clock (declared body.ports))
+
+-- an item outside generate constructs
+abbrev pub plain_of : GenerateItem-F GenerateItem Branch → Option PlainItem
+plain_of (GenerateItem-F.Plain x) = Some x
+plain_of _ = None
+
+abbrev pub plain_in : Item → Option PlainItem
+plain_in (item.Item x) = plain_of (out-GenerateItem x)
+plain_in _ = None
 
 -- a register: its name, its width, and its literal's size and value
 abbrev pub RegisterText : Type 0
 RegisterText = List ℕ × ℕ × ℕ × ℕ
 
--- `reg [M:0] R = L;`
-unfoldable pub register_at : List Said → Option (RegisterText × List Said)
-register_at ts = do
-  a ← sign_at (codes "reg") ts
-  range ← range_at a
-  name ← name_at range.1
-  b ← sign_at (codes "=") name.1
-  initial ← literal_at b
-  c ← sign_at (codes ";") initial.2
-  Some ((name.0, range.0, initial.0, initial.1), c)
+abbrev pub literal_in : Option Expression → Option (ℕ × ℕ)
+literal_in None = None
+literal_in (Some e) = number_in e >>= λ x. literal_of x
+
+-- `reg [M:0]` and `R = L`
+unfoldable pub variable_at : List (List ℕ) → Shape → Variable → Option RegisterText
+variable_at names shape v = do
+  width ← shape_width shape
+  initial ← literal_in v.value
+  guard (is_none v.addresses) (name_text names v.name, width, initial.0, initial.1)
+
+abbrev pub register_at : List (List ℕ) → PlainItem → Option RegisterText
+register_at names (plain.Reg at shape xs) = only xs >>= λ v. variable_at names shape v
+register_at names _ = None
 
 -- a name or literal of the assignment
 pub data Operand : Type 0 where
   -- the register's name
   Register : Operand
   Literal : (size value : ℕ) → Operand
-  -- another name, from which on so many tokens are left
-  Unknown : (left : ℕ) → Operand
+  -- another name
+  Unknown : (name : Identifier) → Operand
 
--- a name, the first of these tokens, that is the register's or another
-abbrev pub named_operand : List ℕ → List ℕ → List Said → Operand
-named_operand register name ts = if bytes_eq name register then Register else Unknown (length ts)
+-- a name is the register's or another
+abbrev pub named_operand : List (List ℕ) → List ℕ → Identifier → Operand
+named_operand names register n = if is_named names register n then Register else Unknown n
 
--- a name, with what follows it
-unfoldable pub target_at : List ℕ → List Said → Option (Operand × List Said)
-target_at register ts = do
-  name ← name_at ts
-  Some (named_operand register name.0 ts, name.1)
+abbrev pub literal_operand : Number → Option Operand
+literal_operand x = option_map (λ l. Literal l.0 l.1) (literal_of x)
 
-abbrev pub literal_operand : Option (ℕ × ℕ × List Said) → Option (Operand × List Said)
-literal_operand found = option_map (λ l. (Literal l.0 l.1, l.2)) found
+-- some operands, in their order
+abbrev pub Sum : Type 0
+Sum = Operand × List Operand
 
-abbrev pub name_or_literal : List ℕ → List ℕ → List Said → Option (List ℕ × List Said) → Option (Operand × List Said)
-name_or_literal clock register ts None = literal_operand (literal_at ts)
-name_or_literal clock register ts (Some name) =
-    guard (not (bytes_eq name.0 clock)) (named_operand register name.0 ts, name.1)
+-- what a part of an expression is: one operand, and a sum of operands
+pub record Part : Type 0 where
+  pub lone : Option Operand
+  pub sum : Option Sum
 
--- a name other than the clock's, or a literal, with what follows it
-unfoldable pub operand_at : List ℕ → List ℕ → List Said → Option (Operand × List Said)
-operand_at clock register ts = name_or_literal clock register ts (name_at ts)
+abbrev pub no_part : Part
+no_part = record { lone = None; sum = None }
 
--- what a reading of some operands found, with an operand before them
-abbrev pub before_operands : Operand → Option (List Operand × List Said) → Option (List Operand × List Said)
-before_operands first found = option_map (λ more. (first ∷ more.0, more.1)) found
+abbrev pub lone_part : Option Operand → Part
+lone_part o = record { lone = o; sum = option_map (λ x. (x, [])) o }
 
-abbrev pub behind_plus : List Said → Option (List Said) → (List Said → Option (List Operand × List Said)) → Option (List Operand × List Said)
-behind_plus ts None more = Some ([], ts)
-behind_plus ts (Some rest) more = more rest
+-- one operand more
+abbrev pub with_operand : Sum → Operand → Sum
+with_operand (first, more) o = (first, more ++ o ∷ [])
 
--- at most so many times `+` and an operand, with what follows them
-abbrev pub more_operands_at : ℕ → List ℕ → List ℕ → List Said → Option (List Operand × List Said)
-more_operands_at zero clock register ts = Some ([], ts)
-more_operands_at (suc room) clock register ts =
-    behind_plus ts (sign_at (codes "+") ts) (λ rest.
-    operand_at clock register rest >>= λ found. before_operands found.0 (more_operands_at room clock register found.1))
+-- `+` associates to the left
+abbrev pub binary_part : BinaryOperator → Part → Part → Part
+binary_part operator.Add left right = record { lone = None; sum = left.sum >>= λ s. right.lone >>= λ o. Some (with_operand s o) }
+binary_part _ left right = no_part
+
+-- a name other than the clock's
+abbrev pub name_part : List (List ℕ) → List ℕ → List ℕ → Option Identifier → Part
+name_part names clock register None = no_part
+name_part names clock register (Some n) = lone_part (guard (not (is_named names clock n)) (named_operand names register n))
+
+abbrev pub part_of : List (List ℕ) → List ℕ → List ℕ → Expression-F Part (Option Identifier) → Part
+part_of names clock register (Expression-F.Number at x) = lone_part (literal_operand x)
+part_of names clock register (Expression-F.Read x) = name_part names clock register x
+part_of names clock register (Expression-F.Binary op x y) = binary_part op x y
+part_of names clock register _ = no_part
+
+-- a name without a select
+abbrev pub whole_name : Reference-F Part (Option Identifier) → Option Identifier
+whole_name (Reference-F.Whole n) = Some n
+whole_name _ = None
+
+abbrev pub part_at : List (List ℕ) → List ℕ → List ℕ → Expression → Part
+part_at names clock register = fold-Expression Part (Option Identifier) (part_of names clock register) whole_name
+
+abbrev pub name_of : Reference-F Expression Reference → Option Identifier
+name_of (Reference-F.Whole n) = Some n
+name_of _ = None
+
+abbrev pub target_of : Target-F Target → Option Identifier
+target_of (Target-F.Reference x) = name_of (out-Reference x)
+target_of _ = None
+
+abbrev pub target_in : Target → Option Identifier
+target_in x = target_of (out-Target x)
 
 -- the assignment: its target, and the operands of the sum
 abbrev pub Assignment : Type 0
 Assignment = Operand × Operand × List Operand
 
--- `R <= X;` with a sum of at most 256 `+`, and what follows it
-unfoldable pub assignment_at : List ℕ → List ℕ → List Said → Option (Assignment × List Said)
-assignment_at clock register ts = do
-  target ← target_at register ts
-  a ← sign_at (codes "<=") target.1
-  first ← operand_at clock register a
-  more ← more_operands_at 256 clock register first.1
-  b ← sign_at (codes ";") more.1
-  Some ((target.0, first.0, more.0), b)
+-- `R <= X`
+abbrev pub assignment_of : List (List ℕ) → List ℕ → List ℕ → Statement-F Arm Statement → Option Assignment
+assignment_of names clock register (Statement-F.Assign x y) = do
+  target ← target_in x
+  sum ← (part_at names clock register y).sum
+  Some (named_operand names register target, sum.0, sum.1)
+assignment_of names clock register _ = None
 
--- what follows `always @(posedge C)`
-unfoldable pub event_at : List ℕ → List Said → Option (List Said)
-event_at clock ts = do
-  a ← sign_at (codes "always") ts
-  b ← sign_at (codes "@") a
-  c ← sign_at (codes "(") b
-  d ← sign_at (codes "posedge") c
-  e ← this_name_at clock d
-  sign_at (codes ")") e
+abbrev pub assignment_in : List (List ℕ) → List ℕ → List ℕ → Statement → Option Assignment
+assignment_in names clock register x = assignment_of names clock register (out-Statement x)
 
--- the register and the assignment of all tokens
-unfoldable pub module_at : List ℕ → List ℕ → List Said → Option (RegisterText × Assignment)
-module_at top clock ts = do
-  a ← header_at top clock ts
-  register ← register_at a
-  b ← guard (not (bytes_eq register.0.0 clock)) register.1
-  c ← event_at clock b
-  assignment ← assignment_at clock register.0.0 c
-  d ← sign_at (codes "endmodule") assignment.1
-  guard (has_ended d) (register.0, assignment.0)
+-- `always @(posedge C)`
+abbrev pub clocked_at : List (List ℕ) → List ℕ → List ℕ → PlainItem → Option Assignment
+clocked_at names clock register (plain.Clocked at n x) =
+    if is_named names clock n then assignment_in names clock register x else None
+clocked_at names clock register _ = None
 
-abbrev pub unknown_left : Operand → Option ℕ
-unknown_left Register = None
-unknown_left (Literal size value) = None
-unknown_left (Unknown left) = Some left
+-- the register and the assignment of two items
+unfoldable pub items_at : List (List ℕ) → List ℕ → Item × Item → Option (RegisterText × Assignment)
+items_at names clock items = do
+  first ← plain_in items.0
+  register ← register_at names first
+  second ← plain_in items.1
+  assignment ← clocked_at names clock register.0 second
+  guard (not (bytes_eq register.0 clock)) (register, assignment)
+
+-- the register and the assignment of a module
+unfoldable pub body_at : List (List ℕ) → List ℕ → List ℕ → ModuleBody → Option (RegisterText × Assignment)
+body_at names top clock body =
+    if is_header names top clock body then (both body.items >>= λ items. items_at names clock items) else None
+
+-- and of a text, where it has just one module
+abbrev pub module_at : List (List ℕ) → List ℕ → List ℕ → List Module → Option (RegisterText × Assignment)
+module_at names top clock xs = only xs >>= λ x. body_at names top clock x.body
+
+abbrev pub unknown_name : Operand → Option Identifier
+unknown_name Register = None
+unknown_name (Literal size value) = None
+unknown_name (Unknown name) = Some name
 
 abbrev pub or_else : {A : Type 0} → Option A → Option A → Option A
 or_else None other = other
 or_else (Some x) other = Some x
 
 -- the first operand whose name isn't known
-abbrev pub first_unknown : List Operand → Option ℕ
+abbrev pub first_unknown : List Operand → Option Identifier
 first_unknown [] = None
-first_unknown (o ∷ os) = or_else (unknown_left o) (first_unknown os)
+first_unknown (o ∷ os) = or_else (unknown_name o) (first_unknown os)
 
--- the first name of an assignment that isn't known, in the order of the text: how many tokens are left from it on
-abbrev pub unknown_in : Assignment → Option ℕ
+-- the first name of an assignment that isn't known, in the order of the text
+abbrev pub unknown_in : Assignment → Option Identifier
 unknown_in (target, first, more) = first_unknown (target ∷ first ∷ more)

@@ -5,9 +5,9 @@ use Rattle.std.specs.List.{flat_map}
 use Rattle.hex.specs.Hex.{encode_lower}
 use Rattle.ls_text.specs.Faults.{code_name, line_text}
 use Rattle.typed_ir.specs.Cycles.{Flat, Signal, width_at, truth}
-use Rattle.livesim.specs.Designs.{no_rows}
+use Rattle.livesim.specs.Designs.{Answer, no_rows}
 use Rattle.livesim.specs.Commands.{Command, Load, Advance, Display, Unbuilt}
-use Rattle.livesim.specs.Worlds.{World, Where, InText, OnLine, Refused, verdict, after, any_refused, world_after}
+use Rattle.livesim.specs.Worlds.{World, Told, Where, InText, OnLine, Refused, commands_of, verdict, after, any_refused, world_after, IsRight, AreRight}
 
 -- a value, with a hexadecimal digit for each four bits of its width
 abbrev pub hex_text : ℕ → ℕ → List ℕ
@@ -55,22 +55,31 @@ answer_text command (Ok w) = done_text command w
 answer_text command (Err refused) = refusal_text refused
 
 -- the lines that answer a command
-abbrev pub reply : Command → World → List ℕ
-reply command w = answer_text command (verdict command w)
+abbrev pub reply : Told → World → List ℕ
+reply t w = answer_text t.command (verdict t w)
 
 -- the lines that answer some commands
-abbrev pub lines : List Command → World → List ℕ
+abbrev pub lines : List Told → World → List ℕ
 lines [] w = []
-lines (command ∷ commands) w = reply command w ++ lines commands (after command w)
+lines (t ∷ ts) w = reply t w ++ lines ts (after t w)
 
 -- what a call answers to a command, and the world that it leaves
-pub record Replies (command : Command) (old new : World) (written : List ℕ) (is_refusal : Bool) : Type 0 where
-  pub text : written ≡ reply command old
-  pub world : new ≡ after command old
-  pub refused : is_refusal ≡ is_err (verdict command old)
+pub record Replies (t : Told) (old new : World) (written : List ℕ) (is_refusal : Bool) : Type 0 where
+  pub text : written ≡ reply t old
+  pub world : new ≡ after t old
+  pub refused : is_refusal ≡ is_err (verdict t old)
+
+-- the same, with what the command's text comes to
+pub record RepliesTo (command : Command) (old new : World) (written : List ℕ) (is_refusal : Bool) : Type 0 where
+  pub answer : Answer
+  pub right : IsRight old (record { command = command; answer = answer })
+  pub replies : Replies (record { command = command; answer = answer }) old new written is_refusal
 
 -- what a call answers to some commands, and the world that it leaves
 pub record RepliesAll (commands : List Command) (old new : World) (written : List ℕ) (is_refusal : Bool) : Type 0 where
-  pub text : written ≡ lines commands old
-  pub world : new ≡ world_after commands old
-  pub refused : is_refusal ≡ any_refused commands old
+  pub told : List Told
+  pub same : commands_of told ≡ commands
+  pub right : AreRight old told
+  pub text : written ≡ lines told old
+  pub world : new ≡ world_after told old
+  pub refused : is_refusal ≡ any_refused told old

@@ -4,16 +4,12 @@ use Rattle.std.specs.Io.KnownBytes.{Consumes, Appends, IsAtEnd}
 use Rattle.typed_ir.specs.Cycles.{Flat, truth}
 use Rattle.livesim.specs.Designs.{no_rows}
 use Rattle.livesim.specs.Commands.{Command, Display, commands}
-use Rattle.livesim.specs.Worlds.{fresh, world_after, any_refused}
+use Rattle.livesim.specs.Worlds.{Told, plain, fresh, commands_of, world_after, any_refused, AreRight}
 use Rattle.livesim.specs.Replies.{lines, reply, table_lines}
 
--- the lines that answer a script
-abbrev pub output_of : List ℕ → Bool → List ℕ
-output_of bytes ended = lines (commands bytes ended) fresh
-
--- whether a command of it is refused
-abbrev pub has_refusal : List ℕ → Bool → Bool
-has_refusal bytes ended = any_refused (commands bytes ended) fresh
+-- the first commands, and then the rest, are all
+abbrev pub Begins : List Command → List Command → Type 0
+Begins front all = (rest : List Command) × (front ++ rest ≡ all)
 
 -- what was written, with the rest, is what was there before with all
 abbrev pub LeavesToWrite : Option (List ℕ) → Option (List ℕ) → List ℕ → List ℕ → Type 0
@@ -31,16 +27,22 @@ pub record Lived (left_old left_new written_old written_new : Option (List ℕ))
   -- what the source had left is the bytes taken, and then what it has left now
   pub consumed : Consumes left_old left_new bytes
   pub at_end : ended ≡ true → IsAtEnd left_new
+  -- commands from the first on, each with what its text comes to
+  pub told : List Told
+  pub right : AreRight fresh told
+  -- they are all commands of these bytes, but at 4 and 5 perhaps only the first ones
+  pub all : status ≢ 4 → status ≢ 5 → commands_of told ≡ commands bytes ended
+  pub begins : Begins (commands_of told) (commands bytes ended)
+  -- and begin those that these bytes have where the input ends with them: so at 4 and 5 it is one whether or not the
+  -- source has anything left
+  pub begins_all : Begins (commands_of told) (commands bytes true)
   -- at 0 and 1 the input was read to its end, and 1 says that a command was refused
   pub whole : (status ≡ 0) ⊎ (status ≡ 1) → ended ≡ true
-  pub judged : (status ≡ 0) ⊎ (status ≡ 1) → status ≡ (if has_refusal bytes ended then 1 else 0)
+  pub judged : (status ≡ 0) ⊎ (status ≡ 1) → status ≡ (if any_refused told fresh then 1 else 0)
   -- at 3 and 6 it wasn't
   pub cut : (status ≡ 3) ⊎ (status ≡ 6) → ended ≡ false
-  pub written : status ≢ 4 → status ≢ 5 → Appends written_old written_new (output_of bytes ended)
-  pub front : WritesFront written_old written_new (output_of bytes ended)
-  -- and of the lines that these bytes have where the input ends with them: so at 4 and 5 it is one whether or not the
-  -- source has anything left
-  pub front_of_all : WritesFront written_old written_new (output_of bytes true)
+  pub written : status ≢ 4 → status ≢ 5 → Appends written_old written_new (lines told fresh)
+  pub front : WritesFront written_old written_new (lines told fresh)
   -- 6 comes exactly where too much was taken, but where the sink failed or memory ran out
   pub too_much : status ≡ 6 → 67108864 < length bytes
   pub not_too_much : 67108864 < length bytes → status ≢ 4 → status ≢ 5 → status ≡ 6
@@ -51,7 +53,7 @@ IsComplete status = (status ≡ 0) ⊎ ((status ≡ 1) ⊎ (status ≡ 5))
 
 -- Every display of a session is settled: it shows the registers of a run from reset to its cycle.
 abbrev pub DisplaysTruth : Type 0
-DisplaysTruth = (before : List Command) (line : ℕ) (design : Flat) → (world_after before fresh).design ≡ Some design
-    → reply (Display line) (world_after before fresh)
+DisplaysTruth = (before : List Told) (line : ℕ) (design : Flat) → (world_after before fresh).design ≡ Some design
+    → reply (plain (Display line)) (world_after before fresh)
     ≡ codes "show cycle=" ++ decimal (world_after before fresh).cycle ++ codes " settled v=1" ++ (10 ∷ [])
     ++ table_lines design design.registers (truth design no_rows (world_after before fresh).cycle)

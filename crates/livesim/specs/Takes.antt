@@ -1,13 +1,15 @@
 -- What a first block comes to.
-use Rattle.std.specs.Prelude.{◌≡◌, Some, Ok}
-use Rattle.livesim.specs.Commands.{Command}
+use Rattle.std.specs.Prelude.{ℕ, Some, Ok}
+use Rattle.livesim.specs.Commands.{Load}
 use Rattle.livesim.specs.Flats.{flat}
-use Rattle.livesim.specs.Replies.{Replies}
-use Rattle.livesim.specs.Worlds.{fresh, verdict}
+use Rattle.livesim.specs.Readings.{TextReads}
+use Rattle.livesim.specs.Replies.{RepliesTo}
+use Rattle.livesim.specs.Script.{BlockText}
+use Rattle.livesim.specs.Worlds.{fresh}
 use Rattle.livesim.specs.declared.taken.Taken.{Taken}
 use Rattle.livesim.specs.declared.taken.Taken.TheVariants.{Made, Refused}
 
--- the design that the command's verdict has, at reset, or the reply that refuses the command
-abbrev pub Takes : Command → Taken → Type 0
-Takes command (Made design) = verdict command fresh ≡ Ok (record { design = Some (flat design); cycle = 0 })
-Takes command (Refused reply) = Replies command fresh fresh reply.text.items reply.refused
+-- the design that the text comes to, or the reply that refuses the block whose `edit` has that line
+abbrev pub Takes : ℕ → BlockText → Taken → Type 0
+Takes line block (Made design) = TextReads block (Ok (flat design))
+Takes line block (Refused reply) = RepliesTo (Load line (Some block)) fresh fresh reply.text.items reply.refused

@@ -1,12 +1,11 @@
 -- A session, and what commands do to it.
-use Rattle.std.specs.Prelude.{ℕ, ◌+◌, ◌^◌, Bool, false, ◌||◌, nat_le, nat_lt, if◌then◌else◌, List, [], ◌∷◌, length, slice_index_or, Option, Some, None, Result, Ok, Err, is_err}
+use Rattle.std.specs.Prelude.{ℕ, ◌+◌, ◌^◌, Bool, false, ◌||◌, nat_le, if◌then◌else◌, List, [], ◌∷◌, map, slice_index_or, Option, Some, None, Result, Ok, Err, is_err, ⊤}
 use Rattle.typed_ir.specs.Cycles.{Flat}
 use Rattle.ls_text.specs.declared.place.At.{At}
 use Rattle.ls_text.specs.declared.place.At.TheVariants.{Text, Line, Edit}
-use Rattle.source_text.specs.Faults.{TextFault, fault_at}
-use Rattle.verilog_lex.specs.Tokens.{Said}
-use Rattle.livesim.specs.Texts.{text_tokens}
-use Rattle.livesim.specs.Designs.{design_at}
+use Rattle.source_text.specs.Faults.{TextFault}
+use Rattle.livesim.specs.Designs.{Answer}
+use Rattle.livesim.specs.Readings.{TextReads}
 use Rattle.livesim.specs.Script.{BlockText}
 use Rattle.livesim.specs.Commands.{Command, Load, Advance, Display, Unbuilt}
 
@@ -47,29 +46,32 @@ where_of files line Edit = OnLine line
 abbrev pub refused_text : List (List ℕ) → ℕ → TextFault → Refused
 refused_text files line fault = record { code = fault.code; place = where_of files line fault.at; names = fault.words }
 
--- a name isn't known
-abbrev pub unknown_name : Said → TextFault
-unknown_name t = fault_at 29 t.at (t.text ∷ [])
+-- a command, with what its text comes to. That is looked at for a block of the form where there is no design yet, and
+-- for no other command.
+pub record Told : Type 0 where
+  pub command : Command
+  pub answer : Answer
 
-abbrev pub design_verdict : ℕ → BlockText → Result Flat (Option Said) → Result World Refused
-design_verdict line block (Ok design) = Ok (record { design = Some design; cycle = 0 })
-design_verdict line block (Err None) = Err (not_built block.file_line)
-design_verdict line block (Err (Some name)) = Err (refused_text (block.file ∷ []) line (unknown_name name))
+-- a command that has no text
+abbrev pub plain : Command → Told
+plain c = record { command = c; answer = Err None }
 
-abbrev pub text_verdict : ℕ → BlockText → Result (List Said) TextFault → Result World Refused
-text_verdict line block (Err fault) = Err (refused_text (block.file ∷ []) line fault)
-text_verdict line block (Ok ts) = design_verdict line block (design_at block.top block.clock ts)
+abbrev pub commands_of : List Told → List Command
+commands_of told = map (λ (t : Told). t.command) told
 
 -- the first block: its text has no fault, is of the form, and its names are known
-abbrev pub first_block : ℕ → Option BlockText → Result World Refused
-first_block line None = Err (not_built line)
-first_block line (Some block) =
-    if nat_lt 4194304 (length block.text) then Err (not_built block.file_line)
-    else text_verdict line block (text_tokens block.text)
+abbrev pub answer_verdict : ℕ → BlockText → Answer → Result World Refused
+answer_verdict line block (Ok design) = Ok (record { design = Some design; cycle = 0 })
+answer_verdict line block (Err None) = Err (not_built block.file_line)
+answer_verdict line block (Err (Some fault)) = Err (refused_text (block.file ∷ []) line fault)
 
-abbrev pub load_verdict : ℕ → Option BlockText → Option Flat → Result World Refused
-load_verdict line block None = first_block line block
-load_verdict line block (Some design) = Err (not_built line)
+abbrev pub first_block : ℕ → Option BlockText → Answer → Result World Refused
+first_block line None answer = Err (not_built line)
+first_block line (Some block) answer = answer_verdict line block answer
+
+abbrev pub load_verdict : ℕ → Option BlockText → Answer → Option Flat → Result World Refused
+load_verdict line block answer None = first_block line block answer
+load_verdict line block answer (Some design) = Err (not_built line)
 
 abbrev pub advance_verdict : ℕ → ℕ → ℕ → Option Flat → Result World Refused
 advance_verdict line cycles cycle None = Err (no_design line)
@@ -81,27 +83,53 @@ abbrev pub display_verdict : ℕ → ℕ → Option Flat → Result World Refuse
 display_verdict line cycle None = Err (no_design line)
 display_verdict line cycle (Some design) = Ok (record { design = Some design; cycle = cycle })
 
+abbrev pub command_verdict : Command → Answer → World → Result World Refused
+command_verdict (Load line block) answer w = load_verdict line block answer w.design
+command_verdict (Advance line cycles) answer w = advance_verdict line cycles w.cycle w.design
+command_verdict (Display line) answer w = display_verdict line w.cycle w.design
+command_verdict (Unbuilt line) answer w = Err (not_built line)
+
 -- the world after a command, or its refusal
-abbrev pub verdict : Command → World → Result World Refused
-verdict (Load line block) w = load_verdict line block w.design
-verdict (Advance line cycles) w = advance_verdict line cycles w.cycle w.design
-verdict (Display line) w = display_verdict line w.cycle w.design
-verdict (Unbuilt line) w = Err (not_built line)
+abbrev pub verdict : Told → World → Result World Refused
+verdict t w = command_verdict t.command t.answer w
 
 abbrev pub world_or : World → Result World Refused → World
 world_or old (Ok new) = new
 world_or old (Err refused) = old
 
 -- a refused command leaves the world as it was
-abbrev pub after : Command → World → World
-after command w = world_or w (verdict command w)
+abbrev pub after : Told → World → World
+after t w = world_or w (verdict t w)
 
 -- the world after some commands
-abbrev pub world_after : List Command → World → World
+abbrev pub world_after : List Told → World → World
 world_after [] w = w
-world_after (command ∷ commands) w = world_after commands (after command w)
+world_after (t ∷ ts) w = world_after ts (after t w)
 
 -- whether one of them is refused
-abbrev pub any_refused : List Command → World → Bool
+abbrev pub any_refused : List Told → World → Bool
 any_refused [] w = false
-any_refused (command ∷ commands) w = is_err (verdict command w) || any_refused commands (after command w)
+any_refused (t ∷ ts) w = is_err (verdict t w) || any_refused ts (after t w)
+
+abbrev pub IsRightFirst : Option BlockText → Answer → Type 0
+IsRightFirst None answer = ⊤
+IsRightFirst (Some block) answer = TextReads block answer
+
+abbrev pub IsRightLoad : Option BlockText → Answer → Option Flat → Type 0
+IsRightLoad block answer None = IsRightFirst block answer
+IsRightLoad block answer (Some design) = ⊤
+
+abbrev pub IsRightCommand : Command → Answer → World → Type 0
+IsRightCommand (Load line block) answer w = IsRightLoad block answer w.design
+IsRightCommand (Advance line cycles) answer w = ⊤
+IsRightCommand (Display line) answer w = ⊤
+IsRightCommand (Unbuilt line) answer w = ⊤
+
+-- the text of a block of the form comes to the answer, where there is no design yet
+abbrev pub IsRight : World → Told → Type 0
+IsRight w t = IsRightCommand t.command t.answer w
+
+-- and so of commands one after another
+abbrev pub AreRight : World → List Told → Type 0
+AreRight w [] = ⊤
+AreRight w (t ∷ ts) = IsRight w t × AreRight (after t w) ts

@@ -1,43 +1,81 @@
 // From the tokens of a text to its design.
-ghost use Rattle.std.specs.Prelude.{◌≡◌, length, map, IfOk};
+ghost use Rattle.std.specs.Prelude.{◌≡◌, ◌<◌, length, IfOk};
 ghost use Rattle.std.specs.List.{All};
-ghost use Rattle.verilog_lex.specs.Views.{said, IsNamed};
-ghost use Rattle.livesim.specs.Designs.{design_at};
+ghost use Rattle.source_text.specs.Faults.{fault_view};
+ghost use Rattle.verilog_lex.specs.Ends.{EndsOnce};
+ghost use Rattle.verilog_lex.specs.Views.{IsNamed};
+ghost use Rattle.livesim.specs.Designs.{design_of, unknown_fault};
 ghost use Rattle.livesim.specs.Flats.{built, IsOfTable};
+ghost use Rattle.livesim.specs.Readings.{TokensRead};
 
 use crate::built::Built;
 use crate::design::design;
+use crate::known::KnownNames;
+use crate::known_names::{known_names, text};
 use crate::module::{module, unknown_in};
-use crate::tokens_left::TokensLeft;
-use ls_text::{Names, NoMemory};
+use ls_text::{At, Fault, NameList, Names, NoMemory, Refusal};
 use std::alloc::Global;
+use verilog_ast::{Identifier, Module};
 use verilog_lex::Token;
+use verilog_parse::parse;
 
-/// The design of a module's tokens, whose names are of this table: of the module with this name and this clock.
-#[tactic(auto, unfolding(crate::specs::Designs::design_at))]
+// The fault of a name that isn't known.
+fn unknown(alloc: Global, known: KnownNames<'_>, name: Identifier) -> Result<Fault, NoMemory>
+    ensures fault { IfOk result (λ f. fault_view known.entry.names.now f ≡ unknown_fault known.entry.names.now name) }
+    ensures of_table { IfOk result (λ f. All (λ id. id.0 < length known.entry.names.now) f.names) }
+{
+    let _text = text(known, name)?;
+    Ok(Fault {
+        code: 29,
+        at: At::Text(name.at),
+        names: NameList::new(vec![in alloc; name.name]?),
+    })
+}
+
+// The design of modules, where they are of the form: one module with this name and this clock.
+#[tactic(auto, unfolding(crate::specs::Designs::design_of))]
+fn build_modules(
+    alloc: Global,
+    known: KnownNames<'_>,
+    top: &[u8],
+    clock: &[u8],
+    modules: &[Module],
+) -> Result<Built, NoMemory>
+    ensures built { IfOk result (λ b. built known.entry.names.now b ≡ design_of known.entry.names.now top.now clock.now modules.now) }
+    ensures of_table { IfOk result (IsOfTable (length known.entry.names.now)) }
+{
+    let Some((register, parts)) = module(alloc, known, top, clock, modules)? else {
+        return Ok(Built::OtherForm);
+    };
+    match unknown_in(&parts) {
+        Some(name) => Ok(Built::Refused(unknown(alloc, known, name)?)),
+        None => Ok(Built::Made(design(alloc, top, &register, &parts)?)),
+    }
+}
+
+/// The design of a text's tokens, whose names are of this table, or its first fault: of the grammar (15, 16, 38), and then
+/// a name that isn't known (29).
 pub fn build(
     alloc: Global,
-    names: &Names,
+    names: &mut Names,
     top: &[u8],
     clock: &[u8],
     tokens: &[Token],
 ) -> Result<Built, NoMemory>
-    requires { All (IsNamed (length names.now)) tokens.now }
-    ensures built { IfOk result (λ b. built names.now b ≡ design_at top.now clock.now (map (said names.now) tokens.now)) }
-    ensures of_table { IfOk result (IsOfTable (length names.now)) }
+    requires ends { EndsOnce tokens.now }
+    requires named { All (IsNamed (length names.old)) tokens.now }
+    ensures reads { IfOk result (λ b. TokensRead names.new top.now clock.now tokens.now (built names.new b)) }
+    ensures of_table { IfOk result (IsOfTable (length names.new)) }
+    ensures table { names.new ≡ names.old }
 {
-    let all = TokensLeft {
-        names,
-        left: tokens,
-    };
-    let Some((register, parts)) = module(alloc, top, clock, all)? else {
-        return Ok(Built::OtherForm);
-    };
-    if let Some(left) = unknown_in(&parts) {
-        return Ok(match tokens.get(tokens.len().saturating_sub(left)) {
-            Some(token) => Built::Unknown(*token),
-            None => Built::OtherForm,
-        });
+    match parse(alloc, names, tokens) {
+        Ok(modules) => {
+            let Some(known) = known_names(names, tokens) else {
+                return Err(NoMemory);
+            };
+            build_modules(alloc, known, top, clock, &modules)
+        }
+        Err(Refusal::NoMemory) => Err(NoMemory),
+        Err(Refusal::Fault(fault)) => Ok(Built::Refused(fault)),
     }
-    Ok(Built::Made(design(alloc, top, &register, &parts)?))
 }

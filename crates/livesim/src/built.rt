@@ -1,13 +1,13 @@
-// What becomes of a module's tokens.
+// What becomes of a text's tokens.
 use crate::one_register::Design;
-use verilog_lex::Token;
+use ls_text::Fault;
 
 /// What was made of the tokens of a text.
 #[derive(Drop)]
 pub enum Built {
     Made(Design),
-    /// The tokens are not of the form that is built.
+    /// The modules are not of the form that is built.
     OtherForm,
-    /// This name isn't known.
-    Unknown(Token),
+    /// The grammar has no rule, too much is open, or a name isn't known.
+    Refused(Fault),
 }

@@ -4,12 +4,12 @@ ghost use Rattle.std.specs.List.{suffix_len};
 ghost use Rattle.std.specs.Io.KnownBytes.{Consumes, Appends, IsAtEnd, Keeps};
 ghost use Rattle.ls_port.specs.Causes.{Rose};
 ghost use Rattle.livesim.specs.Commands.{Load, commands_after, commands_from, command_at, counted_bytes, line_commands};
-ghost use Rattle.livesim.specs.Endings.{FinishesWith, has_ended};
-ghost use Rattle.livesim.specs.Replies.{Replies, RepliesAll, lines};
-ghost use Rattle.livesim.specs.Runs.{DisplaysTruth, IsComplete, Lived, WritesFront, output_of};
+ghost use Rattle.livesim.specs.Endings.{Carries, Finishes, has_ended};
+ghost use Rattle.livesim.specs.Replies.{RepliesTo, RepliesAll, refusal_text};
+ghost use Rattle.livesim.specs.Runs.{DisplaysTruth, IsComplete, Lived, WritesFront};
 ghost use Rattle.livesim.specs.Script.{HasSmallRun, block_at, script_lines};
 ghost use Rattle.livesim.specs.Sessions.{world};
-ghost use Rattle.livesim.specs.Worlds.{fresh, any_refused};
+ghost use Rattle.livesim.specs.Worlds.{not_built};
 ghost use Rattle.livesim.specs.declared.script.ScriptLine.TheVariants.{Edit};
 
 use crate::reply::{Reply, not_built};
@@ -139,7 +139,7 @@ struct Turn<'a> {
 // The reply to a block whose `edit` has that line.
 fn edit(alloc: Global, session: &mut Session, line: u64, bytes: &[u8]) -> Result<Reply, NoMemory>
     requires { line + length bytes.now + 3 < 2 ^ 64 }
-    ensures { IfOk result (λ r. Replies (Load line (block_at (line + 1) (script_lines bytes.now)))
+    ensures { IfOk result (λ r. RepliesTo (Load line (block_at (line + 1) (script_lines bytes.now)))
         (world session.old) (world session.new) r.text.items r.refused) }
 {
     match read_block(alloc, line + 1, bytes)? {
@@ -148,7 +148,20 @@ fn edit(alloc: Global, session: &mut Session, line: u64, bytes: &[u8]) -> Result
     }
 }
 
+// The reply to a block without an end, which counts only where the input has ended.
+fn open_block(alloc: Global, ended: bool, line: u64) -> Result<Reply, NoMemory>
+    ensures text { IfOk result (λ r. r.text.items ≡ (if ended then refusal_text (not_built line) else [])) }
+    ensures refused { IfOk result (λ r. r.refused ≡ ended) }
+{
+    if ended {
+        not_built(alloc, line)
+    } else {
+        Ok(Reply::empty(alloc))
+    }
+}
+
 // Carries out the block whose `edit` has that line.
+#[tactic(auto, using(crate::proofs::Turns::one_told, crate::proofs::Loads::open_told))]
 fn block_turn<'a>(
     alloc: Global,
     ended: bool,
@@ -171,11 +184,7 @@ fn block_turn<'a>(
             rest,
         }),
         None => Ok(Turn {
-            reply: if ended {
-                not_built(alloc, line)?
-            } else {
-                Reply::empty(alloc)
-            },
+            reply: open_block(alloc, ended, line)?,
             number: line + 1,
             rest: &after[after.len()..],
         }),
@@ -183,6 +192,7 @@ fn block_turn<'a>(
 }
 
 // Carries out a line, which is followed by the rest.
+#[tactic(auto, using(crate::proofs::Turns::none_told, crate::proofs::Turns::plain_told))]
 fn line_turn<'a>(
     alloc: Global,
     ended: bool,
@@ -215,6 +225,7 @@ fn line_turn<'a>(
 }
 
 // Carries out the commands, and writes their replies: whether one was refused.
+#[tactic(auto, using(crate::proofs::Turns::none_done, crate::proofs::Turns::cut_carries, crate::proofs::Turns::whole_carries))]
 fn carry_out<K: Sink>(
     alloc: Global,
     ended: bool,
@@ -222,10 +233,7 @@ fn carry_out<K: Sink>(
     sink: &mut K,
 ) -> Result<bool, SinkRefusal>
     requires { length bytes.now ≤ 67108864 }
-    ensures lines { OnOk result (Appends (K.written sink.old) (K.written sink.new)
-        (lines (line_commands ended bytes.now) fresh)) }
-    ensures front { WritesFront (K.written sink.old) (K.written sink.new) (lines (line_commands ended bytes.now) fresh) }
-    ensures refused { IfOk result (λ refused. refused ≡ any_refused (line_commands ended bytes.now) fresh) }
+    ensures carries { Carries (line_commands ended bytes.now) (K.written sink.old) (K.written sink.new) result }
     ensures later { K.faults sink.old ≤ K.faults sink.new }
     ensures failed { IsErrOf result SinkRefusal.Failed → Rose (K.faults sink.old) (K.faults sink.new) }
     ensures kept { OnOk result (K.faults sink.new ≡ K.faults sink.old) }
@@ -247,19 +255,25 @@ fn carry_out<K: Sink>(
     Ok(refused)
 }
 
+// Whether the input was read to its end.
+fn has_ended(ending: Ending) -> bool
+    ensures { result ≡ has_ended ending }
+{
+    match ending {
+        Ending::Whole => true,
+        Ending::Failed | Ending::TooMuch => false,
+    }
+}
+
 // Carries out what was read, and answers the status.
 fn finish<K: Sink>(alloc: Global, ending: Ending, bytes: &[u8], sink: &mut K) -> u8
-    ensures status { result ≢ 5 → FinishesWith ending (K.written sink.old) (K.written sink.new) bytes.now result }
-    ensures front { WritesFront (K.written sink.old) (K.written sink.new) (output_of bytes.now (has_ended ending)) }
+    ensures finishes { Finishes ending (K.written sink.old) (K.written sink.new) bytes.now result }
     ensures write_fault { result ≡ 4 → Rose (K.faults sink.old) (K.faults sink.new) }
     ensures kept { result ≢ 4 → result ≢ 5 → K.faults sink.new ≡ K.faults sink.old }
     ensures known { result ≤ 6 }
     ensures words { result ≢ 2 }
 {
-    let ended = match ending {
-        Ending::Whole => true,
-        Ending::Failed | Ending::TooMuch => false,
-    };
+    let ended = has_ended(ending);
     match carry_out(alloc, ended, counted(ended, front(MAX_INPUT, bytes)), sink) {
         Err(SinkRefusal::Failed) => 4,
         Err(SinkRefusal::NoMemory) => 5,

@@ -7,6 +7,8 @@ ghost use Rattle.std.specs.declared.io.ErrorKind.TheVariants.{OutOfMemory};
 mod build;
 mod built;
 mod design;
+mod known;
+mod known_names;
 mod live;
 mod module;
 mod one_register;
@@ -19,8 +21,6 @@ mod session;
 mod take_block;
 mod taken;
 mod text;
-mod tokens;
-mod tokens_left;
 
 use ls_port::{StdSink, StdSource};
 use std::process::ExitCode;

@@ -1,244 +1,398 @@
-// The tokens of a module of one register.
-ghost use Rattle.std.specs.Prelude.{◌≡◌, ◌≤◌, IfOk, IfSome, MatchOption, Some, None};
-ghost use Rattle.std.specs.Option.{option_map};
-ghost use Rattle.livesim.specs.Module.{bounds_at, range_at, header_at, register_at, target_at, operand_at, more_operands_at, named_operand, assignment_at, event_at, module_at, first_unknown, unknown_in};
-ghost use Rattle.livesim.specs.Views.{operand, operands, register_text, assignment, onto_operands, saids};
+// The tree of a module of one register.
+ghost use Rattle.std.specs.Prelude.{◌≡◌, ◌<◌, ◌≤◌, IfOk, IfSome, MatchOption, Some, None, length};
+ghost use Rattle.std.specs.Option.{option_map, option_copied};
+ghost use Rattle.livesim.specs.Module.{number_in, plain_value, literal_of, bounds_width, range_width, shape_width, some_clock_port, is_clock_port, declared, is_header, plain_in, literal_in, variable_at, register_at, named_operand, part_at, target_in, assignment_in, clocked_at, items_at, body_at, module_at, first_unknown, unknown_in};
+ghost use Rattle.livesim.specs.Views.{operand, operands, register_text, sum, assignment};
 
-use crate::parts::{Assignment, RegisterItem, Term};
-use crate::tokens::{decimal, has_ended, literal, name, sign, this_name};
-use crate::tokens_left::TokensLeft;
+use crate::known::KnownNames;
+use crate::known_names::{is_named, text};
+use crate::parts::{Assignment, RegisterItem, Term, Terms};
+use bits::Bits;
 use ls_text::NoMemory;
 use std::alloc::Global;
+use verilog_ast::{
+    BinaryOperator, Expression, GenerateItem, HeaderPort, Identifier, Item, Module, ModuleBody,
+    Number, PlainItem, PortNet, Ports, Range, Reference, Shape, Statement, Target, Variable,
+};
 
-/// The most `+` that a sum may have.
-const MAX_PLUS: u32 = 256;
-
-// The width of what follows a `[`.
-#[tactic(auto, unfolding(crate::specs::Module::bounds_at))]
-fn bounds(tokens: TokensLeft<'_>) -> Option<(u8, TokensLeft<'_>)>
-    ensures value { option_map (λ r. (r.0, saids r.1)) result ≡ bounds_at (saids tokens.entry) }
-    ensures in_range { IfSome result (λ r. (1 ≤ r.0) × (r.0 ≤ 128)) }
+// The number that an expression is.
+fn number(e: &Expression) -> Option<Number>
+    ensures { result ≡ number_in e.now }
 {
-    let (msb, rest) = decimal(tokens)?;
-    let (lsb, rest) = decimal(sign(b":", rest)?)?;
-    let rest = sign(b"]", rest)?;
+    match e {
+        Expression::Number(_, x) => Some(*x),
+        _ => None,
+    }
+}
+
+// The value of a plain number.
+fn plain_value(x: Number) -> Option<u128>
+    ensures { result ≡ plain_value x }
+{
+    if x.size == 0 && x.signed {
+        Some(x.value)
+    } else {
+        None
+    }
+}
+
+// The bits of an unsigned number with a size.
+fn literal(x: Number) -> Option<Bits>
+    ensures { option_map (λ b. (b.width, b.value)) result ≡ literal_of x }
+{
+    if x.size == 0 || x.size > 128 || x.signed {
+        return None;
+    }
+    Some(Bits::new(x.size, x.value))
+}
+
+// The width of `[M:0]`.
+#[tactic(auto, unfolding(crate::specs::Module::bounds_width))]
+fn bounds_width(range: &Range) -> Option<u8>
+    ensures value { result ≡ bounds_width range.now }
+    ensures in_range { IfSome result (λ w. (1 ≤ w) × (w ≤ 128)) }
+{
+    let msb = plain_value(number(range.high.get())?)?;
+    let lsb = plain_value(number(range.low.get())?)?;
     if msb > 127 || lsb != 0 {
         return None;
     }
-    Some((msb as u8 + 1, rest))
+    Some(msb as u8 + 1)
 }
 
-// The width of a range `[M:0]`, or of none.
-#[tactic(auto, unfolding(crate::specs::Module::range_at))]
-fn range(tokens: TokensLeft<'_>) -> Option<(u8, TokensLeft<'_>)>
-    ensures value { option_map (λ r. (r.0, saids r.1)) result ≡ range_at (saids tokens.entry) }
-    ensures in_range { IfSome result (λ r. (1 ≤ r.0) × (r.0 ≤ 128)) }
+// The width of an unsigned shape.
+#[tactic(auto, unfolding(crate::specs::Module::shape_width))]
+fn shape_width(shape: &Shape) -> Option<u8>
+    ensures value { result ≡ shape_width shape.now }
+    ensures in_range { IfSome result (λ w. (1 ≤ w) × (w ≤ 128)) }
 {
-    match sign(b"[", tokens) {
-        Some(rest) => bounds(rest),
-        None => Some((1, tokens)),
+    if shape.signed {
+        return None;
+    }
+    match &shape.range {
+        Some(range) => bounds_width(range),
+        None => Some(1),
     }
 }
 
-// What follows `module T(input C);`.
-#[tactic(auto, unfolding(crate::specs::Module::header_at))]
-fn header<'a>(top: &[u8], clock: &[u8], tokens: TokensLeft<'a>) -> Option<TokensLeft<'a>>
-    ensures { option_map saids result ≡ header_at top.now clock.now (saids tokens.entry) }
+// Whether a port is `input C`.
+fn is_clock_port(known: KnownNames<'_>, clock: &[u8], port: &HeaderPort) -> Result<bool, NoMemory>
+    ensures { IfOk result (λ b. b ≡ is_clock_port known.entry.names.now clock.now port.now) }
 {
-    let rest = this_name(top, sign(b"module", tokens)?)?;
-    let rest = sign(b"input", sign(b"(", rest)?)?;
-    sign(b";", sign(b")", this_name(clock, rest)?)?)
-}
-
-// `reg [M:0] R = L;`
-#[tactic(auto, unfolding(crate::specs::Module::register_at))]
-fn register_item(tokens: TokensLeft<'_>) -> Option<(RegisterItem<'_>, TokensLeft<'_>)>
-    ensures { option_map (λ r. (register_text r.0, saids r.1)) result ≡ register_at (saids tokens.entry) }
-{
-    let (width, rest) = range(sign(b"reg", tokens)?)?;
-    let (name, rest) = name(rest)?;
-    let (initial, rest) = literal(sign(b"=", rest)?)?;
-    let register = RegisterItem {
-        name,
-        width,
-        initial,
-    };
-    Some((register, sign(b";", rest)?))
-}
-
-// A name, the first of these tokens, that is the register's or another.
-fn named_term(register: &[u8], found: &[u8], tokens: TokensLeft<'_>) -> Term
-    ensures { operand result ≡ named_operand register.now found.now (saids tokens.entry) }
-{
-    if found == register {
-        Term::Register
-    } else {
-        Term::Unknown(tokens.left.len())
-    }
-}
-
-// A name, with what follows it.
-#[tactic(auto, unfolding(crate::specs::Module::target_at))]
-fn target<'a>(register: &[u8], tokens: TokensLeft<'a>) -> Option<(Term, TokensLeft<'a>)>
-    ensures { option_map (λ r. (operand r.0, saids r.1)) result ≡ target_at register.now (saids tokens.entry) }
-{
-    let (found, rest) = name(tokens)?;
-    Some((named_term(register, found, tokens), rest))
-}
-
-// A name other than the clock's, or a literal, with what follows it.
-#[tactic(auto, unfolding(crate::specs::Module::operand_at))]
-fn read_term<'a>(
-    clock: &[u8],
-    register: &[u8],
-    tokens: TokensLeft<'a>,
-) -> Option<(Term, TokensLeft<'a>)>
-    ensures { option_map (λ r. (operand r.0, saids r.1)) result ≡ operand_at clock.now register.now (saids tokens.entry) }
-{
-    match name(tokens) {
-        Some((found, rest)) => {
-            if found == clock {
-                None
-            } else {
-                Some((named_term(register, found, tokens), rest))
+    match port {
+        HeaderPort::Input(_, PortNet::Nothing, shape, name) => {
+            if shape.signed || shape.range.is_some() {
+                return Ok(false);
             }
+            is_named(known, clock, *name)
         }
-        None => {
-            let (bits, rest) = literal(tokens)?;
-            Some((Term::Literal(bits), rest))
-        }
+        _ => Ok(false),
     }
 }
 
-// Adds the operands that follow, each after a `+`, and answers what follows them.
-fn more_terms<'a>(
-    terms: &mut Vec<Term>,
-    clock: &[u8],
-    register: &[u8],
-    tokens: TokensLeft<'a>,
-) -> Result<Option<TokensLeft<'a>>, NoMemory>
-    ensures { IfOk result (λ o. MatchOption o (more_operands_at 256 clock.now register.now (saids tokens.entry) ≡ None)
-        (λ rest. onto_operands (operands terms.old.items) (more_operands_at 256 clock.now register.now (saids tokens.entry))
-        ≡ Some (operands terms.new.items, saids rest))) }
+// The one port that a header declares.
+fn declared(ports: &Ports) -> Option<&HeaderPort>
+    ensures { option_copied result ≡ declared ports.now }
 {
-    let mut rest = tokens;
-    let mut room = MAX_PLUS;
-    while room > 0 {
-        let Some(behind) = sign(b"+", rest) else {
-            return Ok(Some(rest));
-        };
-        let Some((term, after)) = read_term(clock, register, behind) else {
-            return Ok(None);
-        };
-        terms.push(term)?;
-        rest = after;
-        room -= 1;
+    match ports {
+        Ports::Declarations(xs) => match xs.as_slice() {
+            [x] => Some(x),
+            _ => None,
+        },
+        _ => None,
     }
-    Ok(Some(rest))
 }
 
-// `R <= X;`, and what follows it.
-#[tactic(auto, unfolding(crate::specs::Module::assignment_at))]
-fn assignment_item<'a>(
-    alloc: Global,
-    clock: &[u8],
-    register: &[u8],
-    tokens: TokensLeft<'a>,
-) -> Result<Option<(Assignment, TokensLeft<'a>)>, NoMemory>
-    ensures { IfOk result (λ o. option_map (λ r. (assignment r.0, saids r.1)) o
-        ≡ assignment_at clock.now register.now (saids tokens.entry)) }
-{
-    let Some((target, rest)) = target(register, tokens) else {
-        return Ok(None);
-    };
-    let Some(rest) = sign(b"<=", rest) else {
-        return Ok(None);
-    };
-    let Some((first, rest)) = read_term(clock, register, rest) else {
-        return Ok(None);
-    };
-    let mut more = Vec::new(alloc);
-    let Some(rest) = more_terms(&mut more, clock, register, rest)? else {
-        return Ok(None);
-    };
-    let Some(rest) = sign(b";", rest) else {
-        return Ok(None);
-    };
-    let assignment = Assignment {
-        target,
-        first,
-        more,
-    };
-    Ok(Some((assignment, rest)))
-}
-
-// What follows `always @(posedge C)`.
-#[tactic(auto, unfolding(crate::specs::Module::event_at))]
-fn event<'a>(clock: &[u8], tokens: TokensLeft<'a>) -> Option<TokensLeft<'a>>
-    ensures { option_map saids result ≡ event_at clock.now (saids tokens.entry) }
-{
-    let rest = sign(b"@", sign(b"always", tokens)?)?;
-    let rest = sign(b"posedge", sign(b"(", rest)?)?;
-    sign(b")", this_name(clock, rest)?)
-}
-
-/// The register and the assignment of all tokens, where they are of the form.
-#[tactic(auto, unfolding(crate::specs::Module::module_at))]
-pub fn module<'a>(
-    alloc: Global,
+// Whether a module begins with `module T(input C);`.
+#[tactic(auto, unfolding(crate::specs::Module::is_header))]
+fn is_header(
+    known: KnownNames<'_>,
     top: &[u8],
     clock: &[u8],
-    tokens: TokensLeft<'a>,
-) -> Result<Option<(RegisterItem<'a>, Assignment)>, NoMemory>
-    ensures { IfOk result (λ o. option_map (λ r. (register_text r.0, assignment r.1)) o
-        ≡ module_at top.now clock.now (saids tokens.entry)) }
+    body: &ModuleBody,
+) -> Result<bool, NoMemory>
+    ensures { IfOk result (λ b. b ≡ is_header known.entry.names.now top.now clock.now body.now) }
 {
-    let Some(rest) = header(top, clock, tokens) else {
+    if !is_named(known, top, body.name)? || body.parameters.len() != 0 {
+        return Ok(false);
+    }
+    match declared(&body.ports) {
+        Some(port) => is_clock_port(known, clock, port),
+        None => Ok(false),
+    }
+}
+
+// The item outside generate constructs that an item is.
+fn plain(item: &Item) -> Option<&PlainItem>
+    ensures { option_copied result ≡ plain_in item.now }
+{
+    match item {
+        Item::Item(GenerateItem::Plain(x)) => Some(x),
+        _ => None,
+    }
+}
+
+// `reg [M:0]` and `R = L`
+#[tactic(auto, unfolding(crate::specs::Module::variable_at))]
+fn variable<'a>(
+    known: KnownNames<'a>,
+    shape: &Shape,
+    v: &Variable,
+) -> Result<Option<RegisterItem<'a>>, NoMemory>
+    ensures { IfOk result (λ o. option_map register_text o ≡ variable_at known.entry.names.now shape.now v.now) }
+{
+    let Some(width) = shape_width(shape) else {
         return Ok(None);
     };
-    let Some((register, rest)) = register_item(rest) else {
+    let Some(initial) = value(v) else {
+        return Ok(None);
+    };
+    if v.addresses.is_some() {
+        return Ok(None);
+    }
+    Ok(Some(RegisterItem {
+        name: text(known, v.name)?,
+        width,
+        initial,
+    }))
+}
+
+// The literal that a variable begins with.
+fn value(v: &Variable) -> Option<Bits>
+    ensures { option_map (λ b. (b.width, b.value)) result ≡ literal_in v.now.value }
+{
+    match &v.value {
+        Some(e) => literal(number(e.get())?),
+        None => None,
+    }
+}
+
+// The register that an item declares.
+fn register<'a>(
+    known: KnownNames<'a>,
+    item: &PlainItem,
+) -> Result<Option<RegisterItem<'a>>, NoMemory>
+    ensures { IfOk result (λ o. option_map register_text o ≡ register_at known.entry.names.now item.now) }
+{
+    match item {
+        PlainItem::Reg(_, shape, xs) => match xs.as_slice() {
+            [v] => variable(known, shape, v),
+            _ => Ok(None),
+        },
+        _ => Ok(None),
+    }
+}
+
+// A name that is the register's or another.
+fn named_term(known: KnownNames<'_>, register: &[u8], n: Identifier) -> Result<Term, NoMemory>
+    ensures { IfOk result (λ t. operand t ≡ named_operand known.entry.names.now register.now n) }
+{
+    Ok(if is_named(known, register, n)? {
+        Term::Register
+    } else {
+        Term::Unknown(n)
+    })
+}
+
+// A name other than the clock's, or a literal.
+fn lone(
+    known: KnownNames<'_>,
+    clock: &[u8],
+    register: &[u8],
+    e: &Expression,
+) -> Result<Option<Term>, NoMemory>
+    ensures { IfOk result (λ o. option_map operand o ≡ (part_at known.entry.names.now clock.now register.now e.now).lone) }
+{
+    match e {
+        Expression::Number(_, x) => Ok(match literal(*x) {
+            Some(bits) => Some(Term::Literal(bits)),
+            None => None,
+        }),
+        Expression::Read(Reference::Whole(n)) => {
+            if is_named(known, clock, *n)? {
+                return Ok(None);
+            }
+            Ok(Some(named_term(known, register, *n)?))
+        }
+        _ => Ok(None),
+    }
+}
+
+// The operands of a sum, which associates to the left.
+fn terms(
+    alloc: Global,
+    known: KnownNames<'_>,
+    clock: &[u8],
+    register: &[u8],
+    e: &Expression,
+) -> Result<Option<Terms>, NoMemory>
+    ensures { IfOk result (λ o. option_map sum o ≡ (part_at known.entry.names.now clock.now register.now e.now).sum) }
+{
+    if let Expression::Binary(BinaryOperator::Add, left, right) = e {
+        let Some(mut front) = terms(alloc, known, clock, register, left.get())? else {
+            return Ok(None);
+        };
+        let Some(term) = lone(known, clock, register, right.get())? else {
+            return Ok(None);
+        };
+        front.more.push(term)?;
+        return Ok(Some(front));
+    }
+    let Some(first) = lone(known, clock, register, e)? else {
+        return Ok(None);
+    };
+    Ok(Some(Terms {
+        first,
+        more: Vec::new(alloc),
+    }))
+}
+
+// The name of a target without a select.
+fn target(x: &Target) -> Option<Identifier>
+    ensures { result ≡ target_in x.now }
+{
+    match x {
+        Target::Reference(Reference::Whole(n)) => Some(*n),
+        _ => None,
+    }
+}
+
+// `R <= X`
+fn assigned(
+    alloc: Global,
+    known: KnownNames<'_>,
+    clock: &[u8],
+    register: &[u8],
+    x: &Statement,
+) -> Result<Option<Assignment>, NoMemory>
+    ensures { IfOk result (λ o. option_map assignment o ≡ assignment_in known.entry.names.now clock.now register.now x.now) }
+{
+    let Statement::Assign(left, right) = x else {
+        return Ok(None);
+    };
+    let Some(n) = target(left) else {
+        return Ok(None);
+    };
+    let Some(sum) = terms(alloc, known, clock, register, right.get())? else {
+        return Ok(None);
+    };
+    Ok(Some(Assignment {
+        target: named_term(known, register, n)?,
+        first: sum.first,
+        more: sum.more,
+    }))
+}
+
+// `always @(posedge C)` and the assignment.
+fn clocked(
+    alloc: Global,
+    known: KnownNames<'_>,
+    clock: &[u8],
+    register: &[u8],
+    item: &PlainItem,
+) -> Result<Option<Assignment>, NoMemory>
+    ensures { IfOk result (λ o. option_map assignment o ≡ clocked_at known.entry.names.now clock.now register.now item.now) }
+{
+    match item {
+        PlainItem::Clocked(_, n, x) => {
+            if !is_named(known, clock, *n)? {
+                return Ok(None);
+            }
+            assigned(alloc, known, clock, register, x.get())
+        }
+        _ => Ok(None),
+    }
+}
+
+// The register and the assignment of two items.
+#[tactic(auto, unfolding(crate::specs::Module::items_at))]
+fn items<'a>(
+    alloc: Global,
+    known: KnownNames<'a>,
+    clock: &[u8],
+    one: &Item,
+    other: &Item,
+) -> Result<Option<(RegisterItem<'a>, Assignment)>, NoMemory>
+    ensures { IfOk result (λ o. option_map (λ r. (register_text r.0, assignment r.1)) o
+        ≡ items_at known.entry.names.now clock.now (one.now, other.now)) }
+{
+    let Some(first) = plain(one) else {
+        return Ok(None);
+    };
+    let Some(register) = register(known, first)? else {
+        return Ok(None);
+    };
+    let Some(second) = plain(other) else {
+        return Ok(None);
+    };
+    let Some(assignment) = clocked(alloc, known, clock, register.name, second)? else {
         return Ok(None);
     };
     if register.name == clock {
         return Ok(None);
     }
-    let Some(rest) = event(clock, rest) else {
+    Ok(Some((register, assignment)))
+}
+
+// The register and the assignment of a module.
+#[tactic(auto, unfolding(crate::specs::Module::body_at))]
+fn body<'a>(
+    alloc: Global,
+    known: KnownNames<'a>,
+    top: &[u8],
+    clock: &[u8],
+    x: &ModuleBody,
+) -> Result<Option<(RegisterItem<'a>, Assignment)>, NoMemory>
+    ensures { IfOk result (λ o. option_map (λ r. (register_text r.0, assignment r.1)) o
+        ≡ body_at known.entry.names.now top.now clock.now x.now) }
+{
+    if !is_header(known, top, clock, x)? {
         return Ok(None);
-    };
-    let Some((assignment, rest)) = assignment_item(alloc, clock, register.name, rest)? else {
-        return Ok(None);
-    };
-    let Some(rest) = sign(b"endmodule", rest) else {
-        return Ok(None);
-    };
-    if has_ended(rest) {
-        Ok(Some((register, assignment)))
-    } else {
-        Ok(None)
+    }
+    match x.items.as_slice() {
+        [one, other] => items(alloc, known, clock, one, other),
+        _ => Ok(None),
     }
 }
 
-// The first of these names that isn't known: how many tokens are left from it on.
-fn first_unknown(terms: &[Term]) -> Option<usize>
+/// The register and the assignment of a text's modules, where they are of the form.
+pub fn module<'a>(
+    alloc: Global,
+    known: KnownNames<'a>,
+    top: &[u8],
+    clock: &[u8],
+    modules: &[Module],
+) -> Result<Option<(RegisterItem<'a>, Assignment)>, NoMemory>
+    ensures { IfOk result (λ o. option_map (λ r. (register_text r.0, assignment r.1)) o
+        ≡ module_at known.entry.names.now top.now clock.now modules.now) }
+{
+    match modules {
+        [x] => body(alloc, known, top, clock, &x.body),
+        _ => Ok(None),
+    }
+}
+
+// The first of these names that isn't known.
+fn first_unknown(terms: &[Term]) -> Option<Identifier>
     ensures { result ≡ first_unknown (operands terms.now) }
 {
     for term in terms {
-        if let Term::Unknown(left) = *term {
-            return Some(left);
+        if let Term::Unknown(name) = *term {
+            return Some(name);
         }
     }
     None
 }
 
-/// The first name that isn't known: how many tokens are left from it on.
-pub fn unknown_in(parts: &Assignment) -> Option<usize>
+/// The first name that isn't known.
+pub fn unknown_in(parts: &Assignment) -> Option<Identifier>
     ensures { result ≡ unknown_in (assignment parts.now) }
 {
-    if let Term::Unknown(left) = parts.target {
-        return Some(left);
+    if let Term::Unknown(name) = parts.target {
+        return Some(name);
     }
-    if let Term::Unknown(left) = parts.first {
-        return Some(left);
+    if let Term::Unknown(name) = parts.first {
+        return Some(name);
     }
     first_unknown(&parts.more)
 }

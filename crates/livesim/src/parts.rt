@@ -2,6 +2,7 @@
 ghost use Rattle.std.specs.Prelude.{◌≤◌};
 
 use bits::Bits;
+use verilog_ast::Identifier;
 
 /// A register's name, its width and its literal.
 #[derive(Clone, Copy)]
@@ -19,8 +20,15 @@ pub enum Term {
     /// The register's name.
     Register,
     Literal(Bits),
-    /// Another name, from which on so many tokens are left.
-    Unknown(usize),
+    /// Another name.
+    Unknown(Identifier),
+}
+
+/// The operands of a sum.
+#[derive(Drop)]
+pub struct Terms {
+    pub first: Term,
+    pub more: Vec<Term>,
 }
 
 /// The assignment: its target, and the operands of the sum on its right side.

@@ -3,14 +3,12 @@ ghost use Rattle.std.specs.Prelude.{◌≡◌, ◌<◌, ◌∷◌, true, false, 
 ghost use Rattle.std.specs.List.{All};
 ghost use Rattle.ls_text.specs.Texts.{text_at};
 ghost use Rattle.source_text.specs.Faults.{fault_view};
-ghost use Rattle.verilog_lex.specs.Views.{said, IsNamed};
-ghost use Rattle.livesim.specs.Worlds.{OnLine, not_built, no_design, refused_text, unknown_name};
+ghost use Rattle.livesim.specs.Worlds.{OnLine, not_built, no_design, refused_text};
 ghost use Rattle.livesim.specs.FileNames.{file_names};
 ghost use Rattle.livesim.specs.Replies.{refusal_text};
 
 use ls_text::{At, Fault, NameList, Names, NoMemory, SourceFile, fault_line};
 use std::alloc::Global;
-use verilog_lex::Token;
 
 /// The lines of a reply, and whether it is a refusal.
 #[derive(Drop)]
@@ -82,26 +80,4 @@ pub fn refused_text(
         text: fault_line(alloc, names, files, line, fault)?,
         refused: true,
     })
-}
-
-/// The refusal of a name that isn't known.
-pub fn unknown_name(
-    alloc: Global,
-    names: &Names,
-    files: &[SourceFile],
-    line: u64,
-    name: Token,
-) -> Result<Reply, NoMemory>
-    requires files { All (λ f. f.name.0 < length names.now) files.now }
-    requires name { IsNamed (length names.now) name }
-    ensures text { IfOk result (λ r. r.text.items
-        ≡ refusal_text (refused_text (file_names names.now files.now) line (unknown_name (said names.now name)))) }
-    ensures refused { IfOk result (λ r. r.refused ≡ true) }
-{
-    let fault = Fault {
-        code: 29,
-        at: At::Text(name.at),
-        names: NameList::new(vec![in alloc; name.text]?),
-    };
-    refused_text(alloc, names, files, line, &fault)
 }

@@ -26,9 +26,9 @@ pub struct Session {
 }
 
 impl Session {
-    ghost use Rattle.livesim.specs.Replies.{Replies};
+    ghost use Rattle.livesim.specs.Replies.{Replies, RepliesTo};
     ghost use Rattle.livesim.specs.Sessions.{world, evaluations};
-    ghost use Rattle.livesim.specs.Worlds.{fresh};
+    ghost use Rattle.livesim.specs.Worlds.{fresh, plain};
 
     /// A session without a design.
     pub fn new() -> Self
@@ -39,7 +39,7 @@ impl Session {
 
     /// Takes a block of the form, whose `edit` has that line.
     pub fn edit(&mut self, alloc: Global, line: u64, given: Block<'_>) -> Result<Reply, NoMemory>
-        ensures { IfOk result (λ r. Replies (Load line (Some (block given.entry)))
+        ensures { IfOk result (λ r. RepliesTo (Load line (Some (block given.entry)))
             (world self.old) (world self.new) r.text.items r.refused) }
     {
         if self.running.is_some() {
@@ -66,7 +66,7 @@ impl Session {
     /// Simulates so many cycles, with at most as many evaluations of the block.
     pub fn run(&mut self, alloc: Global, line: u64, cycles: u64) -> Result<Reply, NoMemory>
         requires { cycles ≤ 2 ^ 40 }
-        ensures replies { IfOk result (λ r. Replies (Advance line cycles) (world self.old) (world self.new) r.text.items r.refused) }
+        ensures replies { IfOk result (λ r. Replies (plain (Advance line cycles)) (world self.old) (world self.new) r.text.items r.refused) }
         ensures counted { evaluations self.new ≤ evaluations self.old + cycles }
     {
         match &mut self.running {
@@ -77,7 +77,7 @@ impl Session {
 
     /// Shows the cycle and its table: the registers of a run from reset.
     pub fn show(&self, alloc: Global, line: u64) -> Result<Reply, NoMemory>
-        ensures { IfOk result (λ r. Replies (Display line) (world self.now) (world self.now) r.text.items r.refused) }
+        ensures { IfOk result (λ r. Replies (plain (Display line)) (world self.now) (world self.now) r.text.items r.refused) }
     {
         match &self.running {
             Some(running) => Ok(Reply {
@@ -92,11 +92,12 @@ impl Session {
 impl Running {
     ghost use Rattle.livesim.specs.Replies.{Replies};
     ghost use Rattle.livesim.specs.Sessions.{running_world};
+    ghost use Rattle.livesim.specs.Worlds.{plain};
 
     // Simulates so many cycles, with as many evaluations of the block.
     fn run(&mut self, alloc: Global, line: u64, cycles: u64) -> Result<Reply, NoMemory>
         requires { cycles ≤ 2 ^ 40 }
-        ensures replies { IfOk result (λ r. Replies (Advance line cycles)
+        ensures replies { IfOk result (λ r. Replies (plain (Advance line cycles))
             (running_world (Some self.old)) (running_world (Some self.new)) r.text.items r.refused) }
         ensures counted { self.new.evaluations ≤ self.old.evaluations + cycles }
     {

@@ -1,12 +1,11 @@
 // From a block to its design.
-ghost use Rattle.std.specs.Prelude.{◌≡◌, Some, IfOk};
+ghost use Rattle.std.specs.Prelude.{IfOk};
 ghost use Rattle.livesim.specs.Blocks.{block};
-ghost use Rattle.livesim.specs.Commands.{Load};
 ghost use Rattle.livesim.specs.Takes.{Takes};
 
 use crate::build::build;
 use crate::built::Built;
-use crate::reply::{not_built, refused_text, unknown_name};
+use crate::reply::{not_built, refused_text};
 use crate::script::Block;
 use crate::taken::Taken;
 use crate::text::file_tokens;
@@ -18,7 +17,7 @@ const MAX_TEXT: usize = 4_194_304;
 
 /// Takes a first block of the form, whose `edit` has that line: its design, or its refusal.
 pub fn take_block(alloc: Global, line: u64, given: Block<'_>) -> Result<Taken, NoMemory>
-    ensures { IfOk result (Takes (Load line (Some (block given.entry)))) }
+    ensures { IfOk result (Takes line (block given.entry)) }
 {
     if given.text.len() > MAX_TEXT {
         return Ok(Taken::Refused(not_built(alloc, given.file_line)?));
@@ -36,11 +35,11 @@ pub fn take_block(alloc: Global, line: u64, given: Block<'_>) -> Result<Taken, N
             return Ok(Taken::Refused(reply));
         }
     };
-    match build(alloc, &names, given.top, given.clock, &tokens)? {
+    match build(alloc, &mut names, given.top, given.clock, &tokens)? {
         Built::Made(design) => Ok(Taken::Made(design)),
         Built::OtherForm => Ok(Taken::Refused(not_built(alloc, given.file_line)?)),
-        Built::Unknown(name) => {
-            let reply = unknown_name(alloc, &names, &files, line, name)?;
+        Built::Refused(fault) => {
+            let reply = refused_text(alloc, &names, &files, line, &fault)?;
             Ok(Taken::Refused(reply))
         }
     }

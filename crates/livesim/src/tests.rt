@@ -153,7 +153,7 @@ fn modules_are_simulated(rt: HostRuntime) -> Result<(), Fail> {
 fn texts_are_refused(rt: HostRuntime) -> Result<(), Fail> {
     let alloc = rt.alloc();
     let not_built: &[u8] = b"refused 90 NotBuilt @4 -\n";
-    let rows: [(&[u8], &[u8]); 10] = [
+    let rows: [(&[u8], &[u8]); 12] = [
         (
             b"reg [7:0] acc = 8'h00;\nalways @(posedge clk) acc <= acc + e;",
             b"refused 29 UnknownName a.v:3:36 e\n",
@@ -176,6 +176,14 @@ fn texts_are_refused(rt: HostRuntime) -> Result<(), Fail> {
         ),
         (
             b"reg [7:0] wire = 8'h00;\nalways @(posedge clk) wire <= wire + 8'h01;",
+            b"refused 15 Syntax a.v:2:11 wire\n",
+        ),
+        (
+            b"reg [7:0] acc = 8'h00;\nalways @(posedge clk) acc <= acc + a.b;",
+            b"refused 38 NotInProfile a.v:3:37 .\n",
+        ),
+        (
+            b"reg [7:0] acc = 8'h00;\nalways @(posedge clk) acc <= (acc + e);",
             not_built,
         ),
         (
@@ -274,14 +282,15 @@ fn texts_are_preprocessed(rt: HostRuntime) -> Result<(), Fail> {
 #[test]
 fn limits_of_a_text(rt: HostRuntime) -> Result<(), Fail> {
     let alloc = rt.alloc();
-    // The number of `+`, the number of spaces behind the last, and whether it is accepted.
-    let rows: [(u32, usize, bool); 4] = [
-        (256, 0, true),
-        (257, 0, false),
-        (1, 4_194_206, true),
-        (1, 4_194_207, false),
+    // The number of `+`, the number of spaces behind the last, and the line that answers.
+    let rows: [(u32, usize, &[u8]); 5] = [
+        (255, 0, OK_EDIT),
+        (256, 0, b"refused 16 NestedTooDeep a.v:3:2076 -\n"),
+        (257, 0, b"refused 16 NestedTooDeep a.v:3:2076 -\n"),
+        (1, 4_194_206, OK_EDIT),
+        (1, 4_194_207, b"refused 90 NotBuilt @4 -\n"),
     ];
-    for (plus, spaces, accepted) in rows {
+    for (plus, spaces, want) in rows {
         let mut script = joined(
             alloc,
             &[
@@ -298,11 +307,6 @@ fn limits_of_a_text(rt: HostRuntime) -> Result<(), Fail> {
         script.extend_from_slice(b";")?;
         script.extend_from_slice(TAIL)?;
         let (_, written) = lived(&rt, alloc, script, Vec::new(alloc), Vec::new(alloc))?;
-        let want: &[u8] = if accepted {
-            OK_EDIT
-        } else {
-            b"refused 90 NotBuilt @4 -\n"
-        };
         assert!(rt; written.as_slice() == want);
     }
     Ok(())

@@ -3,6 +3,7 @@ ghost use Rattle.std.specs.Prelude.{◌≡◌, ◌<◌, ◌≤◌, length, map, 
 ghost use Rattle.std.specs.List.{All};
 ghost use Rattle.ls_text.specs.Texts.{Grows};
 ghost use Rattle.source_text.specs.Faults.{Gives, CanShow};
+ghost use Rattle.verilog_lex.specs.Ends.{EndsOnce};
 ghost use Rattle.verilog_lex.specs.Views.{said, IsNamed};
 ghost use Rattle.livesim.specs.Texts.{file_tokens};
 
@@ -21,6 +22,7 @@ pub fn file_tokens(
     requires files { length files.now ≤ 256 }
     requires texts { All (λ f. length f.text ≤ 4194304) files.now }
     ensures tokens { Gives names.new (λ ts. map (said names.new) ts.items) result (file_tokens files.now) }
+    ensures ends { IfOk result (λ ts. EndsOnce ts.items) }
     ensures named { IfOk result (λ ts. All (IsNamed (length names.new)) ts.items) }
     ensures known { IfErr result (CanShow (length names.new)) }
     ensures grows { Grows names.old names.new }

@@ -1,11 +1,9 @@
 use Rattle.std.proofs.Common.{◌≡◌, List, ℕ, subst, ◌||◌, ◌++◌, sym, ap, ◌∙◌, arith}
 use Rattle.livesim.specs.Script.{script_lines}
 use Rattle.livesim.specs.Commands.{command_at, commands_from}
-use Rattle.livesim.specs.Worlds.{any_refused}
-use Rattle.livesim.specs.Replies.{lines}
 use Rattle.livesim.specs.Runs.{LeavesToWrite}
 use Rattle.livesim.specs.Sessions.{world}
-use Rattle.livesim.proofs.Turns.{next_commands, turn_lines, turn_refused, leaves_less, leaves_front}
+use Rattle.livesim.proofs.Turns.{Done, next_commands, more_done, front_carries, err_carries}
 use Rattle.livesim.proofs.live.carry_out.Goals as goal
 use Rattle.livesim.proofs.live.carry_out.Goals.{then-refused, else-refused}
 
@@ -19,22 +17,19 @@ loop-line-preserved g c =
     ∙ ap (λ os. now ++ os) c.in-Ok.ensures.rest in
     let so_far : c.if-refused.refused ≡ (c.loop-line.refused || turn.reply.refused)
     = elim c.if-refused.branch [ then-refused w ↦ grind arith | else-refused w ↦ grind arith ] in
-    let w = world c.loop-line.session in
     let x = world c.line_turn.new.session in
     let text = turn.reply.text.items in
     let written = rw c.deref.ensures.value at c.in_ok-write_all.ensures.written in
+    let more = more_done _ _ now later _ x _ _ _ text turn.reply.refused c.loop-line.refused c.loop-line.invariant.done split c.in-Ok.ensures.replies written in
     record {
-      lines = leaves_less _ _ _ text _ _ _ (turn_lines _ now later w x text turn.reply.refused split c.in-Ok.ensures.replies) c.loop-line.invariant.lines written;
-      refused = ap (λ b. b || any_refused later x) so_far
-          ∙ sym (turn_refused _ now later w x text turn.reply.refused c.loop-line.refused split c.in-Ok.ensures.replies)
-          ∙ c.loop-line.invariant.refused;
+      done = subst (Done _ later x _ _) (sym so_far) more;
       few = omega (arith, c.in-Some.ensures.shorter, c.in-Ok.ensures.shorter);
       later = omega (arith, c.in_ok-write_all.ensures.later);
       kept = c.in_ok-write_all.ensures.kept ∙ c.loop-line.invariant.kept;
     }
 
-pub returns-in_err-write_all-clause-front : goal.returns-in_err-write_all-clause-front
-returns-in_err-write_all-clause-front g c =
+pub returns-in_err-write_all-clause-carries : goal.returns-in_err-write_all-clause-carries
+returns-in_err-write_all-clause-carries g c =
     let turn = c.in-Ok.turn in
     let after = script_lines c.in-Some.after.now in
     let now = command_at c.args.ended c.loop-line.number c.read_line-form.result after in
@@ -45,7 +40,6 @@ returns-in_err-write_all-clause-front g c =
     let text = turn.reply.text.items in
     let front = c.write_all.ensures.front in
     let Left : List ℕ → Type 0 = λ t. LeavesToWrite (g.K.Sink.written c.loop-line.sink) (g.K.Sink.written c.write_all.new.sink) front.0 t in
-    let written = subst Left c.deref.ensures.value front.1 in (
-      front.0 ++ lines later x,
-      leaves_front _ _ _ text _ front.0 _ _ (turn_lines _ now later (world c.loop-line.session) x text turn.reply.refused split c.in-Ok.ensures.replies) c.loop-line.invariant.lines written,
-    )
+    let written = subst Left c.deref.ensures.value front.1 in
+    err_carries _ _ _ _ c.from_residual.ensures.0
+    (λ e. front_carries _ _ now later _ x _ _ _ text turn.reply.refused c.loop-line.refused c.loop-line.invariant.done split c.in-Ok.ensures.replies e (front.0, written))

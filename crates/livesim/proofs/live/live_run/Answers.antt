@@ -1,6 +1,5 @@
-use Rattle.std.proofs.Common.{◌≢◌, ℕ, List, false, subst, arith}
-use Rattle.livesim.specs.Endings.{FinishesWith, has_ended}
-use Rattle.livesim.specs.Runs.{WritesFront, output_of}
+use Rattle.std.proofs.Common.{ℕ, List, false, subst, arith}
+use Rattle.livesim.specs.Endings.{Finishes, has_ended}
 use Rattle.livesim.proofs.Endings.{completed, cut_short, displays_truth, finished, unfailed}
 use Rattle.livesim.proofs.live.live_run.Goals as goal
 
@@ -15,14 +14,12 @@ returns-clause-lived g c = λ two.
     let status = c.finish-status.result in
     let old = g.K.Sink.written c.args.sink.now in
     let new = g.K.Sink.written c.finish-status.new.sink in
-    let Says : List ℕ → Type 0 = λ b. status ≢ 5 → FinishesWith ending old new b status in
-    let Fronts : List ℕ → Type 0 = λ b. WritesFront old new (output_of b (has_ended ending)) in (
+    let Says : List ℕ → Type 0 = λ b. Finishes ending old new b status in (
       bytes,
       has_ended ending,
       omega arith,
       finished _ _ old new bytes status ending c.read_all.ensures.consumed c.in-Ok.ensures.whole c.in-Ok.ensures.too_much c.in-Ok.ensures.not_too_much
-          (subst Says c.deref.ensures.value c.finish-status.ensures.status)
-          (subst Fronts c.deref.ensures.value c.finish-status.ensures.front),
+          (subst Says c.deref.ensures.value c.finish-status.ensures.finishes),
     )
 
 pub returns-clause-complete : goal.returns-clause-complete
@@ -32,8 +29,8 @@ returns-clause-complete g c = λ one source sink few.
     let ending = c.in-Ok.ending in
     let old = g.K.Sink.written c.args.sink.now in
     let new = g.K.Sink.written c.finish-status.new.sink in
-    let Says : List ℕ → Type 0 = λ b. status ≢ 5 → FinishesWith ending old new b status in
-    completed _ _ old new bytes status ending (subst Says c.deref.ensures.value c.finish-status.ensures.status)
+    let Says : List ℕ → Type 0 = λ b. Finishes ending old new b status in
+    completed _ _ old new bytes status ending (subst Says c.deref.ensures.value c.finish-status.ensures.finishes)
     c.in-Ok.ensures.failed c.finish-status.ensures.write_fault c.in-Ok.ensures.too_much source sink (omega (arith, few))
 
 pub returns-clause-source_kept : goal.returns-clause-source_kept
@@ -43,8 +40,8 @@ returns-clause-source_kept g c = λ which.
     let ending = c.in-Ok.ending in
     let old = g.K.Sink.written c.args.sink.now in
     let new = g.K.Sink.written c.finish-status.new.sink in
-    let Says : List ℕ → Type 0 = λ b. status ≢ 5 → FinishesWith ending old new b status in
-    unfailed old new bytes status ending (subst Says c.deref.ensures.value c.finish-status.ensures.status) c.in-Ok.ensures.kept c.in-Ok.ensures.kept_too_much which
+    let Says : List ℕ → Type 0 = λ b. Finishes ending old new b status in
+    unfailed old new bytes status ending (subst Says c.deref.ensures.value c.finish-status.ensures.finishes) c.in-Ok.ensures.kept c.in-Ok.ensures.kept_too_much which
 
 pub returns-then-words-ne1-clause-settled : goal.returns-then-words-ne1-clause-settled
 returns-then-words-ne1-clause-settled g c = displays_truth
