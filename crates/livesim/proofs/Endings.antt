@@ -2,6 +2,7 @@
 use Rattle.std.proofs.Common.{◌≡◌, ◌≢◌, ◌⊎◌, inl, inr, ℕ, ◌<◌, ◌≤◌, Bool, true, false, eqb, if◌then◌else◌, List, [], ◌∷◌, length, ◌++◌, Option, Some, None, Result, Ok, Err, refl, sym, ap, ◌∙◌, append-nil, append_assoc, true≢false, arith}
 use Rattle.std.proofs.lemmas.Bool.Decides.{nat_tests}
 use Rattle.std.specs.Io.KnownBytes.{Consumes, IsAtEnd}
+use Rattle.std.specs.Int.{from_bool}
 use Rattle.ls_port.specs.declared.sink.SinkRefusal.{SinkRefusal}
 use Rattle.livesim.specs.Endings.{Carries, Finishes, has_ended, status_of}
 use Rattle.livesim.specs.Runs.{Begins, Lived, LeavesToWrite, IsComplete, DisplaysTruth}
@@ -112,6 +113,11 @@ module _ (left_old left_new written_old written_new : Option (List ℕ)) (bytes 
   finished Whole consumed at_end much few f = whole consumed (at_end refl) (λ big. grind arith) f
   finished Failed consumed at_end much few f = cut Failed 3 (omega arith) refl (λ b. refl) (λ e. absurd (omega (arith, e))) (λ big. grind arith) consumed f
   finished TooMuch consumed at_end much few f = cut TooMuch 6 (omega arith) refl (λ b. refl) (λ e. much refl) (λ big. refl) consumed f
+
+-- a test as a number
+pub byte_is : (b : Bool) → from_bool b ≡ (if b then 1 else 0)
+byte_is true = refl
+byte_is false = refl
 
 -- the status that answers what was carried out
 abbrev pub Answers : Ending → ℕ → Result Bool SinkRefusal → Type 0

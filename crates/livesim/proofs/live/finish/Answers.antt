@@ -1,7 +1,7 @@
 use Rattle.std.proofs.Common.{◌≡◌, ◌⊎◌, inl, inr, refl, sym, ap, ◌∙◌}
 use Rattle.livesim.specs.Commands.{commands, counted_bytes, line_commands}
 use Rattle.livesim.specs.Endings.{status_of}
-use Rattle.livesim.proofs.Endings.{finishes}
+use Rattle.livesim.proofs.Endings.{byte_is, finishes}
 use Rattle.livesim.proofs.live.finish.Goals as goal
 
 pub returns-in-Err-Failed-clause-finishes : goal.returns-in-Err-Failed-clause-finishes
@@ -32,4 +32,4 @@ pub returns-in-Whole-clause-finishes : goal.returns-in-Whole-clause-finishes
 returns-in-Whole-clause-finishes g c =
     let ended = c.has_ended-ended.result in
     let all = ap (line_commands ended) (c.counted.ensures.counted ∙ ap (counted_bytes ended) c.front.ensures.value) ∙ ap (commands c.args.bytes.now) c.has_ended-ended.ensures in
-    finishes c.args.ending _ _ c.args.bytes.now _ _ _ c.in-Ok.ensures.carries all (c.from.ensures ∙ sym (ap (λ e. status_of e c.in-Ok.refused) c.in-Whole.is))
+    finishes c.args.ending _ _ c.args.bytes.now _ _ _ c.in-Ok.ensures.carries all (c.from.ensures ∙ byte_is c.in-Ok.refused ∙ sym (ap (λ e. status_of e c.in-Ok.refused) c.in-Whole.is))
