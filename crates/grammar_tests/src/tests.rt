@@ -29,9 +29,9 @@ fn first_wrong(
     around: (&[u8], &[u8]),
     around_tree: (&[u8], &[u8]),
 ) -> Result<u32, NoMemory> {
-    let mut at = 0;
+    let mut at = 0u32;
     for (text, want) in rows {
-        at += 1;
+        at = at.saturating_add(1);
         let whole = joined(alloc, around.0, text, around.1)?;
         let got = read(alloc, &whole)?;
         let want = joined(alloc, around_tree.0, want, around_tree.1)?;
