@@ -1,0 +1,194 @@
+// What a text is read as, in one line of text: its trees, or its fault; and the spelling of its modules.
+ghost use Rattle.std.specs.Prelude.{◌<◌, length, All, IfOk, IfSome};
+ghost use Rattle.verilog_lex.specs.Ends.{EndsOnce};
+
+use crate::written::{expression, name};
+use crate::written_items::module;
+use ls_text::{
+    At, Fault, NameId, Names, NoMemory, Place, Refusal, SourceFile, TextBytes, push_decimal,
+};
+use std::alloc::Global;
+use verilog_ast::{GenerateItem, Item, PlainItem};
+use verilog_expr::parse_expr;
+use verilog_lex::{Token, lex};
+use verilog_parse::parse;
+use verilog_pre::Piece;
+
+// The tokens of a text that is one piece of one file; none where it is refused.
+fn tokens_of(alloc: Global, names: &mut Names, text: &[u8]) -> Result<Option<Vec<Token>>, NoMemory>
+    ensures { IfOk result (λ read. IfSome read (λ tokens. EndsOnce tokens.items × All (λ t. t.text.0 < length names.new) tokens.items)) }
+{
+    if text.len() > 4_194_304 {
+        return Ok(None);
+    }
+    let file = SourceFile {
+        name: names.intern(b"a.v")?,
+        text: TextBytes::new(Vec::from_slice(alloc, text)?),
+    };
+    let piece = Piece {
+        file: 0,
+        start: 0,
+        end: text.len() as u32,
+        at: Place {
+            file: 0,
+            line: 1,
+            col: 1,
+        },
+        fixed: false,
+    };
+    match lex(alloc, names, &[file], &[piece]) {
+        Ok(tokens) => Ok(Some(tokens)),
+        Err(Refusal::NoMemory) => Err(NoMemory),
+        Err(Refusal::Fault(_)) => Ok(None),
+    }
+}
+
+// The texts of all names, by their numbers.
+fn texts_of(alloc: Global, names: &mut Names) -> Result<Vec<Vec<u8>>, NoMemory> {
+    let last = names.intern(b" ")?;
+    let mut texts = Vec::new(alloc);
+    let mut id = 0;
+    while id < last.0 {
+        texts.push(Vec::from_slice(alloc, names.text(NameId(id)))?)?;
+        id += 1;
+    }
+    Ok(texts)
+}
+
+// ` CODE LINE COL`, and the names.
+fn fault_text(out: &mut Vec<u8>, texts: &[Vec<u8>], fault: &Fault) -> Result<(), NoMemory> {
+    out.push(b' ')?;
+    push_decimal(out, u64::from(fault.code))?;
+    if let At::Text(place) = fault.at {
+        out.push(b' ')?;
+        push_decimal(out, u64::from(place.line))?;
+        out.push(b' ')?;
+        push_decimal(out, u64::from(place.col))?;
+    }
+    for id in fault.names.ids() {
+        name(out, texts, *id)?;
+    }
+    Ok(())
+}
+
+/// What `parse` makes of a text: each module's tree, or ` CODE LINE COL NAMES`.
+pub fn read(alloc: Global, text: &[u8]) -> Result<Vec<u8>, NoMemory> {
+    let mut names = Names::new(alloc);
+    let mut out = Vec::new(alloc);
+    let Some(tokens) = tokens_of(alloc, &mut names, text)? else {
+        return Ok(out);
+    };
+    let parsed = parse(alloc, &mut names, &tokens);
+    let texts = texts_of(alloc, &mut names)?;
+    match parsed {
+        Ok(all) => {
+            for m in &all {
+                module(&mut out, &texts, &m.body)?;
+            }
+        }
+        Err(Refusal::NoMemory) => return Err(NoMemory),
+        Err(Refusal::Fault(fault)) => fault_text(&mut out, &texts, &fault)?,
+    }
+    Ok(out)
+}
+
+/// The spellings of a text's modules, each behind a space; nothing where it is refused.
+pub fn spelled(alloc: Global, text: &[u8]) -> Result<Vec<u8>, NoMemory> {
+    let mut names = Names::new(alloc);
+    let mut out = Vec::new(alloc);
+    let Some(tokens) = tokens_of(alloc, &mut names, text)? else {
+        return Ok(out);
+    };
+    match parse(alloc, &mut names, &tokens) {
+        Ok(all) => {
+            for m in &all {
+                out.push(b' ')?;
+                out.extend_from_slice(m.spelling.bytes())?;
+            }
+        }
+        Err(Refusal::NoMemory) => return Err(NoMemory),
+        Err(Refusal::Fault(_fault)) => {}
+    }
+    Ok(out)
+}
+
+/// What `parse_expr` makes of a text from one of its tokens on: the tree and ` @` with the number of the next token,
+/// or ` CODE LINE COL NAMES`.
+pub fn read_from(
+    alloc: Global,
+    text: &[u8],
+    from: usize,
+    weight: u32,
+) -> Result<Vec<u8>, NoMemory> {
+    let mut names = Names::new(alloc);
+    let mut out = Vec::new(alloc);
+    let Some(tokens) = tokens_of(alloc, &mut names, text)? else {
+        return Ok(out);
+    };
+    if from >= tokens.len() {
+        return Ok(out);
+    }
+    let parsed = parse_expr(alloc, &tokens, from, weight);
+    let texts = texts_of(alloc, &mut names)?;
+    match parsed {
+        Ok(x) => {
+            expression(&mut out, &texts, &x.expr)?;
+            out.extend_from_slice(b" @")?;
+            push_decimal(&mut out, x.next as u64)?;
+        }
+        Err(Refusal::NoMemory) => return Err(NoMemory),
+        Err(Refusal::Fault(fault)) => fault_text(&mut out, &texts, &fault)?,
+    }
+    Ok(out)
+}
+
+fn push_place(out: &mut Vec<u8>, place: Place) -> Result<(), NoMemory> {
+    out.push(b' ')?;
+    push_decimal(out, u64::from(place.line))?;
+    out.push(b' ')?;
+    push_decimal(out, u64::from(place.col))
+}
+
+// The line and the column of an item, and of the targets, expressions or statement in it.
+fn item_places(out: &mut Vec<u8>, item: &Item) -> Result<(), NoMemory> {
+    push_place(out, item.place())?;
+    match item {
+        Item::Item(GenerateItem::Plain(PlainItem::Assign(_, all))) => {
+            for a in all.as_slice() {
+                push_place(out, a.target.place())?;
+                push_place(out, a.value.get().place())?;
+            }
+        }
+        Item::Item(GenerateItem::Plain(PlainItem::Combinational(_, body))) => push_place(
+            out,
+            body.get().place(),
+        )?,
+        Item::Item(GenerateItem::Plain(PlainItem::Clocked(_, _, body))) => push_place(
+            out,
+            body.get().place(),
+        )?,
+        _ => {}
+    }
+    Ok(())
+}
+
+/// The lines and columns of the items of a text's modules; nothing where the text is refused.
+pub fn places(alloc: Global, text: &[u8]) -> Result<Vec<u8>, NoMemory> {
+    let mut names = Names::new(alloc);
+    let mut out = Vec::new(alloc);
+    let Some(tokens) = tokens_of(alloc, &mut names, text)? else {
+        return Ok(out);
+    };
+    match parse(alloc, &mut names, &tokens) {
+        Ok(all) => {
+            for m in &all {
+                for item in m.body.items.as_slice() {
+                    item_places(&mut out, item)?;
+                }
+            }
+        }
+        Err(Refusal::NoMemory) => return Err(NoMemory),
+        Err(Refusal::Fault(_fault)) => {}
+    }
+    Ok(out)
+}

@@ -1,0 +1,281 @@
+// Trees of expressions and statements as text: nested brackets with a node's name first, and no places.
+use ls_text::{NameId, NoMemory, push_decimal};
+use verilog_ast::{
+    Arm, BinaryOperator, CaseKind, Expression, Label, Number, Pattern, Reference, Statement,
+    Target, UnaryOperator,
+};
+
+// A space and a text.
+pub fn word(out: &mut Vec<u8>, text: &[u8]) -> Result<(), NoMemory> {
+    out.push(b' ')?;
+    out.extend_from_slice(text)?;
+    Ok(())
+}
+
+// A space, a bracket and a node's name.
+pub fn open(out: &mut Vec<u8>, text: &[u8]) -> Result<(), NoMemory> {
+    out.extend_from_slice(b" (")?;
+    out.extend_from_slice(text)?;
+    Ok(())
+}
+
+pub fn close(out: &mut Vec<u8>) -> Result<(), NoMemory> {
+    out.push(b')')?;
+    Ok(())
+}
+
+// A name by its number; `?` where the table hasn't it.
+pub fn name(out: &mut Vec<u8>, texts: &[Vec<u8>], id: NameId) -> Result<(), NoMemory> {
+    match texts.get(id.0 as usize) {
+        Some(text) => word(out, text.as_slice()),
+        None => word(out, b"?"),
+    }
+}
+
+// A value in decimal, where it has 64 bits; else a `+`.
+fn value(out: &mut Vec<u8>, value: u128) -> Result<(), NoMemory> {
+    if value > 1_000_000_000 {
+        out.push(b'+')?;
+        return Ok(());
+    }
+    push_decimal(out, value as u64)
+}
+
+// A plain number as it is; else its size, `'`, an `s` where it is signed, and its value in decimal.
+fn number(out: &mut Vec<u8>, number: &Number) -> Result<(), NoMemory> {
+    out.push(b' ')?;
+    if number.size == 0 && number.signed {
+        return value(out, number.value);
+    }
+    if number.size > 0 {
+        push_decimal(out, u64::from(number.size))?;
+    }
+    out.extend_from_slice(if number.signed { b"'s" } else { b"'" })?;
+    value(out, number.value)
+}
+
+fn unary(op: UnaryOperator) -> &'static [u8] {
+    match op {
+        UnaryOperator::Plus => b"+",
+        UnaryOperator::Minus => b"-",
+        UnaryOperator::LogicalNot => b"!",
+        UnaryOperator::Invert => b"~",
+        UnaryOperator::ReduceAnd => b"&",
+        UnaryOperator::ReduceNand => b"~&",
+        UnaryOperator::ReduceOr => b"|",
+        UnaryOperator::ReduceNor => b"~|",
+        UnaryOperator::ReduceXor => b"^",
+        UnaryOperator::ReduceXnor => b"~^",
+    }
+}
+
+fn binary(op: BinaryOperator) -> &'static [u8] {
+    match op {
+        BinaryOperator::Multiply => b"*",
+        BinaryOperator::Divide => b"/",
+        BinaryOperator::Remainder => b"%",
+        BinaryOperator::Add => b"+",
+        BinaryOperator::Subtract => b"-",
+        BinaryOperator::ShiftLeft => b"<<",
+        BinaryOperator::ShiftRight => b">>",
+        BinaryOperator::ArithmeticShiftLeft => b"<<<",
+        BinaryOperator::ArithmeticShiftRight => b">>>",
+        BinaryOperator::Less => b"<",
+        BinaryOperator::LessOrEqual => b"<=",
+        BinaryOperator::Greater => b">",
+        BinaryOperator::GreaterOrEqual => b">=",
+        BinaryOperator::Equal => b"==",
+        BinaryOperator::NotEqual => b"!=",
+        BinaryOperator::And => b"&",
+        BinaryOperator::Xor => b"^",
+        BinaryOperator::Xnor => b"~^",
+        BinaryOperator::Or => b"|",
+        BinaryOperator::LogicalAnd => b"&&",
+        BinaryOperator::LogicalOr => b"||",
+    }
+}
+
+// `par` stands for brackets, `cat` for a concatenation, `rep` for a replication.
+#[cycle(written)]
+pub fn expression(out: &mut Vec<u8>, texts: &[Vec<u8>], x: &Expression) -> Result<(), NoMemory> {
+    match x {
+        Expression::Number(_, n) => return number(out, n),
+        Expression::Read(r) => return reference(out, texts, r),
+        Expression::Unary(_, op, a) => {
+            open(out, unary(*op))?;
+            expression(out, texts, a.get())?;
+        }
+        Expression::Binary(op, a, b) => {
+            open(out, binary(*op))?;
+            expression(out, texts, a.get())?;
+            expression(out, texts, b.get())?;
+        }
+        Expression::Conditional(c, a, b) => {
+            open(out, b"?")?;
+            expression(out, texts, c.get())?;
+            expression(out, texts, a.get())?;
+            expression(out, texts, b.get())?;
+        }
+        Expression::Concatenation(_, all) => {
+            open(out, b"cat")?;
+            expressions(out, texts, all.as_slice())?;
+        }
+        Expression::Replication(_, n, all) => {
+            open(out, b"rep")?;
+            expression(out, texts, n.get())?;
+            expressions(out, texts, all.as_slice())?;
+        }
+        Expression::Bracketed(_, a) => {
+            open(out, b"par")?;
+            expression(out, texts, a.get())?;
+        }
+    }
+    close(out)
+}
+
+#[cycle(written)]
+fn expressions(out: &mut Vec<u8>, texts: &[Vec<u8>], all: &[Expression]) -> Result<(), NoMemory> {
+    for x in all {
+        expression(out, texts, x)?;
+    }
+    Ok(())
+}
+
+// A select has the name of its kind: `bit`, `part`, `up` or `down`.
+#[cycle(written)]
+fn reference(out: &mut Vec<u8>, texts: &[Vec<u8>], r: &Reference) -> Result<(), NoMemory> {
+    match r {
+        Reference::Whole(n) => name(out, texts, n.name),
+        Reference::Bit(n, a) => {
+            open(out, b"bit")?;
+            name(out, texts, n.name)?;
+            expression(out, texts, a.get())?;
+            close(out)
+        }
+        Reference::Part(n, a, b) => {
+            open(out, b"part")?;
+            name(out, texts, n.name)?;
+            expression(out, texts, a.get())?;
+            expression(out, texts, b.get())?;
+            close(out)
+        }
+        Reference::Upward(n, a, b) => {
+            open(out, b"up")?;
+            name(out, texts, n.name)?;
+            expression(out, texts, a.get())?;
+            expression(out, texts, b.get())?;
+            close(out)
+        }
+        Reference::Downward(n, a, b) => {
+            open(out, b"down")?;
+            name(out, texts, n.name)?;
+            expression(out, texts, a.get())?;
+            expression(out, texts, b.get())?;
+            close(out)
+        }
+    }
+}
+
+pub fn target(out: &mut Vec<u8>, texts: &[Vec<u8>], t: &Target) -> Result<(), NoMemory> {
+    match t {
+        Target::Reference(r) => reference(out, texts, r),
+        Target::Concatenation(_, all) => {
+            open(out, b"cat")?;
+            for t in all.as_slice() {
+                target(out, texts, t)?;
+            }
+            close(out)
+        }
+    }
+}
+
+#[cycle(statements)]
+pub fn statement(out: &mut Vec<u8>, texts: &[Vec<u8>], s: &Statement) -> Result<(), NoMemory> {
+    match s {
+        Statement::Block(_, label, body) => {
+            open(out, b"begin")?;
+            if let Some(label) = label {
+                open(out, b":")?;
+                name(out, texts, label.name)?;
+                close(out)?;
+            }
+            statements(out, texts, body.as_slice())?;
+        }
+        Statement::If(_, c, yes) => {
+            open(out, b"if")?;
+            expression(out, texts, c.get())?;
+            statement(out, texts, yes.get())?;
+        }
+        Statement::IfElse(_, c, yes, no) => {
+            open(out, b"else")?;
+            expression(out, texts, c.get())?;
+            statement(out, texts, yes.get())?;
+            statement(out, texts, no.get())?;
+        }
+        Statement::Case(_, which, x, arms) => {
+            open(
+                out,
+                if *which == CaseKind::Case {
+                    b"case"
+                } else {
+                    b"casez"
+                },
+            )?;
+            expression(out, texts, x.get())?;
+            for arm in arms.as_slice() {
+                case_arm(out, texts, arm)?;
+            }
+        }
+        Statement::Assign(t, x) => {
+            open(out, b"=")?;
+            target(out, texts, t)?;
+            expression(out, texts, x.get())?;
+        }
+        Statement::Empty(_) => return word(out, b";"),
+    }
+    close(out)
+}
+
+#[cycle(statements)]
+fn statements(out: &mut Vec<u8>, texts: &[Vec<u8>], all: &[Statement]) -> Result<(), NoMemory> {
+    for s in all {
+        statement(out, texts, s)?;
+    }
+    Ok(())
+}
+
+#[cycle(statements)]
+fn case_arm(out: &mut Vec<u8>, texts: &[Vec<u8>], a: &Arm) -> Result<(), NoMemory> {
+    match a {
+        Arm::Default(_, s) => {
+            open(out, b"default")?;
+            statement(out, texts, s.get())?;
+        }
+        Arm::Match(all, s) => {
+            open(out, b"on")?;
+            for l in all.as_slice() {
+                label(out, texts, l)?;
+            }
+            statement(out, texts, s.get())?;
+        }
+    }
+    close(out)
+}
+
+// A literal with don't-cares by its size, its value and its mask.
+fn label(out: &mut Vec<u8>, texts: &[Vec<u8>], l: &Label) -> Result<(), NoMemory> {
+    match l {
+        Label::Expression(x) => expression(out, texts, x.get()),
+        Label::Pattern(_, p) => pattern(out, p),
+    }
+}
+
+fn pattern(out: &mut Vec<u8>, p: &Pattern) -> Result<(), NoMemory> {
+    open(out, b"wild ")?;
+    push_decimal(out, u64::from(p.size))?;
+    out.push(b' ')?;
+    value(out, p.value)?;
+    out.push(b' ')?;
+    value(out, p.mask)?;
+    close(out)
+}
