@@ -10,6 +10,8 @@ pub mod Entries
 pub mod Stretches
 pub mod BodyStretches
 pub mod Within
+pub mod Heads
+pub mod Passed
 pub mod Turns
 pub mod BodyTurns
 pub mod Expanded

@@ -2,8 +2,8 @@
 use Rattle.std.specs.Prelude.{◌-◌, Bool, true, false, ◌==◌, if◌then◌else◌, List, [], ◌∷◌, ◌++◌, length, take, slice_get, Option, Some, None}
 use Rattle.ls_text.specs.declared.place.Place.{Place}
 use Rattle.verilog_pre.specs.declared.conditional.Conditional.{Conditional}
-use Rattle.verilog_pre.specs.declared.conditional.Branch.{Branch}
-use Rattle.verilog_pre.specs.declared.conditional.Branch.TheVariants.{Taken, Waiting, Past}
+use Rattle.verilog_pre.specs.declared.branch.Branch.{Branch}
+use Rattle.verilog_pre.specs.declared.branch.Branch.TheVariants.{Taken, Waiting, Past}
 
 abbrev pub but_last : {A : Type 0} → List A → List A
 but_last xs = take (length xs - 1) xs

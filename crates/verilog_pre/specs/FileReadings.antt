@@ -2,11 +2,11 @@
 -- so macros carry over, and none ends within a conditional.
 use Rattle.std.specs.Prelude.{◌≡◌, ℕ, ◌+◌, List, [], ◌∷◌, Result, Ok, Err}
 use Rattle.ls_text.specs.declared.source_file.SourceFile.{SourceFile}
-use Rattle.source_text.specs.Faults.{TextFault, fault_at, ◌>>=◌}
+use Rattle.source_text.specs.Faults.{TextFault, ◌>>=◌}
 use Rattle.source_text.specs.Places.{file_start}
 use Rattle.verilog_pre.specs.declared.conditional.Conditional.{Conditional}
 use Rattle.verilog_pre.specs.declared.piece.Piece.{Piece}
-use Rattle.verilog_pre.specs.Reading.{opening_word, at_first}
+use Rattle.verilog_pre.specs.Reading.{left_open, at_first}
 use Rattle.verilog_pre.specs.States.{State}
 use Rattle.verilog_pre.specs.Stretches.{Reads}
 
@@ -18,7 +18,7 @@ pub data ReadsFiles : ℕ → State → List SourceFile → Result State TextFau
   -- the outermost conditional that is open is refused at its opening
   LeftOpen : (file : ℕ) (st next : State) (f : SourceFile) (files : List SourceFile) (outer : Conditional) (inner : List Conditional)
       → Reads (file_start file) 0 st f.text (Ok next) → next.nest ≡ outer ∷ inner
-      → ReadsFiles file st (f ∷ files) (Err (fault_at 12 outer.at (opening_word outer.negated ∷ [])))
+      → ReadsFiles file st (f ∷ files) (Err (left_open outer))
   Fails : (file : ℕ) (st : State) (f : SourceFile) (files : List SourceFile) (e : TextFault)
       → Reads (file_start file) 0 st f.text (Err e) → ReadsFiles file st (f ∷ files) (Err e)
 

@@ -4,6 +4,9 @@ pub mod Bodies
 pub mod Tables
 pub mod Directives
 pub mod Conditionals
+pub mod Shapes
+pub mod Heads
+pub mod LeavesOpen
 pub mod Expansions
 pub mod States
 pub mod Reading

@@ -3,7 +3,6 @@ use Rattle.std.specs.Prelude.{ℕ, zero, suc, ◌+◌, ◌-◌, Bool, true, fals
 use Rattle.std.specs.List.{prefix_len}
 use Rattle.ls_text.specs.declared.place.Place.{Place}
 use Rattle.ls_text.specs.declared.source_file.SourceFile.{SourceFile}
-use Rattle.source_text.specs.Bytes.{is_letter, is_word_byte, through_pair}
 use Rattle.source_text.specs.Faults.{TextFault, fault_at, ◌>>=◌}
 use Rattle.source_text.specs.Places.{step, place_after, file_start}
 use Rattle.verilog_pre.specs.declared.directive.Directive.{Directive}
@@ -11,10 +10,13 @@ use Rattle.verilog_pre.specs.declared.directive.Directive.TheVariants as directi
 use Rattle.verilog_pre.specs.declared.conditional.Conditional.{Conditional}
 use Rattle.verilog_pre.specs.Parts.{Part}
 use Rattle.verilog_pre.specs.declared.piece.Piece.{Piece}
-use Rattle.verilog_pre.specs.Bodies.{begins_cut, body_parts, body_len}
+use Rattle.verilog_pre.specs.Bodies.{body_parts, body_len}
 use Rattle.verilog_pre.specs.Conditionals.{is_read, opened, continued, closed}
 use Rattle.verilog_pre.specs.Directives.{directive_of, is_conditional, is_use, name_at}
 use Rattle.verilog_pre.specs.Expansions.{Output, emitted, expanded}
+use Rattle.verilog_pre.specs.Heads.{head_of, stays_open}
+use Rattle.verilog_pre.specs.declared.head.Head.{Head}
+use Rattle.verilog_pre.specs.declared.head.Head.TheVariants as head
 use Rattle.verilog_pre.specs.States.{State}
 use Rattle.verilog_pre.specs.Tables.{Table, with_macro, no_macros}
 
@@ -49,12 +51,13 @@ abbrev pub named : Place → List ℕ → (List ℕ × ℕ → Read) → Option 
 named at word next None = bad at word
 named at word next (Some n) = next n
 
--- no macro has arguments or the name of a directive
+-- no macro has arguments or the name of a directive (19.3.1)
 unfoldable pub define_name : Place → ℕ → List ℕ → State → List ℕ → List ℕ × ℕ → Read
 define_name at offset word st rest n =
     if (slice_index (drop n.1 rest) 0 == 40) || not (is_use (directive_of n.0)) then bad at word
     else Ok (with_body n.0 (body_parts at.file (offset + n.1) (drop n.1 rest)) st, n.1 + body_len (drop n.1 rest))
 
+-- an undef forgets the macro of that name (19.3.2)
 abbrev pub undef_name : State → List ℕ × ℕ → Read
 undef_name st n = Ok (with_table st (with_macro n.0 None st.table), n.1)
 
@@ -64,7 +67,7 @@ holds_if negated known = if negated then not known else known
 abbrev pub ifdef_name : Place → Bool → State → List ℕ × ℕ → Read
 ifdef_name at negated st n = Ok (with_nest st (opened at negated (holds_if negated (is_some (st.table n.0))) st.nest), n.1)
 
--- a branch or an end of a conditional that isn't there is refused
+-- a branch or an end of a conditional that isn't there is refused (19.4)
 abbrev pub nest_or_bad : Place → List ℕ → State → ℕ → Option (List Conditional) → Read
 nest_or_bad at word st n None = bad at word
 nest_or_bad at word st n (Some nest) = Ok (with_nest st nest, n)
@@ -93,12 +96,6 @@ unfoldable pub directive_read : Place → ℕ → List ℕ → State → List �
 directive_read at offset word st rest =
     if is_read st.nest || is_conditional (directive_of word) then directive_at at offset word st rest (directive_of word) else Ok (st, 0)
 
--- how many bytes stand before the next comment or directive, behind n bytes of which the last is told; 0 tells that
--- it begins none
-abbrev pub plain_len : ℕ → ℕ → List ℕ → ℕ
-plain_len last n [] = n
-plain_len last n (b ∷ bs) = if begins_cut last b then n - 1 else plain_len b (n + 1) bs
-
 -- the place of the first byte that would pass the limit, where one of n bytes does
 abbrev pub full_place : ℕ → ℕ → Place → List ℕ → Place
 full_place bytes n at text = if nat_lt bytes n then place_after at (take bytes text) else at
@@ -111,28 +108,40 @@ run_read at offset st text n =
     >>= λ out. Ok (with_out st out, n))
     else Ok (st, n)
 
-abbrev pub comment_read : Place → State → Option ℕ → Read
-comment_read at st None = Err (fault_at 12 at [])
-comment_read at st (Some n) = Ok (st, 2 + n)
-
 abbrev pub behind_word : List ℕ → Read → Read
 behind_word word read = read >>= λ t. Ok (t.0, 1 + length word + t.1)
 
-unfoldable pub word_read : Place → ℕ → State → List ℕ → Read
-word_read at offset st text =
-    let n = prefix_len is_word_byte (drop 1 text) in
+-- a backquote and a word of n bytes
+unfoldable pub word_read : Place → ℕ → State → List ℕ → ℕ → Read
+word_read at offset st text n =
     let word = take n (drop 1 text) in
     behind_word word (directive_read at (offset + 1 + n) word st (drop n (drop 1 text)))
 
+abbrev pub head_at : Place → ℕ → State → List ℕ → Head → Read
+head_at at offset st text (head.Comment n) = Ok (st, n)
+head_at at offset st text head.OpenComment = Err (fault_at 12 at [])
+head_at at offset st text (head.Word n) = word_read at offset st text n
+head_at at offset st text (head.Run n) = run_read at offset st text n
+
+abbrev pub opening_word : Bool → List ℕ
+opening_word negated = if negated then codes "ifndef" else codes "ifdef"
+
+-- a conditional that its file leaves open is refused at its opening (19.4)
+abbrev pub left_open : Conditional → TextFault
+left_open c = fault_at 12 c.at (opening_word c.negated ∷ [])
+
+-- the earlier of a fault and the opening of the outermost conditional around it, which may stay open
+abbrev pub earlier : Option Conditional → Bool → TextFault → TextFault
+earlier None stays e = e
+earlier (Some outer) stays e = if stays then left_open outer else e
+
+abbrev pub first_fault : List Conditional → List ℕ → Read → Read
+first_fault nest text (Ok t) = Ok t
+first_fault nest text (Err e) = Err (earlier (slice_get nest 0) (stays_open (length nest) text) e)
+
 -- what begins a text that isn't empty, and how many bytes it has
 unfoldable pub turn : Place → ℕ → State → List ℕ → Read
-turn at offset st text =
-    let a = slice_index text 0 in
-    let b = slice_index text 1 in
-    if (a == 47) && (b == 47) then Ok (st, prefix_len (λ c. not (c == 10)) text)
-    else if (a == 47) && (b == 42) then comment_read at st (through_pair 42 47 false 0 (drop 2 text))
-    else if (a == 96) && is_letter b then word_read at offset st text
-    else run_read at offset st text (plain_len 0 1 (drop 1 text))
+turn at offset st text = first_fault st.nest text (head_at at offset st text (head_of text))
 
 -- a text, of which the first so many bytes are read
 abbrev pub text_from : Place → ℕ → State → ℕ → List ℕ → Result State TextFault
@@ -144,13 +153,10 @@ text_from at offset st zero (b ∷ bs) =
 unfoldable pub text_read : Place → ℕ → State → List ℕ → Result State TextFault
 text_read at offset st text = text_from at offset st 0 text
 
-abbrev pub opening_word : Bool → List ℕ
-opening_word negated = if negated then codes "ifndef" else codes "ifdef"
-
 -- a conditional that is open at its file's end is refused, the outermost first
 abbrev pub ended : State → Option Conditional → Result State TextFault
 ended st None = Ok st
-ended st (Some c) = bad c.at (opening_word c.negated)
+ended st (Some c) = Err (left_open c)
 
 unfoldable pub file_read : ℕ → State → List ℕ → Result State TextFault
 file_read file st text =

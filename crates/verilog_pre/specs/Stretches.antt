@@ -1,64 +1,15 @@
 -- What stands in the text of a file, stretch by stretch: comments (IEEE 1364-2005, clause 3.3), directives (clause 19), and
 -- the longest runs of other bytes between them.
-use Rattle.std.specs.Prelude.{◌≡◌, ◌<◌, ◌≤◌, ℕ, ◌+◌, ◌-◌, Bool, false, true, not, ◌&&◌, ◌==◌, ◌⊎◌, List, [], ◌∷◌, ◌++◌, length, take, slice_index, Result, Ok, Err}
+use Rattle.std.specs.Prelude.{◌≡◌, ◌<◌, ◌≤◌, ℕ, ◌+◌, ◌-◌, false, true, List, [], ◌∷◌, ◌++◌, length, take, Result, Ok, Err}
 use Rattle.ls_text.specs.declared.place.Place.{Place}
-use Rattle.source_text.specs.Bytes.{is_letter, is_word_byte}
 use Rattle.source_text.specs.Faults.{TextFault, fault_at}
 use Rattle.source_text.specs.Places.{place_after}
-use Rattle.verilog_pre.specs.Bodies.{begins_cut}
+use Rattle.verilog_pre.specs.declared.conditional.Conditional.{Conditional}
 use Rattle.verilog_pre.specs.Conditionals.{is_read}
-use Rattle.verilog_pre.specs.Reading.{directive_read, with_out}
+use Rattle.verilog_pre.specs.LeavesOpen.{LeavesOpen}
+use Rattle.verilog_pre.specs.Reading.{directive_read, with_out, left_open}
+use Rattle.verilog_pre.specs.Shapes.{HasNo, ends_comment, IsLineComment, IsBlockComment, IsRun, IsWord}
 use Rattle.verilog_pre.specs.States.{State}
-
--- no two bytes side by side are such a pair
-abbrev pub HasNo : (ℕ → ℕ → Bool) → List ℕ → Type 0
-HasNo pair [] = Unit {0}
-HasNo pair (a ∷ []) = Unit {0}
-HasNo pair (a ∷ b ∷ bs) = (pair a b ≡ false) × HasNo pair (b ∷ bs)
-
--- the first two bytes are such a pair
-abbrev pub BeginsWith : (ℕ → ℕ → Bool) → List ℕ → Type 0
-BeginsWith pair [] = ⊥
-BeginsWith pair (a ∷ []) = ⊥
-BeginsWith pair (a ∷ b ∷ bs) = pair a b ≡ true
-
--- each byte is of this class
-abbrev pub AllAre : (ℕ → Bool) → List ℕ → Type 0
-AllAre class [] = Unit {0}
-AllAre class (b ∷ bs) = (class b ≡ true) × AllAre class bs
-
--- the text ends, or goes on with a byte that isn't of this class
-abbrev pub StopsAt : (ℕ → Bool) → List ℕ → Type 0
-StopsAt class [] = Unit {0}
-StopsAt class (b ∷ bs) = class b ≡ false
-
-abbrev pub ends_comment : ℕ → ℕ → Bool
-ends_comment a b = (a == 42) && (b == 47)
-
--- `//` and the rest of its line
-pub record IsLineComment (cut rest : List ℕ) : Type 0 where
-  pub inside : List ℕ
-  pub is : cut ≡ 47 ∷ 47 ∷ inside
-  pub on_line : AllAre (λ b. not (b == 10)) inside
-  pub ends : StopsAt (λ b. not (b == 10)) rest
-
--- `/*` to the first `*/` behind it
-pub record IsBlockComment (cut : List ℕ) : Type 0 where
-  pub inside : List ℕ
-  pub is : cut ≡ 47 ∷ 42 ∷ (inside ++ 42 ∷ 47 ∷ [])
-  pub first : HasNo ends_comment (inside ++ 42 ∷ [])
-
--- a run of bytes in which no comment and no directive begins, and as long as there is one
-pub record IsRun (cut rest : List ℕ) : Type 0 where
-  pub some : 0 < length cut
-  pub plain : HasNo begins_cut (cut ++ take 1 rest)
-  pub ends : (rest ≡ []) ⊎ BeginsWith begins_cut rest
-
--- a letter or `_`, and as many letters, digits, `_` and `$` as follow it
-pub record IsWord (word rest : List ℕ) : Type 0 where
-  pub begins : is_letter (slice_index word 0) ≡ true
-  pub all : AllAre is_word_byte word
-  pub ends : StopsAt is_word_byte rest
 
 -- one piece more, and its bytes are taken off the limit
 abbrev pub with_run : Place → ℕ → State → List ℕ → State
@@ -94,5 +45,10 @@ pub data Reads : Place → ℕ → State → List ℕ → Result State TextFault
   Goes : (at : Place) (offset : ℕ) (st next : State) (cut rest : List ℕ) (r : Result State TextFault)
       → Does at offset st cut rest (Ok next) → Reads (place_after at cut) (offset + length cut) next rest r
       → Reads at offset st (cut ++ rest) r
+  -- no conditional that is open at the fault stays open
   Fails : (at : Place) (offset : ℕ) (st : State) (cut rest : List ℕ) (e : TextFault)
-      → Does at offset st cut rest (Err e) → Reads at offset st (cut ++ rest) (Err e)
+      → Does at offset st cut rest (Err e) → LeavesOpen (length st.nest) (cut ++ rest) false → Reads at offset st (cut ++ rest) (Err e)
+  -- a conditional that stays open behind the fault was opened before it, the outermost first
+  Opens : (at : Place) (offset : ℕ) (st : State) (cut rest : List ℕ) (e : TextFault) (outer : Conditional) (inner : List Conditional)
+      → Does at offset st cut rest (Err e) → st.nest ≡ outer ∷ inner → LeavesOpen (length st.nest) (cut ++ rest) true
+      → Reads at offset st (cut ++ rest) (Err (left_open outer))

@@ -1,18 +1,8 @@
 // A conditional.
+use crate::branch::Branch;
 use ls_text::Place;
 
-/// How far a conditional has come.
-#[derive(Clone, Copy, Debug, PartialEq, Eq)]
-pub enum Branch {
-    /// The branch that stands here is read.
-    Taken,
-    /// No branch was read so far.
-    Waiting,
-    /// A branch was read, or none is, since the text around is skipped.
-    Past,
-}
-
-/// A conditional that is open.
+/// A conditional that is open (IEEE 1364-2005, clause 19.4).
 #[derive(Clone, Copy, Debug)]
 pub struct Conditional {
     /// The place of its opening.

@@ -2,7 +2,8 @@
 ghost use Rattle.std.specs.Prelude.{◌≡◌, ◌++◌, ◌∷◌, [], IfOk, OnOk, Some, None, if◌then◌else◌};
 ghost use Rattle.verilog_pre.specs.Conditionals.{innermost, is_taken, reads, is_read, first_branch, next_branch, opened, continued, closed};
 
-use crate::conditional::{Branch, Conditional};
+use crate::branch::Branch;
+use crate::conditional::Conditional;
 use ls_text::{NoMemory, Place};
 
 fn innermost(nest: &[Conditional]) -> Option<Conditional>

@@ -1,16 +1,16 @@
 // Reading texts and files.
-ghost use Rattle.std.specs.Prelude.{◌≡◌, ◌<◌, ◌≤◌, ◌+◌, List, Result, length, slice_get, if◌then◌else◌, IfOk, IfErr, OnOk, codes};
+ghost use Rattle.std.specs.Prelude.{◌≡◌, ◌<◌, ◌≤◌, ◌+◌, List, Result, length, slice_get, IfOk, IfErr, OnOk};
 ghost use Rattle.std.specs.List.{All};
 ghost use Rattle.ls_text.specs.Texts.{Grows};
 ghost use Rattle.source_text.specs.Faults.{TextFault, Gives, CanShow};
 ghost use Rattle.verilog_pre.specs.declared.piece.Piece.{Piece};
 ghost use Rattle.verilog_pre.specs.FileReadings.{HavePieces};
-ghost use Rattle.verilog_pre.specs.Reading.{text_read, opening_word, ended, file_read, files_from, pieces};
+ghost use Rattle.verilog_pre.specs.Reading.{text_read, ended, file_read, files_from, pieces};
 ghost use Rattle.verilog_pre.specs.States.{state};
 ghost use Rattle.verilog_pre.specs.Tables.{Sound};
 
 use crate::Piece;
-use crate::expand::bad_directive;
+use crate::left_open::left_open;
 use crate::output::Output;
 use crate::reader::Reader;
 use crate::reading::read_turn;
@@ -51,12 +51,6 @@ fn read_text(
     Ok(())
 }
 
-fn opening_word(negated: bool) -> &'static [u8]
-    ensures { result.now ≡ opening_word negated }
-{
-    if negated { b"ifndef" } else { b"ifdef" }
-}
-
 // Refuses a conditional that is open, the outermost first.
 fn end_file(alloc: Global, names: &mut Names, reader: &Reader) -> Result<(), Refusal>
     ensures ended { Gives names.new (λ u. state reader.now) result (ended (state reader.now) (slice_get reader.now.nest.items 0)) }
@@ -65,10 +59,7 @@ fn end_file(alloc: Global, names: &mut Names, reader: &Reader) -> Result<(), Ref
 {
     match reader.nest.first().copied() {
         None => Ok(()),
-        Some(open) => {
-            let word = opening_word(open.negated);
-            Err(Refusal::Fault(bad_directive(alloc, names, open.at, word)?))
-        }
+        Some(outermost) => Err(Refusal::Fault(left_open(alloc, names, outermost)?)),
     }
 }
 

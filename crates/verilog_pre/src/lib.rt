@@ -3,6 +3,7 @@
 
 mod body;
 mod body_cut;
+mod branch;
 mod branches;
 mod conditional;
 mod conditionals;
@@ -11,8 +12,11 @@ mod directive;
 mod directives;
 mod expand;
 mod files;
+mod head;
+mod heads;
 mod item;
 mod laws;
+mod left_open;
 mod macro_body;
 mod macros;
 mod nest;

@@ -1,26 +1,26 @@
 // Reading a text: runs of bytes, comments and directives.
-ghost use Rattle.std.specs.Prelude.{◌≡◌, ◌<◌, ◌≤◌, ◌+◌, ℕ, List, length, false, IfOk, IfErr, OnOk};
-ghost use Rattle.source_text.specs.Bytes.{through_pair};
+ghost use Rattle.std.specs.Prelude.{◌≡◌, ◌<◌, ◌≤◌, ◌+◌, length, IfOk, IfErr, OnOk};
 ghost use Rattle.ls_text.specs.Texts.{Grows};
-ghost use Rattle.source_text.specs.Faults.{Gives, CanShow, IsNameless};
-ghost use Rattle.verilog_pre.specs.Reading.{directive_at, directive_read, plain_len, full_place, run_read, comment_read, behind_word, word_read, use_macro, turn};
+ghost use Rattle.source_text.specs.Faults.{Gives, CanShow};
+ghost use Rattle.verilog_pre.specs.Heads.{Within};
+ghost use Rattle.verilog_pre.specs.Reading.{directive_at, directive_read, full_place, run_read, word_read, use_macro, head_at, turn};
 ghost use Rattle.verilog_pre.specs.Directives.{directive_of};
-ghost use Rattle.verilog_pre.specs.States.{State, state};
+ghost use Rattle.verilog_pre.specs.States.{state};
 ghost use Rattle.verilog_pre.specs.Tables.{Sound};
 
 use crate::Piece;
-use crate::body::begins_cut;
 use crate::branches::{elsif, endif, ifdef, otherwise};
 use crate::conditionals::is_read;
 use crate::define::{define, undef};
 use crate::directive::Directive;
 use crate::directives::{directive_of, is_conditional};
 use crate::expand::{emit, expand};
+use crate::head::Head;
+use crate::heads::head_of;
+use crate::left_open::earlier;
 use crate::reader::Reader;
 use ls_text::{Names, Place, Refusal};
-use source_text::{
-    behind, byte_at, front, is_letter, line_len, place_after, text_fault, through_pair, word_len,
-};
+use source_text::{behind, front, line_len, place_after, text_fault};
 use std::alloc::Global;
 
 // Carries out the use of a macro.
@@ -104,7 +104,7 @@ fn read_directive(
     }
 }
 
-// Reads a backquote and the word behind it.
+// Reads a backquote and the word of n bytes behind it.
 #[tactic(auto, unfolding(crate::specs::Reading::word_read), using(crate::proofs::Uses::worded, crate::proofs::Uses::unworded))]
 fn read_word(
     alloc: Global,
@@ -113,11 +113,12 @@ fn read_word(
     at: Place,
     offset: u32,
     text: &[u8],
+    n: usize,
 ) -> Result<usize, Refusal>
     requires sound { Sound reader.old.macros }
-    requires some { 0 < length text.now }
+    requires within { n + 1 ≤ length text.now }
     requires room { offset + length text.now ≤ 4194304 }
-    ensures read { Gives names.new (λ n. (state reader.new, n)) result (word_read at offset (state reader.old) text.now) }
+    ensures read { Gives names.new (λ n. (state reader.new, n)) result (word_read at offset (state reader.old) text.now n) }
     ensures sound { OnOk result (Sound reader.new.macros) }
     ensures within { IfOk result (λ n. n ≤ length text.now) }
     ensures some { IfOk result (λ n. 0 < n) }
@@ -125,7 +126,6 @@ fn read_word(
     ensures grows { Grows names.old names.new }
 {
     let name = behind(text, 1);
-    let n = word_len(name);
     let word = front(name, n);
     let rest = behind(name, n);
     let offset = offset + 1 + n as u32;
@@ -133,24 +133,6 @@ fn read_word(
         Ok(m) => Ok(1 + word.len() + m),
         Err(refusal) => Err(refusal),
     }
-}
-
-// How many bytes stand before the next comment or directive, behind a first byte that begins none.
-fn plain_len(text: &[u8]) -> usize
-    ensures value { result ≡ plain_len 0 1 text.now }
-    ensures within { result ≤ length text.now + 1 }
-    ensures some { 1 ≤ result }
-{
-    let mut last = 0;
-    let mut n = 1;
-    for byte in text {
-        if begins_cut(last, *byte) {
-            return n - 1;
-        }
-        last = *byte;
-        n += 1;
-    }
-    n
 }
 
 // The place of the first byte that would pass the limit, where one of the first n bytes does.
@@ -200,23 +182,40 @@ fn read_run(
     }
 }
 
-// Reads a comment, or refuses one that isn't closed.
-fn read_comment(alloc: Global, at: Place, inside: &[u8]) -> Result<usize, Refusal>
-    requires { length inside.now < 4294967296 }
-    ensures read { (names : List (List ℕ)) (st : State) → Gives names (λ n. (st, n)) result
-        (comment_read at st (through_pair 42 47 false 0 inside.now)) }
-    ensures within { IfOk result (λ n. n ≤ 2 + length inside.now) }
+// Reads what stands at the head of a text, and answers how many bytes it has.
+#[tactic(auto, using(source_text::proofs::Shown::all_nameless))]
+fn read_head(
+    alloc: Global,
+    names: &mut Names,
+    reader: &mut Reader,
+    at: Place,
+    offset: u32,
+    text: &[u8],
+    head: Head,
+) -> Result<usize, Refusal>
+    requires sound { Sound reader.old.macros }
+    requires room { offset + length text.now ≤ 4194304 }
+    requires within { Within (length text.now) head }
+    ensures read { Gives names.new (λ n. (state reader.new, n)) result (head_at at offset (state reader.old) text.now head) }
+    ensures sound { OnOk result (Sound reader.new.macros) }
+    ensures within { IfOk result (λ n. n ≤ length text.now) }
     ensures some { IfOk result (λ n. 0 < n) }
-    ensures known { IfErr result IsNameless }
+    ensures known { IfErr result (CanShow (length names.new)) }
+    ensures grows { Grows names.old names.new }
 {
-    match through_pair(b'*', b'/', inside) {
-        Some(n) => Ok(2 + n),
-        None => Err(Refusal::Fault(text_fault(alloc, 12, at))),
+    match head {
+        Head::Comment(n) => Ok(n),
+        Head::OpenComment => Err(Refusal::Fault(text_fault(alloc, 12, at))),
+        Head::Word(n) => read_word(alloc, names, reader, at, offset, text, n),
+        Head::Run(n) => read_run(alloc, reader, names, at, offset, text, n),
     }
 }
 
 /// Reads what begins a text that isn't empty, and answers how many bytes it has.
-#[tactic(auto, unfolding(crate::specs::Reading::turn), using(source_text::proofs::Shown::all_nameless))]
+///
+/// At a fault, a conditional that is open there and stays open to the text's end is refused in its place, since it stands
+/// earlier: the outermost.
+#[tactic(auto, unfolding(crate::specs::Reading::turn))]
 pub fn read_turn(
     alloc: Global,
     names: &mut Names,
@@ -235,23 +234,13 @@ pub fn read_turn(
     ensures known { IfErr result (CanShow (length names.new)) }
     ensures grows { Grows names.old names.new }
 {
-    let first = byte_at(text, 0);
-    let second = byte_at(text, 1);
-    if first == b'/' && second == b'/' {
-        Ok(line_len(text))
-    } else if first == b'/' && second == b'*' {
-        read_comment(alloc, at, behind(text, 2))
-    } else if first == b'`' && is_letter(second) {
-        read_word(alloc, names, reader, at, offset, text)
-    } else {
-        read_run(
-            alloc,
-            reader,
-            names,
-            at,
-            offset,
-            text,
-            plain_len(behind(text, 1)),
-        )
+    let outermost = reader.nest.first().copied();
+    let depth = reader.nest.len();
+    match read_head(alloc, names, reader, at, offset, text, head_of(text)) {
+        Ok(n) => Ok(n),
+        Err(Refusal::NoMemory) => Err(Refusal::NoMemory),
+        Err(Refusal::Fault(fault)) => {
+            Err(Refusal::Fault(earlier(alloc, names, outermost, depth, text, fault)?))
+        }
     }
 }

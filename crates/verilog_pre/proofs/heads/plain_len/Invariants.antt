@@ -1,6 +1,6 @@
 use Rattle.std.proofs.Common.{◌≡◌, ◌+◌, ◌≤◌, ◌⊎◌, drop}
-use Rattle.verilog_pre.specs.Reading.{plain_len}
-use Rattle.verilog_pre.proofs.reading.plain_len.Given as goal
+use Rattle.verilog_pre.specs.Heads.{plain_len}
+use Rattle.verilog_pre.proofs.heads.plain_len.Given as goal
 
 abbrev pub invariant-loop-byte : goal.invariant-loop-byte
 invariant-loop-byte l = record {
