@@ -13,4 +13,5 @@ pub mod Within
 pub mod Turns
 pub mod BodyTurns
 pub mod Expanded
+pub mod Obeys
 pub mod FileReadings
