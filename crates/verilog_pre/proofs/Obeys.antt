@@ -13,12 +13,12 @@ use Rattle.verilog_pre.specs.declared.directive.Directive.{Directive}
 use Rattle.verilog_pre.specs.declared.directive.Directive.TheVariants as directive
 use Rattle.verilog_pre.specs.Bodies.{body_parts, body_len}
 use Rattle.verilog_pre.specs.BodyStretches.{Body}
-use Rattle.verilog_pre.specs.Conditionals.{is_read, opened, continued, closed}
+use Rattle.verilog_pre.specs.Conditionals.{is_read, continued, closed}
 use Rattle.verilog_pre.specs.Directives.{directive_of, is_conditional, is_use, name_at}
 use Rattle.verilog_pre.specs.Expansions.{Output, expanded}
-use Rattle.verilog_pre.specs.Obeys.{HasName, HasNoName, wants_name, begins_arguments, is_definable, used_at, Obeys, Nameless, Defines, Undefinable, Undefines, Opens, OpensNegated, Continues, CannotContinue, Turns, CannotTurn, Closes, CannotClose, SkipsLine, Ignored, Uses, CannotUse, Carries, Skips, Obeyed}
+use Rattle.verilog_pre.specs.Obeys.{HasName, HasNoName, wants_name, is_definable, used_at, Obeys, Nameless, Defines, Undefinable, Undefines, Opens, OpensNegated, Continues, CannotContinue, Turns, CannotTurn, Closes, CannotClose, SkipsLine, Ignored, Uses, CannotUse, Carries, Skips, Obeyed}
 use Rattle.verilog_pre.specs.Parts.{Part, Use}
-use Rattle.verilog_pre.specs.Reading.{Read, bad, with_nest, with_out, with_body, define_name, undef_name, ifdef_name, elsif_name, nest_or_bad, named, use_macro, directive_at, directive_read}
+use Rattle.verilog_pre.specs.Reading.{Read, bad, with_out, with_body, define_name, undef_name, ifdef_name, elsif_name, nest_or_bad, named, use_macro, directive_at, directive_read}
 use Rattle.verilog_pre.specs.States.{State}
 use Rattle.verilog_pre.specs.Stretches.{AllAre, StopsAt, IsWord}
 use Rattle.verilog_pre.specs.Uses.{Expands}
@@ -30,7 +30,7 @@ use Rattle.verilog_pre.proofs.Expanded.{whole_use, only_use}
 abbrev not_newline : ℕ → Bool
 not_newline b = not (b == 10)
 
--- ---- the name behind a directive
+-- ---- a name is found where one stands
 
 -- what is found where a name is looked for
 data Found (text : List ℕ) : Option (List ℕ × ℕ) → Type 0 where
@@ -55,8 +55,11 @@ not_blank c letter =
 begins_word : (xs : List ℕ) → is_letter (slice_index xs 0) ≡ true → is_letter (slice_index (take (prefix_len is_word_byte xs) xs) 0) ≡ true
 begins_word [] letter = absurd (true≢false (sym letter))
 begins_word (b ∷ bs) letter =
-    subst (λ k. is_letter (slice_index (take k (b ∷ bs)) 0) ≡ true) (sym (ap (λ t. cond t (1 + prefix_len is_word_byte bs) 0) (ap (λ t. t || (is_digit b || (b == 36))) letter)))
-    (subst (λ k. is_letter (slice_index (take k (b ∷ bs)) 0) ≡ true) (let same : suc (prefix_len is_word_byte bs) ≡ 1 + prefix_len is_word_byte bs = omega arith in same) letter)
+    let all : is_word_byte b ≡ true = ap (λ t. t || (is_digit b || (b == 36))) letter in
+    let more : suc (prefix_len is_word_byte bs) ≡ 1 + prefix_len is_word_byte bs = omega arith in
+    let count : suc (prefix_len is_word_byte bs) ≡ prefix_len is_word_byte (b ∷ bs) =
+    more ∙ sym (ap (λ t. cond t (1 + prefix_len is_word_byte bs) 0) all) in
+    subst (λ k. is_letter (slice_index (take k (b ∷ bs)) 0) ≡ true) count letter
 
 begins_none : (xs : List ℕ) → is_letter (slice_index xs 0) ≡ false → StopsAt is_letter xs
 begins_none [] none = tt
@@ -100,7 +103,7 @@ found text = at (is_letter (slice_index left 0)) refl
           none = begins_none left none;
         })
 
--- ---- and in no other way
+-- ---- the name that stands there is found
 
 left_is : (text blanks name rest : List ℕ) → HasName text blanks name rest → drop (length blanks + length name) text ≡ rest
 left_is text blanks name rest has =
@@ -117,9 +120,12 @@ stops_blank : (xs : List ℕ) → is_letter (slice_index xs 0) ≡ true → Stop
 stops_blank [] letter = tt
 stops_blank (b ∷ bs) letter = not_blank b letter
 
--- the name that stands behind so many blanks
+-- the name that stands behind so many blanks, if one does
+abbrev name_if : List ℕ → ℕ → Bool → Option (List ℕ × ℕ)
+name_if left blank t = cond t (Some (take (prefix_len is_word_byte left) left, blank + prefix_len is_word_byte left)) None
+
 abbrev name_behind : List ℕ → ℕ → Option (List ℕ × ℕ)
-name_behind left blank = cond (is_letter (slice_index left 0)) (Some (take (prefix_len is_word_byte left) left, blank + prefix_len is_word_byte left)) None
+name_behind left blank = name_if left blank (is_letter (slice_index left 0))
 
 behind_blanks : (blanks left : List ℕ) → AllAre is_blank blanks → StopsAt is_blank left → name_at (blanks ++ left) ≡ name_behind left (length blanks)
 unfolding name_at
@@ -132,7 +138,7 @@ name_is text blanks name rest has =
     let letter : is_letter (slice_index (name ++ rest) 0) ≡ true = letter_first name rest has.word in
     ap name_at has.is
     ∙ behind_blanks blanks (name ++ rest) has.blank (stops_blank (name ++ rest) letter)
-    ∙ ap (λ t. cond t (Some (take (prefix_len is_word_byte (name ++ rest)) (name ++ rest), length blanks + prefix_len is_word_byte (name ++ rest))) None) letter
+    ∙ ap (name_if (name ++ rest) (length blanks)) letter
     ∙ ap (λ n. Some (take n (name ++ rest), length blanks + n)) (front_is is_word_byte name rest has.word.all has.word.ends)
     ∙ ap (λ xs. Some (xs, length blanks + length name)) (take_seam name rest)
 
@@ -142,7 +148,7 @@ no_name_is text has =
   where
     nothing : (xs : List ℕ) → StopsAt is_letter xs → name_behind xs (length has.blanks) ≡ None
     nothing [] none = refl
-    nothing (b ∷ bs) none = ap (λ t. cond t (Some (take (prefix_len is_word_byte (b ∷ bs)) (b ∷ bs), length has.blanks + prefix_len is_word_byte (b ∷ bs))) None) none
+    nothing (b ∷ bs) none = ap (name_if (b ∷ bs) (length has.blanks)) none
 
 -- ---- a macro's definition
 
@@ -162,13 +168,15 @@ define_is : (at : Place) (offset : ℕ) (word : List ℕ) (st : State) (text bla
     ≡ defined_if at offset word st name (length blanks + length name) rest (not (is_definable name rest))
 unfolding define_name
 define_is at offset word st text blanks name rest has =
-    ap (λ xs. defined_if at offset word st name (length blanks + length name) xs ((slice_index xs 0 == 40) || not (is_use (directive_of name)))) (left_is text blanks name rest has)
+    ap (λ xs. defined_if at offset word st name (length blanks + length name) xs ((slice_index xs 0 == 40) || not (is_use (directive_of name))))
+    (left_is text blanks name rest has)
     ∙ ap (defined_if at offset word st name (length blanks + length name) rest) (refused_if name rest)
 
 defines : (at : Place) (offset : ℕ) (word : List ℕ) (st : State) (text blanks name rest : List ℕ) → HasName text blanks name rest
     → Obeys at offset word st text directive.Define (define_name at offset word st text (name, length blanks + length name))
 defines at offset word st text blanks name rest has =
-    subst (Obeys at offset word st text directive.Define) (sym (define_is at offset word st text blanks name rest has)) (told (is_definable name rest) refl)
+    subst (Obeys at offset word st text directive.Define) (sym (define_is at offset word st text blanks name rest has))
+    (told (is_definable name rest) refl)
   where
     told : (t : Bool) → is_definable name rest ≡ t
         → Obeys at offset word st text directive.Define (defined_if at offset word st name (length blanks + length name) rest (not t))
@@ -184,8 +192,8 @@ Named at offset word st text d next =
     (blanks name rest : List ℕ) → HasName text blanks name rest → Obeys at offset word st text d (next (name, length blanks + length name))
 
 -- a directive that wants a name, by what it does with one
-by_name : (at : Place) (offset : ℕ) (word : List ℕ) (st : State) (text : List ℕ) (d : Directive) (next : List ℕ × ℕ → Read) → wants_name d ≡ true
-    → Named at offset word st text d next → Obeys at offset word st text d (named at word next (name_at text))
+by_name : (at : Place) (offset : ℕ) (word : List ℕ) (st : State) (text : List ℕ) (d : Directive) (next : List ℕ × ℕ → Read)
+    → wants_name d ≡ true → Named at offset word st text d next → Obeys at offset word st text d (named at word next (name_at text))
 by_name at offset word st text d next wants with_name = told (name_at text) (found text)
   where
     told : (o : Option (List ℕ × ℕ)) → Found text o → Obeys at offset word st text d (named at word next o)
@@ -226,9 +234,11 @@ uses at offset word st text = told (expanded (used_at at st) word st.out) (whole
     told (Ok out) gives = Uses out gives
     told (Err e) gives = CannotUse e gives
 
-obeys : (at : Place) (offset : ℕ) (word : List ℕ) (st : State) (text : List ℕ) (d : Directive) → Obeys at offset word st text d (directive_at at offset word st text d)
+obeys : (at : Place) (offset : ℕ) (word : List ℕ) (st : State) (text : List ℕ) (d : Directive)
+    → Obeys at offset word st text d (directive_at at offset word st text d)
 obeys at offset word st text directive.Define =
-    by_name at offset word st text directive.Define (define_name at offset word st text) refl (λ blanks name rest has. defines at offset word st text blanks name rest has)
+    by_name at offset word st text directive.Define (define_name at offset word st text) refl
+    (λ blanks name rest has. defines at offset word st text blanks name rest has)
 obeys at offset word st text directive.Undef =
     by_name at offset word st text directive.Undef (undef_name st) refl (λ blanks name rest has. Undefines blanks name rest has)
 obeys at offset word st text directive.Ifdef =
@@ -236,7 +246,8 @@ obeys at offset word st text directive.Ifdef =
 obeys at offset word st text directive.Ifndef =
     by_name at offset word st text directive.Ifndef (ifdef_name at true st) refl (λ blanks name rest has. OpensNegated blanks name rest has)
 obeys at offset word st text directive.Elsif =
-    by_name at offset word st text directive.Elsif (elsif_name at word st) refl (λ blanks name rest has. continues at offset word st text blanks name rest has)
+    by_name at offset word st text directive.Elsif (elsif_name at word st) refl
+    (λ blanks name rest has. continues at offset word st text blanks name rest has)
 obeys at offset word st text directive.Else = turns at offset word st text (continued true true st.nest) refl
 obeys at offset word st text directive.Endif = ends at offset word st text (closed st.nest) refl
 obeys at offset word st text directive.RestOfLine = skips_line at offset word st text
@@ -247,7 +258,8 @@ neither : (x y : Bool) → (x || y) ≡ false → (x ≡ false) × (y ≡ false)
 neither true y e = absurd (true≢false e)
 neither false y e = (refl, e)
 
-pub whole_directive : (at : Place) (offset : ℕ) (word : List ℕ) (st : State) (text : List ℕ) → Carries at offset word st text (directive_read at offset word st text)
+pub whole_directive : (at : Place) (offset : ℕ) (word : List ℕ) (st : State) (text : List ℕ)
+    → Carries at offset word st text (directive_read at offset word st text)
 unfolding directive_read
 whole_directive at offset word st text = told (is_read st.nest || is_conditional (directive_of word)) refl
   where
@@ -255,13 +267,14 @@ whole_directive at offset word st text = told (is_read st.nest || is_conditional
         → Carries at offset word st text (cond t (directive_at at offset word st text (directive_of word)) (Ok (st, 0)))
     told true e = Obeyed (directive_at at offset word st text (directive_of word)) e (obeys at offset word st text (directive_of word))
     told false e =
-        let both : (is_read st.nest ≡ false) × (is_conditional (directive_of word) ≡ false) = neither (is_read st.nest) (is_conditional (directive_of word)) e in
+        let both : (is_read st.nest ≡ false) × (is_conditional (directive_of word) ≡ false) =
+        neither (is_read st.nest) (is_conditional (directive_of word)) e in
         Skips both.0 both.1
 
 -- ---- and nothing else is
 
-nameless_is : (at : Place) (offset : ℕ) (word : List ℕ) (st : State) (text : List ℕ) (d : Directive) → wants_name d ≡ true → name_at text ≡ None
-    → bad at word ≡ directive_at at offset word st text d
+nameless_is : (at : Place) (offset : ℕ) (word : List ℕ) (st : State) (text : List ℕ) (d : Directive)
+    → wants_name d ≡ true → name_at text ≡ None → bad at word ≡ directive_at at offset word st text d
 nameless_is at offset word st text directive.Define wants none = sym (ap (named at word (define_name at offset word st text)) none)
 nameless_is at offset word st text directive.Undef wants none = sym (ap (named at word (undef_name st)) none)
 nameless_is at offset word st text directive.Ifdef wants none = sym (ap (named at word (ifdef_name at false st)) none)
@@ -284,8 +297,8 @@ defined_is at offset word st text blanks name rest parts n has free body =
     ∙ ap (λ ps. Ok (with_body name ps st, length blanks + length name + body_len rest)) (sym is.0)
     ∙ ap (λ k. Ok (with_body name parts st, length blanks + length name + k)) (sym is.1)
 
-obeyed_is : (at : Place) (offset : ℕ) (word : List ℕ) (st : State) (text : List ℕ) (d : Directive) (r : Read) → Obeys at offset word st text d r
-    → r ≡ directive_at at offset word st text d
+obeyed_is : (at : Place) (offset : ℕ) (word : List ℕ) (st : State) (text : List ℕ) (d : Directive) (r : Read)
+    → Obeys at offset word st text d r → r ≡ directive_at at offset word st text d
 obeyed_is at offset word st text d r (Nameless x wants none) = nameless_is at offset word st text x wants (no_name_is text none)
 obeyed_is at offset word st text d r (Defines blanks name rest parts n has free body) =
     sym (ap (named at word (define_name at offset word st text)) (name_is text blanks name rest has)
@@ -294,9 +307,12 @@ obeyed_is at offset word st text d r (Undefinable blanks name rest has taken) =
     sym (ap (named at word (define_name at offset word st text)) (name_is text blanks name rest has)
     ∙ define_is at offset word st text blanks name rest has
     ∙ ap (λ t. defined_if at offset word st name (length blanks + length name) rest (not t)) taken)
-obeyed_is at offset word st text d r (Undefines blanks name rest has) = sym (ap (named at word (undef_name st)) (name_is text blanks name rest has))
-obeyed_is at offset word st text d r (Opens blanks name rest has) = sym (ap (named at word (ifdef_name at false st)) (name_is text blanks name rest has))
-obeyed_is at offset word st text d r (OpensNegated blanks name rest has) = sym (ap (named at word (ifdef_name at true st)) (name_is text blanks name rest has))
+obeyed_is at offset word st text d r (Undefines blanks name rest has) =
+    sym (ap (named at word (undef_name st)) (name_is text blanks name rest has))
+obeyed_is at offset word st text d r (Opens blanks name rest has) =
+    sym (ap (named at word (ifdef_name at false st)) (name_is text blanks name rest has))
+obeyed_is at offset word st text d r (OpensNegated blanks name rest has) =
+    sym (ap (named at word (ifdef_name at true st)) (name_is text blanks name rest has))
 obeyed_is at offset word st text d r (Continues blanks name rest nest has is) =
     sym (ap (named at word (elsif_name at word st)) (name_is text blanks name rest has) ∙ ap (nest_or_bad at word st (length blanks + length name)) is)
 obeyed_is at offset word st text d r (CannotContinue blanks name rest has is) =

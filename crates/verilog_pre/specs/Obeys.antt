@@ -33,7 +33,7 @@ pub record HasNoName (text : List ℕ) : Type 0 where
   pub ends : StopsAt is_blank rest
   pub none : StopsAt is_letter rest
 
--- the directives that a name follows
+-- the directives that want a name
 abbrev pub wants_name : Directive → Bool
 wants_name directive.Define = true
 wants_name directive.Undef = true
@@ -55,6 +55,7 @@ begins_arguments (b ∷ bs) = b == 40
 abbrev pub is_definable : List ℕ → List ℕ → Bool
 is_definable name rest = not (begins_arguments rest) && is_use (directive_of name)
 
+-- what the uses at a place rest on
 abbrev pub used_at : Place → State → Context
 used_at at st = record { table = st.table; parts = st.parts; at = at }
 
@@ -62,49 +63,42 @@ used_at at st = record { table = st.table; parts = st.parts; at = at }
 pub data Obeys (at : Place) (offset : ℕ) (word : List ℕ) (st : State) (text : List ℕ) : Directive → Read → Type 0 where
   -- the name that a directive wants isn't on its line
   Nameless : (d : Directive) → wants_name d ≡ true → HasNoName text → Obeys at offset word st text d (bad at word)
-
-  -- clause 19.3.1, `define`: the macro's body is what stands behind its name on the line, and on the lines that continue it
+  -- clause 19.3.1, `define`: the macro's body is what stands behind its name on the line, and on the lines that
+  -- continue it; a name with arguments, or a directive's name
   Defines : (blanks name rest : List ℕ) (parts : List Part) (n : ℕ) → HasName text blanks name rest → is_definable name rest ≡ true
       → Body at.file (offset + (length blanks + length name)) rest parts n
       → Obeys at offset word st text directive.Define (Ok (with_body name parts st, length blanks + length name + n))
   Undefinable : (blanks name rest : List ℕ) → HasName text blanks name rest → is_definable name rest ≡ false
       → Obeys at offset word st text directive.Define (bad at word)
-
   -- clause 19.3.2, `undef`: the name has no macro any more
   Undefines : (blanks name rest : List ℕ) → HasName text blanks name rest
       → Obeys at offset word st text directive.Undef (Ok (with_table st (with_macro name None st.table), length blanks + length name))
-
   -- clause 19.4, `ifdef` and `ifndef`: a conditional whose first branch holds where the name has a macro, or where it has none
   Opens : (blanks name rest : List ℕ) → HasName text blanks name rest
       → Obeys at offset word st text directive.Ifdef
-          (Ok (with_nest st (opened at false (is_some (st.table name)) st.nest), length blanks + length name))
+      (Ok (with_nest st (opened at false (is_some (st.table name)) st.nest), length blanks + length name))
   OpensNegated : (blanks name rest : List ℕ) → HasName text blanks name rest
       → Obeys at offset word st text directive.Ifndef
-          (Ok (with_nest st (opened at true (not (is_some (st.table name))) st.nest), length blanks + length name))
-
-  -- clause 19.4, `elsif`: the innermost conditional's next branch, which holds where the name has a macro
+      (Ok (with_nest st (opened at true (not (is_some (st.table name))) st.nest), length blanks + length name))
+  -- clause 19.4, `elsif`: the innermost conditional's next branch, which holds where the name has a macro; none is open, or
+  -- the innermost has had its `else`
   Continues : (blanks name rest : List ℕ) (nest : List Conditional) → HasName text blanks name rest
       → continued (is_some (st.table name)) false st.nest ≡ Some nest
       → Obeys at offset word st text directive.Elsif (Ok (with_nest st nest, length blanks + length name))
   CannotContinue : (blanks name rest : List ℕ) → HasName text blanks name rest → continued (is_some (st.table name)) false st.nest ≡ None
       → Obeys at offset word st text directive.Elsif (bad at word)
-
-  -- clause 19.4, `else`: the innermost conditional's last branch
+  -- clause 19.4, `else`: the innermost conditional's last branch; none is open, or the innermost has had its `else`
   Turns : (nest : List Conditional) → continued true true st.nest ≡ Some nest
       → Obeys at offset word st text directive.Else (Ok (with_nest st nest, 0))
   CannotTurn : continued true true st.nest ≡ None → Obeys at offset word st text directive.Else (bad at word)
-
-  -- clause 19.4, `endif`: the innermost conditional's end
+  -- clause 19.4, `endif`: the innermost conditional's end; none is open
   Closes : (nest : List Conditional) → closed st.nest ≡ Some nest → Obeys at offset word st text directive.Endif (Ok (with_nest st nest, 0))
   CannotClose : closed st.nest ≡ None → Obeys at offset word st text directive.Endif (bad at word)
-
   -- clauses 19.2 and 19.8, `default_nettype` and `timescale`: what they set, up to the end of the line, says nothing here
   SkipsLine : (line rest : List ℕ) → text ≡ line ++ rest → AllAre (λ b. not (b == 10)) line → StopsAt (λ b. not (b == 10)) rest
       → Obeys at offset word st text directive.RestOfLine (Ok (st, length line))
-
   -- clause 19.1, `celldefine` and `endcelldefine`: a mark that says nothing here
   Ignored : Obeys at offset word st text directive.NoEffect (Ok (st, 0))
-
   -- clause 19.3.1, any other word: the use of its macro
   Uses : (out : Output) → Expands (used_at at st) [] st.out (Use word ∷ []) (Ok out)
       → Obeys at offset word st text directive.Use (Ok (with_out st out, 0))
