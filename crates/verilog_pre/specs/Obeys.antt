@@ -64,10 +64,11 @@ pub data Obeys (at : Place) (offset : ℕ) (word : List ℕ) (st : State) (text 
   -- the name that a directive wants isn't on its line
   Nameless : (d : Directive) → wants_name d ≡ true → HasNoName text → Obeys at offset word st text d (bad at word)
   -- clause 19.3.1, `define`: the macro's body is what stands behind its name on the line, and on the lines that
-  -- continue it; a name with arguments, or a directive's name
+  -- continue it
   Defines : (blanks name rest : List ℕ) (parts : List Part) (n : ℕ) → HasName text blanks name rest → is_definable name rest ≡ true
       → Body at.file (offset + (length blanks + length name)) rest parts n
       → Obeys at offset word st text directive.Define (Ok (with_body name parts st, length blanks + length name + n))
+  -- with arguments, or of a directive's name
   Undefinable : (blanks name rest : List ℕ) → HasName text blanks name rest → is_definable name rest ≡ false
       → Obeys at offset word st text directive.Define (bad at word)
   -- clause 19.3.2, `undef`: the name has no macro any more
@@ -80,19 +81,21 @@ pub data Obeys (at : Place) (offset : ℕ) (word : List ℕ) (st : State) (text 
   OpensNegated : (blanks name rest : List ℕ) → HasName text blanks name rest
       → Obeys at offset word st text directive.Ifndef
       (Ok (with_nest st (opened at true (not (is_some (st.table name))) st.nest), length blanks + length name))
-  -- clause 19.4, `elsif`: the innermost conditional's next branch, which holds where the name has a macro; none is open, or
-  -- the innermost has had its `else`
+  -- clause 19.4, `elsif`: the innermost conditional's next branch, which holds where the name has a macro
   Continues : (blanks name rest : List ℕ) (nest : List Conditional) → HasName text blanks name rest
       → continued (is_some (st.table name)) false st.nest ≡ Some nest
       → Obeys at offset word st text directive.Elsif (Ok (with_nest st nest, length blanks + length name))
+  -- no conditional is open, or the innermost has had its `else`
   CannotContinue : (blanks name rest : List ℕ) → HasName text blanks name rest → continued (is_some (st.table name)) false st.nest ≡ None
       → Obeys at offset word st text directive.Elsif (bad at word)
-  -- clause 19.4, `else`: the innermost conditional's last branch; none is open, or the innermost has had its `else`
+  -- clause 19.4, `else`: the innermost conditional's last branch
   Turns : (nest : List Conditional) → continued true true st.nest ≡ Some nest
       → Obeys at offset word st text directive.Else (Ok (with_nest st nest, 0))
+  -- no conditional is open, or the innermost has had its `else`
   CannotTurn : continued true true st.nest ≡ None → Obeys at offset word st text directive.Else (bad at word)
-  -- clause 19.4, `endif`: the innermost conditional's end; none is open
+  -- clause 19.4, `endif`: the innermost conditional's end
   Closes : (nest : List Conditional) → closed st.nest ≡ Some nest → Obeys at offset word st text directive.Endif (Ok (with_nest st nest, 0))
+  -- no conditional is open
   CannotClose : closed st.nest ≡ None → Obeys at offset word st text directive.Endif (bad at word)
   -- clauses 19.2 and 19.8, `default_nettype` and `timescale`: what they set, up to the end of the line, says nothing here
   SkipsLine : (line rest : List ℕ) → text ≡ line ++ rest → AllAre (λ b. not (b == 10)) line → StopsAt (λ b. not (b == 10)) rest
@@ -102,6 +105,7 @@ pub data Obeys (at : Place) (offset : ℕ) (word : List ℕ) (st : State) (text 
   -- clause 19.3.1, any other word: the use of its macro
   Uses : (out : Output) → Expands (used_at at st) [] st.out (Use word ∷ []) (Ok out)
       → Obeys at offset word st text directive.Use (Ok (with_out st out, 0))
+  -- the use's first fault
   CannotUse : (e : TextFault) → Expands (used_at at st) [] st.out (Use word ∷ []) (Err e) → Obeys at offset word st text directive.Use (Err e)
 
 -- What a word behind a backquote does where it stands: skipped text is read for the five directives of conditionals alone
