@@ -15,4 +15,5 @@ pub mod Passed
 pub mod Turns
 pub mod BodyTurns
 pub mod Expanded
+pub mod Obeys
 pub mod FileReadings

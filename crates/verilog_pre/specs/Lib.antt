@@ -13,4 +13,5 @@ pub mod Reading
 pub mod Stretches
 pub mod BodyStretches
 pub mod Uses
+pub mod Obeys
 pub mod FileReadings

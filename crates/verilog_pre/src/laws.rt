@@ -1,4 +1,4 @@
-// What the definitions of reading files, a macro's body and the use of a macro come to.
+// What the definitions of reading files, a directive, a macro's body and the use of a macro come to.
 ghost use Rattle.std.specs.Prelude.{◌≡◌, ℕ, List, [], ◌∷◌, Result};
 ghost use Rattle.ls_text.specs.declared.place.Place.{Place};
 ghost use Rattle.ls_text.specs.declared.source_file.SourceFile.{SourceFile};
@@ -9,7 +9,8 @@ ghost use Rattle.verilog_pre.specs.Bodies.{body_parts, body_len};
 ghost use Rattle.verilog_pre.specs.BodyStretches.{Body};
 ghost use Rattle.verilog_pre.specs.Expansions.{Output, Context, expanded};
 ghost use Rattle.verilog_pre.specs.FileReadings.{HavePieces};
-ghost use Rattle.verilog_pre.specs.Reading.{text_read, pieces};
+ghost use Rattle.verilog_pre.specs.Obeys.{Carries};
+ghost use Rattle.verilog_pre.specs.Reading.{Read, directive_read, text_read, pieces};
 ghost use Rattle.verilog_pre.specs.States.{State};
 ghost use Rattle.verilog_pre.specs.Stretches.{Reads};
 ghost use Rattle.verilog_pre.specs.Uses.{Expands};
@@ -37,6 +38,15 @@ pub fn uses_are_expansions()
     ensures whole { (c : Context) (word : List ℕ) (out : Output) → Expands c [] out (Use word ∷ []) (expanded c word out) }
     ensures only { (c : Context) (word : List ℕ) (out : Output) (r : Result Output TextFault)
         → Expands c [] out (Use word ∷ []) r → r ≡ expanded c word out }
+{}
+
+/// A directive does what the relation on directives says, and nothing else.
+#[tactic(none)]
+pub fn directives_are_obeyed()
+    ensures whole { (at : Place) (offset : ℕ) (word : List ℕ) (st : State) (text : List ℕ)
+        → Carries at offset word st text (directive_read at offset word st text) }
+    ensures only { (at : Place) (offset : ℕ) (word : List ℕ) (st : State) (text : List ℕ) (r : Read)
+        → Carries at offset word st text r → r ≡ directive_read at offset word st text }
 {}
 
 /// Files have the pieces, or the first fault, that the relation on files says, and no others.

@@ -29,7 +29,10 @@ mod stretch;
 mod table;
 
 pub use files::preprocess;
-pub use laws::{bodies_are_stretches, files_have_pieces, texts_are_stretches, uses_are_expansions};
+pub use laws::{
+    bodies_are_stretches, directives_are_obeyed, files_have_pieces, texts_are_stretches,
+    uses_are_expansions,
+};
 pub use piece::Piece;
 
 #[cfg(test)]
