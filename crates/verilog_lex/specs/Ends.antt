@@ -1,4 +1,5 @@
--- Where a list of tokens ends.
+-- Where a list of tokens ends: a source text is a stream of lexical tokens (IEEE 1364-2005, clause 3.1), and a text of the
+-- grammar is the whole stream (annex A.1.2), so its end is a token of its own.
 use Rattle.std.specs.Prelude.{◌≡◌, ◌≢◌, List, [], ◌∷◌}
 use Rattle.verilog_lex.specs.declared.kind.Kind.TheVariants.{End}
 use Rattle.verilog_lex.specs.declared.token.Token.{Token}

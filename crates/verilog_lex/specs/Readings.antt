@@ -1,5 +1,5 @@
--- The reading of pieces as one relation over whole lists: the stretches of each piece, the groups of all their lexemes,
--- the token of each group, and the end.
+-- The reading of pieces as one relation over whole lists: the stretches of each piece (IEEE 1364-2005, clauses 3.1 to 3.8),
+-- the groups of all their lexemes (clause 3.5.1), the token of each group, and the end.
 use Rattle.std.specs.Prelude.{◌≡◌, List, [], ◌∷◌, ◌++◌, codes, Result, Ok}
 use Rattle.ls_text.specs.declared.source_file.SourceFile.{SourceFile}
 use Rattle.source_text.specs.Files.{text_between}

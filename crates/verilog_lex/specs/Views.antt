@@ -5,7 +5,7 @@ use Rattle.ls_text.specs.declared.refusal.Refusal.{Refusal}
 use Rattle.source_text.specs.Faults.{TextFault, Refuses}
 use Rattle.verilog_lex.specs.declared.token.Token.{Token}
 use Rattle.verilog_lex.specs.declared.lexeme.Lexeme as code
-use Rattle.verilog_lex.specs.declared.shape.Based.{Based}
+use Rattle.verilog_lex.specs.declared.number_part.Based.{Based}
 use Rattle.verilog_lex.specs.declared.cursor.Cursor.{Cursor}
 use Rattle.verilog_lex.specs.Forms.{form}
 use Rattle.verilog_lex.specs.Lexemes.{Lexeme, text_lexemes, pieces_lexemes}

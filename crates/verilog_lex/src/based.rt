@@ -5,7 +5,8 @@ ghost use Rattle.std.specs.List.{prefix_len};
 ghost use Rattle.verilog_lex.specs.Cuts.{is_wild, is_part_digit, is_part_byte, is_sign_letter, radix_of, part_at};
 ghost use Rattle.verilog_lex.specs.Forms.{form, Part};
 
-use crate::shape::{Based, Shape};
+use crate::number_part::Based;
+use crate::shape::Shape;
 use source_text::{behind, byte_at, front, is_digit, space_len};
 
 /// Whether a digit matches any bit.

@@ -12,6 +12,7 @@ mod lexer;
 mod literal;
 mod mark;
 mod number;
+mod number_part;
 mod read;
 mod shape;
 mod token;

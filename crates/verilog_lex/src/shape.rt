@@ -1,17 +1,8 @@
 // What a stretch of text is.
-ghost use Rattle.std.specs.Prelude.{◌≤◌};
-
 use crate::Kind;
+use crate::number_part::Based;
 
-/// A based part of a number: whether it is signed, its radix, and its digits.
-#[derive(Clone, Copy)]
-pub struct Based<'a> {
-    pub signed: bool,
-    pub radix: u8,
-    pub digits: &'a [u8],
-    ghost some: { 1 ≤ radix },
-}
-
+/// What a stretch of text is (IEEE 1364-2005, clauses 3.1 to 3.8).
 #[derive(Clone, Copy)]
 pub enum Shape<'a> {
     /// White space, or an attribute.

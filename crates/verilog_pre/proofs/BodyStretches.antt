@@ -3,7 +3,7 @@ use Rattle.std.proofs.Common.{◌≡◌, ℕ, ◌+◌, ◌-◌, ◌≤◌, ◌==
 use Rattle.std.proofs.lemmas.Bool.{eqb-true}
 use Rattle.std.proofs.lemmas.Option.{none-some}
 use Rattle.verilog_pre.specs.Bodies.{begins_cut, lines_len, comment_len, run_len}
-use Rattle.verilog_pre.specs.Stretches.{HasNo, BeginsWith, AllAre, StopsAt, ends_comment}
+use Rattle.verilog_pre.specs.Shapes.{HasNo, BeginsWith, AllAre, StopsAt, ends_comment}
 use Rattle.verilog_pre.specs.BodyStretches.{ends_line, begins_stretch, last_of}
 use Rattle.verilog_pre.proofs.Stretches.{and_false, and_both, first_of, value_of}
 

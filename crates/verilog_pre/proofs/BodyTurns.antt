@@ -10,12 +10,11 @@ use Rattle.verilog_pre.specs.Parts.{Part, Use}
 use Rattle.verilog_pre.specs.declared.body_cut.BodyCut.{BodyCut}
 use Rattle.verilog_pre.specs.declared.body_cut.BodyCut.TheVariants as cut
 use Rattle.verilog_pre.specs.Bodies.{begins_cut, lines_len, comment_len, run_len, comment_or, body_cut, cut_len, goes_on, run_part, cut_parts, body_parts, body_len}
-use Rattle.verilog_pre.specs.Stretches.{HasNo, AllAre, StopsAt, ends_comment, IsLineComment, IsWord}
+use Rattle.verilog_pre.specs.Shapes.{HasNo, AllAre, StopsAt, ends_comment, IsLineComment, IsWord}
 use Rattle.verilog_pre.specs.BodyStretches.{ends_line, begins_stretch, LineEnds, IsBodyRun, Gives, Run, Continued, Comment, Unclosed, Macro, Body, AtEnd, AtNewline, AtComment, Goes}
-use Rattle.verilog_pre.proofs.Stretches.{and_both, first_of, front_all, front_stops, front_is}
+use Rattle.verilog_pre.proofs.Stretches.{and_both, first_of, front_all, front_stops, front_is, take_seam, drop_seam, longer}
 use Rattle.verilog_pre.proofs.BodyStretches.{not_newline, line_of, after_line, line_and_after, line_count, line_plain, line_ends, line_is, open_plain, open_is, ClosedOn, closes_on, closed_on_is, run_from, left_from, from_joined, from_count, from_on_line, from_plain, from_ends, from_is}
 use Rattle.verilog_pre.proofs.Cuts.{parts_on, parts_last, len_on, len_last}
-use Rattle.verilog_pre.proofs.Turns.{take_seam, drop_seam, longer}
 
 -- what the first cut of a body is: a stretch behind which the body goes on, or its end
 data Cut (file offset : ℕ) (text : List ℕ) : BodyCut → Type 0 where

@@ -10,7 +10,7 @@ use Rattle.verilog_pre.specs.Conditionals.{but_last}
 use Rattle.verilog_pre.specs.Parts.{Part, Text, Use, Open, Item, Read, Leave}
 use Rattle.verilog_pre.specs.Expansions.{Output, Context, emitted, stretch_piece, is_open, entered, work_with, use_with, work_on, used, expanded}
 use Rattle.verilog_pre.specs.Uses.{macro_parts, with_uses, Expands, AtEnd, Bytes, TooLong, Unclosed, TooMany, Unknown, Within, Body, BodyFails}
-use Rattle.verilog_pre.proofs.Turns.{take_seam}
+use Rattle.verilog_pre.proofs.Stretches.{take_seam}
 
 emitted_uses : (at : Place) (piece : Piece) (len : ℕ) (out new : Output) → emitted at piece len out ≡ Ok new → new.uses ≡ out.uses
 unfolding emitted

@@ -10,10 +10,11 @@ pub mod Entries
 pub mod Stretches
 pub mod BodyStretches
 pub mod Within
-pub mod Heads
+pub mod HeadShapes
 pub mod Passed
-pub mod Turns
+pub mod LeavesOpen
 pub mod BodyTurns
 pub mod Expanded
 pub mod Obeys
+pub mod Turns
 pub mod FileReadings

@@ -20,10 +20,9 @@ use Rattle.verilog_pre.specs.Obeys.{HasName, HasNoName, wants_name, is_definable
 use Rattle.verilog_pre.specs.Parts.{Part, Use}
 use Rattle.verilog_pre.specs.Reading.{Read, bad, with_out, with_body, define_name, undef_name, ifdef_name, elsif_name, nest_or_bad, named, use_macro, directive_at, directive_read}
 use Rattle.verilog_pre.specs.States.{State}
-use Rattle.verilog_pre.specs.Stretches.{AllAre, StopsAt, IsWord}
+use Rattle.verilog_pre.specs.Shapes.{AllAre, StopsAt, IsWord}
 use Rattle.verilog_pre.specs.Uses.{Expands}
-use Rattle.verilog_pre.proofs.Stretches.{front_all, front_stops, front_is}
-use Rattle.verilog_pre.proofs.Turns.{take_seam, drop_seam}
+use Rattle.verilog_pre.proofs.Stretches.{front_all, front_stops, front_is, take_seam, drop_seam}
 use Rattle.verilog_pre.proofs.BodyTurns.{whole_body, only_body}
 use Rattle.verilog_pre.proofs.Expanded.{whole_use, only_use}
 

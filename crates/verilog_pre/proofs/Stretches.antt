@@ -1,12 +1,12 @@
 -- Stretches of bytes, and what counts them.
-use Rattle.std.proofs.Common.{◌≡◌, ℕ, suc, ◌+◌, ◌-◌, ◌≤◌, ◌==◌, ◌&&◌, ◌⊎◌, inl, inr, Bool, true, false, cond, List, [], ◌∷◌, ◌++◌, length, take, drop, Option, Some, None, refl, sym, ap, subst, ◌∙◌, arith, true≢false}
+use Rattle.std.proofs.Common.{◌≡◌, ℕ, suc, ◌+◌, ◌-◌, ◌<◌, ◌≤◌, ◌==◌, ◌&&◌, ◌⊎◌, inl, inr, Bool, true, false, cond, List, [], ◌∷◌, ◌++◌, length, take, drop, Option, Some, None, refl, sym, ap, subst, ◌∙◌, arith, true≢false}
 use Rattle.std.specs.List.{prefix_len}
 use Rattle.std.proofs.lemmas.Bool.{eqb-true}
 use Rattle.std.proofs.lemmas.Option.{none-some}
 use Rattle.source_text.specs.Bytes.{through_pair}
 use Rattle.verilog_pre.specs.Bodies.{begins_cut}
-use Rattle.verilog_pre.specs.Reading.{plain_len}
-use Rattle.verilog_pre.specs.Stretches.{HasNo, BeginsWith, AllAre, StopsAt, ends_comment}
+use Rattle.verilog_pre.specs.Heads.{plain_len}
+use Rattle.verilog_pre.specs.Shapes.{HasNo, BeginsWith, AllAre, StopsAt, ends_comment}
 
 -- ---- bytes of a class
 
@@ -191,3 +191,17 @@ run_is a [] (b ∷ c ∷ bs) has (inr begins) =
 run_is a (c ∷ cs) rest has ends =
     ap (λ t. cond t [] (a ∷ run_of c (cs ++ rest))) has.0
     ∙ ap (λ xs. a ∷ xs) (run_is c cs rest has.1 ends)
+
+-- ---- two stretches side by side
+
+pub drop_seam : (cut rest : List ℕ) → drop (length cut) (cut ++ rest) ≡ rest
+drop_seam [] rest = refl
+drop_seam (c ∷ cs) rest = drop_seam cs rest
+
+pub take_seam : (cut rest : List ℕ) → take (length cut) (cut ++ rest) ≡ cut
+take_seam [] rest = refl
+take_seam (c ∷ cs) rest = ap (λ xs. c ∷ xs) (take_seam cs rest)
+
+pub longer : (cut rest : List ℕ) → 0 < length cut → 0 < length (cut ++ rest)
+longer [] rest some = absurd (omega arith)
+longer (c ∷ cs) rest some = omega arith

@@ -3,7 +3,7 @@
 use Rattle.std.specs.Prelude.{◌≡◌, ◌<◌, ℕ, ◌+◌, Bool, not, ◌&&◌, ◌||◌, ◌==◌, ◌⊎◌, List, [], ◌∷◌, ◌++◌, length, take}
 use Rattle.verilog_pre.specs.Parts.{Part, Use, Open}
 use Rattle.verilog_pre.specs.Bodies.{begins_cut, run_part}
-use Rattle.verilog_pre.specs.Stretches.{HasNo, BeginsWith, AllAre, StopsAt, ends_comment, IsLineComment, IsWord}
+use Rattle.verilog_pre.specs.Shapes.{HasNo, BeginsWith, AllAre, StopsAt, ends_comment, IsLineComment, IsWord}
 
 -- a newline that no backslash continues
 abbrev pub ends_line : ℕ → ℕ → Bool

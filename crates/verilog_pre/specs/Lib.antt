@@ -10,8 +10,8 @@ pub mod LeavesOpen
 pub mod Expansions
 pub mod States
 pub mod Reading
-pub mod Stretches
 pub mod BodyStretches
 pub mod Uses
 pub mod Obeys
+pub mod Stretches
 pub mod FileReadings

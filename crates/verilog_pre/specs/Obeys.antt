@@ -14,7 +14,7 @@ use Rattle.verilog_pre.specs.Expansions.{Output, Context}
 use Rattle.verilog_pre.specs.Parts.{Part, Use}
 use Rattle.verilog_pre.specs.Reading.{Read, bad, with_nest, with_table, with_out, with_body}
 use Rattle.verilog_pre.specs.States.{State}
-use Rattle.verilog_pre.specs.Stretches.{AllAre, StopsAt, IsWord}
+use Rattle.verilog_pre.specs.Shapes.{AllAre, StopsAt, IsWord}
 use Rattle.verilog_pre.specs.Tables.{with_macro}
 use Rattle.verilog_pre.specs.Uses.{Expands}
 

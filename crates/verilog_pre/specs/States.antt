@@ -1,4 +1,4 @@
--- What has been read so far.
+-- What has been read of the files so far (IEEE 1364-2005, clause 19): directives hold from where they stand, across files.
 use Rattle.std.specs.Prelude.{ℕ, List, length}
 use Rattle.verilog_pre.specs.declared.conditional.Conditional.{Conditional}
 use Rattle.verilog_pre.specs.declared.reader.Reader.{Reader}

@@ -7,7 +7,8 @@ use Rattle.source_text.specs.Places.{place_after}
 use Rattle.verilog_pre.specs.declared.conditional.Conditional.{Conditional}
 use Rattle.verilog_pre.specs.Conditionals.{is_read}
 use Rattle.verilog_pre.specs.LeavesOpen.{LeavesOpen}
-use Rattle.verilog_pre.specs.Reading.{directive_read, with_out, left_open}
+use Rattle.verilog_pre.specs.Obeys.{Carries}
+use Rattle.verilog_pre.specs.Reading.{with_out, left_open}
 use Rattle.verilog_pre.specs.Shapes.{HasNo, ends_comment, IsLineComment, IsBlockComment, IsRun, IsWord}
 use Rattle.verilog_pre.specs.States.{State}
 
@@ -33,10 +34,10 @@ pub data Does (at : Place) (offset : ℕ) (st : State) (cut rest : List ℕ) : R
       → Does at offset st cut rest (Err (fault_at 10 (place_after at (take st.out.bytes cut)) []))
   -- a backquote, a word, and what belongs to the directive behind it
   Directive : (word behind : List ℕ) → cut ≡ 96 ∷ (word ++ behind) → IsWord word (behind ++ rest)
-      → (next : State) → directive_read at (offset + 1 + length word) word st (behind ++ rest) ≡ Ok (next, length behind)
+      → (next : State) → Carries at (offset + 1 + length word) word st (behind ++ rest) (Ok (next, length behind))
       → Does at offset st cut rest (Ok next)
   BadDirective : (word behind : List ℕ) → cut ≡ 96 ∷ (word ++ behind) → IsWord word (behind ++ rest)
-      → (e : TextFault) → directive_read at (offset + 1 + length word) word st (behind ++ rest) ≡ Err e
+      → (e : TextFault) → Carries at (offset + 1 + length word) word st (behind ++ rest) (Err e)
       → Does at offset st cut rest (Err e)
 
 -- What the stretches of a text do one after another, up to its end or the first fault.

@@ -1,4 +1,4 @@
--- The macros that are known: which one each word names, if any.
+-- The macros that are known (IEEE 1364-2005, clause 19.3): which one each word names, if any.
 use Rattle.std.specs.Prelude.{◌<◌, ◌≤◌, ℕ, if◌then◌else◌, List, [], ◌∷◌, length, Option, None, IfSome}
 use Rattle.std.specs.List.{All}
 use Rattle.std.specs.Str.{bytes_eq}
@@ -12,7 +12,7 @@ Table = List ℕ → Option Macro
 abbrev pub no_macros : Table
 no_macros = λ word. None
 
--- a later define or undef replaces an earlier one
+-- a later define (19.3.1) or undef (19.3.2) replaces an earlier one
 abbrev pub with_macro : List ℕ → Option Macro → Table → Table
 with_macro word m table = λ other. if bytes_eq word other then m else table other
 

@@ -90,7 +90,12 @@ pub fn left_open(
     ensures known { IfOk result (λ f. All (λ id. id.0 < length names.new) f.names) }
     ensures grows { Grows names.old names.new }
 {
-    bad_directive(alloc, names, conditional.at, opening_word(conditional.negated))
+    bad_directive(
+        alloc,
+        names,
+        conditional.at,
+        opening_word(conditional.negated),
+    )
 }
 
 /// The earlier of a fault before the rest of its file and of the opening of the outermost conditional there, where that

@@ -168,6 +168,8 @@ fn conditionals_choose(rt: HostRuntime) {
             &[b" c"]
         )
     );
+    // An undef of what no macro is named has no effect.
+    assert!(rt; has_pieces(alloc, b"`undef A\nx", &[b"\nx"]));
     assert!(rt;
         has_pieces(
             alloc,
@@ -211,11 +213,61 @@ fn uses_that_fail_are_refused(rt: HostRuntime) {
             b"4:1 A\n"
         )
     );
-    // Columns count bytes; skipped text is read for comments too; a fault stops the reading before a conditional is known to
-    // stay open.
+    // Columns count bytes; skipped text is read for comments too, and one that isn't closed leaves the conditional open.
     assert!(rt; is_bad(alloc, b"/* \xc3\xa9 */ `x", b"1:10 x\n"));
-    assert!(rt; is_bad(alloc, b"`ifdef A\n/* x\n`endif", b"2:1 -\n"));
-    assert!(rt; is_bad(alloc, b"`ifndef A\n`B\n", b"2:1 B\n"));
+    assert!(rt; is_bad(alloc, b"`ifdef A\n/* x\n`endif", b"1:1 ifdef\n"));
+}
+
+#[test]
+fn the_earlier_of_a_fault_and_an_open_conditional_is_refused(rt: HostRuntime) {
+    let alloc = rt.alloc();
+    // The conditional that stays open was opened first, the outermost first of all.
+    assert!(rt; is_bad(alloc, b"`ifndef A\n`B\n", b"1:1 ifndef\n"));
+    assert!(rt;
+        is_bad(
+            alloc,
+            b"x `ifndef A\n`ifndef B\n`C\n`endif",
+            b"1:3 ifndef\n"
+        )
+    );
+    assert!(rt; is_bad(alloc, b"`ifdef A\n`elsif\n", b"1:1 ifdef\n"));
+    // What is opened behind the fault is closed first; comments don't close.
+    assert!(rt; is_bad(alloc, b"`ifndef A\n`B\n`ifdef C\n`endif", b"1:1 ifndef\n"));
+    assert!(rt;
+        is_bad(
+            alloc,
+            b"`ifndef A\n`B // `endif\n/* `endif */",
+            b"1:1 ifndef\n"
+        )
+    );
+    // Where the rest of the file closes it, the fault is the first.
+    assert!(rt; is_bad(alloc, b"`ifndef A\n`B\n`endif", b"2:1 B\n"));
+    assert!(rt;
+        is_bad(
+            alloc,
+            b"`ifndef A\n`ifndef B\n`C\n`endif `endif",
+            b"3:1 C\n"
+        )
+    );
+    assert!(rt;
+        is_bad(
+            alloc,
+            b"`ifndef A\n`B\n`ifdef C\n`else\n`endif\n`endif",
+            b"2:1 B\n"
+        )
+    );
+    // One that is opened behind the fault comes after it.
+    assert!(rt; is_bad(alloc, b"`B\n`ifdef A\n", b"1:1 B\n"));
+    assert!(rt; is_bad(alloc, b"`ifndef A\n`B\n`endif\n`ifdef C\n", b"2:1 B\n"));
+    // A conditional of the next file doesn't count.
+    assert!(rt;
+        shows(
+            alloc,
+            b"`ifndef A\n`B\n`endif",
+            b"`ifdef C",
+            b"refused 12 BadDirective a.v:2:1 B\n"
+        )
+    );
 }
 
 #[test]

@@ -1,9 +1,9 @@
 -- What stands at the head of a text is what its shapes say, and nothing else.
-use Rattle.std.proofs.Common.{◌≡◌, ℕ, zero, suc, ◌+◌, ◌<◌, ◌==◌, ◌&&◌, ◌||◌, not, Bool, true, false, cond, List, [], ◌∷◌, ◌++◌, length, take, drop, Option, Some, None, refl, sym, ap, subst, ◌∙◌, arith, append_assoc, true≢false}
+use Rattle.std.proofs.Common.{◌≡◌, ℕ, suc, ◌+◌, ◌<◌, ◌==◌, ◌&&◌, ◌||◌, not, Bool, true, false, cond, List, [], ◌∷◌, ◌++◌, length, take, drop, Option, Some, None, refl, sym, ap, subst, ◌∙◌, arith, append_assoc, true≢false}
 use Rattle.std.specs.Prelude.{slice_index}
 use Rattle.std.specs.List.{prefix_len}
 use Rattle.std.proofs.lemmas.Bool.{eqb-true}
-use Rattle.std.proofs.lemmas.List.{append-nil, take-append-drop, length-append}
+use Rattle.std.proofs.lemmas.List.{take-append-drop, length-append}
 use Rattle.std.proofs.lemmas.List.Folds.{length-prefix_len}
 use Rattle.source_text.specs.Bytes.{is_letter, is_digit, is_word_byte, through_pair}
 use Rattle.verilog_pre.specs.Bodies.{begins_cut}
@@ -23,14 +23,6 @@ pub data Headed (text : List ℕ) : Head → Type 0 where
   Unclosed : (inside : List ℕ) → text ≡ 47 ∷ 42 ∷ inside → HasNo ends_comment inside → Headed text head.OpenComment
   Backquoted : (word rest : List ℕ) → text ≡ 96 ∷ (word ++ rest) → IsWord word rest → Headed text (head.Word (length word))
   Plain : (cut rest : List ℕ) → text ≡ cut ++ rest → IsRun cut rest → Headed text (head.Run (length cut))
-
-pub drop_seam : (cut rest : List ℕ) → drop (length cut) (cut ++ rest) ≡ rest
-drop_seam [] rest = refl
-drop_seam (c ∷ cs) rest = drop_seam cs rest
-
-pub take_seam : (cut rest : List ℕ) → take (length cut) (cut ++ rest) ≡ cut
-take_seam [] rest = refl
-take_seam (c ∷ cs) rest = ap (λ xs. c ∷ xs) (take_seam cs rest)
 
 -- ---- each kind at the head of a text
 
