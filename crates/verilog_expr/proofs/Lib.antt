@@ -7,3 +7,8 @@ pub mod Suffixes
 pub mod Weights
 pub mod Endings
 pub mod Refusals
+pub mod OneTree
+pub mod OneRow
+pub mod OneReading
+pub mod OneRun
+pub mod Named

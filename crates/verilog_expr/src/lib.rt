@@ -5,6 +5,7 @@
 mod error;
 mod expression;
 mod fault;
+mod laws;
 mod leaf;
 mod operators;
 mod parsed_expr;
@@ -14,6 +15,7 @@ mod showing;
 
 pub use error::ParseError;
 pub use fault::{ParseFault, Stop};
+pub use laws::expressions_are_read_in_one_way;
 pub use leaf::{identifier, number, pattern};
 pub use parsed_expr::ParsedExpr;
 pub use parser::Parser;

@@ -4,3 +4,13 @@ pub mod ModuleTrees
 pub mod Complete
 pub mod Digits
 pub mod Wholes
+pub mod OneToken
+pub mod OneStatement
+pub mod OneItem
+pub mod OneGenerate
+pub mod OneModule
+pub mod OneText
+pub mod NamedStatements
+pub mod NamedItems
+pub mod NamedGenerates
+pub mod NamedModules

@@ -6,6 +6,7 @@ mod declaration;
 mod file;
 mod generate;
 mod header;
+mod laws;
 mod modules;
 mod parsing;
 mod plain_item;
@@ -13,4 +14,5 @@ mod spelling;
 mod statement;
 mod target;
 
+pub use laws::texts_are_read_in_one_way;
 pub use parsing::parse;
