@@ -226,9 +226,10 @@ fn tokens_of(
     }
 }
 
-/// The tokens of the pieces of these files, or the first fault: 13 for a byte that begins no token, 14 for a
-/// number whose digits stand for none.
+/// The tokens of the pieces of at most 256 files, or the first fault: 13 for a byte that begins no token, 14 for a
+/// number whose digits stand for none (IEEE 1364-2005, clauses 3.1 to 3.8).
 ///
+/// A piece that doesn't lie within its file has no bytes.
 /// A token is the longest one at its place, and none crosses the end of a piece; but a plain decimal takes the
 /// based part that comes next. White space and attributes stand between tokens. The list ends with its only End,
 /// which has the place after the last byte of the last file.

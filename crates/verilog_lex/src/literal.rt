@@ -1,6 +1,6 @@
 // The literal that a Number or a Wild stands for.
 
-/// The literal of a Number, whose mask is 0, or of a Wild; all zero for other kinds.
+/// The literal of a Number, whose mask is 0, or of a Wild (IEEE 1364-2005, clause 3.5.1); all zero for other kinds.
 #[derive(Clone, Copy, Debug, PartialEq, Eq)]
 pub struct Literal {
     /// The size in bits, from 1 to 128; 0 where the literal has none.

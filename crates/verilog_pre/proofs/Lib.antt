@@ -17,4 +17,5 @@ pub mod BodyTurns
 pub mod Expanded
 pub mod Obeys
 pub mod Turns
+pub mod Branching
 pub mod FileReadings

@@ -13,7 +13,8 @@ pub data LeavesOpen : ℕ → List ℕ → Bool → Type 0 where
       → LeavesOpen depth rest stays → LeavesOpen depth (cut ++ rest) stays
   -- a `/*` that no `*/` closes
   OpenComment : (depth : ℕ) (inside : List ℕ) → 0 < depth → HasNo ends_comment inside → LeavesOpen depth (47 ∷ 42 ∷ inside) true
-  Run : (depth : ℕ) (cut rest : List ℕ) (stays : Bool) → 0 < depth → IsRun cut rest → LeavesOpen depth rest stays → LeavesOpen depth (cut ++ rest) stays
+  Run : (depth : ℕ) (cut rest : List ℕ) (stays : Bool) → 0 < depth → IsRun cut rest
+      → LeavesOpen depth rest stays → LeavesOpen depth (cut ++ rest) stays
   -- a backquote and a word
-  Word : (depth : ℕ) (word rest : List ℕ) (stays : Bool) → 0 < depth → IsWord word rest → LeavesOpen (depth_behind depth (directive_of word)) rest stays
-      → LeavesOpen depth (96 ∷ (word ++ rest)) stays
+  Word : (depth : ℕ) (word rest : List ℕ) (stays : Bool) → 0 < depth → IsWord word rest
+      → LeavesOpen (depth_behind depth (directive_of word)) rest stays → LeavesOpen depth (96 ∷ (word ++ rest)) stays

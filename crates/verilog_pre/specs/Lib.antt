@@ -4,6 +4,7 @@ pub mod Bodies
 pub mod Tables
 pub mod Directives
 pub mod Conditionals
+pub mod Branches
 pub mod Shapes
 pub mod Heads
 pub mod LeavesOpen

@@ -1,4 +1,4 @@
--- What stands in the bodies of macros, and the work that their uses leave.
+-- What stands in the bodies of macros (IEEE 1364-2005, clause 19.3.1), and the work that their uses leave.
 use Rattle.std.specs.Prelude.{ℕ, List}
 use Rattle.verilog_pre.specs.declared.stretch.Stretch.{Stretch}
 

@@ -132,14 +132,16 @@ fn pieces_of(alloc: Global, names: &mut Names, files: &[SourceFile]) -> Result<V
     }
 }
 
-/// The pieces of files, or the first fault.
+/// The pieces of at most 256 files, each of at most 4,194,304 bytes, or the first fault (IEEE 1364-2005, clause 19).
 ///
 /// Comments, directives and skipped text are in no piece. A piece is a longest remaining run of bytes, or a part of
 /// the body of a macro that is used; a part has no white space at its ends, and the place of the use in the text.
 /// Macros carry over from file to file, conditionals don't.
 ///
 /// Faults: 12 at a directive that can't be carried out, at a comment or a conditional that isn't closed; 10 at the
-/// byte or use that would pass 16,777,216 bytes of pieces or 1,048,576 uses.
+/// byte or use that would pass 16,777,216 bytes of pieces or 1,048,576 uses. The first is the one that the reading meets
+/// first; but where it stands within a conditional that the rest of its file, read as skipped text is, leaves open, that
+/// conditional's opening is refused, the outermost's.
 pub fn preprocess(
     alloc: Global,
     names: &mut Names,

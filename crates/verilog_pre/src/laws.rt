@@ -1,10 +1,15 @@
 // What the definitions of reading files, a directive, a macro's body and the use of a macro come to.
-ghost use Rattle.std.specs.Prelude.{◌≡◌, ℕ, List, [], ◌∷◌, Result};
+ghost use Rattle.std.specs.Prelude.{◌≡◌, ℕ, Bool, not, ◌&&◌, ◌||◌, List, [], ◌∷◌, length, Some, Result};
 ghost use Rattle.ls_text.specs.declared.place.Place.{Place};
 ghost use Rattle.ls_text.specs.declared.source_file.SourceFile.{SourceFile};
 ghost use Rattle.source_text.specs.Faults.{TextFault};
 ghost use Rattle.verilog_pre.specs.declared.piece.Piece.{Piece};
 ghost use Rattle.verilog_pre.specs.Parts.{Part, Use};
+ghost use Rattle.verilog_pre.specs.declared.conditional.Conditional.{Conditional};
+ghost use Rattle.verilog_pre.specs.declared.directive.Directive.TheVariants as directive;
+ghost use Rattle.verilog_pre.specs.Branches.{any, branch_after};
+ghost use Rattle.verilog_pre.specs.Conditionals.{is_taken, first_branch, next_branch, opened, closed};
+ghost use Rattle.verilog_pre.specs.Heads.{depth_behind};
 ghost use Rattle.verilog_pre.specs.Bodies.{body_parts, body_len};
 ghost use Rattle.verilog_pre.specs.BodyStretches.{Body};
 ghost use Rattle.verilog_pre.specs.Expansions.{Output, Context, expanded};
@@ -54,4 +59,16 @@ pub fn directives_are_obeyed()
 pub fn files_have_pieces()
     ensures whole { (files : List SourceFile) → HavePieces files (pieces files) }
     ensures only { (files : List SourceFile) (r : Result (List Piece) TextFault) → HavePieces files r → r ≡ pieces files }
+{}
+
+/// Of the branches of a conditional, the first whose condition holds is read, where the text around is read; and how many
+/// conditionals are open rises by one at an opening and falls by one at an end (IEEE 1364-2005, clause 19.4).
+#[tactic(none)]
+pub fn branches_are_chosen()
+    ensures first { (around holds : Bool) → is_taken (first_branch around holds) ≡ (around && holds) }
+    ensures next { (around first holds : Bool) (between : List Bool)
+        → is_taken (next_branch (branch_after (first_branch around first) between) holds) ≡ (around && (not (first || any between) && holds)) }
+    ensures opened { (at : Place) (negated holds : Bool) (nest : List Conditional)
+        → length (opened at negated holds nest) ≡ depth_behind (length nest) directive.Ifdef }
+    ensures closed { (nest next : List Conditional) → closed nest ≡ Some next → length next ≡ depth_behind (length nest) directive.Endif }
 {}

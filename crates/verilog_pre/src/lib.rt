@@ -30,8 +30,8 @@ mod table;
 
 pub use files::preprocess;
 pub use laws::{
-    bodies_are_stretches, directives_are_obeyed, files_have_pieces, texts_are_stretches,
-    uses_are_expansions,
+    bodies_are_stretches, branches_are_chosen, directives_are_obeyed, files_have_pieces,
+    texts_are_stretches, uses_are_expansions,
 };
 pub use piece::Piece;
 

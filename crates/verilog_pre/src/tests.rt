@@ -108,6 +108,8 @@ fn runs_and_bodies_are_pieces(rt: HostRuntime) {
         )
     );
     assert!(rt; has_pieces(alloc, b"`define A x\r\n`A\r\n", &[b"\n", b"x", b"\r\n"]));
+    // A backslash goes on only right before the newline.
+    assert!(rt; has_pieces(alloc, b"`define A x \\\r\ny\n`A", &[b"\ny\n", b"x \\"]));
     // A comment takes the backslash at its end with it; a reserved word may name a macro.
     assert!(rt; has_pieces(alloc, b"`define A x // y \\\nz\n`A", &[b"\nz\n", b"x"]));
     assert!(rt;
@@ -256,6 +258,27 @@ fn the_earlier_of_a_fault_and_an_open_conditional_is_refused(rt: HostRuntime) {
             b"2:1 B\n"
         )
     );
+}
+
+#[test]
+fn behind_a_fault_the_file_is_read_as_skipped_text(rt: HostRuntime) {
+    let alloc = rt.alloc();
+    // Comments count in the body of a macro and on the line of a timescale too, and so do the five words.
+    assert!(rt;
+        is_bad(
+            alloc,
+            b"`ifndef A\n`B\n`define C /*\n`endif",
+            b"1:1 ifndef\n"
+        )
+    );
+    assert!(rt; is_bad(alloc, b"`ifndef A\n`B\n`define C `endif\n", b"2:1 B\n"));
+    assert!(rt;
+        is_bad(
+            alloc,
+            b"`ifndef A\n`B\n`timescale 1ns/1ps /*\n`endif",
+            b"1:1 ifndef\n"
+        )
+    );
     // One that is opened behind the fault comes after it.
     assert!(rt; is_bad(alloc, b"`B\n`ifdef A\n", b"1:1 B\n"));
     assert!(rt; is_bad(alloc, b"`ifndef A\n`B\n`endif\n`ifdef C\n", b"2:1 B\n"));
@@ -280,6 +303,7 @@ fn directives_that_fail_are_refused(rt: HostRuntime) {
     assert!(rt; is_bad(alloc, b"`ifndef // A\n`endif", b"1:1 ifndef\n"));
     assert!(rt; is_bad(alloc, b"`ifdef A\n`ifdef\n`endif\n`endif", b"2:1 ifdef\n"));
     assert!(rt; is_bad(alloc, b"`ifdef A\n`elsif\n`endif", b"2:1 elsif\n"));
+    assert!(rt; is_bad(alloc, b"`define 1 x", b"1:1 define\n"));
     assert!(rt; is_bad(alloc, b"`define else x", b"1:1 define\n"));
     assert!(rt; is_bad(alloc, b"`define timescale x", b"1:1 define\n"));
 }
@@ -328,9 +352,10 @@ fn add_times(text: &mut Vec<u8>, bytes: &[u8], times: u32) -> Result<(), NoMemor
     Ok(())
 }
 
-// The line that shows the first fault of a text with so many uses of an empty macro.
-fn fault_of_uses(alloc: Global, uses: u32) -> Result<Vec<u8>, NoMemory> {
-    let mut text = Vec::from_slice(alloc, b"`define A\n")?;
+// The line that shows the first fault of a text with so many uses of an empty macro behind a first line.
+fn fault_of_uses(alloc: Global, first: &[u8], uses: u32) -> Result<Vec<u8>, NoMemory> {
+    let mut text = Vec::from_slice(alloc, first)?;
+    text.extend_from_slice(b"`define A\n")?;
     add_times(&mut text, b"`A\n", uses)?;
     if text.len() > 4_194_304 {
         return Err(NoMemory);
@@ -382,11 +407,18 @@ fn is_line(shown: Result<Vec<u8>, NoMemory>, line: &[u8]) -> bool {
 #[test]
 fn too_much_is_refused(rt: HostRuntime) {
     let alloc = rt.alloc();
-    assert!(rt; is_line(fault_of_uses(alloc, 1_048_576), b""));
+    assert!(rt; is_line(fault_of_uses(alloc, b"", 1_048_576), b""));
     assert!(rt;
         is_line(
-            fault_of_uses(alloc, 1_048_577),
+            fault_of_uses(alloc, b"", 1_048_577),
             b"refused 10 TextTooLong a.v:1048578:1 -\n"
+        )
+    );
+    // A conditional that stays open around it was opened before it.
+    assert!(rt;
+        is_line(
+            fault_of_uses(alloc, b"`ifndef B\n", 1_048_577),
+            b"refused 12 BadDirective a.v:1:1 ifndef\n"
         )
     );
     // The newline behind the body is a piece of one byte, so the sixteenth use would be one byte too many.
