@@ -1,7 +1,7 @@
 // What texts are read as and where they are refused, against the tables.
 use crate::fault_rows::{CUT, FAULTS, OUTSIDE, PARTS, WEIGHTS};
 use crate::reading::{places, read, read_from, spelled};
-use crate::tree_rows::{EXPRESSIONS, ITEMS, SPELLINGS, STATEMENTS, TEXTS};
+use crate::tree_rows::{EXPRESSIONS, ITEMS, OPERATORS, SPELLINGS, STATEMENTS, TEXTS};
 use ls_text::{NoMemory, push_decimal};
 use std::alloc::Global;
 use std::test::Fail;
@@ -66,6 +66,48 @@ fn each_alternative_is_read(rt: HostRuntime) -> Result<(), Fail> {
         0
     );
     assert_eq!(rt; first_wrong(alloc, TEXTS, (b"", b""), (b"", b""))?, 0);
+    Ok(())
+}
+
+// The tree of two operators between three operands, each with its level: what binds tighter is inside, and the first
+// where both bind alike.
+fn pair_tree(
+    alloc: Global,
+    first: (&[u8], u32),
+    second: (&[u8], u32),
+) -> Result<Vec<u8>, NoMemory> {
+    let mut out = Vec::from_slice(alloc, b" (module m (assign (= x (")?;
+    if first.1 < second.1 {
+        out.extend_from_slice(first.0)?;
+        out.extend_from_slice(b" a (")?;
+        out.extend_from_slice(second.0)?;
+        out.extend_from_slice(b" b c)")?;
+    } else {
+        out.extend_from_slice(second.0)?;
+        out.extend_from_slice(b" (")?;
+        out.extend_from_slice(first.0)?;
+        out.extend_from_slice(b" a b) c")?;
+    }
+    out.extend_from_slice(b"))))")?;
+    Ok(out)
+}
+
+#[test]
+fn each_two_operators_bind_by_their_levels(rt: HostRuntime) -> Result<(), Fail> {
+    let alloc = rt.alloc();
+    for (first, first_name, first_level) in OPERATORS {
+        for (second, second_name, second_level) in OPERATORS {
+            let front = joined(alloc, b"module m; assign x = a ", first, b" b ")?;
+            let text = joined(alloc, &front, second, b" c; endmodule")?;
+            let want = pair_tree(
+                alloc,
+                (*first_name, *first_level),
+                (*second_name, *second_level),
+            )?;
+            let got = read(alloc, &text)?;
+            assert_eq!(rt; got.as_slice(), want.as_slice());
+        }
+    }
     Ok(())
 }
 

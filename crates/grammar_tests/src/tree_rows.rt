@@ -1,5 +1,5 @@
-// Texts and the trees that they are read as, worked out by hand: each alternative of the grammar once, and operators
-// of neighbouring precedence both ways round.
+// Texts and the trees that they are read as, worked out by hand: each alternative of the grammar once, and the operators
+// with their levels.
 
 /// `assign x = TEXT ;` in a module.
 pub const EXPRESSIONS: &[(&[u8], &[u8])] = &[
@@ -36,11 +36,14 @@ pub const EXPRESSIONS: &[(&[u8], &[u8])] = &[
     (b"& & a", b"(& (& a))"),
     (b"a & &b", b"(& a (& b))"),
     (b"-a - -b", b"(- (- a) (- b))"),
+    (b"-a * b", b"(* (- a) b)"),
+    (b"a * -b", b"(* a (- b))"),
     (b"~a[0] + b", b"(+ (~ (bit a 0)) b)"),
     (b"a ? b : c", b"(? a b c)"),
     (b"a ? b : c ? d : e", b"(? a b (? c d e))"),
     (b"a ? b ? c : d : e", b"(? a (? b c d) e)"),
     (b"a || b ? c + d : e", b"(? (|| a b) (+ c d) e)"),
+    (b"a ? b : c || d", b"(? a b (|| c d))"),
     (b"a - b - c", b"(- (- a b) c)"),
     (b"a - (b - c)", b"(- a (par (- b c)))"),
     (b"a * b / c % d", b"(% (/ (* a b) c) d)"),
@@ -69,6 +72,33 @@ pub const EXPRESSIONS: &[(&[u8], &[u8])] = &[
     (b"a && b || c", b"(|| (&& a b) c)"),
     (b"a || b && c", b"(|| a (&& b c))"),
     (b"a || b || c", b"(|| (|| a b) c)"),
+];
+
+/// The operators between two operands: each with its name in a tree and its level. What binds tighter has the higher
+/// level, and operators of one level associate to the left.
+pub const OPERATORS: &[(&[u8], &[u8], u32)] = &[
+    (b"*", b"*", 10),
+    (b"/", b"/", 10),
+    (b"%", b"%", 10),
+    (b"+", b"+", 9),
+    (b"-", b"-", 9),
+    (b"<<", b"<<", 8),
+    (b">>", b">>", 8),
+    (b"<<<", b"<<<", 8),
+    (b">>>", b">>>", 8),
+    (b"<", b"<", 7),
+    (b"<=", b"<=", 7),
+    (b">", b">", 7),
+    (b">=", b">=", 7),
+    (b"==", b"==", 6),
+    (b"!=", b"!=", 6),
+    (b"&", b"&", 5),
+    (b"^", b"^", 4),
+    (b"^~", b"~^", 4),
+    (b"~^", b"~^", 4),
+    (b"|", b"|", 3),
+    (b"&&", b"&&", 2),
+    (b"||", b"||", 1),
 ];
 
 /// `always @*` and a text, in a module.
