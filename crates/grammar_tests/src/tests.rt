@@ -132,16 +132,61 @@ fn faults_stand_at_their_tokens(rt: HostRuntime) -> Result<(), Fail> {
     Ok(())
 }
 
+// Whether a text of one line is refused with 15 behind its last byte.
+fn ends_too_early(alloc: Global, text: &[u8]) -> Result<bool, NoMemory> {
+    let mut column = Vec::new(alloc);
+    push_decimal(&mut column, text.len() as u64 + 1)?;
+    let want = joined(alloc, b" 15 1 ", &column, b" -")?;
+    let got = read(alloc, text)?;
+    Ok(got.as_slice() == want.as_slice())
+}
+
+// Whether no token has this byte behind its first one.
+fn ends_a_token(byte: u8) -> bool {
+    matches!(
+        byte,
+        b' ' | b'(' | b')' | b'[' | b']' | b'{' | b'}' | b',' | b';'
+    )
+}
+
+// The number of the first row, from 1, of which something is read where it is cut before a blank, a bracket, a comma or
+// a semicolon, and what is left isn't a whole text; 0 where there is none.
+fn first_uncut(alloc: Global, rows: &[(&[u8], &[u8])], head: &[u8]) -> Result<u32, NoMemory> {
+    let mut at = 0u32;
+    for (text, _) in rows {
+        at = at.saturating_add(1);
+        let mut cut = Vec::from_slice(alloc, head)?;
+        for byte in *text {
+            if ends_a_token(*byte) && !cut.ends_with(b"endmodule") {
+                if !ends_too_early(alloc, &cut)? {
+                    return Ok(at);
+                }
+            }
+            cut.push(*byte)?;
+        }
+    }
+    Ok(0)
+}
+
 #[test]
 fn an_end_within_a_construct_is_refused(rt: HostRuntime) -> Result<(), Fail> {
     let alloc = rt.alloc();
     for text in CUT {
-        let mut column = Vec::new(alloc);
-        push_decimal(&mut column, text.len() as u64 + 1)?;
-        let want = joined(alloc, b" 15 1 ", &column, b" -")?;
-        let got = read(alloc, text)?;
-        assert_eq!(rt; got.as_slice(), want.as_slice());
+        assert!(rt; ends_too_early(alloc, text)?);
     }
+    Ok(())
+}
+
+#[test]
+fn a_cut_before_any_token_is_refused(rt: HostRuntime) -> Result<(), Fail> {
+    let alloc = rt.alloc();
+    assert_eq!(rt;
+        first_uncut(alloc, EXPRESSIONS, b"module m; assign x = ")?,
+        0
+    );
+    assert_eq!(rt; first_uncut(alloc, STATEMENTS, b"module m; always @* ")?, 0);
+    assert_eq!(rt; first_uncut(alloc, ITEMS, b"module m; ")?, 0);
+    assert_eq!(rt; first_uncut(alloc, TEXTS, b"")?, 0);
     Ok(())
 }
 
