@@ -173,7 +173,9 @@ pub const ITEMS: &[(&[u8], &[u8])] = &[
         b"(wire signed (range 7 0) (= a 1) b)",
     ),
     (b"reg [1:0] q = 0;", b"(reg (range 1 0) (= q 0))"),
+    (b"reg q, r = 1;", b"(reg q (= r 1))"),
     (b"localparam signed L = 1;", b"(localparam signed (= L 1))"),
+    (b"localparam L = 1, M = L;", b"(localparam (= L 1) (= M L))"),
     (b"genvar i, j;", b"(genvar i j)"),
     (b"assign x = a;", b"(assign (= x a))"),
     (
@@ -190,6 +192,18 @@ pub const ITEMS: &[(&[u8], &[u8])] = &[
     (
         b"always @(posedge c) if (r) q <= 0; else {q, s} <= d;",
         b"(clocked c (else r (= q 0) (= (cat q s) d)))",
+    ),
+    (
+        b"always @(posedge c) begin q <= a; r <= b; end",
+        b"(clocked c (begin (= q a) (= r b)))",
+    ),
+    (
+        b"always @(posedge c) case (s) 1: q <= a; default: ; endcase",
+        b"(clocked c (case s (on 1 (= q a)) (default ;)))",
+    ),
+    (
+        b"always @(posedge c) casez (s) 2'b1?: q <= a; endcase",
+        b"(clocked c (casez s (on (wild 2 2 1) (= q a))))",
     ),
     (b"m u();", b"(inst m (of u -))"),
     (b"m u(a);", b"(inst m (of u a))"),
