@@ -1,7 +1,7 @@
 // What texts are read as and where they are refused, against the tables.
 use crate::fault_rows::{CUT, FAULTS, OUTSIDE, PARTS, WEIGHTS};
 use crate::reading::{places, read, read_from, spelled};
-use crate::tree_rows::{EXPRESSIONS, ITEMS, SPELLINGS, STATEMENTS, TEXTS};
+use crate::tree_rows::{EXPRESSIONS, ITEMS, OPERATORS, SPELLINGS, STATEMENTS, TEXTS};
 use ls_text::{NoMemory, push_decimal};
 use std::alloc::Global;
 use std::test::Fail;
@@ -69,6 +69,48 @@ fn each_alternative_is_read(rt: HostRuntime) -> Result<(), Fail> {
     Ok(())
 }
 
+// The tree of two operators between three operands, each with its level: what binds tighter is inside, and the first
+// where both bind alike.
+fn pair_tree(
+    alloc: Global,
+    first: (&[u8], u32),
+    second: (&[u8], u32),
+) -> Result<Vec<u8>, NoMemory> {
+    let mut out = Vec::from_slice(alloc, b" (module m (assign (= x (")?;
+    if first.1 < second.1 {
+        out.extend_from_slice(first.0)?;
+        out.extend_from_slice(b" a (")?;
+        out.extend_from_slice(second.0)?;
+        out.extend_from_slice(b" b c)")?;
+    } else {
+        out.extend_from_slice(second.0)?;
+        out.extend_from_slice(b" (")?;
+        out.extend_from_slice(first.0)?;
+        out.extend_from_slice(b" a b) c")?;
+    }
+    out.extend_from_slice(b"))))")?;
+    Ok(out)
+}
+
+#[test]
+fn each_two_operators_bind_by_their_levels(rt: HostRuntime) -> Result<(), Fail> {
+    let alloc = rt.alloc();
+    for (first, first_name, first_level) in OPERATORS {
+        for (second, second_name, second_level) in OPERATORS {
+            let front = joined(alloc, b"module m; assign x = a ", first, b" b ")?;
+            let text = joined(alloc, &front, second, b" c; endmodule")?;
+            let want = pair_tree(
+                alloc,
+                (*first_name, *first_level),
+                (*second_name, *second_level),
+            )?;
+            let got = read(alloc, &text)?;
+            assert_eq!(rt; got.as_slice(), want.as_slice());
+        }
+    }
+    Ok(())
+}
+
 #[test]
 fn faults_stand_at_their_tokens(rt: HostRuntime) -> Result<(), Fail> {
     let alloc = rt.alloc();
@@ -90,16 +132,61 @@ fn faults_stand_at_their_tokens(rt: HostRuntime) -> Result<(), Fail> {
     Ok(())
 }
 
+// Whether a text of one line is refused with 15 behind its last byte.
+fn ends_too_early(alloc: Global, text: &[u8]) -> Result<bool, NoMemory> {
+    let mut column = Vec::new(alloc);
+    push_decimal(&mut column, text.len() as u64 + 1)?;
+    let want = joined(alloc, b" 15 1 ", &column, b" -")?;
+    let got = read(alloc, text)?;
+    Ok(got.as_slice() == want.as_slice())
+}
+
+// Whether no token has this byte behind its first one.
+fn ends_a_token(byte: u8) -> bool {
+    matches!(
+        byte,
+        b' ' | b'(' | b')' | b'[' | b']' | b'{' | b'}' | b',' | b';'
+    )
+}
+
+// The number of the first row, from 1, of which something is read where it is cut before a blank, a bracket, a comma or
+// a semicolon, and what is left isn't a whole text; 0 where there is none.
+fn first_uncut(alloc: Global, rows: &[(&[u8], &[u8])], head: &[u8]) -> Result<u32, NoMemory> {
+    let mut at = 0u32;
+    for (text, _) in rows {
+        at = at.saturating_add(1);
+        let mut cut = Vec::from_slice(alloc, head)?;
+        for byte in *text {
+            if ends_a_token(*byte) && !cut.ends_with(b"endmodule") {
+                if !ends_too_early(alloc, &cut)? {
+                    return Ok(at);
+                }
+            }
+            cut.push(*byte)?;
+        }
+    }
+    Ok(0)
+}
+
 #[test]
 fn an_end_within_a_construct_is_refused(rt: HostRuntime) -> Result<(), Fail> {
     let alloc = rt.alloc();
     for text in CUT {
-        let mut column = Vec::new(alloc);
-        push_decimal(&mut column, text.len() as u64 + 1)?;
-        let want = joined(alloc, b" 15 1 ", &column, b" -")?;
-        let got = read(alloc, text)?;
-        assert_eq!(rt; got.as_slice(), want.as_slice());
+        assert!(rt; ends_too_early(alloc, text)?);
     }
+    Ok(())
+}
+
+#[test]
+fn a_cut_before_any_token_is_refused(rt: HostRuntime) -> Result<(), Fail> {
+    let alloc = rt.alloc();
+    assert_eq!(rt;
+        first_uncut(alloc, EXPRESSIONS, b"module m; assign x = ")?,
+        0
+    );
+    assert_eq!(rt; first_uncut(alloc, STATEMENTS, b"module m; always @* ")?, 0);
+    assert_eq!(rt; first_uncut(alloc, ITEMS, b"module m; ")?, 0);
+    assert_eq!(rt; first_uncut(alloc, TEXTS, b"")?, 0);
     Ok(())
 }
 

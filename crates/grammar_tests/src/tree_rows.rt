@@ -1,5 +1,5 @@
-// Texts and the trees that they are read as, worked out by hand: each alternative of the grammar once, and operators
-// of neighbouring precedence both ways round.
+// Texts and the trees that they are read as, worked out by hand: each alternative of the grammar once, and the operators
+// with their levels.
 
 /// `assign x = TEXT ;` in a module.
 pub const EXPRESSIONS: &[(&[u8], &[u8])] = &[
@@ -36,11 +36,14 @@ pub const EXPRESSIONS: &[(&[u8], &[u8])] = &[
     (b"& & a", b"(& (& a))"),
     (b"a & &b", b"(& a (& b))"),
     (b"-a - -b", b"(- (- a) (- b))"),
+    (b"-a * b", b"(* (- a) b)"),
+    (b"a * -b", b"(* a (- b))"),
     (b"~a[0] + b", b"(+ (~ (bit a 0)) b)"),
     (b"a ? b : c", b"(? a b c)"),
     (b"a ? b : c ? d : e", b"(? a b (? c d e))"),
     (b"a ? b ? c : d : e", b"(? a (? b c d) e)"),
     (b"a || b ? c + d : e", b"(? (|| a b) (+ c d) e)"),
+    (b"a ? b : c || d", b"(? a b (|| c d))"),
     (b"a - b - c", b"(- (- a b) c)"),
     (b"a - (b - c)", b"(- a (par (- b c)))"),
     (b"a * b / c % d", b"(% (/ (* a b) c) d)"),
@@ -69,6 +72,33 @@ pub const EXPRESSIONS: &[(&[u8], &[u8])] = &[
     (b"a && b || c", b"(|| (&& a b) c)"),
     (b"a || b && c", b"(|| a (&& b c))"),
     (b"a || b || c", b"(|| (|| a b) c)"),
+];
+
+/// The operators between two operands: each with its name in a tree and its level. What binds tighter has the higher
+/// level, and operators of one level associate to the left.
+pub const OPERATORS: &[(&[u8], &[u8], u32)] = &[
+    (b"*", b"*", 10),
+    (b"/", b"/", 10),
+    (b"%", b"%", 10),
+    (b"+", b"+", 9),
+    (b"-", b"-", 9),
+    (b"<<", b"<<", 8),
+    (b">>", b">>", 8),
+    (b"<<<", b"<<<", 8),
+    (b">>>", b">>>", 8),
+    (b"<", b"<", 7),
+    (b"<=", b"<=", 7),
+    (b">", b">", 7),
+    (b">=", b">=", 7),
+    (b"==", b"==", 6),
+    (b"!=", b"!=", 6),
+    (b"&", b"&", 5),
+    (b"^", b"^", 4),
+    (b"^~", b"~^", 4),
+    (b"~^", b"~^", 4),
+    (b"|", b"|", 3),
+    (b"&&", b"&&", 2),
+    (b"||", b"||", 1),
 ];
 
 /// `always @*` and a text, in a module.
@@ -143,7 +173,9 @@ pub const ITEMS: &[(&[u8], &[u8])] = &[
         b"(wire signed (range 7 0) (= a 1) b)",
     ),
     (b"reg [1:0] q = 0;", b"(reg (range 1 0) (= q 0))"),
+    (b"reg q, r = 1;", b"(reg q (= r 1))"),
     (b"localparam signed L = 1;", b"(localparam signed (= L 1))"),
+    (b"localparam L = 1, M = L;", b"(localparam (= L 1) (= M L))"),
     (b"genvar i, j;", b"(genvar i j)"),
     (b"assign x = a;", b"(assign (= x a))"),
     (
@@ -160,6 +192,18 @@ pub const ITEMS: &[(&[u8], &[u8])] = &[
     (
         b"always @(posedge c) if (r) q <= 0; else {q, s} <= d;",
         b"(clocked c (else r (= q 0) (= (cat q s) d)))",
+    ),
+    (
+        b"always @(posedge c) begin q <= a; r <= b; end",
+        b"(clocked c (begin (= q a) (= r b)))",
+    ),
+    (
+        b"always @(posedge c) case (s) 1: q <= a; default: ; endcase",
+        b"(clocked c (case s (on 1 (= q a)) (default ;)))",
+    ),
+    (
+        b"always @(posedge c) casez (s) 2'b1?: q <= a; endcase",
+        b"(clocked c (casez s (on (wild 2 2 1) (= q a))))",
     ),
     (b"m u();", b"(inst m (of u -))"),
     (b"m u(a);", b"(inst m (of u a))"),

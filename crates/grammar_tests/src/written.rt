@@ -1,8 +1,8 @@
 // Trees of expressions and statements as text: nested brackets with a node's name first, and no places.
 use ls_text::{NameId, NoMemory, push_decimal};
 use verilog_ast::{
-    Arm, BinaryOperator, CaseKind, Expression, Label, Number, Pattern, Reference, Statement,
-    Target, UnaryOperator,
+    Arm, BinaryOperator, CaseKind, Expression, Identifier, Label, Number, Pattern, Reference,
+    Statement, Target, UnaryOperator,
 };
 
 // A space and a text.
@@ -32,7 +32,7 @@ pub fn name(out: &mut Vec<u8>, texts: &[Vec<u8>], id: NameId) -> Result<(), NoMe
     }
 }
 
-// A value in decimal, where it has 64 bits; else a `+`.
+// A value in decimal, where it is at most 1,000,000,000; else a `+`.
 fn value(out: &mut Vec<u8>, value: u128) -> Result<(), NoMemory> {
     if value > 1_000_000_000 {
         out.push(b'+')?;
@@ -189,16 +189,33 @@ pub fn target(out: &mut Vec<u8>, texts: &[Vec<u8>], t: &Target) -> Result<(), No
     }
 }
 
+fn case_word(which: CaseKind) -> &'static [u8] {
+    match which {
+        CaseKind::Case => b"case",
+        CaseKind::Casez => b"casez",
+    }
+}
+
+// `(: label)`, where a block has one.
+fn block_label(
+    out: &mut Vec<u8>,
+    texts: &[Vec<u8>],
+    label: &Option<Identifier>,
+) -> Result<(), NoMemory> {
+    let Some(label) = label else {
+        return Ok(());
+    };
+    open(out, b":")?;
+    name(out, texts, label.name)?;
+    close(out)
+}
+
 #[cycle(statements)]
 pub fn statement(out: &mut Vec<u8>, texts: &[Vec<u8>], s: &Statement) -> Result<(), NoMemory> {
     match s {
         Statement::Block(_, label, body) => {
             open(out, b"begin")?;
-            if let Some(label) = label {
-                open(out, b":")?;
-                name(out, texts, label.name)?;
-                close(out)?;
-            }
+            block_label(out, texts, label)?;
             statements(out, texts, body.as_slice())?;
         }
         Statement::If(_, c, yes) => {
@@ -213,14 +230,7 @@ pub fn statement(out: &mut Vec<u8>, texts: &[Vec<u8>], s: &Statement) -> Result<
             statement(out, texts, no.get())?;
         }
         Statement::Case(_, which, x, arms) => {
-            open(
-                out,
-                if *which == CaseKind::Case {
-                    b"case"
-                } else {
-                    b"casez"
-                },
-            )?;
+            open(out, case_word(*which))?;
             expression(out, texts, x.get())?;
             for arm in arms.as_slice() {
                 case_arm(out, texts, arm)?;

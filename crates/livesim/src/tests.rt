@@ -220,7 +220,7 @@ fn texts_are_refused(rt: HostRuntime) -> Result<(), Fail> {
 #[test]
 fn texts_are_preprocessed(rt: HostRuntime) -> Result<(), Fail> {
     let alloc = rt.alloc();
-    let rows: [(&[u8], &[u8]); 12] = [
+    let rows: [(&[u8], &[u8]); 14] = [
         (
             b"`define W 8\n`ifdef W\nmodule top(input clk); reg [7:0] a = `W'h2a; always @(posedge clk) a <= a + `W'h1; endmodule\n`else\nbad\n`endif",
             b"ok edit v=1 built=1 kept=0 from=0\nshow cycle=0 settled v=1\ntop.a 2a\n",
@@ -240,6 +240,14 @@ fn texts_are_preprocessed(rt: HostRuntime) -> Result<(), Fail> {
         (
             b"module top(input clk); wire \"s\";",
             b"refused 13 BadToken a.v:1:29 -\nrefused 62 NoDesign @8 -\n",
+        ),
+        (
+            b"module top(input clk); assign = 1;",
+            b"refused 15 Syntax a.v:1:31 =\nrefused 62 NoDesign @8 -\n",
+        ),
+        (
+            b"module top(input clk); initial x = 0;",
+            b"refused 38 NotInProfile a.v:1:24 initial\nrefused 62 NoDesign @8 -\n",
         ),
         (
             b"`include \"b.v\"",
@@ -276,6 +284,23 @@ fn texts_are_preprocessed(rt: HostRuntime) -> Result<(), Fail> {
         let (_, written) = lived(&rt, alloc, script, Vec::new(alloc), Vec::new(alloc))?;
         assert!(rt; written.as_slice() == want);
     }
+    Ok(())
+}
+
+// The first bracket stands in column 43. The 258th has 257 open before it.
+#[test]
+fn brackets_open_too_deep(rt: HostRuntime) -> Result<(), Fail> {
+    let alloc = rt.alloc();
+    let block: &[u8] = b"edit\ntop top\nclock clk\nfile a.v\n";
+    let text: &[u8] = b"module top(input clk); wire x; assign x = ";
+    let mut script = joined(alloc, &[block, text])?;
+    for _ in 0..300 {
+        script.push(b'(')?;
+    }
+    script.extend_from_slice(b"\n.\nend\nshow\n")?;
+    let want: &[u8] = b"refused 16 NestedTooDeep a.v:1:300 -\nrefused 62 NoDesign @8 -\n";
+    let (_, written) = lived(&rt, alloc, script, Vec::new(alloc), Vec::new(alloc))?;
+    assert!(rt; written.as_slice() == want);
     Ok(())
 }
 

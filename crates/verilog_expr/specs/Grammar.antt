@@ -1,4 +1,4 @@
--- The grammar: what stands for a nonterminal before a token.
+-- The grammar: what stands for a nonterminal before a token. Of IEEE 1364-2005, annex A (A.1 to A.8), it has a part.
 use Rattle.std.specs.Prelude.{ℕ, ◌+◌, List, [], ◌∷◌, Option, Some, None, Bool, true, false}
 use Rattle.verilog_lex.specs.declared.kind.Kind.{Kind}
 use Rattle.verilog_lex.specs.declared.kind.Kind.TheVariants as k

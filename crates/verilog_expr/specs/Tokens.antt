@@ -84,7 +84,7 @@ binary_operator k.LogicalAnd = Some b.LogicalAnd
 binary_operator k.LogicalOr = Some b.LogicalOr
 binary_operator _ = None
 
--- what binds tighter has the higher level
+-- what binds tighter has the higher level (IEEE 1364-2005, clause 5.1.2)
 abbrev pub level : BinaryOperator → ℕ
 level b.Multiply = 9
 level b.Divide = 9

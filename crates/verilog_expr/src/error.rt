@@ -6,9 +6,12 @@ use crate::fault::ParseFault;
 use no_memory::NoMemory;
 use std::alloc::{AllocError, AllocFailed};
 
+/// Why nothing was read.
 #[derive(Debug, Drop)]
 pub enum ParseError {
+    /// Memory ran out.
     NoMemory,
+    /// The grammar's machine refuses the tokens.
     Fault(ParseFault),
 }
 

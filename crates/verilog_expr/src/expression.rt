@@ -21,6 +21,12 @@ use verilog_lex::Kind;
 
 impl<'a> Parser<'a> {
     /// What follows a name: a select, or nothing.
+    ///
+    /// `weight` is what is open at the next token: unary operators, brackets, branches of `?:`, statements and generate
+    /// blocks, and in each open expression the binary operators that were read. It is below 2^31.
+    ///
+    /// Faults: 38 NotInProfile at a dot behind the name or behind the select, 15 Syntax or 38 at the first other token where
+    /// the grammar has no rule, 16 NestedTooDeep at the first token whose weight is above 256; the earlier.
     #[cycle(expression)]
     pub fn select(&mut self, name: Identifier, weight: u32) -> Result<Reference, ParseError>
         requires { weight < 2 ^ 31 }
@@ -85,7 +91,11 @@ impl<'a> Parser<'a> {
         Ok(Reference::Bit(name, first))
     }
 
-    /// An expression, whatever is open at its first token.
+    /// An expression, whatever is open at its first token: `weight`, counted as in `expression`, may be any number.
+    ///
+    /// Faults: 15 Syntax or 38 NotInProfile at the first token where the grammar has no rule, 16 NestedTooDeep at the first
+    /// token whose weight is above 256; the earlier.
+    /// Where `weight` is above 256 that is the next token: 16 where it begins an expression, else 15 or 38.
     #[tactic(auto, using(crate::proofs::Runs::runs, crate::proofs::Weights::weights))]
     pub fn expression_at(&mut self, weight: u32) -> Result<Expression, ParseError>
         ensures machine { Reads (N grammar.AnExpression weight ∷ []) self.old result self.new }
@@ -101,7 +111,13 @@ impl<'a> Parser<'a> {
         self.expression(weight)
     }
 
-    /// An expression.
+    /// The longest expression.
+    ///
+    /// `weight` is what is open at the next token: unary operators, brackets, branches of `?:`, statements and generate
+    /// blocks, and in each open expression the binary operators that were read. It is below 2^31.
+    ///
+    /// Faults: 15 Syntax or 38 NotInProfile at the first token where the grammar has no rule, 16 NestedTooDeep at the first
+    /// token whose weight is above 256; the earlier.
     #[cycle(expression)]
     pub fn expression(&mut self, weight: u32) -> Result<Expression, ParseError>
         requires { weight < 2 ^ 31 }
@@ -232,6 +248,11 @@ impl<'a> Parser<'a> {
     }
 
     /// `[high:low]`
+    ///
+    /// `weight`, counted as in `expression`, is below 2^31.
+    ///
+    /// Faults: 15 Syntax or 38 NotInProfile at the first token where the grammar has no rule, 16 NestedTooDeep at the first
+    /// token whose weight is above 256; the earlier.
     pub fn range(&mut self, weight: u32) -> Result<Range, ParseError>
         requires { weight < 2 ^ 31 }
         ensures machine { Reads (N grammar.ARange weight ∷ []) self.old result self.new }

@@ -107,7 +107,7 @@ impl<'a> Parser<'a> {
         self.rest
     }
 
-    /// The place of the next token.
+    /// The place of the next token; line 1, column 1 of file 0 where none is left.
     pub fn place(&self) -> Place
         ensures { result ≡ tokens.place_at self.now }
     {

@@ -1,4 +1,4 @@
--- A whole text: what the grammar has of it.
+-- A whole text: what the grammar has of it (IEEE 1364-2005, annex A.1.2).
 use Rattle.std.specs.Prelude.{◌≡◌, ◌≢◌, ℕ, List, [], ◌∷◌, ◌++◌, Ok}
 use Rattle.verilog_lex.specs.declared.token.Token.{Token}
 use Rattle.verilog_lex.specs.declared.kind.Kind.TheVariants as k

@@ -1,4 +1,4 @@
--- Which item of a generate block stands for which tokens.
+-- Which item of a generate block stands for which tokens (IEEE 1364-2005, clause 12.4).
 use Rattle.std.specs.Prelude.{◌≡◌, ◌≢◌, List, [], ◌∷◌, true, false, Some, None}
 use Rattle.ls_text.specs.declared.place.Place.{Place}
 use Rattle.verilog_lex.specs.declared.token.Token.{Token}

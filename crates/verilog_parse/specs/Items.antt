@@ -1,4 +1,5 @@
--- Which declaration, connection or plain item stands for which tokens.
+-- Which declaration, connection or plain item stands for which tokens (IEEE 1364-2005: declarations clause 4, continuous
+-- assignments 6.1, instances 12.1.2, events 9.7).
 use Rattle.std.specs.Prelude.{◌≡◌, ◌≢◌, List, [], ◌∷◌, Bool, true, false, Option, Some, None}
 use Rattle.ls_text.specs.declared.place.Place.{Place}
 use Rattle.verilog_lex.specs.declared.token.Token.{Token}

@@ -1,4 +1,4 @@
--- Which module stands for which tokens.
+-- Which module stands for which tokens (IEEE 1364-2005, modules clause 12.1, ports 12.3).
 use Rattle.std.specs.Prelude.{◌≡◌, ◌≢◌, List, [], ◌∷◌, true, false, Some, None}
 use Rattle.verilog_lex.specs.declared.token.Token.{Token}
 use Rattle.verilog_lex.specs.declared.kind.Kind.TheVariants as k

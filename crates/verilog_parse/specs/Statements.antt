@@ -1,4 +1,4 @@
--- Which statement stands for which tokens.
+-- Which statement stands for which tokens (IEEE 1364-2005, clause 9; a `case` 9.5).
 use Rattle.std.specs.Prelude.{◌≡◌, ◌≢◌, List, [], ◌∷◌, true, false, Option, Some, None}
 use Rattle.ls_text.specs.declared.place.Place.{Place}
 use Rattle.verilog_lex.specs.declared.token.Token.{Token}
@@ -73,6 +73,7 @@ pub data Spells : Phrase → List Token → List Token → Type 0 where
       → Spells (Statements g (x ∷ xs)) s r
   branch : {g : Sign} {at : Place} {x : Expression} {y z : Statement} {s a b c d r : List Token} {t u : Token} → Takes k.LeftParen s a t → expressions.Spells (expressions.AnExpression x) a b → Takes k.RightParen b c u
       → Spells (AStatement g y) c d → Spells (Alternative g at x y z) d r → Spells (AnIf g at z) s r
+  -- an `else` belongs to the nearest `if` (clause 9.4)
   if_alone : {g : Sign} {at : Place} {x : Expression} {y : Statement} {s : List Token} → next s ≢ k.Else → Spells (Alternative g at x y (statement.If at x y)) s s
   if_else : {g : Sign} {at : Place} {x : Expression} {y z : Statement} {s a r : List Token} {t : Token} → Takes k.Else s a t → Spells (AStatement g z) a r → Spells (Alternative g at x y (statement.IfElse at x y z)) s r
   choice : {g : Sign} {which : CaseKind} {at : Place} {x : Expression} {y : Arm} {ys : List Arm} {s a b c d f r : List Token} {t u v : Token} → Takes k.LeftParen s a t → expressions.Spells (expressions.AnExpression x) a b

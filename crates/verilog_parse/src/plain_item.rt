@@ -2,7 +2,7 @@
 #![tactic(auto, using(verilog_expr::proofs::Runs::runs, verilog_expr::proofs::Runs::loops, verilog_expr::proofs::Entries::plain_entries, crate::proofs::ItemTrees::item_trees))]
 
 ghost use Rattle.std.specs.Prelude.{◌≡◌, ◌≤◌, ◌<◌, ◌+◌, ◌^◌, [], ◌∷◌, length, OnOk, IfOk};
-ghost use Rattle.verilog_lex.specs.declared.kind.Kind.TheVariants.{Wire, Reg, LocalParam, Semicolon};
+ghost use Rattle.verilog_lex.specs.declared.kind.Kind.TheVariants.{Wire, Reg, LocalParam, Word, Semicolon};
 ghost use Rattle.verilog_expr.specs.Grammar as grammar;
 ghost use Rattle.verilog_expr.specs.Grammar.{N, T};
 ghost use Rattle.verilog_expr.specs.Reads.{Reads};
@@ -57,11 +57,8 @@ pub fn plain_item(p: &mut Parser<'_>, weight: u32) -> Result<PlainItem, ParseErr
             event(p, at, weight)
         }
         Kind::Word => {
-            let module = identifier(p.expect(Kind::Word, weight)?);
-            let overrides = overrides(p, weight)?;
-            let all = instances(p, weight)?;
-            p.expect(Kind::Semicolon, weight)?;
-            Ok(PlainItem::Instances(module, overrides, all))
+            let item = instances_item(p, weight)?;
+            Ok(item)
         }
         _ => Err(p.stuck()),
     }
@@ -107,6 +104,20 @@ fn local_parameter_item(p: &mut Parser<'_>, weight: u32) -> Result<PlainItem, Pa
     let all = parameters(p, weight)?;
     p.expect(Kind::Semicolon, weight)?;
     Ok(PlainItem::LocalParameter(at, shape, all))
+}
+
+// The name of a module and its instances.
+fn instances_item(p: &mut Parser<'_>, weight: u32) -> Result<PlainItem, ParseError>
+    requires { weight < 2 ^ 30 }
+    ensures machine { Reads (T Word weight ∷ N grammar.Overrides weight ∷ N grammar.Instances weight ∷ T Semicolon weight ∷ []) p.old result p.new }
+    ensures tree { IfOk result (λ x. Spells (spells.APlainItem x) p.old p.new) }
+    ensures shorter { OnOk result (length p.new < length p.old) }
+{
+    let module = identifier(p.expect(Kind::Word, weight)?);
+    let overrides = overrides(p, weight)?;
+    let all = instances(p, weight)?;
+    p.expect(Kind::Semicolon, weight)?;
+    Ok(PlainItem::Instances(module, overrides, all))
 }
 
 // What follows `always @`.
