@@ -5,30 +5,30 @@ use Rattle.std.specs.Str.{bytes_eq}
 use Rattle.ls_text.specs.Texts.{text_at}
 use Rattle.verilog_ast.specs.declared.identifier.Identifier.{Identifier}
 use Rattle.verilog_ast.specs.declared.number.Number.{Number}
-use Rattle.verilog_ast.specs.declared.operator.BinaryOperator.{BinaryOperator}
-use Rattle.verilog_ast.specs.declared.operator.BinaryOperator.TheVariants as operator
+use Rattle.verilog_ast.specs.declared.binary_operator.BinaryOperator.{BinaryOperator}
+use Rattle.verilog_ast.specs.declared.binary_operator.BinaryOperator.TheVariants as operator
 use Rattle.verilog_ast.specs.declared.expression.Expression.{Expression, out-Expression}
 use Rattle.verilog_ast.specs.declared.expression.Expression.TheOpen.{Expression-F, Reference-F}
 use Rattle.verilog_ast.specs.declared.expression.Expression.TheFolds.{fold-Expression}
 use Rattle.verilog_ast.specs.declared.expression.Reference.{Reference, out-Reference}
-use Rattle.verilog_ast.specs.declared.declaration.Range.{Range}
-use Rattle.verilog_ast.specs.declared.declaration.Shape.{Shape}
-use Rattle.verilog_ast.specs.declared.declaration.PortNet.TheVariants as net
-use Rattle.verilog_ast.specs.declared.declaration.HeaderPort.{HeaderPort}
-use Rattle.verilog_ast.specs.declared.declaration.HeaderPort.TheVariants as port
-use Rattle.verilog_ast.specs.declared.declaration.Ports.{Ports}
-use Rattle.verilog_ast.specs.declared.declaration.Ports.TheVariants as ports
-use Rattle.verilog_ast.specs.declared.declaration.Variable.{Variable}
+use Rattle.verilog_ast.specs.declared.range.Range.{Range}
+use Rattle.verilog_ast.specs.declared.shape.Shape.{Shape}
+use Rattle.verilog_ast.specs.declared.port_net.PortNet.TheVariants as net
+use Rattle.verilog_ast.specs.declared.header_port.HeaderPort.{HeaderPort}
+use Rattle.verilog_ast.specs.declared.header_port.HeaderPort.TheVariants as port
+use Rattle.verilog_ast.specs.declared.ports.Ports.{Ports}
+use Rattle.verilog_ast.specs.declared.ports.Ports.TheVariants as ports
+use Rattle.verilog_ast.specs.declared.variable.Variable.{Variable}
 use Rattle.verilog_ast.specs.declared.target.Target.{Target, out-Target}
 use Rattle.verilog_ast.specs.declared.target.Target.TheOpen.{Target-F}
 use Rattle.verilog_ast.specs.declared.statement.Statement.{Statement, out-Statement}
 use Rattle.verilog_ast.specs.declared.statement.Arm.{Arm}
 use Rattle.verilog_ast.specs.declared.statement.Arm.TheOpen.{Statement-F}
-use Rattle.verilog_ast.specs.declared.item.PlainItem.{PlainItem}
-use Rattle.verilog_ast.specs.declared.item.PlainItem.TheVariants as plain
-use Rattle.verilog_ast.specs.declared.item.Branch.{Branch}
-use Rattle.verilog_ast.specs.declared.item.GenerateItem.{GenerateItem, out-GenerateItem}
-use Rattle.verilog_ast.specs.declared.item.GenerateItem.TheOpen.{GenerateItem-F}
+use Rattle.verilog_ast.specs.declared.plain_item.PlainItem.{PlainItem}
+use Rattle.verilog_ast.specs.declared.plain_item.PlainItem.TheVariants as plain
+use Rattle.verilog_ast.specs.declared.generate_item.Branch.{Branch}
+use Rattle.verilog_ast.specs.declared.generate_item.GenerateItem.{GenerateItem, out-GenerateItem}
+use Rattle.verilog_ast.specs.declared.generate_item.GenerateItem.TheOpen.{GenerateItem-F}
 use Rattle.verilog_ast.specs.declared.item.Item.{Item}
 use Rattle.verilog_ast.specs.declared.item.Item.TheVariants as item
 use Rattle.verilog_ast.specs.declared.module_body.ModuleBody.{ModuleBody}

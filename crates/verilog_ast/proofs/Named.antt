@@ -4,8 +4,8 @@ use Rattle.ls_text.specs.declared.name_id.NameId.{NameId}
 use Rattle.ls_text.specs.declared.place.Place.{Place}
 use Rattle.verilog_ast.specs.declared.identifier.Identifier.{Identifier}
 use Rattle.verilog_ast.specs.declared.number.Number.{Number}
-use Rattle.verilog_ast.specs.declared.operator.UnaryOperator.{UnaryOperator}
-use Rattle.verilog_ast.specs.declared.operator.BinaryOperator.{BinaryOperator}
+use Rattle.verilog_ast.specs.declared.unary_operator.UnaryOperator.{UnaryOperator}
+use Rattle.verilog_ast.specs.declared.binary_operator.BinaryOperator.{BinaryOperator}
 use Rattle.verilog_ast.specs.declared.expression.Expression.{Expression}
 use Rattle.verilog_ast.specs.declared.expression.Expression.TheOpen.{Expression-F, Reference-F}
 use Rattle.verilog_ast.specs.declared.expression.Expression.TheFolds.{fold-roll-Expression, fold-roll-Reference}
@@ -16,21 +16,21 @@ use Rattle.verilog_ast.specs.declared.target.Target.{Target}
 use Rattle.verilog_ast.specs.declared.target.Target.TheOpen.{Target-F}
 use Rattle.verilog_ast.specs.declared.target.Target.TheFolds.{fold-roll-Target}
 use Rattle.verilog_ast.specs.declared.target.Target.TheVariants as t
-use Rattle.verilog_ast.specs.declared.statement.CaseKind.{CaseKind}
-use Rattle.verilog_ast.specs.declared.statement.Label.{Label}
+use Rattle.verilog_ast.specs.declared.case_kind.CaseKind.{CaseKind}
+use Rattle.verilog_ast.specs.declared.label.Label.{Label}
 use Rattle.verilog_ast.specs.declared.statement.Statement.{Statement}
 use Rattle.verilog_ast.specs.declared.statement.Statement.TheVariants as s
 use Rattle.verilog_ast.specs.declared.statement.Arm.{Arm}
 use Rattle.verilog_ast.specs.declared.statement.Arm.TheVariants as a
 use Rattle.verilog_ast.specs.declared.statement.Arm.TheOpen.{Statement-F, Arm-F}
 use Rattle.verilog_ast.specs.declared.statement.Arm.TheFolds.{fold-roll-Statement, fold-roll-Arm}
-use Rattle.verilog_ast.specs.declared.item.Loop.{Loop}
-use Rattle.verilog_ast.specs.declared.item.PlainItem.{PlainItem}
-use Rattle.verilog_ast.specs.declared.item.Branch.{Branch}
-use Rattle.verilog_ast.specs.declared.item.GenerateItem.{GenerateItem}
-use Rattle.verilog_ast.specs.declared.item.GenerateItem.TheVariants as g
-use Rattle.verilog_ast.specs.declared.item.GenerateItem.TheOpen.{GenerateItem-F}
-use Rattle.verilog_ast.specs.declared.item.GenerateItem.TheFolds.{fold-roll-GenerateItem, fold_out-Branch}
+use Rattle.verilog_ast.specs.declared.generate_loop.Loop.{Loop}
+use Rattle.verilog_ast.specs.declared.plain_item.PlainItem.{PlainItem}
+use Rattle.verilog_ast.specs.declared.generate_item.Branch.{Branch}
+use Rattle.verilog_ast.specs.declared.generate_item.GenerateItem.{GenerateItem}
+use Rattle.verilog_ast.specs.declared.generate_item.GenerateItem.TheVariants as g
+use Rattle.verilog_ast.specs.declared.generate_item.GenerateItem.TheOpen.{GenerateItem-F}
+use Rattle.verilog_ast.specs.declared.generate_item.GenerateItem.TheFolds.{fold-roll-GenerateItem, fold_out-Branch}
 use Rattle.verilog_ast.specs.Names as n
 use Rattle.verilog_ast.specs.Names.{joined, names_of_expression, names_of_reference, names_of_target, names_of_label, names_of_optional_label, names_of_statement, names_of_arm, names_of_option, names_of_plain_item, names_of_loop, names_of_generate_item, names_of_branch}
 

@@ -10,11 +10,11 @@ use Rattle.verilog_ast.specs.declared.target.Target.TheOpen.{Target-F}
 use Rattle.verilog_ast.specs.declared.statement.Statement.{Statement, out-Statement}
 use Rattle.verilog_ast.specs.declared.statement.Arm.{Arm}
 use Rattle.verilog_ast.specs.declared.statement.Arm.TheOpen.{Statement-F}
-use Rattle.verilog_ast.specs.declared.item.PlainItem.{PlainItem}
-use Rattle.verilog_ast.specs.declared.item.PlainItem.TheVariants as plain
-use Rattle.verilog_ast.specs.declared.item.Branch.{Branch}
-use Rattle.verilog_ast.specs.declared.item.GenerateItem.{GenerateItem, out-GenerateItem}
-use Rattle.verilog_ast.specs.declared.item.GenerateItem.TheOpen.{GenerateItem-F}
+use Rattle.verilog_ast.specs.declared.plain_item.PlainItem.{PlainItem}
+use Rattle.verilog_ast.specs.declared.plain_item.PlainItem.TheVariants as plain
+use Rattle.verilog_ast.specs.declared.generate_item.Branch.{Branch}
+use Rattle.verilog_ast.specs.declared.generate_item.GenerateItem.{GenerateItem, out-GenerateItem}
+use Rattle.verilog_ast.specs.declared.generate_item.GenerateItem.TheOpen.{GenerateItem-F}
 use Rattle.verilog_ast.specs.declared.item.Item.{Item}
 use Rattle.verilog_ast.specs.declared.item.Item.TheVariants as item
 

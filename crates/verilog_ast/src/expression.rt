@@ -4,7 +4,8 @@ ghost use Rattle.verilog_ast.specs.Places.{place_of_expression, place_of_referen
 
 use crate::identifier::Identifier;
 use crate::number::Number;
-use crate::operator::{BinaryOperator, UnaryOperator};
+use crate::binary_operator::BinaryOperator;
+use crate::unary_operator::UnaryOperator;
 use ls_text::Place;
 use sqlite_items::{Boxed, Items};
 

@@ -1,28 +1,64 @@
 // The tree of a Verilog text: modules, items, statements, targets and expressions, each with its place.
 #![tactic(auto)]
 
-mod connection;
-mod declaration;
+mod binary_operator;
+mod case_kind;
+mod connections;
+mod continuous;
 mod expression;
+mod generate_item;
+mod generate_loop;
+mod header_parameter;
+mod header_port;
 mod identifier;
+mod instance;
 mod item;
+mod label;
 mod module;
 mod module_body;
+mod named_connection;
 mod number;
-mod operator;
+mod ordered_connection;
+mod parameter;
+mod pattern;
+mod plain_item;
+mod port_net;
+mod ports;
+mod range;
+mod shape;
+mod sign;
 mod statement;
 mod target;
+mod unary_operator;
+mod variable;
 
-pub use connection::{Connections, Instance, NamedConnection, OrderedConnection};
-pub use declaration::{
-    HeaderParameter, HeaderPort, Parameter, PortNet, Ports, Range, Shape, Variable,
-};
+pub use binary_operator::BinaryOperator;
+pub use case_kind::CaseKind;
+pub use connections::Connections;
+pub use continuous::Continuous;
 pub use expression::{Expression, Reference};
+pub use generate_item::{Branch, GenerateItem};
+pub use generate_loop::Loop;
+pub use header_parameter::HeaderParameter;
+pub use header_port::HeaderPort;
 pub use identifier::Identifier;
-pub use item::{Branch, Continuous, GenerateItem, Item, Loop, PlainItem};
+pub use instance::Instance;
+pub use item::Item;
+pub use label::Label;
 pub use module::Module;
 pub use module_body::ModuleBody;
-pub use number::{Number, Pattern};
-pub use operator::{BinaryOperator, UnaryOperator};
-pub use statement::{Arm, CaseKind, Label, Sign, Statement};
+pub use named_connection::NamedConnection;
+pub use number::Number;
+pub use ordered_connection::OrderedConnection;
+pub use parameter::Parameter;
+pub use pattern::Pattern;
+pub use plain_item::PlainItem;
+pub use port_net::PortNet;
+pub use ports::Ports;
+pub use range::Range;
+pub use shape::Shape;
+pub use sign::Sign;
+pub use statement::{Arm, Statement};
 pub use target::Target;
+pub use unary_operator::UnaryOperator;
+pub use variable::Variable;

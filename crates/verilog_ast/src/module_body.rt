@@ -1,5 +1,6 @@
 // What stands in a module.
-use crate::declaration::{HeaderParameter, Ports};
+use crate::header_parameter::HeaderParameter;
+use crate::ports::Ports;
 use crate::identifier::Identifier;
 use crate::item::Item;
 use sqlite_items::Items;

@@ -2,28 +2,13 @@
 ghost use Rattle.std.specs.Prelude.{◌≡◌};
 ghost use Rattle.verilog_ast.specs.Places.{place_of_statement};
 
+use crate::case_kind::CaseKind;
 use crate::expression::Expression;
 use crate::identifier::Identifier;
-use crate::number::Pattern;
+use crate::label::Label;
 use crate::target::Target;
 use ls_text::Place;
 use sqlite_items::{Boxed, Items};
-
-/// Which assignments the statements of a block have.
-#[derive(Clone, Copy, Debug, PartialEq, Eq)]
-pub enum Sign {
-    /// `=`, in a combinational block
-    Blocking,
-    /// `<=`, in a clocked block
-    Nonblocking,
-}
-
-/// Which kind of `case` a statement is.
-#[derive(Clone, Copy, Debug, PartialEq, Eq)]
-pub enum CaseKind {
-    Case,
-    Casez,
-}
 
 /// A statement, at its first token.
 #[cycle(statement)]
@@ -45,14 +30,6 @@ pub enum Statement {
 pub enum Arm {
     Default(Place, Boxed<Statement>),
     Match(Items<Label>, Boxed<Statement>),
-}
-
-/// What an item of a `case` is compared with.
-#[derive(Drop)]
-pub enum Label {
-    /// A literal with don't-cares, in a `casez` alone.
-    Pattern(Place, Pattern),
-    Expression(Boxed<Expression>),
 }
 
 impl Statement {

@@ -3,8 +3,8 @@ use Rattle.std.proofs.Common.{◌≡◌, ◌+◌, ℕ, List, [], ◌∷◌, ◌+
 use Rattle.std.proofs.lemmas.Bool.{cases_lt}
 use Rattle.verilog_lex.specs.declared.kind.Kind.{Kind}
 use Rattle.verilog_lex.specs.declared.token.Token.{Token}
-use Rattle.verilog_ast.specs.declared.operator.UnaryOperator.{UnaryOperator}
-use Rattle.verilog_ast.specs.declared.operator.BinaryOperator.{BinaryOperator}
+use Rattle.verilog_ast.specs.declared.unary_operator.UnaryOperator.{UnaryOperator}
+use Rattle.verilog_ast.specs.declared.binary_operator.BinaryOperator.{BinaryOperator}
 use Rattle.verilog_expr.specs.declared.fault.ParseFault.TheVariants.{Heavy}
 use Rattle.verilog_expr.specs.Tokens.{next, Differs, Takes, taken, unary_operator, binary_operator, max_weight}
 use Rattle.verilog_expr.specs.Grammar.{Nonterminal, Symbol, T, N, Operand, Tail, ASelect, Part, Braced, More, tail_at, operand_at, entry}

@@ -4,8 +4,8 @@ use Rattle.verilog_lex.specs.declared.token.Token.{Token}
 use Rattle.verilog_lex.specs.declared.kind.Kind.{Kind}
 use Rattle.verilog_lex.specs.declared.kind.Kind.TheVariants as k
 use Rattle.verilog_lex.specs.Ends.{EndsOnce}
-use Rattle.verilog_ast.specs.declared.operator.UnaryOperator.{UnaryOperator}
-use Rattle.verilog_ast.specs.declared.operator.BinaryOperator.{BinaryOperator}
+use Rattle.verilog_ast.specs.declared.unary_operator.UnaryOperator.{UnaryOperator}
+use Rattle.verilog_ast.specs.declared.binary_operator.BinaryOperator.{BinaryOperator}
 use Rattle.verilog_expr.specs.Tokens.{Takes, taken, unary_operator, binary_operator}
 use Rattle.verilog_expr.specs.Spells.{Phrase, Spells, plain, conditional, one, binary, number, unary, read, bracketed, braced, concatenation, replication, behind, no_other, another, whole, select, bit, part, upward, downward, range}
 

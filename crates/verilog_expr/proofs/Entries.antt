@@ -6,10 +6,10 @@ use Rattle.verilog_expr.specs.Tokens.{unary_operator, binary_operator}
 use Rattle.verilog_expr.specs.Grammar as g
 use Rattle.verilog_expr.specs.Grammar.{entry, T, N, where_begun}
 use Rattle.verilog_expr.proofs.Runs.{Refuses, RefusesOutside}
-use Rattle.verilog_ast.specs.declared.statement.Sign.{Sign}
-use Rattle.verilog_ast.specs.declared.statement.Sign.TheVariants.{Blocking, Nonblocking}
-use Rattle.verilog_ast.specs.declared.statement.CaseKind.{CaseKind}
-use Rattle.verilog_ast.specs.declared.statement.CaseKind.TheVariants.{Casez}
+use Rattle.verilog_ast.specs.declared.sign.Sign.{Sign}
+use Rattle.verilog_ast.specs.declared.sign.Sign.TheVariants.{Blocking, Nonblocking}
+use Rattle.verilog_ast.specs.declared.case_kind.CaseKind.{CaseKind}
+use Rattle.verilog_ast.specs.declared.case_kind.CaseKind.TheVariants.{Casez}
 
 -- ---- expressions
 

@@ -3,7 +3,7 @@ use Rattle.std.proofs.Common.{◌≡◌, ◌+◌, ℕ, length, List, [], ◌∷�
 use Rattle.std.specs.Prelude.{IsErrAnd}
 use Rattle.std.proofs.lemmas.Result.{err_from_is_err_and}
 use Rattle.verilog_lex.specs.declared.kind.Kind.{Kind}
-use Rattle.verilog_ast.specs.declared.operator.BinaryOperator.{BinaryOperator}
+use Rattle.verilog_ast.specs.declared.binary_operator.BinaryOperator.{BinaryOperator}
 use Rattle.verilog_lex.specs.declared.token.Token.{Token}
 use Rattle.verilog_expr.specs.declared.fault.ParseFault.{ParseFault}
 use Rattle.verilog_expr.specs.declared.fault.ParseFault.TheVariants.{Stuck}
@@ -12,8 +12,8 @@ use Rattle.verilog_expr.specs.declared.error.ParseError.TheVariants as errors
 use Rattle.verilog_expr.specs.Tokens.{next, Differs, binary_operator, unary_operator}
 use Rattle.verilog_expr.specs.Grammar.{Nonterminal, Symbol, T, N, Operand, Tail, tail_at, operand_at, entry, is_outside, is_outside_at}
 use Rattle.verilog_expr.specs.Machine.{Outcome, Run, ends, takes, heavy, differs, expands, refuses, stop, stop_at}
-use Rattle.verilog_expr.specs.declared.fault.Stop.TheVariants.{NotInProfile}
-use Rattle.verilog_ast.specs.declared.operator.UnaryOperator.{UnaryOperator}
+use Rattle.verilog_expr.specs.declared.stop.Stop.TheVariants.{NotInProfile}
+use Rattle.verilog_ast.specs.declared.unary_operator.UnaryOperator.{UnaryOperator}
 use Rattle.verilog_expr.specs.Reads.{Fails, no_memory, at_fault, Reads, ReadsChain, Leads}
 
 -- what a run leaves is where the next begins

@@ -6,7 +6,7 @@ use Rattle.verilog_lex.specs.declared.kind.Kind.{Kind}
 use Rattle.verilog_lex.specs.declared.kind.Kind.TheVariants as k
 use Rattle.verilog_ast.specs.declared.expression.Expression.{Expression}
 use Rattle.verilog_ast.specs.declared.expression.Expression.TheVariants as e
-use Rattle.verilog_ast.specs.declared.operator.BinaryOperator.{BinaryOperator}
+use Rattle.verilog_ast.specs.declared.binary_operator.BinaryOperator.{BinaryOperator}
 use Rattle.verilog_expr.specs.Tokens.{level, binary_operator, next, Takes}
 use Rattle.verilog_expr.specs.Spells.{Spells, AnExpression, AChain, Others, Behind, plain, conditional, one, binary, number, unary, read, bracketed, braced, concatenation, replication, behind, no_other, another, whole, select, bit, part, upward, downward, range, IsLooser}
 

@@ -3,7 +3,7 @@ use Rattle.std.proofs.Common.{◌≡◌, ◌<◌, ◌+◌, ℕ, length, List, []
 use Rattle.verilog_lex.specs.declared.kind.Kind.{Kind}
 use Rattle.verilog_lex.specs.declared.kind.Kind.TheVariants as k
 use Rattle.verilog_lex.specs.declared.token.Token.{Token}
-use Rattle.verilog_ast.specs.declared.operator.UnaryOperator.{UnaryOperator}
+use Rattle.verilog_ast.specs.declared.unary_operator.UnaryOperator.{UnaryOperator}
 use Rattle.verilog_expr.specs.declared.fault.ParseFault.TheVariants.{Stuck, Heavy}
 use Rattle.verilog_expr.specs.declared.error.ParseError.{ParseError}
 use Rattle.verilog_expr.specs.declared.error.ParseError.TheVariants as errors

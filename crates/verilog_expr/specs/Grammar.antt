@@ -2,12 +2,12 @@
 use Rattle.std.specs.Prelude.{ℕ, ◌+◌, List, [], ◌∷◌, Option, Some, None, Bool, true, false}
 use Rattle.verilog_lex.specs.declared.kind.Kind.{Kind}
 use Rattle.verilog_lex.specs.declared.kind.Kind.TheVariants as k
-use Rattle.verilog_ast.specs.declared.operator.UnaryOperator.{UnaryOperator}
-use Rattle.verilog_ast.specs.declared.operator.BinaryOperator.{BinaryOperator}
-use Rattle.verilog_ast.specs.declared.statement.Sign.{Sign}
-use Rattle.verilog_ast.specs.declared.statement.Sign.TheVariants.{Blocking, Nonblocking}
-use Rattle.verilog_ast.specs.declared.statement.CaseKind.{CaseKind}
-use Rattle.verilog_ast.specs.declared.statement.CaseKind.TheVariants.{Case, Casez}
+use Rattle.verilog_ast.specs.declared.unary_operator.UnaryOperator.{UnaryOperator}
+use Rattle.verilog_ast.specs.declared.binary_operator.BinaryOperator.{BinaryOperator}
+use Rattle.verilog_ast.specs.declared.sign.Sign.{Sign}
+use Rattle.verilog_ast.specs.declared.sign.Sign.TheVariants.{Blocking, Nonblocking}
+use Rattle.verilog_ast.specs.declared.case_kind.CaseKind.{CaseKind}
+use Rattle.verilog_ast.specs.declared.case_kind.CaseKind.TheVariants.{Case, Casez}
 use Rattle.verilog_expr.specs.Tokens.{unary_operator, binary_operator}
 
 pub data Nonterminal : Type 0 where

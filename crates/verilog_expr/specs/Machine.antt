@@ -4,8 +4,8 @@ use Rattle.verilog_lex.specs.declared.token.Token.{Token}
 use Rattle.verilog_lex.specs.declared.kind.Kind.{Kind}
 use Rattle.verilog_expr.specs.declared.fault.ParseFault.{ParseFault}
 use Rattle.verilog_expr.specs.declared.fault.ParseFault.TheVariants.{Stuck, Heavy}
-use Rattle.verilog_expr.specs.declared.fault.Stop.{Stop}
-use Rattle.verilog_expr.specs.declared.fault.Stop.TheVariants.{Syntax, NotInProfile}
+use Rattle.verilog_expr.specs.declared.stop.Stop.{Stop}
+use Rattle.verilog_expr.specs.declared.stop.Stop.TheVariants.{Syntax, NotInProfile}
 use Rattle.verilog_expr.specs.Tokens.{next, Differs, max_weight}
 use Rattle.verilog_expr.specs.Grammar.{Nonterminal, Symbol, T, N, entry, is_outside, is_outside_at}
 

@@ -9,7 +9,7 @@ use Rattle.ls_text.specs.declared.refusal.Refusal.TheVariants as refusal
 use Rattle.verilog_lex.specs.declared.token.Token.{Token}
 use Rattle.verilog_expr.specs.declared.fault.ParseFault.{ParseFault}
 use Rattle.verilog_expr.specs.declared.fault.ParseFault.TheVariants.{Stuck, Heavy}
-use Rattle.verilog_expr.specs.declared.fault.Stop.TheVariants.{Syntax, NotInProfile}
+use Rattle.verilog_expr.specs.declared.stop.Stop.TheVariants.{Syntax, NotInProfile}
 use Rattle.verilog_expr.specs.Grammar.{Symbol}
 use Rattle.verilog_expr.specs.Machine.{Run}
 

@@ -5,13 +5,13 @@ use Rattle.verilog_lex.specs.declared.token.Token.{Token}
 use Rattle.verilog_lex.specs.declared.kind.Kind.{Kind}
 use Rattle.verilog_lex.specs.declared.kind.Kind.TheVariants as k
 use Rattle.verilog_ast.specs.declared.identifier.Identifier.{Identifier}
-use Rattle.verilog_ast.specs.declared.operator.UnaryOperator.{UnaryOperator}
-use Rattle.verilog_ast.specs.declared.operator.BinaryOperator.{BinaryOperator}
+use Rattle.verilog_ast.specs.declared.unary_operator.UnaryOperator.{UnaryOperator}
+use Rattle.verilog_ast.specs.declared.binary_operator.BinaryOperator.{BinaryOperator}
 use Rattle.verilog_ast.specs.declared.expression.Expression.{Expression}
 use Rattle.verilog_ast.specs.declared.expression.Expression.TheVariants as e
 use Rattle.verilog_ast.specs.declared.expression.Reference.{Reference}
 use Rattle.verilog_ast.specs.declared.expression.Reference.TheVariants as ref
-use Rattle.verilog_ast.specs.declared.declaration.Range.{Range}
+use Rattle.verilog_ast.specs.declared.range.Range.{Range}
 use Rattle.verilog_expr.specs.Tokens.{next, Takes, identifier_of, number_of, unary_operator, binary_operator, level}
 
 pub data Phrase : Type 0 where

@@ -6,11 +6,11 @@ use Rattle.verilog_lex.specs.declared.kind.Kind.{Kind}
 use Rattle.verilog_lex.specs.declared.kind.Kind.TheVariants as k
 use Rattle.verilog_ast.specs.declared.identifier.Identifier.{Identifier}
 use Rattle.verilog_ast.specs.declared.number.Number.{Number}
-use Rattle.verilog_ast.specs.declared.number.Pattern.{Pattern}
-use Rattle.verilog_ast.specs.declared.operator.UnaryOperator.{UnaryOperator}
-use Rattle.verilog_ast.specs.declared.operator.UnaryOperator.TheVariants as u
-use Rattle.verilog_ast.specs.declared.operator.BinaryOperator.{BinaryOperator}
-use Rattle.verilog_ast.specs.declared.operator.BinaryOperator.TheVariants as b
+use Rattle.verilog_ast.specs.declared.pattern.Pattern.{Pattern}
+use Rattle.verilog_ast.specs.declared.unary_operator.UnaryOperator.{UnaryOperator}
+use Rattle.verilog_ast.specs.declared.unary_operator.UnaryOperator.TheVariants as u
+use Rattle.verilog_ast.specs.declared.binary_operator.BinaryOperator.{BinaryOperator}
+use Rattle.verilog_ast.specs.declared.binary_operator.BinaryOperator.TheVariants as b
 
 abbrev pub next : List Token → Kind
 next [] = k.End

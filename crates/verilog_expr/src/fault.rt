@@ -1,13 +1,5 @@
 // What the grammar machine refuses.
-
-/// Why no rule of the grammar goes on.
-#[derive(Clone, Copy, Debug, PartialEq, Eq)]
-pub enum Stop {
-    /// The text is no Verilog of this grammar.
-    Syntax,
-    /// The standard has this form, and this language hasn't.
-    NotInProfile,
-}
+use crate::stop::Stop;
 
 /// What is wrong, and how many tokens are left from the one where it is wrong.
 #[derive(Clone, Copy, Debug, PartialEq, Eq)]

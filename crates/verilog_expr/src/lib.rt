@@ -12,12 +12,14 @@ mod parsed_expr;
 mod parser;
 mod parsing;
 mod showing;
+mod stop;
 
 pub use error::ParseError;
-pub use fault::{ParseFault, Stop};
+pub use fault::ParseFault;
 pub use laws::expressions_are_read_in_one_way;
 pub use leaf::{identifier, number, pattern};
 pub use parsed_expr::ParsedExpr;
 pub use parser::Parser;
 pub use parsing::parse_expr;
 pub use showing::shown;
+pub use stop::Stop;

@@ -7,7 +7,8 @@ ghost use Rattle.verilog_expr.specs.Machine.{stop};
 ghost use Rattle.verilog_expr.specs.Reads.{Reads};
 
 use crate::error::ParseError;
-use crate::fault::{ParseFault, Stop};
+use crate::fault::ParseFault;
+use crate::stop::Stop;
 use crate::operators::{binary_operator, unary_operator};
 use ls_text::Place;
 use std::alloc::Global;

@@ -2,7 +2,8 @@
 ghost use Rattle.std.specs.Prelude.{IfOk};
 ghost use Rattle.verilog_expr.specs.Shown.{IsShownAs};
 
-use crate::fault::{ParseFault, Stop};
+use crate::fault::ParseFault;
+use crate::stop::Stop;
 use ls_text::{At, Fault, NameList, NoMemory, Place};
 use std::alloc::Global;
 use verilog_lex::Token;

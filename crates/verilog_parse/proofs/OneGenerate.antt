@@ -4,11 +4,11 @@ use Rattle.ls_text.specs.declared.place.Place.{Place}
 use Rattle.verilog_lex.specs.declared.token.Token.{Token}
 use Rattle.verilog_ast.specs.declared.identifier.Identifier.{Identifier}
 use Rattle.verilog_ast.specs.declared.expression.Expression.{Expression}
-use Rattle.verilog_ast.specs.declared.declaration.Parameter.{Parameter}
-use Rattle.verilog_ast.specs.declared.item.Loop.{Loop}
-use Rattle.verilog_ast.specs.declared.item.Branch.{Branch}
-use Rattle.verilog_ast.specs.declared.item.GenerateItem.{GenerateItem}
-use Rattle.verilog_ast.specs.declared.item.GenerateItem.TheVariants as item
+use Rattle.verilog_ast.specs.declared.parameter.Parameter.{Parameter}
+use Rattle.verilog_ast.specs.declared.generate_loop.Loop.{Loop}
+use Rattle.verilog_ast.specs.declared.generate_item.Branch.{Branch}
+use Rattle.verilog_ast.specs.declared.generate_item.GenerateItem.{GenerateItem}
+use Rattle.verilog_ast.specs.declared.generate_item.GenerateItem.TheVariants as item
 use Rattle.verilog_expr.specs.Tokens.{identifier_of}
 use Rattle.verilog_expr.specs.Grammar.{begins_generate_item}
 use Rattle.verilog_parse.specs.Generates.{Spells, GenerateItems, AGenerateItem, ALoop, ALoopHead, ABlock, ABranch, AnOtherwise, BranchesBehind, OtherBranches}

@@ -8,19 +8,19 @@ use Rattle.verilog_ast.specs.declared.identifier.Identifier.{Identifier}
 use Rattle.verilog_ast.specs.declared.expression.Expression.{Expression}
 use Rattle.verilog_ast.specs.declared.target.Target.{Target}
 use Rattle.verilog_ast.specs.declared.statement.Statement.{Statement}
-use Rattle.verilog_ast.specs.declared.declaration.Range.{Range}
-use Rattle.verilog_ast.specs.declared.declaration.Shape.{Shape}
-use Rattle.verilog_ast.specs.declared.declaration.Variable.{Variable}
-use Rattle.verilog_ast.specs.declared.declaration.Parameter.{Parameter}
-use Rattle.verilog_ast.specs.declared.declaration.PortNet.{PortNet}
-use Rattle.verilog_ast.specs.declared.connection.NamedConnection.{NamedConnection}
-use Rattle.verilog_ast.specs.declared.connection.OrderedConnection.{OrderedConnection}
-use Rattle.verilog_ast.specs.declared.connection.Connections.{Connections}
-use Rattle.verilog_ast.specs.declared.connection.Connections.TheVariants as connections
-use Rattle.verilog_ast.specs.declared.connection.Instance.{Instance}
-use Rattle.verilog_ast.specs.declared.item.Continuous.{Continuous}
-use Rattle.verilog_ast.specs.declared.item.PlainItem.{PlainItem}
-use Rattle.verilog_ast.specs.declared.item.PlainItem.TheVariants as item
+use Rattle.verilog_ast.specs.declared.range.Range.{Range}
+use Rattle.verilog_ast.specs.declared.shape.Shape.{Shape}
+use Rattle.verilog_ast.specs.declared.variable.Variable.{Variable}
+use Rattle.verilog_ast.specs.declared.parameter.Parameter.{Parameter}
+use Rattle.verilog_ast.specs.declared.port_net.PortNet.{PortNet}
+use Rattle.verilog_ast.specs.declared.named_connection.NamedConnection.{NamedConnection}
+use Rattle.verilog_ast.specs.declared.ordered_connection.OrderedConnection.{OrderedConnection}
+use Rattle.verilog_ast.specs.declared.connections.Connections.{Connections}
+use Rattle.verilog_ast.specs.declared.connections.Connections.TheVariants as connections
+use Rattle.verilog_ast.specs.declared.instance.Instance.{Instance}
+use Rattle.verilog_ast.specs.declared.continuous.Continuous.{Continuous}
+use Rattle.verilog_ast.specs.declared.plain_item.PlainItem.{PlainItem}
+use Rattle.verilog_ast.specs.declared.plain_item.PlainItem.TheVariants as item
 use Rattle.verilog_expr.specs.Tokens.{next, identifier_of, place_at}
 use Rattle.verilog_expr.specs.Grammar.{begins_expression}
 use Rattle.verilog_parse.specs.Items.{Spells, AShape, OptionalSigned, OptionalRange, OptionalWire, OptionalNet, Names, NamesBehind, OtherNames, AVariable, OptionalValue, Variables, VariablesBehind, OtherVariables, AParameter, Parameters, ParametersBehind, OtherParameters, Overrides, Instances, InstancesBehind, OtherInstances, AnInstance, AConnections, ANamedConnection, NamedBehind, OtherNamed, AnOrdered, OrderedBehind, OtherOrdered, OptionalExpression, APlainItem, AnEvent, Trigger, EdgeEnd, Assignments, AssignmentsBehind, OtherAssignments, AContinuous}

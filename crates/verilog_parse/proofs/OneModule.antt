@@ -2,16 +2,16 @@
 use Rattle.std.proofs.Common.{◌≡◌, List, ◌∷◌, Some, None, refl, sym, ap, ap₂}
 use Rattle.verilog_lex.specs.declared.token.Token.{Token}
 use Rattle.verilog_ast.specs.declared.identifier.Identifier.{Identifier}
-use Rattle.verilog_ast.specs.declared.declaration.Shape.{Shape}
-use Rattle.verilog_ast.specs.declared.declaration.Variable.{Variable}
-use Rattle.verilog_ast.specs.declared.declaration.Parameter.{Parameter}
-use Rattle.verilog_ast.specs.declared.declaration.PortNet.{PortNet}
-use Rattle.verilog_ast.specs.declared.declaration.HeaderParameter.{HeaderParameter}
-use Rattle.verilog_ast.specs.declared.declaration.HeaderPort.{HeaderPort}
-use Rattle.verilog_ast.specs.declared.declaration.HeaderPort.TheVariants as port
-use Rattle.verilog_ast.specs.declared.declaration.Ports.{Ports}
-use Rattle.verilog_ast.specs.declared.declaration.Ports.TheVariants as ports
-use Rattle.verilog_ast.specs.declared.item.GenerateItem.{GenerateItem}
+use Rattle.verilog_ast.specs.declared.shape.Shape.{Shape}
+use Rattle.verilog_ast.specs.declared.variable.Variable.{Variable}
+use Rattle.verilog_ast.specs.declared.parameter.Parameter.{Parameter}
+use Rattle.verilog_ast.specs.declared.port_net.PortNet.{PortNet}
+use Rattle.verilog_ast.specs.declared.header_parameter.HeaderParameter.{HeaderParameter}
+use Rattle.verilog_ast.specs.declared.header_port.HeaderPort.{HeaderPort}
+use Rattle.verilog_ast.specs.declared.header_port.HeaderPort.TheVariants as port
+use Rattle.verilog_ast.specs.declared.ports.Ports.{Ports}
+use Rattle.verilog_ast.specs.declared.ports.Ports.TheVariants as ports
+use Rattle.verilog_ast.specs.declared.generate_item.GenerateItem.{GenerateItem}
 use Rattle.verilog_ast.specs.declared.item.Item.{Item}
 use Rattle.verilog_ast.specs.declared.item.Item.TheVariants as item
 use Rattle.verilog_ast.specs.declared.module_body.ModuleBody.{ModuleBody}

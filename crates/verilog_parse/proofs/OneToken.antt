@@ -5,7 +5,7 @@ use Rattle.verilog_lex.specs.declared.kind.Kind.{Kind}
 use Rattle.verilog_ast.specs.declared.identifier.Identifier.{Identifier}
 use Rattle.verilog_ast.specs.declared.expression.Expression.{Expression}
 use Rattle.verilog_ast.specs.declared.expression.Reference.{Reference}
-use Rattle.verilog_ast.specs.declared.declaration.Range.{Range}
+use Rattle.verilog_ast.specs.declared.range.Range.{Range}
 use Rattle.verilog_expr.specs.Tokens.{next, Takes, taken}
 use Rattle.verilog_expr.specs.Spells.{Spells, AnExpression, ASelect, ARange}
 use Rattle.verilog_expr.proofs.OneReading.{one_expression, one_select, one_range}

@@ -5,12 +5,12 @@ use Rattle.verilog_lex.specs.declared.token.Token.{Token}
 use Rattle.verilog_lex.specs.declared.kind.Kind.TheVariants as k
 use Rattle.verilog_ast.specs.declared.identifier.Identifier.{Identifier}
 use Rattle.verilog_ast.specs.declared.expression.Expression.{Expression}
-use Rattle.verilog_ast.specs.declared.declaration.Parameter.{Parameter}
-use Rattle.verilog_ast.specs.declared.item.PlainItem.{PlainItem}
-use Rattle.verilog_ast.specs.declared.item.Loop.{Loop}
-use Rattle.verilog_ast.specs.declared.item.Branch.{Branch}
-use Rattle.verilog_ast.specs.declared.item.GenerateItem.{GenerateItem}
-use Rattle.verilog_ast.specs.declared.item.GenerateItem.TheVariants as item
+use Rattle.verilog_ast.specs.declared.parameter.Parameter.{Parameter}
+use Rattle.verilog_ast.specs.declared.plain_item.PlainItem.{PlainItem}
+use Rattle.verilog_ast.specs.declared.generate_loop.Loop.{Loop}
+use Rattle.verilog_ast.specs.declared.generate_item.Branch.{Branch}
+use Rattle.verilog_ast.specs.declared.generate_item.GenerateItem.{GenerateItem}
+use Rattle.verilog_ast.specs.declared.generate_item.GenerateItem.TheVariants as item
 use Rattle.verilog_expr.specs.Tokens.{next, Takes, identifier_of}
 use Rattle.verilog_expr.specs.Grammar.{begins_generate_item}
 use Rattle.verilog_expr.specs.Spells as expressions

@@ -7,22 +7,22 @@ use Rattle.verilog_lex.specs.declared.kind.Kind.TheVariants as k
 use Rattle.verilog_ast.specs.declared.identifier.Identifier.{Identifier}
 use Rattle.verilog_ast.specs.declared.expression.Expression.{Expression}
 use Rattle.verilog_ast.specs.declared.target.Target.{Target}
-use Rattle.verilog_ast.specs.declared.statement.Sign.TheVariants.{Blocking, Nonblocking}
+use Rattle.verilog_ast.specs.declared.sign.Sign.TheVariants.{Blocking, Nonblocking}
 use Rattle.verilog_ast.specs.declared.statement.Statement.{Statement}
-use Rattle.verilog_ast.specs.declared.declaration.Range.{Range}
-use Rattle.verilog_ast.specs.declared.declaration.Shape.{Shape}
-use Rattle.verilog_ast.specs.declared.declaration.Variable.{Variable}
-use Rattle.verilog_ast.specs.declared.declaration.Parameter.{Parameter}
-use Rattle.verilog_ast.specs.declared.declaration.PortNet.{PortNet}
-use Rattle.verilog_ast.specs.declared.declaration.PortNet.TheVariants as net
-use Rattle.verilog_ast.specs.declared.connection.NamedConnection.{NamedConnection}
-use Rattle.verilog_ast.specs.declared.connection.OrderedConnection.{OrderedConnection}
-use Rattle.verilog_ast.specs.declared.connection.Connections.{Connections}
-use Rattle.verilog_ast.specs.declared.connection.Connections.TheVariants as connections
-use Rattle.verilog_ast.specs.declared.connection.Instance.{Instance}
-use Rattle.verilog_ast.specs.declared.item.Continuous.{Continuous}
-use Rattle.verilog_ast.specs.declared.item.PlainItem.{PlainItem}
-use Rattle.verilog_ast.specs.declared.item.PlainItem.TheVariants as item
+use Rattle.verilog_ast.specs.declared.range.Range.{Range}
+use Rattle.verilog_ast.specs.declared.shape.Shape.{Shape}
+use Rattle.verilog_ast.specs.declared.variable.Variable.{Variable}
+use Rattle.verilog_ast.specs.declared.parameter.Parameter.{Parameter}
+use Rattle.verilog_ast.specs.declared.port_net.PortNet.{PortNet}
+use Rattle.verilog_ast.specs.declared.port_net.PortNet.TheVariants as net
+use Rattle.verilog_ast.specs.declared.named_connection.NamedConnection.{NamedConnection}
+use Rattle.verilog_ast.specs.declared.ordered_connection.OrderedConnection.{OrderedConnection}
+use Rattle.verilog_ast.specs.declared.connections.Connections.{Connections}
+use Rattle.verilog_ast.specs.declared.connections.Connections.TheVariants as connections
+use Rattle.verilog_ast.specs.declared.instance.Instance.{Instance}
+use Rattle.verilog_ast.specs.declared.continuous.Continuous.{Continuous}
+use Rattle.verilog_ast.specs.declared.plain_item.PlainItem.{PlainItem}
+use Rattle.verilog_ast.specs.declared.plain_item.PlainItem.TheVariants as item
 use Rattle.verilog_expr.specs.Tokens.{next, Takes, identifier_of, place_at}
 use Rattle.verilog_expr.specs.Grammar.{begins_expression}
 use Rattle.verilog_expr.specs.Spells as expressions

@@ -8,16 +8,16 @@ use Rattle.verilog_ast.specs.declared.expression.Expression.{Expression}
 use Rattle.verilog_ast.specs.declared.expression.Reference.{Reference}
 use Rattle.verilog_ast.specs.declared.target.Target.{Target}
 use Rattle.verilog_ast.specs.declared.target.Target.TheVariants as target
-use Rattle.verilog_ast.specs.declared.statement.Sign.{Sign}
-use Rattle.verilog_ast.specs.declared.statement.Sign.TheVariants.{Blocking, Nonblocking}
-use Rattle.verilog_ast.specs.declared.statement.CaseKind.{CaseKind}
-use Rattle.verilog_ast.specs.declared.statement.CaseKind.TheVariants.{Case, Casez}
+use Rattle.verilog_ast.specs.declared.sign.Sign.{Sign}
+use Rattle.verilog_ast.specs.declared.sign.Sign.TheVariants.{Blocking, Nonblocking}
+use Rattle.verilog_ast.specs.declared.case_kind.CaseKind.{CaseKind}
+use Rattle.verilog_ast.specs.declared.case_kind.CaseKind.TheVariants.{Case, Casez}
 use Rattle.verilog_ast.specs.declared.statement.Statement.{Statement}
 use Rattle.verilog_ast.specs.declared.statement.Statement.TheVariants as statement
 use Rattle.verilog_ast.specs.declared.statement.Arm.{Arm}
 use Rattle.verilog_ast.specs.declared.statement.Arm.TheVariants as arm
-use Rattle.verilog_ast.specs.declared.statement.Label.{Label}
-use Rattle.verilog_ast.specs.declared.statement.Label.TheVariants as label
+use Rattle.verilog_ast.specs.declared.label.Label.{Label}
+use Rattle.verilog_ast.specs.declared.label.Label.TheVariants as label
 use Rattle.verilog_expr.specs.Tokens.{next, Takes, identifier_of, pattern_of}
 use Rattle.verilog_expr.specs.Grammar.{begins_statement, begins_arm}
 use Rattle.verilog_expr.specs.Spells as expressions

@@ -1,5 +1,5 @@
 use Rattle.std.proofs.Common.{◌≡◌, ◌≤◌, ◌<◌, ◌^◌, ◌*◌, ◌+◌, length, List, [], ◌∷◌, ◌++◌, Some}
-use Rattle.verilog_ast.specs.declared.operator.BinaryOperator.{BinaryOperator}
+use Rattle.verilog_ast.specs.declared.binary_operator.BinaryOperator.{BinaryOperator}
 use Rattle.verilog_ast.specs.declared.expression.Expression.{Expression}
 use Rattle.verilog_lex.specs.declared.token.Token.{Token}
 use Rattle.verilog_expr.specs.Tokens.{next, binary_operator, level}

@@ -1,22 +1,4 @@
-// Operators.
-
-/// An operator before its operand.
-#[derive(Clone, Copy, Debug, PartialEq, Eq)]
-pub enum UnaryOperator {
-    Plus,
-    Minus,
-    /// `!`
-    LogicalNot,
-    /// `~`
-    Invert,
-    ReduceAnd,
-    ReduceNand,
-    ReduceOr,
-    ReduceNor,
-    ReduceXor,
-    /// `~^` or `^~`
-    ReduceXnor,
-}
+// Operators between their operands.
 
 /// An operator between its operands.
 #[derive(Clone, Copy, Debug, PartialEq, Eq)]

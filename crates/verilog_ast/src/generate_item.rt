@@ -1,0 +1,58 @@
+// Items of generate blocks.
+ghost use Rattle.std.specs.Prelude.{◌≡◌};
+ghost use Rattle.verilog_ast.specs.Places.{place_of_branches, place_of_generate_item};
+
+use crate::expression::Expression;
+use crate::generate_loop::Loop;
+use crate::identifier::Identifier;
+use crate::plain_item::PlainItem;
+use ls_text::Place;
+use sqlite_items::{Boxed, Items};
+
+/// An item that may stand in a generate block.
+#[cycle(generate)]
+#[derive(Drop)]
+pub enum GenerateItem {
+    Plain(PlainItem),
+    /// `for (..) begin : label .. end`, at its `for`
+    For(Place, Loop, Identifier, Items<GenerateItem>),
+    /// The branches in their order: each but a last `else` has a condition.
+    If(Items<Branch>),
+}
+
+/// `if (condition) begin : label .. end`, at its `if`, or the block of an `else` without a condition, at its `begin`
+#[cycle(generate)]
+#[derive(Drop)]
+pub struct Branch {
+    pub at: Place,
+    pub condition: Option<Boxed<Expression>>,
+    pub label: Identifier,
+    pub items: Items<GenerateItem>,
+}
+
+// The place of the first branch.
+fn first_place(branches: &[Branch]) -> Place
+    ensures { result ≡ place_of_branches branches.now }
+{
+    match branches.split_first() {
+        Some((first, _)) => first.at,
+        None => Place {
+            file: 0,
+            line: 1,
+            col: 1,
+        },
+    }
+}
+
+impl GenerateItem {
+    /// The place of its first token.
+    pub fn place(&self) -> Place
+        ensures { result ≡ place_of_generate_item self.now }
+    {
+        match self {
+            GenerateItem::Plain(item) => item.place(),
+            GenerateItem::For(at, _, _, _) => *at,
+            GenerateItem::If(branches) => first_place(branches.as_slice()),
+        }
+    }
+}

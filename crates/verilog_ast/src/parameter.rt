@@ -1,0 +1,11 @@
+// Parameters.
+use crate::expression::Expression;
+use crate::identifier::Identifier;
+use sqlite_items::Boxed;
+
+/// A parameter and its value.
+#[derive(Drop)]
+pub struct Parameter {
+    pub name: Identifier,
+    pub value: Boxed<Expression>,
+}

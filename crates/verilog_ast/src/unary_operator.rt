@@ -1,0 +1,19 @@
+// Operators before their operand.
+
+/// An operator before its operand.
+#[derive(Clone, Copy, Debug, PartialEq, Eq)]
+pub enum UnaryOperator {
+    Plus,
+    Minus,
+    /// `!`
+    LogicalNot,
+    /// `~`
+    Invert,
+    ReduceAnd,
+    ReduceNand,
+    ReduceOr,
+    ReduceNor,
+    ReduceXor,
+    /// `~^` or `^~`
+    ReduceXnor,
+}
