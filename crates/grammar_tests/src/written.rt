@@ -1,8 +1,8 @@
 // Trees of expressions and statements as text: nested brackets with a node's name first, and no places.
 use ls_text::{NameId, NoMemory, push_decimal};
 use verilog_ast::{
-    Arm, BinaryOperator, CaseKind, Expression, Identifier, Label, Number, Pattern, Reference,
-    Statement, Target, UnaryOperator,
+    Arm, BinaryOperator, CaseKind, Expr, Identifier, Label, Lhs, Number, Pattern, Reference, Stmt,
+    UnaryOperator,
 };
 
 // A space and a text.
@@ -97,35 +97,35 @@ fn binary(op: BinaryOperator) -> &'static [u8] {
 
 // `par` stands for brackets, `cat` for a concatenation, `rep` for a replication.
 #[cycle(written)]
-pub fn expression(out: &mut Vec<u8>, texts: &[Vec<u8>], x: &Expression) -> Result<(), NoMemory> {
+pub fn expression(out: &mut Vec<u8>, texts: &[Vec<u8>], x: &Expr) -> Result<(), NoMemory> {
     match x {
-        Expression::Number(_, n) => return number(out, n),
-        Expression::Read(r) => return reference(out, texts, r),
-        Expression::Unary(_, op, a) => {
+        Expr::Number(_, n) => return number(out, n),
+        Expr::Read(r) => return reference(out, texts, r),
+        Expr::Unary(_, op, a) => {
             open(out, unary(*op))?;
             expression(out, texts, a.get())?;
         }
-        Expression::Binary(op, a, b) => {
+        Expr::Binary(op, a, b) => {
             open(out, binary(*op))?;
             expression(out, texts, a.get())?;
             expression(out, texts, b.get())?;
         }
-        Expression::Conditional(c, a, b) => {
+        Expr::Conditional(c, a, b) => {
             open(out, b"?")?;
             expression(out, texts, c.get())?;
             expression(out, texts, a.get())?;
             expression(out, texts, b.get())?;
         }
-        Expression::Concatenation(_, all) => {
+        Expr::Concatenation(_, all) => {
             open(out, b"cat")?;
             expressions(out, texts, all.as_slice())?;
         }
-        Expression::Replication(_, n, all) => {
+        Expr::Replication(_, n, all) => {
             open(out, b"rep")?;
             expression(out, texts, n.get())?;
             expressions(out, texts, all.as_slice())?;
         }
-        Expression::Bracketed(_, a) => {
+        Expr::Bracketed(_, a) => {
             open(out, b"par")?;
             expression(out, texts, a.get())?;
         }
@@ -134,7 +134,7 @@ pub fn expression(out: &mut Vec<u8>, texts: &[Vec<u8>], x: &Expression) -> Resul
 }
 
 #[cycle(written)]
-fn expressions(out: &mut Vec<u8>, texts: &[Vec<u8>], all: &[Expression]) -> Result<(), NoMemory> {
+fn expressions(out: &mut Vec<u8>, texts: &[Vec<u8>], all: &[Expr]) -> Result<(), NoMemory> {
     for x in all {
         expression(out, texts, x)?;
     }
@@ -176,10 +176,10 @@ fn reference(out: &mut Vec<u8>, texts: &[Vec<u8>], r: &Reference) -> Result<(), 
     }
 }
 
-pub fn target(out: &mut Vec<u8>, texts: &[Vec<u8>], t: &Target) -> Result<(), NoMemory> {
+pub fn target(out: &mut Vec<u8>, texts: &[Vec<u8>], t: &Lhs) -> Result<(), NoMemory> {
     match t {
-        Target::Reference(r) => reference(out, texts, r),
-        Target::Concatenation(_, all) => {
+        Lhs::Reference(r) => reference(out, texts, r),
+        Lhs::Concatenation(_, all) => {
             open(out, b"cat")?;
             for t in all.as_slice() {
                 target(out, texts, t)?;
@@ -211,43 +211,43 @@ fn block_label(
 }
 
 #[cycle(statements)]
-pub fn statement(out: &mut Vec<u8>, texts: &[Vec<u8>], s: &Statement) -> Result<(), NoMemory> {
+pub fn statement(out: &mut Vec<u8>, texts: &[Vec<u8>], s: &Stmt) -> Result<(), NoMemory> {
     match s {
-        Statement::Block(_, label, body) => {
+        Stmt::Block(_, label, body) => {
             open(out, b"begin")?;
             block_label(out, texts, label)?;
             statements(out, texts, body.as_slice())?;
         }
-        Statement::If(_, c, yes) => {
+        Stmt::If(_, c, yes) => {
             open(out, b"if")?;
             expression(out, texts, c.get())?;
             statement(out, texts, yes.get())?;
         }
-        Statement::IfElse(_, c, yes, no) => {
+        Stmt::IfElse(_, c, yes, no) => {
             open(out, b"else")?;
             expression(out, texts, c.get())?;
             statement(out, texts, yes.get())?;
             statement(out, texts, no.get())?;
         }
-        Statement::Case(_, which, x, arms) => {
+        Stmt::Case(_, which, x, arms) => {
             open(out, case_word(*which))?;
             expression(out, texts, x.get())?;
             for arm in arms.as_slice() {
                 case_arm(out, texts, arm)?;
             }
         }
-        Statement::Assign(t, x) => {
+        Stmt::Assign(t, x) => {
             open(out, b"=")?;
             target(out, texts, t)?;
             expression(out, texts, x.get())?;
         }
-        Statement::Empty(_) => return word(out, b";"),
+        Stmt::Empty(_) => return word(out, b";"),
     }
     close(out)
 }
 
 #[cycle(statements)]
-fn statements(out: &mut Vec<u8>, texts: &[Vec<u8>], all: &[Statement]) -> Result<(), NoMemory> {
+fn statements(out: &mut Vec<u8>, texts: &[Vec<u8>], all: &[Stmt]) -> Result<(), NoMemory> {
     for s in all {
         statement(out, texts, s)?;
     }
@@ -275,7 +275,7 @@ fn case_arm(out: &mut Vec<u8>, texts: &[Vec<u8>], a: &Arm) -> Result<(), NoMemor
 // A literal with don't-cares by its size, its value and its mask.
 fn label(out: &mut Vec<u8>, texts: &[Vec<u8>], l: &Label) -> Result<(), NoMemory> {
     match l {
-        Label::Expression(x) => expression(out, texts, x.get()),
+        Label::Expr(x) => expression(out, texts, x.get()),
         Label::Pattern(_, p) => pattern(out, p),
     }
 }

@@ -3,8 +3,8 @@ use crate::written::{close, expression, name, open, statement, target, word};
 use ls_text::NoMemory;
 use sqlite_items::{Boxed, Items};
 use verilog_ast::{
-    Branch, Connections, Expression, GenerateItem, HeaderParameter, HeaderPort, Identifier,
-    Instance, Item, ModuleBody, Parameter, PlainItem, PortNet, Ports, Shape, Variable,
+    Branch, Connections, Expr, GenerateItem, HeaderParameter, HeaderPort, Identifier, Instance,
+    Item, ModuleBody, Parameter, PlainItem, PortNet, Ports, Shape, Variable,
 };
 
 // `signed` and `(range high low)`, where they are written.
@@ -71,11 +71,7 @@ fn parameters(out: &mut Vec<u8>, texts: &[Vec<u8>], all: &[Parameter]) -> Result
 }
 
 // `-` where there is no expression.
-fn optional(
-    out: &mut Vec<u8>,
-    texts: &[Vec<u8>],
-    x: &Option<Boxed<Expression>>,
-) -> Result<(), NoMemory> {
+fn optional(out: &mut Vec<u8>, texts: &[Vec<u8>], x: &Option<Boxed<Expr>>) -> Result<(), NoMemory> {
     match x {
         Some(x) => expression(out, texts, x.get()),
         None => word(out, b"-"),

@@ -7,9 +7,9 @@ use Rattle.verilog_ast.specs.declared.identifier.Identifier.{Identifier}
 use Rattle.verilog_ast.specs.declared.number.Number.{Number}
 use Rattle.verilog_ast.specs.declared.binary_operator.BinaryOperator.{BinaryOperator}
 use Rattle.verilog_ast.specs.declared.binary_operator.BinaryOperator.TheVariants as operator
-use Rattle.verilog_ast.specs.declared.expression.Expression.{Expression, out-Expression}
-use Rattle.verilog_ast.specs.declared.expression.Expression.TheOpen.{Expression-F, Reference-F}
-use Rattle.verilog_ast.specs.declared.expression.Expression.TheFolds.{fold-Expression}
+use Rattle.verilog_ast.specs.declared.expression.Expr.{Expr, out-Expr}
+use Rattle.verilog_ast.specs.declared.expression.Expr.TheOpen.{Expr-F, Reference-F}
+use Rattle.verilog_ast.specs.declared.expression.Expr.TheFolds.{fold-Expr}
 use Rattle.verilog_ast.specs.declared.expression.Reference.{Reference, out-Reference}
 use Rattle.verilog_ast.specs.declared.range.Range.{Range}
 use Rattle.verilog_ast.specs.declared.shape.Shape.{Shape}
@@ -19,11 +19,11 @@ use Rattle.verilog_ast.specs.declared.header_port.HeaderPort.TheVariants as port
 use Rattle.verilog_ast.specs.declared.ports.Ports.{Ports}
 use Rattle.verilog_ast.specs.declared.ports.Ports.TheVariants as ports
 use Rattle.verilog_ast.specs.declared.variable.Variable.{Variable}
-use Rattle.verilog_ast.specs.declared.target.Target.{Target, out-Target}
-use Rattle.verilog_ast.specs.declared.target.Target.TheOpen.{Target-F}
-use Rattle.verilog_ast.specs.declared.statement.Statement.{Statement, out-Statement}
+use Rattle.verilog_ast.specs.declared.target.Lhs.{Lhs, out-Lhs}
+use Rattle.verilog_ast.specs.declared.target.Lhs.TheOpen.{Lhs-F}
+use Rattle.verilog_ast.specs.declared.statement.Stmt.{Stmt, out-Stmt}
 use Rattle.verilog_ast.specs.declared.statement.Arm.{Arm}
-use Rattle.verilog_ast.specs.declared.statement.Arm.TheOpen.{Statement-F}
+use Rattle.verilog_ast.specs.declared.statement.Arm.TheOpen.{Stmt-F}
 use Rattle.verilog_ast.specs.declared.plain_item.PlainItem.{PlainItem}
 use Rattle.verilog_ast.specs.declared.plain_item.PlainItem.TheVariants as plain
 use Rattle.verilog_ast.specs.declared.generate_item.Branch.{Branch}
@@ -57,12 +57,12 @@ both (x ∷ y ∷ []) = Some (x, y)
 both (x ∷ y ∷ z ∷ rest) = None
 
 -- a number, where an expression is just that
-abbrev pub number_of : Expression-F Expression Reference → Option Number
-number_of (Expression-F.Number at x) = Some x
+abbrev pub number_of : Expr-F Expr Reference → Option Number
+number_of (Expr-F.Number at x) = Some x
 number_of _ = None
 
-abbrev pub number_in : Expression → Option Number
-number_in e = number_of (out-Expression e)
+abbrev pub number_in : Expr → Option Number
+number_in e = number_of (out-Expr e)
 
 -- a plain number
 abbrev pub plain_value : Number → Option ℕ
@@ -121,7 +121,7 @@ plain_in _ = None
 abbrev pub RegisterText : Type 0
 RegisterText = List ℕ × ℕ × ℕ × ℕ
 
-abbrev pub literal_in : Option Expression → Option (ℕ × ℕ)
+abbrev pub literal_in : Option Expr → Option (ℕ × ℕ)
 literal_in None = None
 literal_in (Some e) = number_in e >>= λ x. literal_of x
 
@@ -180,10 +180,10 @@ abbrev pub name_part : List (List ℕ) → List ℕ → List ℕ → Option Iden
 name_part names clock register None = no_part
 name_part names clock register (Some n) = lone_part (guard (not (is_named names clock n)) (named_operand names register n))
 
-abbrev pub part_of : List (List ℕ) → List ℕ → List ℕ → Expression-F Part (Option Identifier) → Part
-part_of names clock register (Expression-F.Number at x) = lone_part (literal_operand x)
-part_of names clock register (Expression-F.Read x) = name_part names clock register x
-part_of names clock register (Expression-F.Binary op x y) = binary_part op x y
+abbrev pub part_of : List (List ℕ) → List ℕ → List ℕ → Expr-F Part (Option Identifier) → Part
+part_of names clock register (Expr-F.Number at x) = lone_part (literal_operand x)
+part_of names clock register (Expr-F.Read x) = name_part names clock register x
+part_of names clock register (Expr-F.Binary op x y) = binary_part op x y
 part_of names clock register _ = no_part
 
 -- a name without a select
@@ -191,34 +191,34 @@ abbrev pub whole_name : Reference-F Part (Option Identifier) → Option Identifi
 whole_name (Reference-F.Whole n) = Some n
 whole_name _ = None
 
-abbrev pub part_at : List (List ℕ) → List ℕ → List ℕ → Expression → Part
-part_at names clock register = fold-Expression Part (Option Identifier) (part_of names clock register) whole_name
+abbrev pub part_at : List (List ℕ) → List ℕ → List ℕ → Expr → Part
+part_at names clock register = fold-Expr Part (Option Identifier) (part_of names clock register) whole_name
 
-abbrev pub name_of : Reference-F Expression Reference → Option Identifier
+abbrev pub name_of : Reference-F Expr Reference → Option Identifier
 name_of (Reference-F.Whole n) = Some n
 name_of _ = None
 
-abbrev pub target_of : Target-F Target → Option Identifier
-target_of (Target-F.Reference x) = name_of (out-Reference x)
+abbrev pub target_of : Lhs-F Lhs → Option Identifier
+target_of (Lhs-F.Reference x) = name_of (out-Reference x)
 target_of _ = None
 
-abbrev pub target_in : Target → Option Identifier
-target_in x = target_of (out-Target x)
+abbrev pub target_in : Lhs → Option Identifier
+target_in x = target_of (out-Lhs x)
 
 -- the assignment: its target, and the operands of the sum
 abbrev pub Assignment : Type 0
 Assignment = Operand × Operand × List Operand
 
 -- `R <= X`
-abbrev pub assignment_of : List (List ℕ) → List ℕ → List ℕ → Statement-F Arm Statement → Option Assignment
-assignment_of names clock register (Statement-F.Assign x y) = do
+abbrev pub assignment_of : List (List ℕ) → List ℕ → List ℕ → Stmt-F Arm Stmt → Option Assignment
+assignment_of names clock register (Stmt-F.Assign x y) = do
   target ← target_in x
   sum ← (part_at names clock register y).sum
   Some (named_operand names register target, sum.0, sum.1)
 assignment_of names clock register _ = None
 
-abbrev pub assignment_in : List (List ℕ) → List ℕ → List ℕ → Statement → Option Assignment
-assignment_in names clock register x = assignment_of names clock register (out-Statement x)
+abbrev pub assignment_in : List (List ℕ) → List ℕ → List ℕ → Stmt → Option Assignment
+assignment_in names clock register x = assignment_of names clock register (out-Stmt x)
 
 -- `always @(posedge C)`
 abbrev pub clocked_at : List (List ℕ) → List ℕ → List ℕ → PlainItem → Option Assignment

@@ -11,16 +11,16 @@ use bits::Bits;
 use ls_text::NoMemory;
 use std::alloc::Global;
 use verilog_ast::{
-    BinaryOperator, Expression, GenerateItem, HeaderPort, Identifier, Item, Module, ModuleBody,
-    Number, PlainItem, PortNet, Ports, Range, Reference, Shape, Statement, Target, Variable,
+    BinaryOperator, Expr, GenerateItem, HeaderPort, Identifier, Item, Lhs, Module, ModuleBody,
+    Number, PlainItem, PortNet, Ports, Range, Reference, Shape, Stmt, Variable,
 };
 
 // The number that an expression is.
-fn number(e: &Expression) -> Option<Number>
+fn number(e: &Expr) -> Option<Number>
     ensures { result ≡ number_in e.now }
 {
     match e {
-        Expression::Number(_, x) => Some(*x),
+        Expr::Number(_, x) => Some(*x),
         _ => None,
     }
 }
@@ -199,16 +199,16 @@ fn lone(
     known: KnownNames<'_>,
     clock: &[u8],
     register: &[u8],
-    e: &Expression,
+    e: &Expr,
 ) -> Result<Option<Term>, NoMemory>
     ensures { IfOk result (λ o. option_map operand o ≡ (part_at known.entry.names.now clock.now register.now e.now).lone) }
 {
     match e {
-        Expression::Number(_, x) => Ok(match literal(*x) {
+        Expr::Number(_, x) => Ok(match literal(*x) {
             Some(bits) => Some(Term::Literal(bits)),
             None => None,
         }),
-        Expression::Read(Reference::Whole(n)) => {
+        Expr::Read(Reference::Whole(n)) => {
             if is_named(known, clock, *n)? {
                 return Ok(None);
             }
@@ -224,11 +224,11 @@ fn terms(
     known: KnownNames<'_>,
     clock: &[u8],
     register: &[u8],
-    e: &Expression,
+    e: &Expr,
 ) -> Result<Option<Terms>, NoMemory>
     ensures { IfOk result (λ o. option_map sum o ≡ (part_at known.entry.names.now clock.now register.now e.now).sum) }
 {
-    if let Expression::Binary(BinaryOperator::Add, left, right) = e {
+    if let Expr::Binary(BinaryOperator::Add, left, right) = e {
         let Some(mut front) = terms(alloc, known, clock, register, left.get())? else {
             return Ok(None);
         };
@@ -248,11 +248,11 @@ fn terms(
 }
 
 // The name of a target without a select.
-fn target(x: &Target) -> Option<Identifier>
+fn target(x: &Lhs) -> Option<Identifier>
     ensures { result ≡ target_in x.now }
 {
     match x {
-        Target::Reference(Reference::Whole(n)) => Some(*n),
+        Lhs::Reference(Reference::Whole(n)) => Some(*n),
         _ => None,
     }
 }
@@ -263,11 +263,11 @@ fn assigned(
     known: KnownNames<'_>,
     clock: &[u8],
     register: &[u8],
-    x: &Statement,
+    x: &Stmt,
 ) -> Result<Option<Assignment>, NoMemory>
     ensures { IfOk result (λ o. option_map assignment o ≡ assignment_in known.entry.names.now clock.now register.now x.now) }
 {
-    let Statement::Assign(left, right) = x else {
+    let Stmt::Assign(left, right) = x else {
         return Ok(None);
     };
     let Some(n) = target(left) else {

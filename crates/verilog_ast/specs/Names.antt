@@ -2,19 +2,19 @@
 use Rattle.std.specs.Prelude.{List, [], ◌∷◌, ◌++◌, Option, Some, None, map, flat_map}
 use Rattle.ls_text.specs.declared.name_id.NameId.{NameId}
 use Rattle.verilog_ast.specs.declared.identifier.Identifier.{Identifier}
-use Rattle.verilog_ast.specs.declared.expression.Expression.{Expression}
-use Rattle.verilog_ast.specs.declared.expression.Expression.TheOpen.{Expression-F, Reference-F}
-use Rattle.verilog_ast.specs.declared.expression.Expression.TheFolds.{fold-Expression, fold-Reference}
+use Rattle.verilog_ast.specs.declared.expression.Expr.{Expr}
+use Rattle.verilog_ast.specs.declared.expression.Expr.TheOpen.{Expr-F, Reference-F}
+use Rattle.verilog_ast.specs.declared.expression.Expr.TheFolds.{fold-Expr, fold-Reference}
 use Rattle.verilog_ast.specs.declared.expression.Reference.{Reference}
-use Rattle.verilog_ast.specs.declared.target.Target.{Target}
-use Rattle.verilog_ast.specs.declared.target.Target.TheOpen.{Target-F}
-use Rattle.verilog_ast.specs.declared.target.Target.TheFolds.{fold-Target}
+use Rattle.verilog_ast.specs.declared.target.Lhs.{Lhs}
+use Rattle.verilog_ast.specs.declared.target.Lhs.TheOpen.{Lhs-F}
+use Rattle.verilog_ast.specs.declared.target.Lhs.TheFolds.{fold-Lhs}
 use Rattle.verilog_ast.specs.declared.label.Label.{Label}
 use Rattle.verilog_ast.specs.declared.label.Label.TheVariants as label
-use Rattle.verilog_ast.specs.declared.statement.Statement.{Statement}
+use Rattle.verilog_ast.specs.declared.statement.Stmt.{Stmt}
 use Rattle.verilog_ast.specs.declared.statement.Arm.{Arm}
-use Rattle.verilog_ast.specs.declared.statement.Arm.TheOpen.{Statement-F, Arm-F}
-use Rattle.verilog_ast.specs.declared.statement.Arm.TheFolds.{fold-Statement, fold-Arm}
+use Rattle.verilog_ast.specs.declared.statement.Arm.TheOpen.{Stmt-F, Arm-F}
+use Rattle.verilog_ast.specs.declared.statement.Arm.TheFolds.{fold-Stmt, fold-Arm}
 use Rattle.verilog_ast.specs.declared.range.Range.{Range}
 use Rattle.verilog_ast.specs.declared.shape.Shape.{Shape}
 use Rattle.verilog_ast.specs.declared.variable.Variable.{Variable}
@@ -66,54 +66,54 @@ reference_names (Reference-F.Upward n x y) = n.name ∷ (x ++ y)
 reference_names (Reference-F.Downward n x y) = n.name ∷ (x ++ y)
 
 -- an expression, with the names of its parts in their place
-abbrev pub expression_names : Expression-F (List NameId) (List NameId) → List NameId
-expression_names (Expression-F.Number at x) = []
-expression_names (Expression-F.Read x) = x
-expression_names (Expression-F.Unary at op x) = x
-expression_names (Expression-F.Binary op x y) = x ++ y
-expression_names (Expression-F.Conditional x y z) = x ++ (y ++ z)
-expression_names (Expression-F.Concatenation at xs) = joined xs
-expression_names (Expression-F.Replication at x ys) = x ++ joined ys
-expression_names (Expression-F.Bracketed at x) = x
+abbrev pub expression_names : Expr-F (List NameId) (List NameId) → List NameId
+expression_names (Expr-F.Number at x) = []
+expression_names (Expr-F.Read x) = x
+expression_names (Expr-F.Unary at op x) = x
+expression_names (Expr-F.Binary op x y) = x ++ y
+expression_names (Expr-F.Conditional x y z) = x ++ (y ++ z)
+expression_names (Expr-F.Concatenation at xs) = joined xs
+expression_names (Expr-F.Replication at x ys) = x ++ joined ys
+expression_names (Expr-F.Bracketed at x) = x
 
-abbrev pub names_of_expression : Expression → List NameId
-names_of_expression = fold-Expression (List NameId) (List NameId) expression_names reference_names
+abbrev pub names_of_expression : Expr → List NameId
+names_of_expression = fold-Expr (List NameId) (List NameId) expression_names reference_names
 
 abbrev pub names_of_reference : Reference → List NameId
 names_of_reference = fold-Reference (List NameId) (List NameId) expression_names reference_names
 
-abbrev pub target_names : Target-F (List NameId) → List NameId
-target_names (Target-F.Reference x) = names_of_reference x
-target_names (Target-F.Concatenation at xs) = joined xs
+abbrev pub target_names : Lhs-F (List NameId) → List NameId
+target_names (Lhs-F.Reference x) = names_of_reference x
+target_names (Lhs-F.Concatenation at xs) = joined xs
 
-abbrev pub names_of_target : Target → List NameId
-names_of_target = fold-Target (List NameId) target_names
+abbrev pub names_of_target : Lhs → List NameId
+names_of_target = fold-Lhs (List NameId) target_names
 
 -- ---- statements
 
 abbrev pub names_of_label : Label → List NameId
 names_of_label (label.Pattern at x) = []
-names_of_label (label.Expression x) = names_of_expression x
+names_of_label (label.Expr x) = names_of_expression x
 
 abbrev pub names_of_optional_label : Option Identifier → List NameId
 names_of_optional_label x = names_of_option (λ (n : Identifier). n.name ∷ []) x
 
 -- a statement, with the names of its statements and arms in their place
-abbrev pub statement_names : Statement-F (List NameId) (List NameId) → List NameId
-statement_names (Statement-F.Block at l xs) = names_of_optional_label l ++ joined xs
-statement_names (Statement-F.If at x y) = names_of_expression x ++ y
-statement_names (Statement-F.IfElse at x y z) = names_of_expression x ++ (y ++ z)
-statement_names (Statement-F.Case at which x ys) = names_of_expression x ++ joined ys
-statement_names (Statement-F.Assign x y) = names_of_target x ++ names_of_expression y
-statement_names (Statement-F.Empty at) = []
+abbrev pub statement_names : Stmt-F (List NameId) (List NameId) → List NameId
+statement_names (Stmt-F.Block at l xs) = names_of_optional_label l ++ joined xs
+statement_names (Stmt-F.If at x y) = names_of_expression x ++ y
+statement_names (Stmt-F.IfElse at x y z) = names_of_expression x ++ (y ++ z)
+statement_names (Stmt-F.Case at which x ys) = names_of_expression x ++ joined ys
+statement_names (Stmt-F.Assign x y) = names_of_target x ++ names_of_expression y
+statement_names (Stmt-F.Empty at) = []
 
 -- the same of an arm
 abbrev pub arm_names : Arm-F (List NameId) (List NameId) → List NameId
 arm_names (Arm-F.Default at x) = x
 arm_names (Arm-F.Match ls x) = flat_map names_of_label ls ++ x
 
-abbrev pub names_of_statement : Statement → List NameId
-names_of_statement = fold-Statement (List NameId) (List NameId) arm_names statement_names
+abbrev pub names_of_statement : Stmt → List NameId
+names_of_statement = fold-Stmt (List NameId) (List NameId) arm_names statement_names
 
 abbrev pub names_of_arm : Arm → List NameId
 names_of_arm = fold-Arm (List NameId) (List NameId) arm_names statement_names

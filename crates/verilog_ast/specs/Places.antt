@@ -1,15 +1,15 @@
 -- Where the parts of a tree stand: the place of their first token.
 use Rattle.std.specs.Prelude.{List, [], ◌∷◌}
 use Rattle.ls_text.specs.declared.place.Place.{Place}
-use Rattle.verilog_ast.specs.declared.expression.Expression.{Expression}
-use Rattle.verilog_ast.specs.declared.expression.Expression.TheOpen.{Expression-F, Reference-F}
-use Rattle.verilog_ast.specs.declared.expression.Expression.TheFolds.{fold-Expression, fold-Reference}
+use Rattle.verilog_ast.specs.declared.expression.Expr.{Expr}
+use Rattle.verilog_ast.specs.declared.expression.Expr.TheOpen.{Expr-F, Reference-F}
+use Rattle.verilog_ast.specs.declared.expression.Expr.TheFolds.{fold-Expr, fold-Reference}
 use Rattle.verilog_ast.specs.declared.expression.Reference.{Reference}
-use Rattle.verilog_ast.specs.declared.target.Target.{Target, out-Target}
-use Rattle.verilog_ast.specs.declared.target.Target.TheOpen.{Target-F}
-use Rattle.verilog_ast.specs.declared.statement.Statement.{Statement, out-Statement}
+use Rattle.verilog_ast.specs.declared.target.Lhs.{Lhs, out-Lhs}
+use Rattle.verilog_ast.specs.declared.target.Lhs.TheOpen.{Lhs-F}
+use Rattle.verilog_ast.specs.declared.statement.Stmt.{Stmt, out-Stmt}
 use Rattle.verilog_ast.specs.declared.statement.Arm.{Arm}
-use Rattle.verilog_ast.specs.declared.statement.Arm.TheOpen.{Statement-F}
+use Rattle.verilog_ast.specs.declared.statement.Arm.TheOpen.{Stmt-F}
 use Rattle.verilog_ast.specs.declared.plain_item.PlainItem.{PlainItem}
 use Rattle.verilog_ast.specs.declared.plain_item.PlainItem.TheVariants as plain
 use Rattle.verilog_ast.specs.declared.generate_item.Branch.{Branch}
@@ -27,40 +27,40 @@ reference_place (Reference-F.Upward n x y) = n.at
 reference_place (Reference-F.Downward n x y) = n.at
 
 -- of an expression: that of its first operand, where no token stands before it
-abbrev pub expression_place : Expression-F Place Place → Place
-expression_place (Expression-F.Number at x) = at
-expression_place (Expression-F.Read x) = x
-expression_place (Expression-F.Unary at op x) = at
-expression_place (Expression-F.Binary op x y) = x
-expression_place (Expression-F.Conditional x y z) = x
-expression_place (Expression-F.Concatenation at xs) = at
-expression_place (Expression-F.Replication at x ys) = at
-expression_place (Expression-F.Bracketed at x) = at
+abbrev pub expression_place : Expr-F Place Place → Place
+expression_place (Expr-F.Number at x) = at
+expression_place (Expr-F.Read x) = x
+expression_place (Expr-F.Unary at op x) = at
+expression_place (Expr-F.Binary op x y) = x
+expression_place (Expr-F.Conditional x y z) = x
+expression_place (Expr-F.Concatenation at xs) = at
+expression_place (Expr-F.Replication at x ys) = at
+expression_place (Expr-F.Bracketed at x) = at
 
 abbrev pub place_of_reference : Reference → Place
 place_of_reference = fold-Reference Place Place expression_place reference_place
 
-abbrev pub place_of_expression : Expression → Place
-place_of_expression = fold-Expression Place Place expression_place reference_place
+abbrev pub place_of_expression : Expr → Place
+place_of_expression = fold-Expr Place Place expression_place reference_place
 
-abbrev pub target_place : Target-F Target → Place
-target_place (Target-F.Reference x) = place_of_reference x
-target_place (Target-F.Concatenation at xs) = at
+abbrev pub target_place : Lhs-F Lhs → Place
+target_place (Lhs-F.Reference x) = place_of_reference x
+target_place (Lhs-F.Concatenation at xs) = at
 
-abbrev pub place_of_target : Target → Place
-place_of_target x = target_place (out-Target x)
+abbrev pub place_of_target : Lhs → Place
+place_of_target x = target_place (out-Lhs x)
 
 -- of an assignment: that of its target
-abbrev pub statement_place : Statement-F Arm Statement → Place
-statement_place (Statement-F.Block at label xs) = at
-statement_place (Statement-F.If at x y) = at
-statement_place (Statement-F.IfElse at x y z) = at
-statement_place (Statement-F.Case at which x ys) = at
-statement_place (Statement-F.Assign x y) = place_of_target x
-statement_place (Statement-F.Empty at) = at
+abbrev pub statement_place : Stmt-F Arm Stmt → Place
+statement_place (Stmt-F.Block at label xs) = at
+statement_place (Stmt-F.If at x y) = at
+statement_place (Stmt-F.IfElse at x y z) = at
+statement_place (Stmt-F.Case at which x ys) = at
+statement_place (Stmt-F.Assign x y) = place_of_target x
+statement_place (Stmt-F.Empty at) = at
 
-abbrev pub place_of_statement : Statement → Place
-place_of_statement x = statement_place (out-Statement x)
+abbrev pub place_of_statement : Stmt → Place
+place_of_statement x = statement_place (out-Stmt x)
 
 -- of instances: that of the module's name
 abbrev pub place_of_plain_item : PlainItem → Place

@@ -1,11 +1,11 @@
 // Continuous assignments.
-use crate::expression::Expression;
-use crate::target::Target;
+use crate::expression::Expr;
+use crate::target::Lhs;
 use sqlite_items::Boxed;
 
 /// `target = value` of a continuous assignment
 #[derive(Drop)]
 pub struct Continuous {
-    pub target: Target,
-    pub value: Boxed<Expression>,
+    pub target: Lhs,
+    pub value: Boxed<Expr>,
 }

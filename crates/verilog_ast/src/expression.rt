@@ -2,9 +2,9 @@
 ghost use Rattle.std.specs.Prelude.{◌≡◌};
 ghost use Rattle.verilog_ast.specs.Places.{place_of_expression, place_of_reference};
 
+use crate::binary_operator::BinaryOperator;
 use crate::identifier::Identifier;
 use crate::number::Number;
-use crate::binary_operator::BinaryOperator;
 use crate::unary_operator::UnaryOperator;
 use ls_text::Place;
 use sqlite_items::{Boxed, Items};
@@ -12,19 +12,19 @@ use sqlite_items::{Boxed, Items};
 /// An expression. Brackets have a node of their own, so that the first token of each expression has its place.
 #[cycle(expression)]
 #[derive(Drop)]
-pub enum Expression {
+pub enum Expr {
     Number(Place, Number),
     Read(Reference),
-    Unary(Place, UnaryOperator, Boxed<Expression>),
-    Binary(BinaryOperator, Boxed<Expression>, Boxed<Expression>),
+    Unary(Place, UnaryOperator, Boxed<Expr>),
+    Binary(BinaryOperator, Boxed<Expr>, Boxed<Expr>),
     /// `c ? a : b`
-    Conditional(Boxed<Expression>, Boxed<Expression>, Boxed<Expression>),
+    Conditional(Boxed<Expr>, Boxed<Expr>, Boxed<Expr>),
     /// `{a, b}`, at its brace
-    Concatenation(Place, Items<Expression>),
+    Concatenation(Place, Items<Expr>),
     /// `{n{a, b}}`, at its first brace
-    Replication(Place, Boxed<Expression>, Items<Expression>),
+    Replication(Place, Boxed<Expr>, Items<Expr>),
     /// `(a)`, at its bracket
-    Bracketed(Place, Boxed<Expression>),
+    Bracketed(Place, Boxed<Expr>),
 }
 
 /// A name, with a select or without.
@@ -33,29 +33,29 @@ pub enum Expression {
 pub enum Reference {
     Whole(Identifier),
     /// `x[i]`
-    Bit(Identifier, Boxed<Expression>),
+    Bit(Identifier, Boxed<Expr>),
     /// `x[high:low]`
-    Part(Identifier, Boxed<Expression>, Boxed<Expression>),
+    Part(Identifier, Boxed<Expr>, Boxed<Expr>),
     /// `x[base +: width]`
-    Upward(Identifier, Boxed<Expression>, Boxed<Expression>),
+    Upward(Identifier, Boxed<Expr>, Boxed<Expr>),
     /// `x[base -: width]`
-    Downward(Identifier, Boxed<Expression>, Boxed<Expression>),
+    Downward(Identifier, Boxed<Expr>, Boxed<Expr>),
 }
 
-impl Expression {
+impl Expr {
     /// The place of its first token.
     pub fn place(&self) -> Place
         ensures { result ≡ place_of_expression self.now }
     {
         match self {
-            Expression::Number(at, _)
-            | Expression::Unary(at, _, _)
-            | Expression::Concatenation(at, _)
-            | Expression::Replication(at, _, _)
-            | Expression::Bracketed(at, _) => *at,
-            Expression::Read(reference) => reference.place(),
-            Expression::Binary(_, left, _) => left.get().place(),
-            Expression::Conditional(condition, _, _) => condition.get().place(),
+            Expr::Number(at, _)
+            | Expr::Unary(at, _, _)
+            | Expr::Concatenation(at, _)
+            | Expr::Replication(at, _, _)
+            | Expr::Bracketed(at, _) => *at,
+            Expr::Read(reference) => reference.place(),
+            Expr::Binary(_, left, _) => left.get().place(),
+            Expr::Conditional(condition, _, _) => condition.get().place(),
         }
     }
 }

@@ -2,7 +2,7 @@
 ghost use Rattle.std.specs.Prelude.{◌≡◌};
 ghost use Rattle.verilog_ast.specs.Places.{place_of_branches, place_of_generate_item};
 
-use crate::expression::Expression;
+use crate::expression::Expr;
 use crate::generate_loop::Loop;
 use crate::identifier::Identifier;
 use crate::plain_item::PlainItem;
@@ -25,7 +25,7 @@ pub enum GenerateItem {
 #[derive(Drop)]
 pub struct Branch {
     pub at: Place,
-    pub condition: Option<Boxed<Expression>>,
+    pub condition: Option<Boxed<Expr>>,
     pub label: Identifier,
     pub items: Items<GenerateItem>,
 }

@@ -1,5 +1,5 @@
 // Heads of generate loops.
-use crate::expression::Expression;
+use crate::expression::Expr;
 use crate::parameter::Parameter;
 use sqlite_items::Boxed;
 
@@ -7,6 +7,6 @@ use sqlite_items::Boxed;
 #[derive(Drop)]
 pub struct Loop {
     pub start: Parameter,
-    pub condition: Boxed<Expression>,
+    pub condition: Boxed<Expr>,
     pub step: Parameter,
 }

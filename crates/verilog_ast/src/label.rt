@@ -1,5 +1,5 @@
 // Labels of the items of a `case`.
-use crate::expression::Expression;
+use crate::expression::Expr;
 use crate::pattern::Pattern;
 use ls_text::Place;
 use sqlite_items::Boxed;
@@ -9,5 +9,5 @@ use sqlite_items::Boxed;
 pub enum Label {
     /// A literal with don't-cares, in a `casez` alone.
     Pattern(Place, Pattern),
-    Expression(Boxed<Expression>),
+    Expr(Boxed<Expr>),
 }

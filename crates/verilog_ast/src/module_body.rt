@@ -1,8 +1,8 @@
 // What stands in a module.
 use crate::header_parameter::HeaderParameter;
-use crate::ports::Ports;
 use crate::identifier::Identifier;
 use crate::item::Item;
+use crate::ports::Ports;
 use sqlite_items::Items;
 
 /// The name of a module, its header and its items in the order of the text.

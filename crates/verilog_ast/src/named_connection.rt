@@ -1,5 +1,5 @@
 // Connections by name.
-use crate::expression::Expression;
+use crate::expression::Expr;
 use crate::identifier::Identifier;
 use ls_text::Place;
 use sqlite_items::Boxed;
@@ -9,5 +9,5 @@ use sqlite_items::Boxed;
 pub struct NamedConnection {
     pub at: Place,
     pub name: Identifier,
-    pub value: Option<Boxed<Expression>>,
+    pub value: Option<Boxed<Expr>>,
 }

@@ -1,5 +1,5 @@
 // Connections by order.
-use crate::expression::Expression;
+use crate::expression::Expr;
 use ls_text::Place;
 use sqlite_items::Boxed;
 
@@ -7,5 +7,5 @@ use sqlite_items::Boxed;
 #[derive(Drop)]
 pub struct OrderedConnection {
     pub at: Place,
-    pub value: Option<Boxed<Expression>>,
+    pub value: Option<Boxed<Expr>>,
 }

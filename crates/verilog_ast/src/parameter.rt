@@ -1,5 +1,5 @@
 // Parameters.
-use crate::expression::Expression;
+use crate::expression::Expr;
 use crate::identifier::Identifier;
 use sqlite_items::Boxed;
 
@@ -7,5 +7,5 @@ use sqlite_items::Boxed;
 #[derive(Drop)]
 pub struct Parameter {
     pub name: Identifier,
-    pub value: Boxed<Expression>,
+    pub value: Boxed<Expr>,
 }

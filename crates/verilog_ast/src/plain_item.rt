@@ -8,7 +8,7 @@ use crate::identifier::Identifier;
 use crate::instance::Instance;
 use crate::parameter::Parameter;
 use crate::shape::Shape;
-use crate::statement::Statement;
+use crate::statement::Stmt;
 use crate::variable::Variable;
 use ls_text::Place;
 use sqlite_items::{Boxed, Items};
@@ -22,9 +22,9 @@ pub enum PlainItem {
     Genvar(Place, Items<Identifier>),
     Assign(Place, Items<Continuous>),
     /// `always @*` or `always @(*)`
-    Combinational(Place, Boxed<Statement>),
+    Combinational(Place, Boxed<Stmt>),
     /// `always @(posedge clock)`
-    Clocked(Place, Identifier, Boxed<Statement>),
+    Clocked(Place, Identifier, Boxed<Stmt>),
     Instances(Identifier, Option<Connections>, Items<Instance>),
 }
 

@@ -1,10 +1,10 @@
 // Ranges of declarations.
-use crate::expression::Expression;
+use crate::expression::Expr;
 use sqlite_items::Boxed;
 
 /// `[high:low]`
 #[derive(Drop)]
 pub struct Range {
-    pub high: Boxed<Expression>,
-    pub low: Boxed<Expression>,
+    pub high: Boxed<Expr>,
+    pub low: Boxed<Expr>,
 }

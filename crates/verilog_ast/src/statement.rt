@@ -3,23 +3,23 @@ ghost use Rattle.std.specs.Prelude.{◌≡◌};
 ghost use Rattle.verilog_ast.specs.Places.{place_of_statement};
 
 use crate::case_kind::CaseKind;
-use crate::expression::Expression;
+use crate::expression::Expr;
 use crate::identifier::Identifier;
 use crate::label::Label;
-use crate::target::Target;
+use crate::target::Lhs;
 use ls_text::Place;
 use sqlite_items::{Boxed, Items};
 
 /// A statement, at its first token.
 #[cycle(statement)]
 #[derive(Drop)]
-pub enum Statement {
+pub enum Stmt {
     /// `begin .. end`, with its label
-    Block(Place, Option<Identifier>, Items<Statement>),
-    If(Place, Boxed<Expression>, Boxed<Statement>),
-    IfElse(Place, Boxed<Expression>, Boxed<Statement>, Boxed<Statement>),
-    Case(Place, CaseKind, Boxed<Expression>, Items<Arm>),
-    Assign(Target, Boxed<Expression>),
+    Block(Place, Option<Identifier>, Items<Stmt>),
+    If(Place, Boxed<Expr>, Boxed<Stmt>),
+    IfElse(Place, Boxed<Expr>, Boxed<Stmt>, Boxed<Stmt>),
+    Case(Place, CaseKind, Boxed<Expr>, Items<Arm>),
+    Assign(Lhs, Boxed<Expr>),
     /// `;`
     Empty(Place),
 }
@@ -28,22 +28,22 @@ pub enum Statement {
 #[cycle(statement)]
 #[derive(Drop)]
 pub enum Arm {
-    Default(Place, Boxed<Statement>),
-    Match(Items<Label>, Boxed<Statement>),
+    Default(Place, Boxed<Stmt>),
+    Match(Items<Label>, Boxed<Stmt>),
 }
 
-impl Statement {
+impl Stmt {
     /// The place of its first token.
     pub fn place(&self) -> Place
         ensures { result ≡ place_of_statement self.now }
     {
         match self {
-            Statement::Block(at, _, _)
-            | Statement::If(at, _, _)
-            | Statement::IfElse(at, _, _, _)
-            | Statement::Case(at, _, _, _)
-            | Statement::Empty(at) => *at,
-            Statement::Assign(target, _) => target.place(),
+            Stmt::Block(at, _, _)
+            | Stmt::If(at, _, _)
+            | Stmt::IfElse(at, _, _, _)
+            | Stmt::Case(at, _, _, _)
+            | Stmt::Empty(at) => *at,
+            Stmt::Assign(target, _) => target.place(),
         }
     }
 }

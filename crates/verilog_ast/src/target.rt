@@ -8,20 +8,20 @@ use sqlite_items::Items;
 
 /// The left side of an assignment.
 #[derive(Drop)]
-pub enum Target {
+pub enum Lhs {
     Reference(Reference),
     /// `{a, b}`, at its brace
-    Concatenation(Place, Items<Target>),
+    Concatenation(Place, Items<Lhs>),
 }
 
-impl Target {
+impl Lhs {
     /// The place of its first token.
     pub fn place(&self) -> Place
         ensures { result ≡ place_of_target self.now }
     {
         match self {
-            Target::Reference(reference) => reference.place(),
-            Target::Concatenation(at, _) => *at,
+            Lhs::Reference(reference) => reference.place(),
+            Lhs::Concatenation(at, _) => *at,
         }
     }
 }

@@ -1,5 +1,5 @@
 // Declared nets and variables.
-use crate::expression::Expression;
+use crate::expression::Expr;
 use crate::identifier::Identifier;
 use crate::range::Range;
 use sqlite_items::Boxed;
@@ -8,7 +8,7 @@ use sqlite_items::Boxed;
 #[derive(Drop)]
 pub struct Variable {
     pub name: Identifier,
-    pub value: Option<Boxed<Expression>>,
+    pub value: Option<Boxed<Expr>>,
     /// An address range, which a `reg` will have where it is a memory. No text has one yet.
     pub addresses: Option<Range>,
 }

@@ -6,8 +6,8 @@ use Rattle.verilog_lex.specs.declared.kind.Kind.{Kind}
 use Rattle.verilog_lex.specs.declared.kind.Kind.TheVariants as k
 use Rattle.verilog_ast.specs.declared.identifier.Identifier.{Identifier}
 use Rattle.verilog_ast.specs.declared.unary_operator.UnaryOperator.{UnaryOperator}
-use Rattle.verilog_ast.specs.declared.expression.Expression.{Expression}
-use Rattle.verilog_ast.specs.declared.expression.Expression.TheVariants as e
+use Rattle.verilog_ast.specs.declared.expression.Expr.{Expr}
+use Rattle.verilog_ast.specs.declared.expression.Expr.TheVariants as e
 use Rattle.verilog_ast.specs.declared.expression.Reference.{Reference}
 use Rattle.verilog_ast.specs.declared.expression.Reference.TheVariants as ref
 use Rattle.verilog_ast.specs.declared.range.Range.{Range}
@@ -17,25 +17,25 @@ use Rattle.verilog_expr.proofs.OneRow.{takes_kind, clash, one_rest, one_token, I
 
 -- ---- that a phrase is the only one of its kind at the front of the tokens, and where it ends
 
-abbrev OneExpression : Expression → List Token → List Token → Type 0
-OneExpression x s r = (y : Expression) (s' t : List Token) → s ≡ s' → Spells (AnExpression y) s' t → (x ≡ y) × (r ≡ t)
+abbrev OneExpression : Expr → List Token → List Token → Type 0
+OneExpression x s r = (y : Expr) (s' t : List Token) → s ≡ s' → Spells (AnExpression y) s' t → (x ≡ y) × (r ≡ t)
 
 abbrev OneSelect : Identifier → Reference → List Token → List Token → Type 0
 OneSelect n x s r = (m : Identifier) (y : Reference) (s' t : List Token) → n ≡ m → s ≡ s' → Spells (ASelect m y) s' t → (x ≡ y) × (r ≡ t)
 
-abbrev OnePart : Identifier → Expression → Reference → List Token → List Token → Type 0
-OnePart n x z s r = (m : Identifier) (y : Expression) (w : Reference) (s' t : List Token) → n ≡ m → x ≡ y → s ≡ s' → Spells (APart m y w) s' t
+abbrev OnePart : Identifier → Expr → Reference → List Token → List Token → Type 0
+OnePart n x z s r = (m : Identifier) (y : Expr) (w : Reference) (s' t : List Token) → n ≡ m → x ≡ y → s ≡ s' → Spells (APart m y w) s' t
     → (z ≡ w) × (r ≡ t)
 
-abbrev OneBraced : Place → Expression → Expression → List Token → List Token → Type 0
-OneBraced at x z s r = (at' : Place) (y w : Expression) (s' t : List Token) → at ≡ at' → x ≡ y → s ≡ s' → Spells (ABraced at' y w) s' t
+abbrev OneBraced : Place → Expr → Expr → List Token → List Token → Type 0
+OneBraced at x z s r = (at' : Place) (y w : Expr) (s' t : List Token) → at ≡ at' → x ≡ y → s ≡ s' → Spells (ABraced at' y w) s' t
     → (z ≡ w) × (r ≡ t)
 
-abbrev OneBehind : Expression → List Expression → List Token → List Token → Type 0
-OneBehind x xs s r = (y : Expression) (ys : List Expression) (s' t : List Token) → x ≡ y → s ≡ s' → Spells (Behind y ys) s' t → (xs ≡ ys) × (r ≡ t)
+abbrev OneBehind : Expr → List Expr → List Token → List Token → Type 0
+OneBehind x xs s r = (y : Expr) (ys : List Expr) (s' t : List Token) → x ≡ y → s ≡ s' → Spells (Behind y ys) s' t → (xs ≡ ys) × (r ≡ t)
 
-abbrev OneOthers : List Expression → List Token → List Token → Type 0
-OneOthers xs s r = (ys : List Expression) (s' t : List Token) → s ≡ s' → Spells (Others ys) s' t → (xs ≡ ys) × (r ≡ t)
+abbrev OneOthers : List Expr → List Token → List Token → Type 0
+OneOthers xs s r = (ys : List Expr) (s' t : List Token) → s ≡ s' → Spells (Others ys) s' t → (xs ≡ ys) × (r ≡ t)
 
 abbrev OneRange : Range → List Token → List Token → Type 0
 OneRange x s r = (y : Range) (s' t : List Token) → s ≡ s' → Spells (ARange y) s' t → (x ≡ y) × (r ≡ t)
@@ -62,13 +62,13 @@ same_three f a d b g c h p q r = cc
 question_operator : (kind : Kind) → kind ≡ k.Question → binary_operator kind ≡ None
 question_operator kind q = ap binary_operator q
 
-plain_only : {x y : Expression} {s s' r t : List Token} → Flat IsOnlyOperand 0 x s r → binary_operator (next r) ≡ None → next r ≢ k.Question
+plain_only : {x y : Expr} {s s' r t : List Token} → Flat IsOnlyOperand 0 x s r → binary_operator (next r) ≡ None → next r ≢ k.Question
     → s ≡ s' → Spells (AnExpression y) s' t → (x ≡ y) × (r ≡ t)
 plain_only f free other q (plain h free' other') = one_chain f q h free free'
 plain_only f free other q (conditional {a = a} h t x c y) =
     let o = one_chain f q h free (question_operator (next a) (takes_kind t)) in absurd (other (ap next o.1 ∙ takes_kind t))
 
-conditional_only : {w x y z : Expression} {s s' a b d f r u : List Token} {t v : Token} → Flat IsOnlyOperand 0 w s a → Takes k.Question a b t
+conditional_only : {w x y z : Expr} {s s' a b d f r u : List Token} {t v : Token} → Flat IsOnlyOperand 0 w s a → Takes k.Question a b t
     → OneExpression x b d → Takes k.Colon d f v → OneExpression y f r
     → s ≡ s' → Spells (AnExpression z) s' u → (e.Conditional w x y ≡ z) × (r ≡ u)
 conditional_only {a = a} g t x c y q (plain h free other) =
@@ -77,7 +77,7 @@ conditional_only {a = a} g t x c y q (conditional {a = a'} h t' x' c' y') =
     let o = one_chain g q h (question_operator (next a) (takes_kind t)) (question_operator (next a') (takes_kind t')) in
     let m = x _ _ _ (one_rest t o.1 t') x' in
     let n = y _ _ _ (one_rest c m.1 c') y' in
-    (same_three (λ (u v w : Expression). e.Conditional u v w) _ _ _ _ _ _ o.0 m.0 n.0, n.1)
+    (same_three (λ (u v w : Expr). e.Conditional u v w) _ _ _ _ _ _ o.0 m.0 n.0, n.1)
 
 -- ---- operands
 
@@ -89,7 +89,7 @@ unary_clash {kind = kind} {other = other} {op = op} has none t q t' =
 same_operator : (kind other : Kind) (op o : UnaryOperator) → Some op ≡ unary_operator kind → Some o ≡ unary_operator other → kind ≡ other → op ≡ o
 same_operator kind other op o has has' q = let h : Some op ≡ Some o = has ∙ ap unary_operator q ∙ sym has' in cc
 
-number_only : {y : Expression} {s s' r u : List Token} {t : Token} → Takes k.Number s r t → s ≡ s' → Spells (AnOperand y) s' u
+number_only : {y : Expr} {s s' r u : List Token} {t : Token} → Takes k.Number s r t → s ≡ s' → Spells (AnOperand y) s' u
     → (e.Number t.at (number_of t) ≡ y) × (r ≡ u)
 number_only t q (number t') = (ap (λ (v : Token). e.Number v.at (number_of v)) (one_token t q t'), one_rest t q t')
 number_only t q (unary has t' h) = absurd (unary_clash has refl t' (sym q) t)
@@ -97,18 +97,18 @@ number_only t q (read t' h) = absurd (clash (λ is. cc) t q t')
 number_only t q (bracketed t' h v) = absurd (clash (λ is. cc) t q t')
 number_only t q (braced t' h b) = absurd (clash (λ is. cc) t q t')
 
-unary_only : {op : UnaryOperator} {x y : Expression} {s s' a r u : List Token} {kind : Kind} {t : Token} → Some op ≡ unary_operator kind
+unary_only : {op : UnaryOperator} {x y : Expr} {s s' a r u : List Token} {kind : Kind} {t : Token} → Some op ≡ unary_operator kind
     → Takes kind s a t → IsOnlyOperand x a r → s ≡ s' → Spells (AnOperand y) s' u → (e.Unary t.at op x ≡ y) × (r ≡ u)
 unary_only has t h q (number t') = absurd (unary_clash has refl t q t')
 unary_only {op = op} {x = x} {kind = kind} {t = t} has took h q (unary {op = o} {x = z} {kind = other} {t = t'} has' took' h') =
     let i = h _ _ _ (one_rest took q took') h' in
     let j = same_operator kind other op o has has' (sym (takes_kind took) ∙ ap next q ∙ takes_kind took') in
-    (same_three (λ (v : Token) (b : UnaryOperator) (w : Expression). e.Unary v.at b w) t t' op o x z (one_token took q took') j i.0, i.1)
+    (same_three (λ (v : Token) (b : UnaryOperator) (w : Expr). e.Unary v.at b w) t t' op o x z (one_token took q took') j i.0, i.1)
 unary_only has t h q (read t' h') = absurd (unary_clash has refl t q t')
 unary_only has t h q (bracketed t' h' v) = absurd (unary_clash has refl t q t')
 unary_only has t h q (braced t' h' b) = absurd (unary_clash has refl t q t')
 
-read_only : {x : Reference} {y : Expression} {s s' a r u : List Token} {t : Token} → Takes k.Word s a t → OneSelect (identifier_of t) x a r
+read_only : {x : Reference} {y : Expr} {s s' a r u : List Token} {t : Token} → Takes k.Word s a t → OneSelect (identifier_of t) x a r
     → s ≡ s' → Spells (AnOperand y) s' u → (e.Read x ≡ y) × (r ≡ u)
 read_only t h q (number t') = absurd (clash (λ is. cc) t q t')
 read_only t h q (unary has t' h') = absurd (unary_clash has refl t' (sym q) t)
@@ -117,17 +117,17 @@ read_only t h q (read t' h') =
 read_only t h q (bracketed t' h' v) = absurd (clash (λ is. cc) t q t')
 read_only t h q (braced t' h' b) = absurd (clash (λ is. cc) t q t')
 
-bracketed_only : {x y : Expression} {s s' a b r u : List Token} {t v : Token} → Takes k.LeftParen s a t → OneExpression x a b
+bracketed_only : {x y : Expr} {s s' a b r u : List Token} {t v : Token} → Takes k.LeftParen s a t → OneExpression x a b
     → Takes k.RightParen b r v → s ≡ s' → Spells (AnOperand y) s' u → (e.Bracketed t.at x ≡ y) × (r ≡ u)
 bracketed_only t h v q (number t') = absurd (clash (λ is. cc) t q t')
 bracketed_only t h v q (unary has t' h') = absurd (unary_clash has refl t' (sym q) t)
 bracketed_only t h v q (read t' h') = absurd (clash (λ is. cc) t q t')
 bracketed_only t h v q (bracketed t' h' v') =
     let i = h _ _ _ (one_rest t q t') h' in
-    (same_two (λ (w : Token) (z : Expression). e.Bracketed w.at z) _ _ _ _ (one_token t q t') i.0, one_rest v i.1 v')
+    (same_two (λ (w : Token) (z : Expr). e.Bracketed w.at z) _ _ _ _ (one_token t q t') i.0, one_rest v i.1 v')
 bracketed_only t h v q (braced t' h' b) = absurd (clash (λ is. cc) t q t')
 
-braced_only : {x y z : Expression} {s s' a b r u : List Token} {t : Token} → Takes k.LeftBrace s a t → OneExpression x a b → OneBraced t.at x y b r
+braced_only : {x y z : Expr} {s s' a b r u : List Token} {t : Token} → Takes k.LeftBrace s a t → OneExpression x a b → OneBraced t.at x y b r
     → s ≡ s' → Spells (AnOperand z) s' u → (y ≡ z) × (r ≡ u)
 braced_only t h b q (number t') = absurd (clash (λ is. cc) t q t')
 braced_only t h b q (unary has t' h') = absurd (unary_clash has refl t' (sym q) t)
@@ -138,37 +138,37 @@ braced_only t h b q (braced t' h' b') =
 
 -- ---- in braces
 
-concatenation_only : {at at' : Place} {x y w : Expression} {all : List Expression} {s s' a r u : List Token} {t : Token} → next s ≢ k.LeftBrace
+concatenation_only : {at at' : Place} {x y w : Expr} {all : List Expr} {s s' a r u : List Token} {t : Token} → next s ≢ k.LeftBrace
     → OneBehind x all s a → Takes k.RightBrace a r t
     → at ≡ at' → x ≡ y → s ≡ s' → Spells (ABraced at' y w) s' u → (e.Concatenation at all ≡ w) × (r ≡ u)
 concatenation_only free h t i j q (concatenation free' h' t') =
-    let o = h _ _ _ _ j q h' in (same_two (λ (v : Place) (l : List Expression). e.Concatenation v l) _ _ _ _ i o.0, one_rest t o.1 t')
+    let o = h _ _ _ _ j q h' in (same_two (λ (v : Place) (l : List Expr). e.Concatenation v l) _ _ _ _ i o.0, one_rest t o.1 t')
 concatenation_only free h t i j q (replication t' x b u v) = absurd (free (ap next q ∙ takes_kind t'))
 
-replication_only : {at at' : Place} {x y z w : Expression} {all : List Expression} {s s' a b c d r f : List Token} {t u v : Token}
+replication_only : {at at' : Place} {x y z w : Expr} {all : List Expr} {s s' a b c d r f : List Token} {t u v : Token}
     → Takes k.LeftBrace s a t → OneExpression y a b → OneBehind y all b c → Takes k.RightBrace c d u → Takes k.RightBrace d r v
     → at ≡ at' → x ≡ z → s ≡ s' → Spells (ABraced at' z w) s' f → (e.Replication at x all ≡ w) × (r ≡ f)
 replication_only t y b u v i j q (concatenation free h t') = absurd (free (sym (ap next q) ∙ takes_kind t))
 replication_only t y b u v i j q (replication t' y' b' u' v') =
     let m = y _ _ _ (one_rest t q t') y' in
     let n = b _ _ _ _ m.0 m.1 b' in
-    (same_three (λ (p : Place) (c : Expression) (l : List Expression). e.Replication p c l) _ _ _ _ _ _ i j n.0, one_rest v (one_rest u n.1 u') v')
+    (same_three (λ (p : Place) (c : Expr) (l : List Expr). e.Replication p c l) _ _ _ _ _ _ i j n.0, one_rest v (one_rest u n.1 u') v')
 
-behind_only : {x y : Expression} {xs ys : List Expression} {s s' r t : List Token} → OneOthers xs s r → x ≡ y → s ≡ s' → Spells (Behind y ys) s' t
+behind_only : {x y : Expr} {xs ys : List Expr} {s s' r t : List Token} → OneOthers xs s r → x ≡ y → s ≡ s' → Spells (Behind y ys) s' t
     → (x ∷ xs ≡ ys) × (r ≡ t)
-behind_only h i q (behind h') = let o = h _ _ _ q h' in (same_two (λ (z : Expression) (l : List Expression). z ∷ l) _ _ _ _ i o.0, o.1)
+behind_only h i q (behind h') = let o = h _ _ _ q h' in (same_two (λ (z : Expr) (l : List Expr). z ∷ l) _ _ _ _ i o.0, o.1)
 
-no_other_only : {ys : List Expression} {s s' t : List Token} → next s ≢ k.Comma → s ≡ s' → Spells (Others ys) s' t → ([] ≡ ys) × (s ≡ t)
+no_other_only : {ys : List Expr} {s s' t : List Token} → next s ≢ k.Comma → s ≡ s' → Spells (Others ys) s' t → ([] ≡ ys) × (s ≡ t)
 no_other_only free q (no_other free') = (refl, q)
 no_other_only free q (another t h r) = absurd (free (ap next q ∙ takes_kind t))
 
-another_only : {x : Expression} {xs ys : List Expression} {s s' a b r u : List Token} {t : Token} → Takes k.Comma s a t → OneExpression x a b
+another_only : {x : Expr} {xs ys : List Expr} {s s' a b r u : List Token} {t : Token} → Takes k.Comma s a t → OneExpression x a b
     → OneOthers xs b r → s ≡ s' → Spells (Others ys) s' u → (x ∷ xs ≡ ys) × (r ≡ u)
 another_only t h r q (no_other free) = absurd (free (sym (ap next q) ∙ takes_kind t))
 another_only t h r q (another t' h' r') =
     let i = h _ _ _ (one_rest t q t') h' in
     let o = r _ _ _ i.1 r' in
-    (same_two (λ (z : Expression) (l : List Expression). z ∷ l) _ _ _ _ i.0 o.0, o.1)
+    (same_two (λ (z : Expr) (l : List Expr). z ∷ l) _ _ _ _ i.0 o.0, o.1)
 
 -- ---- selects
 
@@ -177,7 +177,7 @@ whole_only : {n m : Identifier} {y : Reference} {s s' t : List Token} → next s
 whole_only free i q (whole free' dot) = (ap (λ (z : Identifier). ref.Whole z) i, q)
 whole_only free i q (select t h p u dot) = absurd (free (ap next q ∙ takes_kind t))
 
-select_only : {n m : Identifier} {x : Expression} {y z : Reference} {s s' a b c r f : List Token} {t u : Token} → Takes k.LeftBracket s a t
+select_only : {n m : Identifier} {x : Expr} {y z : Reference} {s s' a b c r f : List Token} {t u : Token} → Takes k.LeftBracket s a t
     → OneExpression x a b → OnePart n x y b c → Takes k.RightBracket c r u
     → n ≡ m → s ≡ s' → Spells (ASelect m z) s' f → (y ≡ z) × (r ≡ f)
 select_only t h p u i q (whole free dot) = absurd (free (sym (ap next q) ∙ takes_kind t))
@@ -186,42 +186,42 @@ select_only t h p u i q (select t' h' p' u' dot) =
     let n = p _ _ _ _ _ i m.0 m.1 p' in
     (n.0, one_rest u n.1 u')
 
-bit_only : {n m : Identifier} {x y : Expression} {w : Reference} {s s' t : List Token} → next s ≢ k.Colon → next s ≢ k.PlusColon
+bit_only : {n m : Identifier} {x y : Expr} {w : Reference} {s s' t : List Token} → next s ≢ k.Colon → next s ≢ k.PlusColon
     → next s ≢ k.MinusColon → n ≡ m → x ≡ y → s ≡ s' → Spells (APart m y w) s' t → (ref.Bit n x ≡ w) × (s ≡ t)
-bit_only a b c i j q (bit d f g) = (same_two (λ (v : Identifier) (z : Expression). ref.Bit v z) _ _ _ _ i j, q)
+bit_only a b c i j q (bit d f g) = (same_two (λ (v : Identifier) (z : Expr). ref.Bit v z) _ _ _ _ i j, q)
 bit_only a b c i j q (part t h) = absurd (a (ap next q ∙ takes_kind t))
 bit_only a b c i j q (upward t h) = absurd (b (ap next q ∙ takes_kind t))
 bit_only a b c i j q (downward t h) = absurd (c (ap next q ∙ takes_kind t))
 
-part_only : {n m : Identifier} {x y z : Expression} {w : Reference} {s s' a r u : List Token} {t : Token} → Takes k.Colon s a t
+part_only : {n m : Identifier} {x y z : Expr} {w : Reference} {s s' a r u : List Token} {t : Token} → Takes k.Colon s a t
     → OneExpression y a r → n ≡ m → x ≡ z → s ≡ s' → Spells (APart m z w) s' u → (ref.Part n x y ≡ w) × (r ≡ u)
 part_only t h i j q (bit a b c) = absurd (a (sym (ap next q) ∙ takes_kind t))
 part_only t h i j q (part t' h') =
-    let o = h _ _ _ (one_rest t q t') h' in (same_three (λ (v : Identifier) (c d : Expression). ref.Part v c d) _ _ _ _ _ _ i j o.0, o.1)
+    let o = h _ _ _ (one_rest t q t') h' in (same_three (λ (v : Identifier) (c d : Expr). ref.Part v c d) _ _ _ _ _ _ i j o.0, o.1)
 part_only t h i j q (upward t' h') = absurd (clash (λ is. cc) t q t')
 part_only t h i j q (downward t' h') = absurd (clash (λ is. cc) t q t')
 
-upward_only : {n m : Identifier} {x y z : Expression} {w : Reference} {s s' a r u : List Token} {t : Token} → Takes k.PlusColon s a t
+upward_only : {n m : Identifier} {x y z : Expr} {w : Reference} {s s' a r u : List Token} {t : Token} → Takes k.PlusColon s a t
     → OneExpression y a r → n ≡ m → x ≡ z → s ≡ s' → Spells (APart m z w) s' u → (ref.Upward n x y ≡ w) × (r ≡ u)
 upward_only t h i j q (bit a b c) = absurd (b (sym (ap next q) ∙ takes_kind t))
 upward_only t h i j q (part t' h') = absurd (clash (λ is. cc) t q t')
 upward_only t h i j q (upward t' h') =
-    let o = h _ _ _ (one_rest t q t') h' in (same_three (λ (v : Identifier) (c d : Expression). ref.Upward v c d) _ _ _ _ _ _ i j o.0, o.1)
+    let o = h _ _ _ (one_rest t q t') h' in (same_three (λ (v : Identifier) (c d : Expr). ref.Upward v c d) _ _ _ _ _ _ i j o.0, o.1)
 upward_only t h i j q (downward t' h') = absurd (clash (λ is. cc) t q t')
 
-downward_only : {n m : Identifier} {x y z : Expression} {w : Reference} {s s' a r u : List Token} {t : Token} → Takes k.MinusColon s a t
+downward_only : {n m : Identifier} {x y z : Expr} {w : Reference} {s s' a r u : List Token} {t : Token} → Takes k.MinusColon s a t
     → OneExpression y a r → n ≡ m → x ≡ z → s ≡ s' → Spells (APart m z w) s' u
     → (ref.Downward n x y ≡ w) × (r ≡ u)
 downward_only t h i j q (bit a b c) = absurd (c (sym (ap next q) ∙ takes_kind t))
 downward_only t h i j q (part t' h') = absurd (clash (λ is. cc) t q t')
 downward_only t h i j q (upward t' h') = absurd (clash (λ is. cc) t q t')
 downward_only t h i j q (downward t' h') =
-    let o = h _ _ _ (one_rest t q t') h' in (same_three (λ (v : Identifier) (c d : Expression). ref.Downward v c d) _ _ _ _ _ _ i j o.0, o.1)
+    let o = h _ _ _ (one_rest t q t') h' in (same_three (λ (v : Identifier) (c d : Expr). ref.Downward v c d) _ _ _ _ _ _ i j o.0, o.1)
 
-same_range : (x y z w : Expression) → x ≡ z → y ≡ w → let a : Range = record { high = x; low = y } in a ≡ record { high = z; low = w }
+same_range : (x y z w : Expr) → x ≡ z → y ≡ w → let a : Range = record { high = x; low = y } in a ≡ record { high = z; low = w }
 same_range x y z w i j = cc
 
-range_only : {x y : Expression} {z : Range} {s s' a b c d r f : List Token} {t u v : Token} → Takes k.LeftBracket s a t → OneExpression x a b
+range_only : {x y : Expr} {z : Range} {s s' a b c d r f : List Token} {t u v : Token} → Takes k.LeftBracket s a t → OneExpression x a b
     → Takes k.Colon b c u → OneExpression y c d → Takes k.RightBracket d r v
     → s ≡ s' → Spells (ARange z) s' f → (record { high = x; low = y } ≡ z) × (r ≡ f)
 range_only t x u y v q (range t' x' u' y' v') =
@@ -257,7 +257,7 @@ is_only (range t x c y v) = λ z s' f q g. range_only t (is_only x) c (is_only y
 
 -- ---- in the words of the definition
 
-pub one_expression : (x y : Expression) (s r t : List Token) → Spells (AnExpression x) s r → Spells (AnExpression y) s t → (x ≡ y) × (r ≡ t)
+pub one_expression : (x y : Expr) (s r t : List Token) → Spells (AnExpression x) s r → Spells (AnExpression y) s t → (x ≡ y) × (r ≡ t)
 one_expression x y s r t h g = is_only h y s t refl g
 
 pub one_select : (n : Identifier) (x y : Reference) (s r t : List Token) → Spells (ASelect n x) s r → Spells (ASelect n y) s t → (x ≡ y) × (r ≡ t)

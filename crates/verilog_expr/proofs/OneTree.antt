@@ -1,8 +1,8 @@
 -- A row of operands and operators has one tree.
 use Rattle.std.proofs.Common.{◌≡◌, ◌≤◌, ◌+◌, ℕ, List, [], ◌∷◌, ◌++◌, refl, sym, ap, subst, arith}
 use Rattle.verilog_ast.specs.declared.binary_operator.BinaryOperator.{BinaryOperator}
-use Rattle.verilog_ast.specs.declared.expression.Expression.{Expression}
-use Rattle.verilog_ast.specs.declared.expression.Expression.TheVariants as e
+use Rattle.verilog_ast.specs.declared.expression.Expr.{Expr}
+use Rattle.verilog_ast.specs.declared.expression.Expr.TheVariants as e
 use Rattle.verilog_expr.specs.Tokens.{level}
 
 -- ---- two cuts of one list
@@ -36,12 +36,12 @@ cuts (a ∷ us) vs (x ∷ xs) ys u y q =
 -- an operator and the operand behind it
 pub record Further : Type 0 where
   pub op : BinaryOperator
-  pub operand : Expression
+  pub operand : Expr
 
 -- With operators of this level and above, the expression is a tree of the first operand and the further ones.
-pub data TreeOf : ℕ → Expression → Expression → List Further → Type 0 where
-  leaf : {p : ℕ} {x : Expression} → TreeOf p x x []
-  node : {p : ℕ} {op : BinaryOperator} {x y a b : Expression} {ms ns : List Further} → p ≤ level op → TreeOf (level op) x a ms
+pub data TreeOf : ℕ → Expr → Expr → List Further → Type 0 where
+  leaf : {p : ℕ} {x : Expr} → TreeOf p x x []
+  node : {p : ℕ} {op : BinaryOperator} {x y a b : Expr} {ms ns : List Further} → p ≤ level op → TreeOf (level op) x a ms
       → TreeOf (level op + 1) y b ns
       → TreeOf p (e.Binary op x y) a (ms ++ record { op = op; operand = b } ∷ ns)
 
@@ -50,7 +50,7 @@ no_cut [] vs u q = absurd cc
 no_cut (a ∷ us) vs u q = absurd cc
 
 -- each operator of a row with a tree of a level has this level, or one above
-pub level_within : {p : ℕ} {x a : Expression} {ms : List Further} → TreeOf p x a ms → (us vs : List Further) (u : Further) → ms ≡ us ++ u ∷ vs
+pub level_within : {p : ℕ} {x a : Expr} {ms : List Further} → TreeOf p x a ms → (us vs : List Further) (u : Further) → ms ≡ us ++ u ∷ vs
     → p ≤ level u.op
 level_within leaf us vs u q = absurd (no_cut us vs u (sym q))
 level_within (node {p = p} {op = op} {b = b} {ms = ms} {ns = ns} le left right) us vs u q =
@@ -60,11 +60,11 @@ level_within (node {p = p} {op = op} {b = b} {ms = ms} {ns = ns} le left right) 
       | after mid i j ↦ let h = level_within left us mid u i in omega (arith, h, le)
     ]
 
-same_node : (op o : BinaryOperator) (x y z w : Expression) → op ≡ o → x ≡ z → y ≡ w → e.Binary op x y ≡ e.Binary o z w
+same_node : (op o : BinaryOperator) (x y z w : Expr) → op ≡ o → x ≡ z → y ≡ w → e.Binary op x y ≡ e.Binary o z w
 same_node op o x y z w i j k = cc
 
 -- a row has one tree
-pub one_tree : {p q : ℕ} {x y a b : Expression} {ms ns : List Further} → TreeOf p x a ms → TreeOf q y b ns → a ≡ b → ms ≡ ns → x ≡ y
+pub one_tree : {p q : ℕ} {x y a b : Expr} {ms ns : List Further} → TreeOf p x a ms → TreeOf q y b ns → a ≡ b → ms ≡ ns → x ≡ y
 one_tree leaf leaf i j = i
 one_tree leaf (node {b = b} {ms = us} {ns = vs} le left right) i j = absurd (no_cut us vs _ (sym j))
 one_tree (node {b = b} {ms = us} {ns = vs} le left right) leaf i j = absurd (no_cut us vs _ j)

@@ -4,7 +4,7 @@ use Rattle.std.proofs.lemmas.List.{length-drop, take-append-drop}
 use Rattle.ls_text.specs.declared.fault.Fault.{Fault}
 use Rattle.verilog_lex.specs.declared.token.Token.{Token}
 use Rattle.verilog_lex.specs.Ends.{EndsOnce}
-use Rattle.verilog_ast.specs.declared.expression.Expression.{Expression}
+use Rattle.verilog_ast.specs.declared.expression.Expr.{Expr}
 use Rattle.verilog_expr.specs.declared.fault.ParseFault.{ParseFault}
 use Rattle.verilog_expr.specs.declared.fault.ParseFault.TheVariants.{Stuck, Heavy}
 use Rattle.verilog_expr.specs.declared.error.ParseError.{ParseError}
@@ -68,7 +68,7 @@ left_from tokens own r from cut =
     let all : (take from tokens ++ own) ++ r ≡ tokens = append_assoc (take from tokens) own r ∙ ap (λ (l : List Token). take from tokens ++ l) (sym cut) ∙ take-append-drop from tokens in
     sym (ap (λ (l : List Token). drop (length l - length r) l) (sym all) ∙ left_part (take from tokens ++ own) r)
 
-pub stands_from : (tokens here rest : List Token) (from weight next : ℕ) (x : Expression) → EndsOnce tokens → from < length tokens → here ≡ drop from tokens → next ≡ length tokens - length rest
+pub stands_from : (tokens here rest : List Token) (from weight next : ℕ) (x : Expr) → EndsOnce tokens → from < length tokens → here ≡ drop from tokens → next ≡ length tokens - length rest
     → Run (expression weight) here (Ok rest) → Spells (spells.AnExpression x) here rest → length rest < length here → StandsFrom tokens from weight (record { expr = x; next = next })
 stands_from tokens here rest from weight next x ends inside is-here is-next run tree shorter =
     let w = suffix run in

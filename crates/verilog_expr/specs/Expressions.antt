@@ -1,7 +1,7 @@
 -- One expression within a list of tokens.
 use Rattle.std.specs.Prelude.{◌<◌, ℕ, List, [], ◌∷◌, length, drop, Ok}
 use Rattle.verilog_lex.specs.declared.token.Token.{Token}
-use Rattle.verilog_ast.specs.declared.expression.Expression.{Expression}
+use Rattle.verilog_ast.specs.declared.expression.Expr.{Expr}
 use Rattle.verilog_expr.specs.declared.parsed_expr.ParsedExpr.{ParsedExpr}
 use Rattle.verilog_expr.specs.Grammar as grammar
 use Rattle.verilog_expr.specs.Grammar.{Symbol, N}
@@ -22,6 +22,6 @@ pub record StandsFrom (tokens : List Token) (from weight : ℕ) (x : ParsedExpr)
 
 -- some expression stands at the front of the tokens
 pub record BeginsWithExpression (s : List Token) : Type 0 where
-  pub expression : Expression
+  pub expression : Expr
   pub rest : List Token
   pub tree : Spells (AnExpression expression) s rest

@@ -16,7 +16,7 @@ use crate::operators::level;
 use crate::parser::{Parser, is_too_heavy};
 use ls_text::Place;
 use sqlite_items::{Boxed, Items};
-use verilog_ast::{Expression, Identifier, Range, Reference};
+use verilog_ast::{Expr, Identifier, Range, Reference};
 use verilog_lex::Kind;
 
 impl<'a> Parser<'a> {
@@ -65,7 +65,7 @@ impl<'a> Parser<'a> {
     fn part(
         &mut self,
         name: Identifier,
-        first: Boxed<Expression>,
+        first: Boxed<Expr>,
         weight: u32,
     ) -> Result<Reference, ParseError>
         requires { weight < 2 ^ 31 }
@@ -97,7 +97,7 @@ impl<'a> Parser<'a> {
     /// token whose weight is above 256; the earlier.
     /// Where `weight` is above 256 that is the next token: 16 where it begins an expression, else 15 or 38.
     #[tactic(auto, using(crate::proofs::Runs::runs, crate::proofs::Weights::weights))]
-    pub fn expression_at(&mut self, weight: u32) -> Result<Expression, ParseError>
+    pub fn expression_at(&mut self, weight: u32) -> Result<Expr, ParseError>
         ensures machine { Reads (N grammar.AnExpression weight ∷ []) self.old result self.new }
         ensures tree { IfOk result (λ x. Spells (spells.AnExpression x) self.old self.new) }
         ensures shorter { OnOk result (length self.new < length self.old) }
@@ -119,7 +119,7 @@ impl<'a> Parser<'a> {
     /// Faults: 15 Syntax or 38 NotInProfile at the first token where the grammar has no rule, 16 NestedTooDeep at the first
     /// token whose weight is above 256; the earlier.
     #[cycle(expression)]
-    pub fn expression(&mut self, weight: u32) -> Result<Expression, ParseError>
+    pub fn expression(&mut self, weight: u32) -> Result<Expr, ParseError>
         requires { weight < 2 ^ 31 }
         ensures machine { Reads (N grammar.AnExpression weight ∷ []) self.old result self.new }
         ensures tree { IfOk result (λ x. Spells (spells.AnExpression x) self.old self.new) }
@@ -134,12 +134,12 @@ impl<'a> Parser<'a> {
         let yes = Boxed::new(self.alloc(), self.expression(inner + 1)?)?;
         self.expect(Kind::Colon, inner)?;
         let no = Boxed::new(self.alloc(), self.expression(inner + 1)?)?;
-        Ok(Expression::Conditional(first, yes, no))
+        Ok(Expr::Conditional(first, yes, no))
     }
 
     // Operands with operators of level `least` and above between them, and how much is open after them.
     #[cycle(expression)]
-    fn chain(&mut self, least: u32, weight: u32) -> Result<(Expression, u32), ParseError>
+    fn chain(&mut self, least: u32, weight: u32) -> Result<(Expr, u32), ParseError>
         requires { weight < 2 ^ 31 }
         ensures machine { ReadsChain weight self.old result self.new }
         ensures tree { IfOk result (λ x. Spells (AChain least x.0) self.old self.new) }
@@ -156,7 +156,7 @@ impl<'a> Parser<'a> {
             let kind = self.peek();
             self.expect(kind, inner)?;
             let (right, after) = self.chain(level(op) + 1, inner + 1)?;
-            left = Expression::Binary(
+            left = Expr::Binary(
                 op,
                 Boxed::new(self.alloc(), left)?,
                 Boxed::new(self.alloc(), right)?,
@@ -167,7 +167,7 @@ impl<'a> Parser<'a> {
     }
 
     #[cycle(expression)]
-    fn operand(&mut self, weight: u32) -> Result<Expression, ParseError>
+    fn operand(&mut self, weight: u32) -> Result<Expr, ParseError>
         requires { weight < 2 ^ 31 }
         ensures machine { Reads (N grammar.Operand weight ∷ []) self.old result self.new }
         ensures tree { IfOk result (λ x. Spells (AnOperand x) self.old self.new) }
@@ -177,22 +177,22 @@ impl<'a> Parser<'a> {
             let kind = self.peek();
             let at = self.expect(kind, weight)?.at;
             let operand = Boxed::new(self.alloc(), self.operand(weight + 1)?)?;
-            return Ok(Expression::Unary(at, op, operand));
+            return Ok(Expr::Unary(at, op, operand));
         }
         match self.peek() {
             Kind::Number => {
                 let token = self.expect(Kind::Number, weight)?;
-                Ok(Expression::Number(token.at, number(token)))
+                Ok(Expr::Number(token.at, number(token)))
             }
             Kind::Word => {
                 let name = identifier(self.expect(Kind::Word, weight)?);
-                Ok(Expression::Read(self.select(name, weight)?))
+                Ok(Expr::Read(self.select(name, weight)?))
             }
             Kind::LeftParen => {
                 let at = self.expect(Kind::LeftParen, weight)?.at;
                 let inner = Boxed::new(self.alloc(), self.expression(weight + 1)?)?;
                 self.expect(Kind::RightParen, weight + 1)?;
-                Ok(Expression::Bracketed(at, inner))
+                Ok(Expr::Bracketed(at, inner))
             }
             Kind::LeftBrace => {
                 let at = self.expect(Kind::LeftBrace, weight)?.at;
@@ -205,12 +205,7 @@ impl<'a> Parser<'a> {
 
     // What follows an opening brace and an expression: the rest of a concatenation or of a replication.
     #[cycle(expression)]
-    fn braced(
-        &mut self,
-        at: Place,
-        first: Expression,
-        weight: u32,
-    ) -> Result<Expression, ParseError>
+    fn braced(&mut self, at: Place, first: Expr, weight: u32) -> Result<Expr, ParseError>
         requires { weight < 2 ^ 31 }
         ensures machine { Reads (N grammar.Braced weight ∷ []) self.old result self.new }
         ensures tree { IfOk result (λ x. Spells (ABraced at first x) self.old self.new) }
@@ -219,7 +214,7 @@ impl<'a> Parser<'a> {
         if !self.sees(Kind::LeftBrace) {
             let all = self.more(first, weight)?;
             self.expect(Kind::RightBrace, weight)?;
-            return Ok(Expression::Concatenation(at, all));
+            return Ok(Expr::Concatenation(at, all));
         }
         let count = Boxed::new(self.alloc(), first)?;
         self.expect(Kind::LeftBrace, weight)?;
@@ -227,12 +222,12 @@ impl<'a> Parser<'a> {
         let all = self.more(inner, weight + 1)?;
         self.expect(Kind::RightBrace, weight + 1)?;
         self.expect(Kind::RightBrace, weight)?;
-        Ok(Expression::Replication(at, count, all))
+        Ok(Expr::Replication(at, count, all))
     }
 
     // Further expressions, each after a comma, behind the first.
     #[cycle(expression)]
-    fn more(&mut self, first: Expression, weight: u32) -> Result<Items<Expression>, ParseError>
+    fn more(&mut self, first: Expr, weight: u32) -> Result<Items<Expr>, ParseError>
         requires { weight < 2 ^ 31 }
         ensures machine { Reads (N grammar.More weight ∷ []) self.old result self.new }
         ensures tree { IfOk result (λ all. Spells (Behind first all) self.old self.new) }

@@ -8,8 +8,8 @@ ghost use Rattle.verilog_expr.specs.Reads.{Reads};
 
 use crate::error::ParseError;
 use crate::fault::ParseFault;
-use crate::stop::Stop;
 use crate::operators::{binary_operator, unary_operator};
+use crate::stop::Stop;
 use ls_text::Place;
 use std::alloc::Global;
 use std::marker::Model;

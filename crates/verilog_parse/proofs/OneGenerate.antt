@@ -3,7 +3,7 @@ use Rattle.std.proofs.Common.{◌≡◌, List, [], ◌∷◌, Some, None, refl, 
 use Rattle.ls_text.specs.declared.place.Place.{Place}
 use Rattle.verilog_lex.specs.declared.token.Token.{Token}
 use Rattle.verilog_ast.specs.declared.identifier.Identifier.{Identifier}
-use Rattle.verilog_ast.specs.declared.expression.Expression.{Expression}
+use Rattle.verilog_ast.specs.declared.expression.Expr.{Expr}
 use Rattle.verilog_ast.specs.declared.parameter.Parameter.{Parameter}
 use Rattle.verilog_ast.specs.declared.generate_loop.Loop.{Loop}
 use Rattle.verilog_ast.specs.declared.generate_item.Branch.{Branch}
@@ -20,7 +20,7 @@ one_loop_head : {x y : Loop} {s q r p : List Token} → Spells (ALoopHead x) s r
 one_loop_head (loop_head x t y u z) (loop_head x' t' y' u' z') same =
     let a = one_parameter x x' same in let b = same_token t t' a.1 in let c = same_expression y y' b.1 in let d = same_token u u' c.1 in
     let e = one_parameter z z' d.1 in
-    (ap₃ (λ (x : Parameter) (y : Expression) (z : Parameter). record { start = x; condition = y; step = z }) a.0 c.0 e.0, e.1)
+    (ap₃ (λ (x : Parameter) (y : Expr) (z : Parameter). record { start = x; condition = y; step = z }) a.0 c.0 e.0, e.1)
 
 mutual
   pub one_generate_items : {x y : List GenerateItem} {s q r p : List Token} → Spells (GenerateItems x) s r → Spells (GenerateItems y) q p → s ≡ q
@@ -61,7 +61,7 @@ mutual
   one_branch (branch t u x v y) (branch t' u' x' v' y') same =
       let a = same_token t t' same in let b = same_token u u' a.1 in let c = same_expression x x' b.1 in let d = same_token v v' c.1 in
       let e = one_block y y' d.1 in (
-        ap₄ (λ (t : Token) (x : Expression) (y : Identifier) (ys : List GenerateItem). record { at = t.at; condition = Some x; label = y; items = ys })
+        ap₄ (λ (t : Token) (x : Expr) (y : Identifier) (ys : List GenerateItem). record { at = t.at; condition = Some x; label = y; items = ys })
             a.0 c.0 e.1 e.2,
         e.3,
       )

@@ -5,9 +5,9 @@ use Rattle.verilog_lex.specs.declared.token.Token.{Token}
 use Rattle.verilog_lex.specs.declared.kind.Kind.{Kind}
 use Rattle.verilog_lex.specs.declared.kind.Kind.TheVariants as k
 use Rattle.verilog_ast.specs.declared.identifier.Identifier.{Identifier}
-use Rattle.verilog_ast.specs.declared.expression.Expression.{Expression}
-use Rattle.verilog_ast.specs.declared.target.Target.{Target}
-use Rattle.verilog_ast.specs.declared.statement.Statement.{Statement}
+use Rattle.verilog_ast.specs.declared.expression.Expr.{Expr}
+use Rattle.verilog_ast.specs.declared.target.Lhs.{Lhs}
+use Rattle.verilog_ast.specs.declared.statement.Stmt.{Stmt}
 use Rattle.verilog_ast.specs.declared.range.Range.{Range}
 use Rattle.verilog_ast.specs.declared.shape.Shape.{Shape}
 use Rattle.verilog_ast.specs.declared.variable.Variable.{Variable}
@@ -83,7 +83,7 @@ one_names_behind (names_behind xs) (names_behind xs') is same =
 pub one_names : {x y : List Identifier} {s q r p : List Token} → Spells (Names x) s r → Spells (Names y) q p → s ≡ q → (x ≡ y) × (r ≡ p)
 one_names (names t xs) (names t' xs') same = let a = same_token t t' same in one_names_behind xs xs' (ap identifier_of a.0) a.1
 
-one_optional_value : {x y : Option Expression} {s q r p : List Token} → Spells (OptionalValue x) s r → Spells (OptionalValue y) q p → s ≡ q
+one_optional_value : {x y : Option Expr} {s q r p : List Token} → Spells (OptionalValue x) s r → Spells (OptionalValue y) q p → s ≡ q
     → (x ≡ y) × (r ≡ p)
 one_optional_value (no_value free) (no_value free') same = (refl, same)
 one_optional_value (no_value free) (a_value t' x') same = no_kind (kind_of t') free (sym same)
@@ -93,7 +93,7 @@ one_optional_value (a_value t x) (a_value t' x') same = let a = same_token t t' 
 pub one_variable : {x y : Variable} {s q r p : List Token} → Spells (AVariable x) s r → Spells (AVariable y) q p → s ≡ q → (x ≡ y) × (r ≡ p)
 one_variable (variable t x) (variable t' x') same =
     let a = same_token t t' same in let b = one_optional_value x x' a.1 in
-    (ap₂ (λ (t : Token) (x : Option Expression). record { name = identifier_of t; value = x; addresses = None }) a.0 b.0, b.1)
+    (ap₂ (λ (t : Token) (x : Option Expr). record { name = identifier_of t; value = x; addresses = None }) a.0 b.0, b.1)
 
 one_other_variables : {x y : List Variable} {s q r p : List Token} → Spells (OtherVariables x) s r → Spells (OtherVariables y) q p → s ≡ q
     → (x ≡ y) × (r ≡ p)
@@ -115,7 +115,7 @@ one_variables (variables x xs) (variables x' xs') same = let a = one_variable x 
 pub one_parameter : {x y : Parameter} {s q r p : List Token} → Spells (AParameter x) s r → Spells (AParameter y) q p → s ≡ q → (x ≡ y) × (r ≡ p)
 one_parameter (parameter t u x) (parameter t' u' x') same =
     let a = same_token t t' same in let b = same_token u u' a.1 in let c = same_expression x x' b.1 in
-    (ap₂ (λ (t : Token) (x : Expression). record { name = identifier_of t; value = x }) a.0 c.0, c.1)
+    (ap₂ (λ (t : Token) (x : Expr). record { name = identifier_of t; value = x }) a.0 c.0, c.1)
 
 one_other_parameters : {x y : List Parameter} {s q r p : List Token} → Spells (OtherParameters x) s r → Spells (OtherParameters y) q p → s ≡ q
     → (x ≡ y) × (r ≡ p)
@@ -136,7 +136,7 @@ one_parameters (parameters x xs) (parameters x' xs') same = let a = one_paramete
 
 -- ---- connections
 
-one_optional_expression : {x y : Option Expression} {s q r p : List Token} → Spells (OptionalExpression x) s r → Spells (OptionalExpression y) q p
+one_optional_expression : {x y : Option Expr} {s q r p : List Token} → Spells (OptionalExpression x) s r → Spells (OptionalExpression y) q p
     → s ≡ q → (x ≡ y) × (r ≡ p)
 one_optional_expression (no_expression free) (no_expression free') same = (refl, same)
 one_optional_expression (no_expression free) (an_expression go' x') same = no_beginning begins_expression go' free (sym same)
@@ -146,7 +146,7 @@ one_optional_expression (an_expression go x) (an_expression go' x') same = let a
 one_ordered : {x y : OrderedConnection} {s q r p : List Token} → Spells (AnOrdered x) s r → Spells (AnOrdered y) q p → s ≡ q → (x ≡ y) × (r ≡ p)
 one_ordered (ordered x) (ordered x') same =
     let a = one_optional_expression x x' same in
-    (ap₂ (λ (s : List Token) (x : Option Expression). record { at = place_at s; value = x }) same a.0, a.1)
+    (ap₂ (λ (s : List Token) (x : Option Expr). record { at = place_at s; value = x }) same a.0, a.1)
 
 one_other_ordered : {x y : List OrderedConnection} {s q r p : List Token} → Spells (OtherOrdered x) s r → Spells (OtherOrdered y) q p → s ≡ q
     → (x ≡ y) × (r ≡ p)
@@ -167,7 +167,7 @@ one_named_connection : {x y : NamedConnection} {s q r p : List Token} → Spells
 one_named_connection (named t u v x z) (named t' u' v' x' z') same =
     let a = same_token t t' same in let b = same_token u u' a.1 in let c = same_token v v' b.1 in let d = one_optional_expression x x' c.1 in
     let e = same_token z z' d.1 in
-    (ap₃ (λ (t : Token) (u : Token) (x : Option Expression). record { at = t.at; name = identifier_of u; value = x }) a.0 b.0 d.0, e.1)
+    (ap₃ (λ (t : Token) (u : Token) (x : Option Expr). record { at = t.at; name = identifier_of u; value = x }) a.0 b.0 d.0, e.1)
 
 one_other_named : {x y : List NamedConnection} {s q r p : List Token} → Spells (OtherNamed x) s r → Spells (OtherNamed y) q p → s ≡ q
     → (x ≡ y) × (r ≡ p)
@@ -228,7 +228,7 @@ one_instances (instances x xs) (instances x' xs') same = let a = one_instance x 
 one_continuous : {x y : Continuous} {s q r p : List Token} → Spells (AContinuous x) s r → Spells (AContinuous y) q p → s ≡ q → (x ≡ y) × (r ≡ p)
 one_continuous (continuous x t y) (continuous x' t' y') same =
     let a = one_target x x' same in let b = same_token t t' a.1 in let c = same_expression y y' b.1 in
-    (ap₂ (λ (x : Target) (y : Expression). record { target = x; value = y }) a.0 c.0, c.1)
+    (ap₂ (λ (x : Lhs) (y : Expr). record { target = x; value = y }) a.0 c.0, c.1)
 
 one_other_assignments : {x y : List Continuous} {s q r p : List Token} → Spells (OtherAssignments x) s r → Spells (OtherAssignments y) q p → s ≡ q
     → (x ≡ y) × (r ≡ p)
@@ -259,7 +259,7 @@ one_trigger (at_inputs t u x) (at_edge t' u' e' x') _ same = two_kinds (kind_of 
 one_trigger (at_edge t u e x) (at_inputs t' u' x') _ same = two_kinds (kind_of t) (kind_of t') same (λ is. cc)
 one_trigger (at_edge t u e x) (at_edge t' u' e' x') is same =
     let a = same_token t t' same in let b = same_token u u' a.1 in let c = one_edge_end e e' b.1 in let d = one_statement x x' c in
-    (ap₃ (λ (at : Place) (u : Token) (x : Statement). item.Clocked at (identifier_of u) x) is b.0 d.0, d.1)
+    (ap₃ (λ (at : Place) (u : Token) (x : Stmt). item.Clocked at (identifier_of u) x) is b.0 d.0, d.1)
 
 one_event : {x y : Place} {u v : PlainItem} {s q r p : List Token} → Spells (AnEvent x u) s r → Spells (AnEvent y v) q p → x ≡ y → s ≡ q
     → (u ≡ v) × (r ≡ p)

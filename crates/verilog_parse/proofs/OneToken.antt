@@ -3,7 +3,7 @@ use Rattle.std.proofs.Common.{◌≡◌, ◌≢◌, ◌∙◌, List, ◌∷◌, 
 use Rattle.verilog_lex.specs.declared.token.Token.{Token}
 use Rattle.verilog_lex.specs.declared.kind.Kind.{Kind}
 use Rattle.verilog_ast.specs.declared.identifier.Identifier.{Identifier}
-use Rattle.verilog_ast.specs.declared.expression.Expression.{Expression}
+use Rattle.verilog_ast.specs.declared.expression.Expr.{Expr}
 use Rattle.verilog_ast.specs.declared.expression.Reference.{Reference}
 use Rattle.verilog_ast.specs.declared.range.Range.{Range}
 use Rattle.verilog_expr.specs.Tokens.{next, Takes, taken}
@@ -38,7 +38,7 @@ no_beginning begins go free same = absurd (both _ _ go free (ap (λ (l : List To
 
 -- ---- expressions
 
-pub same_expression : {x y : Expression} {s q r p : List Token} → Spells (AnExpression x) s r → Spells (AnExpression y) q p → s ≡ q
+pub same_expression : {x y : Expr} {s q r p : List Token} → Spells (AnExpression x) s r → Spells (AnExpression y) q p → s ≡ q
     → (x ≡ y) × (r ≡ p)
 same_expression {x} {y} {s} {q} {r} {p} h d same =
     one_expression x y s r p h (subst (λ (l : List Token). Spells (AnExpression y) l p) (sym same) d)

@@ -4,7 +4,7 @@ use Rattle.ls_text.specs.declared.place.Place.{Place}
 use Rattle.verilog_lex.specs.declared.token.Token.{Token}
 use Rattle.verilog_lex.specs.declared.kind.Kind.TheVariants as k
 use Rattle.verilog_ast.specs.declared.identifier.Identifier.{Identifier}
-use Rattle.verilog_ast.specs.declared.expression.Expression.{Expression}
+use Rattle.verilog_ast.specs.declared.expression.Expr.{Expr}
 use Rattle.verilog_ast.specs.declared.parameter.Parameter.{Parameter}
 use Rattle.verilog_ast.specs.declared.plain_item.PlainItem.{PlainItem}
 use Rattle.verilog_ast.specs.declared.generate_loop.Loop.{Loop}
@@ -40,11 +40,11 @@ pub data Spells : Phrase → List Token → List Token → Type 0 where
   plain_item : {x : PlainItem} {s r : List Token} → next s ≢ k.For → next s ≢ k.If → items.Spells (items.APlainItem x) s r → Spells (AGenerateItem (item.Plain x)) s r
   generate_loop : {x : Loop} {y : Identifier} {ys : List GenerateItem} {at : Place} {s a b c d r : List Token} {t u v : Token} → Takes k.For s a t → Takes k.LeftParen a b u → Spells (ALoopHead x) b c → Takes k.RightParen c d v
       → Spells (ABlock at y ys) d r → Spells (ALoop (item.For t.at x y ys)) s r
-  loop_head : {x z : Parameter} {y : Expression} {s a b c d r : List Token} {t u : Token} → items.Spells (items.AParameter x) s a → Takes k.Semicolon a b t → expressions.Spells (expressions.AnExpression y) b c
+  loop_head : {x z : Parameter} {y : Expr} {s a b c d r : List Token} {t u : Token} → items.Spells (items.AParameter x) s a → Takes k.Semicolon a b t → expressions.Spells (expressions.AnExpression y) b c
       → Takes k.Semicolon c d u → items.Spells (items.AParameter z) d r → Spells (ALoopHead (record { start = x; condition = y; step = z })) s r
   block : {xs : List GenerateItem} {s a b c d r : List Token} {t u v z : Token} → Takes k.Begin s a t → Takes k.Colon a b u → Takes k.Word b c v → Spells (GenerateItems xs) c d → Takes k.BlockEnd d r z
       → Spells (ABlock t.at (identifier_of v) xs) s r
-  branch : {x : Expression} {y : Identifier} {ys : List GenerateItem} {at : Place} {s a b c d r : List Token} {t u v : Token} → Takes k.If s a t → Takes k.LeftParen a b u → expressions.Spells (expressions.AnExpression x) b c
+  branch : {x : Expr} {y : Identifier} {ys : List GenerateItem} {at : Place} {s a b c d r : List Token} {t u v : Token} → Takes k.If s a t → Takes k.LeftParen a b u → expressions.Spells (expressions.AnExpression x) b c
       → Takes k.RightParen c d v → Spells (ABlock at y ys) d r → Spells (ABranch (record { at = t.at; condition = Some x; label = y; items = ys })) s r
   otherwise : {at : Place} {y : Identifier} {ys : List GenerateItem} {s r : List Token} → Spells (ABlock at y ys) s r → Spells (AnOtherwise (record { at = at; condition = None; label = y; items = ys })) s r
   branches_behind : {x : Branch} {xs : List Branch} {s r : List Token} → Spells (OtherBranches xs) s r → Spells (BranchesBehind x (x ∷ xs)) s r

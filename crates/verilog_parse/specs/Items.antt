@@ -5,10 +5,10 @@ use Rattle.ls_text.specs.declared.place.Place.{Place}
 use Rattle.verilog_lex.specs.declared.token.Token.{Token}
 use Rattle.verilog_lex.specs.declared.kind.Kind.TheVariants as k
 use Rattle.verilog_ast.specs.declared.identifier.Identifier.{Identifier}
-use Rattle.verilog_ast.specs.declared.expression.Expression.{Expression}
-use Rattle.verilog_ast.specs.declared.target.Target.{Target}
+use Rattle.verilog_ast.specs.declared.expression.Expr.{Expr}
+use Rattle.verilog_ast.specs.declared.target.Lhs.{Lhs}
 use Rattle.verilog_ast.specs.declared.sign.Sign.TheVariants.{Blocking, Nonblocking}
-use Rattle.verilog_ast.specs.declared.statement.Statement.{Statement}
+use Rattle.verilog_ast.specs.declared.statement.Stmt.{Stmt}
 use Rattle.verilog_ast.specs.declared.range.Range.{Range}
 use Rattle.verilog_ast.specs.declared.shape.Shape.{Shape}
 use Rattle.verilog_ast.specs.declared.variable.Variable.{Variable}
@@ -39,7 +39,7 @@ pub data Phrase : Type 0 where
   NamesBehind : Identifier → List Identifier → Phrase
   OtherNames : List Identifier → Phrase
   AVariable : Variable → Phrase
-  OptionalValue : Option Expression → Phrase
+  OptionalValue : Option Expr → Phrase
   Variables : List Variable → Phrase
   VariablesBehind : Variable → List Variable → Phrase
   OtherVariables : List Variable → Phrase
@@ -59,7 +59,7 @@ pub data Phrase : Type 0 where
   AnOrdered : OrderedConnection → Phrase
   OrderedBehind : OrderedConnection → List OrderedConnection → Phrase
   OtherOrdered : List OrderedConnection → Phrase
-  OptionalExpression : Option Expression → Phrase
+  OptionalExpression : Option Expr → Phrase
   APlainItem : PlainItem → Phrase
   -- what follows `always @`, and what follows its bracket
   AnEvent : Place → PlainItem → Phrase
@@ -87,15 +87,15 @@ pub data Spells : Phrase → List Token → List Token → Type 0 where
   names_behind : {x : Identifier} {xs : List Identifier} {s r : List Token} → Spells (OtherNames xs) s r → Spells (NamesBehind x (x ∷ xs)) s r
   no_name : {s : List Token} → next s ≢ k.Comma → Spells (OtherNames []) s s
   another_name : {xs : List Identifier} {s a b r : List Token} {t u : Token} → Takes k.Comma s a t → Takes k.Word a b u → Spells (OtherNames xs) b r → Spells (OtherNames (identifier_of u ∷ xs)) s r
-  variable : {x : Option Expression} {s a r : List Token} {t : Token} → Takes k.Word s a t → Spells (OptionalValue x) a r
+  variable : {x : Option Expr} {s a r : List Token} {t : Token} → Takes k.Word s a t → Spells (OptionalValue x) a r
       → Spells (AVariable (record { name = identifier_of t; value = x; addresses = None })) s r
   no_value : {s : List Token} → next s ≢ k.Equal → Spells (OptionalValue None) s s
-  a_value : {x : Expression} {s a r : List Token} {t : Token} → Takes k.Equal s a t → expressions.Spells (expressions.AnExpression x) a r → Spells (OptionalValue (Some x)) s r
+  a_value : {x : Expr} {s a r : List Token} {t : Token} → Takes k.Equal s a t → expressions.Spells (expressions.AnExpression x) a r → Spells (OptionalValue (Some x)) s r
   variables : {x : Variable} {xs : List Variable} {s a r : List Token} → Spells (AVariable x) s a → Spells (VariablesBehind x xs) a r → Spells (Variables xs) s r
   variables_behind : {x : Variable} {xs : List Variable} {s r : List Token} → Spells (OtherVariables xs) s r → Spells (VariablesBehind x (x ∷ xs)) s r
   no_variable : {s : List Token} → next s ≢ k.Comma → Spells (OtherVariables []) s s
   another_variable : {x : Variable} {xs : List Variable} {s a b r : List Token} {t : Token} → Takes k.Comma s a t → Spells (AVariable x) a b → Spells (OtherVariables xs) b r → Spells (OtherVariables (x ∷ xs)) s r
-  parameter : {x : Expression} {s a b r : List Token} {t u : Token} → Takes k.Word s a t → Takes k.Equal a b u → expressions.Spells (expressions.AnExpression x) b r
+  parameter : {x : Expr} {s a b r : List Token} {t u : Token} → Takes k.Word s a t → Takes k.Equal a b u → expressions.Spells (expressions.AnExpression x) b r
       → Spells (AParameter (record { name = identifier_of t; value = x })) s r
   parameters : {x : Parameter} {xs : List Parameter} {s a r : List Token} → Spells (AParameter x) s a → Spells (ParametersBehind x xs) a r → Spells (Parameters xs) s r
   parameters_behind : {x : Parameter} {xs : List Parameter} {s r : List Token} → Spells (OtherParameters xs) s r → Spells (ParametersBehind x (x ∷ xs)) s r
@@ -111,17 +111,17 @@ pub data Spells : Phrase → List Token → List Token → Type 0 where
       → Spells (AnInstance (record { name = identifier_of t; connections = x })) s r
   by_name : {x : NamedConnection} {xs : List NamedConnection} {s a r : List Token} → k.Dot ≡ next s → Spells (ANamedConnection x) s a → Spells (NamedBehind x xs) a r → Spells (AConnections (connections.Named xs)) s r
   by_order : {x : OrderedConnection} {xs : List OrderedConnection} {s a r : List Token} → next s ≢ k.Dot → Spells (AnOrdered x) s a → Spells (OrderedBehind x xs) a r → Spells (AConnections (connections.Ordered xs)) s r
-  named : {x : Option Expression} {s a b c d r : List Token} {t u v z : Token} → Takes k.Dot s a t → Takes k.Word a b u → Takes k.LeftParen b c v → Spells (OptionalExpression x) c d → Takes k.RightParen d r z
+  named : {x : Option Expr} {s a b c d r : List Token} {t u v z : Token} → Takes k.Dot s a t → Takes k.Word a b u → Takes k.LeftParen b c v → Spells (OptionalExpression x) c d → Takes k.RightParen d r z
       → Spells (ANamedConnection (record { at = t.at; name = identifier_of u; value = x })) s r
   named_behind : {x : NamedConnection} {xs : List NamedConnection} {s r : List Token} → Spells (OtherNamed xs) s r → Spells (NamedBehind x (x ∷ xs)) s r
   no_named : {s : List Token} → next s ≢ k.Comma → Spells (OtherNamed []) s s
   another_named : {x : NamedConnection} {xs : List NamedConnection} {s a b r : List Token} {t : Token} → Takes k.Comma s a t → Spells (ANamedConnection x) a b → Spells (OtherNamed xs) b r → Spells (OtherNamed (x ∷ xs)) s r
-  ordered : {x : Option Expression} {s r : List Token} → Spells (OptionalExpression x) s r → Spells (AnOrdered (record { at = place_at s; value = x })) s r
+  ordered : {x : Option Expr} {s r : List Token} → Spells (OptionalExpression x) s r → Spells (AnOrdered (record { at = place_at s; value = x })) s r
   ordered_behind : {x : OrderedConnection} {xs : List OrderedConnection} {s r : List Token} → Spells (OtherOrdered xs) s r → Spells (OrderedBehind x (x ∷ xs)) s r
   no_ordered : {s : List Token} → next s ≢ k.Comma → Spells (OtherOrdered []) s s
   another_ordered : {x : OrderedConnection} {xs : List OrderedConnection} {s a b r : List Token} {t : Token} → Takes k.Comma s a t → Spells (AnOrdered x) a b → Spells (OtherOrdered xs) b r → Spells (OtherOrdered (x ∷ xs)) s r
   no_expression : {s : List Token} → begins_expression (next s) ≡ false → Spells (OptionalExpression None) s s
-  an_expression : {x : Expression} {s r : List Token} → begins_expression (next s) ≡ true → expressions.Spells (expressions.AnExpression x) s r → Spells (OptionalExpression (Some x)) s r
+  an_expression : {x : Expr} {s r : List Token} → begins_expression (next s) ≡ true → expressions.Spells (expressions.AnExpression x) s r → Spells (OptionalExpression (Some x)) s r
   wire_item : {x : Shape} {xs : List Variable} {s a b c r : List Token} {t u : Token} → Takes k.Wire s a t → Spells (AShape x) a b → Spells (Variables xs) b c → Takes k.Semicolon c r u → Spells (APlainItem (item.Wire t.at x xs)) s r
   reg_item : {x : Shape} {xs : List Variable} {s a b c r : List Token} {t u : Token} → Takes k.Reg s a t → Spells (AShape x) a b → Spells (Variables xs) b c → Takes k.Semicolon c r u → Spells (APlainItem (item.Reg t.at x xs)) s r
   local_item : {x : Shape} {xs : List Parameter} {s a b c r : List Token} {t u : Token} → Takes k.LocalParam s a t → Spells (AShape x) a b → Spells (Parameters xs) b c → Takes k.Semicolon c r u
@@ -131,16 +131,16 @@ pub data Spells : Phrase → List Token → List Token → Type 0 where
   always_item : {x : PlainItem} {s a b r : List Token} {t u : Token} → Takes k.Always s a t → Takes k.AtSign a b u → Spells (AnEvent t.at x) b r → Spells (APlainItem x) s r
   instances_item : {x : Option Connections} {xs : List Instance} {s a b c r : List Token} {t u : Token} → Takes k.Word s a t → Spells (Overrides x) a b → Spells (Instances xs) b c → Takes k.Semicolon c r u
       → Spells (APlainItem (item.Instances (identifier_of t) x xs)) s r
-  at_all : {at : Place} {x : Statement} {s a r : List Token} {t : Token} → Takes k.Star s a t → statements.Spells (statements.AStatement Blocking x) a r → Spells (AnEvent at (item.Combinational at x)) s r
+  at_all : {at : Place} {x : Stmt} {s a r : List Token} {t : Token} → Takes k.Star s a t → statements.Spells (statements.AStatement Blocking x) a r → Spells (AnEvent at (item.Combinational at x)) s r
   at_bracket : {at : Place} {x : PlainItem} {s a r : List Token} {t : Token} → Takes k.LeftParen s a t → Spells (Trigger at x) a r → Spells (AnEvent at x) s r
-  at_inputs : {at : Place} {x : Statement} {s a b r : List Token} {t u : Token} → Takes k.Star s a t → Takes k.RightParen a b u → statements.Spells (statements.AStatement Blocking x) b r
+  at_inputs : {at : Place} {x : Stmt} {s a b r : List Token} {t u : Token} → Takes k.Star s a t → Takes k.RightParen a b u → statements.Spells (statements.AStatement Blocking x) b r
       → Spells (Trigger at (item.Combinational at x)) s r
-  at_edge : {at : Place} {x : Statement} {s a b c r : List Token} {t u : Token} → Takes k.Posedge s a t → Takes k.Word a b u → Spells EdgeEnd b c → statements.Spells (statements.AStatement Nonblocking x) c r
+  at_edge : {at : Place} {x : Stmt} {s a b c r : List Token} {t u : Token} → Takes k.Posedge s a t → Takes k.Word a b u → Spells EdgeEnd b c → statements.Spells (statements.AStatement Nonblocking x) c r
       → Spells (Trigger at (item.Clocked at (identifier_of u) x)) s r
   edge_end : {s r : List Token} {t : Token} → Takes k.RightParen s r t → Spells EdgeEnd s r
   assignments : {x : Continuous} {xs : List Continuous} {s a r : List Token} → Spells (AContinuous x) s a → Spells (AssignmentsBehind x xs) a r → Spells (Assignments xs) s r
   assignments_behind : {x : Continuous} {xs : List Continuous} {s r : List Token} → Spells (OtherAssignments xs) s r → Spells (AssignmentsBehind x (x ∷ xs)) s r
   no_assignment : {s : List Token} → next s ≢ k.Comma → Spells (OtherAssignments []) s s
   another_assignment : {x : Continuous} {xs : List Continuous} {s a b r : List Token} {t : Token} → Takes k.Comma s a t → Spells (AContinuous x) a b → Spells (OtherAssignments xs) b r → Spells (OtherAssignments (x ∷ xs)) s r
-  continuous : {x : Target} {y : Expression} {s a b r : List Token} {t : Token} → statements.Spells (statements.ATarget x) s a → Takes k.Equal a b t → expressions.Spells (expressions.AnExpression y) b r
+  continuous : {x : Lhs} {y : Expr} {s a b r : List Token} {t : Token} → statements.Spells (statements.ATarget x) s a → Takes k.Equal a b t → expressions.Spells (expressions.AnExpression y) b r
       → Spells (AContinuous (record { target = x; value = y })) s r

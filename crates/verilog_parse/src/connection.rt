@@ -9,7 +9,7 @@ ghost use Rattle.verilog_parse.specs.Items as spells;
 ghost use Rattle.verilog_parse.specs.Items.{Spells};
 
 use sqlite_items::{Boxed, Items};
-use verilog_ast::{Connections, Expression, Instance, NamedConnection, OrderedConnection};
+use verilog_ast::{Connections, Expr, Instance, NamedConnection, OrderedConnection};
 use verilog_expr::{ParseError, Parser, identifier};
 use verilog_lex::Kind;
 
@@ -158,10 +158,7 @@ fn more_ordered(
     Ok(all)
 }
 
-fn optional_expression(
-    p: &mut Parser<'_>,
-    weight: u32,
-) -> Result<Option<Boxed<Expression>>, ParseError>
+fn optional_expression(p: &mut Parser<'_>, weight: u32) -> Result<Option<Boxed<Expr>>, ParseError>
     requires { weight < 2 ^ 30 }
     ensures machine { Reads (N grammar.OptionalExpression weight ∷ []) p.old result p.new }
     ensures tree { IfOk result (λ x. Spells (spells.OptionalExpression x) p.old p.new) }

@@ -9,7 +9,7 @@ ghost use Rattle.verilog_parse.specs.Items as spells;
 ghost use Rattle.verilog_parse.specs.Items.{Spells};
 
 use sqlite_items::{Boxed, Items};
-use verilog_ast::{Expression, Identifier, Parameter, PortNet, Range, Shape, Variable};
+use verilog_ast::{Expr, Identifier, Parameter, PortNet, Range, Shape, Variable};
 use verilog_expr::{ParseError, Parser, identifier};
 use verilog_lex::Kind;
 
@@ -132,7 +132,7 @@ pub fn variable(p: &mut Parser<'_>, weight: u32) -> Result<Variable, ParseError>
     })
 }
 
-fn optional_value(p: &mut Parser<'_>, weight: u32) -> Result<Option<Boxed<Expression>>, ParseError>
+fn optional_value(p: &mut Parser<'_>, weight: u32) -> Result<Option<Boxed<Expr>>, ParseError>
     requires { weight < 2 ^ 30 }
     ensures machine { Reads (N grammar.OptionalValue weight ∷ []) p.old result p.new }
     ensures tree { IfOk result (λ x. Spells (spells.OptionalValue x) p.old p.new) }

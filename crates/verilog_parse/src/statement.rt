@@ -12,7 +12,7 @@ ghost use Rattle.verilog_parse.specs.Statements.{Spells};
 use crate::target::braces;
 use ls_text::Place;
 use sqlite_items::{Boxed, Items};
-use verilog_ast::{Arm, CaseKind, Expression, Identifier, Label, Sign, Statement, Target};
+use verilog_ast::{Arm, CaseKind, Expr, Identifier, Label, Lhs, Sign, Stmt};
 use verilog_expr::{ParseError, Parser, identifier, pattern};
 use verilog_lex::Kind;
 
@@ -33,20 +33,20 @@ fn at_statement(p: &Parser<'_>) -> bool
 
 /// A statement whose assignments have this sign.
 #[cycle(statement)]
-pub fn statement(p: &mut Parser<'_>, sign: Sign, weight: u32) -> Result<Statement, ParseError>
+pub fn statement(p: &mut Parser<'_>, sign: Sign, weight: u32) -> Result<Stmt, ParseError>
     requires { weight < 2 ^ 30 }
     ensures machine { Reads (N (grammar.AStatement sign) weight ∷ []) p.old result p.new }
     ensures tree { IfOk result (λ x. Spells (spells.AStatement sign x) p.old p.new) }
     ensures shorter { OnOk result (length p.new < length p.old) }
 {
     match p.peek() {
-        Kind::Semicolon => Ok(Statement::Empty(p.expect(Kind::Semicolon, weight)?.at)),
+        Kind::Semicolon => Ok(Stmt::Empty(p.expect(Kind::Semicolon, weight)?.at)),
         Kind::Begin => {
             let at = p.expect(Kind::Begin, weight)?.at;
             let label = optional_label(p, weight + 1)?;
             let body = statements(p, sign, weight + 1)?;
             p.expect(Kind::BlockEnd, weight + 1)?;
-            Ok(Statement::Block(at, label, body))
+            Ok(Stmt::Block(at, label, body))
         }
         Kind::If => {
             let at = p.expect(Kind::If, weight)?.at;
@@ -63,12 +63,12 @@ pub fn statement(p: &mut Parser<'_>, sign: Sign, weight: u32) -> Result<Statemen
         Kind::Word => {
             let name = identifier(p.expect(Kind::Word, weight)?);
             let target = p.select(name, weight + 1)?;
-            assignment(p, Target::Reference(target), sign, weight + 1)
+            assignment(p, Lhs::Reference(target), sign, weight + 1)
         }
         Kind::LeftBrace => {
             let at = p.expect(Kind::LeftBrace, weight)?.at;
             let targets = braces(p, weight + 2)?;
-            assignment(p, Target::Concatenation(at, targets), sign, weight + 1)
+            assignment(p, Lhs::Concatenation(at, targets), sign, weight + 1)
         }
         _ => Err(p.stuck()),
     }
@@ -76,12 +76,7 @@ pub fn statement(p: &mut Parser<'_>, sign: Sign, weight: u32) -> Result<Statemen
 
 // What follows an `if`.
 #[cycle(statement)]
-fn if_statement(
-    p: &mut Parser<'_>,
-    at: Place,
-    sign: Sign,
-    weight: u32,
-) -> Result<Statement, ParseError>
+fn if_statement(p: &mut Parser<'_>, at: Place, sign: Sign, weight: u32) -> Result<Stmt, ParseError>
     requires { weight < 2 ^ 30 }
     ensures machine { Reads (N (grammar.AnIf sign) weight ∷ []) p.old result p.new }
     ensures tree { IfOk result (λ x. Spells (spells.AnIf sign at x) p.old p.new) }
@@ -99,22 +94,22 @@ fn if_statement(
 fn alternative(
     p: &mut Parser<'_>,
     at: Place,
-    test: Boxed<Expression>,
-    yes: Boxed<Statement>,
+    test: Boxed<Expr>,
+    yes: Boxed<Stmt>,
     sign: Sign,
     weight: u32,
-) -> Result<Statement, ParseError>
+) -> Result<Stmt, ParseError>
     requires { weight < 2 ^ 30 }
     ensures machine { Reads (N (grammar.Alternative sign) weight ∷ []) p.old result p.new }
     ensures tree { IfOk result (λ x. Spells (spells.Alternative sign at test yes x) p.old p.new) }
     ensures shorter { OnOk result (length p.new ≤ length p.old) }
 {
     if !p.sees(Kind::Else) {
-        return Ok(Statement::If(at, test, yes));
+        return Ok(Stmt::If(at, test, yes));
     }
     p.expect(Kind::Else, weight)?;
     let no = Boxed::new(p.alloc(), statement(p, sign, weight)?)?;
-    Ok(Statement::IfElse(at, test, yes, no))
+    Ok(Stmt::IfElse(at, test, yes, no))
 }
 
 // What follows a `case` or `casez`.
@@ -125,7 +120,7 @@ fn case_statement(
     sign: Sign,
     which: CaseKind,
     weight: u32,
-) -> Result<Statement, ParseError>
+) -> Result<Stmt, ParseError>
     requires { weight < 2 ^ 30 }
     ensures machine { Reads (N (grammar.ACase sign which) weight ∷ []) p.old result p.new }
     ensures tree { IfOk result (λ x. Spells (spells.ACase sign which at x) p.old p.new) }
@@ -137,7 +132,7 @@ fn case_statement(
     let first = Boxed::new(p.alloc(), arm(p, sign, which, weight)?)?;
     let arms = more_arms(p, first, sign, which, weight)?;
     p.expect(Kind::EndCase, weight)?;
-    Ok(Statement::Case(at, which, subject, arms))
+    Ok(Stmt::Case(at, which, subject, arms))
 }
 
 fn at_arm(p: &Parser<'_>, which: CaseKind) -> bool
@@ -225,7 +220,7 @@ fn expression_label(p: &mut Parser<'_>, weight: u32) -> Result<Label, ParseError
     ensures shorter { OnOk result (length p.new < length p.old) }
 {
     let value = Boxed::new(p.alloc(), p.expression(weight)?)?;
-    Ok(Label::Expression(value))
+    Ok(Label::Expr(value))
 }
 
 fn casez_label(p: &mut Parser<'_>, weight: u32) -> Result<Label, ParseError>
@@ -239,7 +234,7 @@ fn casez_label(p: &mut Parser<'_>, weight: u32) -> Result<Label, ParseError>
         return Ok(Label::Pattern(token.at, pattern(token)));
     }
     let value = Boxed::new(p.alloc(), p.expression(weight)?)?;
-    Ok(Label::Expression(value))
+    Ok(Label::Expr(value))
 }
 
 // Further labels, each after a comma, behind the first.
@@ -280,7 +275,7 @@ fn optional_label(p: &mut Parser<'_>, weight: u32) -> Result<Option<Identifier>,
 
 // Statements up to what begins none.
 #[cycle(statement)]
-fn statements(p: &mut Parser<'_>, sign: Sign, weight: u32) -> Result<Items<Statement>, ParseError>
+fn statements(p: &mut Parser<'_>, sign: Sign, weight: u32) -> Result<Items<Stmt>, ParseError>
     requires { weight < 2 ^ 30 }
     ensures machine { Reads (N (grammar.Statements sign) weight ∷ []) p.old result p.new }
     ensures tree { IfOk result (λ xs. Spells (spells.Statements sign xs) p.old p.new) }
@@ -294,12 +289,7 @@ fn statements(p: &mut Parser<'_>, sign: Sign, weight: u32) -> Result<Items<State
 }
 
 // What follows a target.
-fn assignment(
-    p: &mut Parser<'_>,
-    target: Target,
-    sign: Sign,
-    weight: u32,
-) -> Result<Statement, ParseError>
+fn assignment(p: &mut Parser<'_>, target: Lhs, sign: Sign, weight: u32) -> Result<Stmt, ParseError>
     requires { weight < 2 ^ 30 }
     ensures machine { Reads (N (grammar.AnAssignment sign) weight ∷ []) p.old result p.new }
     ensures tree { IfOk result (λ x. Spells (spells.AnAssignment sign target x) p.old p.new) }
@@ -308,7 +298,7 @@ fn assignment(
     assignment_sign(p, sign, weight)?;
     let value = Boxed::new(p.alloc(), p.expression(weight)?)?;
     p.expect(Kind::Semicolon, weight)?;
-    Ok(Statement::Assign(target, value))
+    Ok(Stmt::Assign(target, value))
 }
 
 // The sign of an assignment.

@@ -9,13 +9,13 @@ ghost use Rattle.verilog_parse.specs.Statements as spells;
 ghost use Rattle.verilog_parse.specs.Statements.{Spells};
 
 use sqlite_items::Items;
-use verilog_ast::Target;
+use verilog_ast::Lhs;
 use verilog_expr::{ParseError, Parser, identifier};
 use verilog_lex::Kind;
 
 /// A target: a name with its select, or a concatenation of targets.
 #[cycle(target)]
-pub fn target(p: &mut Parser<'_>, weight: u32) -> Result<Target, ParseError>
+pub fn target(p: &mut Parser<'_>, weight: u32) -> Result<Lhs, ParseError>
     requires { weight < 2 ^ 30 }
     ensures machine { Reads (N grammar.ATarget weight ∷ []) p.old result p.new }
     ensures tree { IfOk result (λ x. Spells (spells.ATarget x) p.old p.new) }
@@ -24,11 +24,11 @@ pub fn target(p: &mut Parser<'_>, weight: u32) -> Result<Target, ParseError>
     match p.peek() {
         Kind::Word => {
             let name = identifier(p.expect(Kind::Word, weight)?);
-            Ok(Target::Reference(p.select(name, weight)?))
+            Ok(Lhs::Reference(p.select(name, weight)?))
         }
         Kind::LeftBrace => {
             let at = p.expect(Kind::LeftBrace, weight)?.at;
-            Ok(Target::Concatenation(at, braces(p, weight + 1)?))
+            Ok(Lhs::Concatenation(at, braces(p, weight + 1)?))
         }
         _ => Err(p.stuck()),
     }
@@ -36,7 +36,7 @@ pub fn target(p: &mut Parser<'_>, weight: u32) -> Result<Target, ParseError>
 
 /// The targets of a concatenation, after its brace.
 #[cycle(target)]
-pub fn braces(p: &mut Parser<'_>, weight: u32) -> Result<Items<Target>, ParseError>
+pub fn braces(p: &mut Parser<'_>, weight: u32) -> Result<Items<Lhs>, ParseError>
     requires { weight < 2 ^ 30 }
     ensures machine { Reads (N grammar.Braces weight ∷ []) p.old result p.new }
     ensures tree { IfOk result (λ xs. Spells (spells.Braces xs) p.old p.new) }
@@ -50,7 +50,7 @@ pub fn braces(p: &mut Parser<'_>, weight: u32) -> Result<Items<Target>, ParseErr
 
 // Further targets, each after a comma, behind the first.
 #[cycle(target)]
-fn more_targets(p: &mut Parser<'_>, first: Target, weight: u32) -> Result<Items<Target>, ParseError>
+fn more_targets(p: &mut Parser<'_>, first: Lhs, weight: u32) -> Result<Items<Lhs>, ParseError>
     requires { weight < 2 ^ 30 }
     ensures machine { Reads (N grammar.MoreTargets weight ∷ []) p.old result p.new }
     ensures tree { IfOk result (λ xs. Spells (spells.TargetsBehind first xs) p.old p.new) }

@@ -3,7 +3,7 @@ use Rattle.verilog_expr.proofs.Trees.{looser_is, longer, others_begin, others_mo
 use Rattle.verilog_expr.proofs.Runs.{then, expand_at, chain_more}
 use Rattle.verilog_expr.specs.Spells.{Spells, AChain, one}
 use Rattle.verilog_expr.specs.Tokens.{binary_operator, level}
-use Rattle.verilog_ast.specs.declared.expression.Expression.TheVariants as e
+use Rattle.verilog_ast.specs.declared.expression.Expr.TheVariants as e
 use Rattle.verilog_expr.proofs.parser.Parser.+expression.Goals as goal
 
 pub chain-loop-op-init : goal.chain-loop-op-init

@@ -1,6 +1,6 @@
 use Rattle.std.proofs.Common.{◌≡◌, ◌≤◌, ◌<◌, ◌^◌, ◌*◌, ◌+◌, length, List, [], ◌∷◌, ◌++◌, Some}
 use Rattle.verilog_ast.specs.declared.binary_operator.BinaryOperator.{BinaryOperator}
-use Rattle.verilog_ast.specs.declared.expression.Expression.{Expression}
+use Rattle.verilog_ast.specs.declared.expression.Expr.{Expr}
 use Rattle.verilog_lex.specs.declared.token.Token.{Token}
 use Rattle.verilog_expr.specs.Tokens.{next, binary_operator, level}
 use Rattle.verilog_expr.specs.Grammar.{N, Operand, Tail, More}
@@ -44,7 +44,7 @@ decreases-more l = 8 * length l.self.now
 abbrev pub invariant-more-items : goal.invariant-more-items
 invariant-more-items l = record {
   machine : Leads (N More l.weight ∷ []) l.fn.self (N More l.weight ∷ []) l.self;
-  tree : (xs : List Expression) (r : List Token) → Spells (Others xs) l.self r → Spells (Behind l.fn.first (l.all ++ xs)) l.fn.self r;
+  tree : (xs : List Expr) (r : List Token) → Spells (Others xs) l.self r → Spells (Behind l.fn.first (l.all ++ xs)) l.fn.self r;
   shorter : length l.self ≤ length l.fn.self;
 }
 
