@@ -12,3 +12,7 @@ pub mod OneRow
 pub mod OneReading
 pub mod OneRun
 pub mod Named
+pub mod RenamedTokens
+pub mod RenamedTrees
+pub mod RenamedSpells
+pub mod RenamedRun

@@ -1,9 +1,13 @@
 // The tokens of an expression are read in one way.
-ghost use Rattle.std.specs.Prelude.{◌≡◌, List};
+ghost use Rattle.std.specs.Prelude.{◌≡◌, List, Ok, Err};
+ghost use Rattle.ls_text.specs.declared.name_id.NameId.{NameId};
 ghost use Rattle.verilog_lex.specs.declared.token.Token.{Token};
 ghost use Rattle.verilog_ast.specs.declared.expression.Expr.{Expr};
+ghost use Rattle.verilog_ast.specs.Renamed.{renamed_expression};
+ghost use Rattle.verilog_expr.specs.declared.fault.ParseFault.{ParseFault};
 ghost use Rattle.verilog_expr.specs.Grammar.{Symbol};
 ghost use Rattle.verilog_expr.specs.Machine.{Outcome, Run};
+ghost use Rattle.verilog_expr.specs.Renamed.{retokens};
 ghost use Rattle.verilog_expr.specs.Spells.{Spells, AnExpression};
 
 /// The tokens of an expression have one tree and one end, and the machine has one outcome.
@@ -12,4 +16,15 @@ pub fn expressions_are_read_in_one_way()
     ensures tree { (x y : Expr) (s r t : List Token) → Spells (AnExpression x) s r → Spells (AnExpression y) s t
         → (x ≡ y) × (r ≡ t) }
     ensures outcome { (stack : List Symbol) (s : List Token) (a b : Outcome) → Run stack s a → Run stack s b → a ≡ b }
+{}
+
+/// Under other names the tokens stand for the expression under these, and the machine ends as before.
+#[tactic(none)]
+pub fn expressions_may_be_renamed()
+    ensures tree { (f : NameId → NameId) (x : Expr) (s r : List Token) → Spells (AnExpression x) s r
+        → Spells (AnExpression (renamed_expression f x)) (retokens f s) (retokens f r) }
+    ensures taken { (f : NameId → NameId) (stack : List Symbol) (s r : List Token) → Run stack s (Ok r)
+        → Run stack (retokens f s) (Ok (retokens f r)) }
+    ensures fault { (f : NameId → NameId) (stack : List Symbol) (s : List Token) (x : ParseFault) → Run stack s (Err x)
+        → Run stack (retokens f s) (Err x) }
 {}

@@ -14,3 +14,9 @@ pub mod NamedStatements
 pub mod NamedItems
 pub mod NamedGenerates
 pub mod NamedModules
+pub mod RenamedTrees
+pub mod RenamedStatement
+pub mod RenamedItem
+pub mod RenamedGenerate
+pub mod RenamedModule
+pub mod RenamedText

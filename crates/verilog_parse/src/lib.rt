@@ -14,5 +14,5 @@ mod spelling;
 mod statement;
 mod target;
 
-pub use laws::texts_are_read_in_one_way;
+pub use laws::{names_may_change, texts_are_read_in_one_way};
 pub use parsing::parse;
