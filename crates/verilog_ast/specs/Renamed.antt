@@ -13,37 +13,37 @@ use Rattle.verilog_ast.specs.declared.target.Lhs.{Lhs}
 use Rattle.verilog_ast.specs.declared.target.Lhs.TheVariants as target
 use Rattle.verilog_ast.specs.declared.target.Lhs.TheOpen.{Lhs-F}
 use Rattle.verilog_ast.specs.declared.target.Lhs.TheFolds.{fold-Lhs}
-use Rattle.verilog_ast.specs.declared.statement.Label.{Label}
-use Rattle.verilog_ast.specs.declared.statement.Label.TheVariants as label
+use Rattle.verilog_ast.specs.declared.label.Label.{Label}
+use Rattle.verilog_ast.specs.declared.label.Label.TheVariants as label
 use Rattle.verilog_ast.specs.declared.statement.Stmt.{Stmt}
 use Rattle.verilog_ast.specs.declared.statement.Stmt.TheVariants as statement
 use Rattle.verilog_ast.specs.declared.statement.Arm.{Arm}
 use Rattle.verilog_ast.specs.declared.statement.Arm.TheVariants as arm
 use Rattle.verilog_ast.specs.declared.statement.Arm.TheOpen.{Stmt-F, Arm-F}
 use Rattle.verilog_ast.specs.declared.statement.Arm.TheFolds.{fold-Stmt, fold-Arm}
-use Rattle.verilog_ast.specs.declared.declaration.Range.{Range}
-use Rattle.verilog_ast.specs.declared.declaration.Shape.{Shape}
-use Rattle.verilog_ast.specs.declared.declaration.Variable.{Variable}
-use Rattle.verilog_ast.specs.declared.declaration.Parameter.{Parameter}
-use Rattle.verilog_ast.specs.declared.declaration.HeaderParameter.{HeaderParameter}
-use Rattle.verilog_ast.specs.declared.declaration.HeaderPort.{HeaderPort}
-use Rattle.verilog_ast.specs.declared.declaration.HeaderPort.TheVariants as port
-use Rattle.verilog_ast.specs.declared.declaration.Ports.{Ports}
-use Rattle.verilog_ast.specs.declared.declaration.Ports.TheVariants as ports
-use Rattle.verilog_ast.specs.declared.connection.NamedConnection.{NamedConnection}
-use Rattle.verilog_ast.specs.declared.connection.OrderedConnection.{OrderedConnection}
-use Rattle.verilog_ast.specs.declared.connection.Connections.{Connections}
-use Rattle.verilog_ast.specs.declared.connection.Connections.TheVariants as connections
-use Rattle.verilog_ast.specs.declared.connection.Instance.{Instance}
-use Rattle.verilog_ast.specs.declared.item.Continuous.{Continuous}
-use Rattle.verilog_ast.specs.declared.item.Loop.{Loop}
-use Rattle.verilog_ast.specs.declared.item.PlainItem.{PlainItem}
-use Rattle.verilog_ast.specs.declared.item.PlainItem.TheVariants as plain
-use Rattle.verilog_ast.specs.declared.item.Branch.{Branch}
-use Rattle.verilog_ast.specs.declared.item.GenerateItem.{GenerateItem}
-use Rattle.verilog_ast.specs.declared.item.GenerateItem.TheVariants as generate
-use Rattle.verilog_ast.specs.declared.item.GenerateItem.TheOpen.{GenerateItem-F, Branch-F}
-use Rattle.verilog_ast.specs.declared.item.GenerateItem.TheFolds.{fold-GenerateItem, fold-Branch}
+use Rattle.verilog_ast.specs.declared.range.Range.{Range}
+use Rattle.verilog_ast.specs.declared.shape.Shape.{Shape}
+use Rattle.verilog_ast.specs.declared.variable.Variable.{Variable}
+use Rattle.verilog_ast.specs.declared.parameter.Parameter.{Parameter}
+use Rattle.verilog_ast.specs.declared.header_parameter.HeaderParameter.{HeaderParameter}
+use Rattle.verilog_ast.specs.declared.header_port.HeaderPort.{HeaderPort}
+use Rattle.verilog_ast.specs.declared.header_port.HeaderPort.TheVariants as port
+use Rattle.verilog_ast.specs.declared.ports.Ports.{Ports}
+use Rattle.verilog_ast.specs.declared.ports.Ports.TheVariants as ports
+use Rattle.verilog_ast.specs.declared.named_connection.NamedConnection.{NamedConnection}
+use Rattle.verilog_ast.specs.declared.ordered_connection.OrderedConnection.{OrderedConnection}
+use Rattle.verilog_ast.specs.declared.connections.Connections.{Connections}
+use Rattle.verilog_ast.specs.declared.connections.Connections.TheVariants as connections
+use Rattle.verilog_ast.specs.declared.instance.Instance.{Instance}
+use Rattle.verilog_ast.specs.declared.continuous.Continuous.{Continuous}
+use Rattle.verilog_ast.specs.declared.generate_loop.Loop.{Loop}
+use Rattle.verilog_ast.specs.declared.plain_item.PlainItem.{PlainItem}
+use Rattle.verilog_ast.specs.declared.plain_item.PlainItem.TheVariants as plain
+use Rattle.verilog_ast.specs.declared.generate_item.Branch.{Branch}
+use Rattle.verilog_ast.specs.declared.generate_item.GenerateItem.{GenerateItem}
+use Rattle.verilog_ast.specs.declared.generate_item.GenerateItem.TheVariants as generate
+use Rattle.verilog_ast.specs.declared.generate_item.GenerateItem.TheOpen.{GenerateItem-F, Branch-F}
+use Rattle.verilog_ast.specs.declared.generate_item.GenerateItem.TheFolds.{fold-GenerateItem, fold-Branch}
 use Rattle.verilog_ast.specs.declared.item.Item.{Item}
 use Rattle.verilog_ast.specs.declared.item.Item.TheVariants as item
 use Rattle.verilog_ast.specs.declared.module_body.ModuleBody.{ModuleBody}

@@ -4,8 +4,8 @@ use Rattle.ls_text.specs.declared.name_id.NameId.{NameId}
 use Rattle.verilog_lex.specs.declared.token.Token.{Token}
 use Rattle.verilog_lex.specs.declared.kind.Kind.{Kind}
 use Rattle.verilog_lex.specs.declared.kind.Kind.TheVariants as k
-use Rattle.verilog_ast.specs.declared.item.Branch.{Branch}
-use Rattle.verilog_ast.specs.declared.item.GenerateItem.{GenerateItem}
+use Rattle.verilog_ast.specs.declared.generate_item.Branch.{Branch}
+use Rattle.verilog_ast.specs.declared.generate_item.GenerateItem.{GenerateItem}
 use Rattle.verilog_ast.specs.Renamed.{renamed_identifier, renamed_loop, renamed_generate_item, renamed_branch}
 use Rattle.verilog_expr.specs.Grammar.{begins_generate_item}
 use Rattle.verilog_expr.specs.Renamed.{retokens}

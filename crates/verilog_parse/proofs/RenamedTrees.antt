@@ -10,21 +10,21 @@ use Rattle.verilog_ast.specs.declared.target.Lhs.{Lhs}
 use Rattle.verilog_ast.specs.declared.target.Lhs.TheVariants as target
 use Rattle.verilog_ast.specs.declared.target.Lhs.TheOpen.{Lhs-F}
 use Rattle.verilog_ast.specs.declared.target.Lhs.TheFolds.{fold-roll-Lhs}
-use Rattle.verilog_ast.specs.declared.statement.CaseKind.{CaseKind}
-use Rattle.verilog_ast.specs.declared.statement.Label.{Label}
+use Rattle.verilog_ast.specs.declared.case_kind.CaseKind.{CaseKind}
+use Rattle.verilog_ast.specs.declared.label.Label.{Label}
 use Rattle.verilog_ast.specs.declared.statement.Stmt.{Stmt}
 use Rattle.verilog_ast.specs.declared.statement.Stmt.TheVariants as statement
 use Rattle.verilog_ast.specs.declared.statement.Arm.{Arm}
 use Rattle.verilog_ast.specs.declared.statement.Arm.TheVariants as arm
 use Rattle.verilog_ast.specs.declared.statement.Arm.TheOpen.{Stmt-F, Arm-F}
 use Rattle.verilog_ast.specs.declared.statement.Arm.TheFolds.{fold-roll-Stmt, fold-roll-Arm}
-use Rattle.verilog_ast.specs.declared.item.Loop.{Loop}
-use Rattle.verilog_ast.specs.declared.item.PlainItem.{PlainItem}
-use Rattle.verilog_ast.specs.declared.item.Branch.{Branch}
-use Rattle.verilog_ast.specs.declared.item.GenerateItem.{GenerateItem}
-use Rattle.verilog_ast.specs.declared.item.GenerateItem.TheVariants as generate
-use Rattle.verilog_ast.specs.declared.item.GenerateItem.TheOpen.{GenerateItem-F}
-use Rattle.verilog_ast.specs.declared.item.GenerateItem.TheFolds.{fold-roll-GenerateItem, fold_out-Branch}
+use Rattle.verilog_ast.specs.declared.generate_loop.Loop.{Loop}
+use Rattle.verilog_ast.specs.declared.plain_item.PlainItem.{PlainItem}
+use Rattle.verilog_ast.specs.declared.generate_item.Branch.{Branch}
+use Rattle.verilog_ast.specs.declared.generate_item.GenerateItem.{GenerateItem}
+use Rattle.verilog_ast.specs.declared.generate_item.GenerateItem.TheVariants as generate
+use Rattle.verilog_ast.specs.declared.generate_item.GenerateItem.TheOpen.{GenerateItem-F}
+use Rattle.verilog_ast.specs.declared.generate_item.GenerateItem.TheFolds.{fold-roll-GenerateItem, fold_out-Branch}
 use Rattle.verilog_ast.specs.Renamed.{renamed_identifier, renamed_expression, renamed_reference, target_step, renamed_target, renamed_label, arm_step, statement_step, renamed_statement, renamed_arm, renamed_plain_item, renamed_loop, generate_item_step, branch_step, renamed_generate_item, renamed_branch}
 
 pub target_reference_so : (f : NameId → NameId) (x : Reference) → renamed_target f (target.Reference x) ≡ target.Reference (renamed_reference f x)
