@@ -1,7 +1,8 @@
 -- Of a conditional's branches the first whose condition holds is read, and conditionals nest.
-use Rattle.std.proofs.Common.{◌≡◌, ℕ, ◌+◌, ◌-◌, Bool, true, false, not, ◌&&◌, ◌||◌, cond, List, [], ◌∷◌, ◌++◌, length, take, Option, Some, None, refl, sym, ap, ◌∙◌, arith, true≢false}
+use Rattle.std.proofs.Common.{◌≡◌, ℕ, suc, ◌+◌, ◌-◌, Bool, true, false, not, ◌&&◌, ◌||◌, cond, List, [], ◌∷◌, ◌++◌, length, take, Option, Some, None, refl, sym, ap, ◌∙◌, arith, true≢false}
 use Rattle.std.specs.Prelude.{◌==◌, slice_get}
-use Rattle.std.proofs.lemmas.List.{length-append, length-take}
+use Rattle.std.proofs.lemmas.List.{length-append, length-take-le}
+use Rattle.std.proofs.lemmas.Bool.Decides.{nat_tests}
 use Rattle.std.proofs.lemmas.Option.{none-some}
 use Rattle.ls_text.specs.declared.place.Place.{Place}
 use Rattle.verilog_pre.specs.declared.branch.Branch.{Branch}
@@ -63,9 +64,13 @@ opened_depth at negated holds nest = length-append nest _
 
 pub closed_depth : (nest next : List Conditional) → closed nest ≡ Some next → length next ≡ depth_behind (length nest) directive.Endif
 unfolding closed
-closed_depth [] next is = absurd (none-some is)
-closed_depth (c ∷ cs) next is = sym (ap length (some-is is)) ∙ front_size cs
+closed_depth [] next is = absurd (none-some next is)
+closed_depth (c ∷ cs) next is =
+    sym (ap length (some-is (sym (ap (λ t. cond t None (Some (but_last (c ∷ cs)))) (not_none (length cs))) ∙ is))) ∙ front_size cs
   where
+    not_none : (n : ℕ) → (suc n == 0) ≡ false
+    not_none n = grind (arith, nat_tests)
+
     some-is : Some (but_last (c ∷ cs)) ≡ Some next → but_last (c ∷ cs) ≡ next
     some-is e = ap (λ o. from o) e
       where
@@ -74,4 +79,4 @@ closed_depth (c ∷ cs) next is = sym (ap length (some-is is)) ∙ front_size cs
         from (Some n) = n
 
     front_size : (cs : List Conditional) → length (but_last (c ∷ cs)) ≡ length (c ∷ cs) - 1
-    front_size cs = length-take (length (c ∷ cs) - 1) (c ∷ cs) (omega arith)
+    front_size cs = length-take-le (length (c ∷ cs) - 1) (c ∷ cs) (omega arith)
