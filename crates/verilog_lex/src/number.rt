@@ -4,7 +4,7 @@ ghost use Rattle.std.specs.Option.{option_map};
 ghost use Rattle.verilog_lex.specs.Numbers.{digit_of, digits_value, covered, digits_mask, has_wild, number_of, wild_of, based_literal, plain_literal, size_of, sized_literal};
 
 use crate::based::is_wild;
-use crate::shape::Based;
+use crate::number_part::Based;
 use crate::{Kind, Literal};
 use source_text::byte_at;
 
