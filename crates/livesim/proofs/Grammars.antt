@@ -9,29 +9,35 @@ use Rattle.ls_text.specs.declared.refusal.Refusal.TheVariants as refusal
 use Rattle.verilog_lex.specs.declared.token.Token.{Token}
 use Rattle.verilog_lex.specs.Views.{IsNamed}
 use Rattle.verilog_ast.specs.declared.module.Module.{Module}
+use Rattle.verilog_ast.specs.Names.{names_of_modules}
 use Rattle.verilog_expr.specs.declared.fault.ParseFault.{ParseFault}
 use Rattle.verilog_expr.specs.declared.fault.ParseFault.TheVariants.{Stuck, Heavy}
 use Rattle.verilog_expr.specs.Shown.{Refuses, at_fault, names_of, text_of, token_at, left_at}
 use Rattle.verilog_parse.specs.Files.{Stands, file}
 use Rattle.livesim.specs.Designs.{Answer, design_of}
 use Rattle.livesim.specs.Flats.{built}
+use Rattle.livesim.specs.OfTable.{AreOfTable}
 use Rattle.livesim.specs.Readings.{TokensRead, as_modules}
 use Rattle.livesim.specs.declared.built.Built.{Built}
+
+abbrev AreNamed : ℕ → List NameId → Type 0
+AreNamed count ids = All (λ (id : NameId). id.0 < count) ids
 
 -- the modules of a text
 pub modules_read : (names : List (List ℕ)) (top clock : List ℕ) (s : List Token) (xs : List Module) (a : Answer) → Stands names xs s → a ≡ design_of names top clock xs → TokensRead names top clock s a
 modules_read names top clock s xs a stands is = subst (TokensRead names top clock s) (sym is) (as_modules stands)
 
 -- what was made of them
-pub modules_built : {E : Type 0} (old new known : List (List ℕ)) (top clock : List ℕ) (s : List Token) (xs ys : List Module) (r : Result Built E) → new ≡ old → known ≡ new → ys ≡ xs → Stands old xs s
-    → IfOk r (λ b. built known b ≡ design_of known top clock ys) → IfOk r (λ b. TokensRead new top clock s (built new b))
-modules_built old new known top clock s xs ys (Ok b) table same is stands made =
-    modules_read new top clock s xs (built new b) (subst (λ n. Stands n xs s) (sym table) stands)
-    (ap (λ n. built n b) (sym same) ∙ made ∙ ap (λ n. design_of n top clock ys) same ∙ ap (design_of new top clock) is)
-modules_built old new known top clock s xs ys (Err e) table same is stands made = tt
+pub modules_built : {E : Type 0} (old new : List (List ℕ)) (top clock : List ℕ) (s : List Token) (xs ys : List Module) (r : Result Built E) → new ≡ old → ys ≡ xs → Stands old xs s
+    → IfOk r (λ b. built new b ≡ design_of new top clock ys) → IfOk r (λ b. TokensRead new top clock s (built new b))
+modules_built old new top clock s xs ys (Ok b) table is stands made =
+    modules_read new top clock s xs (built new b) (subst (λ n. Stands n xs s) (sym table) stands) (made ∙ ap (design_of new top clock) is)
+modules_built old new top clock s xs ys (Err e) table is stands made = tt
 
-abbrev AreNamed : ℕ → List NameId → Type 0
-AreNamed count ids = All (λ (id : NameId). id.0 < count) ids
+-- their names are of the table
+pub modules_of_table : (old new : List (List ℕ)) (xs ys : List Module) → new ≡ old → ys ≡ xs → AreNamed (length old) (names_of_modules xs) → AreOfTable (length new) (names_of_modules ys)
+modules_of_table old new xs ys table is named =
+    record { all = subst (λ (n : List (List ℕ)). AreNamed (length n) (names_of_modules ys)) (sym table) (subst (λ (zs : List Module). AreNamed (length old) (names_of_modules zs)) (sym is) named) }
 
 -- the token at a place is named
 got_named : (count : ℕ) (s : List Token) (n : ℕ) → All (IsNamed count) s → AreNamed count (text_of (slice_get s n))

@@ -11,3 +11,4 @@ pub mod Cuts
 pub mod Blocks
 pub mod Begins
 pub mod Endings
+pub mod TreeNames

@@ -3,6 +3,7 @@ pub mod Texts
 pub mod FileNames
 pub mod Module
 pub mod Views
+pub mod OfTable
 pub mod Designs
 pub mod Flats
 pub mod Readings

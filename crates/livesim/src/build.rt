@@ -4,14 +4,14 @@ ghost use Rattle.std.specs.List.{All};
 ghost use Rattle.source_text.specs.Faults.{fault_view};
 ghost use Rattle.verilog_lex.specs.Ends.{EndsOnce};
 ghost use Rattle.verilog_lex.specs.Views.{IsNamed};
+ghost use Rattle.verilog_ast.specs.Names.{names_of_modules};
 ghost use Rattle.livesim.specs.Designs.{design_of, unknown_fault};
 ghost use Rattle.livesim.specs.Flats.{built, IsOfTable};
+ghost use Rattle.livesim.specs.OfTable.{AreOfTable};
 ghost use Rattle.livesim.specs.Readings.{TokensRead};
 
 use crate::built::Built;
 use crate::design::design;
-use crate::known::KnownNames;
-use crate::known_names::{known_names, text};
 use crate::module::{module, unknown_in};
 use ls_text::{At, Fault, NameList, Names, NoMemory, Refusal};
 use std::alloc::Global;
@@ -20,11 +20,11 @@ use verilog_lex::Token;
 use verilog_parse::parse;
 
 // The fault of a name that isn't known.
-fn unknown(alloc: Global, known: KnownNames<'_>, name: Identifier) -> Result<Fault, NoMemory>
-    ensures fault { IfOk result (λ f. fault_view known.entry.names.now f ≡ unknown_fault known.entry.names.now name) }
-    ensures of_table { IfOk result (λ f. All (λ id. id.0 < length known.entry.names.now) f.names) }
+fn unknown(alloc: Global, names: &Names, name: Identifier) -> Result<Fault, NoMemory>
+    requires { name.name.0 < length names.now }
+    ensures fault { IfOk result (λ f. fault_view names.now f ≡ unknown_fault names.now name) }
+    ensures of_table { IfOk result (λ f. All (λ id. id.0 < length names.now) f.names) }
 {
-    let _text = text(known, name)?;
     Ok(Fault {
         code: 29,
         at: At::Text(name.at),
@@ -36,19 +36,20 @@ fn unknown(alloc: Global, known: KnownNames<'_>, name: Identifier) -> Result<Fau
 #[tactic(auto, unfolding(crate::specs::Designs::design_of))]
 fn build_modules(
     alloc: Global,
-    known: KnownNames<'_>,
+    names: &Names,
     top: &[u8],
     clock: &[u8],
     modules: &[Module],
 ) -> Result<Built, NoMemory>
-    ensures built { IfOk result (λ b. built known.entry.names.now b ≡ design_of known.entry.names.now top.now clock.now modules.now) }
-    ensures of_table { IfOk result (IsOfTable (length known.entry.names.now)) }
+    requires { AreOfTable (length names.now) (names_of_modules modules.now) }
+    ensures built { IfOk result (λ b. built names.now b ≡ design_of names.now top.now clock.now modules.now) }
+    ensures of_table { IfOk result (IsOfTable (length names.now)) }
 {
-    let Some((register, parts)) = module(alloc, known, top, clock, modules)? else {
+    let Some((register, parts)) = module(alloc, names, top, clock, modules)? else {
         return Ok(Built::OtherForm);
     };
     match unknown_in(&parts) {
-        Some(name) => Ok(Built::Refused(unknown(alloc, known, name)?)),
+        Some(name) => Ok(Built::Refused(unknown(alloc, names, name)?)),
         None => Ok(Built::Made(design(alloc, top, &register, &parts)?)),
     }
 }
@@ -69,12 +70,7 @@ pub fn build(
     ensures table { names.new ≡ names.old }
 {
     match parse(alloc, names, tokens) {
-        Ok(modules) => {
-            let Some(known) = known_names(names, tokens) else {
-                return Err(NoMemory);
-            };
-            build_modules(alloc, known, top, clock, &modules)
-        }
+        Ok(modules) => build_modules(alloc, names, top, clock, &modules),
         Err(Refusal::NoMemory) => Err(NoMemory),
         Err(Refusal::Fault(fault)) => Ok(Built::Refused(fault)),
     }

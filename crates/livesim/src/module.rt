@@ -2,13 +2,14 @@
 ghost use Rattle.std.specs.Prelude.{◌≡◌, ◌<◌, ◌≤◌, IfOk, IfSome, MatchOption, Some, None, length};
 ghost use Rattle.std.specs.Option.{option_map, option_copied};
 ghost use Rattle.livesim.specs.Module.{number_in, plain_value, literal_of, bounds_width, range_width, shape_width, some_clock_port, is_clock_port, declared, is_header, plain_in, literal_in, variable_at, register_at, named_operand, part_at, target_in, assignment_in, clocked_at, items_at, body_at, module_at, first_unknown, unknown_in};
+ghost use Rattle.verilog_ast.specs.Names.{names_of_header_port, names_of_body, names_of_variable, names_of_plain_item, names_of_expression, names_of_statement, names_of_item, names_of_modules};
+ghost use Rattle.livesim.specs.OfTable.{AreOfTable, IsTermOf, AreTermsOf, IsAssignmentOf};
 ghost use Rattle.livesim.specs.Views.{operand, operands, register_text, sum, assignment};
 
-use crate::known::KnownNames;
-use crate::known_names::{is_named, text};
+use crate::name_texts::{is_named, text};
 use crate::parts::{Assignment, RegisterItem, Term, Terms};
 use bits::Bits;
-use ls_text::NoMemory;
+use ls_text::{Names, NoMemory};
 use std::alloc::Global;
 use verilog_ast::{
     BinaryOperator, Expr, GenerateItem, HeaderPort, Identifier, Item, Lhs, Module, ModuleBody,
@@ -76,17 +77,18 @@ fn shape_width(shape: &Shape) -> Option<u8>
 }
 
 // Whether a port is `input C`.
-fn is_clock_port(known: KnownNames<'_>, clock: &[u8], port: &HeaderPort) -> Result<bool, NoMemory>
-    ensures { IfOk result (λ b. b ≡ is_clock_port known.entry.names.now clock.now port.now) }
+fn is_clock_port(names: &Names, clock: &[u8], port: &HeaderPort) -> bool
+    requires { AreOfTable (length names.now) (names_of_header_port port.now) }
+    ensures { result ≡ is_clock_port names.now clock.now port.now }
 {
     match port {
         HeaderPort::Input(_, PortNet::Nothing, shape, name) => {
             if shape.signed || shape.range.is_some() {
-                return Ok(false);
+                return false;
             }
-            is_named(known, clock, *name)
+            is_named(names, clock, *name)
         }
-        _ => Ok(false),
+        _ => false,
     }
 }
 
@@ -105,20 +107,16 @@ fn declared(ports: &Ports) -> Option<&HeaderPort>
 
 // Whether a module begins with `module T(input C);`.
 #[tactic(auto, unfolding(crate::specs::Module::is_header))]
-fn is_header(
-    known: KnownNames<'_>,
-    top: &[u8],
-    clock: &[u8],
-    body: &ModuleBody,
-) -> Result<bool, NoMemory>
-    ensures { IfOk result (λ b. b ≡ is_header known.entry.names.now top.now clock.now body.now) }
+fn is_header(names: &Names, top: &[u8], clock: &[u8], body: &ModuleBody) -> bool
+    requires { AreOfTable (length names.now) (names_of_body body.now) }
+    ensures { result ≡ is_header names.now top.now clock.now body.now }
 {
-    if !is_named(known, top, body.name)? || body.parameters.len() != 0 {
-        return Ok(false);
+    if !is_named(names, top, body.name) || body.parameters.len() != 0 {
+        return false;
     }
     match declared(&body.ports) {
-        Some(port) => is_clock_port(known, clock, port),
-        None => Ok(false),
+        Some(port) => is_clock_port(names, clock, port),
+        None => false,
     }
 }
 
@@ -134,27 +132,20 @@ fn plain(item: &Item) -> Option<&PlainItem>
 
 // `reg [M:0]` and `R = L`
 #[tactic(auto, unfolding(crate::specs::Module::variable_at))]
-fn variable<'a>(
-    known: KnownNames<'a>,
-    shape: &Shape,
-    v: &Variable,
-) -> Result<Option<RegisterItem<'a>>, NoMemory>
-    ensures { IfOk result (λ o. option_map register_text o ≡ variable_at known.entry.names.now shape.now v.now) }
+fn variable<'a>(names: &'a Names, shape: &Shape, v: &Variable) -> Option<RegisterItem<'a>>
+    requires { AreOfTable (length names.now) (names_of_variable v.now) }
+    ensures { option_map register_text result ≡ variable_at names.now shape.now v.now }
 {
-    let Some(width) = shape_width(shape) else {
-        return Ok(None);
-    };
-    let Some(initial) = value(v) else {
-        return Ok(None);
-    };
+    let width = shape_width(shape)?;
+    let initial = value(v)?;
     if v.addresses.is_some() {
-        return Ok(None);
+        return None;
     }
-    Ok(Some(RegisterItem {
-        name: text(known, v.name)?,
+    Some(RegisterItem {
+        name: text(names, v.name),
         width,
         initial,
-    }))
+    })
 }
 
 // The literal that a variable begins with.
@@ -168,77 +159,76 @@ fn value(v: &Variable) -> Option<Bits>
 }
 
 // The register that an item declares.
-fn register<'a>(
-    known: KnownNames<'a>,
-    item: &PlainItem,
-) -> Result<Option<RegisterItem<'a>>, NoMemory>
-    ensures { IfOk result (λ o. option_map register_text o ≡ register_at known.entry.names.now item.now) }
+fn register<'a>(names: &'a Names, item: &PlainItem) -> Option<RegisterItem<'a>>
+    requires { AreOfTable (length names.now) (names_of_plain_item item.now) }
+    ensures { option_map register_text result ≡ register_at names.now item.now }
 {
     match item {
         PlainItem::Reg(_, shape, xs) => match xs.as_slice() {
-            [v] => variable(known, shape, v),
-            _ => Ok(None),
+            [v] => variable(names, shape, v),
+            _ => None,
         },
-        _ => Ok(None),
+        _ => None,
     }
 }
 
 // A name that is the register's or another.
-fn named_term(known: KnownNames<'_>, register: &[u8], n: Identifier) -> Result<Term, NoMemory>
-    ensures { IfOk result (λ t. operand t ≡ named_operand known.entry.names.now register.now n) }
+fn named_term(names: &Names, register: &[u8], n: Identifier) -> Term
+    requires { n.name.0 < length names.now }
+    ensures value { operand result ≡ named_operand names.now register.now n }
+    ensures of_table { IsTermOf (length names.now) result }
 {
-    Ok(if is_named(known, register, n)? {
+    if is_named(names, register, n) {
         Term::Register
     } else {
         Term::Unknown(n)
-    })
+    }
 }
 
 // A name other than the clock's, or a literal.
-fn lone(
-    known: KnownNames<'_>,
-    clock: &[u8],
-    register: &[u8],
-    e: &Expr,
-) -> Result<Option<Term>, NoMemory>
-    ensures { IfOk result (λ o. option_map operand o ≡ (part_at known.entry.names.now clock.now register.now e.now).lone) }
+fn lone(names: &Names, clock: &[u8], register: &[u8], e: &Expr) -> Option<Term>
+    requires { AreOfTable (length names.now) (names_of_expression e.now) }
+    ensures value { option_map operand result ≡ (part_at names.now clock.now register.now e.now).lone }
+    ensures of_table { IfSome result (IsTermOf (length names.now)) }
 {
     match e {
-        Expr::Number(_, x) => Ok(match literal(*x) {
+        Expr::Number(_, x) => match literal(*x) {
             Some(bits) => Some(Term::Literal(bits)),
             None => None,
-        }),
+        },
         Expr::Read(Reference::Whole(n)) => {
-            if is_named(known, clock, *n)? {
-                return Ok(None);
+            if is_named(names, clock, *n) {
+                return None;
             }
-            Ok(Some(named_term(known, register, *n)?))
+            Some(named_term(names, register, *n))
         }
-        _ => Ok(None),
+        _ => None,
     }
 }
 
 // The operands of a sum, which associates to the left.
 fn terms(
     alloc: Global,
-    known: KnownNames<'_>,
+    names: &Names,
     clock: &[u8],
     register: &[u8],
     e: &Expr,
 ) -> Result<Option<Terms>, NoMemory>
-    ensures { IfOk result (λ o. option_map sum o ≡ (part_at known.entry.names.now clock.now register.now e.now).sum) }
+    requires { AreOfTable (length names.now) (names_of_expression e.now) }
+    ensures value { IfOk result (λ o. option_map sum o ≡ (part_at names.now clock.now register.now e.now).sum) }
+    ensures of_table { IfOk result (λ o. IfSome o (AreTermsOf (length names.now))) }
 {
     if let Expr::Binary(BinaryOperator::Add, left, right) = e {
-        let Some(mut front) = terms(alloc, known, clock, register, left.get())? else {
+        let Some(mut front) = terms(alloc, names, clock, register, left.get())? else {
             return Ok(None);
         };
-        let Some(term) = lone(known, clock, register, right.get())? else {
+        let Some(term) = lone(names, clock, register, right.get()) else {
             return Ok(None);
         };
         front.more.push(term)?;
         return Ok(Some(front));
     }
-    let Some(first) = lone(known, clock, register, e)? else {
+    let Some(first) = lone(names, clock, register, e) else {
         return Ok(None);
     };
     Ok(Some(Terms {
@@ -260,12 +250,14 @@ fn target(x: &Lhs) -> Option<Identifier>
 // `R <= X`
 fn assigned(
     alloc: Global,
-    known: KnownNames<'_>,
+    names: &Names,
     clock: &[u8],
     register: &[u8],
     x: &Stmt,
 ) -> Result<Option<Assignment>, NoMemory>
-    ensures { IfOk result (λ o. option_map assignment o ≡ assignment_in known.entry.names.now clock.now register.now x.now) }
+    requires { AreOfTable (length names.now) (names_of_statement x.now) }
+    ensures value { IfOk result (λ o. option_map assignment o ≡ assignment_in names.now clock.now register.now x.now) }
+    ensures of_table { IfOk result (λ o. IfSome o (IsAssignmentOf (length names.now))) }
 {
     let Stmt::Assign(left, right) = x else {
         return Ok(None);
@@ -273,11 +265,11 @@ fn assigned(
     let Some(n) = target(left) else {
         return Ok(None);
     };
-    let Some(sum) = terms(alloc, known, clock, register, right.get())? else {
+    let Some(sum) = terms(alloc, names, clock, register, right.get())? else {
         return Ok(None);
     };
     Ok(Some(Assignment {
-        target: named_term(known, register, n)?,
+        target: named_term(names, register, n),
         first: sum.first,
         more: sum.more,
     }))
@@ -286,19 +278,21 @@ fn assigned(
 // `always @(posedge C)` and the assignment.
 fn clocked(
     alloc: Global,
-    known: KnownNames<'_>,
+    names: &Names,
     clock: &[u8],
     register: &[u8],
     item: &PlainItem,
 ) -> Result<Option<Assignment>, NoMemory>
-    ensures { IfOk result (λ o. option_map assignment o ≡ clocked_at known.entry.names.now clock.now register.now item.now) }
+    requires { AreOfTable (length names.now) (names_of_plain_item item.now) }
+    ensures value { IfOk result (λ o. option_map assignment o ≡ clocked_at names.now clock.now register.now item.now) }
+    ensures of_table { IfOk result (λ o. IfSome o (IsAssignmentOf (length names.now))) }
 {
     match item {
         PlainItem::Clocked(_, n, x) => {
-            if !is_named(known, clock, *n)? {
+            if !is_named(names, clock, *n) {
                 return Ok(None);
             }
-            assigned(alloc, known, clock, register, x.get())
+            assigned(alloc, names, clock, register, x.get())
         }
         _ => Ok(None),
     }
@@ -308,24 +302,27 @@ fn clocked(
 #[tactic(auto, unfolding(crate::specs::Module::items_at))]
 fn items<'a>(
     alloc: Global,
-    known: KnownNames<'a>,
+    names: &'a Names,
     clock: &[u8],
     one: &Item,
     other: &Item,
 ) -> Result<Option<(RegisterItem<'a>, Assignment)>, NoMemory>
-    ensures { IfOk result (λ o. option_map (λ r. (register_text r.0, assignment r.1)) o
-        ≡ items_at known.entry.names.now clock.now (one.now, other.now)) }
+    requires one { AreOfTable (length names.now) (names_of_item one.now) }
+    requires other { AreOfTable (length names.now) (names_of_item other.now) }
+    ensures value { IfOk result (λ o. option_map (λ r. (register_text r.0, assignment r.1)) o
+        ≡ items_at names.now clock.now (one.now, other.now)) }
+    ensures of_table { IfOk result (λ o. IfSome o (λ r. IsAssignmentOf (length names.now) r.1)) }
 {
     let Some(first) = plain(one) else {
         return Ok(None);
     };
-    let Some(register) = register(known, first)? else {
+    let Some(register) = register(names, first) else {
         return Ok(None);
     };
     let Some(second) = plain(other) else {
         return Ok(None);
     };
-    let Some(assignment) = clocked(alloc, known, clock, register.name, second)? else {
+    let Some(assignment) = clocked(alloc, names, clock, register.name, second)? else {
         return Ok(None);
     };
     if register.name == clock {
@@ -338,19 +335,21 @@ fn items<'a>(
 #[tactic(auto, unfolding(crate::specs::Module::body_at))]
 fn body<'a>(
     alloc: Global,
-    known: KnownNames<'a>,
+    names: &'a Names,
     top: &[u8],
     clock: &[u8],
     x: &ModuleBody,
 ) -> Result<Option<(RegisterItem<'a>, Assignment)>, NoMemory>
-    ensures { IfOk result (λ o. option_map (λ r. (register_text r.0, assignment r.1)) o
-        ≡ body_at known.entry.names.now top.now clock.now x.now) }
+    requires { AreOfTable (length names.now) (names_of_body x.now) }
+    ensures value { IfOk result (λ o. option_map (λ r. (register_text r.0, assignment r.1)) o
+        ≡ body_at names.now top.now clock.now x.now) }
+    ensures of_table { IfOk result (λ o. IfSome o (λ r. IsAssignmentOf (length names.now) r.1)) }
 {
-    if !is_header(known, top, clock, x)? {
+    if !is_header(names, top, clock, x) {
         return Ok(None);
     }
     match x.items.as_slice() {
-        [one, other] => items(alloc, known, clock, one, other),
+        [one, other] => items(alloc, names, clock, one, other),
         _ => Ok(None),
     }
 }
@@ -358,16 +357,18 @@ fn body<'a>(
 /// The register and the assignment of a text's modules, where they are of the form.
 pub fn module<'a>(
     alloc: Global,
-    known: KnownNames<'a>,
+    names: &'a Names,
     top: &[u8],
     clock: &[u8],
     modules: &[Module],
 ) -> Result<Option<(RegisterItem<'a>, Assignment)>, NoMemory>
-    ensures { IfOk result (λ o. option_map (λ r. (register_text r.0, assignment r.1)) o
-        ≡ module_at known.entry.names.now top.now clock.now modules.now) }
+    requires { AreOfTable (length names.now) (names_of_modules modules.now) }
+    ensures value { IfOk result (λ o. option_map (λ r. (register_text r.0, assignment r.1)) o
+        ≡ module_at names.now top.now clock.now modules.now) }
+    ensures of_table { IfOk result (λ o. IfSome o (λ r. IsAssignmentOf (length names.now) r.1)) }
 {
     match modules {
-        [x] => body(alloc, known, top, clock, &x.body),
+        [x] => body(alloc, names, top, clock, &x.body),
         _ => Ok(None),
     }
 }

@@ -5,12 +5,15 @@ use Rattle.source_text.specs.Faults.{fault_view}
 use Rattle.std.specs.List.{All}
 use Rattle.verilog_lex.specs.Views.{IsNamed}
 use Rattle.livesim.specs.Readings.{TokensRead, at_grammar}
-use Rattle.livesim.proofs.Grammars.{modules_built, shown_named}
+use Rattle.livesim.proofs.Grammars.{modules_built, modules_of_table, shown_named}
 use Rattle.livesim.proofs.build.build.Goals as goal
 
-pub returns-in-Some-clause-reads : goal.returns-in-Some-clause-reads
-returns-in-Some-clause-reads c =
-    modules_built c.args.names.now c.parse.new.names c.in-Some.known.names.now c.args.top.now c.args.clock.now c.args.tokens.now c.in-Ok.modules.items c.deref.result.now c.build_modules.result c.parse.ensures.table c.in-Some.ensures c.deref.ensures.value c.in-Ok.ensures.tree c.build_modules.ensures.built
+pub build_modules-requires : goal.build_modules-requires
+build_modules-requires c = modules_of_table c.args.names.now c.parse.new.names c.in-Ok.modules.items c.deref.result.now c.parse.ensures.table c.deref.ensures.value c.in-Ok.ensures.names
+
+pub returns-in-Ok-clause-reads : goal.returns-in-Ok-clause-reads
+returns-in-Ok-clause-reads c =
+    modules_built c.args.names.now c.parse.new.names c.args.top.now c.args.clock.now c.args.tokens.now c.in-Ok.modules.items c.deref.result.now c.build_modules.result c.parse.ensures.table c.deref.ensures.value c.in-Ok.ensures.tree c.build_modules.ensures.built
 
 pub returns-in-Err-Fault-clause-reads : goal.returns-in-Err-Fault-clause-reads
 returns-in-Err-Fault-clause-reads c =
