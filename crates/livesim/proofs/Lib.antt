@@ -11,3 +11,9 @@ pub mod Cuts
 pub mod Blocks
 pub mod Begins
 pub mod Endings
+pub mod JointNames
+pub mod RenamedParts
+pub mod RenamedDesign
+pub mod RenamedAssignment
+pub mod RenamedItems
+pub mod RenamedRegister
