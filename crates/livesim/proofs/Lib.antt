@@ -17,3 +17,7 @@ pub mod RenamedDesign
 pub mod RenamedAssignment
 pub mod RenamedItems
 pub mod RenamedRegister
+pub mod RenamedBody
+pub mod RenamedFlat
+pub mod ShownFault
+pub mod OneAnswer

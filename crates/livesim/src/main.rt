@@ -9,6 +9,7 @@ mod built;
 mod design;
 mod known;
 mod known_names;
+mod laws;
 mod live;
 mod module;
 mod one_register;
