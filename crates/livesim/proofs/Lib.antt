@@ -12,3 +12,13 @@ pub mod Blocks
 pub mod Begins
 pub mod Endings
 pub mod TreeNames
+pub mod JointNames
+pub mod RenamedParts
+pub mod RenamedDesign
+pub mod RenamedAssignment
+pub mod RenamedItems
+pub mod RenamedRegister
+pub mod RenamedBody
+pub mod RenamedFlat
+pub mod ShownFault
+pub mod OneAnswer

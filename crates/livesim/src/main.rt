@@ -7,6 +7,7 @@ ghost use Rattle.std.specs.declared.io.ErrorKind.TheVariants.{OutOfMemory};
 mod build;
 mod built;
 mod design;
+mod laws;
 mod live;
 mod module;
 mod name_texts;
