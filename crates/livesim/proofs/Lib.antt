@@ -22,3 +22,4 @@ pub mod RenamedBody
 pub mod RenamedFlat
 pub mod ShownFault
 pub mod OneAnswer
+pub mod OneOutput

@@ -1,11 +1,24 @@
 // What the definition of a block's text comes to.
-ghost use Rattle.std.specs.Prelude.{◌≡◌};
+ghost use Rattle.std.specs.Prelude.{◌≡◌, List};
 ghost use Rattle.livesim.specs.Script.{BlockText};
 ghost use Rattle.livesim.specs.Designs.{Answer};
 ghost use Rattle.livesim.specs.Readings.{TextReads};
+ghost use Rattle.livesim.specs.Replies.{lines};
+ghost use Rattle.livesim.specs.Worlds.{World, Told, commands_of, any_refused, world_after, AreRight};
 
 /// A text comes to one answer, whatever table and numbers its names have.
 #[tactic(none)]
 pub fn texts_have_one_answer()
     ensures { (b : BlockText) (x y : Answer) → TextReads b x → TextReads b y → x ≡ y }
+{}
+
+/// Commands have one output, one world behind them and one verdict whether any is refused, whatever is told of their texts, as
+/// long as it is right.
+#[tactic(none)]
+pub fn commands_have_one_output()
+    ensures lines { (w : World) (ts us : List Told) → AreRight w ts → AreRight w us → commands_of ts ≡ commands_of us → lines ts w ≡ lines us w }
+    ensures refused { (w : World) (ts us : List Told) → AreRight w ts → AreRight w us → commands_of ts ≡ commands_of us
+        → any_refused ts w ≡ any_refused us w }
+    ensures world { (w : World) (ts us : List Told) → AreRight w ts → AreRight w us → commands_of ts ≡ commands_of us
+        → world_after ts w ≡ world_after us w }
 {}
