@@ -1,11 +1,9 @@
 -- A text comes to one answer, whatever table and numbers its names have.
-use Rattle.std.proofs.Common.{◌≡◌, ◌∙◌, ℕ, ◌<◌, ◌≤◌, List, ◌++◌, map, length, Option, Some, None, Result, Ok, Err, refl, sym, arith}
-use Rattle.ls_text.specs.declared.name_id.NameId.{NameId}
+use Rattle.std.proofs.Common.{◌≡◌, ℕ, ◌<◌, ◌≤◌, List, ◌++◌, map, length, Some, Result, Ok, Err, refl, sym, arith}
 use Rattle.source_text.specs.Faults.{TextFault, fault_view}
 use Rattle.verilog_lex.specs.declared.token.Token.{Token}
 use Rattle.verilog_lex.specs.Tokens.{Said}
 use Rattle.verilog_lex.specs.Views.{said}
-use Rattle.verilog_expr.specs.Renamed.{retokens}
 use Rattle.verilog_expr.specs.Shown.{at_fault}
 use Rattle.verilog_parse.proofs.RenamedText.{same_modules, same_fault, not_both}
 use Rattle.livesim.specs.Script.{BlockText}
@@ -23,7 +21,8 @@ as_fault v w same = cc
 
 one_read : (names other : List (List ℕ)) (top clock : List ℕ) (s q : List Token) (x y : Answer) → map (said names) s ≡ map (said other) q
     → TokensRead names top clock s x → TokensRead other top clock q y → x ≡ y
-one_read names other top clock s q x y same (at_grammar {fault = a} (at_fault {f = f} run shown)) (at_grammar {fault = b} (at_fault {f = g} run' shown')) =
+one_read names other top clock s q x y same (at_grammar {fault = a} (at_fault {f = f} run shown))
+    (at_grammar {fault = b} (at_fault {f = g} run' shown')) =
     let joint = names ++ other in
     let retold = same_tokens joint names other s q same in
     let one = same_fault (renumbered joint names) (renumbered joint other) s q f g retold run run' in

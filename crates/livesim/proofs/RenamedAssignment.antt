@@ -1,5 +1,5 @@
 -- An assignment under other names, which keep their texts.
-use Rattle.std.proofs.Common.{◌≡◌, ◌∙◌, ℕ, Bool, true, false, if◌then◌else◌, List, [], ◌∷◌, map, Option, Some, None, refl, sym, ap, ap₂}
+use Rattle.std.proofs.Common.{◌≡◌, ◌∙◌, ℕ, Bool, true, false, if◌then◌else◌, List, map, Option, Some, None, refl, sym, ap, ap₂}
 use Rattle.std.specs.Option.{option_map}
 use Rattle.ls_text.specs.declared.name_id.NameId.{NameId}
 use Rattle.verilog_ast.specs.declared.identifier.Identifier.{Identifier}
@@ -19,7 +19,7 @@ use Rattle.verilog_ast.specs.declared.statement.Stmt.{Stmt, out-Stmt, out-roll-S
 use Rattle.verilog_ast.specs.declared.statement.Stmt.TheVariants as statement
 use Rattle.verilog_ast.specs.Renamed.{renamed_identifier, renamed_expression, renamed_reference, expression_step, reference_step, target_step, renamed_target, arm_step, statement_step, renamed_statement, renamed_arm}
 use Rattle.livesim.specs.Scan.{◌>>=◌}
-use Rattle.livesim.specs.Module.{is_named, Operand, Register, Literal, Unknown, named_operand, Sum, Part, part_at, name_of, target_of, target_in, Assignment, assignment_of, assignment_in}
+use Rattle.livesim.specs.Module.{is_named, Operand, Register, Unknown, named_operand, Sum, Part, part_at, name_of, target_of, target_in, Assignment, assignment_of, assignment_in}
 use Rattle.livesim.proofs.JointNames.{Keeps}
 use Rattle.livesim.proofs.RenamedParts.{renamed_operand, renamed_sum, same_name, same_part}
 
@@ -47,7 +47,8 @@ whole_layer f (Reference-F.Downward n x y) =
     ap name_of (ap out-Reference (sym (ref.rolls-Downward (renamed_identifier f n) (renamed_expression f x) (renamed_expression f y)))
     ∙ out-roll-Reference (Reference-F.Downward (renamed_identifier f n) (renamed_expression f x) (renamed_expression f y)))
 
-same_whole : (f : NameId → NameId) (x : Reference) → name_of (out-Reference (renamed_reference f x)) ≡ option_map (renamed_identifier f) (name_of (out-Reference x))
+same_whole : (f : NameId → NameId) (x : Reference)
+    → name_of (out-Reference (renamed_reference f x)) ≡ option_map (renamed_identifier f) (name_of (out-Reference x))
 same_whole f x =
     ap (λ (y : Reference). name_of (out-Reference y)) (fold_out-Reference Expr Reference expression_step (reference_step f) x)
     ∙ whole_layer f (out-Reference x)
@@ -92,13 +93,15 @@ assignment_layer : (f : NameId → NameId) (names joint : List (List ℕ)) → K
     → assignment_in joint clock register (statement_step f (map-Stmt Arm Stmt Arm Stmt (renamed_arm f) (renamed_statement f) l))
     ≡ option_map (renamed_assignment f) (assignment_of names clock register l)
 assignment_layer f names joint keeps clock register (Stmt-F.Block at l xs) =
-    ap (assignment_of joint clock register) (ap out-Stmt (sym (statement.rolls-Block at (option_map (renamed_identifier f) l) (map (renamed_statement f) xs)))
+    ap (assignment_of joint clock register)
+    (ap out-Stmt (sym (statement.rolls-Block at (option_map (renamed_identifier f) l) (map (renamed_statement f) xs)))
     ∙ out-roll-Stmt (Stmt-F.Block at (option_map (renamed_identifier f) l) (map (renamed_statement f) xs)))
 assignment_layer f names joint keeps clock register (Stmt-F.If at x y) =
     ap (assignment_of joint clock register) (ap out-Stmt (sym (statement.rolls-If at (renamed_expression f x) (renamed_statement f y)))
     ∙ out-roll-Stmt (Stmt-F.If at (renamed_expression f x) (renamed_statement f y)))
 assignment_layer f names joint keeps clock register (Stmt-F.IfElse at x y z) =
-    ap (assignment_of joint clock register) (ap out-Stmt (sym (statement.rolls-IfElse at (renamed_expression f x) (renamed_statement f y) (renamed_statement f z)))
+    ap (assignment_of joint clock register)
+    (ap out-Stmt (sym (statement.rolls-IfElse at (renamed_expression f x) (renamed_statement f y) (renamed_statement f z)))
     ∙ out-roll-Stmt (Stmt-F.IfElse at (renamed_expression f x) (renamed_statement f y) (renamed_statement f z)))
 assignment_layer f names joint keeps clock register (Stmt-F.Case at which x ys) =
     ap (assignment_of joint clock register) (ap out-Stmt (sym (statement.rolls-Case at which (renamed_expression f x) (map (renamed_arm f) ys)))

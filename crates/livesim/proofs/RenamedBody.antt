@@ -1,12 +1,10 @@
 -- A module under other names, which keep their texts: its register and its assignment are those that it has.
-use Rattle.std.proofs.Common.{◌≡◌, ◌∙◌, ℕ, Bool, true, false, not, ◌&&◌, ◌==◌, if◌then◌else◌, List, [], ◌∷◌, map, length, Option, Some, None, is_none, refl, ap, ap₂}
+use Rattle.std.proofs.Common.{◌≡◌, ◌∙◌, ℕ, Bool, true, false, not, ◌&&◌, ◌==◌, if◌then◌else◌, List, [], ◌∷◌, map, Option, Some, None, is_none, refl, ap₂}
 use Rattle.std.specs.Option.{option_map}
 use Rattle.std.proofs.lemmas.List.{length-map}
 use Rattle.ls_text.specs.declared.name_id.NameId.{NameId}
-use Rattle.verilog_ast.specs.declared.identifier.Identifier.{Identifier}
 use Rattle.verilog_ast.specs.declared.range.Range.{Range}
 use Rattle.verilog_ast.specs.declared.port_net.PortNet.TheVariants as net
-use Rattle.verilog_ast.specs.declared.header_parameter.HeaderParameter.{HeaderParameter}
 use Rattle.verilog_ast.specs.declared.header_port.HeaderPort.{HeaderPort}
 use Rattle.verilog_ast.specs.declared.header_port.HeaderPort.TheVariants as port
 use Rattle.verilog_ast.specs.declared.ports.Ports.{Ports}
@@ -16,7 +14,7 @@ use Rattle.verilog_ast.specs.declared.module_body.ModuleBody.{ModuleBody}
 use Rattle.verilog_ast.specs.declared.module.Module.{Module}
 use Rattle.verilog_ast.specs.Renamed.{renamed_range, renamed_header_parameter, renamed_header_port, renamed_ports, renamed_item, renamed_body}
 use Rattle.livesim.specs.Scan.{◌>>=◌}
-use Rattle.livesim.specs.Module.{is_named, only, both, is_clock_port, declared, some_clock_port, is_header, RegisterText, Assignment, items_at, body_at, module_at}
+use Rattle.livesim.specs.Module.{only, both, is_clock_port, declared, some_clock_port, is_header, RegisterText, Assignment, items_at, body_at, module_at}
 use Rattle.livesim.proofs.JointNames.{Keeps}
 use Rattle.livesim.proofs.RenamedParts.{same_name}
 use Rattle.livesim.proofs.RenamedRegister.{renamed_parts, same_items}

@@ -1,26 +1,19 @@
--- A module under other names, which keep their texts: its register and its assignment are those that it has.
-use Rattle.std.proofs.Common.{◌≡◌, ◌∙◌, ℕ, ◌+◌, nat_le, Bool, true, false, not, ◌&&◌, ◌==◌, if◌then◌else◌, List, [], ◌∷◌, map, length, Option, Some, None, is_none, refl, sym, ap, ap₂, subst}
+-- A declared register under other names, which keep their texts.
+use Rattle.std.proofs.Common.{◌≡◌, ◌∙◌, ℕ, ◌+◌, nat_le, Bool, ◌&&◌, ◌==◌, if◌then◌else◌, List, Option, Some, None, is_none, refl, sym, ap, ap₂}
 use Rattle.std.specs.Option.{option_map}
-use Rattle.std.specs.Str.{bytes_eq}
 use Rattle.ls_text.specs.declared.name_id.NameId.{NameId}
-use Rattle.verilog_ast.specs.declared.identifier.Identifier.{Identifier}
 use Rattle.verilog_ast.specs.declared.number.Number.{Number}
 use Rattle.verilog_ast.specs.declared.expression.Expr.{Expr, out-Expr, out-roll-Expr}
 use Rattle.verilog_ast.specs.declared.expression.Expr.TheVariants as e
-use Rattle.verilog_ast.specs.declared.expression.Expr.TheOpen.{Expr-F, Reference-F}
-use Rattle.verilog_ast.specs.declared.expression.Expr.TheFolds.{fold_out-Expr, fold_out-Reference, map-Expr, map-Reference}
-use Rattle.verilog_ast.specs.declared.expression.Reference.{Reference, out-Reference, out-roll-Reference}
-use Rattle.verilog_ast.specs.declared.expression.Reference.TheVariants as ref
+use Rattle.verilog_ast.specs.declared.expression.Expr.TheOpen.{Expr-F}
+use Rattle.verilog_ast.specs.declared.expression.Expr.TheFolds.{fold_out-Expr, map-Expr}
+use Rattle.verilog_ast.specs.declared.expression.Reference.{Reference}
 use Rattle.verilog_ast.specs.declared.range.Range.{Range}
 use Rattle.verilog_ast.specs.declared.shape.Shape.{Shape}
 use Rattle.verilog_ast.specs.declared.variable.Variable.{Variable}
-use Rattle.verilog_ast.specs.declared.target.Lhs.{Lhs, out-Lhs, out-roll-Lhs}
-use Rattle.verilog_ast.specs.declared.target.Lhs.TheVariants as target
-use Rattle.verilog_ast.specs.declared.target.Lhs.TheOpen.{Lhs-F}
-use Rattle.verilog_ast.specs.declared.target.Lhs.TheFolds.{fold_out-Lhs, map-Lhs}
-use Rattle.verilog_ast.specs.Renamed.{renamed_identifier, renamed_expression, renamed_reference, expression_step, reference_step, renamed_range, renamed_shape, renamed_variable, target_step, renamed_target}
+use Rattle.verilog_ast.specs.Renamed.{renamed_expression, renamed_reference, expression_step, reference_step, renamed_range, renamed_shape, renamed_variable}
 use Rattle.livesim.specs.Scan.{guard, ◌>>=◌}
-use Rattle.livesim.specs.Module.{name_text, number_of, number_in, plain_value, literal_of, literal_in, bounds_width, range_width, shape_width, variable_at, RegisterText, name_of, target_of, target_in}
+use Rattle.livesim.specs.Module.{number_of, number_in, plain_value, literal_of, literal_in, bounds_width, range_width, shape_width, variable_at, RegisterText}
 use Rattle.livesim.proofs.JointNames.{Keeps}
 
 -- ---- numbers

@@ -1,13 +1,13 @@
 -- What a module comes to under other names, which keep their texts: the same design, or the same fault.
 use Rattle.std.proofs.Common.{◌≡◌, ◌∙◌, ℕ, false, List, [], ◌∷◌, map, Option, Some, None, Ok, Err, refl, sym, ap}
+use Rattle.std.specs.Prelude.{◌++◌, codes}
 use Rattle.std.specs.Option.{option_map}
 use Rattle.ls_text.specs.Texts.{text_at}
 use Rattle.ls_text.specs.declared.place.Place.{Place}
 use Rattle.ls_text.specs.declared.name_id.NameId.{NameId}
+use Rattle.bits.specs.Values.{resized}
 use Rattle.typed_ir.specs.Sized.{Sized, Resized}
 use Rattle.typed_ir.specs.Cycles.{Flat}
-use Rattle.bits.specs.Values.{resized}
-use Rattle.std.specs.Prelude.{◌++◌, codes}
 use Rattle.source_text.specs.Faults.{fault_at}
 use Rattle.verilog_ast.specs.declared.identifier.Identifier.{Identifier}
 use Rattle.verilog_ast.specs.declared.module_body.ModuleBody.{ModuleBody}

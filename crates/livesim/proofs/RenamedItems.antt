@@ -1,5 +1,5 @@
 -- The items of a module under other names, which keep their texts.
-use Rattle.std.proofs.Common.{◌≡◌, ◌∙◌, ℕ, Bool, true, false, if◌then◌else◌, List, [], ◌∷◌, map, Option, Some, None, refl, sym, ap, ap₂}
+use Rattle.std.proofs.Common.{◌≡◌, ◌∙◌, ℕ, Bool, true, false, if◌then◌else◌, List, [], ◌∷◌, map, Option, None, refl, sym, ap, ap₂}
 use Rattle.std.specs.Option.{option_map}
 use Rattle.ls_text.specs.declared.name_id.NameId.{NameId}
 use Rattle.verilog_ast.specs.declared.shape.Shape.{Shape}
@@ -15,22 +15,25 @@ use Rattle.verilog_ast.specs.declared.item.Item.{Item}
 use Rattle.verilog_ast.specs.declared.item.Item.TheVariants as item
 use Rattle.verilog_ast.specs.Renamed.{renamed_identifier, renamed_shape, renamed_variable, renamed_plain_item, renamed_loop, generate_item_step, branch_step, renamed_generate_item, renamed_branch, renamed_item}
 use Rattle.livesim.specs.Scan.{◌>>=◌}
-use Rattle.livesim.specs.Module.{is_named, only, plain_of, plain_in, RegisterText, variable_at, register_at, Assignment, assignment_in, clocked_at}
+use Rattle.livesim.specs.Module.{is_named, only, plain_of, plain_in, variable_at, register_at, Assignment, assignment_in, clocked_at}
 use Rattle.livesim.proofs.JointNames.{Keeps}
 use Rattle.livesim.proofs.RenamedParts.{same_name}
 use Rattle.livesim.proofs.RenamedDesign.{same_variable}
 use Rattle.livesim.proofs.RenamedAssignment.{renamed_assignment, same_assignment}
 
 plain_layer : (f : NameId → NameId) (l : GenerateItem-F GenerateItem Branch)
-    → plain_of (out-GenerateItem (generate_item_step f (map-GenerateItem GenerateItem Branch GenerateItem Branch (renamed_generate_item f) (renamed_branch f) l)))
+    → plain_of (out-GenerateItem (generate_item_step f
+    (map-GenerateItem GenerateItem Branch GenerateItem Branch (renamed_generate_item f) (renamed_branch f) l)))
     ≡ option_map (renamed_plain_item f) (plain_of l)
 plain_layer f (GenerateItem-F.Plain x) =
-    ap plain_of (ap out-GenerateItem (sym (generate.rolls-Plain (renamed_plain_item f x))) ∙ out-roll-GenerateItem (GenerateItem-F.Plain (renamed_plain_item f x)))
+    ap plain_of (ap out-GenerateItem (sym (generate.rolls-Plain (renamed_plain_item f x)))
+    ∙ out-roll-GenerateItem (GenerateItem-F.Plain (renamed_plain_item f x)))
 plain_layer f (GenerateItem-F.For at x n ys) =
     ap plain_of (ap out-GenerateItem (sym (generate.rolls-For at (renamed_loop f x) (renamed_identifier f n) (map (renamed_generate_item f) ys)))
     ∙ out-roll-GenerateItem (GenerateItem-F.For at (renamed_loop f x) (renamed_identifier f n) (map (renamed_generate_item f) ys)))
 plain_layer f (GenerateItem-F.If xs) =
-    ap plain_of (ap out-GenerateItem (sym (generate.rolls-If (map (renamed_branch f) xs))) ∙ out-roll-GenerateItem (GenerateItem-F.If (map (renamed_branch f) xs)))
+    ap plain_of (ap out-GenerateItem (sym (generate.rolls-If (map (renamed_branch f) xs)))
+    ∙ out-roll-GenerateItem (GenerateItem-F.If (map (renamed_branch f) xs)))
 
 pub same_plain : (f : NameId → NameId) (x : Item) → plain_in (renamed_item f x) ≡ option_map (renamed_plain_item f) (plain_in x)
 same_plain f (item.Input at net x ns) = refl

@@ -182,25 +182,29 @@ name_step f names joint clock register (Reference-F.Whole n) =
 name_step f names joint clock register (Reference-F.Bit n x) =
     ap (name_at joint clock register) (fold-roll-Reference Expr Reference expression_step (reference_step f) (Reference-F.Bit n x)
     ∙ sym (ref.rolls-Bit (renamed_identifier f n) (renamed_expression f x)))
-    ∙ fold-roll-Reference Part (Option Identifier) (part_of joint clock register) whole_name (Reference-F.Bit (renamed_identifier f n) (renamed_expression f x))
+    ∙ fold-roll-Reference Part (Option Identifier) (part_of joint clock register) whole_name
+    (Reference-F.Bit (renamed_identifier f n) (renamed_expression f x))
     ∙ ap (option_map (renamed_identifier f))
     (sym (fold-roll-Reference Part (Option Identifier) (part_of names clock register) whole_name (Reference-F.Bit n x)))
 name_step f names joint clock register (Reference-F.Part n x y) =
     ap (name_at joint clock register) (fold-roll-Reference Expr Reference expression_step (reference_step f) (Reference-F.Part n x y)
     ∙ sym (ref.rolls-Part (renamed_identifier f n) (renamed_expression f x) (renamed_expression f y)))
-    ∙ fold-roll-Reference Part (Option Identifier) (part_of joint clock register) whole_name (Reference-F.Part (renamed_identifier f n) (renamed_expression f x) (renamed_expression f y))
+    ∙ fold-roll-Reference Part (Option Identifier) (part_of joint clock register) whole_name
+    (Reference-F.Part (renamed_identifier f n) (renamed_expression f x) (renamed_expression f y))
     ∙ ap (option_map (renamed_identifier f))
     (sym (fold-roll-Reference Part (Option Identifier) (part_of names clock register) whole_name (Reference-F.Part n x y)))
 name_step f names joint clock register (Reference-F.Upward n x y) =
     ap (name_at joint clock register) (fold-roll-Reference Expr Reference expression_step (reference_step f) (Reference-F.Upward n x y)
     ∙ sym (ref.rolls-Upward (renamed_identifier f n) (renamed_expression f x) (renamed_expression f y)))
-    ∙ fold-roll-Reference Part (Option Identifier) (part_of joint clock register) whole_name (Reference-F.Upward (renamed_identifier f n) (renamed_expression f x) (renamed_expression f y))
+    ∙ fold-roll-Reference Part (Option Identifier) (part_of joint clock register) whole_name
+    (Reference-F.Upward (renamed_identifier f n) (renamed_expression f x) (renamed_expression f y))
     ∙ ap (option_map (renamed_identifier f))
     (sym (fold-roll-Reference Part (Option Identifier) (part_of names clock register) whole_name (Reference-F.Upward n x y)))
 name_step f names joint clock register (Reference-F.Downward n x y) =
     ap (name_at joint clock register) (fold-roll-Reference Expr Reference expression_step (reference_step f) (Reference-F.Downward n x y)
     ∙ sym (ref.rolls-Downward (renamed_identifier f n) (renamed_expression f x) (renamed_expression f y)))
-    ∙ fold-roll-Reference Part (Option Identifier) (part_of joint clock register) whole_name (Reference-F.Downward (renamed_identifier f n) (renamed_expression f x) (renamed_expression f y))
+    ∙ fold-roll-Reference Part (Option Identifier) (part_of joint clock register) whole_name
+    (Reference-F.Downward (renamed_identifier f n) (renamed_expression f x) (renamed_expression f y))
     ∙ ap (option_map (renamed_identifier f))
     (sym (fold-roll-Reference Part (Option Identifier) (part_of names clock register) whole_name (Reference-F.Downward n x y)))
 

@@ -38,7 +38,8 @@ second_so f names joint keeps clock (Some s) r =
     ap (last clock r) (same_clocked f names joint keeps clock r.0 s) ∙ last_so f clock r (clocked_at names clock r.0 s)
 
 register_so : (f : NameId → NameId) (names joint : List (List ℕ)) → Keeps f names joint → (clock : List ℕ) (r : Option RegisterText)
-    (q : Option PlainItem) → (r >>= second joint clock (option_map (renamed_plain_item f) q)) ≡ option_map (renamed_parts f) (r >>= second names clock q)
+    (q : Option PlainItem) → (r >>= second joint clock (option_map (renamed_plain_item f) q))
+    ≡ option_map (renamed_parts f) (r >>= second names clock q)
 register_so f names joint keeps clock None q = refl
 register_so f names joint keeps clock (Some r) q = second_so f names joint keeps clock q r
 
