@@ -178,7 +178,7 @@ fn an_end_within_a_construct_is_refused(rt: HostRuntime) -> Result<(), Fail> {
 }
 
 #[test]
-fn a_cut_before_any_token_is_refused(rt: HostRuntime) -> Result<(), Fail> {
+fn rows_cut_short_are_refused(rt: HostRuntime) -> Result<(), Fail> {
     let alloc = rt.alloc();
     assert_eq!(rt;
         first_uncut(alloc, EXPRESSIONS, b"module m; assign x = ")?,

@@ -14,7 +14,7 @@ pub mod Endings
 pub mod TreeNames
 pub mod JointNames
 pub mod RenamedParts
-pub mod RenamedDesign
+pub mod RenamedDeclaration
 pub mod RenamedAssignment
 pub mod RenamedItems
 pub mod RenamedRegister

@@ -1,5 +1,5 @@
 -- Commands have one output, whatever is told of their texts, as long as it is right.
-use Rattle.std.proofs.Common.{◌≡◌, ◌∙◌, ℕ, Bool, ◌||◌, List, [], ◌∷◌, ◌++◌, drop, Option, Some, None, refl, sym, ap, subst}
+use Rattle.std.proofs.Common.{◌≡◌, ◌∙◌, ℕ, ◌||◌, List, [], ◌∷◌, ◌++◌, drop, Option, Some, None, refl, sym, ap, subst}
 use Rattle.std.specs.Prelude.{is_err}
 use Rattle.typed_ir.specs.Cycles.{Flat}
 use Rattle.livesim.specs.Script.{BlockText}

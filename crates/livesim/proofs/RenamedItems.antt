@@ -18,7 +18,7 @@ use Rattle.livesim.specs.Scan.{◌>>=◌}
 use Rattle.livesim.specs.Module.{is_named, only, plain_of, plain_in, variable_at, register_at, Assignment, assignment_in, clocked_at}
 use Rattle.livesim.proofs.JointNames.{Keeps}
 use Rattle.livesim.proofs.RenamedParts.{same_name}
-use Rattle.livesim.proofs.RenamedDesign.{same_variable}
+use Rattle.livesim.proofs.RenamedDeclaration.{same_variable}
 use Rattle.livesim.proofs.RenamedAssignment.{renamed_assignment, same_assignment}
 
 plain_layer : (f : NameId → NameId) (l : GenerateItem-F GenerateItem Branch)

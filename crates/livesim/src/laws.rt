@@ -1,4 +1,4 @@
-// What the definition of a block's text comes to.
+// Texts and commands have at most one answer.
 ghost use Rattle.std.specs.Prelude.{◌≡◌, List};
 ghost use Rattle.livesim.specs.Script.{BlockText};
 ghost use Rattle.livesim.specs.Designs.{Answer};
@@ -6,14 +6,14 @@ ghost use Rattle.livesim.specs.Readings.{TextReads};
 ghost use Rattle.livesim.specs.Replies.{lines};
 ghost use Rattle.livesim.specs.Worlds.{World, Told, commands_of, any_refused, world_after, AreRight};
 
-/// A text comes to one answer, whatever table and numbers its names have.
+/// A text comes to at most one answer, whatever table and numbers its names have.
 #[tactic(none)]
 pub fn texts_have_one_answer()
     ensures { (b : BlockText) (x y : Answer) → TextReads b x → TextReads b y → x ≡ y }
 {}
 
-/// Commands have one output, one world behind them and one verdict whether any is refused, whatever is told of their texts, as
-/// long as it is right.
+/// Commands have at most one output, one world behind them and one verdict whether any is refused, whatever is told of their
+/// texts, as long as it is right.
 #[tactic(none)]
 pub fn commands_have_one_output()
     ensures lines { (w : World) (ts us : List Told) → AreRight w ts → AreRight w us → commands_of ts ≡ commands_of us → lines ts w ≡ lines us w }

@@ -1,5 +1,5 @@
 -- The names of an expression are names of its tokens.
-use Rattle.std.proofs.Common.{◌≡◌, ◌<◌, ℕ, List, ◌∷◌, ◌++◌, flat_map, All, subst}
+use Rattle.std.proofs.Common.{◌<◌, ℕ, List, flat_map, All, subst}
 use Rattle.std.proofs.lemmas.List.Elements.{All-head, All-tail}
 use Rattle.verilog_lex.specs.declared.token.Token.{Token}
 use Rattle.verilog_lex.specs.declared.kind.Kind.{Kind}

@@ -1,9 +1,8 @@
 -- Over tokens under other names the machine ends as it does over the tokens.
-use Rattle.std.proofs.Common.{◌≡◌, ℕ, List, ◌∷◌, length, Some, None, Ok, Err, sym, subst}
+use Rattle.std.proofs.Common.{◌≡◌, ℕ, List, ◌∷◌, length, Some, None, Ok, Err, subst}
 use Rattle.ls_text.specs.declared.name_id.NameId.{NameId}
 use Rattle.verilog_lex.specs.declared.token.Token.{Token}
 use Rattle.verilog_lex.specs.declared.kind.Kind.{Kind}
-use Rattle.verilog_expr.specs.declared.fault.ParseFault.{ParseFault}
 use Rattle.verilog_expr.specs.declared.fault.ParseFault.TheVariants.{Stuck, Heavy}
 use Rattle.verilog_expr.specs.Tokens.{next}
 use Rattle.verilog_expr.specs.Grammar.{Symbol, T, N, entry, is_outside, is_outside_at}

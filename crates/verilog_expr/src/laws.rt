@@ -1,4 +1,4 @@
-// The tokens of an expression are read in one way.
+// The tokens of an expression are read in at most one way.
 ghost use Rattle.std.specs.Prelude.{◌≡◌, List, Ok, Err};
 ghost use Rattle.ls_text.specs.declared.name_id.NameId.{NameId};
 ghost use Rattle.verilog_lex.specs.declared.token.Token.{Token};
@@ -10,7 +10,7 @@ ghost use Rattle.verilog_expr.specs.Machine.{Outcome, Run};
 ghost use Rattle.verilog_expr.specs.Renamed.{retokens};
 ghost use Rattle.verilog_expr.specs.Spells.{Spells, AnExpression};
 
-/// The tokens of an expression have one tree and one end, and the machine has one outcome.
+/// No two trees and no two ends are read from one place in a list of tokens, and the machine has no two outcomes there.
 #[tactic(none)]
 pub fn expressions_are_read_in_one_way()
     ensures tree { (x y : Expr) (s r t : List Token) → Spells (AnExpression x) s r → Spells (AnExpression y) s t

@@ -242,7 +242,7 @@ pub fn lex(
     requires { length files.now ≤ 256 }
     ensures tokens { Gives names.new (λ ts. map (said names.new) ts.items) result (tokens files.now pieces.now) }
 
-    // It is the one reading of whole pieces that the relation on them has.
+    // And a reading of whole pieces that the relation on them has.
     ensures reads { (read : Result (List Said) TextFault) × Reads files.now pieces.now read
         × Gives names.new (λ ts. map (said names.new) ts.items) result read }
     ensures named { IfOk result (λ ts. All (IsNamed (length names.new)) ts.items) }

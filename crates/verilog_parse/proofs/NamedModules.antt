@@ -1,5 +1,5 @@
 -- The names of a text's modules are names of its tokens.
-use Rattle.std.proofs.Common.{◌<◌, ℕ, List, length, flat_map, All}
+use Rattle.std.proofs.Common.{◌<◌, ℕ, List, flat_map, All}
 use Rattle.ls_text.specs.declared.name_id.NameId.{NameId}
 use Rattle.verilog_lex.specs.declared.token.Token.{Token}
 use Rattle.verilog_ast.specs.declared.module.Module.{Module}

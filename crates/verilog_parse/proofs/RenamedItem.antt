@@ -1,5 +1,5 @@
 -- A declaration, a connection or a plain item that stands for tokens stands under other names for the tokens under these.
-use Rattle.std.proofs.Common.{◌≡◌, ◌≢◌, List, map, true, false, sym, subst}
+use Rattle.std.proofs.Common.{◌≡◌, ◌≢◌, List, map, true, false, subst}
 use Rattle.std.specs.Option.{option_map}
 use Rattle.ls_text.specs.declared.place.Place.{Place}
 use Rattle.ls_text.specs.declared.name_id.NameId.{NameId}

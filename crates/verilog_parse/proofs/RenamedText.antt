@@ -1,5 +1,5 @@
 -- A text's modules and its fault depend on its tokens alone, whatever numbers their names have.
-use Rattle.std.proofs.Common.{◌≡◌, ◌≢◌, ◌∙◌, ℕ, List, [], ◌∷◌, map, Ok, Err, refl, sym, ap₂, subst}
+use Rattle.std.proofs.Common.{◌≡◌, ◌≢◌, ℕ, List, [], ◌∷◌, map, Ok, Err, refl, sym, ap₂, subst}
 use Rattle.ls_text.specs.declared.name_id.NameId.{NameId}
 use Rattle.verilog_lex.specs.declared.token.Token.{Token}
 use Rattle.verilog_lex.specs.declared.kind.Kind.{Kind}

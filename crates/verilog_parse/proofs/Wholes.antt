@@ -9,7 +9,7 @@ use Rattle.verilog_ast.specs.declared.module.Module.{Module}
 use Rattle.verilog_expr.specs.declared.fault.ParseFault.{ParseFault}
 use Rattle.verilog_expr.specs.Tokens.{Takes, taken}
 use Rattle.verilog_expr.specs.Grammar as g
-use Rattle.verilog_expr.specs.Grammar.{Symbol, T, N}
+use Rattle.verilog_expr.specs.Grammar.{T, N}
 use Rattle.verilog_expr.specs.Machine.{Run, ends}
 use Rattle.verilog_expr.specs.Shown.{IsShownAs}
 use Rattle.verilog_expr.proofs.Runs.{then}

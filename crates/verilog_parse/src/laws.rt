@@ -12,7 +12,7 @@ ghost use Rattle.verilog_expr.specs.Renamed.{retokens};
 ghost use Rattle.verilog_expr.specs.Shown.{Refuses};
 ghost use Rattle.verilog_parse.specs.Files.{file, Stands};
 
-/// A text has one list of modules, or one fault, and not both.
+/// A text has at most one list of modules and at most one fault, and not both.
 #[tactic(none)]
 pub fn texts_are_read_in_one_way()
     ensures modules { (names : List (List ℕ)) (xs ys : List Module) (s : List Token) → Stands names xs s → Stands names ys s → xs ≡ ys }
@@ -21,7 +21,7 @@ pub fn texts_are_read_in_one_way()
         → Stands names xs s → Refuses file s (refusal.Fault f) → ⊥ }
 {}
 
-/// Where two lists of tokens are the same under other names, so are their modules and their faults.
+/// Where two lists of tokens are the same under other names, so are the bodies of their modules and the machine's faults.
 #[tactic(none)]
 pub fn names_may_change()
     ensures modules { (f g : NameId → NameId) (names other : List (List ℕ)) (xs ys : List Module) (s q : List Token)

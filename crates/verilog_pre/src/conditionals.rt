@@ -6,6 +6,7 @@ use crate::branch::Branch;
 use crate::conditional::Conditional;
 use ls_text::{NoMemory, Place};
 
+// The conditional that was opened last of those that are open.
 fn innermost(nest: &[Conditional]) -> Option<Conditional>
     ensures { result ≡ innermost nest.now }
 {
@@ -27,6 +28,7 @@ pub fn is_read(nest: &[Conditional]) -> bool
     }
 }
 
+// Where the first branch of a conditional stands: its condition counts only where it is read itself.
 fn first_branch(read: bool, holds: bool) -> Branch
     ensures { result ≡ first_branch read holds }
 {
@@ -39,6 +41,7 @@ fn first_branch(read: bool, holds: bool) -> Branch
     }
 }
 
+// Where the next branch of a conditional stands: behind one that is taken, none is.
 fn next_branch(branch: Branch, holds: bool) -> Branch
     ensures { result ≡ next_branch branch holds }
 {

@@ -151,7 +151,7 @@ pub fn preprocess(
     requires texts { All (λ f. length f.text ≤ 4194304) files.now }
     ensures pieces { Gives names.new (λ ps. ps.items) result (pieces files.now) }
 
-    // It is the one reading of whole files that the relation on them has.
+    // And a reading of whole files that the relation on them has.
     ensures reads { (read : Result (List Piece) TextFault) × HavePieces files.now read × Gives names.new (λ ps. ps.items) result read }
     ensures known { IfErr result (CanShow (length names.new)) }
     ensures grows { Grows names.old names.new }

@@ -74,6 +74,7 @@ fn stays_open(depth: usize, text: &[u8]) -> bool
     depth > 0
 }
 
+// The word that opens a conditional, without its mark.
 fn opening_word(negated: bool) -> &'static [u8]
     ensures { result.now ≡ opening_word negated }
 {
