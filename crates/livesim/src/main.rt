@@ -53,4 +53,6 @@ fn main(rt: HostRuntime) -> ExitCode {
 }
 
 #[cfg(test)]
+mod rows;
+#[cfg(test)]
 mod tests;

@@ -24,4 +24,6 @@ pub use literal::Literal;
 pub use token::Token;
 
 #[cfg(test)]
+mod rows;
+#[cfg(test)]
 mod tests;

@@ -5,6 +5,7 @@ ghost use Rattle.ls_text.specs.Texts.{Grows};
 ghost use Rattle.source_text.specs.Faults.{CanShow};
 
 use super::*;
+use crate::rows::{FAULTS, LONGEST_SIGNS, SIGNS, UNUSED_WORDS, USED_WORDS};
 use ls_text::{At, Names, NoMemory, Place, Refusal, SourceFile, TextBytes, fault_line};
 use std::alloc::Global;
 use std::test::Fail;
@@ -36,9 +37,10 @@ fn read(alloc: Global, text: &[u8]) -> Result<Vec<Token>, Refusal>
 }
 
 // Whether a text has these kinds of tokens, and then the end.
-fn has_kinds(alloc: Global, text: &[u8], kinds: &[Kind]) -> bool
-    requires { length text.now ≤ 1000 }
-{
+fn has_kinds(alloc: Global, text: &[u8], kinds: &[Kind]) -> bool {
+    if text.len() > 1000 {
+        return false;
+    }
     let Ok(tokens) = read(alloc, text) else {
         return false;
     };
@@ -189,60 +191,9 @@ fn wildcard_digits_may_lead_long_literals(rt: HostRuntime) {
 #[test]
 fn signs_are_the_longest_that_fit(rt: HostRuntime) {
     let alloc = rt.alloc();
-    assert!(rt;
-        has_kinds(
-            alloc,
-            b"<<<=+:~^",
-            &[
-                Kind::SignedShiftLeft,
-                Kind::Equal,
-                Kind::PlusColon,
-                Kind::TildeCaret
-            ]
-        )
-    );
-    assert!(rt;
-        has_kinds(
-            alloc,
-            b"^~=>!==",
-            &[
-                Kind::CaretTilde,
-                Kind::Equal,
-                Kind::Greater,
-                Kind::CaseNotEqual
-            ]
-        )
-    );
-    assert!(rt;
-        has_kinds(
-            alloc,
-            b"(*) (* x ) **) a",
-            &[Kind::LeftParen, Kind::Star, Kind::RightParen, Kind::Word]
-        )
-    );
-    assert!(rt; has_kinds(alloc, b"(* ", &[Kind::LeftParen, Kind::Star]));
-    assert!(rt;
-        has_kinds(
-            alloc,
-            b"(*\n)",
-            &[Kind::LeftParen, Kind::Star, Kind::RightParen]
-        )
-    );
-    assert!(rt; has_kinds(alloc, b"(**) a (* b = (1) *) c", &[Kind::Word, Kind::Word]));
-    assert!(rt;
-        has_kinds(
-            alloc,
-            b"Reg reg or nand end a$1",
-            &[
-                Kind::Word,
-                Kind::Reg,
-                Kind::Or,
-                Kind::Reserved,
-                Kind::BlockEnd,
-                Kind::Word
-            ]
-        )
-    );
+    for (text, kinds) in LONGEST_SIGNS {
+        assert!(rt; has_kinds(alloc, text, kinds));
+    }
 }
 
 #[test]
@@ -296,9 +247,10 @@ fn bytes_that_begin_no_token_are_refused(rt: HostRuntime) {
 }
 
 // Whether a text has so many tokens, all of this kind, and then the end.
-fn are_all(alloc: Global, text: &[u8], kind: Kind, count: usize) -> bool
-    requires { length text.now ≤ 1000 }
-{
+fn are_all(alloc: Global, text: &[u8], kind: Kind, count: usize) -> bool {
+    if text.len() > 1000 {
+        return false;
+    }
     let Ok(tokens) = read(alloc, text) else {
         return false;
     };
@@ -312,104 +264,12 @@ fn are_all(alloc: Global, text: &[u8], kind: Kind, count: usize) -> bool
 #[test]
 fn reserved_words_are_keys(rt: HostRuntime) {
     let alloc = rt.alloc();
-    assert!(rt;
-        are_all(
-            alloc,
-            b"and automatic buf bufif0 bufif1 casex cell cmos config deassign defparam design disable",
-            Kind::Reserved,
-            13
-        )
-    );
-    assert!(rt;
-        are_all(
-            alloc,
-            b"edge endconfig endfunction endprimitive endspecify endtable endtask event force forever",
-            Kind::Reserved,
-            10
-        )
-    );
-    assert!(rt;
-        are_all(
-            alloc,
-            b"fork function highz0 highz1 ifnone incdir include initial inout instance integer join",
-            Kind::Reserved,
-            12
-        )
-    );
-    assert!(rt;
-        are_all(
-            alloc,
-            b"large liblist library macromodule medium nand negedge nmos nor noshowcancelled not notif0",
-            Kind::Reserved,
-            12
-        )
-    );
-    assert!(rt;
-        are_all(
-            alloc,
-            b"notif1 pmos primitive pull0 pull1 pulldown pullup pulsestyle_ondetect pulsestyle_onevent",
-            Kind::Reserved,
-            9
-        )
-    );
-    assert!(rt;
-        are_all(
-            alloc,
-            b"rcmos real realtime release repeat rnmos rpmos rtran rtranif0 rtranif1 scalared",
-            Kind::Reserved,
-            11
-        )
-    );
-    assert!(rt;
-        are_all(
-            alloc,
-            b"showcancelled small specify specparam strong0 strong1 supply0 supply1 table task time tran",
-            Kind::Reserved,
-            12
-        )
-    );
-    assert!(rt;
-        are_all(
-            alloc,
-            b"tranif0 tranif1 tri tri0 tri1 triand trior trireg unsigned use uwire vectored wait wand",
-            Kind::Reserved,
-            14
-        )
-    );
-    assert!(rt; are_all(alloc, b"weak0 weak1 while wor xnor xor", Kind::Reserved, 6));
-    assert!(rt;
-        has_kinds(
-            alloc,
-            b"module endmodule input output wire reg signed parameter localparam genvar generate endgenerate assign always posedge begin end if else case casez endcase default for or",
-            &[
-                Kind::Module,
-                Kind::EndModule,
-                Kind::Input,
-                Kind::Output,
-                Kind::Wire,
-                Kind::Reg,
-                Kind::Signed,
-                Kind::Parameter,
-                Kind::LocalParam,
-                Kind::Genvar,
-                Kind::Generate,
-                Kind::EndGenerate,
-                Kind::Assign,
-                Kind::Always,
-                Kind::Posedge,
-                Kind::Begin,
-                Kind::BlockEnd,
-                Kind::If,
-                Kind::Else,
-                Kind::Case,
-                Kind::Casez,
-                Kind::EndCase,
-                Kind::Default,
-                Kind::For,
-                Kind::Or
-            ]
-        )
-    );
+    for (text, count) in UNUSED_WORDS {
+        assert!(rt; are_all(alloc, text, Kind::Reserved, *count));
+    }
+    for (text, kinds) in USED_WORDS {
+        assert!(rt; has_kinds(alloc, text, kinds));
+    }
     assert!(rt;
         are_all(
             alloc,
@@ -423,60 +283,9 @@ fn reserved_words_are_keys(rt: HostRuntime) {
 #[test]
 fn every_sign_is_a_token(rt: HostRuntime) {
     let alloc = rt.alloc();
-    assert!(rt;
-        has_kinds(
-            alloc,
-            b"( ) [ ] { } , ; : . # @ = ? + - * / % & | ^ ~ ! < > +: -: << >> <<< >>> <= >= == != === !== && || ~& ~| ~^ ^~ ** ->",
-            &[
-                Kind::LeftParen,
-                Kind::RightParen,
-                Kind::LeftBracket,
-                Kind::RightBracket,
-                Kind::LeftBrace,
-                Kind::RightBrace,
-                Kind::Comma,
-                Kind::Semicolon,
-                Kind::Colon,
-                Kind::Dot,
-                Kind::Hash,
-                Kind::AtSign,
-                Kind::Equal,
-                Kind::Question,
-                Kind::Plus,
-                Kind::Minus,
-                Kind::Star,
-                Kind::Slash,
-                Kind::Percent,
-                Kind::Ampersand,
-                Kind::Bar,
-                Kind::Caret,
-                Kind::Tilde,
-                Kind::Bang,
-                Kind::Less,
-                Kind::Greater,
-                Kind::PlusColon,
-                Kind::MinusColon,
-                Kind::ShiftLeft,
-                Kind::ShiftRight,
-                Kind::SignedShiftLeft,
-                Kind::SignedShiftRight,
-                Kind::LessEqual,
-                Kind::GreaterEqual,
-                Kind::EqualEqual,
-                Kind::NotEqual,
-                Kind::CaseEqual,
-                Kind::CaseNotEqual,
-                Kind::LogicalAnd,
-                Kind::LogicalOr,
-                Kind::TildeAmpersand,
-                Kind::TildeBar,
-                Kind::TildeCaret,
-                Kind::CaretTilde,
-                Kind::Power,
-                Kind::Arrow
-            ]
-        )
-    );
+    for (text, kinds) in SIGNS {
+        assert!(rt; has_kinds(alloc, text, kinds));
+    }
 }
 
 // The tokens of files, behind the preprocessor.
@@ -512,9 +321,10 @@ fn fault_of(alloc: Global, text: &[u8]) -> Result<Vec<u8>, NoMemory>
 }
 
 // Whether this line shows the first fault of a text.
-fn shows(alloc: Global, text: &[u8], line: &[u8]) -> bool
-    requires { length text.now ≤ 4194304 }
-{
+fn shows(alloc: Global, text: &[u8], line: &[u8]) -> bool {
+    if text.len() > 1000 {
+        return false;
+    }
     match fault_of(alloc, text) {
         Ok(shown) => shown.as_slice() == line,
         Err(_) => false,
@@ -549,64 +359,9 @@ fn has_places(alloc: Global, text: &[u8], places: &[(u32, u32)]) -> bool
 #[test]
 fn faults_are_shown(rt: HostRuntime) {
     let alloc = rt.alloc();
-    assert!(rt;
-        shows(
-            alloc,
-            b"module top(input clk); reg a = 1'bx;\n",
-            b"refused 14 BadNumber a.v:1:32 -\n"
-        )
-    );
-    assert!(rt;
-        shows(
-            alloc,
-            b"module top(input clk); wire \"s\";\n",
-            b"refused 13 BadToken a.v:1:29 -\n"
-        )
-    );
-    assert!(rt;
-        shows(
-            alloc,
-            b"`include \"b.v\" \n",
-            b"refused 12 BadDirective a.v:1:1 include\n"
-        )
-    );
-    assert!(rt; shows(alloc, b"a /* ` */ ` b", b"refused 13 BadToken a.v:1:11 -\n"));
-    assert!(rt;
-        shows(
-            alloc,
-            b"`define D F\n8'h`D",
-            b"refused 13 BadToken a.v:2:2 -\n"
-        )
-    );
-    assert!(rt;
-        shows(
-            alloc,
-            b"`define D 9\n 4'b0 `D 4'b`D",
-            b"refused 13 BadToken a.v:2:11 -\n"
-        )
-    );
-    assert!(rt;
-        shows(
-            alloc,
-            b"`define N 4'b2\n\t`N",
-            b"refused 14 BadNumber a.v:2:2 -\n"
-        )
-    );
-    assert!(rt;
-        shows(
-            alloc,
-            b"`define W 8\n`define H 'h\\\n1\n`W`H",
-            b"refused 13 BadToken a.v:4:3 -\n"
-        )
-    );
-    assert!(rt;
-        shows(
-            alloc,
-            b"a (* x // *)\n *)",
-            b"refused 13 BadToken a.v:1:3 -\n"
-        )
-    );
-    assert!(rt; shows(alloc, b"module // \" \\ $\n;", b""));
+    for (text, line) in FAULTS {
+        assert!(rt; shows(alloc, text, line));
+    }
 }
 
 #[test]

@@ -156,6 +156,11 @@ fn conditionals_choose(rt: HostRuntime) {
         )
     );
     assert!(rt; has_pieces(alloc, b"`ifndef W a`elsif W b`else c`endif", &[b" a"]));
+}
+
+#[test]
+fn what_is_skipped_has_no_effect(rt: HostRuntime) {
+    let alloc = rt.alloc();
     assert!(rt;
         has_pieces(
             alloc,

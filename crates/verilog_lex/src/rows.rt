@@ -1,0 +1,193 @@
+// Rows of the tests: texts, and what is read of them.
+use crate::Kind;
+
+/// Texts where a shorter sign would fit, and the kinds of their tokens.
+pub const LONGEST_SIGNS: &[(&[u8], &[Kind])] = &[
+    (
+        b"<<<=+:~^",
+        &[
+            Kind::SignedShiftLeft,
+            Kind::Equal,
+            Kind::PlusColon,
+            Kind::TildeCaret,
+        ],
+    ),
+    (
+        b"^~=>!==",
+        &[
+            Kind::CaretTilde,
+            Kind::Equal,
+            Kind::Greater,
+            Kind::CaseNotEqual,
+        ],
+    ),
+    (
+        b"(*) (* x ) **) a",
+        &[Kind::LeftParen, Kind::Star, Kind::RightParen, Kind::Word],
+    ),
+    (b"(* ", &[Kind::LeftParen, Kind::Star]),
+    (b"(*\n)", &[Kind::LeftParen, Kind::Star, Kind::RightParen]),
+    (b"(**) a (* b = (1) *) c", &[Kind::Word, Kind::Word]),
+    (
+        b"Reg reg or nand end a$1",
+        &[
+            Kind::Word,
+            Kind::Reg,
+            Kind::Or,
+            Kind::Reserved,
+            Kind::BlockEnd,
+            Kind::Word,
+        ],
+    ),
+];
+
+/// The reserved words that the grammar doesn't use, and how many a row has.
+pub const UNUSED_WORDS: &[(&[u8], usize)] = &[
+    (
+        b"and automatic buf bufif0 bufif1 casex cell cmos config deassign defparam design disable",
+        13,
+    ),
+    (
+        b"edge endconfig endfunction endprimitive endspecify endtable endtask event force forever",
+        10,
+    ),
+    (
+        b"fork function highz0 highz1 ifnone incdir include initial inout instance integer join",
+        12,
+    ),
+    (
+        b"large liblist library macromodule medium nand negedge nmos nor noshowcancelled not notif0",
+        12,
+    ),
+    (
+        b"notif1 pmos primitive pull0 pull1 pulldown pullup pulsestyle_ondetect pulsestyle_onevent",
+        9,
+    ),
+    (
+        b"rcmos real realtime release repeat rnmos rpmos rtran rtranif0 rtranif1 scalared",
+        11,
+    ),
+    (
+        b"showcancelled small specify specparam strong0 strong1 supply0 supply1 table task time tran",
+        12,
+    ),
+    (
+        b"tranif0 tranif1 tri tri0 tri1 triand trior trireg unsigned use uwire vectored wait wand",
+        14,
+    ),
+    (b"weak0 weak1 while wor xnor xor", 6),
+];
+
+/// The reserved words that the grammar uses, and their kinds.
+pub const USED_WORDS: &[(&[u8], &[Kind])] = &[(
+    b"module endmodule input output wire reg signed parameter localparam genvar generate endgenerate assign always posedge begin end if else case casez endcase default for or",
+    &[
+        Kind::Module,
+        Kind::EndModule,
+        Kind::Input,
+        Kind::Output,
+        Kind::Wire,
+        Kind::Reg,
+        Kind::Signed,
+        Kind::Parameter,
+        Kind::LocalParam,
+        Kind::Genvar,
+        Kind::Generate,
+        Kind::EndGenerate,
+        Kind::Assign,
+        Kind::Always,
+        Kind::Posedge,
+        Kind::Begin,
+        Kind::BlockEnd,
+        Kind::If,
+        Kind::Else,
+        Kind::Case,
+        Kind::Casez,
+        Kind::EndCase,
+        Kind::Default,
+        Kind::For,
+        Kind::Or,
+    ],
+)];
+
+/// Every operator and separator, and their kinds.
+pub const SIGNS: &[(&[u8], &[Kind])] = &[(
+    b"( ) [ ] { } , ; : . # @ = ? + - * / % & | ^ ~ ! < > +: -: << >> <<< >>> <= >= == != === !== && || ~& ~| ~^ ^~ ** ->",
+    &[
+        Kind::LeftParen,
+        Kind::RightParen,
+        Kind::LeftBracket,
+        Kind::RightBracket,
+        Kind::LeftBrace,
+        Kind::RightBrace,
+        Kind::Comma,
+        Kind::Semicolon,
+        Kind::Colon,
+        Kind::Dot,
+        Kind::Hash,
+        Kind::AtSign,
+        Kind::Equal,
+        Kind::Question,
+        Kind::Plus,
+        Kind::Minus,
+        Kind::Star,
+        Kind::Slash,
+        Kind::Percent,
+        Kind::Ampersand,
+        Kind::Bar,
+        Kind::Caret,
+        Kind::Tilde,
+        Kind::Bang,
+        Kind::Less,
+        Kind::Greater,
+        Kind::PlusColon,
+        Kind::MinusColon,
+        Kind::ShiftLeft,
+        Kind::ShiftRight,
+        Kind::SignedShiftLeft,
+        Kind::SignedShiftRight,
+        Kind::LessEqual,
+        Kind::GreaterEqual,
+        Kind::EqualEqual,
+        Kind::NotEqual,
+        Kind::CaseEqual,
+        Kind::CaseNotEqual,
+        Kind::LogicalAnd,
+        Kind::LogicalOr,
+        Kind::TildeAmpersand,
+        Kind::TildeBar,
+        Kind::TildeCaret,
+        Kind::CaretTilde,
+        Kind::Power,
+        Kind::Arrow,
+    ],
+)];
+
+/// Texts, and the lines that show their faults.
+pub const FAULTS: &[(&[u8], &[u8])] = &[
+    (
+        b"module top(input clk); reg a = 1'bx;\n",
+        b"refused 14 BadNumber a.v:1:32 -\n",
+    ),
+    (
+        b"module top(input clk); wire \"s\";\n",
+        b"refused 13 BadToken a.v:1:29 -\n",
+    ),
+    (
+        b"`include \"b.v\" \n",
+        b"refused 12 BadDirective a.v:1:1 include\n",
+    ),
+    (b"a /* ` */ ` b", b"refused 13 BadToken a.v:1:11 -\n"),
+    (b"`define D F\n8'h`D", b"refused 13 BadToken a.v:2:2 -\n"),
+    (
+        b"`define D 9\n 4'b0 `D 4'b`D",
+        b"refused 13 BadToken a.v:2:11 -\n",
+    ),
+    (b"`define N 4'b2\n\t`N", b"refused 14 BadNumber a.v:2:2 -\n"),
+    (
+        b"`define W 8\n`define H 'h\\\n1\n`W`H",
+        b"refused 13 BadToken a.v:4:3 -\n",
+    ),
+    (b"a (* x // *)\n *)", b"refused 13 BadToken a.v:1:3 -\n"),
+    (b"module // \" \\ $\n;", b""),
+];
