@@ -1,7 +1,7 @@
 -- The commands of cut bytes begin those of the whole bytes.
 use Rattle.std.proofs.Common.{◌≡◌, ℕ, zero, suc, ◌+◌, true, false, List, [], ◌∷◌, ◌++◌, length, take, Option, Some, None, refl, sym, ap, ◌∙◌}
-use Rattle.livesim.specs.declared.script.ScriptLine.{ScriptLine}
-use Rattle.livesim.specs.declared.script.ScriptLine.TheVariants.{Skipped, Edit, Run, Show, Other}
+use Rattle.livesim.specs.declared.script_line.ScriptLine.{ScriptLine}
+use Rattle.livesim.specs.declared.script_line.ScriptLine.TheVariants.{Skipped, Edit, Run, Show, Other}
 use Rattle.livesim.specs.Script.{block_rest, block_at, script_line, script_lines}
 use Rattle.livesim.specs.Commands.{Command, Load, Advance, Display, Unbuilt, block_command, count_or, command_at, commands_from, commands_after, counted_bytes, commands}
 use Rattle.livesim.proofs.Commands.{commands_after_cut}

@@ -4,7 +4,7 @@ use Rattle.std.proofs.lemmas.List.{drop_all}
 use Rattle.std.proofs.lemmas.Option.{none-some, same_Some}
 use Rattle.std.specs.Prelude.{codes}
 use Rattle.std.specs.Str.{bytes_eq}
-use Rattle.livesim.specs.declared.script.ScriptLine.TheVariants.{Edit}
+use Rattle.livesim.specs.declared.script_line.ScriptLine.TheVariants.{Edit}
 use Rattle.livesim.specs.Script.{block_rest, is_word, first_word}
 use Rattle.livesim.specs.Commands.{commands_from, commands_after, count_or}
 

@@ -10,8 +10,8 @@ use Rattle.livesim.specs.Commands.{Command, Display, commands}
 use Rattle.livesim.specs.Worlds.{fresh, world_after, any_refused, display_verdict}
 use Rattle.livesim.specs.Replies.{answer_text}
 use Rattle.livesim.proofs.Begins.{commands_begin}
-use Rattle.livesim.specs.declared.live.Ending.{Ending}
-use Rattle.livesim.specs.declared.live.Ending.TheVariants.{Whole, Failed, TooMuch}
+use Rattle.livesim.specs.declared.ending.Ending.{Ending}
+use Rattle.livesim.specs.declared.ending.Ending.TheVariants.{Whole, Failed, TooMuch}
 
 -- commands that begin those of the bytes begin those that the bytes have where the input ends with them
 begins_all : (bytes : List ℕ) (ended : Bool) (front : List Command) → Begins front (commands bytes ended) → Begins front (commands bytes true)

@@ -33,10 +33,10 @@ use Rattle.verilog_ast.specs.declared.module_body.ModuleBody.{ModuleBody}
 use Rattle.verilog_ast.specs.Names.{expression_names, reference_names, target_names, generate_item_names, branch_names, names_of_expression, names_of_reference, names_of_target, names_of_statement, names_of_generate_item, names_of_shape, names_of_variable, names_of_header_parameter, names_of_header_port, names_of_ports, names_of_plain_item, names_of_item, names_of_body}
 use Rattle.verilog_ast.proofs.Named.{binary_names, assign_names}
 use Rattle.livesim.specs.Scan.{◌>>=◌}
-use Rattle.livesim.specs.declared.parts.Assignment.{Assignment}
-use Rattle.livesim.specs.declared.parts.Term.{Term}
-use Rattle.livesim.specs.declared.parts.Term.TheVariants.{Register, Literal, Unknown}
-use Rattle.livesim.specs.declared.parts.Terms.{Terms}
+use Rattle.livesim.specs.declared.assignment.Assignment.{Assignment}
+use Rattle.livesim.specs.declared.term.Term.{Term}
+use Rattle.livesim.specs.declared.term.Term.TheVariants.{Register, Literal, Unknown}
+use Rattle.livesim.specs.declared.terms.Terms.{Terms}
 use Rattle.livesim.specs.Views.{operand, operands, sum, assignment}
 use Rattle.livesim.specs.Module.{Operand, Sum, Part, part_at, part_of, whole_name, with_operand, only, declared, unknown_name, or_else, first_unknown, unknown_in, name_of, target_of, target_in, plain_of, plain_in}
 use Rattle.livesim.specs.OfTable.{AreOfTable, IsTermOf, IsAssignmentOf}

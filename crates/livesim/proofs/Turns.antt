@@ -5,7 +5,7 @@ use Rattle.std.specs.Io.KnownBytes.{Appends}
 use Rattle.ls_port.specs.declared.sink.SinkRefusal.{SinkRefusal}
 use Rattle.livesim.specs.Script.{script_line}
 use Rattle.livesim.specs.Commands.{Command, command_at, commands_after, commands_from}
-use Rattle.livesim.specs.declared.script.ScriptLine.{ScriptLine}
+use Rattle.livesim.specs.declared.script_line.ScriptLine.{ScriptLine}
 use Rattle.livesim.specs.Endings.{Carries}
 use Rattle.livesim.specs.Worlds.{World, Told, plain, fresh, after, commands_of, verdict, any_refused, world_after, IsRight, AreRight}
 use Rattle.livesim.specs.Replies.{reply, lines, Replies, RepliesTo, RepliesAll}

@@ -2,8 +2,8 @@
 use Rattle.std.specs.Prelude.{ℕ, zero, suc, ◌+◌, ◌-◌, ◌==◌, not, Bool, true, false, if◌then◌else◌, List, [], ◌∷◌, ◌++◌, length, take, Option, Some, None}
 use Rattle.std.specs.List.{suffix_len}
 use Rattle.livesim.specs.Script.{BlockText, script_lines, script_line, block_rest, block_at}
-use Rattle.livesim.specs.declared.script.ScriptLine.{ScriptLine}
-use Rattle.livesim.specs.declared.script.ScriptLine.TheVariants.{Skipped, Edit, Run, Show, Other}
+use Rattle.livesim.specs.declared.script_line.ScriptLine.{ScriptLine}
+use Rattle.livesim.specs.declared.script_line.ScriptLine.TheVariants.{Skipped, Edit, Run, Show, Other}
 
 -- what a script asks for, each with its line
 pub data Command : Type 0 where

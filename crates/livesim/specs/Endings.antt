@@ -3,8 +3,8 @@ use Rattle.std.specs.Prelude.{◌≡◌, ◌≢◌, ℕ, Bool, true, false, if�
 use Rattle.std.specs.Io.KnownBytes.{Appends}
 use Rattle.ls_port.specs.declared.sink.SinkRefusal.{SinkRefusal}
 use Rattle.livesim.specs.Commands.{Command, commands}
-use Rattle.livesim.specs.declared.live.Ending.{Ending}
-use Rattle.livesim.specs.declared.live.Ending.TheVariants.{Whole, Failed, TooMuch}
+use Rattle.livesim.specs.declared.ending.Ending.{Ending}
+use Rattle.livesim.specs.declared.ending.Ending.TheVariants.{Whole, Failed, TooMuch}
 use Rattle.livesim.specs.Replies.{lines}
 use Rattle.livesim.specs.Runs.{Begins, WritesFront}
 use Rattle.livesim.specs.Worlds.{Told, fresh, commands_of, any_refused, AreRight}

@@ -2,10 +2,10 @@
 use Rattle.std.specs.Prelude.{◌<◌, ℕ, List, ⊤}
 use Rattle.std.specs.List.{All}
 use Rattle.ls_text.specs.declared.name_id.NameId.{NameId}
-use Rattle.livesim.specs.declared.parts.Terms.{Terms}
-use Rattle.livesim.specs.declared.parts.Assignment.{Assignment}
-use Rattle.livesim.specs.declared.parts.Term.{Term}
-use Rattle.livesim.specs.declared.parts.Term.TheVariants.{Register, Literal, Unknown}
+use Rattle.livesim.specs.declared.terms.Terms.{Terms}
+use Rattle.livesim.specs.declared.assignment.Assignment.{Assignment}
+use Rattle.livesim.specs.declared.term.Term.{Term}
+use Rattle.livesim.specs.declared.term.Term.TheVariants.{Register, Literal, Unknown}
 
 -- each is of a table of so many names
 pub record AreOfTable (count : ℕ) (ids : List NameId) : Type 0 where

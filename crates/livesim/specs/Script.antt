@@ -6,8 +6,8 @@ use Rattle.std.specs.Str.{bytes_eq}
 use Rattle.std.specs.Str.Lines.{lines}
 use Rattle.source_text.specs.Bytes.{is_word_byte}
 use Rattle.livesim.specs.Scan.{number_of, guard}
-use Rattle.livesim.specs.declared.script.ScriptLine.{ScriptLine}
-use Rattle.livesim.specs.declared.script.ScriptLine.TheVariants.{Skipped, Edit, Run, Show, Other}
+use Rattle.livesim.specs.declared.script_line.ScriptLine.{ScriptLine}
+use Rattle.livesim.specs.declared.script_line.ScriptLine.TheVariants.{Skipped, Edit, Run, Show, Other}
 
 -- the lines: a last one without a newline counts, and a carriage return before a newline doesn't
 unfoldable pub script_lines : List ℕ → List (List ℕ)

@@ -1,11 +1,11 @@
 -- What the parts of a module mean.
 use Rattle.std.specs.Prelude.{List, map}
 use Rattle.livesim.specs.Module.{RegisterText, Operand, Register, Literal, Unknown, Sum, Assignment}
-use Rattle.livesim.specs.declared.parts.RegisterItem.{RegisterItem}
-use Rattle.livesim.specs.declared.parts.Terms.{Terms}
-use Rattle.livesim.specs.declared.parts.Assignment.{Assignment as Parts}
-use Rattle.livesim.specs.declared.parts.Term.{Term}
-use Rattle.livesim.specs.declared.parts.Term.TheVariants.{Register as Register', Literal as Literal', Unknown as Unknown'}
+use Rattle.livesim.specs.declared.register_item.RegisterItem.{RegisterItem}
+use Rattle.livesim.specs.declared.terms.Terms.{Terms}
+use Rattle.livesim.specs.declared.assignment.Assignment.{Assignment as Parts}
+use Rattle.livesim.specs.declared.term.Term.{Term}
+use Rattle.livesim.specs.declared.term.Term.TheVariants.{Register as Register', Literal as Literal', Unknown as Unknown'}
 
 abbrev pub register_text : RegisterItem → RegisterText
 register_text r = (r.name.now, r.width, r.initial.width, r.initial.value)

@@ -7,8 +7,10 @@ ghost use Rattle.livesim.specs.Designs.{wider, widest, operand_sized, simple_siz
 ghost use Rattle.livesim.specs.Views.{operand, operands, register_text, assignment};
 ghost use Rattle.livesim.specs.Flats.{flat};
 
+use crate::assignment::Assignment;
 use crate::one_register::Design;
-use crate::parts::{Assignment, RegisterItem, Term};
+use crate::register_item::RegisterItem;
+use crate::term::Term;
 use bits::Bits;
 use ls_text::NoMemory;
 use std::alloc::Global;

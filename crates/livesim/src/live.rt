@@ -10,11 +10,15 @@ ghost use Rattle.livesim.specs.Runs.{DisplaysTruth, IsComplete, Lived, WritesFro
 ghost use Rattle.livesim.specs.Script.{HasSmallRun, block_at, script_lines};
 ghost use Rattle.livesim.specs.Sessions.{world};
 ghost use Rattle.livesim.specs.Worlds.{not_built};
-ghost use Rattle.livesim.specs.declared.script.ScriptLine.TheVariants.{Edit};
+ghost use Rattle.livesim.specs.declared.script_line.ScriptLine.TheVariants.{Edit};
 
+use crate::ending::Ending;
+use crate::outcome::Outcome;
 use crate::reply::{Reply, not_built};
-use crate::script::{ScriptLine, block_end, next_line, read_block, read_line};
+use crate::script::{block_end, next_line, read_block, read_line};
+use crate::script_line::ScriptLine;
 use crate::session::Session;
+use crate::turn::Turn;
 use ls_port::{Sink, SinkRefusal, Source};
 use ls_text::NoMemory;
 use std::alloc::Global;
@@ -25,22 +29,6 @@ const MAX_INPUT: usize = 67_108_864;
 
 /// The most bytes that one read asks for.
 const PIECE: usize = 65_536;
-
-/// How a run ended, and how many bytes it took.
-#[derive(Clone, Copy, Debug, PartialEq, Eq)]
-pub struct Outcome {
-    /// 0: all commands were accepted; 1: one was refused; 2: the words aren't the program's name alone; 3: the source
-    /// failed; 4: the sink failed; 5: memory ran out; 6: the script has too many bytes.
-    pub status: u8,
-    pub taken: u64,
-}
-
-#[derive(Clone, Copy, Debug, PartialEq, Eq)]
-enum Ending {
-    Whole,
-    Failed,
-    TooMuch,
-}
 
 // How many bytes the next read asks for, after so many: the one byte too many is asked for by itself.
 fn room_after(count: usize) -> usize
@@ -126,14 +114,6 @@ fn front(limit: usize, bytes: &[u8]) -> &[u8]
         return bytes;
     }
     &bytes[..limit]
-}
-
-/// The reply to some commands, the number of the next line, and what is left from there on.
-#[derive(Drop)]
-struct Turn<'a> {
-    reply: Reply,
-    number: u64,
-    rest: &'a [u8],
 }
 
 // The reply to a block whose `edit` has that line.

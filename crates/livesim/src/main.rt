@@ -4,23 +4,32 @@
 ghost use Rattle.std.specs.Prelude.{◌≡◌, ◌↔◌, ◌⊎◌};
 ghost use Rattle.std.specs.declared.io.ErrorKind.TheVariants.{OutOfMemory};
 
+mod assignment;
+mod block;
+mod block_head;
 mod build;
 mod built;
 mod design;
+mod ending;
 mod laws;
 mod live;
 mod module;
 mod name_texts;
 mod one_register;
-mod parts;
+mod outcome;
+mod register_item;
 mod reply;
 mod running;
 mod scan;
 mod script;
+mod script_line;
 mod session;
 mod take_block;
 mod taken;
+mod term;
+mod terms;
 mod text;
+mod turn;
 
 use ls_port::{StdSink, StdSource};
 use std::process::ExitCode;

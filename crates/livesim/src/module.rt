@@ -6,8 +6,11 @@ ghost use Rattle.verilog_ast.specs.Names.{names_of_header_port, names_of_body, n
 ghost use Rattle.livesim.specs.OfTable.{AreOfTable, IsTermOf, AreTermsOf, IsAssignmentOf};
 ghost use Rattle.livesim.specs.Views.{operand, operands, register_text, sum, assignment};
 
+use crate::assignment::Assignment;
 use crate::name_texts::{is_named, text};
-use crate::parts::{Assignment, RegisterItem, Term, Terms};
+use crate::register_item::RegisterItem;
+use crate::term::Term;
+use crate::terms::Terms;
 use bits::Bits;
 use ls_text::{Names, NoMemory};
 use std::alloc::Global;

@@ -170,6 +170,11 @@ pub const TEXTS: &[(&[u8], &[u8])] = &[
         b"`include \"b.v\"",
         b"refused 12 BadDirective a.v:1:1 include\nrefused 62 NoDesign @8 -\n",
     ),
+    // All files are preprocessed before any is cut into tokens.
+    (
+        b"\"\n`B",
+        b"refused 12 BadDirective a.v:2:1 B\nrefused 62 NoDesign @9 -\n",
+    ),
     (
         b"wire a;/*",
         b"refused 12 BadDirective a.v:1:8 -\nrefused 62 NoDesign @8 -\n",

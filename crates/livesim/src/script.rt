@@ -6,29 +6,12 @@ ghost use Rattle.livesim.specs.Script.{is_blank, after_blanks, first_word, only_
 ghost use Rattle.livesim.specs.Blocks.{block};
 ghost use Rattle.std.specs.Str.Lines.{strip_carriage_return};
 
+use crate::block::Block;
+use crate::block_head::BlockHead;
 use crate::scan::{is_word_byte, number};
+use crate::script_line::ScriptLine;
 use ls_text::NoMemory;
 use std::alloc::Global;
-
-/// What a line outside a block is.
-#[derive(Clone, Copy, Debug, PartialEq, Eq)]
-pub enum ScriptLine {
-    Skipped,
-    Edit,
-    Run(u64),
-    Show,
-    Other,
-}
-
-/// A block of the form: what its lines name, the line of its `file`, and its text.
-#[derive(Drop)]
-pub struct Block<'a> {
-    pub top: &'a [u8],
-    pub clock: &'a [u8],
-    pub file: &'a [u8],
-    pub file_line: u64,
-    pub text: Vec<u8>,
-}
 
 fn line_len(bytes: &[u8]) -> usize
     ensures value { result ≡ position_or_len (λ b. b == 10) bytes.now }
@@ -264,18 +247,8 @@ fn is_file_name(word: &[u8]) -> bool
     1 <= word.len() && word.len() <= 255 && file_bytes(word) == word.len()
 }
 
-// What the lines before a block's text name: the top, the clock, the file and the file's line. And what follows them.
-#[derive(Clone, Copy)]
-struct Head<'a> {
-    top: &'a [u8],
-    clock: &'a [u8],
-    file: &'a [u8],
-    file_line: u64,
-    rest: &'a [u8],
-}
-
 #[tactic(auto, unfolding(crate::specs::Script::head_at))]
-fn block_head(number: u64, bytes: &[u8]) -> Option<Head<'_>>
+fn block_head(number: u64, bytes: &[u8]) -> Option<BlockHead<'_>>
     requires { number + length bytes.now + 2 < 2 ^ 64 }
     ensures { option_map (λ h. (h.top.now, h.clock.now, h.file.now, h.file_line, script_lines h.rest.now)) result
         ≡ head_at number (script_lines bytes.now) }
@@ -286,7 +259,7 @@ fn block_head(number: u64, bytes: &[u8]) -> Option<Head<'_>>
     if !is_file_name(file) {
         return None;
     }
-    Some(Head {
+    Some(BlockHead {
         top,
         clock,
         file,

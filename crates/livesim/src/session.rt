@@ -7,9 +7,9 @@ ghost use Rattle.livesim.specs.Designs.{no_rows};
 ghost use Rattle.livesim.specs.Flats.{flat};
 ghost use Rattle.livesim.specs.Replies.{hex_text, table_text, done_text};
 
+use crate::block::Block;
 use crate::reply::{Reply, no_design, not_built};
 use crate::running::Running;
-use crate::script::Block;
 use crate::take_block::take_block;
 use crate::taken::Taken;
 use bits::Bits;
@@ -20,6 +20,7 @@ use std::alloc::Global;
 /// The last cycle.
 const MAX_CYCLE: u64 = 1 << 40;
 
+/// A session: the design that runs, where there is one.
 #[derive(Drop)]
 pub struct Session {
     running: Option<Running>,

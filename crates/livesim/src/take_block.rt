@@ -3,10 +3,10 @@ ghost use Rattle.std.specs.Prelude.{IfOk};
 ghost use Rattle.livesim.specs.Blocks.{block};
 ghost use Rattle.livesim.specs.Takes.{Takes};
 
+use crate::block::Block;
 use crate::build::build;
 use crate::built::Built;
 use crate::reply::{not_built, refused_text};
-use crate::script::Block;
 use crate::taken::Taken;
 use crate::text::file_tokens;
 use ls_text::{Names, NoMemory, Refusal, SourceFile, TextBytes};

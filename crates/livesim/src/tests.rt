@@ -1,5 +1,6 @@
 // Whole scripts, and what no clause says: that they are answered, and how the lines look.
-use crate::live::{Outcome, live_run};
+use crate::live::live_run;
+use crate::outcome::Outcome;
 use crate::rows::{MODULES, REFUSED, SCRIPTS, TEXTS};
 use ls_port::{MemSink, MemSource};
 use ls_text::NoMemory;

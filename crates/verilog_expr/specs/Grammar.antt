@@ -1,4 +1,5 @@
--- The grammar: what stands for a nonterminal before a token. Of IEEE 1364-2005, annex A (A.1 to A.8), it has a part.
+-- The grammar: what stands for a nonterminal before a token. Of IEEE 1364-2005, annex A (A.1 to A.8), it has a part; and one
+-- form of its own, an assignment on an `output` without `reg`, which the standard has for nets (A.2.1.3, A.2.4).
 use Rattle.std.specs.Prelude.{ℕ, ◌+◌, List, [], ◌∷◌, Option, Some, None, Bool, true, false}
 use Rattle.verilog_lex.specs.declared.kind.Kind.{Kind}
 use Rattle.verilog_lex.specs.declared.kind.Kind.TheVariants as k

@@ -1,7 +1,7 @@
 // Expressions, by recursive descent: one function a nonterminal.
 #![tactic(auto, using(crate::proofs::Runs::runs, crate::proofs::Runs::loops, crate::proofs::Entries::entries, crate::proofs::Trees::trees))]
 
-ghost use Rattle.std.specs.Prelude.{◌≡◌, ◌≤◌, ◌<◌, ◌+◌, ◌^◌, [], ◌∷◌, length, OnOk, IfOk, ◌≢◌};
+ghost use Rattle.std.specs.Prelude.{◌≡◌, ◌≤◌, ◌<◌, ◌+◌, ◌^◌, [], ◌∷◌, length, OnOk, OnErr, IfOk, ◌≢◌};
 ghost use Rattle.verilog_expr.specs.Grammar as grammar;
 ghost use Rattle.verilog_expr.specs.Grammar.{N};
 ghost use Rattle.verilog_expr.specs.Reads.{Reads, ReadsChain};
@@ -27,8 +27,103 @@ impl<'a> Parser<'a> {
     ///
     /// Faults: 38 NotInProfile at a dot behind the name or behind the select, 15 Syntax or 38 at the first other token where
     /// the grammar has no rule, 16 NestedTooDeep at the first token whose weight is above 256; the earlier.
-    #[cycle(expression)]
+    ///
+    /// A refusal leaves the cursor where it was.
     pub fn select(&mut self, name: Identifier, weight: u32) -> Result<Reference, ParseError>
+        requires { weight < 2 ^ 31 }
+        ensures machine { Reads (N grammar.ASelect weight ∷ []) self.old result self.new }
+        ensures err { OnErr result (self.new ≡ self.old) }
+        ensures tree { IfOk result (λ x. Spells (spells.ASelect name x) self.old self.new) }
+        ensures shorter { OnOk result (length self.new ≤ length self.old) }
+    {
+        let before = self.rest();
+        match self.read_select(name, weight) {
+            Ok(reference) => Ok(reference),
+            Err(error) => {
+                self.back_to(before);
+                Err(error)
+            }
+        }
+    }
+
+    /// The longest expression.
+    ///
+    /// `weight` is what is open at the next token: unary operators, brackets, branches of `?:`, statements and generate
+    /// blocks, and in each open expression the binary operators that were read. It is below 2^31.
+    ///
+    /// Faults: 15 Syntax or 38 NotInProfile at the first token where the grammar has no rule, 16 NestedTooDeep at the first
+    /// token whose weight is above 256; the earlier.
+    ///
+    /// A refusal leaves the cursor where it was.
+    pub fn expression(&mut self, weight: u32) -> Result<Expr, ParseError>
+        requires { weight < 2 ^ 31 }
+        ensures machine { Reads (N grammar.AnExpression weight ∷ []) self.old result self.new }
+        ensures err { OnErr result (self.new ≡ self.old) }
+        ensures tree { IfOk result (λ x. Spells (spells.AnExpression x) self.old self.new) }
+        ensures shorter { OnOk result (length self.new < length self.old) }
+    {
+        let before = self.rest();
+        match self.read_expression(weight) {
+            Ok(expr) => Ok(expr),
+            Err(error) => {
+                self.back_to(before);
+                Err(error)
+            }
+        }
+    }
+
+    /// An expression, whatever is open at its first token: `weight`, counted as in `expression`, may be any number.
+    ///
+    /// Faults: 15 Syntax or 38 NotInProfile at the first token where the grammar has no rule, 16 NestedTooDeep at the first
+    /// token whose weight is above 256; the earlier.
+    /// Where `weight` is above 256 that is the next token: 16 where it begins an expression, else 15 or 38. A refusal leaves
+    /// the cursor where it was.
+    #[tactic(auto, using(crate::proofs::Runs::runs, crate::proofs::Weights::weights))]
+    pub fn expression_at(&mut self, weight: u32) -> Result<Expr, ParseError>
+        ensures machine { Reads (N grammar.AnExpression weight ∷ []) self.old result self.new }
+        ensures err { OnErr result (self.new ≡ self.old) }
+        ensures tree { IfOk result (λ x. Spells (spells.AnExpression x) self.old self.new) }
+        ensures shorter { OnOk result (length self.new < length self.old) }
+    {
+        if is_too_heavy(weight) {
+            if self.sees_expression() {
+                return Err(self.heavy());
+            }
+            return Err(self.stuck());
+        }
+        self.expression(weight)
+    }
+
+    /// `[high:low]`
+    ///
+    /// `weight`, counted as in `expression`, is below 2^31.
+    ///
+    /// Faults: 15 Syntax or 38 NotInProfile at the first token where the grammar has no rule, 16 NestedTooDeep at the first
+    /// token whose weight is above 256; the earlier.
+    ///
+    /// A refusal leaves the cursor where it was.
+    pub fn range(&mut self, weight: u32) -> Result<Range, ParseError>
+        requires { weight < 2 ^ 31 }
+        ensures machine { Reads (N grammar.ARange weight ∷ []) self.old result self.new }
+        ensures err { OnErr result (self.new ≡ self.old) }
+        ensures tree { IfOk result (λ x. Spells (spells.ARange x) self.old self.new) }
+        ensures shorter { OnOk result (length self.new < length self.old) }
+    {
+        let before = self.rest();
+        match self.read_range(weight) {
+            Ok(range) => Ok(range),
+            Err(error) => {
+                self.back_to(before);
+                Err(error)
+            }
+        }
+    }
+}
+
+impl<'a> Parser<'a> {
+    // What follows a name: a select, or nothing.
+    #[cycle(expression)]
+    fn read_select(&mut self, name: Identifier, weight: u32) -> Result<Reference, ParseError>
         requires { weight < 2 ^ 31 }
         ensures machine { Reads (N grammar.ASelect weight ∷ []) self.old result self.new }
         ensures tree { IfOk result (λ x. Spells (spells.ASelect name x) self.old self.new) }
@@ -36,7 +131,7 @@ impl<'a> Parser<'a> {
     {
         if self.sees(Kind::LeftBracket) {
             self.expect(Kind::LeftBracket, weight)?;
-            let first = Boxed::new(self.alloc(), self.expression(weight + 1)?)?;
+            let first = Boxed::new(self.alloc(), self.read_expression(weight + 1)?)?;
             let reference = self.part(name, first, weight + 1)?;
             self.expect(Kind::RightBracket, weight + 1)?;
             self.after_select(weight)?;
@@ -75,51 +170,25 @@ impl<'a> Parser<'a> {
     {
         if self.sees(Kind::Colon) {
             self.expect(Kind::Colon, weight)?;
-            let low = Boxed::new(self.alloc(), self.expression(weight)?)?;
+            let low = Boxed::new(self.alloc(), self.read_expression(weight)?)?;
             return Ok(Reference::Part(name, first, low));
         }
         if self.sees(Kind::PlusColon) {
             self.expect(Kind::PlusColon, weight)?;
-            let width = Boxed::new(self.alloc(), self.expression(weight)?)?;
+            let width = Boxed::new(self.alloc(), self.read_expression(weight)?)?;
             return Ok(Reference::Upward(name, first, width));
         }
         if self.sees(Kind::MinusColon) {
             self.expect(Kind::MinusColon, weight)?;
-            let width = Boxed::new(self.alloc(), self.expression(weight)?)?;
+            let width = Boxed::new(self.alloc(), self.read_expression(weight)?)?;
             return Ok(Reference::Downward(name, first, width));
         }
         Ok(Reference::Bit(name, first))
     }
 
-    /// An expression, whatever is open at its first token: `weight`, counted as in `expression`, may be any number.
-    ///
-    /// Faults: 15 Syntax or 38 NotInProfile at the first token where the grammar has no rule, 16 NestedTooDeep at the first
-    /// token whose weight is above 256; the earlier.
-    /// Where `weight` is above 256 that is the next token: 16 where it begins an expression, else 15 or 38.
-    #[tactic(auto, using(crate::proofs::Runs::runs, crate::proofs::Weights::weights))]
-    pub fn expression_at(&mut self, weight: u32) -> Result<Expr, ParseError>
-        ensures machine { Reads (N grammar.AnExpression weight ∷ []) self.old result self.new }
-        ensures tree { IfOk result (λ x. Spells (spells.AnExpression x) self.old self.new) }
-        ensures shorter { OnOk result (length self.new < length self.old) }
-    {
-        if is_too_heavy(weight) {
-            if self.sees_expression() {
-                return Err(self.heavy());
-            }
-            return Err(self.stuck());
-        }
-        self.expression(weight)
-    }
-
-    /// The longest expression.
-    ///
-    /// `weight` is what is open at the next token: unary operators, brackets, branches of `?:`, statements and generate
-    /// blocks, and in each open expression the binary operators that were read. It is below 2^31.
-    ///
-    /// Faults: 15 Syntax or 38 NotInProfile at the first token where the grammar has no rule, 16 NestedTooDeep at the first
-    /// token whose weight is above 256; the earlier.
+    // The longest expression.
     #[cycle(expression)]
-    pub fn expression(&mut self, weight: u32) -> Result<Expr, ParseError>
+    fn read_expression(&mut self, weight: u32) -> Result<Expr, ParseError>
         requires { weight < 2 ^ 31 }
         ensures machine { Reads (N grammar.AnExpression weight ∷ []) self.old result self.new }
         ensures tree { IfOk result (λ x. Spells (spells.AnExpression x) self.old self.new) }
@@ -131,9 +200,9 @@ impl<'a> Parser<'a> {
         }
         let first = Boxed::new(self.alloc(), first)?;
         self.expect(Kind::Question, inner)?;
-        let yes = Boxed::new(self.alloc(), self.expression(inner + 1)?)?;
+        let yes = Boxed::new(self.alloc(), self.read_expression(inner + 1)?)?;
         self.expect(Kind::Colon, inner)?;
-        let no = Boxed::new(self.alloc(), self.expression(inner + 1)?)?;
+        let no = Boxed::new(self.alloc(), self.read_expression(inner + 1)?)?;
         Ok(Expr::Conditional(first, yes, no))
     }
 
@@ -186,17 +255,17 @@ impl<'a> Parser<'a> {
             }
             Kind::Word => {
                 let name = identifier(self.expect(Kind::Word, weight)?);
-                Ok(Expr::Read(self.select(name, weight)?))
+                Ok(Expr::Read(self.read_select(name, weight)?))
             }
             Kind::LeftParen => {
                 let at = self.expect(Kind::LeftParen, weight)?.at;
-                let inner = Boxed::new(self.alloc(), self.expression(weight + 1)?)?;
+                let inner = Boxed::new(self.alloc(), self.read_expression(weight + 1)?)?;
                 self.expect(Kind::RightParen, weight + 1)?;
                 Ok(Expr::Bracketed(at, inner))
             }
             Kind::LeftBrace => {
                 let at = self.expect(Kind::LeftBrace, weight)?.at;
-                let first = self.expression(weight + 1)?;
+                let first = self.read_expression(weight + 1)?;
                 self.braced(at, first, weight + 1)
             }
             _ => Err(self.stuck()),
@@ -218,7 +287,7 @@ impl<'a> Parser<'a> {
         }
         let count = Boxed::new(self.alloc(), first)?;
         self.expect(Kind::LeftBrace, weight)?;
-        let inner = self.expression(weight + 1)?;
+        let inner = self.read_expression(weight + 1)?;
         let all = self.more(inner, weight + 1)?;
         self.expect(Kind::RightBrace, weight + 1)?;
         self.expect(Kind::RightBrace, weight)?;
@@ -237,27 +306,21 @@ impl<'a> Parser<'a> {
         all.push(first)?;
         'items: while self.sees(Kind::Comma) {
             self.expect(Kind::Comma, weight)?;
-            all.push(self.expression(weight)?)?;
+            all.push(self.read_expression(weight)?)?;
         }
         Ok(all)
     }
-
-    /// `[high:low]`
-    ///
-    /// `weight`, counted as in `expression`, is below 2^31.
-    ///
-    /// Faults: 15 Syntax or 38 NotInProfile at the first token where the grammar has no rule, 16 NestedTooDeep at the first
-    /// token whose weight is above 256; the earlier.
-    pub fn range(&mut self, weight: u32) -> Result<Range, ParseError>
+    // `[high:low]`
+    fn read_range(&mut self, weight: u32) -> Result<Range, ParseError>
         requires { weight < 2 ^ 31 }
         ensures machine { Reads (N grammar.ARange weight ∷ []) self.old result self.new }
         ensures tree { IfOk result (λ x. Spells (spells.ARange x) self.old self.new) }
         ensures shorter { OnOk result (length self.new < length self.old) }
     {
         self.expect(Kind::LeftBracket, weight)?;
-        let high = Boxed::new(self.alloc(), self.expression(weight + 1)?)?;
+        let high = Boxed::new(self.alloc(), self.read_expression(weight + 1)?)?;
         self.expect(Kind::Colon, weight + 1)?;
-        let low = Boxed::new(self.alloc(), self.expression(weight + 1)?)?;
+        let low = Boxed::new(self.alloc(), self.read_expression(weight + 1)?)?;
         self.expect(Kind::RightBracket, weight + 1)?;
         Ok(Range { high, low })
     }

@@ -1,5 +1,5 @@
 // A cursor over tokens.
-ghost use Rattle.std.specs.Prelude.{◌≡◌, ◌≤◌, ◌<◌, length, IfOk, OnOk, [], ◌∷◌, ◌↔◌, IsTrue, MatchOption, MatchBool, ◌≢◌, true, false};
+ghost use Rattle.std.specs.Prelude.{◌≡◌, ◌≤◌, ◌<◌, length, IfOk, OnOk, OnErr, [], ◌∷◌, ◌↔◌, IsTrue, MatchOption, MatchBool, ◌≢◌, true, false};
 ghost use Rattle.verilog_expr.specs.Tokens as tokens;
 ghost use Rattle.verilog_expr.specs.Tokens.{next, max_weight, Differs, Takes};
 ghost use Rattle.verilog_expr.specs.Grammar.{T, is_outside, begins_expression};
@@ -164,9 +164,18 @@ impl<'a> Parser<'a> {
             )
     }
 
-    /// Takes a token of this kind, where it is next and no more is open at it than may be.
+    /// Sets the cursor back to where it was.
+    pub(crate) fn back_to(&mut self, tokens: &'a [Token])
+        ensures { self.new ≡ tokens.now }
+    {
+        self.rest = tokens;
+    }
+
+    /// Takes a token of this kind, where it is next and no more is open at it than may be. A refusal leaves the cursor where
+    /// it was.
     pub fn expect(&mut self, kind: Kind, weight: u32) -> Result<Token, ParseError>
         ensures machine { Reads (T kind weight ∷ []) self.old result self.new }
+        ensures err { OnErr result (self.new ≡ self.old) }
         ensures takes { IfOk result (λ t. Takes kind self.old self.new t) }
         ensures light { OnOk result (weight ≤ max_weight) }
         ensures shorter { OnOk result (length self.new < length self.old) }

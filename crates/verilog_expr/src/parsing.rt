@@ -15,6 +15,9 @@ use verilog_lex::Token;
 /// The longest expression that begins at token `from`, where `weight` operators, brackets, branches, statements and
 /// generate blocks are open there.
 ///
+/// It ends before the first token that can't go on with it. At a dot behind a name or a select no text of the grammar goes
+/// on, so the dot is refused, and no expression ends there.
+///
 /// Faults: 15 Syntax or 38 NotInProfile at the first token where the grammar has no rule, 16 NestedTooDeep at the first
 /// token at which more than 256 are open; the earlier.
 pub fn parse_expr(

@@ -10,7 +10,7 @@ abbrev pub kind_in : List (List ℕ × Kind) → List ℕ → Option Kind
 kind_in [] text = None
 kind_in (entry ∷ table) text = if bytes_eq entry.0 text then Some entry.1 else kind_in table text
 
--- those that the grammar uses
+-- the reserved words that have a kind of their own
 unfoldable pub used_words : List (List ℕ × Kind)
 used_words =
     (codes "always", kind.Always) ∷

@@ -16,18 +16,21 @@ pub fn is_wild(byte: u8) -> bool
     matches!(byte, b'z' | b'Z' | b'?')
 }
 
+// A digit of any radix, `x` and `X` among them.
 fn is_part_digit(byte: u8) -> bool
     ensures { result ≡ is_part_digit byte }
 {
     is_digit(byte) || matches!(byte, b'a'..=b'f' | b'A'..=b'F' | b'x' | b'X') || is_wild(byte)
 }
 
+// A digit, or the underscore that parts digits.
 fn is_part_byte(byte: u8) -> bool
     ensures { result ≡ is_part_byte byte }
 {
     is_part_digit(byte) || byte == b'_'
 }
 
+// How many bytes the digits at the front have.
 fn part_len(text: &[u8]) -> usize
     ensures value { result ≡ prefix_len is_part_byte text.now }
     ensures within { result ≤ length text.now }
@@ -35,12 +38,14 @@ fn part_len(text: &[u8]) -> usize
     text.iter().take_while(|b| is_part_byte(**b)).count()
 }
 
+// The letter that makes a based literal signed.
 fn is_sign_letter(byte: u8) -> bool
     ensures { result ≡ is_sign_letter byte }
 {
     matches!(byte, b's' | b'S')
 }
 
+// The radix that a letter stands for; 0 for any other byte.
 fn radix_of(byte: u8) -> u8
     ensures { result ≡ radix_of byte }
 {

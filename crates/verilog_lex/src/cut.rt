@@ -11,12 +11,14 @@ use source_text::{
     behind, byte_at, front, is_digit, is_letter, is_space, space_len, through_pair, word_len,
 };
 
+// A byte of an unsigned number (IEEE 1364-2005, clause 3.5.1).
 fn is_decimal_byte(byte: u8) -> bool
     ensures { result ≡ is_decimal_byte byte }
 {
     is_digit(byte) || byte == b'_'
 }
 
+// How many bytes the unsigned number at the front has.
 fn decimal_len(text: &[u8]) -> usize
     ensures value { result ≡ prefix_len is_decimal_byte text.now }
     ensures within { result ≤ length text.now }

@@ -159,7 +159,7 @@ fn is_among(words: &[&[u8]], text: &[u8]) -> bool
     false
 }
 
-// The kind of a reserved word that the grammar uses.
+// The kind of a reserved word that has its own.
 #[tactic(auto, unfolding(crate::specs::Keywords::used_words))]
 fn used_word(text: &[u8]) -> Option<Kind>
     ensures { result ≡ kind_in used_words text.now }
@@ -167,7 +167,7 @@ fn used_word(text: &[u8]) -> Option<Kind>
     kind_in(&USED_WORDS, text)
 }
 
-// Whether a word is reserved, but unused by the grammar.
+// Whether a word is reserved, without a kind of its own.
 #[tactic(auto, unfolding(crate::specs::Keywords::other_words))]
 fn is_other_word(text: &[u8]) -> bool
     ensures { result ≡ is_among other_words text.now }

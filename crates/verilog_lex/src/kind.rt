@@ -12,7 +12,7 @@ pub enum Kind {
     /// What follows the last byte of the last file.
     End,
 
-    // The reserved words that the grammar uses (annex B).
+    // The reserved words that have a kind of their own (annex B).
     Module,
     EndModule,
     Input,

@@ -65,6 +65,7 @@ const SINGLES: [(&[u8], Kind); 26] = [
     (b">", Kind::Greater),
 ];
 
+// The sign of three bytes at the front.
 #[tactic(auto, unfolding(crate::specs::Signs::triples))]
 fn triple(text: &[u8]) -> Option<Kind>
     ensures { result ≡ kind_in triples text.now }
@@ -72,6 +73,7 @@ fn triple(text: &[u8]) -> Option<Kind>
     kind_in(&TRIPLES, text)
 }
 
+// The sign of two bytes at the front.
 #[tactic(auto, unfolding(crate::specs::Signs::doubles))]
 fn double(text: &[u8]) -> Option<Kind>
     ensures { result ≡ kind_in doubles text.now }
@@ -79,6 +81,7 @@ fn double(text: &[u8]) -> Option<Kind>
     kind_in(&DOUBLES, text)
 }
 
+// The sign of one byte.
 #[tactic(auto, unfolding(crate::specs::Signs::singles))]
 fn single(text: &[u8]) -> Option<Kind>
     ensures { result ≡ kind_in singles text.now }

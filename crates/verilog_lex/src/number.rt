@@ -74,6 +74,7 @@ fn digits_mask(radix: u8, digits: &[u8]) -> u128
     mask
 }
 
+// Whether any digit is a wildcard.
 fn has_wild(digits: &[u8]) -> bool
     ensures { result ≡ has_wild digits.now }
 {
@@ -93,6 +94,7 @@ fn cut(value: u128, size: u8) -> u128
     }
 }
 
+// The Number of a value, cut to its size; None where it has no size and doesn't fit 32 bits.
 #[tactic(auto, unfolding(crate::specs::Numbers::number_of))]
 fn number_of(size: u8, signed: bool, value: u128) -> Option<(Kind, Literal)>
     requires { size ≤ 128 }
@@ -119,6 +121,7 @@ fn number_of(size: u8, signed: bool, value: u128) -> Option<(Kind, Literal)>
     Some((Kind::Number, literal))
 }
 
+// The Wild of a value and its digits; None without a size, signed, or of decimal digits.
 #[tactic(auto, unfolding(crate::specs::Numbers::wild_of))]
 fn wild_of(size: u8, part: Based<'_>, value: u128) -> Option<(Kind, Literal)>
     requires { size ≤ 128 }

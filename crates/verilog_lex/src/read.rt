@@ -37,6 +37,7 @@ fn take_cut(cursor: Cursor<'_>) -> (Lexeme<'_>, Cursor<'_>)
     (lexeme, Cursor { text, at, ..cursor })
 }
 
+// Whether a cut stands between tokens.
 fn is_blank(cut: Lexeme<'_>) -> bool
     ensures { result ≡ is_gap (lexeme cut.entry).form }
 {

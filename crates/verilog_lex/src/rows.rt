@@ -41,7 +41,7 @@ pub const LONGEST_SIGNS: &[(&[u8], &[Kind])] = &[
     ),
 ];
 
-/// The reserved words that the grammar doesn't use, and how many a row has.
+/// The reserved words without a kind of their own, and how many a row has.
 pub const UNUSED_WORDS: &[(&[u8], usize)] = &[
     (
         b"and automatic buf bufif0 bufif1 casex cell cmos config deassign defparam design disable",
@@ -78,7 +78,7 @@ pub const UNUSED_WORDS: &[(&[u8], usize)] = &[
     (b"weak0 weak1 while wor xnor xor", 6),
 ];
 
-/// The reserved words that the grammar uses, and their kinds.
+/// The reserved words that have a kind of their own, and their kinds.
 pub const USED_WORDS: &[(&[u8], &[Kind])] = &[(
     b"module endmodule input output wire reg signed parameter localparam genvar generate endgenerate assign always posedge begin end if else case casez endcase default for or",
     &[
@@ -189,5 +189,6 @@ pub const FAULTS: &[(&[u8], &[u8])] = &[
         b"refused 13 BadToken a.v:4:3 -\n",
     ),
     (b"a (* x // *)\n *)", b"refused 13 BadToken a.v:1:3 -\n"),
+    (b"\"\n`B", b"refused 12 BadDirective a.v:2:1 B\n"),
     (b"module // \" \\ $\n;", b""),
 ];

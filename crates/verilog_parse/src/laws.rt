@@ -10,15 +10,17 @@ ghost use Rattle.verilog_expr.specs.declared.fault.ParseFault.{ParseFault};
 ghost use Rattle.verilog_expr.specs.Machine.{Run};
 ghost use Rattle.verilog_expr.specs.Renamed.{retokens};
 ghost use Rattle.verilog_expr.specs.Shown.{Refuses};
-ghost use Rattle.verilog_parse.specs.Files.{file, Stands};
+ghost use Rattle.verilog_parse.specs.Files.{file, IsSpelled, Stands};
 
-/// A text has at most one list of modules and at most one fault, and not both.
+/// A text has at most one list of modules and at most one fault, and not both. What modules spell has no fault but 16: the
+/// machine is never stuck there.
 #[tactic(none)]
 pub fn texts_are_read_in_one_way()
     ensures modules { (names : List (List ℕ)) (xs ys : List Module) (s : List Token) → Stands names xs s → Stands names ys s → xs ≡ ys }
     ensures fault { (s : List Token) (f g : Fault) → Refuses file s (refusal.Fault f) → Refuses file s (refusal.Fault g) → f ≡ g }
     ensures either { (names : List (List ℕ)) (xs : List Module) (s : List Token) (f : Fault)
         → Stands names xs s → Refuses file s (refusal.Fault f) → ⊥ }
+    ensures spelled { (s : List Token) (f : Fault) → IsSpelled s → Refuses file s (refusal.Fault f) → f.code ≡ 16 }
 {}
 
 /// Where two lists of tokens are the same under other names, so are the bodies of their modules and the machine's faults.

@@ -188,7 +188,7 @@ fn push_cut(
     }
 }
 
-// Adds the parts of the body that begins a text, and answers how many bytes the body has.
+/// Adds the parts of the body that begins a text, and answers how many bytes the body has.
 #[tactic(auto, unfolding(crate::specs::Bodies::body_parts, crate::specs::Bodies::body_len))]
 pub fn read_body(
     macros: &mut Macros,

@@ -56,7 +56,7 @@ fn add_macro(
     Ok(n)
 }
 
-/// Carries out a `define` whose name is read: the body is the rest of the line.
+// Carries out a `define` whose name is read: the body is the rest of the line.
 #[tactic(auto, unfolding(crate::specs::Reading::define_name))]
 fn define_name(
     alloc: Global,

@@ -32,6 +32,7 @@ fn directive_in(table: &[(&[u8], Directive)], word: &[u8]) -> Option<Directive>
     None
 }
 
+// The directive of a word of the table.
 #[tactic(auto, unfolding(crate::specs::Directives::directives))]
 fn listed(word: &[u8]) -> Option<Directive>
     ensures { result ≡ directive_in directives word.now }

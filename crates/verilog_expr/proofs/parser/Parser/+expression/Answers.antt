@@ -39,9 +39,9 @@ more-items-init t c = record {
 
 pub more-items-preserved : goal.more-items-preserved
 more-items-preserved t c = record {
-  machine = record { go = λ k out r. c.items.invariant.machine.go k out (expand_at c.items-test.ensures (then c.in_ok-expect.ensures.machine (then c.in_ok-expression.ensures.machine r))) };
-  tree = others_more c.args.first c.items.all _ _ c.args.self.now c.items.self _ _ _ c.items.invariant.tree c.in_ok-push-2.ensures.ok c.in_ok-expect.ensures.takes c.in_ok-expression.ensures.tree;
-  shorter = omega (arith, c.in_ok-expression.ensures.shorter, c.in_ok-expect.ensures.shorter);
+  machine = record { go = λ k out r. c.items.invariant.machine.go k out (expand_at c.items-test.ensures (then c.in_ok-expect.ensures.machine (then c.in_ok-read_expression.ensures.machine r))) };
+  tree = others_more c.args.first c.items.all _ _ c.args.self.now c.items.self _ _ _ c.items.invariant.tree c.in_ok-push-2.ensures.ok c.in_ok-expect.ensures.takes c.in_ok-read_expression.ensures.tree;
+  shorter = omega (arith, c.in_ok-read_expression.ensures.shorter, c.in_ok-expect.ensures.shorter);
 }
 
 pub more-returns-clause-tree : goal.more-returns-clause-tree

@@ -8,14 +8,14 @@ use Rattle.verilog_expr.specs.Reads.{Leads}
 use Rattle.verilog_expr.specs.Spells.{Spells, AChain, Others, Behind}
 use Rattle.verilog_expr.proofs.parser.Parser.+expression.Given as goal
 
-abbrev pub decreases-select : goal.decreases-select
-decreases-select l = 8 * length l.self.now
+abbrev pub decreases-read_select : goal.decreases-read_select
+decreases-read_select l = 8 * length l.self.now
 
 abbrev pub decreases-part : goal.decreases-part
 decreases-part l = 8 * length l.self.now
 
-abbrev pub decreases-expression : goal.decreases-expression
-decreases-expression l = 8 * length l.self.now + 2
+abbrev pub decreases-read_expression : goal.decreases-read_expression
+decreases-read_expression l = 8 * length l.self.now + 2
 
 abbrev pub decreases-operand : goal.decreases-operand
 decreases-operand l = 8 * length l.self.now
