@@ -1,6 +1,6 @@
 -- The room that a state takes: each register in whole words of 64 bits of its own; at most 65,536 words.
 use Rattle.std.specs.Prelude.{◌≡◌, ℕ, ◌+◌, ◌/◌, List, [], ◌∷◌}
-use Rattle.ls_text.specs.declared.place.At.TheVariants.{Edit}
+use Rattle.ls_text.specs.declared.at.At.TheVariants.{Edit}
 use Rattle.ls_text.specs.declared.refusal.Refusal.{Refusal}
 use Rattle.ls_text.specs.declared.refusal.Refusal.TheVariants.{Fault as Refused, NoMemory}
 

@@ -4,7 +4,7 @@ use Rattle.std.proofs.lemmas.Bool.{and_parts}
 use Rattle.std.proofs.lemmas.Option.{none-some}
 use Rattle.std.proofs.lemmas.Slice.Eq.{bytes_eq-Decides}
 use Rattle.std.specs.Str.{bytes_eq}
-use Rattle.livesim.specs.Scan.{guard, ◌>>=◌}
+use Rattle.ls_text.specs.Options.{guard, ◌>>=◌}
 use Rattle.livesim.specs.Script.{BlockText, block_rest, block_at, text_at, onto_text, told_line, is_told, named_at, named, only_word, head_at, is_file_name, is_skipped, is_word, first_word}
 
 -- in these lines, which begin in a text or not, a block ends

@@ -4,7 +4,7 @@ use Rattle.ls_text.specs.Texts.{Grows, IsIdOf, interned}
 use Rattle.ls_text.proofs.Growth.{grown_text}
 use Rattle.ls_text.specs.declared.name_id.NameId.{NameId}
 use Rattle.ls_text.specs.declared.source_file.SourceFile.{SourceFile}
-use Rattle.source_text.specs.Faults.{TextFault}
+use Rattle.ls_text.specs.Readings.{TextFault}
 use Rattle.verilog_lex.specs.declared.token.Token.{Token}
 use Rattle.verilog_lex.specs.Tokens.{Said}
 use Rattle.verilog_lex.specs.Views.{said}

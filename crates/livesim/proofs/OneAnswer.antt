@@ -1,6 +1,6 @@
 -- A text comes to one answer, whatever table and numbers its names have.
 use Rattle.std.proofs.Common.{◌≡◌, ℕ, ◌<◌, ◌≤◌, List, ◌++◌, map, length, Some, Result, Ok, Err, refl, sym, arith}
-use Rattle.source_text.specs.Faults.{TextFault, fault_view}
+use Rattle.ls_text.specs.Readings.{TextFault, fault_view}
 use Rattle.verilog_lex.specs.declared.token.Token.{Token}
 use Rattle.verilog_lex.specs.Tokens.{Said}
 use Rattle.verilog_lex.specs.Views.{said}

@@ -18,7 +18,7 @@ use Rattle.verilog_ast.specs.declared.statement.Arm.TheFolds.{fold_out-Stmt, map
 use Rattle.verilog_ast.specs.declared.statement.Stmt.{Stmt, out-Stmt, out-roll-Stmt}
 use Rattle.verilog_ast.specs.declared.statement.Stmt.TheVariants as statement
 use Rattle.verilog_ast.specs.Renamed.{renamed_identifier, renamed_expression, renamed_reference, expression_step, reference_step, target_step, renamed_target, arm_step, statement_step, renamed_statement, renamed_arm}
-use Rattle.livesim.specs.Scan.{◌>>=◌}
+use Rattle.ls_text.specs.Options.{◌>>=◌}
 use Rattle.livesim.specs.Module.{is_named, Operand, Register, Unknown, named_operand, Sum, Part, part_at, name_of, target_of, target_in, Assignment, assignment_of, assignment_in}
 use Rattle.livesim.proofs.JointNames.{Keeps}
 use Rattle.livesim.proofs.RenamedParts.{renamed_operand, renamed_sum, same_name, same_part}

@@ -13,7 +13,7 @@ use Rattle.verilog_ast.specs.declared.item.Item.{Item}
 use Rattle.verilog_ast.specs.declared.module_body.ModuleBody.{ModuleBody}
 use Rattle.verilog_ast.specs.declared.module.Module.{Module}
 use Rattle.verilog_ast.specs.Renamed.{renamed_range, renamed_header_parameter, renamed_header_port, renamed_ports, renamed_item, renamed_body}
-use Rattle.livesim.specs.Scan.{◌>>=◌}
+use Rattle.ls_text.specs.Options.{◌>>=◌}
 use Rattle.livesim.specs.Module.{only, both, is_clock_port, declared, some_clock_port, is_header, RegisterText, Assignment, items_at, body_at, module_at}
 use Rattle.livesim.proofs.JointNames.{Keeps}
 use Rattle.livesim.proofs.RenamedParts.{same_name}

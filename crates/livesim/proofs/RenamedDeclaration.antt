@@ -12,7 +12,7 @@ use Rattle.verilog_ast.specs.declared.range.Range.{Range}
 use Rattle.verilog_ast.specs.declared.shape.Shape.{Shape}
 use Rattle.verilog_ast.specs.declared.variable.Variable.{Variable}
 use Rattle.verilog_ast.specs.Renamed.{renamed_expression, renamed_reference, expression_step, reference_step, renamed_range, renamed_shape, renamed_variable}
-use Rattle.livesim.specs.Scan.{guard, ◌>>=◌}
+use Rattle.ls_text.specs.Options.{guard, ◌>>=◌}
 use Rattle.livesim.specs.Module.{number_of, number_in, plain_value, literal_of, literal_in, bounds_width, range_width, shape_width, variable_at, RegisterText}
 use Rattle.livesim.proofs.JointNames.{Keeps}
 

@@ -8,7 +8,7 @@ use Rattle.ls_text.specs.declared.name_id.NameId.{NameId}
 use Rattle.bits.specs.Values.{resized}
 use Rattle.typed_ir.specs.Sized.{Sized, Resized}
 use Rattle.typed_ir.specs.Cycles.{Flat}
-use Rattle.source_text.specs.Faults.{fault_at}
+use Rattle.ls_text.specs.Readings.{fault_at}
 use Rattle.verilog_ast.specs.declared.identifier.Identifier.{Identifier}
 use Rattle.verilog_ast.specs.declared.module_body.ModuleBody.{ModuleBody}
 use Rattle.verilog_ast.specs.declared.module.Module.{Module}

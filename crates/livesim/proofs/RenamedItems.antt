@@ -14,7 +14,7 @@ use Rattle.verilog_ast.specs.declared.generate_item.GenerateItem.TheFolds.{fold_
 use Rattle.verilog_ast.specs.declared.item.Item.{Item}
 use Rattle.verilog_ast.specs.declared.item.Item.TheVariants as item
 use Rattle.verilog_ast.specs.Renamed.{renamed_identifier, renamed_shape, renamed_variable, renamed_plain_item, renamed_loop, generate_item_step, branch_step, renamed_generate_item, renamed_branch, renamed_item}
-use Rattle.livesim.specs.Scan.{◌>>=◌}
+use Rattle.ls_text.specs.Options.{◌>>=◌}
 use Rattle.livesim.specs.Module.{is_named, only, plain_of, plain_in, variable_at, register_at, Assignment, assignment_in, clocked_at}
 use Rattle.livesim.proofs.JointNames.{Keeps}
 use Rattle.livesim.proofs.RenamedParts.{same_name}

@@ -13,7 +13,7 @@ use Rattle.verilog_ast.specs.declared.expression.Expr.TheFolds.{fold-Reference, 
 use Rattle.verilog_ast.specs.declared.expression.Reference.{Reference, roll-Reference}
 use Rattle.verilog_ast.specs.declared.expression.Reference.TheVariants as ref
 use Rattle.verilog_ast.specs.Renamed.{renamed_identifier, renamed_expression, renamed_reference, expression_step, reference_step}
-use Rattle.livesim.specs.Scan.{guard, ◌>>=◌}
+use Rattle.ls_text.specs.Options.{guard, ◌>>=◌}
 use Rattle.livesim.specs.Module.{is_named, Operand, Register, Literal, Unknown, Sum, Part, lone_part, with_operand, binary_part, name_part, part_of, whole_name, part_at, literal_of}
 use Rattle.livesim.proofs.JointNames.{Keeps}
 

@@ -6,7 +6,7 @@ use Rattle.ls_text.specs.declared.name_id.NameId.{NameId}
 use Rattle.verilog_ast.specs.declared.plain_item.PlainItem.{PlainItem}
 use Rattle.verilog_ast.specs.declared.item.Item.{Item}
 use Rattle.verilog_ast.specs.Renamed.{renamed_plain_item, renamed_item}
-use Rattle.livesim.specs.Scan.{guard, ◌>>=◌}
+use Rattle.ls_text.specs.Options.{guard, ◌>>=◌}
 use Rattle.livesim.specs.Module.{plain_in, RegisterText, register_at, Assignment, clocked_at, items_at}
 use Rattle.livesim.proofs.JointNames.{Keeps}
 use Rattle.livesim.proofs.RenamedAssignment.{renamed_assignment}

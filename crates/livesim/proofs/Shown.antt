@@ -7,10 +7,10 @@ use Rattle.ls_text.specs.Texts.{text_at}
 use Rattle.ls_text.specs.Faults.{code_name, file_text, fault_text, names_text, place_text}
 use Rattle.ls_text.specs.declared.name_id.NameId.{NameId}
 use Rattle.ls_text.specs.declared.source_file.SourceFile.{SourceFile}
-use Rattle.ls_text.specs.declared.place.At.{At}
-use Rattle.ls_text.specs.declared.place.At.TheVariants.{Text, Line, Edit}
+use Rattle.ls_text.specs.declared.at.At.{At}
+use Rattle.ls_text.specs.declared.at.At.TheVariants.{Text, Line, Edit}
 use Rattle.ls_text.specs.declared.fault.Fault.{Fault}
-use Rattle.source_text.specs.Faults.{fault_view}
+use Rattle.ls_text.specs.Readings.{fault_view}
 use Rattle.livesim.specs.FileNames.{file_names}
 use Rattle.livesim.specs.Replies.{refusal_text, shown_names, where_text}
 use Rattle.livesim.specs.Worlds.{refused_text, where_of}

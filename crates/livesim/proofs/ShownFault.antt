@@ -5,11 +5,11 @@ use Rattle.std.proofs.lemmas.List.{length-map}
 use Rattle.std.proofs.lemmas.Option.{slice_get-map}
 use Rattle.ls_text.specs.Texts.{text_at}
 use Rattle.ls_text.specs.declared.place.Place.{Place}
-use Rattle.ls_text.specs.declared.place.At.{At}
-use Rattle.ls_text.specs.declared.place.At.TheVariants.{Text}
+use Rattle.ls_text.specs.declared.at.At.{At}
+use Rattle.ls_text.specs.declared.at.At.TheVariants.{Text}
 use Rattle.ls_text.specs.declared.name_id.NameId.{NameId}
 use Rattle.ls_text.specs.declared.fault.Fault.{Fault}
-use Rattle.source_text.specs.Faults.{TextFault, fault_view}
+use Rattle.ls_text.specs.Readings.{TextFault, fault_view}
 use Rattle.verilog_lex.specs.declared.token.Token.{Token}
 use Rattle.verilog_lex.specs.Tokens.{Said}
 use Rattle.verilog_lex.specs.Views.{said}

@@ -32,7 +32,7 @@ use Rattle.verilog_ast.specs.declared.generate_item.GenerateItem.TheFolds.{fold_
 use Rattle.verilog_ast.specs.declared.module_body.ModuleBody.{ModuleBody}
 use Rattle.verilog_ast.specs.Names.{expression_names, reference_names, target_names, generate_item_names, branch_names, names_of_expression, names_of_reference, names_of_target, names_of_statement, names_of_generate_item, names_of_shape, names_of_variable, names_of_header_parameter, names_of_header_port, names_of_ports, names_of_plain_item, names_of_item, names_of_body}
 use Rattle.verilog_ast.proofs.Named.{binary_names, assign_names}
-use Rattle.livesim.specs.Scan.{◌>>=◌}
+use Rattle.ls_text.specs.Options.{◌>>=◌}
 use Rattle.livesim.specs.declared.assignment.Assignment.{Assignment}
 use Rattle.livesim.specs.declared.term.Term.{Term}
 use Rattle.livesim.specs.declared.term.Term.TheVariants.{Register, Literal, Unknown}

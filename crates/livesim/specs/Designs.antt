@@ -6,7 +6,7 @@ use Rattle.typed_ir.specs.declared.operators.ArithmeticOperator.TheVariants.{Sum
 use Rattle.typed_ir.specs.declared.operators.BinaryOperator.TheVariants.{Arithmetic}
 use Rattle.typed_ir.specs.Stmts.{Later, Fixed}
 use Rattle.typed_ir.specs.Cycles.{Flat}
-use Rattle.source_text.specs.Faults.{TextFault, fault_at}
+use Rattle.ls_text.specs.Readings.{TextFault, fault_at}
 use Rattle.verilog_ast.specs.declared.identifier.Identifier.{Identifier}
 use Rattle.verilog_ast.specs.declared.module.Module.{Module}
 use Rattle.livesim.specs.Module.{RegisterText, Assignment, Operand, Register, Literal, Unknown, module_at, name_text, unknown_in}

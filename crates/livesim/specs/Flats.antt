@@ -8,7 +8,7 @@ use Rattle.livesim.specs.declared.built.Built.TheVariants.{Made, OtherForm, Refu
 use Rattle.std.specs.Prelude.{ℕ, ◌<◌, List, Some, None, Ok, Err, ⊤}
 use Rattle.std.specs.List.{All}
 use Rattle.ls_text.specs.declared.name_id.NameId.{NameId}
-use Rattle.source_text.specs.Faults.{fault_view}
+use Rattle.ls_text.specs.Readings.{fault_view}
 
 abbrev pub flat : Design → Flat
 flat d = one_register d.path.items d.initial.width d.initial.value (sized d.next.form)

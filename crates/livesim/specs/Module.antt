@@ -33,7 +33,7 @@ use Rattle.verilog_ast.specs.declared.item.Item.{Item}
 use Rattle.verilog_ast.specs.declared.item.Item.TheVariants as item
 use Rattle.verilog_ast.specs.declared.module_body.ModuleBody.{ModuleBody}
 use Rattle.verilog_ast.specs.declared.module.Module.{Module}
-use Rattle.livesim.specs.Scan.{guard, ◌>>=◌}
+use Rattle.ls_text.specs.Options.{guard, ◌>>=◌}
 
 -- the text of a name
 abbrev pub name_text : List (List ℕ) → Identifier → List ℕ

@@ -2,7 +2,7 @@
 use Rattle.std.specs.Prelude.{◌≡◌, ◌<◌, ◌≤◌, ℕ, List, map, length, Some, None, Ok, Err}
 use Rattle.ls_text.specs.declared.fault.Fault.{Fault}
 use Rattle.ls_text.specs.declared.refusal.Refusal.TheVariants as refusal
-use Rattle.source_text.specs.Faults.{TextFault, fault_view}
+use Rattle.ls_text.specs.Readings.{TextFault, fault_view}
 use Rattle.verilog_lex.specs.declared.token.Token.{Token}
 use Rattle.verilog_lex.specs.Views.{said}
 use Rattle.verilog_ast.specs.declared.module.Module.{Module}

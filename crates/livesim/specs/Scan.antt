@@ -1,17 +1,9 @@
--- Numbers in a script, and readings that may fail.
-use Rattle.std.specs.Prelude.{ℕ, ◌^◌, Bool, ◌&&◌, nat_lt, if◌then◌else◌, List, length, Option, Some, None}
+-- Numbers in a script.
+use Rattle.std.specs.Prelude.{ℕ, ◌^◌, Bool, ◌&&◌, nat_lt, List, length, Option}
 use Rattle.std.specs.List.{list_all}
 use Rattle.std.specs.Str.Parse.{digits_value}
 use Rattle.std.specs.Char.{is_digit}
-
-infixl 10 ◌>>=◌
-abbrev pub ◌>>=◌ : {A B : Type 0} → Option A → (A → Option B) → Option B
-None >>= f = None
-(Some x) >>= f = f x
-
--- a value where a test holds
-abbrev pub guard : {A : Type 0} → Bool → A → Option A
-guard b x = if b then Some x else None
+use Rattle.ls_text.specs.Options.{guard}
 
 -- the number that digits of a base spell, where there is a digit and it is below 2 ^ 128
 unfoldable pub number_of : ℕ → List ℕ → Option ℕ

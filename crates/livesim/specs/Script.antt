@@ -4,8 +4,9 @@ use Rattle.std.specs.Option.{option_map}
 use Rattle.std.specs.List.{prefix_len}
 use Rattle.std.specs.Str.{bytes_eq}
 use Rattle.std.specs.Str.Lines.{lines}
-use Rattle.source_text.specs.Bytes.{is_word_byte}
-use Rattle.livesim.specs.Scan.{number_of, guard, ◌>>=◌}
+use Rattle.ls_text.specs.Bytes.{is_word_byte}
+use Rattle.livesim.specs.Scan.{number_of}
+use Rattle.ls_text.specs.Options.{guard, ◌>>=◌}
 use Rattle.livesim.specs.declared.script_line.ScriptLine.{ScriptLine}
 use Rattle.livesim.specs.declared.script_line.ScriptLine.TheVariants.{Skipped, Edit, Run, Show, Other}
 

@@ -1,7 +1,7 @@
 -- The tokens of a block's text.
 use Rattle.std.specs.Prelude.{ℕ, List, [], ◌∷◌, Result}
 use Rattle.ls_text.specs.declared.source_file.SourceFile.{SourceFile}
-use Rattle.source_text.specs.Faults.{TextFault, ◌>>=◌}
+use Rattle.ls_text.specs.Readings.{TextFault, ◌>>=◌}
 use Rattle.verilog_pre.specs.Reading.{pieces}
 use Rattle.verilog_lex.specs.Tokens.{Said, tokens}
 

@@ -1,9 +1,9 @@
 -- A session, and what commands do to it.
 use Rattle.std.specs.Prelude.{ℕ, ◌+◌, ◌^◌, Bool, false, ◌||◌, nat_le, if◌then◌else◌, List, [], ◌∷◌, map, slice_index_or, Option, Some, None, Result, Ok, Err, is_err, ⊤}
 use Rattle.typed_ir.specs.Cycles.{Flat}
-use Rattle.ls_text.specs.declared.place.At.{At}
-use Rattle.ls_text.specs.declared.place.At.TheVariants.{Text, Line, Edit}
-use Rattle.source_text.specs.Faults.{TextFault}
+use Rattle.ls_text.specs.declared.at.At.{At}
+use Rattle.ls_text.specs.declared.at.At.TheVariants.{Text, Line, Edit}
+use Rattle.ls_text.specs.Readings.{TextFault}
 use Rattle.livesim.specs.Designs.{Answer}
 use Rattle.livesim.specs.Readings.{TextReads}
 use Rattle.livesim.specs.Script.{BlockText}

@@ -1,7 +1,7 @@
 // From the tokens of a text to its design.
 ghost use Rattle.std.specs.Prelude.{◌≡◌, ◌<◌, length, IfOk};
 ghost use Rattle.std.specs.List.{All};
-ghost use Rattle.source_text.specs.Faults.{fault_view};
+ghost use Rattle.ls_text.specs.Readings.{fault_view};
 ghost use Rattle.verilog_lex.specs.Ends.{EndsOnce};
 ghost use Rattle.verilog_lex.specs.Views.{IsNamed};
 ghost use Rattle.verilog_ast.specs.Names.{names_of_modules};

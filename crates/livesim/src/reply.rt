@@ -2,7 +2,7 @@
 ghost use Rattle.std.specs.Prelude.{◌≡◌, ◌<◌, ◌∷◌, true, false, [], length, IfOk};
 ghost use Rattle.std.specs.List.{All};
 ghost use Rattle.ls_text.specs.Texts.{text_at};
-ghost use Rattle.source_text.specs.Faults.{fault_view};
+ghost use Rattle.ls_text.specs.Readings.{fault_view};
 ghost use Rattle.livesim.specs.Worlds.{OnLine, not_built, no_design, refused_text};
 ghost use Rattle.livesim.specs.FileNames.{file_names};
 ghost use Rattle.livesim.specs.Replies.{refusal_text};

@@ -1,16 +1,6 @@
-// Bytes of words, and numbers in digits.
+// Numbers in digits.
 ghost use Rattle.std.specs.Prelude.{◌≡◌, ◌≤◌};
-ghost use Rattle.source_text.specs.Bytes.{is_word_byte};
 ghost use Rattle.livesim.specs.Scan.{number_of};
-
-use source_text::{is_digit, is_letter};
-
-/// Whether a byte may stand in a word behind its first.
-pub fn is_word_byte(byte: u8) -> bool
-    ensures { result ≡ is_word_byte byte }
-{
-    is_letter(byte) || is_digit(byte) || byte == b'$'
-}
 
 /// The number that digits spell, below 2 ^ 128.
 #[tactic(auto, unfolding(crate::specs::Scan::number_of))]

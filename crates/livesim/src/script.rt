@@ -8,9 +8,9 @@ ghost use Rattle.std.specs.Str.Lines.{strip_carriage_return};
 
 use crate::block::Block;
 use crate::block_head::BlockHead;
-use crate::scan::{is_word_byte, number};
+use crate::scan::number;
 use crate::script_line::ScriptLine;
-use ls_text::NoMemory;
+use ls_text::{NoMemory, is_word_byte};
 use std::alloc::Global;
 
 fn line_len(bytes: &[u8]) -> usize

@@ -1,2 +1,4 @@
 pub mod Growth
 pub mod Tables
+pub mod Refused
+pub mod Shown

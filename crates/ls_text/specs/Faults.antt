@@ -4,8 +4,8 @@ use Rattle.std.specs.List.{flat_map}
 use Rattle.ls_text.specs.Texts.{text_at}
 use Rattle.ls_text.specs.declared.name_id.NameId.{NameId}
 use Rattle.ls_text.specs.declared.source_file.SourceFile.{SourceFile}
-use Rattle.ls_text.specs.declared.place.At.{At}
-use Rattle.ls_text.specs.declared.place.At.TheVariants.{Text, Line, Edit}
+use Rattle.ls_text.specs.declared.at.At.{At}
+use Rattle.ls_text.specs.declared.at.At.TheVariants.{Text, Line, Edit}
 
 -- the fault table: what each code is called
 abbrev pub code_name : ℕ → List ℕ

@@ -1,5 +1,8 @@
 // A fault: what is wrong, and where.
-use crate::{At, NameList};
+ghost use Rattle.std.specs.Prelude.{◌≡◌, []};
+
+use crate::{At, NameList, Place};
+use std::alloc::Global;
 
 /// What is wrong with a text or a command: its code, where it stands, and the names that it shows.
 ///
@@ -9,4 +12,15 @@ pub struct Fault {
     pub code: u8,
     pub at: At,
     pub names: NameList,
+}
+
+/// A fault at a place of a text, which shows no name. It takes no memory.
+pub fn text_fault(alloc: Global, code: u8, at: Place) -> Fault
+    ensures { result ≡ record { code = code; at = At.Text at; names = [] } }
+{
+    Fault {
+        code,
+        at: At::Text(at),
+        names: NameList::new(Vec::new(alloc)),
+    }
 }

@@ -1,4 +1,6 @@
-// Where in the texts or in the script something stands.
+// Places in a text.
+ghost use Rattle.std.specs.Prelude.{◌≡◌};
+ghost use Rattle.ls_text.specs.Places.{place_after, file_start};
 
 /// A place in a text: the number of its file, and the line and the byte column, both counted from 1.
 #[derive(Clone, Copy, Debug, PartialEq, Eq)]
@@ -8,13 +10,36 @@ pub struct Place {
     pub col: u32,
 }
 
-/// Where a fault stands.
-#[derive(Clone, Copy, Debug, PartialEq, Eq)]
-pub enum At {
-    /// At a place in a text.
-    Text(Place),
-    /// At a line of the script, counted from 1.
-    Line(u64),
-    /// At the `edit` line of the block that is carried out.
-    Edit,
+/// Where a file begins.
+pub fn file_start(file: u16) -> Place
+    ensures { result ≡ file_start file }
+{
+    Place {
+        file,
+        line: 1,
+        col: 1,
+    }
+}
+
+/// The place after a stretch of bytes that begins at a place. A newline ends its line.
+///
+/// A line or a column that would pass 4,294,967,295 stands still there.
+pub fn place_after(at: Place, bytes: &[u8]) -> Place
+    ensures { result ≡ place_after at bytes.now }
+{
+    let mut line = at.line;
+    let mut col = at.col;
+    for byte in bytes {
+        if *byte == b'\n' {
+            line = line.saturating_add(1);
+            col = 1;
+        } else {
+            col = col.saturating_add(1);
+        }
+    }
+    Place {
+        file: at.file,
+        line,
+        col,
+    }
 }

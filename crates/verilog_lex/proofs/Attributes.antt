@@ -2,7 +2,7 @@
 use Rattle.std.proofs.Common.{◌≡◌, ◌≢◌, ◌⊎◌, inl, inr, ⊎_elim, ℕ, suc, ◌+◌, Bool, true, false, true≢false, not, ◌&&◌, cond, eqb, ltb, List, [], ◌∷◌, ◌++◌, codes, length, take, drop, get_or, Some, None, refl, sym, ap, subst, ◌∙◌, arith, append_assoc, length-append, take-append-drop, drop_at}
 use Rattle.std.specs.List.{prefix_len}
 use Rattle.std.proofs.lemmas.Bool.{and_parts, and_from, cases_eq, lt-ltb, eqb-true, eqb-false, ne_eqb, not-true, not_from_false}
-use Rattle.source_text.specs.Bytes.{is_space, through_pair}
+use Rattle.ls_text.specs.Bytes.{is_space, through_pair}
 use Rattle.verilog_lex.specs.Forms.{Gap, Unfit}
 use Rattle.verilog_lex.specs.Cuts.{opens_attribute, to_its_end, attribute_at}
 use Rattle.verilog_lex.specs.Stretches.{EndsAt, Occurs, OpensAttribute, IsAttribute}

@@ -8,7 +8,7 @@ use Rattle.ls_text.specs.declared.place.Place.{Place}
 use Rattle.ls_text.specs.declared.source_file.SourceFile.{SourceFile}
 use Rattle.ls_text.specs.declared.refusal.Refusal.{Refusal}
 use Rattle.ls_text.specs.declared.refusal.Refusal.TheVariants as refusal
-use Rattle.source_text.specs.Faults.{TextFault, fault_view, Refuses, CanShow, ◌>>=◌}
+use Rattle.ls_text.specs.Readings.{TextFault, fault_view, Refuses, CanShow, ◌>>=◌}
 use Rattle.verilog_pre.specs.declared.piece.Piece.{Piece}
 use Rattle.verilog_lex.specs.declared.kind.Kind.{Kind}
 use Rattle.verilog_lex.specs.declared.kind.Kind.TheVariants as kind

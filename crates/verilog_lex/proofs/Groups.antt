@@ -1,7 +1,7 @@
 -- Lexemes have one list of groups, and their tokens are those of the groups.
 use Rattle.std.proofs.Common.{◌≡◌, ◌≤◌, ℕ, zero, suc, Bool, List, [], ◌∷◌, length, Option, Some, None, Result, refl, sym, ap, subst, ◌∙◌, arith}
 use Rattle.std.proofs.lemmas.Option.{none-some}
-use Rattle.source_text.specs.Faults.{TextFault, ◌>>=◌}
+use Rattle.ls_text.specs.Readings.{TextFault, ◌>>=◌}
 use Rattle.verilog_lex.specs.Forms.{Form, Gap, Letters, Digits, Part, Sign, Unfit, part_of}
 use Rattle.verilog_lex.specs.Lexemes.{Lexeme}
 use Rattle.verilog_lex.specs.Tokens.{Said, first_part, token_at, taken, with_front, tokens_from, lexeme_tokens}

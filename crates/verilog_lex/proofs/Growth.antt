@@ -5,7 +5,7 @@ use Rattle.std.proofs.lemmas.List.{map-append, append-nil}
 use Rattle.std.proofs.lemmas.List.Elements.{All-head, All-tail, All-push}
 use Rattle.ls_text.specs.Texts.{Grows, IsIdOf, text_at}
 use Rattle.ls_text.proofs.Growth.{grown_text, grown_id}
-use Rattle.source_text.specs.Faults.{TextFault}
+use Rattle.ls_text.specs.Readings.{TextFault}
 use Rattle.verilog_lex.specs.declared.token.Token.{Token}
 use Rattle.verilog_lex.specs.declared.cursor.Cursor.{Cursor}
 use Rattle.verilog_lex.specs.Tokens.{Said, with_front, lexeme_tokens}

@@ -1,7 +1,7 @@
 -- The first cut of a text.
 use Rattle.std.proofs.Common.{◌≡◌, ℕ, zero, suc, ◌-◌, ◌<◌, Bool, true, false, List, [], ◌∷◌, ◌++◌, length, take, drop, refl, sym, ap, ◌∙◌, arith, append_assoc}
 use Rattle.ls_text.specs.declared.place.Place.{Place}
-use Rattle.source_text.specs.Places.{step}
+use Rattle.ls_text.specs.Places.{step}
 use Rattle.verilog_lex.specs.Forms.{Form}
 use Rattle.verilog_lex.specs.Cuts.{cut_at}
 use Rattle.verilog_lex.specs.Lexemes.{Lexeme, lexeme_here, moved, moved_over, lexemes_from, text_lexemes}

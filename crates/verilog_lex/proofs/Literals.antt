@@ -3,7 +3,8 @@ use Rattle.std.proofs.Common.{◌≡◌, ℕ, Bool, true, false, cond, List, Opt
 use Rattle.verilog_lex.specs.declared.kind.Kind.{Kind}
 use Rattle.verilog_lex.specs.declared.kind.Kind.TheVariants as kind
 use Rattle.verilog_lex.specs.declared.literal.Literal.{Literal}
-use Rattle.verilog_lex.specs.Numbers.{◌>>=◌, guard, digits_value, has_wild, number_of, wild_of, based_literal, plain_literal, size_of, sized_literal, decimal_literal}
+use Rattle.verilog_lex.specs.Numbers.{digits_value, has_wild, number_of, wild_of, based_literal, plain_literal, size_of, sized_literal, decimal_literal}
+use Rattle.ls_text.specs.Options.{◌>>=◌, guard}
 use Rattle.verilog_lex.proofs.Unended.{is_end}
 
 -- whether a literal's kind is the end

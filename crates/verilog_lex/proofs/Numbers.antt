@@ -2,7 +2,8 @@
 use Rattle.std.proofs.Common.{◌≡◌, ℕ, suc, ◌+◌, ◌*◌, ◌<◌, ◌≤◌, Bool, true, false, cond, ltb, eqb, List, [], ◌∷◌, length, drop, get_or, Option, Some, None, refl, sym, ap, ◌∙◌, arith, drop-cons}
 use Rattle.std.proofs.lemmas.Bool.Decides.{nat_tests}
 use Rattle.std.proofs.Math.Nat.{mul-le-mul_left}
-use Rattle.verilog_lex.specs.Numbers.{◌>>=◌, guard, digit_of, more_value, value_from}
+use Rattle.verilog_lex.specs.Numbers.{digit_of, more_value, value_from}
+use Rattle.ls_text.specs.Options.{◌>>=◌, guard}
 
 abbrev below : ℕ → Option ℕ → Option ℕ
 below limit value = value >>= λ n. guard (ltb n limit) n

@@ -2,7 +2,7 @@
 use Rattle.std.proofs.Common.{◌≡◌, ◌⊎◌, inl, inr, ⊎_elim, ◌<◌, ℕ, suc, ◌+◌, ◌-◌, Bool, true, false, true≢false, ◌&&◌, cond, ltb, List, [], ◌∷◌, ◌++◌, codes, length, take, drop, get_or, Option, Some, None, refl, sym, ap, subst, ◌∙◌, arith, append_assoc, length-append, take-append-drop, take_at, drop_at}
 use Rattle.std.specs.List.{prefix_len, AllPass}
 use Rattle.std.proofs.lemmas.Bool.{and_parts, and_from, or_left, ltb-true, lt-ltb}
-use Rattle.source_text.specs.Bytes.{is_space}
+use Rattle.ls_text.specs.Bytes.{is_space}
 use Rattle.verilog_lex.specs.Forms.{Form, Part}
 use Rattle.verilog_lex.specs.Cuts.{is_part_digit, is_part_byte, is_sign_letter, radix_of, part_at}
 use Rattle.verilog_lex.specs.Stretches.{EndsAt, IsRun, IsSignedness, IsPart}

@@ -3,7 +3,7 @@ use Rattle.std.proofs.Common.{◌≡◌, inl, inr, ◌<◌, ◌≤◌, ℕ, suc,
 use Rattle.std.specs.List.{prefix_len, AllPass}
 use Rattle.std.proofs.lemmas.List.Elements.{All-nil, All-cons, All-head, All-tail}
 use Rattle.std.proofs.lemmas.Bool.{and_parts, or_cases, or_from, and_left, leb-true, lt-leb, eqb-true, ne_eqb, false_from_ne_true}
-use Rattle.source_text.specs.Bytes.{is_letter, is_digit, is_space}
+use Rattle.ls_text.specs.Bytes.{is_letter, is_digit, is_space}
 use Rattle.verilog_lex.specs.Cuts.{is_part_digit, is_sign_letter, radix_of}
 use Rattle.verilog_lex.specs.Stretches.{EndsAt, IsRun}
 

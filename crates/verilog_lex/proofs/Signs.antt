@@ -5,7 +5,7 @@ use Rattle.std.specs.Str.{bytes_eq}
 use Rattle.std.proofs.lemmas.Bool.{and_parts, eqb-true, not-true}
 use Rattle.std.proofs.lemmas.Slice.Eq.{bytes_eq-Decides}
 use Rattle.std.proofs.lemmas.Option.{none-some}
-use Rattle.source_text.specs.Bytes.{is_letter, is_digit, is_space}
+use Rattle.ls_text.specs.Bytes.{is_letter, is_digit, is_space}
 use Rattle.verilog_lex.specs.declared.kind.Kind.{Kind}
 use Rattle.verilog_lex.specs.Forms.{Form, Sign, Unfit}
 use Rattle.verilog_lex.specs.Keywords.{kind_in}

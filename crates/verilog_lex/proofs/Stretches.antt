@@ -3,7 +3,7 @@ use Rattle.std.proofs.Common.{◌≡◌, ◌⊎◌, inl, inr, ⊎_elim, ◌<◌,
 use Rattle.std.specs.List.{prefix_len}
 use Rattle.std.proofs.lemmas.Bool.{eqb-true, or_left, false_from_ne_true, true≢false}
 use Rattle.ls_text.specs.declared.place.Place.{Place}
-use Rattle.source_text.specs.Bytes.{is_letter, is_digit, is_word_byte, is_space}
+use Rattle.ls_text.specs.Bytes.{is_letter, is_digit, is_word_byte, is_space}
 use Rattle.verilog_lex.specs.declared.kind.Kind.{Kind}
 use Rattle.verilog_lex.specs.Forms.{Form, Gap, Letters, Digits, Part, Sign, Unfit}
 use Rattle.verilog_lex.specs.Cuts.{is_decimal_byte, part_at, opens_attribute, attribute_at, mark_at, found_or, cut_at}

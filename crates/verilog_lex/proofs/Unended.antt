@@ -1,7 +1,7 @@
 -- No text but that of the last token is the end.
 use Rattle.std.proofs.Common.{◌≡◌, ℕ, Bool, true, false, true≢false, cond, eqb, List, [], ◌∷◌, take, slice_index, Option, Some, None, refl}
 use Rattle.std.specs.List.{prefix_len}
-use Rattle.source_text.specs.Bytes.{is_letter, is_digit, is_word_byte, is_space}
+use Rattle.ls_text.specs.Bytes.{is_letter, is_digit, is_word_byte, is_space}
 use Rattle.verilog_lex.specs.declared.kind.Kind.{Kind}
 use Rattle.verilog_lex.specs.declared.kind.Kind.TheVariants as kind
 use Rattle.verilog_lex.specs.Forms.{Form, Gap, Letters, Digits, Part, Sign, Unfit}

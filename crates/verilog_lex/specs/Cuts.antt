@@ -2,7 +2,7 @@
 -- to 3.8), and how many bytes it has.
 use Rattle.std.specs.Prelude.{ℕ, ◌+◌, ◌-◌, Bool, ◌&&◌, ◌||◌, ◌==◌, not, nat_le, nat_lt, if◌then◌else◌, false, List, length, take, drop, slice_index, Option, Some, None}
 use Rattle.std.specs.List.{prefix_len}
-use Rattle.source_text.specs.Bytes.{is_letter, is_digit, is_word_byte, is_space, through_pair}
+use Rattle.ls_text.specs.Bytes.{is_letter, is_digit, is_word_byte, is_space, through_pair}
 use Rattle.verilog_lex.specs.declared.kind.Kind.{Kind}
 use Rattle.verilog_lex.specs.Forms.{Form, Gap, Letters, Digits, Part, Sign, Unfit}
 use Rattle.verilog_lex.specs.Keywords.{kind_in}

@@ -1,6 +1,6 @@
 -- The lexemes of each token (IEEE 1364-2005, clause 3.5.1): a size and the based part behind it are one number.
 use Rattle.std.specs.Prelude.{◌≡◌, ℕ, Bool, List, [], ◌∷◌, Option, Some, None, Result, Ok}
-use Rattle.source_text.specs.Faults.{TextFault, ◌>>=◌}
+use Rattle.ls_text.specs.Readings.{TextFault, ◌>>=◌}
 use Rattle.verilog_lex.specs.Forms.{Form, Digits, Part}
 use Rattle.verilog_lex.specs.Lexemes.{Lexeme}
 use Rattle.verilog_lex.specs.Tokens.{Said, first_part, token_at, with_front}

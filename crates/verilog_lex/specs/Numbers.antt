@@ -5,14 +5,7 @@ use Rattle.verilog_lex.specs.declared.kind.Kind.{Kind}
 use Rattle.verilog_lex.specs.declared.kind.Kind.TheVariants as kind
 use Rattle.verilog_lex.specs.declared.literal.Literal.{Literal}
 use Rattle.verilog_lex.specs.Cuts.{is_wild}
-
-infixl 10 ◌>>=◌
-abbrev pub ◌>>=◌ : {A B : Type 0} → Option A → (A → Option B) → Option B
-None >>= f = None
-(Some x) >>= f = f x
-
-abbrev pub guard : {A : Type 0} → Bool → A → Option A
-guard b x = if b then Some x else None
+use Rattle.ls_text.specs.Options.{guard, ◌>>=◌}
 
 -- the value of a digit (clause 3.5.1): a wildcard digit counts as 0, an x digit has none
 abbrev pub digit_of : ℕ → Option ℕ

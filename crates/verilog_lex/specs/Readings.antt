@@ -2,8 +2,8 @@
 -- the groups of all their lexemes (clause 3.5.1), the token of each group, and the end.
 use Rattle.std.specs.Prelude.{◌≡◌, List, [], ◌∷◌, ◌++◌, codes, Result, Ok}
 use Rattle.ls_text.specs.declared.source_file.SourceFile.{SourceFile}
-use Rattle.source_text.specs.Files.{text_between}
-use Rattle.source_text.specs.Faults.{TextFault, ◌>>=◌}
+use Rattle.ls_text.specs.Files.{text_between}
+use Rattle.ls_text.specs.Readings.{TextFault, ◌>>=◌}
 use Rattle.verilog_pre.specs.declared.piece.Piece.{Piece}
 use Rattle.verilog_lex.specs.declared.kind.Kind.TheVariants as kind
 use Rattle.verilog_lex.specs.Lexemes.{Lexeme}

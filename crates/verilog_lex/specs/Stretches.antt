@@ -2,7 +2,7 @@
 use Rattle.std.specs.Prelude.{◌≡◌, ◌≢◌, ◌≤◌, ◌<◌, ◌⊎◌, ⊤, ℕ, Bool, true, false, List, [], ◌∷◌, ◌++◌, codes, length, Some}
 use Rattle.std.specs.List.{AllPass}
 use Rattle.ls_text.specs.declared.place.Place.{Place}
-use Rattle.source_text.specs.Bytes.{is_letter, is_digit, is_word_byte, is_space}
+use Rattle.ls_text.specs.Bytes.{is_letter, is_digit, is_word_byte, is_space}
 use Rattle.verilog_lex.specs.declared.kind.Kind.{Kind}
 use Rattle.verilog_lex.specs.Forms.{Form, Gap, Letters, Digits, Part, Sign, Unfit}
 use Rattle.verilog_lex.specs.Keywords.{kind_in}

@@ -2,7 +2,7 @@
 use Rattle.std.specs.Prelude.{◌≡◌, ◌<◌, ℕ, List, [], ◌∷◌, ◌++◌, drop, Bool, Option, Some, None, Result, Ok, Err}
 use Rattle.ls_text.specs.Texts.{text_at}
 use Rattle.ls_text.specs.declared.refusal.Refusal.{Refusal}
-use Rattle.source_text.specs.Faults.{TextFault, Refuses}
+use Rattle.ls_text.specs.Readings.{TextFault, Refuses}
 use Rattle.verilog_lex.specs.declared.token.Token.{Token}
 use Rattle.verilog_lex.specs.declared.lexeme.Lexeme as code
 use Rattle.verilog_lex.specs.declared.number_part.Based.{Based}

@@ -7,7 +7,7 @@ ghost use Rattle.verilog_lex.specs.Forms.{form, Part};
 
 use crate::number_part::Based;
 use crate::shape::Shape;
-use source_text::{behind, byte_at, front, is_digit, space_len};
+use ls_text::{behind, byte_at, front, is_digit, space_len};
 
 /// Whether a digit matches any bit.
 pub fn is_wild(byte: u8) -> bool

@@ -7,7 +7,7 @@ ghost use Rattle.verilog_lex.specs.Forms.{form};
 use crate::based::based_part;
 use crate::mark::mark;
 use crate::shape::Shape;
-use source_text::{
+use ls_text::{
     behind, byte_at, front, is_digit, is_letter, is_space, space_len, through_pair, word_len,
 };
 

@@ -3,7 +3,7 @@ ghost use Rattle.std.specs.Prelude.{◌≡◌, ◌<◌, ◌≤◌, ◌++◌, ◌
 ghost use Rattle.std.specs.Option.{option_map};
 ghost use Rattle.std.specs.List.{All};
 ghost use Rattle.ls_text.specs.Texts.{Grows};
-ghost use Rattle.source_text.specs.Faults.{TextFault, Gives, CanShow};
+ghost use Rattle.ls_text.specs.Readings.{TextFault, Gives, CanShow};
 ghost use Rattle.verilog_lex.specs.Ends.{EndsOnce};
 ghost use Rattle.verilog_lex.specs.Numbers.{decimal_literal};
 ghost use Rattle.verilog_lex.specs.Readings.{Reads};
@@ -18,8 +18,7 @@ use crate::number_part::Based;
 use crate::read::next_lexeme;
 use crate::shape::Shape;
 use crate::{Kind, Literal, Token};
-use ls_text::{Names, NoMemory, Place, Refusal, SourceFile};
-use source_text::{file_start, place_after, text_fault, text_of};
+use ls_text::{Names, NoMemory, Place, Refusal, SourceFile, file_start, place_after, text_fault, text_of};
 use std::alloc::Global;
 use verilog_pre::Piece;
 

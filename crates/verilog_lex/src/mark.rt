@@ -8,7 +8,7 @@ ghost use Rattle.verilog_lex.specs.Forms.{form};
 use crate::Kind;
 use crate::keyword::kind_in;
 use crate::shape::Shape;
-use source_text::front;
+use ls_text::front;
 
 const TRIPLES: [(&[u8], Kind); 4] = [
     (b"<<<", Kind::SignedShiftLeft),

@@ -6,7 +6,7 @@ ghost use Rattle.verilog_lex.specs.Numbers.{digit_of, digits_value, covered, dig
 use crate::based::is_wild;
 use crate::number_part::Based;
 use crate::{Kind, Literal};
-use source_text::byte_at;
+use ls_text::byte_at;
 
 // The value of a digit; a wildcard digit counts as 0.
 fn digit_of(byte: u8) -> Option<u8>

@@ -8,8 +8,7 @@ use crate::cursor::Cursor;
 use crate::cut::cut;
 use crate::lexeme::Lexeme;
 use crate::shape::Shape;
-use ls_text::Place;
-use source_text::{place_after, text_between};
+use ls_text::{Place, place_after, text_between};
 use verilog_pre::Piece;
 
 // The place after some bytes; those of a fixed piece all have its place.

@@ -2,7 +2,7 @@
 ghost use Rattle.std.specs.Prelude.{◌≤◌, length, IfErr};
 ghost use Rattle.std.specs.List.{All};
 ghost use Rattle.ls_text.specs.Texts.{Grows};
-ghost use Rattle.source_text.specs.Faults.{CanShow};
+ghost use Rattle.ls_text.specs.Readings.{CanShow};
 
 use super::*;
 use crate::rows::{FAULTS, LONGEST_SIGNS, SIGNS, UNUSED_WORDS, USED_WORDS};

@@ -1,8 +1,8 @@
 -- A text has one list of modules, or one fault, and not both.
 use Rattle.std.proofs.Common.{◌≡◌, ◌∙◌, ℕ, List, [], ◌∷◌, ◌++◌, Ok, Err, refl, sym, ap, ap₂}
 use Rattle.std.proofs.lemmas.List.{append_cancel_right}
-use Rattle.ls_text.specs.declared.place.At.{At}
-use Rattle.ls_text.specs.declared.place.At.TheVariants.{Text}
+use Rattle.ls_text.specs.declared.at.At.{At}
+use Rattle.ls_text.specs.declared.at.At.TheVariants.{Text}
 use Rattle.ls_text.specs.declared.name_id.NameId.{NameId}
 use Rattle.ls_text.specs.declared.fault.Fault.{Fault}
 use Rattle.ls_text.specs.declared.refusal.Refusal.TheVariants as refusal

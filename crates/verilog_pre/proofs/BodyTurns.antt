@@ -5,7 +5,7 @@ use Rattle.std.specs.List.{prefix_len}
 use Rattle.std.proofs.lemmas.Bool.{eqb-true}
 use Rattle.std.proofs.lemmas.List.{take-append-drop, length-append}
 use Rattle.std.proofs.lemmas.List.Folds.{length-prefix_len}
-use Rattle.source_text.specs.Bytes.{is_letter, is_digit, is_word_byte}
+use Rattle.ls_text.specs.Bytes.{is_letter, is_digit, is_word_byte}
 use Rattle.verilog_pre.specs.Parts.{Part, Use}
 use Rattle.verilog_pre.specs.declared.body_cut.BodyCut.{BodyCut}
 use Rattle.verilog_pre.specs.declared.body_cut.BodyCut.TheVariants as cut

@@ -1,6 +1,6 @@
 -- The uses that are refused.
 use Rattle.std.proofs.Common.{◌≡◌, ◌<◌, ◌-◌, ℕ, zero, suc, true, false, cond, List, [], ◌∷◌, ◌++◌, Some, None, Result, Err, sym, ap, ◌∙◌, arith}
-use Rattle.source_text.specs.Faults.{TextFault, fault_at}
+use Rattle.ls_text.specs.Readings.{TextFault, fault_at}
 use Rattle.verilog_pre.specs.Parts.{Item, Leave}
 use Rattle.verilog_pre.specs.declared.macro_body.Macro.{Macro}
 use Rattle.verilog_pre.specs.Expansions.{Context, Output, entered, is_open, body_items, work_with, use_with, work_on, used}

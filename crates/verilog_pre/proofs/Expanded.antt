@@ -1,7 +1,7 @@
 -- The use of a macro gives what the relation on uses says, and nothing else.
 use Rattle.std.proofs.Common.{◌≡◌, ℕ, zero, suc, ◌+◌, ◌-◌, ◌<◌, ◌≤◌, Bool, true, false, cond, ltb, List, [], ◌∷◌, ◌++◌, length, take, map, Option, Some, None, Result, Ok, Err, refl, sym, ap, subst, ◌∙◌, arith}
 use Rattle.std.proofs.lemmas.List.{length-append}
-use Rattle.source_text.specs.Faults.{TextFault, fault_at, ◌>>=◌}
+use Rattle.ls_text.specs.Readings.{TextFault, fault_at, ◌>>=◌}
 use Rattle.ls_text.specs.declared.place.Place.{Place}
 use Rattle.verilog_pre.specs.declared.piece.Piece.{Piece}
 use Rattle.verilog_pre.specs.declared.stretch.Stretch.{Stretch}

@@ -2,8 +2,8 @@
 use Rattle.std.proofs.Common.{◌≡◌, ℕ, ◌+◌, length, List, [], ◌∷◌, Result, Ok, Err, refl, sym, ap, subst, ◌∙◌, arith}
 use Rattle.std.specs.Prelude.{slice_get}
 use Rattle.ls_text.specs.declared.source_file.SourceFile.{SourceFile}
-use Rattle.source_text.specs.Faults.{TextFault, ◌>>=◌}
-use Rattle.source_text.specs.Places.{file_start}
+use Rattle.ls_text.specs.Readings.{TextFault, ◌>>=◌}
+use Rattle.ls_text.specs.Places.{file_start}
 use Rattle.verilog_pre.specs.declared.conditional.Conditional.{Conditional}
 use Rattle.verilog_pre.specs.declared.piece.Piece.{Piece}
 use Rattle.verilog_pre.specs.Reading.{text_read, ended, file_read, files_from, at_first, pieces}

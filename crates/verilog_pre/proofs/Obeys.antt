@@ -6,8 +6,8 @@ use Rattle.std.proofs.lemmas.Bool.{eqb-true}
 use Rattle.std.proofs.lemmas.List.{take-append-drop, length-append}
 use Rattle.std.proofs.lemmas.List.Folds.{length-prefix_len}
 use Rattle.ls_text.specs.declared.place.Place.{Place}
-use Rattle.source_text.specs.Bytes.{is_letter, is_digit, is_word_byte, is_blank}
-use Rattle.source_text.specs.Faults.{TextFault, ◌>>=◌}
+use Rattle.ls_text.specs.Bytes.{is_letter, is_digit, is_word_byte, is_blank}
+use Rattle.ls_text.specs.Readings.{TextFault, ◌>>=◌}
 use Rattle.verilog_pre.specs.declared.conditional.Conditional.{Conditional}
 use Rattle.verilog_pre.specs.declared.directive.Directive.{Directive}
 use Rattle.verilog_pre.specs.declared.directive.Directive.TheVariants as directive

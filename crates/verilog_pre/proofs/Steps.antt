@@ -3,8 +3,8 @@ use Rattle.std.proofs.Common.{◌≡◌, ℕ, suc, ◌-◌, List, [], ◌∷◌,
 use Rattle.std.specs.List.{All}
 use Rattle.ls_text.specs.declared.place.Place.{Place}
 use Rattle.ls_text.specs.declared.refusal.Refusal.{Refusal}
-use Rattle.source_text.specs.Faults.{TextFault, Refuses, Gives, ◌>>=◌}
-use Rattle.source_text.proofs.Refused.{refused_on}
+use Rattle.ls_text.specs.Readings.{TextFault, Refuses, Gives, ◌>>=◌}
+use Rattle.ls_text.proofs.Refused.{refused_on}
 use Rattle.verilog_pre.specs.declared.stretch.Stretch.{Stretch}
 use Rattle.verilog_pre.specs.Parts.{Text, Item, Read}
 use Rattle.verilog_pre.specs.declared.item.Item as work

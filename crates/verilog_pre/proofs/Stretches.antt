@@ -3,7 +3,7 @@ use Rattle.std.proofs.Common.{◌≡◌, ℕ, suc, ◌+◌, ◌-◌, ◌<◌, �
 use Rattle.std.specs.List.{prefix_len}
 use Rattle.std.proofs.lemmas.Bool.{eqb-true}
 use Rattle.std.proofs.lemmas.Option.{none-some}
-use Rattle.source_text.specs.Bytes.{through_pair}
+use Rattle.ls_text.specs.Bytes.{through_pair}
 use Rattle.verilog_pre.specs.Bodies.{begins_cut}
 use Rattle.verilog_pre.specs.Heads.{plain_len}
 use Rattle.verilog_pre.specs.Shapes.{HasNo, BeginsWith, AllAre, StopsAt, ends_comment}

@@ -4,8 +4,8 @@ use Rattle.std.specs.Prelude.{nat_lt, slice_get}
 use Rattle.std.proofs.lemmas.Bool.{ltb-true, ltb-false, lt-ltb, le-ltb}
 use Rattle.std.proofs.lemmas.List.{append-nil, take-append-drop, take-append-le, length-append}
 use Rattle.ls_text.specs.declared.place.Place.{Place}
-use Rattle.source_text.specs.Faults.{TextFault, fault_at, ◌>>=◌}
-use Rattle.source_text.specs.Places.{step, place_after}
+use Rattle.ls_text.specs.Readings.{TextFault, fault_at, ◌>>=◌}
+use Rattle.ls_text.specs.Places.{step, place_after}
 use Rattle.verilog_pre.specs.declared.conditional.Conditional.{Conditional}
 use Rattle.verilog_pre.specs.declared.head.Head.{Head}
 use Rattle.verilog_pre.specs.declared.piece.Piece.{Piece}

@@ -2,9 +2,9 @@
 use Rattle.std.proofs.Common.{◌≡◌, ℕ, zero, suc, ◌+◌, ◌-◌, ◌<◌, true, false, cond, List, [], ◌∷◌, length, take, drop, Result, Ok, refl, sym, ap, subst, ◌∙◌, arith}
 use Rattle.ls_text.specs.declared.place.Place.{Place}
 use Rattle.ls_text.specs.declared.refusal.Refusal.{Refusal}
-use Rattle.source_text.specs.Faults.{TextFault, Refuses, ◌>>=◌}
-use Rattle.source_text.proofs.Refused.{refused_on}
-use Rattle.source_text.specs.Places.{step, place_after}
+use Rattle.ls_text.specs.Readings.{TextFault, Refuses, ◌>>=◌}
+use Rattle.ls_text.proofs.Refused.{refused_on}
+use Rattle.ls_text.specs.Places.{step, place_after}
 use Rattle.verilog_pre.specs.declared.piece.Piece.{Piece}
 use Rattle.verilog_pre.specs.Conditionals.{is_read}
 use Rattle.verilog_pre.specs.Expansions.{Output, emitted}

@@ -5,8 +5,8 @@ use Rattle.std.specs.List.{prefix_len}
 use Rattle.std.proofs.lemmas.List.{length-drop}
 use Rattle.std.proofs.lemmas.List.Sums.{prefix_len-le-length}
 use Rattle.ls_text.specs.declared.place.Place.{Place}
-use Rattle.source_text.specs.Bytes.{is_letter, is_word_byte, is_blank}
-use Rattle.source_text.specs.Faults.{TextFault, ◌>>=◌}
+use Rattle.ls_text.specs.Bytes.{is_letter, is_word_byte, is_blank}
+use Rattle.ls_text.specs.Readings.{TextFault, ◌>>=◌}
 use Rattle.verilog_pre.specs.declared.body_cut.BodyCut.{BodyCut}
 use Rattle.verilog_pre.specs.declared.conditional.Conditional.{Conditional}
 use Rattle.verilog_pre.specs.declared.directive.Directive.{Directive}

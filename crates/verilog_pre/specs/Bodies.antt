@@ -1,7 +1,7 @@
 -- The body of a macro (IEEE 1364-2005, clause 19.3.1): the parts that its uses give.
 use Rattle.std.specs.Prelude.{ℕ, zero, suc, ◌+◌, ◌-◌, Bool, true, false, ◌&&◌, ◌||◌, ◌==◌, not, nat_lt, if◌then◌else◌, List, [], ◌∷◌, ◌++◌, take, drop, slice_index, Option, Some, None}
 use Rattle.std.specs.List.{prefix_len, suffix_len}
-use Rattle.source_text.specs.Bytes.{is_letter, is_word_byte, is_space}
+use Rattle.ls_text.specs.Bytes.{is_letter, is_word_byte, is_space}
 use Rattle.verilog_pre.specs.Parts.{Part, Text, Use, Open}
 use Rattle.verilog_pre.specs.declared.body_cut.BodyCut.{BodyCut}
 use Rattle.verilog_pre.specs.declared.body_cut.BodyCut.TheVariants as cut

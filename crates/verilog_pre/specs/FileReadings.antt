@@ -2,8 +2,8 @@
 -- so macros carry over, and none ends within a conditional.
 use Rattle.std.specs.Prelude.{◌≡◌, ℕ, ◌+◌, List, [], ◌∷◌, Result, Ok, Err}
 use Rattle.ls_text.specs.declared.source_file.SourceFile.{SourceFile}
-use Rattle.source_text.specs.Faults.{TextFault, ◌>>=◌}
-use Rattle.source_text.specs.Places.{file_start}
+use Rattle.ls_text.specs.Readings.{TextFault, ◌>>=◌}
+use Rattle.ls_text.specs.Places.{file_start}
 use Rattle.verilog_pre.specs.declared.conditional.Conditional.{Conditional}
 use Rattle.verilog_pre.specs.declared.piece.Piece.{Piece}
 use Rattle.verilog_pre.specs.Reading.{left_open, at_first}

@@ -1,7 +1,7 @@
 -- What stands at the head of a text: a comment (IEEE 1364-2005, clause 3.3), a directive (clause 19), or other bytes.
 use Rattle.std.specs.Prelude.{◌<◌, ◌≤◌, ℕ, zero, suc, ◌+◌, ◌-◌, Bool, false, ◌&&◌, ◌==◌, not, nat_lt, if◌then◌else◌, List, [], ◌∷◌, length, take, drop, slice_index, Option, Some, None}
 use Rattle.std.specs.List.{prefix_len}
-use Rattle.source_text.specs.Bytes.{is_letter, is_word_byte, through_pair}
+use Rattle.ls_text.specs.Bytes.{is_letter, is_word_byte, through_pair}
 use Rattle.verilog_pre.specs.Bodies.{begins_cut}
 use Rattle.verilog_pre.specs.Directives.{directive_of}
 use Rattle.verilog_pre.specs.declared.directive.Directive.{Directive}

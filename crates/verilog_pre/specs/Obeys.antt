@@ -2,8 +2,8 @@
 -- bytes belong to it, or its fault.
 use Rattle.std.specs.Prelude.{◌≡◌, ℕ, ◌+◌, Bool, true, false, not, ◌&&◌, ◌||◌, ◌==◌, List, [], ◌∷◌, ◌++◌, length, Some, None, is_some, Ok, Err}
 use Rattle.ls_text.specs.declared.place.Place.{Place}
-use Rattle.source_text.specs.Bytes.{is_letter, is_blank}
-use Rattle.source_text.specs.Faults.{TextFault}
+use Rattle.ls_text.specs.Bytes.{is_letter, is_blank}
+use Rattle.ls_text.specs.Readings.{TextFault}
 use Rattle.verilog_pre.specs.declared.conditional.Conditional.{Conditional}
 use Rattle.verilog_pre.specs.declared.directive.Directive.{Directive}
 use Rattle.verilog_pre.specs.declared.directive.Directive.TheVariants as directive

@@ -3,8 +3,8 @@ use Rattle.std.specs.Prelude.{ℕ, zero, suc, ◌+◌, ◌-◌, Bool, true, fals
 use Rattle.std.specs.List.{prefix_len}
 use Rattle.ls_text.specs.declared.place.Place.{Place}
 use Rattle.ls_text.specs.declared.source_file.SourceFile.{SourceFile}
-use Rattle.source_text.specs.Faults.{TextFault, fault_at, ◌>>=◌}
-use Rattle.source_text.specs.Places.{step, place_after, file_start}
+use Rattle.ls_text.specs.Readings.{TextFault, fault_at, ◌>>=◌}
+use Rattle.ls_text.specs.Places.{step, place_after, file_start}
 use Rattle.verilog_pre.specs.declared.directive.Directive.{Directive}
 use Rattle.verilog_pre.specs.declared.directive.Directive.TheVariants as directive
 use Rattle.verilog_pre.specs.declared.conditional.Conditional.{Conditional}

@@ -1,7 +1,7 @@
 -- The stretches of a text: comments (IEEE 1364-2005, clause 3.3), words (clause 3.7), and the longest runs of bytes between
 -- comments and directives (clause 19).
 use Rattle.std.specs.Prelude.{◌≡◌, ◌<◌, ℕ, Bool, false, true, not, ◌&&◌, ◌==◌, ◌⊎◌, List, [], ◌∷◌, ◌++◌, length, take, slice_index}
-use Rattle.source_text.specs.Bytes.{is_letter, is_word_byte}
+use Rattle.ls_text.specs.Bytes.{is_letter, is_word_byte}
 use Rattle.verilog_pre.specs.Bodies.{begins_cut}
 
 -- no two bytes side by side are such a pair

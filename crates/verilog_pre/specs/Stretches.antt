@@ -2,8 +2,8 @@
 -- the longest runs of other bytes between them.
 use Rattle.std.specs.Prelude.{◌≡◌, ◌<◌, ◌≤◌, ℕ, ◌+◌, ◌-◌, false, true, List, [], ◌∷◌, ◌++◌, length, take, Result, Ok, Err}
 use Rattle.ls_text.specs.declared.place.Place.{Place}
-use Rattle.source_text.specs.Faults.{TextFault, fault_at}
-use Rattle.source_text.specs.Places.{place_after}
+use Rattle.ls_text.specs.Readings.{TextFault, fault_at}
+use Rattle.ls_text.specs.Places.{place_after}
 use Rattle.verilog_pre.specs.declared.conditional.Conditional.{Conditional}
 use Rattle.verilog_pre.specs.Conditionals.{is_read}
 use Rattle.verilog_pre.specs.LeavesOpen.{LeavesOpen}

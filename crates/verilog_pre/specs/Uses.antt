@@ -1,7 +1,7 @@
 -- What the uses of macros give as one relation (IEEE 1364-2005, clause 19.3.1): each part of a body gives its pieces, one
 -- behind the other, and the use of a word gives those of its macro's body.
 use Rattle.std.specs.Prelude.{◌≡◌, ℕ, suc, ◌-◌, true, false, List, [], ◌∷◌, ◌++◌, take, drop, Some, None, Result, Ok, Err}
-use Rattle.source_text.specs.Faults.{TextFault, fault_at}
+use Rattle.ls_text.specs.Readings.{TextFault, fault_at}
 use Rattle.verilog_pre.specs.declared.stretch.Stretch.{Stretch}
 use Rattle.verilog_pre.specs.declared.macro_body.Macro.{Macro}
 use Rattle.verilog_pre.specs.Parts.{Part, Text, Use, Open}

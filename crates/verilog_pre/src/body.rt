@@ -10,10 +10,7 @@ use crate::macros::Macros;
 use crate::part::Part;
 use crate::stretch::Stretch;
 use crate::table::number_of;
-use ls_text::NoMemory;
-use source_text::{
-    behind, byte_at, front, is_letter, line_len, space_len, trailing_space_len, word_len,
-};
+use ls_text::{NoMemory, behind, byte_at, front, is_letter, line_len, space_len, trailing_space_len, word_len};
 
 // How many bytes stand before the first newline with no backslash right before it.
 fn lines_len(text: &[u8]) -> usize

@@ -1,7 +1,7 @@
 // Directives that open, continue and close conditionals.
 ghost use Rattle.std.specs.Prelude.{◌≡◌, ◌≤◌, length, IfOk, IfErr, OnOk, false, true};
 ghost use Rattle.ls_text.specs.Texts.{Grows};
-ghost use Rattle.source_text.specs.Faults.{Gives, CanShow};
+ghost use Rattle.ls_text.specs.Readings.{Gives, CanShow};
 ghost use Rattle.verilog_pre.specs.Conditionals.{continued, closed};
 ghost use Rattle.verilog_pre.specs.Directives.{name_at};
 ghost use Rattle.verilog_pre.specs.Reading.{named, ifdef_name, elsif_name, nest_or_bad, holds_if};

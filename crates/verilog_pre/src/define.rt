@@ -1,7 +1,7 @@
 // Defining macros.
 ghost use Rattle.std.specs.Prelude.{◌≡◌, ◌≤◌, ◌+◌, ◌++◌, length, drop, IfOk, IfErr, OnOk, Some, None};
 ghost use Rattle.ls_text.specs.Texts.{Grows};
-ghost use Rattle.source_text.specs.Faults.{Gives, CanShow};
+ghost use Rattle.ls_text.specs.Readings.{Gives, CanShow};
 ghost use Rattle.verilog_pre.specs.Bodies.{body_parts, body_len};
 ghost use Rattle.verilog_pre.specs.Reading.{define_name, undef_name, with_body, named};
 ghost use Rattle.verilog_pre.specs.States.{state};
@@ -16,8 +16,7 @@ use crate::macro_body::Macro;
 use crate::macros::Macros;
 use crate::reader::Reader;
 use crate::table::set;
-use ls_text::{Names, NoMemory, Place, Refusal};
-use source_text::{behind, byte_at};
+use ls_text::{Names, NoMemory, Place, Refusal, behind, byte_at};
 use std::alloc::Global;
 
 // Adds a macro, and answers how many bytes its body has.

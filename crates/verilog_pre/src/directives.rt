@@ -4,7 +4,7 @@ ghost use Rattle.std.specs.Option.{option_map};
 ghost use Rattle.verilog_pre.specs.Directives.{directive_in, directives, directive_of, is_conditional, is_use, name_at};
 
 use crate::directive::Directive;
-use source_text::{behind, blank_len, byte_at, front, is_letter, word_len};
+use ls_text::{behind, blank_len, byte_at, front, is_letter, word_len};
 
 const DIRECTIVES: [(&[u8], Directive); 11] = [
     (b"define", Directive::Define),

@@ -2,7 +2,7 @@
 ghost use Rattle.std.specs.Prelude.{◌≡◌, ℕ, List, ◌<◌, ◌≤◌, ◌+◌, ◌-◌, ◌*◌, ◌++◌, ◌∷◌, [], length, take, drop, map, IfOk, IfErr, OnOk, Ok};
 ghost use Rattle.std.specs.List.{All, list_any};
 ghost use Rattle.ls_text.specs.Texts.{Grows};
-ghost use Rattle.source_text.specs.Faults.{fault_at, fault_view, Gives, CanShow, IsNameless};
+ghost use Rattle.ls_text.specs.Readings.{fault_at, fault_view, Gives, CanShow, IsNameless};
 ghost use Rattle.ls_text.specs.Texts.{text_at};
 ghost use Rattle.verilog_pre.specs.Parts.{Read};
 ghost use Rattle.verilog_pre.specs.Tables.{table_of, Sound};
@@ -19,13 +19,12 @@ use crate::output::Output;
 use crate::part::Part;
 use crate::stretch::Stretch;
 use crate::table::{named, number_of};
-use ls_text::{At, Fault, NameId, NameList, Names, NoMemory, Place, Refusal};
-use source_text::text_fault;
+use ls_text::{At, Fault, NameId, NameList, Names, NoMemory, Place, Refusal, text_fault};
 use std::alloc::Global;
 use std::collections::VecDeque;
 
 /// The fault 12 of a directive, which shows its word.
-#[tactic(auto, using(crate::proofs::Shown::one_word, source_text::proofs::Shown::one_shown))]
+#[tactic(auto, using(crate::proofs::Shown::one_word, ls_text::proofs::Shown::one_shown))]
 pub fn bad_directive(
     alloc: Global,
     names: &mut Names,
@@ -181,7 +180,7 @@ fn emit_stretch(alloc: Global, out: &mut Output, at: Place, stretch: Stretch) ->
 }
 
 // Reads a part of a body before the work that is left.
-#[tactic(auto, unfolding(crate::specs::Expansions::work_on, crate::specs::Expansions::used), using(crate::proofs::Steps::text_leads, source_text::proofs::Shown::all_nameless))]
+#[tactic(auto, unfolding(crate::specs::Expansions::work_on, crate::specs::Expansions::used), using(crate::proofs::Steps::text_leads, ls_text::proofs::Shown::all_nameless))]
 fn read_part(
     alloc: Global,
     names: &mut Names,

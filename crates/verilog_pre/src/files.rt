@@ -2,7 +2,7 @@
 ghost use Rattle.std.specs.Prelude.{◌≡◌, ◌<◌, ◌≤◌, ◌+◌, List, Result, length, slice_get, IfOk, IfErr, OnOk};
 ghost use Rattle.std.specs.List.{All};
 ghost use Rattle.ls_text.specs.Texts.{Grows};
-ghost use Rattle.source_text.specs.Faults.{TextFault, Gives, CanShow};
+ghost use Rattle.ls_text.specs.Readings.{TextFault, Gives, CanShow};
 ghost use Rattle.verilog_pre.specs.declared.piece.Piece.{Piece};
 ghost use Rattle.verilog_pre.specs.FileReadings.{HavePieces};
 ghost use Rattle.verilog_pre.specs.Reading.{text_read, ended, file_read, files_from, pieces};
@@ -15,8 +15,7 @@ use crate::output::Output;
 use crate::reader::Reader;
 use crate::reading::read_turn;
 use crate::table::no_macros;
-use ls_text::{Names, Place, Refusal, SourceFile};
-use source_text::{file_start, place_after};
+use ls_text::{Names, Place, Refusal, SourceFile, file_start, place_after};
 use std::alloc::Global;
 
 // Reads a text that begins a file.

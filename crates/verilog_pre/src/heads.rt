@@ -1,11 +1,11 @@
 // Telling what stands at the head of a text.
 ghost use Rattle.std.specs.Prelude.{◌≡◌, ◌<◌, ◌≤◌, ◌+◌, length, false};
-ghost use Rattle.source_text.specs.Bytes.{through_pair};
+ghost use Rattle.ls_text.specs.Bytes.{through_pair};
 ghost use Rattle.verilog_pre.specs.Heads.{plain_len, comment_head, head_of, Within};
 
 use crate::body::begins_cut;
 use crate::head::Head;
-use source_text::{behind, byte_at, is_letter, line_len, through_pair, word_len};
+use ls_text::{behind, byte_at, is_letter, line_len, through_pair, word_len};
 
 // How many bytes stand before the next comment or directive, behind a first byte that begins none.
 fn plain_len(text: &[u8]) -> usize

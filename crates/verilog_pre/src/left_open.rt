@@ -1,7 +1,7 @@
 // Conditionals that a file leaves open.
 ghost use Rattle.std.specs.Prelude.{◌≡◌, ◌<◌, ◌≤◌, ◌+◌, ◌^◌, length, All, IfOk};
 ghost use Rattle.ls_text.specs.Texts.{Grows};
-ghost use Rattle.source_text.specs.Faults.{fault_view};
+ghost use Rattle.ls_text.specs.Readings.{fault_view};
 ghost use Rattle.verilog_pre.specs.Heads.{depth_behind, passed, stays_open, Within};
 ghost use Rattle.verilog_pre.specs.Reading.{opening_word, left_open, earlier};
 
@@ -11,8 +11,7 @@ use crate::directives::directive_of;
 use crate::expand::bad_directive;
 use crate::head::Head;
 use crate::heads::head_of;
-use ls_text::{Fault, Names, NoMemory};
-use source_text::{behind, front};
+use ls_text::{Fault, Names, NoMemory, behind, front};
 use std::alloc::Global;
 
 // How many conditionals are open behind a directive's word, of so many before it.

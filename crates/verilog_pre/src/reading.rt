@@ -1,7 +1,7 @@
 // Reading a text: runs of bytes, comments and directives.
 ghost use Rattle.std.specs.Prelude.{◌≡◌, ◌<◌, ◌≤◌, ◌+◌, length, IfOk, IfErr, OnOk};
 ghost use Rattle.ls_text.specs.Texts.{Grows};
-ghost use Rattle.source_text.specs.Faults.{Gives, CanShow};
+ghost use Rattle.ls_text.specs.Readings.{Gives, CanShow};
 ghost use Rattle.verilog_pre.specs.Heads.{Within};
 ghost use Rattle.verilog_pre.specs.Reading.{directive_at, directive_read, full_place, run_read, word_read, use_macro, head_at, turn};
 ghost use Rattle.verilog_pre.specs.Directives.{directive_of};
@@ -19,8 +19,7 @@ use crate::head::Head;
 use crate::heads::head_of;
 use crate::left_open::earlier;
 use crate::reader::Reader;
-use ls_text::{Names, Place, Refusal};
-use source_text::{behind, front, line_len, place_after, text_fault};
+use ls_text::{Names, Place, Refusal, behind, front, line_len, place_after, text_fault};
 use std::alloc::Global;
 
 // Carries out the use of a macro.
@@ -147,7 +146,7 @@ fn full_place(bytes: u32, n: usize, at: Place, text: &[u8]) -> Place
 }
 
 // Reads a run of bytes, which is a piece unless it is skipped.
-#[tactic(auto, unfolding(crate::specs::Reading::run_read), using(source_text::proofs::Shown::nameless))]
+#[tactic(auto, unfolding(crate::specs::Reading::run_read), using(ls_text::proofs::Shown::nameless))]
 fn read_run(
     alloc: Global,
     reader: &mut Reader,
@@ -183,7 +182,7 @@ fn read_run(
 }
 
 // Reads what stands at the head of a text, and answers how many bytes it has.
-#[tactic(auto, using(source_text::proofs::Shown::all_nameless))]
+#[tactic(auto, using(ls_text::proofs::Shown::all_nameless))]
 fn read_head(
     alloc: Global,
     names: &mut Names,

@@ -1,7 +1,7 @@
 use Rattle.std.proofs.Common.{length, sym, subst, ◌<◌, List, ℕ, Some, Err}
 use Rattle.ls_text.specs.declared.fault.Fault.{Fault}
 use Rattle.ls_text.specs.declared.name_id.NameId.{NameId}
-use Rattle.source_text.specs.Faults.{fault_view}
+use Rattle.ls_text.specs.Readings.{fault_view}
 use Rattle.std.specs.List.{All}
 use Rattle.verilog_lex.specs.Views.{IsNamed}
 use Rattle.livesim.specs.Readings.{TokensRead, at_grammar}

@@ -1,6 +1,6 @@
 use Rattle.std.proofs.Common.{length, List, ℕ, [], ◌∷◌, Some, None, Ok, Err, ◌≡◌, ◌≤◌, refl, sym, ap, subst, ◌∙◌, arith}
 use Rattle.ls_text.specs.Texts.{Grows, interned}
-use Rattle.source_text.specs.Faults.{fault_view}
+use Rattle.ls_text.specs.Readings.{fault_view}
 use Rattle.livesim.specs.Blocks.{block}
 use Rattle.livesim.specs.Flats.{built, flat}
 use Rattle.livesim.specs.Readings.{too_long}

@@ -1,6 +1,6 @@
 use Rattle.std.proofs.Common.{◌++◌, ◌∷◌, [], codes, Ok, sym, ap, ◌∙◌}
-use Rattle.source_text.specs.Faults.{◌>>=◌}
-use Rattle.source_text.proofs.Refused.{refused_on}
+use Rattle.ls_text.specs.Readings.{◌>>=◌}
+use Rattle.ls_text.proofs.Refused.{refused_on}
 use Rattle.verilog_lex.specs.declared.kind.Kind.TheVariants as kind
 use Rattle.verilog_lex.specs.Lexemes.{text_lexemes}
 use Rattle.verilog_lex.specs.Tokens.{plain, end_place, tokens}

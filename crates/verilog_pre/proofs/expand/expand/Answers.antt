@@ -1,5 +1,5 @@
 use Rattle.std.proofs.Common.{sym, subst, ◌∙◌, Result}
-use Rattle.source_text.specs.Faults.{TextFault, Refuses, Gives}
+use Rattle.ls_text.specs.Readings.{TextFault, Refuses, Gives}
 use Rattle.verilog_pre.specs.Expansions.{Output, output}
 use Rattle.verilog_pre.proofs.Steps.{moved_on, use_is}
 use Rattle.verilog_pre.proofs.expand.expand.Goals as goal

@@ -1,6 +1,6 @@
 use Rattle.std.proofs.Common.{Result, sym, ap, subst, ◌∙◌, arith}
-use Rattle.source_text.specs.Faults.{TextFault, Refuses}
-use Rattle.source_text.specs.Places.{place_after}
+use Rattle.ls_text.specs.Readings.{TextFault, Refuses}
+use Rattle.ls_text.specs.Places.{place_after}
 use Rattle.ls_text.proofs.Growth.{grows_on}
 use Rattle.verilog_pre.specs.States.{State, state}
 use Rattle.verilog_pre.proofs.Uses.{text_on, text_refused}

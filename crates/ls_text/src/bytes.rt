@@ -1,7 +1,7 @@
 // Classes of bytes, and runs of them at the front of a text.
 ghost use Rattle.std.specs.Prelude.{◌≡◌, ◌==◌, ◌+◌, ◌≤◌, not, length, false, IfSome};
 ghost use Rattle.std.specs.List.{prefix_len, suffix_len};
-ghost use Rattle.source_text.specs.Bytes.{is_letter, is_digit, is_word_byte, is_blank, is_space, through_pair};
+ghost use Rattle.ls_text.specs.Bytes.{is_letter, is_digit, is_word_byte, is_blank, is_space, through_pair};
 
 /// Whether a byte may begin a word: a letter or `_`.
 pub fn is_letter(byte: u8) -> bool
@@ -17,8 +17,8 @@ pub fn is_digit(byte: u8) -> bool
     matches!(byte, b'0'..=b'9')
 }
 
-// Whether a byte may follow in a word.
-fn is_word_byte(byte: u8) -> bool
+/// Whether a byte may follow in a word: a letter, a digit, `_` or `$`.
+pub fn is_word_byte(byte: u8) -> bool
     ensures { result ≡ is_word_byte byte }
 {
     is_letter(byte) || is_digit(byte) || byte == b'$'

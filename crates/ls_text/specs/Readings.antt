@@ -4,8 +4,8 @@ use Rattle.std.specs.List.{All}
 use Rattle.ls_text.specs.Texts.{text_at}
 use Rattle.ls_text.specs.declared.name_id.NameId.{NameId}
 use Rattle.ls_text.specs.declared.place.Place.{Place}
-use Rattle.ls_text.specs.declared.place.At.{At}
-use Rattle.ls_text.specs.declared.place.At.TheVariants.{Text}
+use Rattle.ls_text.specs.declared.at.At.{At}
+use Rattle.ls_text.specs.declared.at.At.TheVariants.{Text}
 use Rattle.ls_text.specs.declared.fault.Fault.{Fault}
 use Rattle.ls_text.specs.declared.refusal.Refusal.{Refusal}
 use Rattle.ls_text.specs.declared.refusal.Refusal.TheVariants as refusal

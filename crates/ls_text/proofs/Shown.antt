@@ -6,7 +6,7 @@ use Rattle.std.proofs.lemmas.List.Elements.{All-nil, All-cons}
 use Rattle.ls_text.specs.declared.name_id.NameId.{NameId}
 use Rattle.ls_text.specs.declared.refusal.Refusal.{Refusal}
 use Rattle.ls_text.specs.declared.refusal.Refusal.TheVariants as refusal
-use Rattle.source_text.specs.Faults.{CanShow, IsNameless}
+use Rattle.ls_text.specs.Readings.{CanShow, IsNameless}
 
 abbrev Shown : ℕ → List NameId → Type 0
 Shown count ids = All (λ (id : NameId). id.0 < count) ids

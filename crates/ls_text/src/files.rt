@@ -1,8 +1,8 @@
 // Stretches of the texts of files.
 ghost use Rattle.std.specs.Prelude.{◌≡◌, slice_get};
-ghost use Rattle.source_text.specs.Files.{text_of, text_between};
+ghost use Rattle.ls_text.specs.Files.{text_of, text_between};
 
-use ls_text::SourceFile;
+use crate::SourceFile;
 
 /// The text of the file with that number; an empty one where there is none.
 pub fn text_of(files: &[SourceFile], file: u16) -> &[u8]

@@ -1,6 +1,6 @@
 use Rattle.std.proofs.Common.{◌≡◌, false, drop}
-use Rattle.source_text.specs.Bytes.{through_pair}
-use Rattle.source_text.proofs.bytes.through_pair.Given as goal
+use Rattle.ls_text.specs.Bytes.{through_pair}
+use Rattle.ls_text.proofs.bytes.through_pair.Given as goal
 
 abbrev pub invariant-loop-byte : goal.invariant-loop-byte
 invariant-loop-byte l = record {

@@ -1,6 +1,6 @@
 use Rattle.std.proofs.Common.{◌≡◌, drop}
-use Rattle.source_text.specs.Places.{place_after}
-use Rattle.source_text.proofs.place.place_after.Given as goal
+use Rattle.ls_text.specs.Places.{place_after}
+use Rattle.ls_text.proofs.place.place_after.Given as goal
 
 -- the rest leads from the place so far to the last
 abbrev pub invariant-loop-byte : goal.invariant-loop-byte
