@@ -3,12 +3,13 @@ use Rattle.std.proofs.Common.{◌≡◌, ◌≢◌, ◌⊎◌, inl, inr, ℕ, �
 use Rattle.std.proofs.lemmas.Bool.Decides.{nat_tests}
 use Rattle.std.specs.Io.KnownBytes.{Consumes, IsAtEnd}
 use Rattle.std.specs.Int.{from_bool}
-use Rattle.ls_port.specs.declared.sink.SinkRefusal.{SinkRefusal}
+use Rattle.ls_port.specs.declared.sink_refusal.SinkRefusal.{SinkRefusal}
 use Rattle.livesim.specs.Endings.{Carries, Finishes, has_ended, status_of}
-use Rattle.livesim.specs.Runs.{Begins, Lived, LeavesToWrite, IsComplete, DisplaysTruth}
+use Rattle.livesim.specs.Runs.{Begins, Lived, LeavesToWrite, IsComplete, TellsTruth}
 use Rattle.livesim.specs.Commands.{Command, Display, commands}
-use Rattle.livesim.specs.Worlds.{fresh, world_after, any_refused, display_verdict}
+use Rattle.livesim.specs.Worlds.{Told, fresh, world_after, any_refused, display_verdict}
 use Rattle.livesim.specs.Replies.{answer_text}
+use Rattle.typed_ir.specs.Cycles.{Flat}
 use Rattle.livesim.proofs.Begins.{commands_begin}
 use Rattle.livesim.specs.declared.ending.Ending.{Ending}
 use Rattle.livesim.specs.declared.ending.Ending.TheVariants.{Whole, Failed, TooMuch}
@@ -30,6 +31,11 @@ one_of : {P : Type 0} (s a b : ℕ) → (s ≡ a) ⊎ (s ≡ b) → (s ≡ a →
 one_of s a b (inl e) f g = f e
 one_of s a b (inr e) f g = g e
 
+-- a display tells the truth
+pub displays_truth : (before : List Told) (line : ℕ) (design : Flat) → (world_after before fresh).design ≡ Some design → TellsTruth before line design
+displays_truth before line design is =
+    ap (λ d. answer_text (Display line) (display_verdict line (world_after before fresh).cycle d)) is
+
 -- memory ran out while it was read
 pub cut_short : (left_old left_new written : Option (List ℕ)) (bytes : List ℕ) → Consumes left_old left_new bytes → Lived left_old left_new written written bytes false 5
 cut_short left_old left_new written bytes consumed = record {
@@ -45,6 +51,7 @@ cut_short left_old left_new written bytes consumed = record {
   cut = λ h. refl;
   written = λ four five. absurd (five refl);
   front = ([], nothing written);
+  settled = λ before rest line design at is. displays_truth before line design is;
   too_much = λ e. absurd (omega (arith, e));
   not_too_much = λ big four five. absurd (five refl);
 }
@@ -80,6 +87,7 @@ module _ (left_old left_new written_old written_new : Option (List ℕ)) (bytes 
             (λ z. let e = status_is Whole f 6 z (λ e. omega (arith, e)) (λ e. omega (arith, e)) in omega (arith, e, below)));
         written = f.written;
         front = f.front;
+        settled = λ before rest line design at is. displays_truth before line design is;
         too_much = λ z. absurd (let e = status_is Whole f 6 z (λ e. omega (arith, e)) (λ e. omega (arith, e)) in omega (arith, e, below));
         not_too_much = λ big four five. absurd (few big);
       }
@@ -99,6 +107,7 @@ module _ (left_old left_new written_old written_new : Option (List ℕ)) (bytes 
     cut = λ h. unended;
     written = f.written;
     front = f.front;
+    settled = λ before rest line design at is. displays_truth before line design is;
     too_much = λ z. six (sym (status_is ending f 6 z (λ e. omega (arith, e)) (λ e. omega (arith, e)) ∙ is (any_refused f.told fresh)));
     not_too_much = λ many four five. f.says four five ∙ is (any_refused f.told fresh) ∙ big many;
   }
@@ -200,8 +209,3 @@ unfailed {Kept} written_old written_new bytes status ending f whole much which =
     by Whole kept kept' is = kept refl
     by Failed kept kept' is = absurd (three is which)
     by TooMuch kept kept' is = kept' refl
-
--- a display shows the truth
-pub displays_truth : DisplaysTruth
-displays_truth before line design is =
-    ap (λ d. answer_text (Display line) (display_verdict line (world_after before fresh).cycle d)) is

@@ -2,7 +2,7 @@
 use Rattle.std.proofs.Common.{◌≡◌, ℕ, Bool, true, false, ◌||◌, List, [], ◌∷◌, ◌++◌, Option, Some, None, Result, Ok, Err, refl, sym, ap, ◌∙◌, subst, append-nil, append_assoc, true≢false}
 use Rattle.std.specs.Prelude.{is_err, IsErr}
 use Rattle.std.specs.Io.KnownBytes.{Appends}
-use Rattle.ls_port.specs.declared.sink.SinkRefusal.{SinkRefusal}
+use Rattle.ls_port.specs.declared.sink_refusal.SinkRefusal.{SinkRefusal}
 use Rattle.livesim.specs.Script.{script_line}
 use Rattle.livesim.specs.Commands.{Command, command_at, commands_after, commands_from}
 use Rattle.livesim.specs.declared.script_line.ScriptLine.{ScriptLine}

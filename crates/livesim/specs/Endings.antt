@@ -1,7 +1,7 @@
 -- What a run answers, by how its reading ended.
 use Rattle.std.specs.Prelude.{◌≡◌, ◌≢◌, ℕ, Bool, true, false, if◌then◌else◌, List, Option, Result, IfOk}
 use Rattle.std.specs.Io.KnownBytes.{Appends}
-use Rattle.ls_port.specs.declared.sink.SinkRefusal.{SinkRefusal}
+use Rattle.ls_port.specs.declared.sink_refusal.SinkRefusal.{SinkRefusal}
 use Rattle.livesim.specs.Commands.{Command, commands}
 use Rattle.livesim.specs.declared.ending.Ending.{Ending}
 use Rattle.livesim.specs.declared.ending.Ending.TheVariants.{Whole, Failed, TooMuch}

@@ -21,6 +21,13 @@ LeavesToWrite (Some xs) (Some ys) rest all = ys ++ rest ≡ xs ++ all
 abbrev pub WritesFront : Option (List ℕ) → Option (List ℕ) → List ℕ → Type 0
 WritesFront old new all = (rest : List ℕ) × LeavesToWrite old new rest all
 
+-- A display behind these commands shows the registers of a run of the design from reset, and says that it is settled.
+abbrev pub TellsTruth : List Told → ℕ → Flat → Type 0
+TellsTruth before line design =
+    reply (plain (Display line)) (world_after before fresh)
+    ≡ codes "show cycle=" ++ decimal (world_after before fresh).cycle ++ codes " settled v=1" ++ (10 ∷ [])
+    ++ table_lines design design.registers (truth design no_rows (world_after before fresh).cycle)
+
 -- These bytes were taken, and the input ended with them or not. The lines of their commands were written, but at
 -- 4 and 5 perhaps only a front of these.
 pub record Lived (left_old left_new written_old written_new : Option (List ℕ)) (bytes : List ℕ) (ended : Bool) (status : ℕ) : Type 0 where
@@ -43,6 +50,9 @@ pub record Lived (left_old left_new written_old written_new : Option (List ℕ))
   pub cut : (status ≡ 3) ⊎ (status ≡ 6) → ended ≡ false
   pub written : status ≢ 4 → status ≢ 5 → Appends written_old written_new (lines told fresh)
   pub front : WritesFront written_old written_new (lines told fresh)
+  -- and each display among them, where there is a design, tells the truth
+  pub settled : (before rest : List Told) (line : ℕ) (design : Flat) → before ++ plain (Display line) ∷ rest ≡ told
+    → (world_after before fresh).design ≡ Some design → TellsTruth before line design
   -- 6 comes exactly where too much was taken, but where the sink failed or memory ran out
   pub too_much : status ≡ 6 → 67108864 < length bytes
   pub not_too_much : 67108864 < length bytes → status ≢ 4 → status ≢ 5 → status ≡ 6
@@ -51,9 +61,3 @@ pub record Lived (left_old left_new written_old written_new : Option (List ℕ))
 abbrev pub IsComplete : ℕ → Type 0
 IsComplete status = (status ≡ 0) ⊎ ((status ≡ 1) ⊎ (status ≡ 5))
 
--- Every display of a session is settled: it shows the registers of a run from reset to its cycle.
-abbrev pub DisplaysTruth : Type 0
-DisplaysTruth = (before : List Told) (line : ℕ) (design : Flat) → (world_after before fresh).design ≡ Some design
-    → reply (plain (Display line)) (world_after before fresh)
-    ≡ codes "show cycle=" ++ decimal (world_after before fresh).cycle ++ codes " settled v=1" ++ (10 ∷ [])
-    ++ table_lines design design.registers (truth design no_rows (world_after before fresh).cycle)

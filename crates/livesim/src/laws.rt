@@ -1,10 +1,12 @@
-// Texts and commands have at most one answer.
-ghost use Rattle.std.specs.Prelude.{◌≡◌, List};
+// Texts and commands have at most one answer, and displays tell the truth.
+ghost use Rattle.std.specs.Prelude.{◌≡◌, ℕ, List, Some};
 ghost use Rattle.livesim.specs.Script.{BlockText};
 ghost use Rattle.livesim.specs.Designs.{Answer};
 ghost use Rattle.livesim.specs.Readings.{TextReads};
 ghost use Rattle.livesim.specs.Replies.{lines};
-ghost use Rattle.livesim.specs.Worlds.{World, Told, commands_of, any_refused, world_after, AreRight};
+ghost use Rattle.livesim.specs.Runs.{TellsTruth};
+ghost use Rattle.livesim.specs.Worlds.{World, Told, commands_of, any_refused, fresh, world_after, AreRight};
+ghost use Rattle.typed_ir.specs.Cycles.{Flat};
 
 /// A text comes to at most one answer, whatever table and numbers its names have.
 #[tactic(none)]
@@ -21,4 +23,11 @@ pub fn commands_have_one_output()
         → any_refused ts w ≡ any_refused us w }
     ensures world { (w : World) (ts us : List Told) → AreRight w ts → AreRight w us → commands_of ts ≡ commands_of us
         → world_after ts w ≡ world_after us w }
+{}
+
+/// Whatever commands came before it, a display of a design shows the registers of a run from reset to its cycle.
+#[tactic(none)]
+pub fn displays_tell_the_truth()
+    ensures { (before : List Told) (line : ℕ) (design : Flat) → (world_after before fresh).design ≡ Some design
+        → TellsTruth before line design }
 {}

@@ -6,7 +6,7 @@ ghost use Rattle.ls_port.specs.Causes.{Rose};
 ghost use Rattle.livesim.specs.Commands.{Load, commands_after, commands_from, command_at, counted_bytes, line_commands};
 ghost use Rattle.livesim.specs.Endings.{Carries, Finishes, has_ended};
 ghost use Rattle.livesim.specs.Replies.{RepliesTo, RepliesAll, refusal_text};
-ghost use Rattle.livesim.specs.Runs.{DisplaysTruth, IsComplete, Lived, WritesFront};
+ghost use Rattle.livesim.specs.Runs.{IsComplete, Lived, WritesFront};
 ghost use Rattle.livesim.specs.Script.{HasSmallRun, block_at, script_lines};
 ghost use Rattle.livesim.specs.Sessions.{world};
 ghost use Rattle.livesim.specs.Worlds.{not_built};
@@ -53,6 +53,7 @@ fn read_all<S: Source>(source: &mut S, bytes: &mut Vec<u8>) -> Result<Ending, No
     ensures whole { IfOk result (λ e. e ≡ Ending.Whole → IsAtEnd (S.left source.new)) }
     ensures failed { IfOk result (λ e. e ≡ Ending.Failed → Rose (S.faults source.old) (S.faults source.new)) }
     ensures kept { IfOk result (λ e. e ≡ Ending.Whole → S.faults source.new ≡ S.faults source.old) }
+    ensures once { (S.faults source.new ≡ S.faults source.old) ⊎ Rose (S.faults source.old) (S.faults source.new) }
     ensures kept_too_much { IfOk result (λ e. e ≡ Ending.TooMuch → S.faults source.new ≡ S.faults source.old) }
     ensures few { length bytes.new.items ≤ 67108865 }
     ensures too_much { IfOk result (λ e. e ≡ Ending.TooMuch → 67108864 < length bytes.new.items) }
@@ -76,6 +77,7 @@ fn write_all<K: Sink>(sink: &mut K, bytes: &[u8]) -> Result<(), SinkRefusal>
     ensures written { OnOk result (Appends (K.written sink.old) (K.written sink.new) bytes.now) }
     ensures front { WritesFront (K.written sink.old) (K.written sink.new) bytes.now }
     ensures later { K.faults sink.old ≤ K.faults sink.new }
+    ensures once { (K.faults sink.new ≡ K.faults sink.old) ⊎ Rose (K.faults sink.old) (K.faults sink.new) }
     ensures failed { IsErrOf result SinkRefusal.Failed → Rose (K.faults sink.old) (K.faults sink.new) }
     ensures kept { OnOk result (K.faults sink.new ≡ K.faults sink.old) }
 {
@@ -215,6 +217,7 @@ fn carry_out<K: Sink>(
     requires { length bytes.now ≤ 67108864 }
     ensures carries { Carries (line_commands ended bytes.now) (K.written sink.old) (K.written sink.new) result }
     ensures later { K.faults sink.old ≤ K.faults sink.new }
+    ensures once { (K.faults sink.new ≡ K.faults sink.old) ⊎ Rose (K.faults sink.old) (K.faults sink.new) }
     ensures failed { IsErrOf result SinkRefusal.Failed → Rose (K.faults sink.old) (K.faults sink.new) }
     ensures kept { OnOk result (K.faults sink.new ≡ K.faults sink.old) }
 {
@@ -249,6 +252,7 @@ fn has_ended(ending: Ending) -> bool
 fn finish<K: Sink>(alloc: Global, ending: Ending, bytes: &[u8], sink: &mut K) -> u8
     ensures finishes { Finishes ending (K.written sink.old) (K.written sink.new) bytes.now result }
     ensures write_fault { result ≡ 4 → Rose (K.faults sink.old) (K.faults sink.new) }
+    ensures once { (K.faults sink.new ≡ K.faults sink.old) ⊎ Rose (K.faults sink.old) (K.faults sink.new) }
     ensures kept { result ≢ 4 → result ≢ 5 → K.faults sink.new ≡ K.faults sink.old }
     ensures known { result ≤ 6 }
     ensures words { result ≢ 2 }
@@ -284,12 +288,14 @@ pub fn live_run<R: Threads + Sync, S: Source, K: Sink>(
     ensures lived { result.status ≢ 2 → (bytes : List ℕ) × (ended : Bool) × (length bytes ≡ result.taken)
         × Lived (S.left source.old) (S.left source.new) (K.written sink.old) (K.written sink.new) bytes ended result.status }
 
-    // The causes of 3 and 4.
+    // The causes of 3 and 4: the count rose by one, so the call that failed was the last.
     ensures read_fault { result.status ≡ 3 → Rose (S.faults source.old) (S.faults source.new) }
     ensures write_fault { result.status ≡ 4 → Rose (K.faults sink.old) (K.faults sink.new) }
     ensures known { result.status ≤ 6 }
 
-    // And where the count rose, no other status hides it.
+    // And where the count rose, no other status hides it; nor does it rise twice.
+    ensures source_once { (S.faults source.new ≡ S.faults source.old) ⊎ Rose (S.faults source.old) (S.faults source.new) }
+    ensures sink_once { (K.faults sink.new ≡ K.faults sink.old) ⊎ Rose (K.faults sink.old) (K.faults sink.new) }
     ensures source_kept { (result.status ≡ 0) ⊎ ((result.status ≡ 1) ⊎ (result.status ≡ 6))
         → S.faults source.new ≡ S.faults source.old }
     ensures sink_kept { result.status ≢ 4 → result.status ≢ 5 → K.faults sink.new ≡ K.faults sink.old }
@@ -300,9 +306,6 @@ pub fn live_run<R: Threads + Sync, S: Source, K: Sink>(
     // Where nothing outside failed and the script isn't too long, the commands were carried out, or memory ran out.
     ensures complete { length words.now ≡ 1 → (Rose (S.faults source.old) (S.faults source.new) → ⊥)
         → (Rose (K.faults sink.old) (K.faults sink.new) → ⊥) → result.taken ≤ 67108864 → IsComplete result.status }
-
-    // Every display is settled: it shows the registers of a run from reset.
-    ensures settled { DisplaysTruth }
 {
     if words.len() != 1 {
         return Outcome {

@@ -5,16 +5,7 @@ ghost use Rattle.std.specs.Io.KnownBytes.{WriteAppends};
 ghost use Rattle.std.specs.declared.option.Option.{Option};
 ghost use Rattle.ls_port.specs.Causes.{HasSinkCause};
 
-use thiserror::Error;
-
-/// Why a sink takes nothing.
-#[derive(Clone, Copy, Debug, PartialEq, Eq, Error)]
-pub enum SinkRefusal {
-    #[error("the sink failed")]
-    Failed,
-    #[error("out of memory")]
-    NoMemory,
-}
+use crate::SinkRefusal;
 
 /// Where bytes go.
 pub trait Sink {
@@ -26,8 +17,7 @@ pub trait Sink {
 
     /// Writes the front of the bytes: so many as it answers, at least one where there is one.
     ///
-    /// `Failed` comes only where the count of faults rose; every other answer leaves it. After either refusal nothing was
-    /// written.
+    /// At `Failed` the count of faults rises by one; every other answer leaves it. After either refusal nothing was written.
     fn write(&mut self, bytes: &[u8]) -> Result<usize, SinkRefusal>
         ensures bound { WritesAtMost result bytes.now }
         ensures some { IfOk result (λ n. 0 < length bytes.now → 0 < n) }

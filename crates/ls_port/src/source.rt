@@ -5,12 +5,7 @@ ghost use Rattle.std.specs.Io.KnownBytes.{ReadConsumes};
 ghost use Rattle.std.specs.declared.option.Option.{Option};
 ghost use Rattle.ls_port.specs.Causes.{HasCause};
 
-use thiserror::Error;
-
-/// The source failed.
-#[derive(Clone, Copy, Debug, PartialEq, Eq, Error)]
-#[error("the source failed")]
-pub struct Failed;
+use crate::Failed;
 
 /// Where bytes come from.
 pub trait Source {
@@ -22,8 +17,8 @@ pub trait Source {
 
     /// Reads some bytes into the front of `buf`: so many as it answers.
     ///
-    /// 0 into a buffer that isn't empty is the end of input. `Failed` comes only where the count of faults rose, and then
-    /// nothing was taken; a read that succeeds leaves the count.
+    /// 0 into a buffer that isn't empty is the end of input. At `Failed` the count of faults rises by one, and nothing was
+    /// taken; a read that succeeds leaves the count.
     fn read(&mut self, buf: &mut [u8]) -> Result<usize, Failed>
         ensures bound { ReadsAtMost result buf.new }
         ensures bytes { ReadConsumes (left self.old) (left self.new) result buf.new }

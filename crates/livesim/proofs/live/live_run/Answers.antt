@@ -1,6 +1,6 @@
 use Rattle.std.proofs.Common.{ℕ, List, false, subst, arith}
 use Rattle.livesim.specs.Endings.{Finishes, has_ended}
-use Rattle.livesim.proofs.Endings.{completed, cut_short, displays_truth, finished, unfailed}
+use Rattle.livesim.proofs.Endings.{completed, cut_short, finished, unfailed}
 use Rattle.livesim.proofs.live.live_run.Goals as goal
 
 pub returns-in_default-clause-lived : goal.returns-in_default-clause-lived
@@ -42,12 +42,3 @@ returns-clause-source_kept g c = λ which.
     let new = g.K.Sink.written c.finish-status.new.sink in
     let Says : List ℕ → Type 0 = λ b. Finishes ending old new b status in
     unfailed old new bytes status ending (subst Says c.deref.ensures.value c.finish-status.ensures.finishes) c.in-Ok.ensures.kept c.in-Ok.ensures.kept_too_much which
-
-pub returns-then-words-ne1-clause-settled : goal.returns-then-words-ne1-clause-settled
-returns-then-words-ne1-clause-settled g c = displays_truth
-
-pub returns-in_default-clause-settled : goal.returns-in_default-clause-settled
-returns-in_default-clause-settled g c = displays_truth
-
-pub returns-clause-settled : goal.returns-clause-settled
-returns-clause-settled g c = displays_truth

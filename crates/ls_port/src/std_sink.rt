@@ -1,44 +1,11 @@
-// The edge: any reader and writer of std. They tell the contents that the reader or writer tells: those of the host tell none.
+// The edge: any writer of std. It tells the contents that the writer tells: those of the host tell none.
 ghost use Rattle.std.specs.Prelude.{◌≡◌, ◌<◌, length, IfOk, IsErrOf};
 ghost use Rattle.std.specs.Io.{WritesAtMost};
 ghost use Rattle.std.specs.Io.KnownBytes.{WriteAppends};
 ghost use Rattle.ls_port.specs.Causes.{HasSinkCause};
 
-use crate::{Failed, Sink, SinkRefusal, Source};
-use std::io::{Read, Write};
-
-/// A reader of std as a source, with the bytes that the reader has left. Each of its errors counts as a fault.
-#[derive(Drop)]
-pub struct StdSource<R: Read + Drop> {
-    inner: R,
-    faults: u64,
-}
-
-impl<R: Read + Drop> StdSource<R> {
-    /// The source of this reader, which hasn't failed yet.
-    pub fn new(inner: R) -> Self
-        ensures faults { result.faults ≡ 0 }
-        ensures inner { result.inner ≡ inner }
-    {
-        StdSource { inner, faults: 0 }
-    }
-}
-
-impl<R: Read + Drop> Source for StdSource<R> {
-    ghost left = { λ s. R.remaining s.inner };
-
-    ghost faults = { λ s. s.faults };
-
-    fn read(&mut self, buf: &mut [u8]) -> Result<usize, Failed> {
-        match self.inner.read(buf) {
-            Ok(count) => Ok(count),
-            Err(_) => {
-                self.faults = self.faults.saturating_add(1);
-                Err(Failed)
-            }
-        }
-    }
-}
+use crate::{Sink, SinkRefusal};
+use std::io::Write;
 
 /// A writer of std as a sink, with the bytes that the writer holds. Each of its errors counts as a fault, and so does a write
 /// that takes nothing.
@@ -59,7 +26,7 @@ impl<W: Write + Drop> StdSink<W> {
 }
 
 impl<W: Write + Drop> Sink for StdSink<W> {
-    ghost use Rattle.ls_port.specs.declared.sink.SinkRefusal.TheVariants.{NoMemory as Full};
+    ghost use Rattle.ls_port.specs.declared.sink_refusal.SinkRefusal.TheVariants.{NoMemory as Full};
 
     ghost written = { λ s. W.contents s.inner };
 
