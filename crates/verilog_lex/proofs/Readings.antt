@@ -1,8 +1,9 @@
 -- The tokens of pieces are the one reading that there is.
-use Rattle.std.proofs.Common.{◌≡◌, ℕ, List, [], ◌∷◌, ◌++◌, codes, Result, Ok, refl, sym, ap, ◌∙◌}
+use Rattle.std.proofs.Common.{◌≡◌, ℕ, List, [], ◌∷◌, ◌++◌, codes, Result, Ok, refl, sym, ap, subst, ◌∙◌}
 use Rattle.ls_text.specs.declared.source_file.SourceFile.{SourceFile}
 use Rattle.ls_text.specs.Files.{text_between}
-use Rattle.ls_text.specs.Readings.{TextFault, ◌>>=◌}
+use Rattle.ls_text.specs.declared.refusal.Refusal.{Refusal}
+use Rattle.ls_text.specs.Readings.{TextFault, Gives, ◌>>=◌}
 use Rattle.verilog_pre.specs.declared.piece.Piece.{Piece}
 use Rattle.verilog_lex.specs.declared.kind.Kind.TheVariants as kind
 use Rattle.verilog_lex.specs.Lexemes.{Lexeme, pieces_lexemes}
@@ -42,3 +43,8 @@ unfolding tokens
 only_reading files pieces read r =
     r.gives ∙ ap (ended files) (sym (group_lexemes r.lexemes r.groups r.grouped))
     ∙ ap (λ ls. ended files (lexeme_tokens ls)) (sym (only_lexemes files pieces r.lexemes r.cut))
+
+-- an answer that is related to the pieces is what the walk over them gives
+pub related_tokens : {A : Type 0} (names : List (List ℕ)) (view : A → List Said) (answer : Result A Refusal) (files : List SourceFile) (pieces : List Piece)
+    → (read : Result (List Said) TextFault) × Reads files pieces read × Gives names view answer read → Gives names view answer (tokens files pieces)
+related_tokens names view answer files pieces (read, reads, gives) = subst (Gives names view answer) (only_reading files pieces read reads) gives

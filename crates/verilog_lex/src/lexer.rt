@@ -239,10 +239,7 @@ pub fn lex(
     pieces: &[Piece],
 ) -> Result<Vec<Token>, Refusal>
     requires { length files.now ≤ 256 }
-    ensures tokens { Gives names.new (λ ts. map (said names.new) ts.items) result (tokens files.now pieces.now) }
-
-    // And a reading of whole pieces that the relation on them has.
-    ensures reads { (read : Result (List Said) TextFault) × Reads files.now pieces.now read
+    ensures tokens { (read : Result (List Said) TextFault) × Reads files.now pieces.now read
         × Gives names.new (λ ts. map (said names.new) ts.items) result read }
     ensures named { IfOk result (λ ts. All (IsNamed (length names.new)) ts.items) }
     ensures ends { IfOk result (λ ts. EndsOnce ts.items) }

@@ -5,13 +5,13 @@ use Rattle.std.specs.List.{prefix_len}
 use Rattle.std.proofs.lemmas.Bool.{eqb-true}
 use Rattle.std.proofs.lemmas.List.{take-append-drop, length-append}
 use Rattle.std.proofs.lemmas.List.Folds.{length-prefix_len}
-use Rattle.ls_text.specs.Bytes.{is_letter, is_digit, is_word_byte}
+use Rattle.ls_text.specs.Bytes.{is_letter, is_digit, is_word_byte, is_blank}
 use Rattle.verilog_pre.specs.Parts.{Part, Use}
 use Rattle.verilog_pre.specs.declared.body_cut.BodyCut.{BodyCut}
 use Rattle.verilog_pre.specs.declared.body_cut.BodyCut.TheVariants as cut
-use Rattle.verilog_pre.specs.Bodies.{begins_cut, lines_len, comment_len, run_len, comment_or, body_cut, cut_len, goes_on, run_part, cut_parts, body_parts, body_len}
+use Rattle.verilog_pre.specs.Bodies.{begins_cut, lines_len, comment_len, run_len, comment_or, body_cut, cut_len, goes_on, run_part, cut_parts, trimmed_parts, trimmed_len, body_parts, body_len}
 use Rattle.verilog_pre.specs.Shapes.{HasNo, AllAre, StopsAt, ends_comment, IsLineComment, IsWord}
-use Rattle.verilog_pre.specs.BodyStretches.{ends_line, begins_stretch, LineEnds, IsBodyRun, Gives, Run, Continued, Comment, Unclosed, Macro, Body, AtEnd, AtNewline, AtComment, Goes}
+use Rattle.verilog_pre.specs.BodyStretches.{ends_line, begins_stretch, LineEnds, IsBodyRun, Gives, Run, Continued, Comment, Unclosed, Macro, Trimmed, Body, AtEnd, AtNewline, AtComment, Goes}
 use Rattle.verilog_pre.proofs.Stretches.{and_both, first_of, front_all, front_stops, front_is, take_seam, drop_seam, longer}
 use Rattle.verilog_pre.proofs.BodyStretches.{not_newline, line_of, after_line, line_and_after, line_count, line_plain, line_ends, line_is, open_plain, open_is, ClosedOn, closes_on, closed_on_is, run_from, left_from, from_joined, from_count, from_on_line, from_plain, from_ends, from_is}
 use Rattle.verilog_pre.proofs.Cuts.{parts_on, parts_last, len_on, len_last}
@@ -115,9 +115,11 @@ run : (file offset a : ℕ) (bs : List ℕ) → (a == 10) ≡ false → Plain a 
 run file offset a bs line plain =
     subst (λ n. Cut file offset (a ∷ bs) (cut.Run n)) (sym (counted_from a bs plain))
     (On (run_from a bs) (left_from a bs) (cut.Run (length (run_from a bs))) joined refl refl some
-    (subst (λ xs. Gives file offset (run_from a bs) (left_from a bs) (run_part file offset (length (run_from a bs)) xs))
+    (subst (λ xs. Gives file offset (run_from a bs) (left_from a bs) (run_part file offset xs (drop (length (run_from a bs)) (a ∷ bs))))
     (sym (ap (take (length (run_from a bs))) joined ∙ take_seam (run_from a bs) (left_from a bs)))
-    (Run (record { some = some; on_line = from_on_line a bs (ap not line); plain = from_plain a bs; ends = from_ends a bs }))))
+    (subst (λ ys. Gives file offset (run_from a bs) (left_from a bs) (run_part file offset (run_from a bs) ys))
+    (sym (ap (drop (length (run_from a bs))) joined ∙ drop_seam (run_from a bs) (left_from a bs)))
+    (Run (record { some = some; on_line = from_on_line a bs (ap not line); plain = from_plain a bs; ends = from_ends a bs })))))
   where
     joined : a ∷ bs ≡ run_from a bs ++ left_from a bs
     joined = sym (from_joined a bs)
@@ -216,39 +218,39 @@ first_cut file offset (a ∷ b ∷ bs) some = line (a == 10) refl
 
 -- ---- the whole body
 
-pub whole_body : (fuel file offset : ℕ) (text : List ℕ) → length text ≤ fuel → Body file offset text (body_parts file offset text) (body_len text)
-unfolding body_parts body_len
-whole_body fuel file offset [] within = AtEnd offset
-whole_body zero file offset (b ∷ bs) within = absurd (omega arith)
-whole_body (suc fuel) file offset (b ∷ bs) within =
-    told (body_cut (b ∷ bs)) refl (first_cut file offset (b ∷ bs) (omega arith)) (λ offset rest short. whole_body fuel file offset rest short)
+whole_trimmed : (fuel file offset : ℕ) (text : List ℕ) → length text ≤ fuel → Trimmed file offset text (trimmed_parts file offset text) (trimmed_len text)
+unfolding trimmed_parts trimmed_len
+whole_trimmed fuel file offset [] within = AtEnd offset
+whole_trimmed zero file offset (b ∷ bs) within = absurd (omega arith)
+whole_trimmed (suc fuel) file offset (b ∷ bs) within =
+    told (body_cut (b ∷ bs)) refl (first_cut file offset (b ∷ bs) (omega arith)) (λ offset rest short. whole_trimmed fuel file offset rest short)
   where
     told : (c : BodyCut) → c ≡ body_cut (b ∷ bs) → Cut file offset (b ∷ bs) c
-        → ((offset : ℕ) (rest : List ℕ) → length rest ≤ fuel → Body file offset rest (body_parts file offset rest) (body_len rest))
-        → Body file offset (b ∷ bs) (body_parts file offset (b ∷ bs)) (body_len (b ∷ bs))
+        → ((offset : ℕ) (rest : List ℕ) → length rest ≤ fuel → Trimmed file offset rest (trimmed_parts file offset rest) (trimmed_len rest))
+        → Trimmed file offset (b ∷ bs) (trimmed_parts file offset (b ∷ bs)) (trimmed_len (b ∷ bs))
     told c is (On bytes rest d joined on size some gives) more =
         let sum : length (bytes ++ rest) ≡ length bytes + length rest = length-append bytes rest in
         let sizes : length (b ∷ bs) ≡ length (bytes ++ rest) = ap length joined in
         let short : length rest ≤ fuel = omega (arith, sum, some, within, sizes) in
         let behind : drop (length bytes) (b ∷ bs) ≡ rest = ap (drop (length bytes)) joined ∙ drop_seam bytes rest in
-        let parts : body_parts file offset (b ∷ bs) ≡ cut_parts file offset (b ∷ bs) c ++ body_parts file (offset + length bytes) rest =
+        let parts : trimmed_parts file offset (b ∷ bs) ≡ cut_parts file offset (b ∷ bs) c ++ trimmed_parts file (offset + length bytes) rest =
         parts_on file offset (b ∷ bs) c (length bytes) (omega arith) is size some on
-        ∙ ap (λ xs. cut_parts file offset (b ∷ bs) c ++ body_parts file (offset + length bytes) xs) behind in
-        let count : body_len (b ∷ bs) ≡ length bytes + body_len rest =
-        len_on (b ∷ bs) c (length bytes) (omega arith) is size some (omega (arith, sum, sizes)) on ∙ ap (λ xs. length bytes + body_len xs) behind in
-        let read : Body file offset (bytes ++ rest) (cut_parts file offset (b ∷ bs) c ++ body_parts file (offset + length bytes) rest) (length bytes + body_len rest) =
-        Goes offset bytes rest (cut_parts file offset (b ∷ bs) c) (body_parts file (offset + length bytes) rest) (body_len rest) gives (more (offset + length bytes) rest short) in
-        subst (λ xs. Body file offset xs (body_parts file offset (b ∷ bs)) (body_len (b ∷ bs))) (sym joined)
-        (subst (λ ps. Body file offset (bytes ++ rest) ps (body_len (b ∷ bs))) (sym parts)
-        (subst (Body file offset (bytes ++ rest) (cut_parts file offset (b ∷ bs) c ++ body_parts file (offset + length bytes) rest)) (sym count) read))
+        ∙ ap (λ xs. cut_parts file offset (b ∷ bs) c ++ trimmed_parts file (offset + length bytes) xs) behind in
+        let count : trimmed_len (b ∷ bs) ≡ length bytes + trimmed_len rest =
+        len_on (b ∷ bs) c (length bytes) (omega arith) is size some (omega (arith, sum, sizes)) on ∙ ap (λ xs. length bytes + trimmed_len xs) behind in
+        let read : Trimmed file offset (bytes ++ rest) (cut_parts file offset (b ∷ bs) c ++ trimmed_parts file (offset + length bytes) rest) (length bytes + trimmed_len rest) =
+        Goes offset bytes rest (cut_parts file offset (b ∷ bs) c) (trimmed_parts file (offset + length bytes) rest) (trimmed_len rest) gives (more (offset + length bytes) rest short) in
+        subst (λ xs. Trimmed file offset xs (trimmed_parts file offset (b ∷ bs)) (trimmed_len (b ∷ bs))) (sym joined)
+        (subst (λ ps. Trimmed file offset (bytes ++ rest) ps (trimmed_len (b ∷ bs))) (sym parts)
+        (subst (Trimmed file offset (bytes ++ rest) (cut_parts file offset (b ∷ bs) c ++ trimmed_parts file (offset + length bytes) rest)) (sym count) read))
     told c is (Newline rest joined) more =
-        subst (λ ps. Body file offset (b ∷ bs) ps (body_len (b ∷ bs))) (sym (parts_last file offset (b ∷ bs) (cut.Last 0) (omega arith) is refl))
-        (subst (Body file offset (b ∷ bs) []) (sym (len_last (b ∷ bs) (cut.Last 0) (omega arith) is refl))
-        (subst (λ xs. Body file offset xs [] 0) (sym joined) (AtNewline offset rest)))
+        subst (λ ps. Trimmed file offset (b ∷ bs) ps (trimmed_len (b ∷ bs))) (sym (parts_last file offset (b ∷ bs) (cut.Last 0) (omega arith) is refl))
+        (subst (Trimmed file offset (b ∷ bs) []) (sym (len_last (b ∷ bs) (cut.Last 0) (omega arith) is refl))
+        (subst (λ xs. Trimmed file offset xs [] 0) (sym joined) (AtNewline offset rest)))
     told c is (Remark bytes rest n joined comment size) more =
-        subst (λ ps. Body file offset (b ∷ bs) ps (body_len (b ∷ bs))) (sym (parts_last file offset (b ∷ bs) (cut.Last n) (omega arith) is refl))
-        (subst (Body file offset (b ∷ bs) []) (sym (len_last (b ∷ bs) (cut.Last n) (omega arith) is refl))
-        (subst (λ xs. Body file offset xs [] n) (sym joined) (subst (Body file offset (bytes ++ rest) []) size (AtComment offset bytes rest comment))))
+        subst (λ ps. Trimmed file offset (b ∷ bs) ps (trimmed_len (b ∷ bs))) (sym (parts_last file offset (b ∷ bs) (cut.Last n) (omega arith) is refl))
+        (subst (Trimmed file offset (b ∷ bs) []) (sym (len_last (b ∷ bs) (cut.Last n) (omega arith) is refl))
+        (subst (λ xs. Trimmed file offset xs [] n) (sym joined) (subst (Trimmed file offset (bytes ++ rest) []) size (AtComment offset bytes rest comment))))
 
 -- ---- and no others
 
@@ -290,7 +292,7 @@ plain_cut a zs line plain =
     ∙ ap (λ t. cond t block (cond ((a == 96) && is_letter b) word left)) none.2
     ∙ ap (λ t. cond t word left) none.3
 
-run_cut : (file offset : ℕ) (bytes rest : List ℕ) → IsBodyRun bytes rest → IsCut file offset bytes rest (run_part file offset (length bytes) bytes)
+run_cut : (file offset : ℕ) (bytes rest : List ℕ) → IsBodyRun bytes rest → IsCut file offset bytes rest (run_part file offset bytes rest)
 run_cut file offset [] rest is = absurd (omega (arith, is.some))
 run_cut file offset (a ∷ cs) rest is =
     record {
@@ -298,7 +300,8 @@ run_cut file offset (a ∷ cs) rest is =
       is = sym (plain_cut a (cs ++ rest) (not_is (a == 10) is.on_line.0) plain ∙ ap cut.Run (counted_from a (cs ++ rest) plain ∙ ap length (from_is a cs rest is.on_line is.plain is.ends)));
       on = refl;
       size = refl;
-      gives = ap (run_part file offset (length (a ∷ cs))) (take_seam (a ∷ cs) rest);
+      gives = ap (λ xs. run_part file offset xs (drop (length (a ∷ cs)) ((a ∷ cs) ++ rest))) (take_seam (a ∷ cs) rest)
+          ∙ ap (run_part file offset (a ∷ cs)) (drop_seam (a ∷ cs) rest);
     }
   where
     not_is : (x : Bool) → not x ≡ true → x ≡ false
@@ -399,18 +402,18 @@ unfolding body_cut
 newline_cut rest = refl
 
 goes_is : (file offset : ℕ) (bytes rest : List ℕ) (parts more : List Part) (n : ℕ) → IsCut file offset bytes rest parts → 0 < length bytes
-    → (more ≡ body_parts file (offset + length bytes) rest) × (n ≡ body_len rest)
-    → (parts ++ more ≡ body_parts file offset (bytes ++ rest)) × (length bytes + n ≡ body_len (bytes ++ rest))
+    → (more ≡ trimmed_parts file (offset + length bytes) rest) × (n ≡ trimmed_len rest)
+    → (parts ++ more ≡ trimmed_parts file offset (bytes ++ rest)) × (length bytes + n ≡ trimmed_len (bytes ++ rest))
 goes_is file offset bytes rest parts more n c some behind =
     let sum : length (bytes ++ rest) ≡ length bytes + length rest = length-append bytes rest in (
       ap (λ ps. ps ++ more) (sym c.gives) ∙ ap (λ ps. cut_parts file offset (bytes ++ rest) c.cut ++ ps) behind.0
-          ∙ ap (λ xs. cut_parts file offset (bytes ++ rest) c.cut ++ body_parts file (offset + length bytes) xs) (sym (drop_seam bytes rest))
+          ∙ ap (λ xs. cut_parts file offset (bytes ++ rest) c.cut ++ trimmed_parts file (offset + length bytes) xs) (sym (drop_seam bytes rest))
           ∙ sym (parts_on file offset (bytes ++ rest) c.cut (length bytes) (longer bytes rest some) c.is c.size some c.on),
-      ap (λ k. length bytes + k) (behind.1 ∙ ap body_len (sym (drop_seam bytes rest)))
+      ap (λ k. length bytes + k) (behind.1 ∙ ap trimmed_len (sym (drop_seam bytes rest)))
           ∙ sym (len_on (bytes ++ rest) c.cut (length bytes) (longer bytes rest some) c.is c.size some (omega (arith, sum)) c.on),
     )
 
-remark_is : (file offset : ℕ) (bytes rest : List ℕ) → IsLineComment bytes rest → ([] ≡ body_parts file offset (bytes ++ rest)) × (length bytes ≡ body_len (bytes ++ rest))
+remark_is : (file offset : ℕ) (bytes rest : List ℕ) → IsLineComment bytes rest → ([] ≡ trimmed_parts file offset (bytes ++ rest)) × (length bytes ≡ trimmed_len (bytes ++ rest))
 remark_is file offset bytes rest is =
     let cut_is : cut.Last (length bytes) ≡ body_cut (bytes ++ rest) =
     subst (λ xs. cut.Last (length xs) ≡ body_cut (xs ++ rest)) (sym is.is) (sym (remark_cut is.inside rest is.on_line is.ends)) in
@@ -418,12 +421,43 @@ remark_is file offset bytes rest is =
     let some : 0 < length (bytes ++ rest) = longer bytes rest (omega (arith, size)) in
     (sym (parts_last file offset (bytes ++ rest) (cut.Last (length bytes)) some cut_is refl), sym (len_last (bytes ++ rest) (cut.Last (length bytes)) some cut_is refl))
 
+only_trimmed : (file offset : ℕ) (text : List ℕ) (parts : List Part) (n : ℕ) → Trimmed file offset text parts n
+    → (parts ≡ trimmed_parts file offset text) × (n ≡ trimmed_len text)
+unfolding trimmed_parts trimmed_len
+only_trimmed file offset text parts n (AtEnd o) = (refl, refl)
+only_trimmed file offset text parts n (AtNewline o rest) =
+    (sym (parts_last file o (10 ∷ rest) (cut.Last 0) (omega arith) (newline_cut rest) refl), sym (len_last (10 ∷ rest) (cut.Last 0) (omega arith) (newline_cut rest) refl))
+only_trimmed file offset text parts n (AtComment o bytes rest is) = remark_is file o bytes rest is
+only_trimmed file offset text parts n (Goes o bytes rest ps more k gives behind) =
+    goes_is file o bytes rest ps more k (gives_is file o bytes rest ps gives) (gives_some file o bytes rest ps gives) (only_trimmed file (o + length bytes) rest more k behind)
+
+-- ---- with the white space at its front
+
+pub whole_body : (file offset : ℕ) (text : List ℕ) → Body file offset text (body_parts file offset text) (body_len text)
+unfolding body_parts body_len
+whole_body file offset text =
+    let n : ℕ = prefix_len is_blank text in
+    let size : length (take n text) ≡ n = length-prefix_len is_blank text in
+    record {
+      blanks = take n text;
+      rest = drop n text;
+      is = sym (take-append-drop n text);
+      blank = front_all is_blank text;
+      ends = front_stops is_blank text;
+      size = trimmed_len (drop n text);
+      count = ap (λ k. k + trimmed_len (drop n text)) (sym size);
+      behind = subst (λ k. Trimmed file (offset + k) (drop n text) (trimmed_parts file (offset + n) (drop n text)) (trimmed_len (drop n text))) (sym size)
+          (whole_trimmed (length (drop n text)) file (offset + n) (drop n text) (omega arith));
+    }
+
 pub only_body : (file offset : ℕ) (text : List ℕ) (parts : List Part) (n : ℕ) → Body file offset text parts n
     → (parts ≡ body_parts file offset text) × (n ≡ body_len text)
 unfolding body_parts body_len
-only_body file offset text parts n (AtEnd o) = (refl, refl)
-only_body file offset text parts n (AtNewline o rest) =
-    (sym (parts_last file o (10 ∷ rest) (cut.Last 0) (omega arith) (newline_cut rest) refl), sym (len_last (10 ∷ rest) (cut.Last 0) (omega arith) (newline_cut rest) refl))
-only_body file offset text parts n (AtComment o bytes rest is) = remark_is file o bytes rest is
-only_body file offset text parts n (Goes o bytes rest ps more k gives behind) =
-    goes_is file o bytes rest ps more k (gives_is file o bytes rest ps gives) (gives_some file o bytes rest ps gives) (only_body file (o + length bytes) rest more k behind)
+only_body file offset text parts n b =
+    let lead : prefix_len is_blank text ≡ length b.blanks = ap (prefix_len is_blank) b.is ∙ front_is is_blank b.blanks b.rest b.blank b.ends in
+    let left : drop (prefix_len is_blank text) text ≡ b.rest = ap (λ k. drop k text) lead ∙ ap (drop (length b.blanks)) b.is ∙ drop_seam b.blanks b.rest in
+    let is : (parts ≡ trimmed_parts file (offset + length b.blanks) b.rest) × (b.size ≡ trimmed_len b.rest) =
+    only_trimmed file (offset + length b.blanks) b.rest parts b.size b.behind in (
+      is.0 ∙ ap (λ k. trimmed_parts file (offset + k) b.rest) (sym lead) ∙ ap (trimmed_parts file (offset + prefix_len is_blank text)) (sym left),
+      b.count ∙ ap (λ k. length b.blanks + k) is.1 ∙ ap (λ k. k + trimmed_len b.rest) (sym lead) ∙ ap (λ xs. prefix_len is_blank text + trimmed_len xs) (sym left),
+    )

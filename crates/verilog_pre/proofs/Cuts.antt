@@ -3,7 +3,7 @@ use Rattle.std.proofs.Common.{◌≡◌, ℕ, zero, suc, ◌+◌, ◌-◌, ◌<�
 use Rattle.std.proofs.lemmas.List.{append-nil}
 use Rattle.verilog_pre.specs.Parts.{Part}
 use Rattle.verilog_pre.specs.declared.body_cut.BodyCut.{BodyCut}
-use Rattle.verilog_pre.specs.Bodies.{body_cut, cut_len, goes_on, cut_parts, parts_from, body_from, body_parts, body_len}
+use Rattle.verilog_pre.specs.Bodies.{body_cut, cut_len, goes_on, cut_parts, parts_from, body_from, trimmed_parts, trimmed_len}
 
 parts_skip : (file offset k : ℕ) (bs : List ℕ) → parts_from file offset k bs ≡ parts_from file (offset + k) 0 (drop k bs)
 parts_skip file offset zero bs = ap (λ o. parts_from file o 0 bs) (let same : offset ≡ offset + 0 = omega arith in same)
@@ -21,8 +21,8 @@ body_skip (suc k) (b ∷ bs) within =
 
 -- a cut behind which the body goes on
 pub parts_on : (file offset : ℕ) (text : List ℕ) (cut : BodyCut) (n : ℕ) → 0 < length text → cut ≡ body_cut text → n ≡ cut_len cut → 0 < n → goes_on cut ≡ true
-    → body_parts file offset text ≡ cut_parts file offset text cut ++ body_parts file (offset + n) (drop n text)
-unfolding body_parts
+    → trimmed_parts file offset text ≡ cut_parts file offset text cut ++ trimmed_parts file (offset + n) (drop n text)
+unfolding trimmed_parts
 parts_on file offset [] cut n some is count more on = absurd (omega arith)
 parts_on file offset (b ∷ bs) cut n some is count more on =
     ap (λ c. cut_parts file offset (b ∷ bs) c ++ cond (goes_on c) (parts_from file (offset + 1) (cut_len c - 1) bs) []) (sym is)
@@ -39,8 +39,8 @@ parts_on file offset (b ∷ bs) cut n some is count more on =
 
 -- and one that ends it
 pub parts_last : (file offset : ℕ) (text : List ℕ) (cut : BodyCut) → 0 < length text → cut ≡ body_cut text → goes_on cut ≡ false
-    → body_parts file offset text ≡ cut_parts file offset text cut
-unfolding body_parts
+    → trimmed_parts file offset text ≡ cut_parts file offset text cut
+unfolding trimmed_parts
 parts_last file offset [] cut some is off = absurd (omega arith)
 parts_last file offset (b ∷ bs) cut some is off =
     ap (λ c. cut_parts file offset (b ∷ bs) c ++ cond (goes_on c) (parts_from file (offset + 1) (cut_len c - 1) bs) []) (sym is)
@@ -48,8 +48,8 @@ parts_last file offset (b ∷ bs) cut some is off =
     ∙ append-nil (cut_parts file offset (b ∷ bs) cut)
 
 pub len_on : (text : List ℕ) (cut : BodyCut) (n : ℕ) → 0 < length text → cut ≡ body_cut text → n ≡ cut_len cut → 0 < n → n ≤ length text → goes_on cut ≡ true
-    → body_len text ≡ n + body_len (drop n text)
-unfolding body_len
+    → trimmed_len text ≡ n + trimmed_len (drop n text)
+unfolding trimmed_len
 len_on [] cut n some is count more within on = absurd (omega arith)
 len_on (b ∷ bs) cut n some is count more within on =
     ap (λ c. cond (goes_on c) (1 + body_from (cut_len c - 1) bs) (cut_len c)) (sym is)
@@ -64,8 +64,8 @@ len_on (b ∷ bs) cut n some is count more within on =
         let skip : body_from n bs ≡ n + body_from 0 (drop n bs) = body_skip n bs (omega arith) in
         omega (arith, skip, ap (λ k. body_from k bs) one)
 
-pub len_last : (text : List ℕ) (cut : BodyCut) → 0 < length text → cut ≡ body_cut text → goes_on cut ≡ false → body_len text ≡ cut_len cut
-unfolding body_len
+pub len_last : (text : List ℕ) (cut : BodyCut) → 0 < length text → cut ≡ body_cut text → goes_on cut ≡ false → trimmed_len text ≡ cut_len cut
+unfolding trimmed_len
 len_last [] cut some is off = absurd (omega arith)
 len_last (b ∷ bs) cut some is off =
     ap (λ c. cond (goes_on c) (1 + body_from (cut_len c - 1) bs) (cut_len c)) (sym is)
@@ -73,11 +73,11 @@ len_last (b ∷ bs) cut some is off =
 
 pub parts_more : (file offset : ℕ) (text rest : List ℕ) (cut : BodyCut) (n : ℕ) (before now all : List Part)
     → 0 < length text → cut ≡ body_cut text → n ≡ cut_len cut → 0 < n → goes_on cut ≡ true → rest ≡ drop n text
-    → now ≡ before ++ cut_parts file offset text cut → before ++ body_parts file offset text ≡ all
-    → now ++ body_parts file (offset + n) rest ≡ all
+    → now ≡ before ++ cut_parts file offset text cut → before ++ trimmed_parts file offset text ≡ all
+    → now ++ trimmed_parts file (offset + n) rest ≡ all
 parts_more file offset text rest cut n before now all some is count more on behind adds so_far =
-    ap (λ r. now ++ body_parts file (offset + n) r) behind
-    ∙ ap (λ ps. ps ++ body_parts file (offset + n) (drop n text)) adds
-    ∙ append_assoc before (cut_parts file offset text cut) (body_parts file (offset + n) (drop n text))
+    ap (λ r. now ++ trimmed_parts file (offset + n) r) behind
+    ∙ ap (λ ps. ps ++ trimmed_parts file (offset + n) (drop n text)) adds
+    ∙ append_assoc before (cut_parts file offset text cut) (trimmed_parts file (offset + n) (drop n text))
     ∙ ap (λ ps. before ++ ps) (sym (parts_on file offset text cut n some is count more on))
     ∙ so_far

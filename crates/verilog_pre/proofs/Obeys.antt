@@ -181,7 +181,7 @@ defines at offset word st text blanks name rest has =
         → Obeys at offset word st text directive.Define (defined_if at offset word st name (length blanks + length name) rest (not t))
     told true e =
         Defines blanks name rest (body_parts at.file (offset + (length blanks + length name)) rest) (body_len rest) has e
-        (whole_body (length rest) at.file (offset + (length blanks + length name)) rest (omega arith))
+        (whole_body at.file (offset + (length blanks + length name)) rest)
     told false e = Undefinable blanks name rest has e
 
 -- ---- what a directive does is related

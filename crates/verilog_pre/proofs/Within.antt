@@ -11,7 +11,7 @@ use Rattle.verilog_pre.specs.declared.body_cut.BodyCut.{BodyCut}
 use Rattle.verilog_pre.specs.declared.conditional.Conditional.{Conditional}
 use Rattle.verilog_pre.specs.declared.directive.Directive.{Directive}
 use Rattle.verilog_pre.specs.declared.directive.Directive.TheVariants as directive
-use Rattle.verilog_pre.specs.Bodies.{body_cut, cut_len, goes_on, comment_or, comment_len, body_from, body_parts, body_len}
+use Rattle.verilog_pre.specs.Bodies.{body_cut, cut_len, goes_on, comment_or, comment_len, body_from, body_parts, body_len, trimmed_len}
 use Rattle.verilog_pre.specs.Conditionals.{is_read, continued, closed}
 use Rattle.verilog_pre.specs.Directives.{directive_of, is_conditional, is_use, name_at}
 use Rattle.verilog_pre.specs.Expansions.{Output, expanded}
@@ -51,8 +51,13 @@ from_within zero (b ∷ bs) = at (goes_on (body_cut (b ∷ bs))) refl (from_with
     at false e more = last_within (b ∷ bs) e
 
 body_within : (text : List ℕ) → body_len text ≤ length text
-unfolding body_len
-body_within text = from_within 0 text
+unfolding body_len trimmed_len
+body_within text =
+    let blank : ℕ = prefix_len is_blank text in
+    let first : blank ≤ length text = prefix_len-le-length is_blank text in
+    let behind : body_from 0 (drop blank text) ≤ length (drop blank text) = from_within 0 (drop blank text) in
+    let left : length (drop blank text) ≡ length text - blank = length-drop blank text in
+    omega (arith, first, behind, left)
 
 -- ---- the name behind a directive
 

@@ -1,7 +1,7 @@
 -- The body of a macro (IEEE 1364-2005, clause 19.3.1): the parts that its uses give.
-use Rattle.std.specs.Prelude.{ℕ, zero, suc, ◌+◌, ◌-◌, Bool, true, false, ◌&&◌, ◌||◌, ◌==◌, not, nat_lt, if◌then◌else◌, List, [], ◌∷◌, ◌++◌, take, drop, slice_index, Option, Some, None}
+use Rattle.std.specs.Prelude.{ℕ, zero, suc, ◌+◌, ◌-◌, Bool, true, false, ◌&&◌, ◌||◌, ◌==◌, not, nat_lt, if◌then◌else◌, List, [], ◌∷◌, ◌++◌, length, take, drop, slice_index, Option, Some, None}
 use Rattle.std.specs.List.{prefix_len, suffix_len}
-use Rattle.ls_text.specs.Bytes.{is_letter, is_word_byte, is_space}
+use Rattle.ls_text.specs.Bytes.{is_letter, is_word_byte, is_blank, is_space}
 use Rattle.verilog_pre.specs.Parts.{Part, Text, Use, Open}
 use Rattle.verilog_pre.specs.declared.body_cut.BodyCut.{BodyCut}
 use Rattle.verilog_pre.specs.declared.body_cut.BodyCut.TheVariants as cut
@@ -65,14 +65,21 @@ goes_on (cut.Gap n) = true
 goes_on (cut.Open n) = true
 goes_on (cut.Last n) = false
 
--- a run without the white space at its ends
-abbrev pub run_part : ℕ → ℕ → ℕ → List ℕ → List Part
-run_part file offset n run =
-    let lead = prefix_len is_space run in
-    if nat_lt lead n then Text (record { file = file; start = offset + lead; end = offset + (n - suffix_len is_space run) }) ∷ [] else []
+-- a body ends where its text does, at a newline, and at a `//`
+abbrev pub ends_body : List ℕ → Bool
+ends_body rest = (length rest == 0) || ((slice_index rest 0 == 10) || ((slice_index rest 0 == 47) && (slice_index rest 1 == 47)))
+
+-- how many bytes of a run count: white space at the body's end doesn't
+abbrev pub kept_len : List ℕ → List ℕ → ℕ
+kept_len run rest = if ends_body rest then length run - suffix_len is_space run else length run
+
+-- a run before the rest of the text
+abbrev pub run_part : ℕ → ℕ → List ℕ → List ℕ → List Part
+run_part file offset run rest =
+    if nat_lt 0 (kept_len run rest) then Text (record { file = file; start = offset; end = offset + kept_len run rest }) ∷ [] else []
 
 abbrev pub cut_parts : ℕ → ℕ → List ℕ → BodyCut → List Part
-cut_parts file offset text (cut.Run n) = run_part file offset n (take n text)
+cut_parts file offset text (cut.Run n) = run_part file offset (take n text) (drop n text)
 cut_parts file offset text (cut.Use n) = Use (take (n - 1) (drop 1 text)) ∷ []
 cut_parts file offset text (cut.Gap n) = []
 cut_parts file offset text (cut.Open n) = Open ∷ []
@@ -93,8 +100,16 @@ body_from (suc k) (b ∷ bs) = 1 + body_from k bs
 body_from zero (b ∷ bs) =
     if goes_on (body_cut (b ∷ bs)) then 1 + body_from (cut_len (body_cut (b ∷ bs)) - 1) bs else cut_len (body_cut (b ∷ bs))
 
+-- the parts, and how many bytes, of a body that no white space begins
+unfoldable pub trimmed_parts : ℕ → ℕ → List ℕ → List Part
+trimmed_parts file offset text = parts_from file offset 0 text
+
+unfoldable pub trimmed_len : List ℕ → ℕ
+trimmed_len text = body_from 0 text
+
+-- white space at the body's front is in no part
 unfoldable pub body_parts : ℕ → ℕ → List ℕ → List Part
-body_parts file offset text = parts_from file offset 0 text
+body_parts file offset text = trimmed_parts file (offset + prefix_len is_blank text) (drop (prefix_len is_blank text) text)
 
 unfoldable pub body_len : List ℕ → ℕ
-body_len text = body_from 0 text
+body_len text = prefix_len is_blank text + trimmed_len (drop (prefix_len is_blank text) text)

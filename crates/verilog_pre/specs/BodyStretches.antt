@@ -2,6 +2,7 @@
 -- comments and continued lines, up to the end of the line.
 use Rattle.std.specs.Prelude.{◌≡◌, ◌<◌, ℕ, ◌+◌, Bool, not, ◌&&◌, ◌||◌, ◌==◌, ◌⊎◌, List, [], ◌∷◌, ◌++◌, length, take}
 use Rattle.verilog_pre.specs.Parts.{Part, Use, Open}
+use Rattle.ls_text.specs.Bytes.{is_blank}
 use Rattle.verilog_pre.specs.Bodies.{begins_cut, run_part}
 use Rattle.verilog_pre.specs.Shapes.{HasNo, BeginsWith, AllAre, StopsAt, ends_comment, IsLineComment, IsWord}
 
@@ -45,16 +46,27 @@ pub record IsBodyRun (cut rest : List ℕ) : Type 0 where
 
 -- The parts that the stretch `cut` gives before `rest`.
 pub data Gives (file offset : ℕ) (cut rest : List ℕ) : List Part → Type 0 where
-  Run : IsBodyRun cut rest → Gives file offset cut rest (run_part file offset (length cut) cut)
+  Run : IsBodyRun cut rest → Gives file offset cut rest (run_part file offset cut rest)
   Continued : cut ≡ 92 ∷ 10 ∷ [] → Gives file offset cut rest []
   Comment : IsBodyComment cut → Gives file offset cut rest []
   Unclosed : IsOpenComment cut rest → Gives file offset cut rest (Open ∷ [])
   Macro : (word : List ℕ) → cut ≡ 96 ∷ word → IsWord word rest → Gives file offset cut rest (Use word ∷ [])
 
--- The parts of a body at the front of a text, and how many bytes the body has.
-pub data Body (file : ℕ) : ℕ → List ℕ → List Part → ℕ → Type 0 where
-  AtEnd : (offset : ℕ) → Body file offset [] [] 0
-  AtNewline : (offset : ℕ) (rest : List ℕ) → Body file offset (10 ∷ rest) [] 0
-  AtComment : (offset : ℕ) (cut rest : List ℕ) → IsLineComment cut rest → Body file offset (cut ++ rest) [] (length cut)
+-- The parts of a body at the front of a text that no white space begins, and how many bytes the body has.
+pub data Trimmed (file : ℕ) : ℕ → List ℕ → List Part → ℕ → Type 0 where
+  AtEnd : (offset : ℕ) → Trimmed file offset [] [] 0
+  AtNewline : (offset : ℕ) (rest : List ℕ) → Trimmed file offset (10 ∷ rest) [] 0
+  AtComment : (offset : ℕ) (cut rest : List ℕ) → IsLineComment cut rest → Trimmed file offset (cut ++ rest) [] (length cut)
   Goes : (offset : ℕ) (cut rest : List ℕ) (parts more : List Part) (n : ℕ)
-      → Gives file offset cut rest parts → Body file (offset + length cut) rest more n → Body file offset (cut ++ rest) (parts ++ more) (length cut + n)
+      → Gives file offset cut rest parts → Trimmed file (offset + length cut) rest more n → Trimmed file offset (cut ++ rest) (parts ++ more) (length cut + n)
+
+-- The parts of a body at the front of a text, and how many bytes the body has: white space at its front is in no part.
+pub record Body (file offset : ℕ) (text : List ℕ) (parts : List Part) (n : ℕ) : Type 0 where
+  pub blanks : List ℕ
+  pub rest : List ℕ
+  pub is : text ≡ blanks ++ rest
+  pub blank : AllAre is_blank blanks
+  pub ends : StopsAt is_blank rest
+  pub size : ℕ
+  pub count : n ≡ length blanks + size
+  pub behind : Trimmed file (offset + length blanks) rest parts size

@@ -3,14 +3,16 @@ ghost use Rattle.std.specs.Prelude.{◌≡◌, ◌<◌, ◌≤◌, ◌+◌, ◌+
 ghost use Rattle.verilog_pre.specs.Parts.{Use};
 ghost use Rattle.verilog_pre.specs.Tables.{table_of, Sound};
 ghost use Rattle.verilog_pre.specs.Views.{part_of, parts_of, IsListed};
-ghost use Rattle.verilog_pre.specs.Bodies.{lines_len, comment_len, begins_cut, run_len, comment_or, body_cut, cut_len, goes_on, run_part, cut_parts, body_parts, body_len};
+ghost use Rattle.verilog_pre.specs.Bodies.{lines_len, comment_len, begins_cut, run_len, comment_or, body_cut, cut_len, goes_on, ends_body, kept_len, run_part, cut_parts, trimmed_parts, trimmed_len, body_parts, body_len};
 
 use crate::body_cut::BodyCut;
 use crate::macros::Macros;
 use crate::part::Part;
 use crate::stretch::Stretch;
 use crate::table::number_of;
-use ls_text::{NoMemory, behind, byte_at, front, is_letter, line_len, space_len, trailing_space_len, word_len};
+use ls_text::{
+    NoMemory, behind, blank_len, byte_at, front, is_letter, line_len, trailing_space_len, word_len,
+};
 
 // How many bytes stand before the first newline with no backslash right before it.
 fn lines_len(text: &[u8]) -> usize
@@ -130,21 +132,52 @@ fn push_part(macros: &mut Macros, part: Part) -> Result<(), NoMemory>
     Ok(())
 }
 
-// Adds a run without the white space at its ends.
-fn push_run(macros: &mut Macros, file: u16, offset: u32, run: &[u8]) -> Result<(), NoMemory>
+// Whether a body ends where this stands behind it.
+fn ends_body(rest: &[u8]) -> bool
+    ensures { result ≡ ends_body rest.now }
+{
+    let first = byte_at(rest, 0);
+    rest.is_empty() || first == b'\n' || (first == b'/' && byte_at(rest, 1) == b'/')
+}
+
+// How many bytes of a run count: white space at the body's end doesn't.
+fn kept_len(run: &[u8], rest: &[u8]) -> usize
+    ensures value { result ≡ kept_len run.now rest.now }
+    ensures within { result ≤ length run.now }
+{
+    if ends_body(rest) {
+        run.len() - trailing_space_len(run)
+    } else {
+        run.len()
+    }
+}
+
+// Adds a run before the rest of the text.
+fn push_run(
+    macros: &mut Macros,
+    file: u16,
+    offset: u32,
+    run: &[u8],
+    rest: &[u8],
+) -> Result<(), NoMemory>
     requires sound { Sound macros.old }
     requires room { offset + length run.now ≤ 4194304 }
-    ensures parts { OnOk result (parts_of macros.new ≡ parts_of macros.old ++ run_part file offset (length run.now) run.now) }
+    ensures parts { OnOk result (parts_of macros.new ≡ parts_of macros.old ++ run_part file offset run.now rest.now) }
     ensures table { OnOk result (table_of macros.new ≡ table_of macros.old) }
     ensures places { OnOk result (macros.new.places ≡ macros.old.places) }
     ensures sound { OnOk result (Sound macros.new) }
 {
-    let lead = space_len(run);
-    if lead < run.len() {
-        let trail = trailing_space_len(run);
-        let start = offset + lead as u32;
-        let end = offset + (run.len() - trail) as u32;
-        return push_part(macros, Part::Text(Stretch { file, start, end }));
+    let kept = kept_len(run, rest);
+    if 0 < kept {
+        let end = offset + kept as u32;
+        return push_part(
+            macros,
+            Part::Text(Stretch {
+                file,
+                start: offset,
+                end,
+            }),
+        );
     }
     Ok(())
 }
@@ -178,25 +211,20 @@ fn push_cut(
     ensures sound { OnOk result (Sound macros.new) }
 {
     match cut {
-        BodyCut::Run(n) => push_run(macros, file, offset, front(text, n)),
+        BodyCut::Run(n) => push_run(macros, file, offset, front(text, n), behind(text, n)),
         BodyCut::Use(n) => push_use(macros, front(behind(text, 1), n.saturating_sub(1))),
         BodyCut::Open(_) => push_part(macros, Part::Open),
         BodyCut::Gap(_) | BodyCut::Last(_) => Ok(()),
     }
 }
 
-/// Adds the parts of the body that begins a text, and answers how many bytes the body has.
-#[tactic(auto, unfolding(crate::specs::Bodies::body_parts, crate::specs::Bodies::body_len))]
-pub fn read_body(
-    macros: &mut Macros,
-    file: u16,
-    offset: u32,
-    text: &[u8],
-) -> Result<usize, NoMemory>
+// Adds the parts of a body that no white space begins, and answers how many bytes the body has.
+#[tactic(auto, unfolding(crate::specs::Bodies::trimmed_parts, crate::specs::Bodies::trimmed_len))]
+fn read_trimmed(macros: &mut Macros, file: u16, offset: u32, text: &[u8]) -> Result<usize, NoMemory>
     requires sound { Sound macros.old }
     requires room { offset + length text.now ≤ 4194304 }
-    ensures parts { OnOk result (parts_of macros.new ≡ parts_of macros.old ++ body_parts file offset text.now) }
-    ensures length { IfOk result (λ n. n ≡ body_len text.now) }
+    ensures parts { OnOk result (parts_of macros.new ≡ parts_of macros.old ++ trimmed_parts file offset text.now) }
+    ensures length { IfOk result (λ n. n ≡ trimmed_len text.now) }
     ensures within { IfOk result (λ n. n ≤ length text.now) }
     ensures table { OnOk result (table_of macros.new ≡ table_of macros.old) }
     ensures places { OnOk result (macros.new.places ≡ macros.old.places) }
@@ -215,4 +243,27 @@ pub fn read_body(
         at += n as u32;
     }
     Ok(text.len())
+}
+
+/// Adds the parts of the body that begins a text, and answers how many bytes the body has. White space at its two ends is in
+/// no part.
+#[tactic(auto, unfolding(crate::specs::Bodies::body_parts, crate::specs::Bodies::body_len))]
+pub fn read_body(
+    macros: &mut Macros,
+    file: u16,
+    offset: u32,
+    text: &[u8],
+) -> Result<usize, NoMemory>
+    requires sound { Sound macros.old }
+    requires room { offset + length text.now ≤ 4194304 }
+    ensures parts { OnOk result (parts_of macros.new ≡ parts_of macros.old ++ body_parts file offset text.now) }
+    ensures length { IfOk result (λ n. n ≡ body_len text.now) }
+    ensures within { IfOk result (λ n. n ≤ length text.now) }
+    ensures table { OnOk result (table_of macros.new ≡ table_of macros.old) }
+    ensures places { OnOk result (macros.new.places ≡ macros.old.places) }
+    ensures sound { OnOk result (Sound macros.new) }
+{
+    let lead = blank_len(text);
+    let n = read_trimmed(macros, file, offset + lead as u32, text.split_at(lead).1)?;
+    Ok(lead + n)
 }

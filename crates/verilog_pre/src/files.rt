@@ -134,7 +134,8 @@ fn pieces_of(alloc: Global, names: &mut Names, files: &[SourceFile]) -> Result<V
 /// The pieces of at most 256 files, each of at most 4,194,304 bytes, or the first fault (IEEE 1364-2005, clause 19).
 ///
 /// Comments, directives and skipped text are in no piece. A piece is a longest remaining run of bytes, or a part of
-/// the body of a macro that is used; a part has no white space at its ends, and the place of the use in the text.
+/// the body of a macro that is used; a body has no white space at its two ends, and a part of it has the place of the use in the
+/// text.
 /// Macros carry over from file to file, conditionals don't.
 ///
 /// Faults: 12 at a directive that can't be carried out, at a comment or a conditional that isn't closed; 10 at the
@@ -148,10 +149,7 @@ pub fn preprocess(
 ) -> Result<Vec<Piece>, Refusal>
     requires files { length files.now ≤ 256 }
     requires texts { All (λ f. length f.text ≤ 4194304) files.now }
-    ensures pieces { Gives names.new (λ ps. ps.items) result (pieces files.now) }
-
-    // And a reading of whole files that the relation on them has.
-    ensures reads { (read : Result (List Piece) TextFault) × HavePieces files.now read × Gives names.new (λ ps. ps.items) result read }
+    ensures pieces { (read : Result (List Piece) TextFault) × HavePieces files.now read × Gives names.new (λ ps. ps.items) result read }
     ensures known { IfErr result (CanShow (length names.new)) }
     ensures grows { Grows names.old names.new }
 {

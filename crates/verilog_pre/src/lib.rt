@@ -36,4 +36,6 @@ pub use laws::{
 pub use piece::Piece;
 
 #[cfg(test)]
+mod rows;
+#[cfg(test)]
 mod tests;

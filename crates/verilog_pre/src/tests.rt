@@ -2,6 +2,10 @@
 ghost use Rattle.std.specs.Prelude.{◌≤◌, length};
 
 use super::*;
+use crate::rows::{
+    BEHIND_A_FAULT, CONDITIONALS, FAILED_BRANCHES, FAILED_DIRECTIVES, FAILED_USES,
+    OPEN_CONDITIONALS, RUNS_AND_BODIES, SKIPPED,
+};
 use ls_text::{Names, NoMemory, Place, Refusal, SourceFile, TextBytes, fault_line, push_decimal};
 use std::alloc::Global;
 
@@ -23,9 +27,10 @@ fn read(alloc: Global, first: &[u8], second: &[u8]) -> Result<Vec<Piece>, Refusa
 }
 
 // Whether a text has these pieces.
-fn has_pieces(alloc: Global, text: &[u8], expected: &[&[u8]]) -> bool
-    requires { length text.now ≤ 4194304 }
-{
+fn has_pieces(alloc: Global, text: &[u8], expected: &[&[u8]]) -> bool {
+    if text.len() > 1000 {
+        return false;
+    }
     let Ok(pieces) = read(alloc, text, b"") else {
         return false;
     };
@@ -74,9 +79,10 @@ fn shows(alloc: Global, first: &[u8], second: &[u8], line: &[u8]) -> bool
 }
 
 // Whether a text is refused with 12, with this word at this place.
-fn is_bad(alloc: Global, text: &[u8], shown: &[u8]) -> bool
-    requires { length text.now ≤ 4194304 }
-{
+fn is_bad(alloc: Global, text: &[u8], shown: &[u8]) -> bool {
+    if text.len() > 1000 {
+        return false;
+    }
     match fault_of(alloc, text, b"") {
         Ok(line) => line
             .as_slice()
@@ -89,205 +95,49 @@ fn is_bad(alloc: Global, text: &[u8], shown: &[u8]) -> bool
 #[test]
 fn runs_and_bodies_are_pieces(rt: HostRuntime) {
     let alloc = rt.alloc();
-    assert!(rt; has_pieces(alloc, b"a/*b*/c // d\ne", &[b"a", b"c ", b"\ne"]));
-    assert!(rt; has_pieces(alloc, b"`define W 8 // bits\n`W", &[b"\n", b"8"]));
-    assert!(rt; has_pieces(alloc, b"`define P x /* y // */ z\n`P", &[b"\n", b"x", b"z"]));
-    assert!(rt; has_pieces(alloc, b"`define P x \\\n  y\n`P", &[b"\n", b"x", b"y"]));
-    assert!(rt;
-        has_pieces(
-            alloc,
-            b"`define A 1\n`define B `A + `A\n`define A 2\n`B;",
-            &[b"\n", b"\n", b"\n", b"2", b"+", b"2", b";"]
-        )
-    );
-    assert!(rt;
-        has_pieces(
-            alloc,
-            b"`timescale 1ns/1ps /*\n`celldefine a ` b",
-            &[b"\n", b" a ` b"]
-        )
-    );
-    assert!(rt; has_pieces(alloc, b"`define A x\r\n`A\r\n", &[b"\n", b"x", b"\r\n"]));
-    // A backslash goes on only right before the newline.
-    assert!(rt; has_pieces(alloc, b"`define A x \\\r\ny\n`A", &[b"\ny\n", b"x \\"]));
-    // A comment takes the backslash at its end with it; a reserved word may name a macro.
-    assert!(rt; has_pieces(alloc, b"`define A x // y \\\nz\n`A", &[b"\nz\n", b"x"]));
-    assert!(rt;
-        has_pieces(
-            alloc,
-            b"`define wire reg\n`wire a;",
-            &[b"\n", b"reg", b" a;"]
-        )
-    );
-    assert!(rt; has_pieces(alloc, b"`define A 8'\n`A h1", &[b"\n", b"8'", b" h1"]));
-    // What a word in a body names is known at the use alone; all of a long name counts.
-    assert!(rt;
-        has_pieces(
-            alloc,
-            b"`define B `A`AA\n`define A x\n`define AA y\n`B",
-            &[b"\n", b"\n", b"\n", b"x", b"y"]
-        )
-    );
+    for (text, pieces) in RUNS_AND_BODIES {
+        assert!(rt; has_pieces(alloc, text, pieces));
+    }
 }
 
 #[test]
 fn conditionals_choose(rt: HostRuntime) {
     let alloc = rt.alloc();
-    assert!(rt;
-        has_pieces(
-            alloc,
-            b"`define W 8\n`ifdef W\nmodule top(input clk); reg [`W-1:0] a = `W'h2a; endmodule\n`else\nbad\n`endif\n",
-            &[
-                b"\n",
-                b"\nmodule top(input clk); reg [",
-                b"8",
-                b"-1:0] a = ",
-                b"8",
-                b"'h2a; endmodule\n",
-                b"\n"
-            ]
-        )
-    );
-    assert!(rt;
-        has_pieces(
-            alloc,
-            b"`define W\n`ifdef W a`else b`endif c",
-            &[b"\n", b" a", b" c"]
-        )
-    );
-    assert!(rt; has_pieces(alloc, b"`ifndef W a`elsif W b`else c`endif", &[b" a"]));
+    for (text, pieces) in CONDITIONALS {
+        assert!(rt; has_pieces(alloc, text, pieces));
+    }
 }
 
 #[test]
 fn what_is_skipped_has_no_effect(rt: HostRuntime) {
     let alloc = rt.alloc();
-    assert!(rt;
-        has_pieces(
-            alloc,
-            b"`ifdef W `define X 1\n`x /* `endif */`endif`ifdef X y`endif",
-            &[]
-        )
-    );
-    assert!(rt;
-        has_pieces(
-            alloc,
-            b"`ifdef W `ifdef V a`else b`endif`else c`endif",
-            &[b" c"]
-        )
-    );
-    // An undef of what no macro is named has no effect.
-    assert!(rt; has_pieces(alloc, b"`undef A\nx", &[b"\nx"]));
-    assert!(rt;
-        has_pieces(
-            alloc,
-            b"`define V\n`undef V\n`ifdef V a`elsif W b`else c`endif",
-            &[b"\n", b"\n", b" c"]
-        )
-    );
+    for (text, pieces) in SKIPPED {
+        assert!(rt; has_pieces(alloc, text, pieces));
+    }
 }
 
 #[test]
 fn uses_that_fail_are_refused(rt: HostRuntime) {
     let alloc = rt.alloc();
-    assert!(rt; is_bad(alloc, b"`include \"b.v\"", b"1:1 include\n"));
-    assert!(rt; is_bad(alloc, b"`A\n`define A x", b"1:1 A\n"));
-    assert!(rt; is_bad(alloc, b"`define A x\n`undef A\n `A", b"3:2 A\n"));
-    assert!(rt; is_bad(alloc, b"`ifdef A `define B x\n`endif\n`B", b"3:1 B\n"));
-    assert!(rt; is_bad(alloc, b"`define A `none\n\t`A", b"2:2 none\n"));
-    assert!(rt; is_bad(alloc, b"`define A `ifdef\n`A", b"2:1 ifdef\n"));
-    assert!(rt;
-        is_bad(
-            alloc,
-            b"`define A `B\n`define B `C\n`define C `A\n `A",
-            b"4:2 A\n"
-        )
-    );
-    assert!(rt;
-        is_bad(
-            alloc,
-            b"`define A `B\n`define B `C\n`define C `B\n `A",
-            b"4:2 B\n"
-        )
-    );
-    assert!(rt; is_bad(alloc, b"a\r\n/* b", b"2:1 -\n"));
-    assert!(rt; is_bad(alloc, b"a /*/", b"1:3 -\n"));
-    assert!(rt; is_bad(alloc, b"`define A /* b\n`A", b"2:1 -\n"));
-    assert!(rt; is_bad(alloc, b"`define A `A\n`A", b"2:1 A\n"));
-    assert!(rt;
-        is_bad(
-            alloc,
-            b"`define A x\n`define B `A\n`undef A\n`B",
-            b"4:1 A\n"
-        )
-    );
-    // Columns count bytes; skipped text is read for comments too, and one that isn't closed leaves the conditional open.
-    assert!(rt; is_bad(alloc, b"/* \xc3\xa9 */ `x", b"1:10 x\n"));
-    assert!(rt; is_bad(alloc, b"`ifdef A\n/* x\n`endif", b"1:1 ifdef\n"));
+    for (text, shown) in FAILED_USES {
+        assert!(rt; is_bad(alloc, text, shown));
+    }
 }
 
 #[test]
 fn the_earlier_of_a_fault_and_an_open_conditional_is_refused(rt: HostRuntime) {
     let alloc = rt.alloc();
-    // The conditional that stays open was opened first, the outermost first of all.
-    assert!(rt; is_bad(alloc, b"`ifndef A\n`B\n", b"1:1 ifndef\n"));
-    assert!(rt;
-        is_bad(
-            alloc,
-            b"x `ifndef A\n`ifndef B\n`C\n`endif",
-            b"1:3 ifndef\n"
-        )
-    );
-    assert!(rt; is_bad(alloc, b"`ifdef A\n`elsif\n", b"1:1 ifdef\n"));
-    // What is opened behind the fault is closed first; comments don't close.
-    assert!(rt; is_bad(alloc, b"`ifndef A\n`B\n`ifdef C\n`endif", b"1:1 ifndef\n"));
-    assert!(rt;
-        is_bad(
-            alloc,
-            b"`ifndef A\n`B // `endif\n/* `endif */",
-            b"1:1 ifndef\n"
-        )
-    );
-    // Where the rest of the file closes it, the fault is the first.
-    assert!(rt; is_bad(alloc, b"`ifndef A\n`B\n`endif", b"2:1 B\n"));
-    assert!(rt;
-        is_bad(
-            alloc,
-            b"`ifndef A\n`ifndef B\n`C\n`endif `endif",
-            b"3:1 C\n"
-        )
-    );
-    assert!(rt;
-        is_bad(
-            alloc,
-            b"`ifndef A\n`B\n`ifdef C\n`else\n`endif\n`endif",
-            b"2:1 B\n"
-        )
-    );
+    for (text, shown) in OPEN_CONDITIONALS {
+        assert!(rt; is_bad(alloc, text, shown));
+    }
 }
 
 #[test]
 fn behind_a_fault_the_file_is_read_as_skipped_text(rt: HostRuntime) {
     let alloc = rt.alloc();
-    // Comments count in the body of a macro and on the line of a timescale too, and so do the five words.
-    assert!(rt;
-        is_bad(
-            alloc,
-            b"`ifndef A\n`B\n`define C /*\n`endif",
-            b"1:1 ifndef\n"
-        )
-    );
-    assert!(rt; is_bad(alloc, b"`ifndef A\n`B\n`define C `endif\n", b"2:1 B\n"));
-    assert!(rt;
-        is_bad(
-            alloc,
-            b"`ifndef A\n`B\n`timescale 1ns/1ps /*\n`endif",
-            b"1:1 ifndef\n"
-        )
-    );
-    // One that is opened behind the fault comes after it.
-    assert!(rt; is_bad(alloc, b"`B\n`ifdef A\n", b"1:1 B\n"));
-    assert!(rt; is_bad(alloc, b"`ifndef A\n`B\n`endif\n`ifdef C\n", b"2:1 B\n"));
-    // A conditional of the next file doesn't count.
+    for (text, shown) in BEHIND_A_FAULT {
+        assert!(rt; is_bad(alloc, text, shown));
+    }
     assert!(rt;
         shows(
             alloc,
@@ -301,36 +151,17 @@ fn behind_a_fault_the_file_is_read_as_skipped_text(rt: HostRuntime) {
 #[test]
 fn directives_that_fail_are_refused(rt: HostRuntime) {
     let alloc = rt.alloc();
-    assert!(rt; is_bad(alloc, b"a `define A(x) x", b"1:3 define\n"));
-    assert!(rt; is_bad(alloc, b"`define\nA", b"1:1 define\n"));
-    assert!(rt; is_bad(alloc, b"`define /* */ A", b"1:1 define\n"));
-    assert!(rt; is_bad(alloc, b"`undef 1", b"1:1 undef\n"));
-    assert!(rt; is_bad(alloc, b"`ifndef // A\n`endif", b"1:1 ifndef\n"));
-    assert!(rt; is_bad(alloc, b"`ifdef A\n`ifdef\n`endif\n`endif", b"2:1 ifdef\n"));
-    assert!(rt; is_bad(alloc, b"`ifdef A\n`elsif\n`endif", b"2:1 elsif\n"));
-    assert!(rt; is_bad(alloc, b"`define 1 x", b"1:1 define\n"));
-    assert!(rt; is_bad(alloc, b"`define else x", b"1:1 define\n"));
-    assert!(rt; is_bad(alloc, b"`define timescale x", b"1:1 define\n"));
+    for (text, shown) in FAILED_DIRECTIVES {
+        assert!(rt; is_bad(alloc, text, shown));
+    }
 }
 
 #[test]
 fn branches_that_fail_are_refused(rt: HostRuntime) {
     let alloc = rt.alloc();
-    assert!(rt; is_bad(alloc, b"`elsif A", b"1:1 elsif\n"));
-    assert!(rt; is_bad(alloc, b"`else", b"1:1 else\n"));
-    assert!(rt; is_bad(alloc, b"`endif", b"1:1 endif\n"));
-    assert!(rt; is_bad(alloc, b"`ifdef A\n`endif\n`else", b"3:1 else\n"));
-    assert!(rt; is_bad(alloc, b"`ifdef A\n`else\n`else\n`endif", b"3:1 else\n"));
-    assert!(rt; is_bad(alloc, b"`ifdef A\n`else\n `elsif A\n`endif", b"3:2 elsif\n"));
-    assert!(rt;
-        is_bad(
-            alloc,
-            b"`ifdef A\n`ifdef B\n`else\n`else\n`endif\n`endif",
-            b"4:1 else\n"
-        )
-    );
-    assert!(rt; is_bad(alloc, b" `ifdef A\n`ifdef B\n", b"1:2 ifdef\n"));
-    assert!(rt; is_bad(alloc, b"`ifdef A\n`endif\n `ifndef B\n", b"3:2 ifndef\n"));
+    for (text, shown) in FAILED_BRANCHES {
+        assert!(rt; is_bad(alloc, text, shown));
+    }
     assert!(rt;
         shows(
             alloc,
