@@ -18,7 +18,9 @@ use crate::number_part::Based;
 use crate::read::next_lexeme;
 use crate::shape::Shape;
 use crate::{Kind, Literal, Token};
-use ls_text::{Names, NoMemory, Place, Refusal, SourceFile, file_start, place_after, text_fault, text_of};
+use ls_text::{
+    Names, NoMemory, Place, Refusal, SourceFile, file_start, place_after, text_fault, text_of,
+};
 use std::alloc::Global;
 use verilog_pre::Piece;
 

@@ -192,3 +192,76 @@ pub const FAULTS: &[(&[u8], &[u8])] = &[
     (b"\"\n`B", b"refused 12 BadDirective a.v:2:1 B\n"),
     (b"module // \" \\ $\n;", b""),
 ];
+
+/// A text that is one number: its size in bits, its sign, its value, and the bits that wildcard digits cover.
+pub type NumberRow = (&'static [u8], u8, bool, u128, u128);
+
+/// Numbers, and their literals.
+pub const NUMBERS: &[NumberRow] = &[
+    (b"4 'hF", 4, false, 15, 0),
+    (b"1_000", 0, true, 1000, 0),
+    (b"'d7", 0, false, 7, 0),
+    (b"8'Sh f_0", 8, true, 240, 0),
+    (b"4'hab", 4, false, 11, 0),
+    (b"6 (* a *) 'o\t17", 6, false, 15, 0),
+    (b"4'b1?0z", 4, false, 8, 5),
+    (b"8'bz1", 8, false, 1, 254),
+    (b"8'o7?", 8, false, 56, 7),
+    (b"8'hz", 8, false, 0, 255),
+    (b"3'b1111", 3, false, 7, 0),
+    (b"16\n'sd \r\n 9_9", 16, true, 99, 0),
+    (b"4294967295", 0, true, 4_294_967_295, 0),
+    (b"'hffff_ffff", 0, false, 4_294_967_295, 0),
+    (
+        b"128'hffffffffffffffffffffffffffffffff",
+        128,
+        false,
+        u128::MAX,
+        0,
+    ),
+    (
+        b"128'd340282366920938463463374607431768211455",
+        128,
+        false,
+        u128::MAX,
+        0,
+    ),
+    // The first of 33 hexadecimal digits stands for the bits 128 to 131, which no literal has; the second for 124 to 127.
+    (
+        b"128'h??0000000000000000000000000000001",
+        128,
+        false,
+        1,
+        0xf000_0000_0000_0000_0000_0000_0000_0000,
+    ),
+    (b"8'h?0000000000000000000000000000000?", 8, false, 0, 15),
+];
+
+/// Texts that are refused: with which code, and at which line and column.
+pub const REFUSED: &[(&[u8], u8, u32, u32)] = &[
+    (b"module top(input clk); reg a = 1'bx;", 14, 1, 32),
+    (b"x\n 8'd1f", 14, 2, 2),
+    (b"0 'h1", 14, 1, 1),
+    (b"129'h1", 14, 1, 1),
+    (b"8'h100000000000000000000000000000000", 14, 1, 1),
+    (b"4294967296", 14, 1, 1),
+    (b"'h100000000", 14, 1, 1),
+    (b"8'dz", 14, 1, 1),
+    (b"8'sb1?", 14, 1, 1),
+    (b"4'b1?a:b", 14, 1, 1),
+    (b"4'b2", 14, 1, 1),
+    (b"4'o18", 14, 1, 1),
+    (b"4'hX", 14, 1, 1),
+    (b"'b?", 14, 1, 1),
+    (b"00'd0", 14, 1, 1),
+    (b"340282366920938463463374607431768211457'd1", 14, 1, 1),
+    (b"8'd340282366920938463463374607431768211456", 14, 1, 1),
+    (b"128'h?100000000000000000000000000000000", 14, 1, 1),
+    (b"module top(input clk); wire \"s\";", 13, 1, 29),
+    (b"8'h", 13, 1, 2),
+    (b"8'_1", 13, 1, 2),
+    (b"a \\b", 13, 1, 3),
+    (b"$x", 13, 1, 1),
+    (b"`x", 13, 1, 1),
+    (b"a (* b ) ", 13, 1, 3),
+];
