@@ -1,7 +1,6 @@
-// Whole scripts, and what no clause says: that they are answered, and how the lines look.
+// What no script can reach: reads and writes that fail, scripts that are cut, and limits.
 use crate::live::live_run;
 use crate::outcome::Outcome;
-use crate::rows::{MODULES, REFUSED, SCRIPTS, TEXTS};
 use ls_port::{MemSink, MemSource};
 use ls_text::NoMemory;
 use std::alloc::Global;
@@ -36,69 +35,6 @@ fn joined(alloc: Global, parts: &[&[u8]]) -> Result<Vec<u8>, NoMemory> {
         whole.extend_from_slice(part)?;
     }
     Ok(whole)
-}
-
-#[test]
-fn scripts_are_answered(rt: HostRuntime) -> Result<(), Fail> {
-    let alloc = rt.alloc();
-    for (script, want, status) in SCRIPTS {
-        let bytes = Vec::from_slice(alloc, script)?;
-        let (outcome, written) = lived(&rt, alloc, bytes, Vec::new(alloc), Vec::new(alloc))?;
-        assert_eq!(rt; outcome.status, *status);
-        assert_eq!(rt; outcome.taken, script.len() as u64);
-        assert!(rt; written.as_slice() == *want);
-    }
-    Ok(())
-}
-
-#[test]
-fn modules_are_simulated(rt: HostRuntime) -> Result<(), Fail> {
-    let alloc = rt.alloc();
-    for (text, value) in MODULES {
-        let script = joined(alloc, &[HEAD, text, TAIL, b"run 1\nshow\n"])?;
-        let want = joined(
-            alloc,
-            &[
-                OK_EDIT,
-                b"ok run cycle=1\nshow cycle=1 settled v=1\ntop.a ",
-                value,
-                b"\n",
-            ],
-        )?;
-        let (outcome, written) = lived(&rt, alloc, script, Vec::new(alloc), Vec::new(alloc))?;
-        assert_eq!(rt; outcome.status, 0);
-        assert!(rt; written.as_slice() == want.as_slice());
-    }
-    Ok(())
-}
-
-#[test]
-fn texts_are_refused(rt: HostRuntime) -> Result<(), Fail> {
-    let alloc = rt.alloc();
-    for (text, want) in REFUSED {
-        let script = joined(alloc, &[HEAD, text, TAIL, b"run 5\nshow\n"])?;
-        let (outcome, written) = lived(&rt, alloc, script, Vec::new(alloc), Vec::new(alloc))?;
-        assert_eq!(rt; outcome.status, 1);
-        assert!(rt; written.starts_with(want));
-        assert!(rt;
-            written.ends_with(b" -\nrefused 62 NoDesign @12 -\n")
-                || written.ends_with(b" -\nrefused 62 NoDesign @13 -\n")
-        );
-    }
-    Ok(())
-}
-
-// Whole texts, with macros, comments and faults, and the lines that answer the block and a `show`.
-#[test]
-fn texts_are_preprocessed(rt: HostRuntime) -> Result<(), Fail> {
-    let alloc = rt.alloc();
-    for (text, want) in TEXTS {
-        let block: &[u8] = b"edit\ntop top\nclock clk\nfile a.v\n";
-        let script = joined(alloc, &[block, text, b"\n.\nend\nshow\n"])?;
-        let (_, written) = lived(&rt, alloc, script, Vec::new(alloc), Vec::new(alloc))?;
-        assert!(rt; written.as_slice() == *want);
-    }
-    Ok(())
 }
 
 // The first bracket stands in column 43. The 258th has 257 open before it.
