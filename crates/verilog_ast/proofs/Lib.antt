@@ -1,2 +1,5 @@
 pub mod Named
+pub mod RenamedItemViews
+pub mod RenamedStatementViews
+pub mod RenamedViews
 pub mod Within

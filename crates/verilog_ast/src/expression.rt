@@ -1,6 +1,7 @@
 // Expressions, and the names with their selects that stand in them.
 ghost use Rattle.std.specs.Prelude.{◌≡◌};
-ghost use Rattle.verilog_ast.specs.Places.{place_of_expression, place_of_reference};
+ghost use Rattle.verilog_ast.specs.Places.{expression_place};
+ghost use Rattle.verilog_ast.specs.Views.{expression_of, reference_of};
 
 use crate::binary_operator::BinaryOperator;
 use crate::identifier::Identifier;
@@ -45,7 +46,7 @@ pub enum Reference {
 impl Expr {
     /// The place of its first token.
     pub fn place(&self) -> Place
-        ensures { result ≡ place_of_expression self.now }
+        ensures { result ≡ expression_place (expression_of self.now) }
     {
         match self {
             Expr::Number(at, _)
@@ -63,7 +64,7 @@ impl Expr {
 impl Reference {
     /// The place of its name.
     pub fn place(&self) -> Place
-        ensures { result ≡ place_of_reference self.now }
+        ensures { result ≡ expression_place (reference_of self.now) }
     {
         match self {
             Reference::Whole(name)

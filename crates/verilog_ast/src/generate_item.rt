@@ -1,6 +1,7 @@
 // Items of generate blocks.
-ghost use Rattle.std.specs.Prelude.{◌≡◌};
-ghost use Rattle.verilog_ast.specs.Places.{place_of_branches, place_of_generate_item};
+ghost use Rattle.std.specs.Prelude.{◌≡◌, map};
+ghost use Rattle.verilog_ast.specs.Places.{item_place};
+ghost use Rattle.verilog_ast.specs.Views.{branch_of, generate_item_of, items_of};
 
 use crate::expression::Expr;
 use crate::generate_loop::Loop;
@@ -32,7 +33,7 @@ pub struct Branch {
 
 // The place of the first branch.
 fn first_place(branches: &[Branch]) -> Place
-    ensures { result ≡ place_of_branches branches.now }
+    ensures { result ≡ item_place (items_of (map branch_of branches.now)) }
 {
     match branches.split_first() {
         Some((first, _)) => first.at,
@@ -47,7 +48,7 @@ fn first_place(branches: &[Branch]) -> Place
 impl GenerateItem {
     /// The place of its first token.
     pub fn place(&self) -> Place
-        ensures { result ≡ place_of_generate_item self.now }
+        ensures { result ≡ item_place (generate_item_of self.now) }
     {
         match self {
             GenerateItem::Plain(item) => item.place(),

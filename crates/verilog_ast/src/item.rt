@@ -1,6 +1,7 @@
 // Items of modules.
 ghost use Rattle.std.specs.Prelude.{◌≡◌};
-ghost use Rattle.verilog_ast.specs.Places.{place_of_item};
+ghost use Rattle.verilog_ast.specs.Places.{item_place};
+ghost use Rattle.verilog_ast.specs.Views.{item_of};
 
 use crate::generate_item::GenerateItem;
 use crate::identifier::Identifier;
@@ -25,7 +26,7 @@ pub enum Item {
 impl Item {
     /// The place of its first token.
     pub fn place(&self) -> Place
-        ensures { result ≡ place_of_item self.now }
+        ensures { result ≡ item_place (item_of self.now) }
     {
         match self {
             Item::Input(at, _, _, _)

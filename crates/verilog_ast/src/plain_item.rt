@@ -1,6 +1,7 @@
 // Items without a generate construct.
 ghost use Rattle.std.specs.Prelude.{◌≡◌};
-ghost use Rattle.verilog_ast.specs.Places.{place_of_plain_item};
+ghost use Rattle.verilog_ast.specs.Places.{item_place};
+ghost use Rattle.verilog_ast.specs.Views.{plain_item_of};
 
 use crate::connections::Connections;
 use crate::continuous::Continuous;
@@ -31,7 +32,7 @@ pub enum PlainItem {
 impl PlainItem {
     /// The place of its first token.
     pub fn place(&self) -> Place
-        ensures { result ≡ place_of_plain_item self.now }
+        ensures { result ≡ item_place (plain_item_of self.now) }
     {
         match self {
             PlainItem::Wire(at, _, _)

@@ -1,6 +1,7 @@
 // Statements of an `always` block.
 ghost use Rattle.std.specs.Prelude.{◌≡◌};
-ghost use Rattle.verilog_ast.specs.Places.{place_of_statement};
+ghost use Rattle.verilog_ast.specs.Places.{statement_place};
+ghost use Rattle.verilog_ast.specs.Views.{statement_of};
 
 use crate::case_kind::CaseKind;
 use crate::expression::Expr;
@@ -35,7 +36,7 @@ pub enum Arm {
 impl Stmt {
     /// The place of its first token.
     pub fn place(&self) -> Place
-        ensures { result ≡ place_of_statement self.now }
+        ensures { result ≡ statement_place (statement_of self.now) }
     {
         match self {
             Stmt::Block(at, _, _)

@@ -1,6 +1,7 @@
 // What an assignment writes.
 ghost use Rattle.std.specs.Prelude.{◌≡◌};
-ghost use Rattle.verilog_ast.specs.Places.{place_of_target};
+ghost use Rattle.verilog_ast.specs.Places.{target_place};
+ghost use Rattle.verilog_ast.specs.Views.{target_of};
 
 use crate::expression::Reference;
 use ls_text::Place;
@@ -17,7 +18,7 @@ pub enum Lhs {
 impl Lhs {
     /// The place of its first token.
     pub fn place(&self) -> Place
-        ensures { result ≡ place_of_target self.now }
+        ensures { result ≡ target_place (target_of self.now) }
     {
         match self {
             Lhs::Reference(reference) => reference.place(),
