@@ -168,11 +168,11 @@ branch_layer : (f : NameId → NameId) (x : Branch)
 branch_layer f x h =
     ap branch_of (fold_out-Branch GenerateItem Branch (generate_item_step f) (branch_step f) x)
     ∙ fold_out-Branch ModuleItem ModuleItem generate_item_view branch_view (record {
-        at = x.at;
-        condition = option_map (renamed_expression f) x.condition;
-        label = renamed_identifier f x.label;
-        items = map (renamed_generate_item f) x.items;
-      })
+      at = x.at;
+      condition = option_map (renamed_expression f) x.condition;
+      label = renamed_identifier f x.label;
+      items = map (renamed_generate_item f) x.items;
+    })
     ∙ ap₂ (λ (c : Option Expression) (ys : ModuleItem). i.Branch x.at c (renamed_identifier f x.label) ys) (same_value f x.condition) h
     ∙ ap (item_as f) (sym (fold_out-Branch ModuleItem ModuleItem generate_item_view branch_view x))
 
