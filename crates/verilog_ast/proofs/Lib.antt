@@ -2,4 +2,5 @@ pub mod Named
 pub mod RenamedItemViews
 pub mod RenamedStatementViews
 pub mod RenamedViews
+pub mod Seen
 pub mod Within

@@ -6,6 +6,7 @@ use Rattle.verilog_ast.specs.declared.identifier.Identifier.{Identifier}
 use Rattle.verilog_ast.specs.declared.range.Range.{Range}
 use Rattle.verilog_ast.specs.declared.shape.Shape.{Shape}
 use Rattle.verilog_ast.specs.declared.variable.Variable.{Variable}
+use Rattle.verilog_ast.specs.declared.reg_variable.RegVariable.{RegVariable}
 use Rattle.verilog_ast.specs.declared.parameter.Parameter.{Parameter}
 use Rattle.verilog_ast.specs.declared.header_parameter.HeaderParameter.{HeaderParameter}
 use Rattle.verilog_ast.specs.declared.header_port.HeaderPort.{HeaderPort}
@@ -35,7 +36,7 @@ use Rattle.verilog_ast.specs.Declarations as d
 use Rattle.verilog_ast.specs.Declarations.{RangeBounds, Kind, Declared, DeclaredReg, ParameterAssignment, HeaderParameterDeclaration, PortDeclaration, PortList}
 use Rattle.verilog_ast.specs.Items as i
 use Rattle.verilog_ast.specs.Items.{ConnectionByName, ConnectionByOrder, ConnectionList, ModuleInstance, ContinuousAssignment, LoopHead, ModuleItem, ModuleDeclaration}
-use Rattle.verilog_ast.specs.Renamed.{renamed_identifier, renamed_expression, renamed_range, renamed_shape, renamed_variable, renamed_parameter, renamed_header_parameter, renamed_header_port, renamed_ports, renamed_named, renamed_ordered, renamed_connections, renamed_instance, renamed_continuous, renamed_plain_item, renamed_loop, generate_item_step, branch_step, renamed_generate_item, renamed_branch, renamed_item, renamed_body}
+use Rattle.verilog_ast.specs.Renamed.{renamed_identifier, renamed_expression, renamed_range, renamed_shape, renamed_variable, renamed_reg_variable, renamed_parameter, renamed_header_parameter, renamed_header_port, renamed_ports, renamed_named, renamed_ordered, renamed_connections, renamed_instance, renamed_continuous, renamed_plain_item, renamed_loop, generate_item_step, branch_step, renamed_generate_item, renamed_branch, renamed_item, renamed_body}
 use Rattle.verilog_ast.specs.Views.{expression_of, range_of, kind_of, declared_of, declared_reg_of, parameter_of, header_parameter_of, port_of, ports_of, by_name_of, by_order_of, connections_of, instance_of, assignment_of, plain_item_of, head_of, items_of, generate_item_view, branch_view, generate_item_of, branch_of, item_of, declaration_of}
 use Rattle.verilog_ast.specs.Renaming.{expression_as, range_as, kind_as, declared_as, declared_reg_as, parameter_as, header_parameter_as, port_as, ports_as, by_name_as, by_order_as, connections_as, instance_as, assignment_as, head_as, item_as, declaration_as}
 use Rattle.verilog_ast.proofs.RenamedViews.{same_expression, same_target, same_all, same_option, three}
@@ -55,7 +56,7 @@ same_value f x = same_option expression_of (renamed_expression f) (expression_as
 same_declared : (f : NameId → NameId) (x : Variable) → declared_of (renamed_variable f x) ≡ declared_as f (declared_of x)
 same_declared f x = ap (λ (y : Option Expression). record { name = renamed_identifier f x.name; value = y }) (same_value f x.value)
 
-same_declared_reg : (f : NameId → NameId) (x : Variable) → declared_reg_of (renamed_variable f x) ≡ declared_reg_as f (declared_reg_of x)
+same_declared_reg : (f : NameId → NameId) (x : RegVariable) → declared_reg_of (renamed_reg_variable f x) ≡ declared_reg_as f (declared_reg_of x)
 same_declared_reg f x =
     ap₂ (λ (y : Option Expression) (z : Option RangeBounds). record { name = renamed_identifier f x.name; value = y; addresses = z })
     (same_value f x.value) (same_option range_of (renamed_range f) (range_as f) (same_range f) x.addresses)
@@ -98,7 +99,7 @@ same_assignment f x = ap₂ (λ (y : Target) (z : Expression). record { target =
 
 same_plain_item : (f : NameId → NameId) (x : PlainItem) → plain_item_of (renamed_plain_item f x) ≡ item_as f (plain_item_of x)
 same_plain_item f (plain.Wire at x ys) = ap₂ (i.Wires at) (same_kind f x) (same_all declared_of (renamed_variable f) (declared_as f) (same_declared f) ys)
-same_plain_item f (plain.Reg at x ys) = ap₂ (i.Regs at) (same_kind f x) (same_all declared_reg_of (renamed_variable f) (declared_reg_as f) (same_declared_reg f) ys)
+same_plain_item f (plain.Reg at x ys) = ap₂ (i.Regs at) (same_kind f x) (same_all declared_reg_of (renamed_reg_variable f) (declared_reg_as f) (same_declared_reg f) ys)
 same_plain_item f (plain.LocalParameter at x ys) =
     ap₂ (i.LocalParameters at) (same_kind f x) (same_all parameter_of (renamed_parameter f) (parameter_as f) (same_parameter f) ys)
 same_plain_item f (plain.Genvar at xs) = refl

@@ -3,6 +3,7 @@ use Rattle.std.specs.Prelude.{List, [], ◌∷◌}
 use Rattle.ls_text.specs.declared.place.Place.{Place}
 use Rattle.verilog_ast.specs.Expressions.{Expression, Literal, Whole, BitSelect, PartSelect, UpwardSelect, DownwardSelect, Unary, Binary, Conditional, Concatenation, Replication, Bracketed, NoPart, Parts, Target, Reference, Joined, NoTarget, Targets}
 use Rattle.verilog_ast.specs.Statements.{CaseLabel, DontCare, Compared, Statement, Block, If, IfElse, Case, Assignment, Null, Default, Match, NoStatement, Statements}
+use Rattle.verilog_ast.specs.Declarations.{PortDeclaration, InputPort, OutputPort, NextPort}
 use Rattle.verilog_ast.specs.Items as i
 use Rattle.verilog_ast.specs.Items.{ModuleItem}
 
@@ -53,6 +54,12 @@ statement_place (Default at x) = at
 statement_place (Match ls x) = labels_place ls
 statement_place NoStatement = no_place
 statement_place (Statements x xs) = statement_place x
+
+-- of a further name: that of the name
+abbrev pub port_place : PortDeclaration → Place
+port_place (InputPort at net x n) = at
+port_place (OutputPort at net x y) = at
+port_place (NextPort x) = x.name.at
 
 -- of instances: that of the module's name
 abbrev pub item_place : ModuleItem → Place

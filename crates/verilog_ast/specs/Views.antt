@@ -17,6 +17,7 @@ use Rattle.verilog_ast.specs.declared.statement.Arm.TheFolds.{fold-Stmt, fold-Ar
 use Rattle.verilog_ast.specs.declared.range.Range.{Range}
 use Rattle.verilog_ast.specs.declared.shape.Shape.{Shape}
 use Rattle.verilog_ast.specs.declared.variable.Variable.{Variable}
+use Rattle.verilog_ast.specs.declared.reg_variable.RegVariable.{RegVariable}
 use Rattle.verilog_ast.specs.declared.parameter.Parameter.{Parameter}
 use Rattle.verilog_ast.specs.declared.header_parameter.HeaderParameter.{HeaderParameter}
 use Rattle.verilog_ast.specs.declared.header_port.HeaderPort.{HeaderPort}
@@ -132,7 +133,7 @@ kind_of x = record { signed = x.signed; range = option_map range_of x.range }
 abbrev pub declared_of : Variable → Declared
 declared_of x = record { name = x.name; value = option_map expression_of x.value }
 
-abbrev pub declared_reg_of : Variable → DeclaredReg
+abbrev pub declared_reg_of : RegVariable → DeclaredReg
 declared_reg_of x = record { name = x.name; value = option_map expression_of x.value; addresses = option_map range_of x.addresses }
 
 abbrev pub parameter_of : Parameter → ParameterAssignment

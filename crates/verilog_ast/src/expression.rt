@@ -5,10 +5,10 @@ ghost use Rattle.verilog_ast.specs.Views.{expression_of, reference_of};
 
 use crate::binary_operator::BinaryOperator;
 use crate::identifier::Identifier;
+use crate::nodes::{Child, Children};
 use crate::number::Number;
 use crate::unary_operator::UnaryOperator;
 use ls_text::Place;
-use sqlite_items::{Boxed, Items};
 
 /// An expression. Brackets have a node of their own, so that the first token of each expression has its place.
 #[cycle(expression)]
@@ -16,16 +16,16 @@ use sqlite_items::{Boxed, Items};
 pub enum Expr {
     Number(Place, Number),
     Read(Reference),
-    Unary(Place, UnaryOperator, Boxed<Expr>),
-    Binary(BinaryOperator, Boxed<Expr>, Boxed<Expr>),
+    Unary(Place, UnaryOperator, Child<Expr>),
+    Binary(BinaryOperator, Child<Expr>, Child<Expr>),
     /// `c ? a : b`
-    Conditional(Boxed<Expr>, Boxed<Expr>, Boxed<Expr>),
+    Conditional(Child<Expr>, Child<Expr>, Child<Expr>),
     /// `{a, b}`, at its brace
-    Concatenation(Place, Items<Expr>),
+    Concatenation(Place, Children<Expr>),
     /// `{n{a, b}}`, at its first brace
-    Replication(Place, Boxed<Expr>, Items<Expr>),
+    Replication(Place, Child<Expr>, Children<Expr>),
     /// `(a)`, at its bracket
-    Bracketed(Place, Boxed<Expr>),
+    Bracketed(Place, Child<Expr>),
 }
 
 /// A name, with a select or without.
@@ -34,13 +34,13 @@ pub enum Expr {
 pub enum Reference {
     Whole(Identifier),
     /// `x[i]`
-    Bit(Identifier, Boxed<Expr>),
+    Bit(Identifier, Child<Expr>),
     /// `x[high:low]`
-    Part(Identifier, Boxed<Expr>, Boxed<Expr>),
+    Part(Identifier, Child<Expr>, Child<Expr>),
     /// `x[base +: width]`
-    Upward(Identifier, Boxed<Expr>, Boxed<Expr>),
+    Upward(Identifier, Child<Expr>, Child<Expr>),
     /// `x[base -: width]`
-    Downward(Identifier, Boxed<Expr>, Boxed<Expr>),
+    Downward(Identifier, Child<Expr>, Child<Expr>),
 }
 
 impl Expr {

@@ -6,9 +6,9 @@ ghost use Rattle.verilog_ast.specs.Views.{branch_of, generate_item_of, items_of}
 use crate::expression::Expr;
 use crate::generate_loop::Loop;
 use crate::identifier::Identifier;
+use crate::nodes::{Child, Children};
 use crate::plain_item::PlainItem;
 use ls_text::Place;
-use sqlite_items::{Boxed, Items};
 
 /// An item that may stand in a generate block.
 #[cycle(generate)]
@@ -16,9 +16,9 @@ use sqlite_items::{Boxed, Items};
 pub enum GenerateItem {
     Plain(PlainItem),
     /// `for (..) begin : label .. end`, at its `for`
-    For(Place, Loop, Identifier, Items<GenerateItem>),
+    For(Place, Loop, Identifier, Children<GenerateItem>),
     /// The branches in their order: each but a last `else` has a condition.
-    If(Items<Branch>),
+    If(Children<Branch>),
 }
 
 /// `if (condition) begin : label .. end`, at its `if`, or the block of an `else` without a condition, at its `begin`
@@ -26,9 +26,9 @@ pub enum GenerateItem {
 #[derive(Drop)]
 pub struct Branch {
     pub at: Place,
-    pub condition: Option<Boxed<Expr>>,
+    pub condition: Option<Child<Expr>>,
     pub label: Identifier,
-    pub items: Items<GenerateItem>,
+    pub items: Children<GenerateItem>,
 }
 
 // The place of the first branch.

@@ -7,26 +7,27 @@ use crate::connections::Connections;
 use crate::continuous::Continuous;
 use crate::identifier::Identifier;
 use crate::instance::Instance;
+use crate::nodes::{Child, Children};
 use crate::parameter::Parameter;
+use crate::reg_variable::RegVariable;
 use crate::shape::Shape;
 use crate::statement::Stmt;
 use crate::variable::Variable;
 use ls_text::Place;
-use sqlite_items::{Boxed, Items};
 
 /// An item without a generate construct, at its first token.
 #[derive(Drop)]
 pub enum PlainItem {
-    Wire(Place, Shape, Items<Variable>),
-    Reg(Place, Shape, Items<Variable>),
-    LocalParameter(Place, Shape, Items<Parameter>),
-    Genvar(Place, Items<Identifier>),
-    Assign(Place, Items<Continuous>),
+    Wire(Place, Shape, Children<Variable>),
+    Reg(Place, Shape, Children<RegVariable>),
+    LocalParameter(Place, Shape, Children<Parameter>),
+    Genvar(Place, Children<Identifier>),
+    Assign(Place, Children<Continuous>),
     /// `always @*` or `always @(*)`
-    Combinational(Place, Boxed<Stmt>),
+    Combinational(Place, Child<Stmt>),
     /// `always @(posedge clock)`
-    Clocked(Place, Identifier, Boxed<Stmt>),
-    Instances(Identifier, Option<Connections>, Items<Instance>),
+    Clocked(Place, Identifier, Child<Stmt>),
+    Instances(Identifier, Option<Connections>, Children<Instance>),
 }
 
 impl PlainItem {

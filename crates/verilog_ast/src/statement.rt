@@ -7,20 +7,20 @@ use crate::case_kind::CaseKind;
 use crate::expression::Expr;
 use crate::identifier::Identifier;
 use crate::label::Label;
+use crate::nodes::{Child, Children};
 use crate::target::Lhs;
 use ls_text::Place;
-use sqlite_items::{Boxed, Items};
 
 /// A statement, at its first token.
 #[cycle(statement)]
 #[derive(Drop)]
 pub enum Stmt {
     /// `begin .. end`, with its label
-    Block(Place, Option<Identifier>, Items<Stmt>),
-    If(Place, Boxed<Expr>, Boxed<Stmt>),
-    IfElse(Place, Boxed<Expr>, Boxed<Stmt>, Boxed<Stmt>),
-    Case(Place, CaseKind, Boxed<Expr>, Items<Arm>),
-    Assign(Lhs, Boxed<Expr>),
+    Block(Place, Option<Identifier>, Children<Stmt>),
+    If(Place, Child<Expr>, Child<Stmt>),
+    IfElse(Place, Child<Expr>, Child<Stmt>, Child<Stmt>),
+    Case(Place, CaseKind, Child<Expr>, Children<Arm>),
+    Assign(Lhs, Child<Expr>),
     /// `;`
     Empty(Place),
 }
@@ -29,8 +29,8 @@ pub enum Stmt {
 #[cycle(statement)]
 #[derive(Drop)]
 pub enum Arm {
-    Default(Place, Boxed<Stmt>),
-    Match(Items<Label>, Boxed<Stmt>),
+    Default(Place, Child<Stmt>),
+    Match(Children<Label>, Child<Stmt>),
 }
 
 impl Stmt {

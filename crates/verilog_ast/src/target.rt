@@ -4,15 +4,15 @@ ghost use Rattle.verilog_ast.specs.Places.{target_place};
 ghost use Rattle.verilog_ast.specs.Views.{target_of};
 
 use crate::expression::Reference;
+use crate::nodes::Children;
 use ls_text::Place;
-use sqlite_items::Items;
 
 /// The left side of an assignment.
 #[derive(Drop)]
 pub enum Lhs {
     Reference(Reference),
     /// `{a, b}`, at its brace
-    Concatenation(Place, Items<Lhs>),
+    Concatenation(Place, Children<Lhs>),
 }
 
 impl Lhs {
