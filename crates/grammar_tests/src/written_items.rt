@@ -1,10 +1,10 @@
 // Trees of modules and their items as text: nested brackets with a node's name first, and no places.
 use crate::written::{close, expression, name, open, statement, target, word};
 use ls_text::NoMemory;
-use sqlite_items::{Boxed, Items};
 use verilog_ast::{
-    Branch, Connections, Expr, GenerateItem, HeaderParameter, HeaderPort, Identifier, Instance,
-    Item, ModuleBody, Parameter, PlainItem, PortNet, Ports, Shape, Variable,
+    Branch, Child, Children, Connections, Expr, GenerateItem, HeaderParameter, HeaderPort,
+    Identifier, Instance, Item, ModuleBody, Parameter, PlainItem, PortNet, Ports, RegVariable,
+    Shape, Variable,
 };
 
 // `signed` and `(range high low)`, where they are written.
@@ -37,21 +37,48 @@ fn names(out: &mut Vec<u8>, texts: &[Vec<u8>], all: &[Identifier]) -> Result<(),
 }
 
 // A name, or `(= name value)`.
-fn variable(out: &mut Vec<u8>, texts: &[Vec<u8>], v: &Variable) -> Result<(), NoMemory> {
-    match &v.value {
+fn declared(
+    out: &mut Vec<u8>,
+    texts: &[Vec<u8>],
+    id: Identifier,
+    value: &Option<Child<Expr>>,
+) -> Result<(), NoMemory> {
+    match value {
         Some(x) => {
             open(out, b"=")?;
-            name(out, texts, v.name.name)?;
+            name(out, texts, id.name)?;
             expression(out, texts, x.get())?;
             close(out)
         }
-        None => name(out, texts, v.name.name),
+        None => name(out, texts, id.name),
     }
+}
+
+fn variable(out: &mut Vec<u8>, texts: &[Vec<u8>], v: &Variable) -> Result<(), NoMemory> {
+    declared(out, texts, v.name, &v.value)
 }
 
 fn variables(out: &mut Vec<u8>, texts: &[Vec<u8>], all: &[Variable]) -> Result<(), NoMemory> {
     for v in all {
         variable(out, texts, v)?;
+    }
+    Ok(())
+}
+
+// Each name, and `(addresses high low)` behind it where it has them.
+fn reg_variables(
+    out: &mut Vec<u8>,
+    texts: &[Vec<u8>],
+    all: &[RegVariable],
+) -> Result<(), NoMemory> {
+    for v in all {
+        declared(out, texts, v.name, &v.value)?;
+        if let Some(range) = &v.addresses {
+            open(out, b"addresses")?;
+            expression(out, texts, range.high.get())?;
+            expression(out, texts, range.low.get())?;
+            close(out)?;
+        }
     }
     Ok(())
 }
@@ -71,7 +98,7 @@ fn parameters(out: &mut Vec<u8>, texts: &[Vec<u8>], all: &[Parameter]) -> Result
 }
 
 // `-` where there is no expression.
-fn optional(out: &mut Vec<u8>, texts: &[Vec<u8>], x: &Option<Boxed<Expr>>) -> Result<(), NoMemory> {
+fn optional(out: &mut Vec<u8>, texts: &[Vec<u8>], x: &Option<Child<Expr>>) -> Result<(), NoMemory> {
     match x {
         Some(x) => expression(out, texts, x.get()),
         None => word(out, b"-"),
@@ -119,7 +146,7 @@ fn plain_item(out: &mut Vec<u8>, texts: &[Vec<u8>], item: &PlainItem) -> Result<
         PlainItem::Reg(_, s, all) => {
             open(out, b"reg")?;
             shape(out, texts, s)?;
-            variables(out, texts, all.as_slice())?;
+            reg_variables(out, texts, all.as_slice())?;
         }
         PlainItem::LocalParameter(_, s, all) => {
             open(out, b"localparam")?;

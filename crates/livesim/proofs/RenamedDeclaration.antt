@@ -10,8 +10,8 @@ use Rattle.verilog_ast.specs.declared.expression.Expr.TheFolds.{fold_out-Expr, m
 use Rattle.verilog_ast.specs.declared.expression.Reference.{Reference}
 use Rattle.verilog_ast.specs.declared.range.Range.{Range}
 use Rattle.verilog_ast.specs.declared.shape.Shape.{Shape}
-use Rattle.verilog_ast.specs.declared.variable.Variable.{Variable}
-use Rattle.verilog_ast.specs.Renamed.{renamed_expression, renamed_reference, expression_step, reference_step, renamed_range, renamed_shape, renamed_variable}
+use Rattle.verilog_ast.specs.declared.reg_variable.RegVariable.{RegVariable}
+use Rattle.verilog_ast.specs.Renamed.{renamed_expression, renamed_reference, expression_step, reference_step, renamed_range, renamed_shape, renamed_reg_variable}
 use Rattle.ls_text.specs.Options.{guard, ◌>>=◌}
 use Rattle.livesim.specs.Module.{number_of, number_in, plain_value, literal_of, literal_in, bounds_width, range_width, shape_width, variable_at, RegisterText}
 use Rattle.livesim.proofs.JointNames.{Keeps}
@@ -82,8 +82,8 @@ ap₄ : {A B C D E : Type 0} {x y : A} {u v : B} {m n : C} {i j : D} (f : A → 
     → f x u m i ≡ f y v n j
 ap₄ f a b c d = cc
 
-pub same_variable : (f : NameId → NameId) (names joint : List (List ℕ)) → Keeps f names joint → (x : Shape) (v : Variable)
-    → variable_at joint (renamed_shape f x) (renamed_variable f v) ≡ variable_at names x v
+pub same_variable : (f : NameId → NameId) (names joint : List (List ℕ)) → Keeps f names joint → (x : Shape) (v : RegVariable)
+    → variable_at joint (renamed_shape f x) (renamed_reg_variable f v) ≡ variable_at names x v
 unfolding variable_at with_parts
 same_variable f names joint keeps x v =
     ap₄ with_parts (same_width f x) (same_literal f v.value) (same_none f v.addresses) (keeps v.name.name)

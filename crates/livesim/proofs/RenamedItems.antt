@@ -3,7 +3,7 @@ use Rattle.std.proofs.Common.{◌≡◌, ◌∙◌, ℕ, Bool, true, false, if�
 use Rattle.std.specs.Option.{option_map}
 use Rattle.ls_text.specs.declared.name_id.NameId.{NameId}
 use Rattle.verilog_ast.specs.declared.shape.Shape.{Shape}
-use Rattle.verilog_ast.specs.declared.variable.Variable.{Variable}
+use Rattle.verilog_ast.specs.declared.reg_variable.RegVariable.{RegVariable}
 use Rattle.verilog_ast.specs.declared.plain_item.PlainItem.{PlainItem}
 use Rattle.verilog_ast.specs.declared.plain_item.PlainItem.TheVariants as plain
 use Rattle.verilog_ast.specs.declared.generate_item.Branch.{Branch}
@@ -13,7 +13,7 @@ use Rattle.verilog_ast.specs.declared.generate_item.GenerateItem.TheOpen.{Genera
 use Rattle.verilog_ast.specs.declared.generate_item.GenerateItem.TheFolds.{fold_out-GenerateItem, map-GenerateItem}
 use Rattle.verilog_ast.specs.declared.item.Item.{Item}
 use Rattle.verilog_ast.specs.declared.item.Item.TheVariants as item
-use Rattle.verilog_ast.specs.Renamed.{renamed_identifier, renamed_shape, renamed_variable, renamed_plain_item, renamed_loop, generate_item_step, branch_step, renamed_generate_item, renamed_branch, renamed_item}
+use Rattle.verilog_ast.specs.Renamed.{renamed_identifier, renamed_shape, renamed_reg_variable, renamed_plain_item, renamed_loop, generate_item_step, branch_step, renamed_generate_item, renamed_branch, renamed_item}
 use Rattle.ls_text.specs.Options.{◌>>=◌}
 use Rattle.livesim.specs.Module.{is_named, only, plain_of, plain_in, variable_at, register_at, Assignment, assignment_in, clocked_at}
 use Rattle.livesim.proofs.JointNames.{Keeps}
@@ -44,8 +44,8 @@ same_plain f (item.Item x) =
     ap (λ (y : GenerateItem). plain_of (out-GenerateItem y)) (fold_out-GenerateItem GenerateItem Branch (generate_item_step f) (branch_step f) x)
     ∙ plain_layer f (out-GenerateItem x)
 
-same_only : (f : NameId → NameId) (names joint : List (List ℕ)) → Keeps f names joint → (x : Shape) (vs : List Variable)
-    → (only (map (renamed_variable f) vs) >>= λ v. variable_at joint (renamed_shape f x) v) ≡ (only vs >>= λ v. variable_at names x v)
+same_only : (f : NameId → NameId) (names joint : List (List ℕ)) → Keeps f names joint → (x : Shape) (vs : List RegVariable)
+    → (only (map (renamed_reg_variable f) vs) >>= λ v. variable_at joint (renamed_shape f x) v) ≡ (only vs >>= λ v. variable_at names x v)
 same_only f names joint keeps x [] = refl
 same_only f names joint keeps x (v ∷ []) = same_variable f names joint keeps x v
 same_only f names joint keeps x (v ∷ w ∷ vs) = refl

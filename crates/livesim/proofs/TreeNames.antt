@@ -17,7 +17,7 @@ use Rattle.verilog_ast.specs.declared.target.Lhs.TheFolds.{fold_out-Lhs}
 use Rattle.verilog_ast.specs.declared.statement.Stmt.{Stmt}
 use Rattle.verilog_ast.specs.declared.statement.Stmt.TheVariants as s
 use Rattle.verilog_ast.specs.declared.shape.Shape.{Shape}
-use Rattle.verilog_ast.specs.declared.variable.Variable.{Variable}
+use Rattle.verilog_ast.specs.declared.reg_variable.RegVariable.{RegVariable}
 use Rattle.verilog_ast.specs.declared.header_port.HeaderPort.{HeaderPort}
 use Rattle.verilog_ast.specs.declared.ports.Ports.{Ports}
 use Rattle.verilog_ast.specs.declared.ports.Ports.TheVariants as ports
@@ -30,7 +30,7 @@ use Rattle.verilog_ast.specs.declared.generate_item.GenerateItem.{GenerateItem, 
 use Rattle.verilog_ast.specs.declared.generate_item.GenerateItem.TheOpen.{GenerateItem-F}
 use Rattle.verilog_ast.specs.declared.generate_item.GenerateItem.TheFolds.{fold_out-GenerateItem}
 use Rattle.verilog_ast.specs.declared.module_body.ModuleBody.{ModuleBody}
-use Rattle.verilog_ast.specs.Names.{expression_names, reference_names, target_names, generate_item_names, branch_names, names_of_expression, names_of_reference, names_of_target, names_of_statement, names_of_generate_item, names_of_shape, names_of_variable, names_of_header_parameter, names_of_header_port, names_of_ports, names_of_plain_item, names_of_item, names_of_body}
+use Rattle.verilog_ast.specs.Names.{expression_names, reference_names, target_names, generate_item_names, branch_names, names_of_expression, names_of_reference, names_of_target, names_of_statement, names_of_generate_item, names_of_shape, names_of_reg_variable, names_of_header_parameter, names_of_header_port, names_of_ports, names_of_plain_item, names_of_item, names_of_body}
 use Rattle.verilog_ast.proofs.Named.{binary_names, assign_names}
 use Rattle.ls_text.specs.Options.{◌>>=◌}
 use Rattle.livesim.specs.declared.assignment.Assignment.{Assignment}
@@ -111,11 +111,11 @@ body_names count x xs k one same below is h =
     (back_names (names_of_ports x.ports) (flat_map names_of_item x.items) (back_names (flat_map names_of_header_parameter x.parameters) _ (other_names x.name.name _ h))))
 
 -- the one variable of a register's item
-pub register_names : (count : ℕ) (at : Place) (shape : Shape) (xs ys : List Variable) (item : PlainItem) (v : Variable) → item ≡ plain.Reg at shape xs → ys ≡ xs
-    → 0 < length ys → v ≡ get_or ys 0 v → AreOfTable count (names_of_plain_item item) → AreOfTable count (names_of_variable v)
+pub register_names : (count : ℕ) (at : Place) (shape : Shape) (xs ys : List RegVariable) (item : PlainItem) (v : RegVariable) → item ≡ plain.Reg at shape xs → ys ≡ xs
+    → 0 < length ys → v ≡ get_or ys 0 v → AreOfTable count (names_of_plain_item item) → AreOfTable count (names_of_reg_variable v)
 register_names count at shape xs ys item v is same below first h =
-    item_names count names_of_variable ys 0 v below first (subst (λ z. AreOfTable count (flat_map names_of_variable z)) (sym same)
-    (back_names (names_of_shape shape) (flat_map names_of_variable xs) (subst (λ z. AreOfTable count (names_of_plain_item z)) is h)))
+    item_names count names_of_reg_variable ys 0 v below first (subst (λ z. AreOfTable count (flat_map names_of_reg_variable z)) (sym same)
+    (back_names (names_of_shape shape) (flat_map names_of_reg_variable xs) (subst (λ z. AreOfTable count (names_of_plain_item z)) is h)))
 
 -- one more operand of a sum
 pub sum_more : (names : List (List ℕ)) (clock register : List ℕ) (op : BinaryOperator) (x y whole : Expr) → whole ≡ e.Binary op x y → op ≡ Add

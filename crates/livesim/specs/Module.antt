@@ -18,7 +18,7 @@ use Rattle.verilog_ast.specs.declared.header_port.HeaderPort.{HeaderPort}
 use Rattle.verilog_ast.specs.declared.header_port.HeaderPort.TheVariants as port
 use Rattle.verilog_ast.specs.declared.ports.Ports.{Ports}
 use Rattle.verilog_ast.specs.declared.ports.Ports.TheVariants as ports
-use Rattle.verilog_ast.specs.declared.variable.Variable.{Variable}
+use Rattle.verilog_ast.specs.declared.reg_variable.RegVariable.{RegVariable}
 use Rattle.verilog_ast.specs.declared.target.Lhs.{Lhs, out-Lhs}
 use Rattle.verilog_ast.specs.declared.target.Lhs.TheOpen.{Lhs-F}
 use Rattle.verilog_ast.specs.declared.statement.Stmt.{Stmt, out-Stmt}
@@ -126,7 +126,7 @@ literal_in None = None
 literal_in (Some e) = number_in e >>= λ x. literal_of x
 
 -- `reg [M:0]` and `R = L`
-unfoldable pub variable_at : List (List ℕ) → Shape → Variable → Option RegisterText
+unfoldable pub variable_at : List (List ℕ) → Shape → RegVariable → Option RegisterText
 variable_at names shape v = do
   width ← shape_width shape
   initial ← literal_in v.value

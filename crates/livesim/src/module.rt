@@ -2,7 +2,7 @@
 ghost use Rattle.std.specs.Prelude.{◌≡◌, ◌<◌, ◌≤◌, IfOk, IfSome, MatchOption, Some, None, length};
 ghost use Rattle.std.specs.Option.{option_map, option_copied};
 ghost use Rattle.livesim.specs.Module.{number_in, plain_value, literal_of, bounds_width, range_width, shape_width, some_clock_port, is_clock_port, declared, is_header, plain_in, literal_in, variable_at, register_at, named_operand, part_at, target_in, assignment_in, clocked_at, items_at, body_at, module_at, first_unknown, unknown_in};
-ghost use Rattle.verilog_ast.specs.Names.{names_of_header_port, names_of_body, names_of_variable, names_of_plain_item, names_of_expression, names_of_statement, names_of_item, names_of_modules};
+ghost use Rattle.verilog_ast.specs.Names.{names_of_header_port, names_of_body, names_of_reg_variable, names_of_plain_item, names_of_expression, names_of_statement, names_of_item, names_of_modules};
 ghost use Rattle.livesim.specs.OfTable.{AreOfTable, IsTermOf, AreTermsOf, IsAssignmentOf};
 ghost use Rattle.livesim.specs.Views.{operand, operands, register_text, sum, assignment};
 
@@ -16,7 +16,7 @@ use ls_text::{Names, NoMemory};
 use std::alloc::Global;
 use verilog_ast::{
     BinaryOperator, Expr, GenerateItem, HeaderPort, Identifier, Item, Lhs, Module, ModuleBody,
-    Number, PlainItem, PortNet, Ports, Range, Reference, Shape, Stmt, Variable,
+    Number, PlainItem, PortNet, Ports, Range, Reference, RegVariable, Shape, Stmt,
 };
 
 // The number that an expression is.
@@ -135,8 +135,8 @@ fn plain(item: &Item) -> Option<&PlainItem>
 
 // `reg [M:0]` and `R = L`
 #[tactic(auto, unfolding(crate::specs::Module::variable_at))]
-fn variable<'a>(names: &'a Names, shape: &Shape, v: &Variable) -> Option<RegisterItem<'a>>
-    requires { AreOfTable (length names.now) (names_of_variable v.now) }
+fn variable<'a>(names: &'a Names, shape: &Shape, v: &RegVariable) -> Option<RegisterItem<'a>>
+    requires { AreOfTable (length names.now) (names_of_reg_variable v.now) }
     ensures { option_map register_text result ≡ variable_at names.now shape.now v.now }
 {
     let width = shape_width(shape)?;
@@ -152,7 +152,7 @@ fn variable<'a>(names: &'a Names, shape: &Shape, v: &Variable) -> Option<Registe
 }
 
 // The literal that a variable begins with.
-fn value(v: &Variable) -> Option<Bits>
+fn value(v: &RegVariable) -> Option<Bits>
     ensures { option_map (λ b. (b.width, b.value)) result ≡ literal_in v.now.value }
 {
     match &v.value {

@@ -1,2 +1,6 @@
 pub mod Named
+pub mod RenamedItemViews
+pub mod RenamedStatementViews
+pub mod RenamedViews
+pub mod Seen
 pub mod Within

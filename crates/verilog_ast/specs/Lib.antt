@@ -1,3 +1,9 @@
+pub mod Expressions
+pub mod Statements
+pub mod Declarations
+pub mod Items
+pub mod Views
+pub mod Renaming
 pub mod Places
 pub mod Names
 pub mod Renamed

@@ -18,6 +18,7 @@ use Rattle.verilog_ast.specs.declared.statement.Arm.TheFolds.{fold-Stmt, fold-Ar
 use Rattle.verilog_ast.specs.declared.range.Range.{Range}
 use Rattle.verilog_ast.specs.declared.shape.Shape.{Shape}
 use Rattle.verilog_ast.specs.declared.variable.Variable.{Variable}
+use Rattle.verilog_ast.specs.declared.reg_variable.RegVariable.{RegVariable}
 use Rattle.verilog_ast.specs.declared.parameter.Parameter.{Parameter}
 use Rattle.verilog_ast.specs.declared.header_parameter.HeaderParameter.{HeaderParameter}
 use Rattle.verilog_ast.specs.declared.header_port.HeaderPort.{HeaderPort}
@@ -127,7 +128,10 @@ abbrev pub names_of_shape : Shape → List NameId
 names_of_shape x = names_of_option names_of_range x.range
 
 abbrev pub names_of_variable : Variable → List NameId
-names_of_variable x = x.name.name ∷ (names_of_option names_of_range x.addresses ++ names_of_option names_of_expression x.value)
+names_of_variable x = x.name.name ∷ names_of_option names_of_expression x.value
+
+abbrev pub names_of_reg_variable : RegVariable → List NameId
+names_of_reg_variable x = x.name.name ∷ (names_of_option names_of_range x.addresses ++ names_of_option names_of_expression x.value)
 
 abbrev pub names_of_parameter : Parameter → List NameId
 names_of_parameter x = x.name.name ∷ names_of_expression x.value
@@ -165,7 +169,7 @@ names_of_continuous x = names_of_target x.target ++ names_of_expression x.value
 
 abbrev pub names_of_plain_item : PlainItem → List NameId
 names_of_plain_item (plain.Wire at x ys) = names_of_shape x ++ flat_map names_of_variable ys
-names_of_plain_item (plain.Reg at x ys) = names_of_shape x ++ flat_map names_of_variable ys
+names_of_plain_item (plain.Reg at x ys) = names_of_shape x ++ flat_map names_of_reg_variable ys
 names_of_plain_item (plain.LocalParameter at x ys) = names_of_shape x ++ flat_map names_of_parameter ys
 names_of_plain_item (plain.Genvar at xs) = names_of_identifiers xs
 names_of_plain_item (plain.Assign at xs) = flat_map names_of_continuous xs

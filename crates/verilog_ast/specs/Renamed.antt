@@ -24,6 +24,7 @@ use Rattle.verilog_ast.specs.declared.statement.Arm.TheFolds.{fold-Stmt, fold-Ar
 use Rattle.verilog_ast.specs.declared.range.Range.{Range}
 use Rattle.verilog_ast.specs.declared.shape.Shape.{Shape}
 use Rattle.verilog_ast.specs.declared.variable.Variable.{Variable}
+use Rattle.verilog_ast.specs.declared.reg_variable.RegVariable.{RegVariable}
 use Rattle.verilog_ast.specs.declared.parameter.Parameter.{Parameter}
 use Rattle.verilog_ast.specs.declared.header_parameter.HeaderParameter.{HeaderParameter}
 use Rattle.verilog_ast.specs.declared.header_port.HeaderPort.{HeaderPort}
@@ -119,7 +120,10 @@ abbrev pub renamed_shape : (NameId → NameId) → Shape → Shape
 renamed_shape f x = record { signed = x.signed; range = option_map (renamed_range f) x.range }
 
 abbrev pub renamed_variable : (NameId → NameId) → Variable → Variable
-renamed_variable f x = record {
+renamed_variable f x = record { name = renamed_identifier f x.name; value = option_map (renamed_expression f) x.value }
+
+abbrev pub renamed_reg_variable : (NameId → NameId) → RegVariable → RegVariable
+renamed_reg_variable f x = record {
   name = renamed_identifier f x.name;
   value = option_map (renamed_expression f) x.value;
   addresses = option_map (renamed_range f) x.addresses;
@@ -161,7 +165,7 @@ renamed_continuous f x = record { target = renamed_target f x.target; value = re
 
 abbrev pub renamed_plain_item : (NameId → NameId) → PlainItem → PlainItem
 renamed_plain_item f (plain.Wire at x ys) = plain.Wire at (renamed_shape f x) (map (renamed_variable f) ys)
-renamed_plain_item f (plain.Reg at x ys) = plain.Reg at (renamed_shape f x) (map (renamed_variable f) ys)
+renamed_plain_item f (plain.Reg at x ys) = plain.Reg at (renamed_shape f x) (map (renamed_reg_variable f) ys)
 renamed_plain_item f (plain.LocalParameter at x ys) = plain.LocalParameter at (renamed_shape f x) (map (renamed_parameter f) ys)
 renamed_plain_item f (plain.Genvar at xs) = plain.Genvar at (map (renamed_identifier f) xs)
 renamed_plain_item f (plain.Assign at xs) = plain.Assign at (map (renamed_continuous f) xs)

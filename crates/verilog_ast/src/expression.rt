@@ -1,13 +1,14 @@
 // Expressions, and the names with their selects that stand in them.
 ghost use Rattle.std.specs.Prelude.{◌≡◌};
-ghost use Rattle.verilog_ast.specs.Places.{place_of_expression, place_of_reference};
+ghost use Rattle.verilog_ast.specs.Places.{expression_place};
+ghost use Rattle.verilog_ast.specs.Views.{expression_of, reference_of};
 
 use crate::binary_operator::BinaryOperator;
 use crate::identifier::Identifier;
+use crate::nodes::{Child, Children};
 use crate::number::Number;
 use crate::unary_operator::UnaryOperator;
 use ls_text::Place;
-use sqlite_items::{Boxed, Items};
 
 /// An expression. Brackets have a node of their own, so that the first token of each expression has its place.
 #[cycle(expression)]
@@ -15,16 +16,16 @@ use sqlite_items::{Boxed, Items};
 pub enum Expr {
     Number(Place, Number),
     Read(Reference),
-    Unary(Place, UnaryOperator, Boxed<Expr>),
-    Binary(BinaryOperator, Boxed<Expr>, Boxed<Expr>),
+    Unary(Place, UnaryOperator, Child<Expr>),
+    Binary(BinaryOperator, Child<Expr>, Child<Expr>),
     /// `c ? a : b`
-    Conditional(Boxed<Expr>, Boxed<Expr>, Boxed<Expr>),
+    Conditional(Child<Expr>, Child<Expr>, Child<Expr>),
     /// `{a, b}`, at its brace
-    Concatenation(Place, Items<Expr>),
+    Concatenation(Place, Children<Expr>),
     /// `{n{a, b}}`, at its first brace
-    Replication(Place, Boxed<Expr>, Items<Expr>),
+    Replication(Place, Child<Expr>, Children<Expr>),
     /// `(a)`, at its bracket
-    Bracketed(Place, Boxed<Expr>),
+    Bracketed(Place, Child<Expr>),
 }
 
 /// A name, with a select or without.
@@ -33,19 +34,19 @@ pub enum Expr {
 pub enum Reference {
     Whole(Identifier),
     /// `x[i]`
-    Bit(Identifier, Boxed<Expr>),
+    Bit(Identifier, Child<Expr>),
     /// `x[high:low]`
-    Part(Identifier, Boxed<Expr>, Boxed<Expr>),
+    Part(Identifier, Child<Expr>, Child<Expr>),
     /// `x[base +: width]`
-    Upward(Identifier, Boxed<Expr>, Boxed<Expr>),
+    Upward(Identifier, Child<Expr>, Child<Expr>),
     /// `x[base -: width]`
-    Downward(Identifier, Boxed<Expr>, Boxed<Expr>),
+    Downward(Identifier, Child<Expr>, Child<Expr>),
 }
 
 impl Expr {
     /// The place of its first token.
     pub fn place(&self) -> Place
-        ensures { result ≡ place_of_expression self.now }
+        ensures { result ≡ expression_place (expression_of self.now) }
     {
         match self {
             Expr::Number(at, _)
@@ -63,7 +64,7 @@ impl Expr {
 impl Reference {
     /// The place of its name.
     pub fn place(&self) -> Place
-        ensures { result ≡ place_of_reference self.now }
+        ensures { result ≡ expression_place (reference_of self.now) }
     {
         match self {
             Reference::Whole(name)

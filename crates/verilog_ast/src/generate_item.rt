@@ -1,13 +1,14 @@
 // Items of generate blocks.
-ghost use Rattle.std.specs.Prelude.{◌≡◌};
-ghost use Rattle.verilog_ast.specs.Places.{place_of_branches, place_of_generate_item};
+ghost use Rattle.std.specs.Prelude.{◌≡◌, map};
+ghost use Rattle.verilog_ast.specs.Places.{item_place};
+ghost use Rattle.verilog_ast.specs.Views.{branch_of, generate_item_of, items_of};
 
 use crate::expression::Expr;
 use crate::generate_loop::Loop;
 use crate::identifier::Identifier;
+use crate::nodes::{Child, Children};
 use crate::plain_item::PlainItem;
 use ls_text::Place;
-use sqlite_items::{Boxed, Items};
 
 /// An item that may stand in a generate block.
 #[cycle(generate)]
@@ -15,9 +16,9 @@ use sqlite_items::{Boxed, Items};
 pub enum GenerateItem {
     Plain(PlainItem),
     /// `for (..) begin : label .. end`, at its `for`
-    For(Place, Loop, Identifier, Items<GenerateItem>),
+    For(Place, Loop, Identifier, Children<GenerateItem>),
     /// The branches in their order: each but a last `else` has a condition.
-    If(Items<Branch>),
+    If(Children<Branch>),
 }
 
 /// `if (condition) begin : label .. end`, at its `if`, or the block of an `else` without a condition, at its `begin`
@@ -25,14 +26,14 @@ pub enum GenerateItem {
 #[derive(Drop)]
 pub struct Branch {
     pub at: Place,
-    pub condition: Option<Boxed<Expr>>,
+    pub condition: Option<Child<Expr>>,
     pub label: Identifier,
-    pub items: Items<GenerateItem>,
+    pub items: Children<GenerateItem>,
 }
 
 // The place of the first branch.
 fn first_place(branches: &[Branch]) -> Place
-    ensures { result ≡ place_of_branches branches.now }
+    ensures { result ≡ item_place (items_of (map branch_of branches.now)) }
 {
     match branches.split_first() {
         Some((first, _)) => first.at,
@@ -47,7 +48,7 @@ fn first_place(branches: &[Branch]) -> Place
 impl GenerateItem {
     /// The place of its first token.
     pub fn place(&self) -> Place
-        ensures { result ≡ place_of_generate_item self.now }
+        ensures { result ≡ item_place (generate_item_of self.now) }
     {
         match self {
             GenerateItem::Plain(item) => item.place(),

@@ -1,31 +1,32 @@
 // Items of modules.
 ghost use Rattle.std.specs.Prelude.{◌≡◌};
-ghost use Rattle.verilog_ast.specs.Places.{place_of_item};
+ghost use Rattle.verilog_ast.specs.Places.{item_place};
+ghost use Rattle.verilog_ast.specs.Views.{item_of};
 
 use crate::generate_item::GenerateItem;
 use crate::identifier::Identifier;
+use crate::nodes::Children;
 use crate::parameter::Parameter;
 use crate::port_net::PortNet;
 use crate::shape::Shape;
 use crate::variable::Variable;
 use ls_text::Place;
-use sqlite_items::Items;
 
 /// An item of a module, at its first token.
 #[derive(Drop)]
 pub enum Item {
-    Input(Place, PortNet, Shape, Items<Identifier>),
-    Output(Place, PortNet, Shape, Items<Variable>),
-    Parameter(Place, Shape, Items<Parameter>),
+    Input(Place, PortNet, Shape, Children<Identifier>),
+    Output(Place, PortNet, Shape, Children<Variable>),
+    Parameter(Place, Shape, Children<Parameter>),
     /// `generate .. endgenerate`
-    Region(Place, Items<GenerateItem>),
+    Region(Place, Children<GenerateItem>),
     Item(GenerateItem),
 }
 
 impl Item {
     /// The place of its first token.
     pub fn place(&self) -> Place
-        ensures { result ≡ place_of_item self.now }
+        ensures { result ≡ item_place (item_of self.now) }
     {
         match self {
             Item::Input(at, _, _, _)

@@ -1,11 +1,11 @@
 // Parameters.
 use crate::expression::Expr;
 use crate::identifier::Identifier;
-use sqlite_items::Boxed;
+use crate::nodes::Child;
 
 /// A parameter and its value.
 #[derive(Drop)]
 pub struct Parameter {
     pub name: Identifier,
-    pub value: Boxed<Expr>,
+    pub value: Child<Expr>,
 }

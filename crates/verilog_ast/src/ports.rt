@@ -1,12 +1,12 @@
 // The ports of a header.
 use crate::header_port::HeaderPort;
 use crate::identifier::Identifier;
-use sqlite_items::Items;
+use crate::nodes::Children;
 
 /// The ports of a header.
 #[derive(Drop)]
 pub enum Ports {
     Nothing,
-    Names(Items<Identifier>),
-    Declarations(Items<HeaderPort>),
+    Names(Children<Identifier>),
+    Declarations(Children<HeaderPort>),
 }

@@ -1,10 +1,10 @@
 // Ranges of declarations.
 use crate::expression::Expr;
-use sqlite_items::Boxed;
+use crate::nodes::Child;
 
 /// `[high:low]`
 #[derive(Drop)]
 pub struct Range {
-    pub high: Boxed<Expr>,
-    pub low: Boxed<Expr>,
+    pub high: Child<Expr>,
+    pub low: Child<Expr>,
 }

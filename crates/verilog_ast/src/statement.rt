@@ -1,25 +1,26 @@
 // Statements of an `always` block.
 ghost use Rattle.std.specs.Prelude.{◌≡◌};
-ghost use Rattle.verilog_ast.specs.Places.{place_of_statement};
+ghost use Rattle.verilog_ast.specs.Places.{statement_place};
+ghost use Rattle.verilog_ast.specs.Views.{statement_of};
 
 use crate::case_kind::CaseKind;
 use crate::expression::Expr;
 use crate::identifier::Identifier;
 use crate::label::Label;
+use crate::nodes::{Child, Children};
 use crate::target::Lhs;
 use ls_text::Place;
-use sqlite_items::{Boxed, Items};
 
 /// A statement, at its first token.
 #[cycle(statement)]
 #[derive(Drop)]
 pub enum Stmt {
     /// `begin .. end`, with its label
-    Block(Place, Option<Identifier>, Items<Stmt>),
-    If(Place, Boxed<Expr>, Boxed<Stmt>),
-    IfElse(Place, Boxed<Expr>, Boxed<Stmt>, Boxed<Stmt>),
-    Case(Place, CaseKind, Boxed<Expr>, Items<Arm>),
-    Assign(Lhs, Boxed<Expr>),
+    Block(Place, Option<Identifier>, Children<Stmt>),
+    If(Place, Child<Expr>, Child<Stmt>),
+    IfElse(Place, Child<Expr>, Child<Stmt>, Child<Stmt>),
+    Case(Place, CaseKind, Child<Expr>, Children<Arm>),
+    Assign(Lhs, Child<Expr>),
     /// `;`
     Empty(Place),
 }
@@ -28,14 +29,14 @@ pub enum Stmt {
 #[cycle(statement)]
 #[derive(Drop)]
 pub enum Arm {
-    Default(Place, Boxed<Stmt>),
-    Match(Items<Label>, Boxed<Stmt>),
+    Default(Place, Child<Stmt>),
+    Match(Children<Label>, Child<Stmt>),
 }
 
 impl Stmt {
     /// The place of its first token.
     pub fn place(&self) -> Place
-        ensures { result ≡ place_of_statement self.now }
+        ensures { result ≡ statement_place (statement_of self.now) }
     {
         match self {
             Stmt::Block(at, _, _)

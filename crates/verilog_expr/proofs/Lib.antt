@@ -6,6 +6,7 @@ pub mod Complete
 pub mod Suffixes
 pub mod Weights
 pub mod Endings
+pub mod Placed
 pub mod Refusals
 pub mod OneTree
 pub mod OneRow

@@ -25,10 +25,24 @@ stop_at false kind = stop (is_outside kind)
 -- which tells how many tokens are left from the one where it is.
 pub data Run : List Symbol → List Token → Outcome → Type 0 where
   ends : {s : List Token} → Run [] s (Ok s)
-  takes : {kind : Kind} {w : ℕ} {k : List Symbol} {s : List Token} {out : Outcome} {token : Token} {rest : List Token} → s ≡ token ∷ rest → token.kind ≡ kind → w ≤ max_weight
-      → Run k rest out → Run (T kind w ∷ k) s out
-  heavy : {kind : Kind} {w : ℕ} {k : List Symbol} {s : List Token} {token : Token} {rest : List Token} → s ≡ token ∷ rest → token.kind ≡ kind → max_weight < w
+  takes : {kind : Kind} {w : ℕ} {k : List Symbol} {s : List Token} {out : Outcome} {token : Token} {rest : List Token}
+      → s ≡ token ∷ rest
+      → token.kind ≡ kind
+      → w ≤ max_weight
+      → Run k rest out
+      → Run (T kind w ∷ k) s out
+  heavy : {kind : Kind} {w : ℕ} {k : List Symbol} {s : List Token} {token : Token} {rest : List Token}
+      → s ≡ token ∷ rest
+      → token.kind ≡ kind
+      → max_weight < w
       → Run (T kind w ∷ k) s (Err (Heavy (length s)))
-  differs : {kind : Kind} {w : ℕ} {k : List Symbol} {s : List Token} → Differs kind s → Run (T kind w ∷ k) s (Err (Stuck (stop (is_outside (next s))) (length s)))
-  expands : {x : Nonterminal} {w : ℕ} {alternative k : List Symbol} {s : List Token} {out : Outcome} → entry x w (next s) ≡ Some alternative → Run (alternative ++ k) s out → Run (N x w ∷ k) s out
-  refuses : {x : Nonterminal} {w : ℕ} {k : List Symbol} {s : List Token} → entry x w (next s) ≡ None → Run (N x w ∷ k) s (Err (Stuck (stop_at (is_outside_at x (next s)) (next s)) (length s)))
+  differs : {kind : Kind} {w : ℕ} {k : List Symbol} {s : List Token}
+      → Differs kind s
+      → Run (T kind w ∷ k) s (Err (Stuck (stop (is_outside (next s))) (length s)))
+  expands : {x : Nonterminal} {w : ℕ} {alternative k : List Symbol} {s : List Token} {out : Outcome}
+      → entry x w (next s) ≡ Some alternative
+      → Run (alternative ++ k) s out
+      → Run (N x w ∷ k) s out
+  refuses : {x : Nonterminal} {w : ℕ} {k : List Symbol} {s : List Token}
+      → entry x w (next s) ≡ None
+      → Run (N x w ∷ k) s (Err (Stuck (stop_at (is_outside_at x (next s)) (next s)) (length s)))

@@ -15,8 +15,7 @@ use crate::leaf::{identifier, number};
 use crate::operators::level;
 use crate::parser::{Parser, is_too_heavy};
 use ls_text::Place;
-use sqlite_items::{Boxed, Items};
-use verilog_ast::{Expr, Identifier, Range, Reference};
+use verilog_ast::{Child, Children, Expr, Identifier, Range, Reference};
 use verilog_lex::Kind;
 
 impl<'a> Parser<'a> {
@@ -131,7 +130,7 @@ impl<'a> Parser<'a> {
     {
         if self.sees(Kind::LeftBracket) {
             self.expect(Kind::LeftBracket, weight)?;
-            let first = Boxed::new(self.alloc(), self.read_expression(weight + 1)?)?;
+            let first = Child::new(self.alloc(), self.read_expression(weight + 1)?)?;
             let reference = self.part(name, first, weight + 1)?;
             self.expect(Kind::RightBracket, weight + 1)?;
             self.after_select(weight)?;
@@ -160,7 +159,7 @@ impl<'a> Parser<'a> {
     fn part(
         &mut self,
         name: Identifier,
-        first: Boxed<Expr>,
+        first: Child<Expr>,
         weight: u32,
     ) -> Result<Reference, ParseError>
         requires { weight < 2 ^ 31 }
@@ -170,17 +169,17 @@ impl<'a> Parser<'a> {
     {
         if self.sees(Kind::Colon) {
             self.expect(Kind::Colon, weight)?;
-            let low = Boxed::new(self.alloc(), self.read_expression(weight)?)?;
+            let low = Child::new(self.alloc(), self.read_expression(weight)?)?;
             return Ok(Reference::Part(name, first, low));
         }
         if self.sees(Kind::PlusColon) {
             self.expect(Kind::PlusColon, weight)?;
-            let width = Boxed::new(self.alloc(), self.read_expression(weight)?)?;
+            let width = Child::new(self.alloc(), self.read_expression(weight)?)?;
             return Ok(Reference::Upward(name, first, width));
         }
         if self.sees(Kind::MinusColon) {
             self.expect(Kind::MinusColon, weight)?;
-            let width = Boxed::new(self.alloc(), self.read_expression(weight)?)?;
+            let width = Child::new(self.alloc(), self.read_expression(weight)?)?;
             return Ok(Reference::Downward(name, first, width));
         }
         Ok(Reference::Bit(name, first))
@@ -198,11 +197,11 @@ impl<'a> Parser<'a> {
         if !self.sees(Kind::Question) {
             return Ok(first);
         }
-        let first = Boxed::new(self.alloc(), first)?;
+        let first = Child::new(self.alloc(), first)?;
         self.expect(Kind::Question, inner)?;
-        let yes = Boxed::new(self.alloc(), self.read_expression(inner + 1)?)?;
+        let yes = Child::new(self.alloc(), self.read_expression(inner + 1)?)?;
         self.expect(Kind::Colon, inner)?;
-        let no = Boxed::new(self.alloc(), self.read_expression(inner + 1)?)?;
+        let no = Child::new(self.alloc(), self.read_expression(inner + 1)?)?;
         Ok(Expr::Conditional(first, yes, no))
     }
 
@@ -227,8 +226,8 @@ impl<'a> Parser<'a> {
             let (right, after) = self.chain(level(op) + 1, inner + 1)?;
             left = Expr::Binary(
                 op,
-                Boxed::new(self.alloc(), left)?,
-                Boxed::new(self.alloc(), right)?,
+                Child::new(self.alloc(), left)?,
+                Child::new(self.alloc(), right)?,
             );
             inner = after;
         }
@@ -245,7 +244,7 @@ impl<'a> Parser<'a> {
         if let Some(op) = self.sees_unary() {
             let kind = self.peek();
             let at = self.expect(kind, weight)?.at;
-            let operand = Boxed::new(self.alloc(), self.operand(weight + 1)?)?;
+            let operand = Child::new(self.alloc(), self.operand(weight + 1)?)?;
             return Ok(Expr::Unary(at, op, operand));
         }
         match self.peek() {
@@ -259,7 +258,7 @@ impl<'a> Parser<'a> {
             }
             Kind::LeftParen => {
                 let at = self.expect(Kind::LeftParen, weight)?.at;
-                let inner = Boxed::new(self.alloc(), self.read_expression(weight + 1)?)?;
+                let inner = Child::new(self.alloc(), self.read_expression(weight + 1)?)?;
                 self.expect(Kind::RightParen, weight + 1)?;
                 Ok(Expr::Bracketed(at, inner))
             }
@@ -285,7 +284,7 @@ impl<'a> Parser<'a> {
             self.expect(Kind::RightBrace, weight)?;
             return Ok(Expr::Concatenation(at, all));
         }
-        let count = Boxed::new(self.alloc(), first)?;
+        let count = Child::new(self.alloc(), first)?;
         self.expect(Kind::LeftBrace, weight)?;
         let inner = self.read_expression(weight + 1)?;
         let all = self.more(inner, weight + 1)?;
@@ -296,13 +295,13 @@ impl<'a> Parser<'a> {
 
     // Further expressions, each after a comma, behind the first.
     #[cycle(expression)]
-    fn more(&mut self, first: Expr, weight: u32) -> Result<Items<Expr>, ParseError>
+    fn more(&mut self, first: Expr, weight: u32) -> Result<Children<Expr>, ParseError>
         requires { weight < 2 ^ 31 }
         ensures machine { Reads (N grammar.More weight ∷ []) self.old result self.new }
         ensures tree { IfOk result (λ all. Spells (Behind first all) self.old self.new) }
         ensures shorter { OnOk result (length self.new ≤ length self.old) }
     {
-        let mut all = Items::new(self.alloc());
+        let mut all = Children::new(self.alloc());
         all.push(first)?;
         'items: while self.sees(Kind::Comma) {
             self.expect(Kind::Comma, weight)?;
@@ -318,9 +317,9 @@ impl<'a> Parser<'a> {
         ensures shorter { OnOk result (length self.new < length self.old) }
     {
         self.expect(Kind::LeftBracket, weight)?;
-        let high = Boxed::new(self.alloc(), self.read_expression(weight + 1)?)?;
+        let high = Child::new(self.alloc(), self.read_expression(weight + 1)?)?;
         self.expect(Kind::Colon, weight + 1)?;
-        let low = Boxed::new(self.alloc(), self.read_expression(weight + 1)?)?;
+        let low = Child::new(self.alloc(), self.read_expression(weight + 1)?)?;
         self.expect(Kind::RightBracket, weight + 1)?;
         Ok(Range { high, low })
     }

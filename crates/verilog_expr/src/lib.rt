@@ -16,7 +16,9 @@ mod stop;
 
 pub use error::ParseError;
 pub use fault::ParseFault;
-pub use laws::{expressions_are_read_in_one_way, expressions_may_be_renamed};
+pub use laws::{
+    expressions_are_read_in_one_way, expressions_have_places, expressions_may_be_renamed,
+};
 pub use leaf::{identifier, number, pattern};
 pub use parsed_expr::ParsedExpr;
 pub use parser::Parser;

@@ -20,3 +20,5 @@ pub mod RenamedItem
 pub mod RenamedGenerate
 pub mod RenamedModule
 pub mod RenamedText
+pub mod PlacedStatements
+pub mod PlacedItems

@@ -1,7 +1,7 @@
 -- The names of a declaration, connection or plain item are names of its tokens.
 use Rattle.std.proofs.Common.{◌<◌, ℕ, List, flat_map}
 use Rattle.verilog_lex.specs.declared.token.Token.{Token}
-use Rattle.verilog_ast.specs.Names.{names_of_option, names_of_identifiers, names_of_expression, names_of_range, names_of_shape, names_of_variable, names_of_parameter, names_of_named, names_of_ordered, names_of_connections, names_of_instance, names_of_continuous, names_of_plain_item}
+use Rattle.verilog_ast.specs.Names.{names_of_option, names_of_identifiers, names_of_expression, names_of_range, names_of_shape, names_of_variable, names_of_reg_variable, names_of_parameter, names_of_named, names_of_ordered, names_of_connections, names_of_instance, names_of_continuous, names_of_plain_item}
 use Rattle.verilog_ast.proofs.Within.{IsWithin, no_name, one_more, ◌⊕◌}
 use Rattle.verilog_expr.proofs.Named.{AreWithin, took}
 use Rattle.verilog_expr.proofs.Named as expressions
@@ -23,6 +23,10 @@ IsNamed n (p.AVariable x) = IsWithin n (names_of_variable x)
 IsNamed n (p.Variables xs) = IsWithin n (flat_map names_of_variable xs)
 IsNamed n (p.VariablesBehind x xs) = IsWithin n (names_of_variable x) → IsWithin n (flat_map names_of_variable xs)
 IsNamed n (p.OtherVariables xs) = IsWithin n (flat_map names_of_variable xs)
+IsNamed n (p.ARegVariable x) = IsWithin n (names_of_reg_variable x)
+IsNamed n (p.RegVariables xs) = IsWithin n (flat_map names_of_reg_variable xs)
+IsNamed n (p.RegVariablesBehind x xs) = IsWithin n (names_of_reg_variable x) → IsWithin n (flat_map names_of_reg_variable xs)
+IsNamed n (p.OtherRegVariables xs) = IsWithin n (flat_map names_of_reg_variable xs)
 IsNamed n (p.AParameter x) = IsWithin n (names_of_parameter x)
 IsNamed n (p.Parameters xs) = IsWithin n (flat_map names_of_parameter xs)
 IsNamed n (p.ParametersBehind x xs) = IsWithin n (names_of_parameter x) → IsWithin n (flat_map names_of_parameter xs)
@@ -71,6 +75,11 @@ item (p.variables h i) w = let a = item h w in let b = item i a.1 in (b.0 a.0, b
 item (p.variables_behind h) w = let a = item h w in (λ x. x ⊕ a.0, a.1)
 item (p.no_variable free) w = (no_name, w)
 item (p.another_variable t h i) w = let a = took t w in let b = item h a.1 in let c = item i b.1 in (b.0 ⊕ c.0, c.1)
+item (p.reg_variable h) w = item h w
+item (p.reg_variables h i) w = let a = item h w in let b = item i a.1 in (b.0 a.0, b.1)
+item (p.reg_variables_behind h) w = let a = item h w in (λ x. x ⊕ a.0, a.1)
+item (p.no_reg_variable free) w = (no_name, w)
+item (p.another_reg_variable t h i) w = let a = took t w in let b = item h a.1 in let c = item i b.1 in (b.0 ⊕ c.0, c.1)
 item (p.parameter t u h) w = let a = took t w in let b = took u a.1 in let c = expressions.named h b.1 in (one_more a.0 c.0, c.1)
 item (p.parameters h i) w = let a = item h w in let b = item i a.1 in (b.0 a.0, b.1)
 item (p.parameters_behind h) w = let a = item h w in (λ x. x ⊕ a.0, a.1)

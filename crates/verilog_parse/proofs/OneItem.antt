@@ -11,6 +11,7 @@ use Rattle.verilog_ast.specs.declared.statement.Stmt.{Stmt}
 use Rattle.verilog_ast.specs.declared.range.Range.{Range}
 use Rattle.verilog_ast.specs.declared.shape.Shape.{Shape}
 use Rattle.verilog_ast.specs.declared.variable.Variable.{Variable}
+use Rattle.verilog_ast.specs.declared.reg_variable.RegVariable.{RegVariable}
 use Rattle.verilog_ast.specs.declared.parameter.Parameter.{Parameter}
 use Rattle.verilog_ast.specs.declared.port_net.PortNet.{PortNet}
 use Rattle.verilog_ast.specs.declared.named_connection.NamedConnection.{NamedConnection}
@@ -23,8 +24,8 @@ use Rattle.verilog_ast.specs.declared.plain_item.PlainItem.{PlainItem}
 use Rattle.verilog_ast.specs.declared.plain_item.PlainItem.TheVariants as item
 use Rattle.verilog_expr.specs.Tokens.{next, identifier_of, place_at}
 use Rattle.verilog_expr.specs.Grammar.{begins_expression}
-use Rattle.verilog_parse.specs.Items.{Spells, AShape, OptionalSigned, OptionalRange, OptionalWire, OptionalNet, Names, NamesBehind, OtherNames, AVariable, OptionalValue, Variables, VariablesBehind, OtherVariables, AParameter, Parameters, ParametersBehind, OtherParameters, Overrides, Instances, InstancesBehind, OtherInstances, AnInstance, AConnections, ANamedConnection, NamedBehind, OtherNamed, AnOrdered, OrderedBehind, OtherOrdered, OptionalExpression, APlainItem, AnEvent, Trigger, EdgeEnd, Assignments, AssignmentsBehind, OtherAssignments, AContinuous}
-use Rattle.verilog_parse.specs.Items.{shape, not_signed, is_signed, no_range, a_range, no_wire, a_wire, no_net, net_wire, net_reg, names, names_behind, no_name, another_name, variable, no_value, a_value, variables, variables_behind, no_variable, another_variable, parameter, parameters, parameters_behind, no_parameter, another_parameter, no_override, an_override, instances, instances_behind, no_instance, another_instance, instance_, by_name, by_order, named, named_behind, no_named, another_named, ordered, ordered_behind, no_ordered, another_ordered, no_expression, an_expression, wire_item, reg_item, local_item, genvar_item, assign_item, always_item, instances_item, at_all, at_bracket, at_inputs, at_edge, edge_end, assignments, assignments_behind, no_assignment, another_assignment, continuous}
+use Rattle.verilog_parse.specs.Items.{Spells, AShape, OptionalSigned, OptionalRange, OptionalWire, OptionalNet, Names, NamesBehind, OtherNames, AVariable, OptionalValue, Variables, VariablesBehind, OtherVariables, ARegVariable, RegVariables, RegVariablesBehind, OtherRegVariables, AParameter, Parameters, ParametersBehind, OtherParameters, Overrides, Instances, InstancesBehind, OtherInstances, AnInstance, AConnections, ANamedConnection, NamedBehind, OtherNamed, AnOrdered, OrderedBehind, OtherOrdered, OptionalExpression, APlainItem, AnEvent, Trigger, EdgeEnd, Assignments, AssignmentsBehind, OtherAssignments, AContinuous}
+use Rattle.verilog_parse.specs.Items.{shape, not_signed, is_signed, no_range, a_range, no_wire, a_wire, no_net, net_wire, net_reg, names, names_behind, no_name, another_name, variable, no_value, a_value, variables, variables_behind, no_variable, another_variable, reg_variable, reg_variables, reg_variables_behind, no_reg_variable, another_reg_variable, parameter, parameters, parameters_behind, no_parameter, another_parameter, no_override, an_override, instances, instances_behind, no_instance, another_instance, instance_, by_name, by_order, named, named_behind, no_named, another_named, ordered, ordered_behind, no_ordered, another_ordered, no_expression, an_expression, wire_item, reg_item, local_item, genvar_item, assign_item, always_item, instances_item, at_all, at_bracket, at_inputs, at_edge, edge_end, assignments, assignments_behind, no_assignment, another_assignment, continuous}
 use Rattle.verilog_parse.proofs.OneToken.{kind_of, same_token, two_kinds, no_kind, no_beginning, same_expression, same_range, ap₃}
 use Rattle.verilog_parse.proofs.OneStatement.{one_target, one_statement}
 
@@ -93,7 +94,7 @@ one_optional_value (a_value t x) (a_value t' x') same = let a = same_token t t' 
 pub one_variable : {x y : Variable} {s q r p : List Token} → Spells (AVariable x) s r → Spells (AVariable y) q p → s ≡ q → (x ≡ y) × (r ≡ p)
 one_variable (variable t x) (variable t' x') same =
     let a = same_token t t' same in let b = one_optional_value x x' a.1 in
-    (ap₂ (λ (t : Token) (x : Option Expr). record { name = identifier_of t; value = x; addresses = None }) a.0 b.0, b.1)
+    (ap₂ (λ (t : Token) (x : Option Expr). record { name = identifier_of t; value = x }) a.0 b.0, b.1)
 
 one_other_variables : {x y : List Variable} {s q r p : List Token} → Spells (OtherVariables x) s r → Spells (OtherVariables y) q p → s ≡ q
     → (x ≡ y) × (r ≡ p)
@@ -111,6 +112,29 @@ one_variables_behind (variables_behind xs) (variables_behind xs') is same =
 
 pub one_variables : {x y : List Variable} {s q r p : List Token} → Spells (Variables x) s r → Spells (Variables y) q p → s ≡ q → (x ≡ y) × (r ≡ p)
 one_variables (variables x xs) (variables x' xs') same = let a = one_variable x x' same in one_variables_behind xs xs' a.0 a.1
+
+one_reg_variable : {x y : RegVariable} {s q r p : List Token} → Spells (ARegVariable x) s r → Spells (ARegVariable y) q p → s ≡ q
+    → (x ≡ y) × (r ≡ p)
+one_reg_variable (reg_variable x) (reg_variable x') same =
+    let a = one_variable x x' same in (ap (λ (x : Variable). record { name = x.name; value = x.value; addresses = None }) a.0, a.1)
+
+one_other_reg_variables : {x y : List RegVariable} {s q r p : List Token} → Spells (OtherRegVariables x) s r → Spells (OtherRegVariables y) q p → s ≡ q
+    → (x ≡ y) × (r ≡ p)
+one_other_reg_variables (no_reg_variable free) (no_reg_variable free') same = (refl, same)
+one_other_reg_variables (no_reg_variable free) (another_reg_variable t' x' xs') same = no_kind (kind_of t') free (sym same)
+one_other_reg_variables (another_reg_variable t x xs) (no_reg_variable free') same = no_kind (kind_of t) free' same
+one_other_reg_variables (another_reg_variable t x xs) (another_reg_variable t' x' xs') same =
+    let a = same_token t t' same in let b = one_reg_variable x x' a.1 in let c = one_other_reg_variables xs xs' b.1 in
+    (ap₂ (λ (x : RegVariable) (xs : List RegVariable). x ∷ xs) b.0 c.0, c.1)
+
+one_reg_variables_behind : {x y : RegVariable} {u v : List RegVariable} {s q r p : List Token} → Spells (RegVariablesBehind x u) s r
+    → Spells (RegVariablesBehind y v) q p → x ≡ y → s ≡ q → (u ≡ v) × (r ≡ p)
+one_reg_variables_behind (reg_variables_behind xs) (reg_variables_behind xs') is same =
+    let a = one_other_reg_variables xs xs' same in (ap₂ (λ (x : RegVariable) (xs : List RegVariable). x ∷ xs) is a.0, a.1)
+
+pub one_reg_variables : {x y : List RegVariable} {s q r p : List Token} → Spells (RegVariables x) s r → Spells (RegVariables y) q p → s ≡ q
+    → (x ≡ y) × (r ≡ p)
+one_reg_variables (reg_variables x xs) (reg_variables x' xs') same = let a = one_reg_variable x x' same in one_reg_variables_behind xs xs' a.0 a.1
 
 pub one_parameter : {x y : Parameter} {s q r p : List Token} → Spells (AParameter x) s r → Spells (AParameter y) q p → s ≡ q → (x ≡ y) × (r ≡ p)
 one_parameter (parameter t u x) (parameter t' u' x') same =
@@ -292,8 +316,8 @@ one_plain_item (wire_item t x xs u) (wire_item t' x' xs' u') same =
     let a = same_token t t' same in let b = one_shape x x' a.1 in let c = one_variables xs xs' b.1 in let d = same_token u u' c.1 in
     (ap₃ (λ (t : Token) (x : Shape) (xs : List Variable). item.Wire t.at x xs) a.0 b.0 c.0, d.1)
 one_plain_item (reg_item t x xs u) (reg_item t' x' xs' u') same =
-    let a = same_token t t' same in let b = one_shape x x' a.1 in let c = one_variables xs xs' b.1 in let d = same_token u u' c.1 in
-    (ap₃ (λ (t : Token) (x : Shape) (xs : List Variable). item.Reg t.at x xs) a.0 b.0 c.0, d.1)
+    let a = same_token t t' same in let b = one_shape x x' a.1 in let c = one_reg_variables xs xs' b.1 in let d = same_token u u' c.1 in
+    (ap₃ (λ (t : Token) (x : Shape) (xs : List RegVariable). item.Reg t.at x xs) a.0 b.0 c.0, d.1)
 one_plain_item (local_item t x xs u) (local_item t' x' xs' u') same =
     let a = same_token t t' same in let b = one_shape x x' a.1 in let c = one_parameters xs xs' b.1 in let d = same_token u u' c.1 in
     (ap₃ (λ (t : Token) (x : Shape) (xs : List Parameter). item.LocalParameter t.at x xs) a.0 b.0 c.0, d.1)

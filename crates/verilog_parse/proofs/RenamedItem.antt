@@ -6,12 +6,12 @@ use Rattle.ls_text.specs.declared.name_id.NameId.{NameId}
 use Rattle.verilog_lex.specs.declared.token.Token.{Token}
 use Rattle.verilog_lex.specs.declared.kind.Kind.{Kind}
 use Rattle.verilog_lex.specs.declared.kind.Kind.TheVariants as k
-use Rattle.verilog_ast.specs.Renamed.{renamed_identifier, renamed_expression, renamed_range, renamed_shape, renamed_variable, renamed_parameter, renamed_named, renamed_ordered, renamed_connections, renamed_instance, renamed_continuous, renamed_plain_item}
+use Rattle.verilog_ast.specs.Renamed.{renamed_identifier, renamed_expression, renamed_range, renamed_shape, renamed_variable, renamed_reg_variable, renamed_parameter, renamed_named, renamed_ordered, renamed_connections, renamed_instance, renamed_continuous, renamed_plain_item}
 use Rattle.verilog_expr.specs.Grammar.{begins_expression}
 use Rattle.verilog_expr.specs.Renamed.{retokens}
 use Rattle.verilog_expr.proofs.RenamedTokens.{at_next, takes_so, same_place}
 use Rattle.verilog_expr.proofs.RenamedSpells.{spells_so}
-use Rattle.verilog_parse.specs.Items.{Phrase, Spells, AShape, OptionalSigned, OptionalRange, OptionalWire, OptionalNet, Names, NamesBehind, OtherNames, AVariable, OptionalValue, Variables, VariablesBehind, OtherVariables, AParameter, Parameters, ParametersBehind, OtherParameters, Overrides, Instances, InstancesBehind, OtherInstances, AnInstance, AConnections, ANamedConnection, NamedBehind, OtherNamed, AnOrdered, OrderedBehind, OtherOrdered, OptionalExpression, APlainItem, AnEvent, Trigger, EdgeEnd, Assignments, AssignmentsBehind, OtherAssignments, AContinuous, shape, not_signed, is_signed, no_range, a_range, no_wire, a_wire, no_net, net_wire, net_reg, names, names_behind, no_name, another_name, variable, no_value, a_value, variables, variables_behind, no_variable, another_variable, parameter, parameters, parameters_behind, no_parameter, another_parameter, no_override, an_override, instances, instances_behind, no_instance, another_instance, instance_, by_name, by_order, named, named_behind, no_named, another_named, ordered, ordered_behind, no_ordered, another_ordered, no_expression, an_expression, wire_item, reg_item, local_item, genvar_item, assign_item, always_item, instances_item, at_all, at_bracket, at_inputs, at_edge, edge_end, assignments, assignments_behind, no_assignment, another_assignment, continuous}
+use Rattle.verilog_parse.specs.Items.{Phrase, Spells, AShape, OptionalSigned, OptionalRange, OptionalWire, OptionalNet, Names, NamesBehind, OtherNames, AVariable, OptionalValue, Variables, VariablesBehind, OtherVariables, ARegVariable, RegVariables, RegVariablesBehind, OtherRegVariables, AParameter, Parameters, ParametersBehind, OtherParameters, Overrides, Instances, InstancesBehind, OtherInstances, AnInstance, AConnections, ANamedConnection, NamedBehind, OtherNamed, AnOrdered, OrderedBehind, OtherOrdered, OptionalExpression, APlainItem, AnEvent, Trigger, EdgeEnd, Assignments, AssignmentsBehind, OtherAssignments, AContinuous, shape, not_signed, is_signed, no_range, a_range, no_wire, a_wire, no_net, net_wire, net_reg, names, names_behind, no_name, another_name, variable, no_value, a_value, variables, variables_behind, no_variable, another_variable, reg_variable, reg_variables, reg_variables_behind, no_reg_variable, another_reg_variable, parameter, parameters, parameters_behind, no_parameter, another_parameter, no_override, an_override, instances, instances_behind, no_instance, another_instance, instance_, by_name, by_order, named, named_behind, no_named, another_named, ordered, ordered_behind, no_ordered, another_ordered, no_expression, an_expression, wire_item, reg_item, local_item, genvar_item, assign_item, always_item, instances_item, at_all, at_bracket, at_inputs, at_edge, edge_end, assignments, assignments_behind, no_assignment, another_assignment, continuous}
 use Rattle.verilog_parse.proofs.RenamedStatement.{statement_so}
 
 abbrev pub renamed_phrase : (NameId → NameId) → Phrase → Phrase
@@ -28,6 +28,10 @@ renamed_phrase f (OptionalValue x) = OptionalValue (option_map (renamed_expressi
 renamed_phrase f (Variables x) = Variables (map (renamed_variable f) x)
 renamed_phrase f (VariablesBehind x y) = VariablesBehind (renamed_variable f x) (map (renamed_variable f) y)
 renamed_phrase f (OtherVariables x) = OtherVariables (map (renamed_variable f) x)
+renamed_phrase f (ARegVariable x) = ARegVariable (renamed_reg_variable f x)
+renamed_phrase f (RegVariables x) = RegVariables (map (renamed_reg_variable f) x)
+renamed_phrase f (RegVariablesBehind x y) = RegVariablesBehind (renamed_reg_variable f x) (map (renamed_reg_variable f) y)
+renamed_phrase f (OtherRegVariables x) = OtherRegVariables (map (renamed_reg_variable f) x)
 renamed_phrase f (AParameter x) = AParameter (renamed_parameter f x)
 renamed_phrase f (Parameters x) = Parameters (map (renamed_parameter f) x)
 renamed_phrase f (ParametersBehind x y) = ParametersBehind (renamed_parameter f x) (map (renamed_parameter f) y)
@@ -77,6 +81,11 @@ item_so f (variables h i) = variables (item_so f h) (item_so f i)
 item_so f (variables_behind h) = variables_behind (item_so f h)
 item_so f (no_variable {s = s} h) = no_variable (at_next f s (λ (kind : Kind). kind ≢ k.Comma) h)
 item_so f (another_variable h i j) = another_variable (takes_so f h) (item_so f i) (item_so f j)
+item_so f (reg_variable h) = reg_variable (item_so f h)
+item_so f (reg_variables h i) = reg_variables (item_so f h) (item_so f i)
+item_so f (reg_variables_behind h) = reg_variables_behind (item_so f h)
+item_so f (no_reg_variable {s = s} h) = no_reg_variable (at_next f s (λ (kind : Kind). kind ≢ k.Comma) h)
+item_so f (another_reg_variable h i j) = another_reg_variable (takes_so f h) (item_so f i) (item_so f j)
 item_so f (parameter h i j) = parameter (takes_so f h) (takes_so f i) (spells_so f j)
 item_so f (parameters h i) = parameters (item_so f h) (item_so f i)
 item_so f (parameters_behind h) = parameters_behind (item_so f h)

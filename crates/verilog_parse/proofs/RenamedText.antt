@@ -1,5 +1,5 @@
 -- A text's modules and its fault depend on its tokens alone, whatever numbers their names have.
-use Rattle.std.proofs.Common.{◌≡◌, ◌≢◌, ℕ, List, [], ◌∷◌, map, Ok, Err, refl, sym, ap₂, subst}
+use Rattle.std.proofs.Common.{◌≡◌, ◌∙◌, ◌≢◌, ℕ, List, [], ◌∷◌, map, Ok, Err, refl, sym, ap, ap₂, subst}
 use Rattle.ls_text.specs.declared.name_id.NameId.{NameId}
 use Rattle.verilog_lex.specs.declared.token.Token.{Token}
 use Rattle.verilog_lex.specs.declared.kind.Kind.{Kind}
@@ -7,6 +7,9 @@ use Rattle.verilog_lex.specs.declared.kind.Kind.TheVariants as k
 use Rattle.verilog_ast.specs.declared.module_body.ModuleBody.{ModuleBody}
 use Rattle.verilog_ast.specs.declared.module.Module.{Module}
 use Rattle.verilog_ast.specs.Renamed.{renamed_body}
+use Rattle.verilog_ast.specs.Views.{declaration_of, declarations_of}
+use Rattle.verilog_ast.specs.Renaming.{declaration_as}
+use Rattle.verilog_ast.proofs.RenamedItemViews.{same_declaration}
 use Rattle.verilog_expr.specs.declared.fault.ParseFault.{ParseFault}
 use Rattle.verilog_expr.specs.Tokens.{next}
 use Rattle.verilog_expr.specs.Renamed.{retokens}
@@ -42,6 +45,17 @@ one_bodies (another_body is x xs) (another_body is' x' xs') same =
 pub same_modules : (f g : NameId → NameId) (names other : List (List ℕ)) (xs ys : List Module) (s q : List Token) → retokens f s ≡ retokens g q
     → Stands names xs s → Stands other ys q → map (λ x. renamed_body f x.body) xs ≡ map (λ y. renamed_body g y.body) ys
 same_modules f g names other xs ys s q same h d = (one_bodies (bodies_so f h.tree) (bodies_so g d.tree) same).0
+
+-- ---- the same as plain data
+
+viewed_so : (f : NameId → NameId) (xs : List Module) → map declaration_of (map (λ x. renamed_body f x.body) xs) ≡ map (declaration_as f) (declarations_of xs)
+viewed_so f [] = refl
+viewed_so f (x ∷ xs) = ap₂ (λ y ys. y ∷ ys) (same_declaration f x.body) (viewed_so f xs)
+
+pub same_declarations : (f g : NameId → NameId) (names other : List (List ℕ)) (xs ys : List Module) (s q : List Token) → retokens f s ≡ retokens g q
+    → Stands names xs s → Stands other ys q → map (declaration_as f) (declarations_of xs) ≡ map (declaration_as g) (declarations_of ys)
+same_declarations f g names other xs ys s q same h d =
+    sym (viewed_so f xs) ∙ ap (map declaration_of) (same_modules f g names other xs ys s q same h d) ∙ viewed_so g ys
 
 -- ---- faults
 

@@ -23,8 +23,14 @@ pub record IsSpelledAs (names : List (List ℕ)) (x : Module) (s r : List Token)
 
 -- modules up to what is none
 pub data SpellsAll (names : List (List ℕ)) : List Module → List Token → List Token → Type 0 where
-  no_module : {s : List Token} → next s ≢ k.Module → SpellsAll names [] s s
-  another_module : {x : Module} {xs : List Module} {s a r : List Token} → k.Module ≡ next s → IsSpelledAs names x s a → SpellsAll names xs a r → SpellsAll names (x ∷ xs) s r
+  no_module : {s : List Token}
+      → next s ≢ k.Module
+      → SpellsAll names [] s s
+  another_module : {x : Module} {xs : List Module} {s a r : List Token}
+      → k.Module ≡ next s
+      → IsSpelledAs names x s a
+      → SpellsAll names xs a r
+      → SpellsAll names (x ∷ xs) s r
 
 -- the modules stand for all the tokens up to their end, and the machine takes them
 pub record Stands (names : List (List ℕ)) (xs : List Module) (s : List Token) : Type 0 where

@@ -44,44 +44,149 @@ pub data Phrase : Type 0 where
 -- The phrase stands at the front of the first tokens, and the second are left. An option or repetition is
 -- taken where the next token can begin it.
 pub data Spells : Phrase → List Token → List Token → Type 0 where
-  module_ : {xs : List HeaderParameter} {y : Ports} {zs : List Item} {s a b c d r : List Token} {t u v : Token} → Takes k.Module s a t → Takes k.Word a b u → Spells (AHeader xs y) b c → Spells (Items zs) c d
-      → Takes k.EndModule d r v → Spells (AModule (record { name = identifier_of u; parameters = xs; ports = y; items = zs })) s r
-  header : {xs : List HeaderParameter} {y : Ports} {s a b r : List Token} {t : Token} → Spells (ParameterHeader xs) s a → Spells (PortHeader y) a b → Takes k.Semicolon b r t → Spells (AHeader xs y) s r
-  no_parameters : {s : List Token} → next s ≢ k.Hash → Spells (ParameterHeader []) s s
-  some_parameters : {x : HeaderParameter} {xs : List HeaderParameter} {s a b c d r : List Token} {t u v : Token} → Takes k.Hash s a t → Takes k.LeftParen a b u → Spells (AShapedParameter x) b c
-      → Spells (HeaderParametersBehind x xs) c d → Takes k.RightParen d r v → Spells (ParameterHeader xs) s r
-  shaped : {x : Shape} {y : Parameter} {s a b r : List Token} {t : Token} → Takes k.Parameter s a t → items.Spells (items.AShape x) a b → items.Spells (items.AParameter y) b r
+  module_ : {xs : List HeaderParameter} {y : Ports} {zs : List Item} {s a b c d r : List Token} {t u v : Token}
+      → Takes k.Module s a t
+      → Takes k.Word a b u
+      → Spells (AHeader xs y) b c
+      → Spells (Items zs) c d
+      → Takes k.EndModule d r v
+      → Spells (AModule (record { name = identifier_of u; parameters = xs; ports = y; items = zs })) s r
+  header : {xs : List HeaderParameter} {y : Ports} {s a b r : List Token} {t : Token}
+      → Spells (ParameterHeader xs) s a
+      → Spells (PortHeader y) a b
+      → Takes k.Semicolon b r t
+      → Spells (AHeader xs y) s r
+  no_parameters : {s : List Token}
+      → next s ≢ k.Hash
+      → Spells (ParameterHeader []) s s
+  some_parameters : {x : HeaderParameter} {xs : List HeaderParameter} {s a b c d r : List Token} {t u v : Token}
+      → Takes k.Hash s a t
+      → Takes k.LeftParen a b u
+      → Spells (AShapedParameter x) b c
+      → Spells (HeaderParametersBehind x xs) c d
+      → Takes k.RightParen d r v
+      → Spells (ParameterHeader xs) s r
+  shaped : {x : Shape} {y : Parameter} {s a b r : List Token} {t : Token}
+      → Takes k.Parameter s a t
+      → items.Spells (items.AShape x) a b
+      → items.Spells (items.AParameter y) b r
       → Spells (AShapedParameter (record { shape = Some x; parameter = y })) s r
-  with_shape : {x : HeaderParameter} {s r : List Token} → k.Parameter ≡ next s → Spells (AShapedParameter x) s r → Spells (AHeaderParameter x) s r
-  without_shape : {y : Parameter} {s r : List Token} → next s ≢ k.Parameter → items.Spells (items.AParameter y) s r → Spells (AHeaderParameter (record { shape = None; parameter = y })) s r
-  header_parameters_behind : {x : HeaderParameter} {xs : List HeaderParameter} {s r : List Token} → Spells (OtherHeaderParameters xs) s r → Spells (HeaderParametersBehind x (x ∷ xs)) s r
-  no_header_parameter : {s : List Token} → next s ≢ k.Comma → Spells (OtherHeaderParameters []) s s
-  another_header_parameter : {x : HeaderParameter} {xs : List HeaderParameter} {s a b r : List Token} {t : Token} → Takes k.Comma s a t → Spells (AHeaderParameter x) a b → Spells (OtherHeaderParameters xs) b r
+  with_shape : {x : HeaderParameter} {s r : List Token}
+      → k.Parameter ≡ next s
+      → Spells (AShapedParameter x) s r
+      → Spells (AHeaderParameter x) s r
+  without_shape : {y : Parameter} {s r : List Token}
+      → next s ≢ k.Parameter
+      → items.Spells (items.AParameter y) s r
+      → Spells (AHeaderParameter (record { shape = None; parameter = y })) s r
+  header_parameters_behind : {x : HeaderParameter} {xs : List HeaderParameter} {s r : List Token}
+      → Spells (OtherHeaderParameters xs) s r
+      → Spells (HeaderParametersBehind x (x ∷ xs)) s r
+  no_header_parameter : {s : List Token}
+      → next s ≢ k.Comma
+      → Spells (OtherHeaderParameters []) s s
+  another_header_parameter : {x : HeaderParameter} {xs : List HeaderParameter} {s a b r : List Token} {t : Token}
+      → Takes k.Comma s a t
+      → Spells (AHeaderParameter x) a b
+      → Spells (OtherHeaderParameters xs) b r
       → Spells (OtherHeaderParameters (x ∷ xs)) s r
-  no_ports : {s : List Token} → next s ≢ k.LeftParen → Spells (PortHeader ports.Nothing) s s
-  some_ports : {x : Ports} {s a b r : List Token} {t u : Token} → Takes k.LeftParen s a t → Spells (PortList x) a b → Takes k.RightParen b r u → Spells (PortHeader x) s r
-  empty_list : {s : List Token} → next s ≢ k.Word → next s ≢ k.Input → next s ≢ k.Output → Spells (PortList ports.Nothing) s s
-  name_list : {xs : List Identifier} {s r : List Token} → k.Word ≡ next s → items.Spells (items.Names xs) s r → Spells (PortList (ports.Names xs)) s r
-  input_list : {xs : List HeaderPort} {s r : List Token} → k.Input ≡ next s → Spells (DeclaredPorts xs) s r → Spells (PortList (ports.Declarations xs)) s r
-  output_list : {xs : List HeaderPort} {s r : List Token} → k.Output ≡ next s → Spells (DeclaredPorts xs) s r → Spells (PortList (ports.Declarations xs)) s r
-  declared : {x : HeaderPort} {xs : List HeaderPort} {s a r : List Token} → Spells (AHeaderPort x) s a → Spells (HeaderPortsBehind x xs) a r → Spells (DeclaredPorts xs) s r
-  header_ports_behind : {x : HeaderPort} {xs : List HeaderPort} {s r : List Token} → Spells (OtherHeaderPorts xs) s r → Spells (HeaderPortsBehind x (x ∷ xs)) s r
-  no_header_port : {s : List Token} → next s ≢ k.Comma → Spells (OtherHeaderPorts []) s s
-  another_header_port : {x : HeaderPort} {xs : List HeaderPort} {s a b r : List Token} {t : Token} → Takes k.Comma s a t → Spells (NextHeaderPort x) a b → Spells (OtherHeaderPorts xs) b r
+  no_ports : {s : List Token}
+      → next s ≢ k.LeftParen
+      → Spells (PortHeader ports.Nothing) s s
+  some_ports : {x : Ports} {s a b r : List Token} {t u : Token}
+      → Takes k.LeftParen s a t
+      → Spells (PortList x) a b
+      → Takes k.RightParen b r u
+      → Spells (PortHeader x) s r
+  empty_list : {s : List Token}
+      → next s ≢ k.Word
+      → next s ≢ k.Input
+      → next s ≢ k.Output
+      → Spells (PortList ports.Nothing) s s
+  name_list : {xs : List Identifier} {s r : List Token}
+      → k.Word ≡ next s
+      → items.Spells (items.Names xs) s r
+      → Spells (PortList (ports.Names xs)) s r
+  input_list : {xs : List HeaderPort} {s r : List Token}
+      → k.Input ≡ next s
+      → Spells (DeclaredPorts xs) s r
+      → Spells (PortList (ports.Declarations xs)) s r
+  output_list : {xs : List HeaderPort} {s r : List Token}
+      → k.Output ≡ next s
+      → Spells (DeclaredPorts xs) s r
+      → Spells (PortList (ports.Declarations xs)) s r
+  declared : {x : HeaderPort} {xs : List HeaderPort} {s a r : List Token}
+      → Spells (AHeaderPort x) s a
+      → Spells (HeaderPortsBehind x xs) a r
+      → Spells (DeclaredPorts xs) s r
+  header_ports_behind : {x : HeaderPort} {xs : List HeaderPort} {s r : List Token}
+      → Spells (OtherHeaderPorts xs) s r
+      → Spells (HeaderPortsBehind x (x ∷ xs)) s r
+  no_header_port : {s : List Token}
+      → next s ≢ k.Comma
+      → Spells (OtherHeaderPorts []) s s
+  another_header_port : {x : HeaderPort} {xs : List HeaderPort} {s a b r : List Token} {t : Token}
+      → Takes k.Comma s a t
+      → Spells (NextHeaderPort x) a b
+      → Spells (OtherHeaderPorts xs) b r
       → Spells (OtherHeaderPorts (x ∷ xs)) s r
-  input_port : {x : PortNet} {y : Shape} {s a b c r : List Token} {t u : Token} → Takes k.Input s a t → items.Spells (items.OptionalWire x) a b → items.Spells (items.AShape y) b c → Takes k.Word c r u
+  input_port : {x : PortNet} {y : Shape} {s a b c r : List Token} {t u : Token}
+      → Takes k.Input s a t
+      → items.Spells (items.OptionalWire x) a b
+      → items.Spells (items.AShape y) b c
+      → Takes k.Word c r u
       → Spells (AHeaderPort (port.Input t.at x y (identifier_of u))) s r
-  output_port : {x : PortNet} {y : Shape} {z : Variable} {s a b c r : List Token} {t : Token} → Takes k.Output s a t → items.Spells (items.OptionalNet x) a b → items.Spells (items.AShape y) b c
-      → items.Spells (items.AVariable z) c r → Spells (AHeaderPort (port.Output t.at x y z)) s r
-  next_name : {x : Variable} {s r : List Token} → k.Word ≡ next s → items.Spells (items.AVariable x) s r → Spells (NextHeaderPort (port.Next x)) s r
-  next_port : {x : HeaderPort} {s r : List Token} → next s ≢ k.Word → Spells (AHeaderPort x) s r → Spells (NextHeaderPort x) s r
-  no_item : {s : List Token} → begins_item (next s) ≡ false → Spells (Items []) s s
-  another_item : {x : Item} {xs : List Item} {s a r : List Token} → begins_item (next s) ≡ true → Spells (AnItem x) s a → Spells (Items xs) a r → Spells (Items (x ∷ xs)) s r
-  input_item : {x : PortNet} {y : Shape} {zs : List Identifier} {s a b c d r : List Token} {t u : Token} → Takes k.Input s a t → items.Spells (items.OptionalWire x) a b → items.Spells (items.AShape y) b c
-      → items.Spells (items.Names zs) c d → Takes k.Semicolon d r u → Spells (AnItem (item.Input t.at x y zs)) s r
-  output_item : {x : PortNet} {y : Shape} {zs : List Variable} {s a b c d r : List Token} {t u : Token} → Takes k.Output s a t → items.Spells (items.OptionalNet x) a b → items.Spells (items.AShape y) b c
-      → items.Spells (items.Variables zs) c d → Takes k.Semicolon d r u → Spells (AnItem (item.Output t.at x y zs)) s r
-  parameter_item : {y : Shape} {zs : List Parameter} {s a b c r : List Token} {t u : Token} → Takes k.Parameter s a t → items.Spells (items.AShape y) a b → items.Spells (items.Parameters zs) b c
-      → Takes k.Semicolon c r u → Spells (AnItem (item.Parameter t.at y zs)) s r
-  region : {xs : List GenerateItem} {s a b r : List Token} {t u : Token} → Takes k.Generate s a t → generates.Spells (generates.GenerateItems xs) a b → Takes k.EndGenerate b r u → Spells (AnItem (item.Region t.at xs)) s r
-  other_item : {x : GenerateItem} {s r : List Token} → next s ≢ k.Input → next s ≢ k.Output → next s ≢ k.Parameter → next s ≢ k.Generate → generates.Spells (generates.AGenerateItem x) s r → Spells (AnItem (item.Item x)) s r
+  output_port : {x : PortNet} {y : Shape} {z : Variable} {s a b c r : List Token} {t : Token}
+      → Takes k.Output s a t
+      → items.Spells (items.OptionalNet x) a b
+      → items.Spells (items.AShape y) b c
+      → items.Spells (items.AVariable z) c r
+      → Spells (AHeaderPort (port.Output t.at x y z)) s r
+  next_name : {x : Variable} {s r : List Token}
+      → k.Word ≡ next s
+      → items.Spells (items.AVariable x) s r
+      → Spells (NextHeaderPort (port.Next x)) s r
+  next_port : {x : HeaderPort} {s r : List Token}
+      → next s ≢ k.Word
+      → Spells (AHeaderPort x) s r
+      → Spells (NextHeaderPort x) s r
+  no_item : {s : List Token}
+      → begins_item (next s) ≡ false
+      → Spells (Items []) s s
+  another_item : {x : Item} {xs : List Item} {s a r : List Token}
+      → begins_item (next s) ≡ true
+      → Spells (AnItem x) s a
+      → Spells (Items xs) a r
+      → Spells (Items (x ∷ xs)) s r
+  input_item : {x : PortNet} {y : Shape} {zs : List Identifier} {s a b c d r : List Token} {t u : Token}
+      → Takes k.Input s a t
+      → items.Spells (items.OptionalWire x) a b
+      → items.Spells (items.AShape y) b c
+      → items.Spells (items.Names zs) c d
+      → Takes k.Semicolon d r u
+      → Spells (AnItem (item.Input t.at x y zs)) s r
+  output_item : {x : PortNet} {y : Shape} {zs : List Variable} {s a b c d r : List Token} {t u : Token}
+      → Takes k.Output s a t
+      → items.Spells (items.OptionalNet x) a b
+      → items.Spells (items.AShape y) b c
+      → items.Spells (items.Variables zs) c d
+      → Takes k.Semicolon d r u
+      → Spells (AnItem (item.Output t.at x y zs)) s r
+  parameter_item : {y : Shape} {zs : List Parameter} {s a b c r : List Token} {t u : Token}
+      → Takes k.Parameter s a t
+      → items.Spells (items.AShape y) a b
+      → items.Spells (items.Parameters zs) b c
+      → Takes k.Semicolon c r u
+      → Spells (AnItem (item.Parameter t.at y zs)) s r
+  region : {xs : List GenerateItem} {s a b r : List Token} {t u : Token}
+      → Takes k.Generate s a t
+      → generates.Spells (generates.GenerateItems xs) a b
+      → Takes k.EndGenerate b r u
+      → Spells (AnItem (item.Region t.at xs)) s r
+  other_item : {x : GenerateItem} {s r : List Token}
+      → next s ≢ k.Input
+      → next s ≢ k.Output
+      → next s ≢ k.Parameter
+      → next s ≢ k.Generate
+      → generates.Spells (generates.AGenerateItem x) s r
+      → Spells (AnItem (item.Item x)) s r

@@ -8,8 +8,9 @@ ghost use Rattle.verilog_expr.specs.Reads.{Reads};
 ghost use Rattle.verilog_parse.specs.Items as spells;
 ghost use Rattle.verilog_parse.specs.Items.{Spells};
 
-use sqlite_items::{Boxed, Items};
-use verilog_ast::{Connections, Expr, Instance, NamedConnection, OrderedConnection};
+use verilog_ast::{
+    Child, Children, Connections, Expr, Instance, NamedConnection, OrderedConnection,
+};
 use verilog_expr::{ParseError, Parser, identifier};
 use verilog_lex::Kind;
 
@@ -31,7 +32,7 @@ pub fn overrides(p: &mut Parser<'_>, weight: u32) -> Result<Option<Connections>,
 }
 
 /// Instances with commas between.
-pub fn instances(p: &mut Parser<'_>, weight: u32) -> Result<Items<Instance>, ParseError>
+pub fn instances(p: &mut Parser<'_>, weight: u32) -> Result<Children<Instance>, ParseError>
     requires { weight < 2 ^ 30 }
     ensures machine { Reads (N grammar.Instances weight ∷ []) p.old result p.new }
     ensures tree { IfOk result (λ xs. Spells (spells.Instances xs) p.old p.new) }
@@ -47,13 +48,13 @@ fn more_instances(
     p: &mut Parser<'_>,
     first: Instance,
     weight: u32,
-) -> Result<Items<Instance>, ParseError>
+) -> Result<Children<Instance>, ParseError>
     requires { weight < 2 ^ 30 }
     ensures machine { Reads (N grammar.MoreInstances weight ∷ []) p.old result p.new }
     ensures tree { IfOk result (λ xs. Spells (spells.InstancesBehind first xs) p.old p.new) }
     ensures shorter { OnOk result (length p.new ≤ length p.old) }
 {
-    let mut all = Items::new(p.alloc());
+    let mut all = Children::new(p.alloc());
     all.push(first)?;
     'items: while p.sees(Kind::Comma) {
         p.expect(Kind::Comma, weight)?;
@@ -111,13 +112,13 @@ fn more_named(
     p: &mut Parser<'_>,
     first: NamedConnection,
     weight: u32,
-) -> Result<Items<NamedConnection>, ParseError>
+) -> Result<Children<NamedConnection>, ParseError>
     requires { weight < 2 ^ 30 }
     ensures machine { Reads (N grammar.MoreNamed weight ∷ []) p.old result p.new }
     ensures tree { IfOk result (λ xs. Spells (spells.NamedBehind first xs) p.old p.new) }
     ensures shorter { OnOk result (length p.new ≤ length p.old) }
 {
-    let mut all = Items::new(p.alloc());
+    let mut all = Children::new(p.alloc());
     all.push(first)?;
     'items: while p.sees(Kind::Comma) {
         p.expect(Kind::Comma, weight)?;
@@ -143,13 +144,13 @@ fn more_ordered(
     p: &mut Parser<'_>,
     first: OrderedConnection,
     weight: u32,
-) -> Result<Items<OrderedConnection>, ParseError>
+) -> Result<Children<OrderedConnection>, ParseError>
     requires { weight < 2 ^ 30 }
     ensures machine { Reads (N grammar.MoreOrdered weight ∷ []) p.old result p.new }
     ensures tree { IfOk result (λ xs. Spells (spells.OrderedBehind first xs) p.old p.new) }
     ensures shorter { OnOk result (length p.new ≤ length p.old) }
 {
-    let mut all = Items::new(p.alloc());
+    let mut all = Children::new(p.alloc());
     all.push(first)?;
     'items: while p.sees(Kind::Comma) {
         p.expect(Kind::Comma, weight)?;
@@ -158,7 +159,7 @@ fn more_ordered(
     Ok(all)
 }
 
-fn optional_expression(p: &mut Parser<'_>, weight: u32) -> Result<Option<Boxed<Expr>>, ParseError>
+fn optional_expression(p: &mut Parser<'_>, weight: u32) -> Result<Option<Child<Expr>>, ParseError>
     requires { weight < 2 ^ 30 }
     ensures machine { Reads (N grammar.OptionalExpression weight ∷ []) p.old result p.new }
     ensures tree { IfOk result (λ x. Spells (spells.OptionalExpression x) p.old p.new) }
@@ -167,6 +168,6 @@ fn optional_expression(p: &mut Parser<'_>, weight: u32) -> Result<Option<Boxed<E
     if !p.sees_expression() {
         return Ok(None);
     }
-    let value = Boxed::new(p.alloc(), p.expression(weight)?)?;
+    let value = Child::new(p.alloc(), p.expression(weight)?)?;
     Ok(Some(value))
 }

@@ -8,8 +8,9 @@ ghost use Rattle.verilog_expr.specs.Reads.{Reads};
 ghost use Rattle.verilog_parse.specs.Items as spells;
 ghost use Rattle.verilog_parse.specs.Items.{Spells};
 
-use sqlite_items::{Boxed, Items};
-use verilog_ast::{Expr, Identifier, Parameter, PortNet, Range, Shape, Variable};
+use verilog_ast::{
+    Child, Children, Expr, Identifier, Parameter, PortNet, Range, RegVariable, Shape, Variable,
+};
 use verilog_expr::{ParseError, Parser, identifier};
 use verilog_lex::Kind;
 
@@ -84,7 +85,7 @@ pub fn optional_net(p: &mut Parser<'_>, weight: u32) -> Result<PortNet, ParseErr
 }
 
 /// Names with commas between.
-pub fn names(p: &mut Parser<'_>, weight: u32) -> Result<Items<Identifier>, ParseError>
+pub fn names(p: &mut Parser<'_>, weight: u32) -> Result<Children<Identifier>, ParseError>
     requires { weight < 2 ^ 30 }
     ensures machine { Reads (N grammar.Names weight ∷ []) p.old result p.new }
     ensures tree { IfOk result (λ xs. Spells (spells.Names xs) p.old p.new) }
@@ -100,13 +101,13 @@ fn more_names(
     p: &mut Parser<'_>,
     first: Identifier,
     weight: u32,
-) -> Result<Items<Identifier>, ParseError>
+) -> Result<Children<Identifier>, ParseError>
     requires { weight < 2 ^ 30 }
     ensures machine { Reads (N grammar.MoreNames weight ∷ []) p.old result p.new }
     ensures tree { IfOk result (λ xs. Spells (spells.NamesBehind first xs) p.old p.new) }
     ensures shorter { OnOk result (length p.new ≤ length p.old) }
 {
-    let mut all = Items::new(p.alloc());
+    let mut all = Children::new(p.alloc());
     all.push(first)?;
     'items: while p.sees(Kind::Comma) {
         p.expect(Kind::Comma, weight)?;
@@ -125,14 +126,10 @@ pub fn variable(p: &mut Parser<'_>, weight: u32) -> Result<Variable, ParseError>
 {
     let name = identifier(p.expect(Kind::Word, weight)?);
     let value = optional_value(p, weight)?;
-    Ok(Variable {
-        name,
-        value,
-        addresses: None,
-    })
+    Ok(Variable { name, value })
 }
 
-fn optional_value(p: &mut Parser<'_>, weight: u32) -> Result<Option<Boxed<Expr>>, ParseError>
+fn optional_value(p: &mut Parser<'_>, weight: u32) -> Result<Option<Child<Expr>>, ParseError>
     requires { weight < 2 ^ 30 }
     ensures machine { Reads (N grammar.OptionalValue weight ∷ []) p.old result p.new }
     ensures tree { IfOk result (λ x. Spells (spells.OptionalValue x) p.old p.new) }
@@ -142,12 +139,12 @@ fn optional_value(p: &mut Parser<'_>, weight: u32) -> Result<Option<Boxed<Expr>>
         return Ok(None);
     }
     p.expect(Kind::Equal, weight)?;
-    let value = Boxed::new(p.alloc(), p.expression(weight)?)?;
+    let value = Child::new(p.alloc(), p.expression(weight)?)?;
     Ok(Some(value))
 }
 
 /// Names with their values, with commas between.
-pub fn variables(p: &mut Parser<'_>, weight: u32) -> Result<Items<Variable>, ParseError>
+pub fn variables(p: &mut Parser<'_>, weight: u32) -> Result<Children<Variable>, ParseError>
     requires { weight < 2 ^ 30 }
     ensures machine { Reads (N grammar.Variables weight ∷ []) p.old result p.new }
     ensures tree { IfOk result (λ xs. Spells (spells.Variables xs) p.old p.new) }
@@ -163,17 +160,64 @@ fn more_variables(
     p: &mut Parser<'_>,
     first: Variable,
     weight: u32,
-) -> Result<Items<Variable>, ParseError>
+) -> Result<Children<Variable>, ParseError>
     requires { weight < 2 ^ 30 }
     ensures machine { Reads (N grammar.MoreVariables weight ∷ []) p.old result p.new }
     ensures tree { IfOk result (λ xs. Spells (spells.VariablesBehind first xs) p.old p.new) }
     ensures shorter { OnOk result (length p.new ≤ length p.old) }
 {
-    let mut all = Items::new(p.alloc());
+    let mut all = Children::new(p.alloc());
     all.push(first)?;
     'items: while p.sees(Kind::Comma) {
         p.expect(Kind::Comma, weight)?;
         all.push(variable(p, weight)?)?;
+    }
+    Ok(all)
+}
+
+// A name that `reg` declares, with its value or without.
+fn reg_variable(p: &mut Parser<'_>, weight: u32) -> Result<RegVariable, ParseError>
+    requires { weight < 2 ^ 30 }
+    ensures machine { Reads (N grammar.AVariable weight ∷ []) p.old result p.new }
+    ensures tree { IfOk result (λ x. Spells (spells.ARegVariable x) p.old p.new) }
+    ensures shorter { OnOk result (length p.new < length p.old) }
+{
+    let Variable { name, value } = variable(p, weight)?;
+    Ok(RegVariable {
+        name,
+        value,
+        addresses: None,
+    })
+}
+
+/// Names that `reg` declares, with commas between.
+pub fn reg_variables(p: &mut Parser<'_>, weight: u32) -> Result<Children<RegVariable>, ParseError>
+    requires { weight < 2 ^ 30 }
+    ensures machine { Reads (N grammar.Variables weight ∷ []) p.old result p.new }
+    ensures tree { IfOk result (λ xs. Spells (spells.RegVariables xs) p.old p.new) }
+    ensures shorter { OnOk result (length p.new < length p.old) }
+{
+    let first = reg_variable(p, weight)?;
+    let all = more_reg_variables(p, first, weight)?;
+    Ok(all)
+}
+
+// Further names of `reg`, behind the first.
+fn more_reg_variables(
+    p: &mut Parser<'_>,
+    first: RegVariable,
+    weight: u32,
+) -> Result<Children<RegVariable>, ParseError>
+    requires { weight < 2 ^ 30 }
+    ensures machine { Reads (N grammar.MoreVariables weight ∷ []) p.old result p.new }
+    ensures tree { IfOk result (λ xs. Spells (spells.RegVariablesBehind first xs) p.old p.new) }
+    ensures shorter { OnOk result (length p.new ≤ length p.old) }
+{
+    let mut all = Children::new(p.alloc());
+    all.push(first)?;
+    'items: while p.sees(Kind::Comma) {
+        p.expect(Kind::Comma, weight)?;
+        all.push(reg_variable(p, weight)?)?;
     }
     Ok(all)
 }
@@ -187,12 +231,12 @@ pub fn parameter(p: &mut Parser<'_>, weight: u32) -> Result<Parameter, ParseErro
 {
     let name = identifier(p.expect(Kind::Word, weight)?);
     p.expect(Kind::Equal, weight)?;
-    let value = Boxed::new(p.alloc(), p.expression(weight)?)?;
+    let value = Child::new(p.alloc(), p.expression(weight)?)?;
     Ok(Parameter { name, value })
 }
 
 /// Parameters with commas between.
-pub fn parameters(p: &mut Parser<'_>, weight: u32) -> Result<Items<Parameter>, ParseError>
+pub fn parameters(p: &mut Parser<'_>, weight: u32) -> Result<Children<Parameter>, ParseError>
     requires { weight < 2 ^ 30 }
     ensures machine { Reads (N grammar.Parameters weight ∷ []) p.old result p.new }
     ensures tree { IfOk result (λ xs. Spells (spells.Parameters xs) p.old p.new) }
@@ -208,13 +252,13 @@ fn more_parameters(
     p: &mut Parser<'_>,
     first: Parameter,
     weight: u32,
-) -> Result<Items<Parameter>, ParseError>
+) -> Result<Children<Parameter>, ParseError>
     requires { weight < 2 ^ 30 }
     ensures machine { Reads (N grammar.MoreParameters weight ∷ []) p.old result p.new }
     ensures tree { IfOk result (λ xs. Spells (spells.ParametersBehind first xs) p.old p.new) }
     ensures shorter { OnOk result (length p.new ≤ length p.old) }
 {
-    let mut all = Items::new(p.alloc());
+    let mut all = Children::new(p.alloc());
     all.push(first)?;
     'items: while p.sees(Kind::Comma) {
         p.expect(Kind::Comma, weight)?;

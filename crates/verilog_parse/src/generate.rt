@@ -12,8 +12,7 @@ ghost use Rattle.verilog_parse.specs.Generates.{Spells};
 use crate::declaration::parameter;
 use crate::plain_item::plain_item;
 use ls_text::Place;
-use sqlite_items::{Boxed, Items};
-use verilog_ast::{Branch, GenerateItem, Identifier, Loop};
+use verilog_ast::{Branch, Child, Children, GenerateItem, Identifier, Loop};
 use verilog_expr::{ParseError, Parser, identifier};
 use verilog_lex::Kind;
 
@@ -36,13 +35,13 @@ fn at_generate_item(p: &Parser<'_>) -> bool
 
 /// Items up to what begins none.
 #[cycle(generate)]
-pub fn generate_items(p: &mut Parser<'_>, weight: u32) -> Result<Items<GenerateItem>, ParseError>
+pub fn generate_items(p: &mut Parser<'_>, weight: u32) -> Result<Children<GenerateItem>, ParseError>
     requires { weight < 2 ^ 29 }
     ensures machine { Reads (N grammar.GenerateItems weight ∷ []) p.old result p.new }
     ensures tree { IfOk result (λ xs. Spells (spells.GenerateItems xs) p.old p.new) }
     ensures shorter { OnOk result (length p.new ≤ length p.old) }
 {
-    let mut all = Items::new(p.alloc());
+    let mut all = Children::new(p.alloc());
     'items: while at_generate_item(p) {
         all.push(generate_item(p, weight)?)?;
     }
@@ -94,7 +93,7 @@ fn loop_head(p: &mut Parser<'_>, weight: u32) -> Result<Loop, ParseError>
 {
     let start = parameter(p, weight)?;
     p.expect(Kind::Semicolon, weight)?;
-    let condition = Boxed::new(p.alloc(), p.expression(weight)?)?;
+    let condition = Child::new(p.alloc(), p.expression(weight)?)?;
     p.expect(Kind::Semicolon, weight)?;
     let step = parameter(p, weight)?;
     Ok(Loop {
@@ -109,7 +108,7 @@ fn loop_head(p: &mut Parser<'_>, weight: u32) -> Result<Loop, ParseError>
 fn block(
     p: &mut Parser<'_>,
     weight: u32,
-) -> Result<(Place, Identifier, Items<GenerateItem>), ParseError>
+) -> Result<(Place, Identifier, Children<GenerateItem>), ParseError>
     requires { weight < 2 ^ 29 }
     ensures machine { Reads (N grammar.ABlock weight ∷ []) p.old result p.new }
     ensures tree { IfOk result (λ x. Spells (spells.ABlock x.0 x.1 x.2) p.old p.new) }
@@ -133,7 +132,7 @@ fn branch(p: &mut Parser<'_>, weight: u32) -> Result<Branch, ParseError>
 {
     let at = p.expect(Kind::If, weight)?.at;
     p.expect(Kind::LeftParen, weight)?;
-    let condition = Boxed::new(p.alloc(), p.expression(weight + 1)?)?;
+    let condition = Child::new(p.alloc(), p.expression(weight + 1)?)?;
     p.expect(Kind::RightParen, weight + 1)?;
     let (_, label, items) = block(p, weight)?;
     Ok(Branch {
@@ -167,13 +166,13 @@ fn other_branches(
     p: &mut Parser<'_>,
     first: Branch,
     weight: u32,
-) -> Result<Items<Branch>, ParseError>
+) -> Result<Children<Branch>, ParseError>
     requires { weight < 2 ^ 29 }
     ensures machine { Reads (N grammar.OtherBranches weight ∷ []) p.old result p.new }
     ensures tree { IfOk result (λ xs. Spells (spells.BranchesBehind first xs) p.old p.new) }
     ensures shorter { OnOk result (length p.new ≤ length p.old) }
 {
-    let mut all = Items::new(p.alloc());
+    let mut all = Children::new(p.alloc());
     all.push(first)?;
     'items: while p.sees(Kind::Else) {
         p.expect(Kind::Else, weight)?;

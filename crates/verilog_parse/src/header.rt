@@ -9,8 +9,7 @@ ghost use Rattle.verilog_parse.specs.Modules as spells;
 ghost use Rattle.verilog_parse.specs.Modules.{Spells};
 
 use crate::declaration::{names, optional_net, optional_wire, parameter, shape, variable};
-use sqlite_items::Items;
-use verilog_ast::{HeaderParameter, HeaderPort, Ports};
+use verilog_ast::{Children, HeaderParameter, HeaderPort, Ports};
 use verilog_expr::{ParseError, Parser, identifier};
 use verilog_lex::Kind;
 
@@ -18,7 +17,7 @@ use verilog_lex::Kind;
 pub fn header(
     p: &mut Parser<'_>,
     weight: u32,
-) -> Result<(Items<HeaderParameter>, Ports), ParseError>
+) -> Result<(Children<HeaderParameter>, Ports), ParseError>
     requires { weight < 2 ^ 30 }
     ensures machine { Reads (N grammar.AHeader weight ∷ []) p.old result p.new }
     ensures tree { IfOk result (λ x. Spells (spells.AHeader x.0 x.1) p.old p.new) }
@@ -30,14 +29,17 @@ pub fn header(
     Ok((parameters, ports))
 }
 
-fn parameter_header(p: &mut Parser<'_>, weight: u32) -> Result<Items<HeaderParameter>, ParseError>
+fn parameter_header(
+    p: &mut Parser<'_>,
+    weight: u32,
+) -> Result<Children<HeaderParameter>, ParseError>
     requires { weight < 2 ^ 30 }
     ensures machine { Reads (N grammar.ParameterHeader weight ∷ []) p.old result p.new }
     ensures tree { IfOk result (λ xs. Spells (spells.ParameterHeader xs) p.old p.new) }
     ensures shorter { OnOk result (length p.new ≤ length p.old) }
 {
     if !p.sees(Kind::Hash) {
-        return Ok(Items::new(p.alloc()));
+        return Ok(Children::new(p.alloc()));
     }
     p.expect(Kind::Hash, weight)?;
     p.expect(Kind::LeftParen, weight)?;
@@ -68,13 +70,13 @@ fn more_header_parameters(
     p: &mut Parser<'_>,
     first: HeaderParameter,
     weight: u32,
-) -> Result<Items<HeaderParameter>, ParseError>
+) -> Result<Children<HeaderParameter>, ParseError>
     requires { weight < 2 ^ 30 }
     ensures machine { Reads (N grammar.MoreHeaderParameters weight ∷ []) p.old result p.new }
     ensures tree { IfOk result (λ xs. Spells (spells.HeaderParametersBehind first xs) p.old p.new) }
     ensures shorter { OnOk result (length p.new ≤ length p.old) }
 {
-    let mut all = Items::new(p.alloc());
+    let mut all = Children::new(p.alloc());
     all.push(first)?;
     'items: while p.sees(Kind::Comma) {
         p.expect(Kind::Comma, weight)?;
@@ -136,7 +138,7 @@ fn port_list(p: &mut Parser<'_>, weight: u32) -> Result<Ports, ParseError>
     Ok(Ports::Nothing)
 }
 
-fn declared_ports(p: &mut Parser<'_>, weight: u32) -> Result<Items<HeaderPort>, ParseError>
+fn declared_ports(p: &mut Parser<'_>, weight: u32) -> Result<Children<HeaderPort>, ParseError>
     requires { weight < 2 ^ 30 }
     ensures machine { Reads (N grammar.DeclaredPorts weight ∷ []) p.old result p.new }
     ensures tree { IfOk result (λ xs. Spells (spells.DeclaredPorts xs) p.old p.new) }
@@ -152,13 +154,13 @@ fn more_header_ports(
     p: &mut Parser<'_>,
     first: HeaderPort,
     weight: u32,
-) -> Result<Items<HeaderPort>, ParseError>
+) -> Result<Children<HeaderPort>, ParseError>
     requires { weight < 2 ^ 30 }
     ensures machine { Reads (N grammar.MoreHeaderPorts weight ∷ []) p.old result p.new }
     ensures tree { IfOk result (λ xs. Spells (spells.HeaderPortsBehind first xs) p.old p.new) }
     ensures shorter { OnOk result (length p.new ≤ length p.old) }
 {
-    let mut all = Items::new(p.alloc());
+    let mut all = Children::new(p.alloc());
     all.push(first)?;
     'items: while p.sees(Kind::Comma) {
         p.expect(Kind::Comma, weight)?;

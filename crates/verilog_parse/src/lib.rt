@@ -14,5 +14,8 @@ mod spelling;
 mod statement;
 mod target;
 
-pub use laws::{names_may_change, texts_are_read_in_one_way};
+pub use laws::{
+    items_have_places, names_may_change, parts_of_items_have_places, statements_have_places,
+    texts_are_read_in_one_way,
+};
 pub use parsing::parse;

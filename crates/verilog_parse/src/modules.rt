@@ -12,8 +12,7 @@ ghost use Rattle.verilog_parse.specs.Modules.{Spells};
 use crate::declaration::{names, optional_net, optional_wire, parameters, shape, variables};
 use crate::generate::{generate_item, generate_items};
 use crate::header::header;
-use sqlite_items::Items;
-use verilog_ast::{Item, ModuleBody};
+use verilog_ast::{Children, Item, ModuleBody};
 use verilog_expr::{ParseError, Parser, identifier};
 use verilog_lex::Kind;
 
@@ -59,13 +58,13 @@ fn at_item(p: &Parser<'_>) -> bool
 }
 
 // Items up to what begins none.
-fn items(p: &mut Parser<'_>, weight: u32) -> Result<Items<Item>, ParseError>
+fn items(p: &mut Parser<'_>, weight: u32) -> Result<Children<Item>, ParseError>
     requires { weight < 2 ^ 28 }
     ensures machine { Reads (N grammar.Items weight ∷ []) p.old result p.new }
     ensures tree { IfOk result (λ xs. Spells (spells.Items xs) p.old p.new) }
     ensures shorter { OnOk result (length p.new ≤ length p.old) }
 {
-    let mut all = Items::new(p.alloc());
+    let mut all = Children::new(p.alloc());
     'items: while at_item(p) {
         all.push(item(p, weight)?)?;
     }

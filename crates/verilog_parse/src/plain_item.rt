@@ -10,12 +10,11 @@ ghost use Rattle.verilog_parse.specs.Items as spells;
 ghost use Rattle.verilog_parse.specs.Items.{Spells};
 
 use crate::connection::{instances, overrides};
-use crate::declaration::{names, parameters, shape, variables};
+use crate::declaration::{names, parameters, reg_variables, shape, variables};
 use crate::statement::statement;
 use crate::target::target;
 use ls_text::Place;
-use sqlite_items::{Boxed, Items};
-use verilog_ast::{Continuous, PlainItem, Sign};
+use verilog_ast::{Child, Children, Continuous, PlainItem, Sign};
 use verilog_expr::{ParseError, Parser, identifier};
 use verilog_lex::Kind;
 
@@ -87,7 +86,7 @@ fn reg_item(p: &mut Parser<'_>, weight: u32) -> Result<PlainItem, ParseError>
 {
     let at = p.expect(Kind::Reg, weight)?.at;
     let shape = shape(p, weight)?;
-    let all = variables(p, weight)?;
+    let all = reg_variables(p, weight)?;
     p.expect(Kind::Semicolon, weight)?;
     Ok(PlainItem::Reg(at, shape, all))
 }
@@ -130,7 +129,7 @@ fn event(p: &mut Parser<'_>, at: Place, weight: u32) -> Result<PlainItem, ParseE
     match p.peek() {
         Kind::Star => {
             p.expect(Kind::Star, weight)?;
-            let body = Boxed::new(p.alloc(), statement(p, Sign::Blocking, weight)?)?;
+            let body = Child::new(p.alloc(), statement(p, Sign::Blocking, weight)?)?;
             Ok(PlainItem::Combinational(at, body))
         }
         Kind::LeftParen => {
@@ -153,14 +152,14 @@ fn trigger(p: &mut Parser<'_>, at: Place, weight: u32) -> Result<PlainItem, Pars
         Kind::Star => {
             p.expect(Kind::Star, weight + 1)?;
             p.expect(Kind::RightParen, weight + 1)?;
-            let body = Boxed::new(p.alloc(), statement(p, Sign::Blocking, weight)?)?;
+            let body = Child::new(p.alloc(), statement(p, Sign::Blocking, weight)?)?;
             Ok(PlainItem::Combinational(at, body))
         }
         Kind::Posedge => {
             p.expect(Kind::Posedge, weight + 1)?;
             let clock = identifier(p.expect(Kind::Word, weight + 1)?);
             edge_end(p, weight + 1)?;
-            let body = Boxed::new(p.alloc(), statement(p, Sign::Nonblocking, weight)?)?;
+            let body = Child::new(p.alloc(), statement(p, Sign::Nonblocking, weight)?)?;
             Ok(PlainItem::Clocked(at, clock, body))
         }
         Kind::Word => Err(p.outside()),
@@ -186,7 +185,7 @@ fn edge_end(p: &mut Parser<'_>, weight: u32) -> Result<(), ParseError>
 }
 
 // Continuous assignments with commas between.
-fn assignments(p: &mut Parser<'_>, weight: u32) -> Result<Items<Continuous>, ParseError>
+fn assignments(p: &mut Parser<'_>, weight: u32) -> Result<Children<Continuous>, ParseError>
     requires { weight < 2 ^ 30 }
     ensures machine { Reads (N grammar.Assignments weight ∷ []) p.old result p.new }
     ensures tree { IfOk result (λ xs. Spells (spells.Assignments xs) p.old p.new) }
@@ -202,13 +201,13 @@ fn more_assignments(
     p: &mut Parser<'_>,
     first: Continuous,
     weight: u32,
-) -> Result<Items<Continuous>, ParseError>
+) -> Result<Children<Continuous>, ParseError>
     requires { weight < 2 ^ 30 }
     ensures machine { Reads (N grammar.MoreAssignments weight ∷ []) p.old result p.new }
     ensures tree { IfOk result (λ xs. Spells (spells.AssignmentsBehind first xs) p.old p.new) }
     ensures shorter { OnOk result (length p.new ≤ length p.old) }
 {
-    let mut all = Items::new(p.alloc());
+    let mut all = Children::new(p.alloc());
     all.push(first)?;
     'items: while p.sees(Kind::Comma) {
         p.expect(Kind::Comma, weight)?;
@@ -225,6 +224,6 @@ fn continuous(p: &mut Parser<'_>, weight: u32) -> Result<Continuous, ParseError>
 {
     let target = target(p, weight)?;
     p.expect(Kind::Equal, weight)?;
-    let value = Boxed::new(p.alloc(), p.expression(weight)?)?;
+    let value = Child::new(p.alloc(), p.expression(weight)?)?;
     Ok(Continuous { target, value })
 }

@@ -11,8 +11,7 @@ ghost use Rattle.verilog_parse.specs.Statements.{Spells};
 
 use crate::target::braces;
 use ls_text::Place;
-use sqlite_items::{Boxed, Items};
-use verilog_ast::{Arm, CaseKind, Expr, Identifier, Label, Lhs, Sign, Stmt};
+use verilog_ast::{Arm, CaseKind, Child, Children, Expr, Identifier, Label, Lhs, Sign, Stmt};
 use verilog_expr::{ParseError, Parser, identifier, pattern};
 use verilog_lex::Kind;
 
@@ -83,9 +82,9 @@ fn if_statement(p: &mut Parser<'_>, at: Place, sign: Sign, weight: u32) -> Resul
     ensures shorter { OnOk result (length p.new < length p.old) }
 {
     p.expect(Kind::LeftParen, weight)?;
-    let test = Boxed::new(p.alloc(), p.expression(weight + 1)?)?;
+    let test = Child::new(p.alloc(), p.expression(weight + 1)?)?;
     p.expect(Kind::RightParen, weight + 1)?;
-    let yes = Boxed::new(p.alloc(), statement(p, sign, weight)?)?;
+    let yes = Child::new(p.alloc(), statement(p, sign, weight)?)?;
     alternative(p, at, test, yes, sign, weight)
 }
 
@@ -94,8 +93,8 @@ fn if_statement(p: &mut Parser<'_>, at: Place, sign: Sign, weight: u32) -> Resul
 fn alternative(
     p: &mut Parser<'_>,
     at: Place,
-    test: Boxed<Expr>,
-    yes: Boxed<Stmt>,
+    test: Child<Expr>,
+    yes: Child<Stmt>,
     sign: Sign,
     weight: u32,
 ) -> Result<Stmt, ParseError>
@@ -108,7 +107,7 @@ fn alternative(
         return Ok(Stmt::If(at, test, yes));
     }
     p.expect(Kind::Else, weight)?;
-    let no = Boxed::new(p.alloc(), statement(p, sign, weight)?)?;
+    let no = Child::new(p.alloc(), statement(p, sign, weight)?)?;
     Ok(Stmt::IfElse(at, test, yes, no))
 }
 
@@ -127,9 +126,9 @@ fn case_statement(
     ensures shorter { OnOk result (length p.new < length p.old) }
 {
     p.expect(Kind::LeftParen, weight)?;
-    let subject = Boxed::new(p.alloc(), p.expression(weight + 1)?)?;
+    let subject = Child::new(p.alloc(), p.expression(weight + 1)?)?;
     p.expect(Kind::RightParen, weight + 1)?;
-    let first = Boxed::new(p.alloc(), arm(p, sign, which, weight)?)?;
+    let first = Child::new(p.alloc(), arm(p, sign, which, weight)?)?;
     let arms = more_arms(p, first, sign, which, weight)?;
     p.expect(Kind::EndCase, weight)?;
     Ok(Stmt::Case(at, which, subject, arms))
@@ -148,17 +147,17 @@ fn at_arm(p: &Parser<'_>, which: CaseKind) -> bool
 #[cycle(statement)]
 fn more_arms(
     p: &mut Parser<'_>,
-    first: Boxed<Arm>,
+    first: Child<Arm>,
     sign: Sign,
     which: CaseKind,
     weight: u32,
-) -> Result<Items<Arm>, ParseError>
+) -> Result<Children<Arm>, ParseError>
     requires { weight < 2 ^ 30 }
     ensures machine { Reads (N (grammar.MoreArms sign which) weight ∷ []) p.old result p.new }
     ensures tree { IfOk result (λ xs. Spells (spells.ArmsBehind sign which first xs) p.old p.new) }
     ensures shorter { OnOk result (length p.new ≤ length p.old) }
 {
-    let mut all = Items::new(p.alloc());
+    let mut all = Children::new(p.alloc());
     all.push(first.into_inner())?;
     'items: while at_arm(p, which) {
         all.push(arm(p, sign, which, weight)?)?;
@@ -177,13 +176,13 @@ fn arm(p: &mut Parser<'_>, sign: Sign, which: CaseKind, weight: u32) -> Result<A
     if p.sees(Kind::Default) {
         let at = p.expect(Kind::Default, weight)?.at;
         optional_colon(p, weight)?;
-        let body = Boxed::new(p.alloc(), statement(p, sign, weight)?)?;
+        let body = Child::new(p.alloc(), statement(p, sign, weight)?)?;
         return Ok(Arm::Default(at, body));
     }
     let first = label(p, which, weight)?;
     let labels = more_labels(p, first, which, weight)?;
     p.expect(Kind::Colon, weight)?;
-    let body = Boxed::new(p.alloc(), statement(p, sign, weight)?)?;
+    let body = Child::new(p.alloc(), statement(p, sign, weight)?)?;
     Ok(Arm::Match(labels, body))
 }
 
@@ -219,7 +218,7 @@ fn expression_label(p: &mut Parser<'_>, weight: u32) -> Result<Label, ParseError
     ensures tree { IfOk result (λ x. Spells (spells.ALabel CaseKind.Case x) p.old p.new) }
     ensures shorter { OnOk result (length p.new < length p.old) }
 {
-    let value = Boxed::new(p.alloc(), p.expression(weight)?)?;
+    let value = Child::new(p.alloc(), p.expression(weight)?)?;
     Ok(Label::Expr(value))
 }
 
@@ -233,7 +232,7 @@ fn casez_label(p: &mut Parser<'_>, weight: u32) -> Result<Label, ParseError>
         let token = p.expect(Kind::Wild, weight)?;
         return Ok(Label::Pattern(token.at, pattern(token)));
     }
-    let value = Boxed::new(p.alloc(), p.expression(weight)?)?;
+    let value = Child::new(p.alloc(), p.expression(weight)?)?;
     Ok(Label::Expr(value))
 }
 
@@ -243,13 +242,13 @@ fn more_labels(
     first: Label,
     which: CaseKind,
     weight: u32,
-) -> Result<Items<Label>, ParseError>
+) -> Result<Children<Label>, ParseError>
     requires { weight < 2 ^ 30 }
     ensures machine { Reads (N (grammar.MoreLabels which) weight ∷ []) p.old result p.new }
     ensures tree { IfOk result (λ xs. Spells (spells.LabelsBehind which first xs) p.old p.new) }
     ensures shorter { OnOk result (length p.new ≤ length p.old) }
 {
-    let mut all = Items::new(p.alloc());
+    let mut all = Children::new(p.alloc());
     all.push(first)?;
     'items: while p.sees(Kind::Comma) {
         p.expect(Kind::Comma, weight)?;
@@ -275,13 +274,13 @@ fn optional_label(p: &mut Parser<'_>, weight: u32) -> Result<Option<Identifier>,
 
 // Statements up to what begins none.
 #[cycle(statement)]
-fn statements(p: &mut Parser<'_>, sign: Sign, weight: u32) -> Result<Items<Stmt>, ParseError>
+fn statements(p: &mut Parser<'_>, sign: Sign, weight: u32) -> Result<Children<Stmt>, ParseError>
     requires { weight < 2 ^ 30 }
     ensures machine { Reads (N (grammar.Statements sign) weight ∷ []) p.old result p.new }
     ensures tree { IfOk result (λ xs. Spells (spells.Statements sign xs) p.old p.new) }
     ensures shorter { OnOk result (length p.new ≤ length p.old) }
 {
-    let mut all = Items::new(p.alloc());
+    let mut all = Children::new(p.alloc());
     'items: while at_statement(p) {
         all.push(statement(p, sign, weight)?)?;
     }
@@ -296,7 +295,7 @@ fn assignment(p: &mut Parser<'_>, target: Lhs, sign: Sign, weight: u32) -> Resul
     ensures shorter { OnOk result (length p.new < length p.old) }
 {
     assignment_sign(p, sign, weight)?;
-    let value = Boxed::new(p.alloc(), p.expression(weight)?)?;
+    let value = Child::new(p.alloc(), p.expression(weight)?)?;
     p.expect(Kind::Semicolon, weight)?;
     Ok(Stmt::Assign(target, value))
 }

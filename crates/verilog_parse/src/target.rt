@@ -8,8 +8,7 @@ ghost use Rattle.verilog_expr.specs.Reads.{Reads};
 ghost use Rattle.verilog_parse.specs.Statements as spells;
 ghost use Rattle.verilog_parse.specs.Statements.{Spells};
 
-use sqlite_items::Items;
-use verilog_ast::Lhs;
+use verilog_ast::{Children, Lhs};
 use verilog_expr::{ParseError, Parser, identifier};
 use verilog_lex::Kind;
 
@@ -36,7 +35,7 @@ pub fn target(p: &mut Parser<'_>, weight: u32) -> Result<Lhs, ParseError>
 
 /// The targets of a concatenation, after its brace.
 #[cycle(target)]
-pub fn braces(p: &mut Parser<'_>, weight: u32) -> Result<Items<Lhs>, ParseError>
+pub fn braces(p: &mut Parser<'_>, weight: u32) -> Result<Children<Lhs>, ParseError>
     requires { weight < 2 ^ 30 }
     ensures machine { Reads (N grammar.Braces weight ∷ []) p.old result p.new }
     ensures tree { IfOk result (λ xs. Spells (spells.Braces xs) p.old p.new) }
@@ -50,13 +49,13 @@ pub fn braces(p: &mut Parser<'_>, weight: u32) -> Result<Items<Lhs>, ParseError>
 
 // Further targets, each after a comma, behind the first.
 #[cycle(target)]
-fn more_targets(p: &mut Parser<'_>, first: Lhs, weight: u32) -> Result<Items<Lhs>, ParseError>
+fn more_targets(p: &mut Parser<'_>, first: Lhs, weight: u32) -> Result<Children<Lhs>, ParseError>
     requires { weight < 2 ^ 30 }
     ensures machine { Reads (N grammar.MoreTargets weight ∷ []) p.old result p.new }
     ensures tree { IfOk result (λ xs. Spells (spells.TargetsBehind first xs) p.old p.new) }
     ensures shorter { OnOk result (length p.new ≤ length p.old) }
 {
-    let mut all = Items::new(p.alloc());
+    let mut all = Children::new(p.alloc());
     all.push(first)?;
     'items: while p.sees(Kind::Comma) {
         p.expect(Kind::Comma, weight)?;

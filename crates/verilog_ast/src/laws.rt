@@ -1,0 +1,19 @@
+// What trees are as plain data, under other names.
+ghost use Rattle.std.specs.Prelude.{◌≡◌};
+ghost use Rattle.ls_text.specs.declared.name_id.NameId.{NameId};
+ghost use Rattle.verilog_ast.specs.declared.expression.Expr.{Expr};
+ghost use Rattle.verilog_ast.specs.declared.target.Lhs.{Lhs};
+ghost use Rattle.verilog_ast.specs.declared.statement.Stmt.{Stmt};
+ghost use Rattle.verilog_ast.specs.declared.module_body.ModuleBody.{ModuleBody};
+ghost use Rattle.verilog_ast.specs.Renamed.{renamed_expression, renamed_target, renamed_statement, renamed_body};
+ghost use Rattle.verilog_ast.specs.Views.{expression_of, target_of, statement_of, declaration_of};
+ghost use Rattle.verilog_ast.specs.Renaming.{expression_as, target_as, statement_as, declaration_as};
+
+/// A tree under other names is, as plain data, what the tree is, under these names.
+#[tactic(none)]
+pub fn names_are_numbers()
+    ensures expressions { (f : NameId → NameId) (x : Expr) → expression_of (renamed_expression f x) ≡ expression_as f (expression_of x) }
+    ensures targets { (f : NameId → NameId) (x : Lhs) → target_of (renamed_target f x) ≡ target_as f (target_of x) }
+    ensures statements { (f : NameId → NameId) (x : Stmt) → statement_of (renamed_statement f x) ≡ statement_as f (statement_of x) }
+    ensures modules { (f : NameId → NameId) (x : ModuleBody) → declaration_of (renamed_body f x) ≡ declaration_as f (declaration_of x) }
+{}
