@@ -37,23 +37,6 @@ fn joined(alloc: Global, parts: &[&[u8]]) -> Result<Vec<u8>, NoMemory> {
     Ok(whole)
 }
 
-// The first bracket stands in column 43. The 258th has 257 open before it.
-#[test]
-fn brackets_open_too_deep(rt: HostRuntime) -> Result<(), Fail> {
-    let alloc = rt.alloc();
-    let block: &[u8] = b"edit\ntop top\nclock clk\nfile a.v\n";
-    let text: &[u8] = b"module top(input clk); wire x; assign x = ";
-    let mut script = joined(alloc, &[block, text])?;
-    for _ in 0..300 {
-        script.push(b'(')?;
-    }
-    script.extend_from_slice(b"\n.\nend\nshow\n")?;
-    let want: &[u8] = b"refused 16 NestedTooDeep a.v:1:300 -\nrefused 62 NoDesign @8 -\n";
-    let (_, written) = lived(&rt, alloc, script, Vec::new(alloc), Vec::new(alloc))?;
-    assert!(rt; written.as_slice() == want);
-    Ok(())
-}
-
 #[test]
 fn limits_of_a_text(rt: HostRuntime) -> Result<(), Fail> {
     let alloc = rt.alloc();
