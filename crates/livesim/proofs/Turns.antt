@@ -1,5 +1,6 @@
 -- One turn of a run: what it answers, and what was carried out.
 use Rattle.std.proofs.Common.{◌≡◌, ℕ, Bool, true, false, ◌||◌, List, [], ◌∷◌, ◌++◌, Option, Some, None, Result, Ok, Err, refl, sym, ap, ◌∙◌, subst, append-nil, append_assoc, true≢false}
+use Rattle.std.proofs.Math.Bool.{or-false, or_assoc}
 use Rattle.std.specs.Prelude.{is_err, IsErr}
 use Rattle.std.specs.Io.KnownBytes.{Appends}
 use Rattle.ls_port.specs.declared.sink_refusal.SinkRefusal.{SinkRefusal}
@@ -29,19 +30,11 @@ lines-append (x ∷ xs) ys w =
     ap (λ more. reply x w ++ more) (lines-append xs ys (after x w))
     ∙ sym (append_assoc (reply x w) (lines xs (after x w)) (lines ys (world_after xs (after x w))))
 
-or_assoc : (a b c : Bool) → (a || (b || c)) ≡ ((a || b) || c)
-or_assoc true b c = refl
-or_assoc false b c = refl
-
-or_false : (a : Bool) → (a || false) ≡ a
-or_false true = refl
-or_false false = refl
-
 any_refused-append : (xs ys : List Told) (w : World) → any_refused (xs ++ ys) w ≡ (any_refused xs w || any_refused ys (world_after xs w))
 any_refused-append [] ys w = refl
 any_refused-append (x ∷ xs) ys w =
     ap (λ more. is_err (verdict x w) || more) (any_refused-append xs ys (after x w))
-    ∙ or_assoc (is_err (verdict x w)) (any_refused xs (after x w)) (any_refused ys (world_after xs (after x w)))
+    ∙ sym (or_assoc (is_err (verdict x w)) (any_refused xs (after x w)) (any_refused ys (world_after xs (after x w))))
 
 -- one text after another
 appends_more : (old mid new : Option (List ℕ)) (front back : List ℕ) → Appends old mid front → Appends mid new back → Appends old new (front ++ back)
@@ -164,7 +157,7 @@ one_told c old new text refused r =
       right = (r.right, tt);
       text = r.replies.text ∙ sym (append-nil (reply t old));
       world = r.replies.world;
-      refused = r.replies.refused ∙ sym (or_false (is_err (verdict t old)));
+      refused = r.replies.refused ∙ sym (or-false (is_err (verdict t old)));
     }
 
 -- one that has no text

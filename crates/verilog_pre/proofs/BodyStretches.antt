@@ -1,11 +1,12 @@
 -- Stretches of a macro's body, and what counts them.
 use Rattle.std.proofs.Common.{◌≡◌, ℕ, ◌+◌, ◌-◌, ◌≤◌, ◌==◌, ◌&&◌, ◌||◌, not, ◌⊎◌, inl, inr, Bool, true, false, cond, List, [], ◌∷◌, ◌++◌, length, take, Some, None, refl, sym, ap, subst, ◌∙◌, arith, true≢false}
-use Rattle.std.proofs.lemmas.Bool.{eqb-true}
+use Rattle.std.proofs.Math.Bool.{and-false}
+use Rattle.std.proofs.lemmas.Bool.{eqb-true, and_from, not-true, or_parts, and_parts}
 use Rattle.std.proofs.lemmas.Option.{none-some}
 use Rattle.verilog_pre.specs.Bodies.{begins_cut, lines_len, comment_len, run_len}
 use Rattle.verilog_pre.specs.Shapes.{HasNo, BeginsWith, AllAre, StopsAt, ends_comment}
 use Rattle.verilog_pre.specs.BodyStretches.{ends_line, begins_stretch, last_of}
-use Rattle.verilog_pre.proofs.Stretches.{and_false, and_both, first_of, value_of}
+use Rattle.verilog_pre.proofs.Stretches.{first_of, value_of}
 
 abbrev pub not_newline : ℕ → Bool
 not_newline b = not (b == 10)
@@ -96,7 +97,7 @@ open_is a n [] (b ∷ bs) has on (inr ends) = at ((a == 42) && (b == 47)) refl
     not_both b e f = let x : b ≡ 10 = eqb-true b 10 e in let y : b ≡ 47 = eqb-true b 47 f in absurd (omega (arith, x, y))
 
     at : (t : Bool) → ((a == 42) && (b == 47)) ≡ t → cond t (Some (n + 1)) (cond (ends_line a b) None (comment_len b (n + 1) bs)) ≡ None
-    at true e = absurd (not_both b (and_both (b == 10) (not (a == 92)) ends).0 (and_both (a == 42) (b == 47) e).1)
+    at true e = absurd (not_both b (and_parts (b == 10) (not (a == 92)) ends).0 (and_parts (a == 42) (b == 47) e).1)
     at false e = ap (λ t. cond t None (comment_len b (n + 1) bs)) ends
 open_is a n (c ∷ cs) rest has on ends =
     ap (λ t. cond t (Some (n + 1)) (cond (ends_line a c) None (comment_len c (n + 1) (cs ++ rest)))) has.0
@@ -126,13 +127,13 @@ later_on a b n m bs e f c = record {
   rest = c.rest;
   is = ap (λ xs. a ∷ xs) c.is;
   count = (let counted : m ≡ n + 1 + length c.inside + 1 = c.count in omega (arith, counted));
-  first = before_first ends_comment a b bs c.inside c.rest e (and_false (a == 42)) c.is c.first;
+  first = before_first ends_comment a b bs c.inside c.rest e (and-false (a == 42)) c.is c.first;
   on_lines = before_inside a b bs c.inside c.rest f c.is c.on_lines;
 }
 
 here_on : (a b n m : ℕ) (bs : List ℕ) → ((a == 42) && (b == 47)) ≡ true → Some (n + 1) ≡ Some m → ClosedOn (a ∷ b ∷ bs) n m
 here_on a b n m bs e h =
-    let both : ((a == 42) ≡ true) × ((b == 47) ≡ true) = and_both (a == 42) (b == 47) e in
+    let both : ((a == 42) ≡ true) × ((b == 47) ≡ true) = and_parts (a == 42) (b == 47) e in
     let here : n + 1 ≡ m = ap value_of h in
     record {
       inside = [];
@@ -160,7 +161,7 @@ closes_on a n m (b ∷ bs) some = at ((a == 42) && (b == 47)) refl some (closes_
 pub closed_on_is : (a n : ℕ) (inside rest : List ℕ) → HasNo ends_comment (a ∷ (inside ++ 42 ∷ [])) → HasNo ends_line (a ∷ inside)
     → comment_len a n (inside ++ 42 ∷ 47 ∷ rest) ≡ Some (n + length inside + 2)
 closed_on_is a n [] rest has on =
-    ap (λ t. cond t (Some (n + 1)) (Some (n + 1 + 1))) (and_false (a == 42))
+    ap (λ t. cond t (Some (n + 1)) (Some (n + 1 + 1))) (and-false (a == 42))
     ∙ ap Some (let same : n + 1 + 1 ≡ n + 0 + 2 = omega arith in same)
 closed_on_is a n (c ∷ cs) rest has on =
     ap (λ t. cond t (Some (n + 1)) (cond (ends_line a c) None (comment_len c (n + 1) (cs ++ 42 ∷ 47 ∷ rest)))) has.0
@@ -212,7 +213,7 @@ from_on_line a (b ∷ bs) e = at (b == 10) (a == 92) (begins_cut a b) refl (from
     at false t false f more = (e, more (ap not f))
 
 no_stretch : (a b : ℕ) → (b == 10) ≡ false → begins_cut a b ≡ false → begins_stretch a b ≡ false
-no_stretch a b e f = ap (λ t. ((a == 92) && t) || begins_cut a b) e ∙ ap (λ t. t || begins_cut a b) (and_false (a == 92)) ∙ f
+no_stretch a b e f = ap (λ t. ((a == 92) && t) || begins_cut a b) e ∙ ap (λ t. t || begins_cut a b) (and-false (a == 92)) ∙ f
 
 -- a newline that no backslash continues begins no stretch
 newline_cut : (a b : ℕ) → (b == 10) ≡ true → begins_cut a b ≡ false
@@ -271,19 +272,11 @@ pub from_is : (a : ℕ) (cs rest : List ℕ) → AllAre not_newline (a ∷ cs) �
 from_is a [] [] on has ends = refl
 from_is a [] (b ∷ bs) on has ends = at (b == 10) (a == 92) refl refl ends
   where
-    parts : (x y : Bool) → (x || y) ≡ false → (x ≡ false) × (y ≡ false)
-    parts true y e = absurd (true≢false e)
-    parts false y e = (refl, e)
-
     is_cut : begins_cut a b ≡ false
-    is_cut = (parts ((a == 92) && (b == 10)) (begins_cut a b) has.0).1
+    is_cut = (or_parts ((a == 92) && (b == 10)) (begins_cut a b) has.0).1
 
     is_line : (((a == 92) && (b == 10)) ≡ false)
-    is_line = (parts ((a == 92) && (b == 10)) (begins_cut a b) has.0).0
-
-    both : (x y : Bool) → x ≡ true → y ≡ true → (x && y) ≡ true
-    both true y e f = f
-    both false y e f = absurd (true≢false (sym e))
+    is_line = (or_parts ((a == 92) && (b == 10)) (begins_cut a b) has.0).0
 
     behind : (bs : List ℕ) → (b == 10) ≡ false → BeginsWith begins_stretch (b ∷ bs) → run_from b bs ≡ []
     behind [] e begins = absurd begins
@@ -298,19 +291,15 @@ from_is a [] (b ∷ bs) on has ends = at (b == 10) (a == 92) refl refl ends
 
     at : (s t : Bool) → (b == 10) ≡ s → (a == 92) ≡ t → StopsAt not_newline (b ∷ bs) ⊎ BeginsWith begins_stretch (b ∷ bs)
         → cond s (cond t [] (a ∷ [])) (cond (begins_cut a b) [] (a ∷ run_from b bs)) ≡ a ∷ []
-    at true true e f ends = absurd (true≢false (sym (both (a == 92) (b == 10) f e) ∙ is_line))
+    at true true e f ends = absurd (true≢false (sym (and_from (a == 92) (b == 10) f e) ∙ is_line))
     at true false e f ends = refl
     at false t e f (inl stops) = absurd (true≢false (sym (ap not e) ∙ stops))
     at false t e f (inr begins) = ap (λ t. cond t [] (a ∷ run_from b bs)) is_cut ∙ ap (λ xs. a ∷ xs) (behind bs e begins)
 from_is a (c ∷ cs) rest on has ends =
-    ap (λ t. cond t (cond (a == 92) [] (a ∷ [])) (cond (begins_cut a c) [] (a ∷ run_from c (cs ++ rest)))) (not_is (c == 10) on.1.0)
+    ap (λ t. cond t (cond (a == 92) [] (a ∷ [])) (cond (begins_cut a c) [] (a ∷ run_from c (cs ++ rest)))) (not-true (c == 10) on.1.0)
     ∙ ap (λ t. cond t [] (a ∷ run_from c (cs ++ rest))) (right ((a == 92) && (c == 10)) (begins_cut a c) has.0)
     ∙ ap (λ xs. a ∷ xs) (from_is c cs rest on.1 has.1 ends)
   where
-    not_is : (x : Bool) → not x ≡ true → x ≡ false
-    not_is true e = absurd (true≢false (sym e))
-    not_is false e = refl
-
     right : (x y : Bool) → (x || y) ≡ false → y ≡ false
     right true y e = absurd (true≢false e)
     right false y e = e

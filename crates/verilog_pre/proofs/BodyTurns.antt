@@ -1,8 +1,9 @@
 -- A body has the parts that its stretches give, and no others.
 use Rattle.std.proofs.Common.{◌≡◌, ℕ, zero, suc, ◌+◌, ◌-◌, ◌<◌, ◌≤◌, ◌==◌, ◌&&◌, ◌||◌, not, Bool, true, false, cond, List, [], ◌∷◌, ◌++◌, length, take, drop, Option, Some, None, refl, sym, ap, subst, ◌∙◌, arith, append_assoc, true≢false}
+use Rattle.std.proofs.Math.Bool.{and-false}
 use Rattle.std.specs.Prelude.{slice_index}
 use Rattle.std.specs.List.{prefix_len}
-use Rattle.std.proofs.lemmas.Bool.{eqb-true}
+use Rattle.std.proofs.lemmas.Bool.{eqb-true, not-true, and_parts}
 use Rattle.std.proofs.lemmas.List.{take-append-drop, length-append}
 use Rattle.std.proofs.lemmas.List.Folds.{length-prefix_len}
 use Rattle.ls_text.specs.Bytes.{is_letter, is_digit, is_word_byte, is_blank}
@@ -12,7 +13,7 @@ use Rattle.verilog_pre.specs.declared.body_cut.BodyCut.TheVariants as cut
 use Rattle.verilog_pre.specs.Bodies.{begins_cut, lines_len, comment_len, run_len, comment_or, body_cut, cut_len, goes_on, run_part, cut_parts, trimmed_parts, trimmed_len, body_parts, body_len}
 use Rattle.verilog_pre.specs.Shapes.{HasNo, AllAre, StopsAt, ends_comment, IsLineComment, IsWord}
 use Rattle.verilog_pre.specs.BodyStretches.{ends_line, begins_stretch, LineEnds, IsBodyRun, Gives, Run, Continued, Comment, Unclosed, Macro, Trimmed, Body, AtEnd, AtNewline, AtComment, Goes}
-use Rattle.verilog_pre.proofs.Stretches.{and_both, first_of, front_all, front_stops, front_is, take_seam, drop_seam, longer}
+use Rattle.verilog_pre.proofs.Stretches.{first_of, front_all, front_stops, front_is, take_seam, drop_seam, longer}
 use Rattle.verilog_pre.proofs.BodyStretches.{not_newline, line_of, after_line, line_and_after, line_count, line_plain, line_ends, line_is, open_plain, open_is, ClosedOn, closes_on, closed_on_is, run_from, left_from, from_joined, from_count, from_on_line, from_plain, from_ends, from_is}
 use Rattle.verilog_pre.proofs.Cuts.{parts_on, parts_last, len_on, len_last}
 
@@ -152,10 +153,6 @@ unfolding body_cut
 first_cut file offset [] some = absurd (omega arith)
 first_cut file offset (a ∷ []) some = line (a == 10) refl
   where
-    never : (x : Bool) → (x && false) ≡ false
-    never true = refl
-    never false = refl
-
     line : (t : Bool) → (a == 10) ≡ t → Cut file offset (a ∷ []) (cond t (cut.Last 0) (cond ((a == 92) && false) (cut.Gap 2)
         (cond ((a == 47) && false) (cut.Last (prefix_len not_newline (a ∷ []))) (cond ((a == 47) && false) (comment_or [] (comment_len 0 0 []))
         (cond ((a == 96) && false) (cut.Use (1 + prefix_len is_word_byte [])) (cut.Run (run_len 0 1 [])))))))
@@ -163,11 +160,11 @@ first_cut file offset (a ∷ []) some = line (a == 10) refl
     line false e =
         subst (Cut file offset (a ∷ []))
         (sym (ap (λ t. cond t (cut.Gap 2) (cond ((a == 47) && false) (cut.Last (prefix_len not_newline (a ∷ []))) (cond ((a == 47) && false) (comment_or [] (comment_len 0 0 []))
-        (cond ((a == 96) && false) (cut.Use (1 + prefix_len is_word_byte [])) (cut.Run (run_len 0 1 [])))))) (never (a == 92))
+        (cond ((a == 96) && false) (cut.Use (1 + prefix_len is_word_byte [])) (cut.Run (run_len 0 1 [])))))) (and-false (a == 92))
         ∙ ap (λ t. cond t (cut.Last (prefix_len not_newline (a ∷ []))) (cond ((a == 47) && false) (comment_or [] (comment_len 0 0 []))
-        (cond ((a == 96) && false) (cut.Use (1 + prefix_len is_word_byte [])) (cut.Run (run_len 0 1 []))))) (never (a == 47))
-        ∙ ap (λ t. cond t (comment_or [] (comment_len 0 0 [])) (cond ((a == 96) && false) (cut.Use (1 + prefix_len is_word_byte [])) (cut.Run (run_len 0 1 [])))) (never (a == 47))
-        ∙ ap (λ t. cond t (cut.Use (1 + prefix_len is_word_byte [])) (cut.Run (run_len 0 1 []))) (never (a == 96))))
+        (cond ((a == 96) && false) (cut.Use (1 + prefix_len is_word_byte [])) (cut.Run (run_len 0 1 []))))) (and-false (a == 47))
+        ∙ ap (λ t. cond t (comment_or [] (comment_len 0 0 [])) (cond ((a == 96) && false) (cut.Use (1 + prefix_len is_word_byte [])) (cut.Run (run_len 0 1 [])))) (and-false (a == 47))
+        ∙ ap (λ t. cond t (cut.Use (1 + prefix_len is_word_byte [])) (cut.Run (run_len 0 1 []))) (and-false (a == 96))))
         (run file offset a [] e tt)
 first_cut file offset (a ∷ b ∷ bs) some = line (a == 10) refl
   where
@@ -181,14 +178,14 @@ first_cut file offset (a ∷ b ∷ bs) some = line (a == 10) refl
     word : (a == 10) ≡ false → ((a == 92) && (b == 10)) ≡ false → ((a == 47) && (b == 47)) ≡ false → ((a == 47) && (b == 42)) ≡ false → (t : Bool) → ((a == 96) && is_letter b) ≡ t
         → Cut file offset (a ∷ b ∷ bs) (cond t (cut.Use (1 + prefix_len is_word_byte (b ∷ bs))) (cut.Run (run_len 0 1 (b ∷ bs))))
     word d e f g true h =
-        let is : ((a == 96) ≡ true) × (is_letter b ≡ true) = and_both (a == 96) (is_letter b) h in
+        let is : ((a == 96) ≡ true) × (is_letter b ≡ true) = and_parts (a == 96) (is_letter b) h in
         subst (λ x. Cut file offset (x ∷ b ∷ bs) (cut.Use (1 + prefix_len is_word_byte (b ∷ bs)))) (sym (eqb-true a 96 is.0)) (macro file offset b bs is.1)
     word d e f g false h = run file offset a (b ∷ bs) d (none_of ((a == 92) && (b == 10)) (a == 47) (b == 47) (b == 42) ((a == 96) && is_letter b) e f g h)
 
     block : (a == 10) ≡ false → ((a == 92) && (b == 10)) ≡ false → ((a == 47) && (b == 47)) ≡ false → (t : Bool) → ((a == 47) && (b == 42)) ≡ t
         → Cut file offset (a ∷ b ∷ bs) (cond t (comment_or bs (comment_len 0 0 bs)) (cond ((a == 96) && is_letter b) (cut.Use (1 + prefix_len is_word_byte (b ∷ bs))) (cut.Run (run_len 0 1 (b ∷ bs)))))
     block d e f true g =
-        let is : ((a == 47) ≡ true) × ((b == 42) ≡ true) = and_both (a == 47) (b == 42) g in
+        let is : ((a == 47) ≡ true) × ((b == 42) ≡ true) = and_parts (a == 47) (b == 42) g in
         subst (λ x. Cut file offset (x ∷ b ∷ bs) (comment_or bs (comment_len 0 0 bs))) (sym (eqb-true a 47 is.0))
         (subst (λ y. Cut file offset (47 ∷ y ∷ bs) (comment_or bs (comment_len 0 0 bs))) (sym (eqb-true b 42 is.1)) (comment file offset bs))
     block d e f false g = word d e f g ((a == 96) && is_letter b) refl
@@ -197,7 +194,7 @@ first_cut file offset (a ∷ b ∷ bs) some = line (a == 10) refl
         → Cut file offset (a ∷ b ∷ bs) (cond t (cut.Last (prefix_len not_newline (a ∷ b ∷ bs))) (cond ((a == 47) && (b == 42)) (comment_or bs (comment_len 0 0 bs))
         (cond ((a == 96) && is_letter b) (cut.Use (1 + prefix_len is_word_byte (b ∷ bs))) (cut.Run (run_len 0 1 (b ∷ bs))))))
     slashes d e true f =
-        let is : ((a == 47) ≡ true) × ((b == 47) ≡ true) = and_both (a == 47) (b == 47) f in
+        let is : ((a == 47) ≡ true) × ((b == 47) ≡ true) = and_parts (a == 47) (b == 47) f in
         subst (λ x. Cut file offset (x ∷ b ∷ bs) (cut.Last (prefix_len not_newline (x ∷ b ∷ bs)))) (sym (eqb-true a 47 is.0))
         (subst (λ y. Cut file offset (47 ∷ y ∷ bs) (cut.Last (prefix_len not_newline (47 ∷ y ∷ bs)))) (sym (eqb-true b 47 is.1)) (remark file offset bs))
     slashes d e false f = block d e f ((a == 47) && (b == 42)) refl
@@ -206,7 +203,7 @@ first_cut file offset (a ∷ b ∷ bs) some = line (a == 10) refl
         → Cut file offset (a ∷ b ∷ bs) (cond t (cut.Gap 2) (cond ((a == 47) && (b == 47)) (cut.Last (prefix_len not_newline (a ∷ b ∷ bs))) (cond ((a == 47) && (b == 42)) (comment_or bs (comment_len 0 0 bs))
         (cond ((a == 96) && is_letter b) (cut.Use (1 + prefix_len is_word_byte (b ∷ bs))) (cut.Run (run_len 0 1 (b ∷ bs)))))))
     continued d true e =
-        let is : ((a == 92) ≡ true) × ((b == 10) ≡ true) = and_both (a == 92) (b == 10) e in
+        let is : ((a == 92) ≡ true) × ((b == 10) ≡ true) = and_parts (a == 92) (b == 10) e in
         On (a ∷ b ∷ []) bs (cut.Gap 2) refl refl refl (omega arith) (Continued (ap (λ x. x ∷ b ∷ []) (eqb-true a 92 is.0) ∙ ap (λ y. 92 ∷ y ∷ []) (eqb-true b 10 is.1)))
     continued d false e = slashes d e ((a == 47) && (b == 47)) refl
 
@@ -263,11 +260,8 @@ record IsCut (file offset : ℕ) (bytes rest : List ℕ) (parts : List Part) : T
 
 first_is_none : (a : ℕ) (zs : List ℕ) → Plain a zs → (((a == 92) && (slice_index (a ∷ zs) 1 == 10)) ≡ false) × (((a == 47) && (slice_index (a ∷ zs) 1 == 47)) ≡ false)
     × (((a == 47) && (slice_index (a ∷ zs) 1 == 42)) ≡ false) × (((a == 96) && is_letter (slice_index (a ∷ zs) 1)) ≡ false)
-first_is_none a [] plain = (never (a == 92), never (a == 47), never (a == 47), never (a == 96))
-  where
-    never : (x : Bool) → (x && false) ≡ false
-    never true = refl
-    never false = refl
+first_is_none a [] plain = (and-false (a == 92), and-false (a == 47), and-false (a == 47), and-false (a == 96))
+
 first_is_none a (b ∷ bs) plain = parts ((a == 92) && (b == 10)) (a == 47) (b == 47) (b == 42) ((a == 96) && is_letter b) plain
   where
     parts : (v x y z w : Bool) → (v || ((x && (y || z)) || w)) ≡ false → (v ≡ false) × ((x && y) ≡ false) × ((x && z) ≡ false) × (w ≡ false)
@@ -297,17 +291,13 @@ run_cut file offset [] rest is = absurd (omega (arith, is.some))
 run_cut file offset (a ∷ cs) rest is =
     record {
       cut = cut.Run (length (a ∷ cs));
-      is = sym (plain_cut a (cs ++ rest) (not_is (a == 10) is.on_line.0) plain ∙ ap cut.Run (counted_from a (cs ++ rest) plain ∙ ap length (from_is a cs rest is.on_line is.plain is.ends)));
+      is = sym (plain_cut a (cs ++ rest) (not-true (a == 10) is.on_line.0) plain ∙ ap cut.Run (counted_from a (cs ++ rest) plain ∙ ap length (from_is a cs rest is.on_line is.plain is.ends)));
       on = refl;
       size = refl;
       gives = ap (λ xs. run_part file offset xs (drop (length (a ∷ cs)) ((a ∷ cs) ++ rest))) (take_seam (a ∷ cs) rest)
           ∙ ap (run_part file offset (a ∷ cs)) (drop_seam (a ∷ cs) rest);
     }
   where
-    not_is : (x : Bool) → not x ≡ true → x ≡ false
-    not_is true e = absurd (true≢false (sym e))
-    not_is false e = refl
-
     first_two : (cs rest : List ℕ) → HasNo begins_stretch (a ∷ (cs ++ take 1 rest)) → Plain a (cs ++ rest)
     first_two [] [] has = tt
     first_two [] (b ∷ bs) has = has.0

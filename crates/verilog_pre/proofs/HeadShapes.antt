@@ -1,8 +1,9 @@
 -- What stands at the head of a text is what its shapes say, and nothing else.
 use Rattle.std.proofs.Common.{◌≡◌, ℕ, suc, ◌+◌, ◌<◌, ◌==◌, ◌&&◌, ◌||◌, not, Bool, true, false, cond, List, [], ◌∷◌, ◌++◌, length, take, drop, Option, Some, None, refl, sym, ap, subst, ◌∙◌, arith, append_assoc, true≢false}
+use Rattle.std.proofs.Math.Bool.{and-false, or-false}
 use Rattle.std.specs.Prelude.{slice_index}
 use Rattle.std.specs.List.{prefix_len}
-use Rattle.std.proofs.lemmas.Bool.{eqb-true}
+use Rattle.std.proofs.lemmas.Bool.{eqb-true, and_parts}
 use Rattle.std.proofs.lemmas.List.{take-append-drop, length-append}
 use Rattle.std.proofs.lemmas.List.Folds.{length-prefix_len}
 use Rattle.ls_text.specs.Bytes.{is_letter, is_digit, is_word_byte, through_pair}
@@ -113,12 +114,8 @@ plain_run a bs has =
 -- ---- the head of any text
 
 one_cut : (a b : ℕ) → ((a == 47) && (b == 47)) ≡ false → ((a == 47) && (b == 42)) ≡ false → ((a == 96) && is_letter b) ≡ false → begins_cut a b ≡ false
-one_cut a b e f g = ap (λ t. ((a == 47) && ((b == 47) || (b == 42))) || t) g ∙ or_no ((a == 47) && ((b == 47) || (b == 42))) ∙ neither (a == 47) (b == 47) (b == 42) e f
+one_cut a b e f g = ap (λ t. ((a == 47) && ((b == 47) || (b == 42))) || t) g ∙ or-false ((a == 47) && ((b == 47) || (b == 42))) ∙ neither (a == 47) (b == 47) (b == 42) e f
   where
-    or_no : (x : Bool) → (x || false) ≡ x
-    or_no true = refl
-    or_no false = refl
-
     neither : (x y z : Bool) → (x && y) ≡ false → (x && z) ≡ false → (x && (y || z)) ≡ false
     neither false y z e f = refl
     neither true true z e f = e
@@ -130,24 +127,17 @@ unfolding head_of
 headed [] some = absurd (omega arith)
 headed (a ∷ []) some =
     subst (Headed (a ∷ []))
-    (sym (ap (λ t. cond t (head.Comment (prefix_len not_newline (a ∷ []))) (cond ((a == 47) && false) (comment_head (through_pair 42 47 false 0 [])) (cond ((a == 96) && false) (head.Word (prefix_len is_word_byte [])) (head.Run (plain_len 0 1 []))))) (never (a == 47))
-    ∙ ap (λ t. cond t (comment_head (through_pair 42 47 false 0 [])) (cond ((a == 96) && false) (head.Word (prefix_len is_word_byte [])) (head.Run (plain_len 0 1 [])))) (never (a == 47))
-    ∙ ap (λ t. cond t (head.Word (prefix_len is_word_byte [])) (head.Run (plain_len 0 1 []))) (never (a == 96))))
+    (sym (ap (λ t. cond t (head.Comment (prefix_len not_newline (a ∷ []))) (cond ((a == 47) && false) (comment_head (through_pair 42 47 false 0 [])) (cond ((a == 96) && false) (head.Word (prefix_len is_word_byte [])) (head.Run (plain_len 0 1 []))))) (and-false (a == 47))
+    ∙ ap (λ t. cond t (comment_head (through_pair 42 47 false 0 [])) (cond ((a == 96) && false) (head.Word (prefix_len is_word_byte [])) (head.Run (plain_len 0 1 [])))) (and-false (a == 47))
+    ∙ ap (λ t. cond t (head.Word (prefix_len is_word_byte [])) (head.Run (plain_len 0 1 []))) (and-false (a == 96))))
     (plain_run a [] tt)
-  where
-    never : (x : Bool) → (x && false) ≡ false
-    never true = refl
-    never false = refl
+
 headed (a ∷ b ∷ bs) some = line ((a == 47) && (b == 47)) refl
   where
-    both : (x y : Bool) → (x && y) ≡ true → (x ≡ true) × (y ≡ true)
-    both true y e = (refl, e)
-    both false y e = absurd (true≢false (sym e))
-
     plain : ((a == 47) && (b == 47)) ≡ false → ((a == 47) && (b == 42)) ≡ false → (t : Bool) → ((a == 96) && is_letter b) ≡ t
         → Headed (a ∷ b ∷ bs) (cond t (head.Word (prefix_len is_word_byte (b ∷ bs))) (head.Run (plain_len 0 1 (b ∷ bs))))
     plain e f true g =
-        let is : (a ≡ 96) × (is_letter b ≡ true) = ((eqb-true a 96 (both (a == 96) (is_letter b) g).0), (both (a == 96) (is_letter b) g).1) in
+        let is : (a ≡ 96) × (is_letter b ≡ true) = ((eqb-true a 96 (and_parts (a == 96) (is_letter b) g).0), (and_parts (a == 96) (is_letter b) g).1) in
         subst (λ x. Headed (x ∷ b ∷ bs) (head.Word (prefix_len is_word_byte (b ∷ bs)))) (sym is.0) (backquoted b bs is.1)
     plain e f false g = plain_run a (b ∷ bs) (one_cut a b e f g, tt)
 
@@ -155,7 +145,7 @@ headed (a ∷ b ∷ bs) some = line ((a == 47) && (b == 47)) refl
         → Headed (a ∷ b ∷ bs) (cond t (comment_head (through_pair 42 47 false 0 bs))
         (cond ((a == 96) && is_letter b) (head.Word (prefix_len is_word_byte (b ∷ bs))) (head.Run (plain_len 0 1 (b ∷ bs)))))
     block e true f =
-        let is : (a ≡ 47) × (b ≡ 42) = (eqb-true a 47 (both (a == 47) (b == 42) f).0, eqb-true b 42 (both (a == 47) (b == 42) f).1) in
+        let is : (a ≡ 47) × (b ≡ 42) = (eqb-true a 47 (and_parts (a == 47) (b == 42) f).0, eqb-true b 42 (and_parts (a == 47) (b == 42) f).1) in
         subst (λ x. Headed (x ∷ b ∷ bs) (comment_head (through_pair 42 47 false 0 bs))) (sym is.0)
         (subst (λ y. Headed (47 ∷ y ∷ bs) (comment_head (through_pair 42 47 false 0 bs))) (sym is.1) (block_comment bs))
     block e false f = plain e f ((a == 96) && is_letter b) refl
@@ -165,7 +155,7 @@ headed (a ∷ b ∷ bs) some = line ((a == 47) && (b == 47)) refl
         (cond ((a == 47) && (b == 42)) (comment_head (through_pair 42 47 false 0 bs))
         (cond ((a == 96) && is_letter b) (head.Word (prefix_len is_word_byte (b ∷ bs))) (head.Run (plain_len 0 1 (b ∷ bs))))))
     line true e =
-        let is : (a ≡ 47) × (b ≡ 47) = (eqb-true a 47 (both (a == 47) (b == 47) e).0, eqb-true b 47 (both (a == 47) (b == 47) e).1) in
+        let is : (a ≡ 47) × (b ≡ 47) = (eqb-true a 47 (and_parts (a == 47) (b == 47) e).0, eqb-true b 47 (and_parts (a == 47) (b == 47) e).1) in
         subst (λ x. Headed (x ∷ b ∷ bs) (head.Comment (prefix_len not_newline (x ∷ b ∷ bs)))) (sym is.0)
         (subst (λ y. Headed (47 ∷ y ∷ bs) (head.Comment (prefix_len not_newline (47 ∷ y ∷ bs)))) (sym is.1) (line_comment bs))
     line false e = block e ((a == 47) && (b == 42)) refl
@@ -204,11 +194,8 @@ word_head (w ∷ ws) rest is =
 
 first_is_none : (a : ℕ) (zs : List ℕ) → HasNo begins_cut (a ∷ take 1 zs) → (((a == 47) && (slice_index (a ∷ zs) 1 == 47)) ≡ false)
     × (((a == 47) && (slice_index (a ∷ zs) 1 == 42)) ≡ false) × (((a == 96) && is_letter (slice_index (a ∷ zs) 1)) ≡ false)
-first_is_none a [] has = (never (a == 47), never (a == 47), never (a == 96))
-  where
-    never : (x : Bool) → (x && false) ≡ false
-    never true = refl
-    never false = refl
+first_is_none a [] has = (and-false (a == 47), and-false (a == 47), and-false (a == 96))
+
 first_is_none a (b ∷ bs) has = parts (a == 47) (b == 47) (b == 42) ((a == 96) && is_letter b) has.0
   where
     parts : (x y z w : Bool) → ((x && (y || z)) || w) ≡ false → ((x && y) ≡ false) × ((x && z) ≡ false) × (w ≡ false)

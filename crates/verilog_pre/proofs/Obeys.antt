@@ -2,7 +2,7 @@
 use Rattle.std.proofs.Common.{◌≡◌, ℕ, suc, ◌+◌, ◌==◌, ◌&&◌, ◌||◌, not, Bool, true, false, cond, List, [], ◌∷◌, ◌++◌, length, take, drop, Option, Some, None, Result, Ok, Err, refl, sym, ap, subst, ◌∙◌, arith, append_assoc, true≢false}
 use Rattle.std.specs.Prelude.{slice_index, is_some}
 use Rattle.std.specs.List.{prefix_len}
-use Rattle.std.proofs.lemmas.Bool.{eqb-true}
+use Rattle.std.proofs.lemmas.Bool.{eqb-true, or_parts}
 use Rattle.std.proofs.lemmas.List.{take-append-drop, length-append}
 use Rattle.std.proofs.lemmas.List.Folds.{length-prefix_len}
 use Rattle.ls_text.specs.declared.place.Place.{Place}
@@ -253,10 +253,6 @@ obeys at offset word st text directive.RestOfLine = skips_line at offset word st
 obeys at offset word st text directive.NoEffect = Ignored
 obeys at offset word st text directive.Use = uses at offset word st text
 
-neither : (x y : Bool) → (x || y) ≡ false → (x ≡ false) × (y ≡ false)
-neither true y e = absurd (true≢false e)
-neither false y e = (refl, e)
-
 pub whole_directive : (at : Place) (offset : ℕ) (word : List ℕ) (st : State) (text : List ℕ)
     → Carries at offset word st text (directive_read at offset word st text)
 unfolding directive_read
@@ -267,7 +263,7 @@ whole_directive at offset word st text = told (is_read st.nest || is_conditional
     told true e = Obeyed (directive_at at offset word st text (directive_of word)) e (obeys at offset word st text (directive_of word))
     told false e =
         let both : (is_read st.nest ≡ false) × (is_conditional (directive_of word) ≡ false) =
-        neither (is_read st.nest) (is_conditional (directive_of word)) e in
+        or_parts (is_read st.nest) (is_conditional (directive_of word)) e in
         Skips both.0 both.1
 
 -- ---- and nothing else is

@@ -1,7 +1,8 @@
 -- Stretches of bytes, and what counts them.
 use Rattle.std.proofs.Common.{◌≡◌, ℕ, suc, ◌+◌, ◌-◌, ◌<◌, ◌≤◌, ◌==◌, ◌&&◌, ◌⊎◌, inl, inr, Bool, true, false, cond, List, [], ◌∷◌, ◌++◌, length, take, drop, Option, Some, None, refl, sym, ap, subst, ◌∙◌, arith, true≢false}
+use Rattle.std.proofs.Math.Bool.{and-false}
 use Rattle.std.specs.List.{prefix_len}
-use Rattle.std.proofs.lemmas.Bool.{eqb-true}
+use Rattle.std.proofs.lemmas.Bool.{eqb-true, and_parts}
 use Rattle.std.proofs.lemmas.Option.{none-some}
 use Rattle.ls_text.specs.Bytes.{through_pair}
 use Rattle.verilog_pre.specs.Bodies.{begins_cut}
@@ -36,14 +37,6 @@ front_is p (x ∷ xs) ys all stops =
 
 -- ---- comments
 
-pub and_false : (x : Bool) → (x && false) ≡ false
-and_false true = refl
-and_false false = refl
-
-pub and_both : (x y : Bool) → (x && y) ≡ true → (x ≡ true) × (y ≡ true)
-and_both true y e = (refl, e)
-and_both false y e = absurd (true≢false (sym e))
-
 pub unclosed : (a n : ℕ) (bs : List ℕ) → through_pair 42 47 (a == 42) n bs ≡ None → HasNo ends_comment (a ∷ bs)
 unclosed a n [] none = tt
 unclosed a n (b ∷ bs) none = at ((a == 42) && (b == 47)) refl none (unclosed b (n + 1) bs)
@@ -75,7 +68,7 @@ value_of (Some n) = n
 
 with_first : (a b : ℕ) (bs inside rest : List ℕ) → ends_comment a b ≡ false → (b ∷ bs) ≡ inside ++ 42 ∷ 47 ∷ rest → HasNo ends_comment (inside ++ 42 ∷ [])
     → HasNo ends_comment (a ∷ (inside ++ 42 ∷ []))
-with_first a b bs [] rest e is has = (and_false (a == 42), tt)
+with_first a b bs [] rest e is has = (and-false (a == 42), tt)
 with_first a b bs (x ∷ xs) rest e is has = (ap (λ y. ends_comment a y) (sym (ap first_of is)) ∙ e, has)
 
 closes_later : (a b n m : ℕ) (bs : List ℕ) → ends_comment a b ≡ false → Closed (b ∷ bs) (n + 1) m → Closed (a ∷ b ∷ bs) n m
@@ -89,7 +82,7 @@ closes_later a b n m bs e c = record {
 
 closes_here : (a b n m : ℕ) (bs : List ℕ) → ((a == 42) && (b == 47)) ≡ true → Some (n + 1) ≡ Some m → Closed (a ∷ b ∷ bs) n m
 closes_here a b n m bs e h =
-    let both : ((a == 42) ≡ true) × ((b == 47) ≡ true) = and_both (a == 42) (b == 47) e in
+    let both : ((a == 42) ≡ true) × ((b == 47) ≡ true) = and_parts (a == 42) (b == 47) e in
     let here : n + 1 ≡ m = ap value_of h in
     record {
       inside = [];
@@ -110,7 +103,7 @@ closes a n m (b ∷ bs) some = at ((a == 42) && (b == 47)) refl some (closes b (
 
 pub closed_is : (a n : ℕ) (inside rest : List ℕ) → HasNo ends_comment (a ∷ (inside ++ 42 ∷ [])) → through_pair 42 47 (a == 42) n (inside ++ 42 ∷ 47 ∷ rest) ≡ Some (n + length inside + 2)
 closed_is a n [] rest has =
-    ap (λ t. cond t (Some (n + 1)) (Some (n + 1 + 1))) (and_false (a == 42))
+    ap (λ t. cond t (Some (n + 1)) (Some (n + 1 + 1))) (and-false (a == 42))
     ∙ ap Some (let same : n + 1 + 1 ≡ n + 0 + 2 = omega arith in same)
 closed_is a n (c ∷ cs) rest has =
     ap (λ t. cond t (Some (n + 1)) (through_pair 42 47 (c == 42) (n + 1) (cs ++ 42 ∷ 47 ∷ rest))) has.0
