@@ -1,3 +1,4 @@
+pub mod Equal
 pub mod Named
 pub mod RenamedItemViews
 pub mod RenamedStatementViews

@@ -20,7 +20,7 @@ use Rattle.verilog_ast.specs.Statements.{Statement}
 use Rattle.verilog_ast.specs.Names.{joined, names_of_option, names_of_optional_label, expression_names, reference_names, names_of_expression, names_of_reference, target_names, names_of_target, names_of_label, statement_names, arm_names, names_of_statement, names_of_arm}
 use Rattle.verilog_ast.specs.NamesWithin.{names_in_expression, names_in_target, names_in_label, names_in_statement}
 use Rattle.verilog_ast.specs.Views.{parts_of, expression_view, reference_view, expression_of, reference_of, targets_of, target_view, target_of, label_of, statements_of, statement_view, arm_view, statement_of, arm_of}
-use Rattle.verilog_ast.proofs.RenamedViews.{three}
+use Rattle.verilog_ast.proofs.Equal.{ap₃}
 
 -- what holds of each element holds of a list, and of what may be absent
 pub all_named : {A B : Type 0} (view : A → B) (f : A → List NameId) (g : B → List NameId) → ((x : A) → f x ≡ g (view x)) → (xs : List A)
@@ -77,7 +77,7 @@ expression_node (Expr-F.Read x) = expression_layer (Expr-F.Read x.0) x.1
 expression_node (Expr-F.Unary at op x) = expression_layer (Expr-F.Unary at op x.0) x.1
 expression_node (Expr-F.Binary op x y) = expression_layer (Expr-F.Binary op x.0 y.0) (ap₂ (λ a b. a ++ b) x.1 y.1)
 expression_node (Expr-F.Conditional x y z) =
-    expression_layer (Expr-F.Conditional x.0 y.0 z.0) (three (λ (a b c : List NameId). a ++ (b ++ c)) x.1 y.1 z.1)
+    expression_layer (Expr-F.Conditional x.0 y.0 z.0) (ap₃ (λ (a b c : List NameId). a ++ (b ++ c)) x.1 y.1 z.1)
 expression_node (Expr-F.Concatenation at xs) = expression_layer (Expr-F.Concatenation at (map (λ x. x.0) xs)) (parts_named xs)
 expression_node (Expr-F.Replication at x ys) =
     expression_layer (Expr-F.Replication at x.0 (map (λ x. x.0) ys)) (ap₂ (λ a b. a ++ b) x.1 (parts_named ys))
@@ -166,7 +166,7 @@ statement_node (Stmt-F.Block at l xs) =
     statement_layer (Stmt-F.Block at l (map (λ x. x.0) xs)) (ap (λ a. names_of_optional_label l ++ a) (statements_named xs))
 statement_node (Stmt-F.If at x y) = statement_layer (Stmt-F.If at x y.0) (ap₂ (λ a b. a ++ b) (expression_named x) y.1)
 statement_node (Stmt-F.IfElse at x y z) =
-    statement_layer (Stmt-F.IfElse at x y.0 z.0) (three (λ (a b c : List NameId). a ++ (b ++ c)) (expression_named x) y.1 z.1)
+    statement_layer (Stmt-F.IfElse at x y.0 z.0) (ap₃ (λ (a b c : List NameId). a ++ (b ++ c)) (expression_named x) y.1 z.1)
 statement_node (Stmt-F.Case at which x ys) =
     statement_layer (Stmt-F.Case at which x (map (λ x. x.0) ys)) (ap₂ (λ a b. a ++ b) (expression_named x) (arms_named ys))
 statement_node (Stmt-F.Assign x y) = statement_layer (Stmt-F.Assign x y) (ap₂ (λ a b. a ++ b) (target_named x) (expression_named y))
