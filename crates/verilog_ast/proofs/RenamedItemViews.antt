@@ -2,7 +2,6 @@
 use Rattle.std.proofs.Common.{◌≡◌, ◌∙◌, List, [], ◌∷◌, Option, map, refl, sym, ap, ap₂, subst}
 use Rattle.std.specs.Option.{option_map}
 use Rattle.ls_text.specs.declared.name_id.NameId.{NameId}
-use Rattle.verilog_ast.specs.declared.identifier.Identifier.{Identifier}
 use Rattle.verilog_ast.specs.declared.range.Range.{Range}
 use Rattle.verilog_ast.specs.declared.shape.Shape.{Shape}
 use Rattle.verilog_ast.specs.declared.variable.Variable.{Variable}
@@ -39,7 +38,8 @@ use Rattle.verilog_ast.specs.Items.{ConnectionByName, ConnectionByOrder, Connect
 use Rattle.verilog_ast.specs.Renamed.{renamed_identifier, renamed_expression, renamed_range, renamed_shape, renamed_variable, renamed_reg_variable, renamed_parameter, renamed_header_parameter, renamed_header_port, renamed_ports, renamed_named, renamed_ordered, renamed_connections, renamed_instance, renamed_continuous, renamed_plain_item, renamed_loop, generate_item_step, branch_step, renamed_generate_item, renamed_branch, renamed_item, renamed_body}
 use Rattle.verilog_ast.specs.Views.{expression_of, range_of, kind_of, declared_of, declared_reg_of, parameter_of, header_parameter_of, port_of, ports_of, by_name_of, by_order_of, connections_of, instance_of, assignment_of, plain_item_of, head_of, items_of, generate_item_view, branch_view, generate_item_of, branch_of, item_of, declaration_of}
 use Rattle.verilog_ast.specs.Renaming.{expression_as, range_as, kind_as, declared_as, declared_reg_as, parameter_as, header_parameter_as, port_as, ports_as, by_name_as, by_order_as, connections_as, instance_as, assignment_as, head_as, item_as, declaration_as}
-use Rattle.verilog_ast.proofs.RenamedViews.{same_expression, same_target, same_all, same_option, three}
+use Rattle.verilog_ast.proofs.Equal.{ap₃}
+use Rattle.verilog_ast.proofs.RenamedViews.{same_expression, same_target, same_all, same_option}
 use Rattle.verilog_ast.proofs.RenamedStatementViews.{same_statement}
 
 -- ---- declarations
@@ -112,7 +112,7 @@ same_plain_item f (plain.Instances n x ys) =
 
 same_head : (f : NameId → NameId) (x : Loop) → head_of (renamed_loop f x) ≡ head_as f (head_of x)
 same_head f x =
-    three (λ (a : ParameterAssignment) (b : Expression) (c : ParameterAssignment). record { start = a; condition = b; step = c })
+    ap₃ (λ (a : ParameterAssignment) (b : Expression) (c : ParameterAssignment). record { start = a; condition = b; step = c })
     (same_parameter f x.start) (same_expression f x.condition) (same_parameter f x.step)
 
 -- ---- items of generate blocks, by layers
@@ -205,6 +205,6 @@ same_body_items f (x ∷ xs) = ap₂ i.Items (same_item f x) (same_body_items f 
 
 pub same_declaration : (f : NameId → NameId) (x : ModuleBody) → declaration_of (renamed_body f x) ≡ declaration_as f (declaration_of x)
 same_declaration f x =
-    three (λ (a : List HeaderParameterDeclaration) (b : PortList) (c : ModuleItem). record { name = renamed_identifier f x.name; parameters = a; ports = b; items = c })
+    ap₃ (λ (a : List HeaderParameterDeclaration) (b : PortList) (c : ModuleItem). record { name = renamed_identifier f x.name; parameters = a; ports = b; items = c })
     (same_all header_parameter_of (renamed_header_parameter f) (header_parameter_as f) (same_header_parameter f) x.parameters)
     (same_ports f x.ports) (same_body_items f x.items)

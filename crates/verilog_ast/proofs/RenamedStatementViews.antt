@@ -10,11 +10,12 @@ use Rattle.verilog_ast.specs.declared.statement.Arm.{Arm, roll-Arm}
 use Rattle.verilog_ast.specs.declared.statement.Arm.TheVariants as a
 use Rattle.verilog_ast.specs.declared.statement.Arm.TheOpen.{Stmt-F, Arm-F}
 use Rattle.verilog_ast.specs.declared.statement.Arm.TheFolds.{fold-roll-Stmt, fold-roll-Arm, ind-Stmt, map-Stmt, map-Arm}
-use Rattle.verilog_ast.specs.Statements.{CaseLabel, Compared, Statement, Block, If, IfElse, Case, Assignment, Default, Match, Statements}
+use Rattle.verilog_ast.specs.Statements.{Compared, Statement, Block, If, IfElse, Case, Assignment, Default, Match, Statements}
 use Rattle.verilog_ast.specs.Renamed.{renamed_identifier, renamed_expression, renamed_target, renamed_label, statement_step, arm_step, renamed_statement, renamed_arm}
 use Rattle.verilog_ast.specs.Views.{label_of, statements_of, statement_view, arm_view, statement_of, arm_of}
 use Rattle.verilog_ast.specs.Renaming.{label_as, statement_as}
-use Rattle.verilog_ast.proofs.RenamedViews.{same_expression, same_target, same_all, three}
+use Rattle.verilog_ast.proofs.Equal.{ap₃}
+use Rattle.verilog_ast.proofs.RenamedViews.{same_expression, same_target, same_all}
 
 same_label : (f : NameId → NameId) (x : Label) → label_of (renamed_label f x) ≡ label_as f (label_of x)
 same_label f (label.Pattern at x) = refl
@@ -97,7 +98,7 @@ statement_node : (f : NameId → NameId) (y : Stmt-F ((x : Arm) × SameArm f x) 
 statement_node f (Stmt-F.Block at l xs) =
     statement_layer f (Stmt-F.Block at l (map (λ x. x.0) xs)) (ap (Block at (option_map (renamed_identifier f) l)) (same_statements f xs))
 statement_node f (Stmt-F.If at x y) = statement_layer f (Stmt-F.If at x y.0) (ap₂ (If at) (same_expression f x) y.1)
-statement_node f (Stmt-F.IfElse at x y z) = statement_layer f (Stmt-F.IfElse at x y.0 z.0) (three (IfElse at) (same_expression f x) y.1 z.1)
+statement_node f (Stmt-F.IfElse at x y z) = statement_layer f (Stmt-F.IfElse at x y.0 z.0) (ap₃ (IfElse at) (same_expression f x) y.1 z.1)
 statement_node f (Stmt-F.Case at which x ys) =
     statement_layer f (Stmt-F.Case at which x (map (λ x. x.0) ys)) (ap₂ (Case at which) (same_expression f x) (same_arms f ys))
 statement_node f (Stmt-F.Assign x y) = statement_layer f (Stmt-F.Assign x y) (ap₂ Assignment (same_target f x) (same_expression f y))

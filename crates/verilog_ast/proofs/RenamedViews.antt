@@ -2,7 +2,6 @@
 use Rattle.std.proofs.Common.{◌≡◌, ◌∙◌, List, [], ◌∷◌, Option, Some, None, map, refl, sym, ap, ap₂, subst}
 use Rattle.std.specs.Option.{option_map}
 use Rattle.ls_text.specs.declared.name_id.NameId.{NameId}
-use Rattle.verilog_ast.specs.declared.identifier.Identifier.{Identifier}
 use Rattle.verilog_ast.specs.declared.expression.Expr.{Expr, roll-Expr}
 use Rattle.verilog_ast.specs.declared.expression.Expr.TheOpen.{Expr-F, Reference-F}
 use Rattle.verilog_ast.specs.declared.expression.Expr.TheFolds.{fold-roll-Expr, fold-roll-Reference, ind-Expr, ind-Reference, map-Expr, map-Reference}
@@ -17,6 +16,7 @@ use Rattle.verilog_ast.specs.Expressions.{Expression, Target, Unary, Binary, Con
 use Rattle.verilog_ast.specs.Renamed.{renamed_identifier, reference_step, expression_step, renamed_reference, renamed_expression, target_step, renamed_target}
 use Rattle.verilog_ast.specs.Views.{parts_of, expression_view, reference_view, expression_of, reference_of, targets_of, target_view, target_of}
 use Rattle.verilog_ast.specs.Renaming.{expression_as, target_as}
+use Rattle.verilog_ast.proofs.Equal.{ap₃}
 
 -- what holds of each element holds of a list, and of what may be absent
 pub same_all : {A B : Type 0} (view : A → B) (f : A → A) (g : B → B) → ((x : A) → view (f x) ≡ g (view x)) → (xs : List A) → map view (map f xs) ≡ map g (map view xs)
@@ -95,16 +95,13 @@ same_parts : (f : NameId → NameId) (xs : List ((x : Expr) × SameExpression f 
 same_parts f [] = refl
 same_parts f (x ∷ xs) = ap₂ Parts x.1 (same_parts f xs)
 
-pub three : {A B C D : Type 0} (g : A → B → C → D) {a b : A} {c d : B} {x y : C} → a ≡ b → c ≡ d → x ≡ y → g a c x ≡ g b d y
-three g h i j = cc
-
 expression_node : (f : NameId → NameId) (y : Expr-F ((x : Expr) × SameExpression f x) ((x : Reference) × SameReference f x))
     → SameExpression f (roll-Expr (map-Expr ((x : Expr) × SameExpression f x) ((x : Reference) × SameReference f x) Expr Reference (λ x. x.0) (λ x. x.0) y))
 expression_node f (Expr-F.Number at x) = expression_layer f (Expr-F.Number at x) refl
 expression_node f (Expr-F.Read x) = expression_layer f (Expr-F.Read x.0) x.1
 expression_node f (Expr-F.Unary at op x) = expression_layer f (Expr-F.Unary at op x.0) (ap (Unary at op) x.1)
 expression_node f (Expr-F.Binary op x y) = expression_layer f (Expr-F.Binary op x.0 y.0) (ap₂ (Binary op) x.1 y.1)
-expression_node f (Expr-F.Conditional x y z) = expression_layer f (Expr-F.Conditional x.0 y.0 z.0) (three Conditional x.1 y.1 z.1)
+expression_node f (Expr-F.Conditional x y z) = expression_layer f (Expr-F.Conditional x.0 y.0 z.0) (ap₃ Conditional x.1 y.1 z.1)
 expression_node f (Expr-F.Concatenation at xs) =
     expression_layer f (Expr-F.Concatenation at (map (λ x. x.0) xs)) (ap (Concatenation at) (same_parts f xs))
 expression_node f (Expr-F.Replication at x ys) =

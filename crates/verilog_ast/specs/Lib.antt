@@ -7,3 +7,4 @@ pub mod Renaming
 pub mod Places
 pub mod Names
 pub mod Renamed
+pub mod NamesWithin

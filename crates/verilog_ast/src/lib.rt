@@ -48,7 +48,7 @@ pub use identifier::Identifier;
 pub use instance::Instance;
 pub use item::Item;
 pub use label::Label;
-pub use laws::names_are_numbers;
+pub use laws::{names_are_numbers, names_stay_in_views};
 pub use module::Module;
 pub use module_body::ModuleBody;
 pub use named_connection::NamedConnection;

@@ -2,7 +2,6 @@ pub mod StatementTrees
 pub mod ItemTrees
 pub mod ModuleTrees
 pub mod Complete
-pub mod Digits
 pub mod Wholes
 pub mod OneToken
 pub mod OneStatement

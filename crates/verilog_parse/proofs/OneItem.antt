@@ -22,11 +22,12 @@ use Rattle.verilog_ast.specs.declared.instance.Instance.{Instance}
 use Rattle.verilog_ast.specs.declared.continuous.Continuous.{Continuous}
 use Rattle.verilog_ast.specs.declared.plain_item.PlainItem.{PlainItem}
 use Rattle.verilog_ast.specs.declared.plain_item.PlainItem.TheVariants as item
+use Rattle.verilog_ast.proofs.Equal.{ap₃}
 use Rattle.verilog_expr.specs.Tokens.{next, identifier_of, place_at}
 use Rattle.verilog_expr.specs.Grammar.{begins_expression}
 use Rattle.verilog_parse.specs.Items.{Spells, AShape, OptionalSigned, OptionalRange, OptionalWire, OptionalNet, Names, NamesBehind, OtherNames, AVariable, OptionalValue, Variables, VariablesBehind, OtherVariables, ARegVariable, RegVariables, RegVariablesBehind, OtherRegVariables, AParameter, Parameters, ParametersBehind, OtherParameters, Overrides, Instances, InstancesBehind, OtherInstances, AnInstance, AConnections, ANamedConnection, NamedBehind, OtherNamed, AnOrdered, OrderedBehind, OtherOrdered, OptionalExpression, APlainItem, AnEvent, Trigger, EdgeEnd, Assignments, AssignmentsBehind, OtherAssignments, AContinuous}
 use Rattle.verilog_parse.specs.Items.{shape, not_signed, is_signed, no_range, a_range, no_wire, a_wire, no_net, net_wire, net_reg, names, names_behind, no_name, another_name, variable, no_value, a_value, variables, variables_behind, no_variable, another_variable, reg_variable, reg_variables, reg_variables_behind, no_reg_variable, another_reg_variable, parameter, parameters, parameters_behind, no_parameter, another_parameter, no_override, an_override, instances, instances_behind, no_instance, another_instance, instance_, by_name, by_order, named, named_behind, no_named, another_named, ordered, ordered_behind, no_ordered, another_ordered, no_expression, an_expression, wire_item, reg_item, local_item, genvar_item, assign_item, always_item, instances_item, at_all, at_bracket, at_inputs, at_edge, edge_end, assignments, assignments_behind, no_assignment, another_assignment, continuous}
-use Rattle.verilog_parse.proofs.OneToken.{kind_of, same_token, two_kinds, no_kind, no_beginning, same_expression, same_range, ap₃}
+use Rattle.verilog_parse.proofs.OneToken.{kind_of, same_token, two_kinds, no_kind, no_beginning, same_expression, same_range}
 use Rattle.verilog_parse.proofs.OneStatement.{one_target, one_statement}
 
 -- ---- declarations

@@ -16,11 +16,12 @@ use Rattle.verilog_ast.specs.declared.statement.Arm.{Arm}
 use Rattle.verilog_ast.specs.declared.statement.Arm.TheVariants as arm
 use Rattle.verilog_ast.specs.declared.label.Label.{Label}
 use Rattle.verilog_ast.specs.declared.label.Label.TheVariants as label
+use Rattle.verilog_ast.proofs.Equal.{ap₃, ap₄}
 use Rattle.verilog_expr.specs.Tokens.{next, identifier_of, pattern_of}
 use Rattle.verilog_expr.specs.Grammar.{begins_statement, begins_arm}
 use Rattle.verilog_parse.specs.Statements.{Spells, ATarget, Braces, TargetsBehind, OtherTargets, AStatement, Statements, AnIf, Alternative, ACase, AnArm, ArmsBehind, OtherArms, OptionalColon, ALabel, LabelsBehind, OtherLabels, OptionalLabel, AnAssignment, ASign}
 use Rattle.verilog_parse.specs.Statements.{target_name, target_braces, braces, targets_behind, no_target, another_target, empty, block, if_, case_, casez_, assign_name, assign_braces, no_statement, another_statement, branch, if_alone, if_else, choice, arms_behind, no_arm, another_arm, default, matching, colon, no_colon, case_label, casez_value, casez_pattern, labels_behind, no_other_label, another_label, no_label, a_label, assigns, blocking, nonblocking}
-use Rattle.verilog_parse.proofs.OneToken.{kind_of, same_token, two_kinds, no_kind, no_beginning, same_expression, same_select, ap₃, ap₄}
+use Rattle.verilog_parse.proofs.OneToken.{kind_of, same_token, two_kinds, no_kind, no_beginning, same_expression, same_select}
 
 -- ---- targets
 

@@ -9,13 +9,14 @@ use Rattle.ls_text.specs.declared.refusal.Refusal.TheVariants as refusal
 use Rattle.verilog_lex.specs.declared.token.Token.{Token}
 use Rattle.verilog_ast.specs.declared.module_body.ModuleBody.{ModuleBody}
 use Rattle.verilog_ast.specs.declared.module.Module.{Module}
+use Rattle.verilog_ast.proofs.Equal.{ap₃}
 use Rattle.verilog_expr.specs.declared.fault.ParseFault.{ParseFault}
 use Rattle.verilog_expr.specs.Machine.{Outcome}
 use Rattle.verilog_expr.specs.Shown.{code_of, left_at, token_at, place_of, names_of, IsShownAs, Refuses, at_fault}
 use Rattle.verilog_expr.proofs.Complete.{one_end}
-use Rattle.verilog_parse.specs.Spellings.{spelling}
+use Rattle.verilog_spelling.specs.Spellings.{spelling}
 use Rattle.verilog_parse.specs.Files.{file, IsSpelledAs, SpellsAll, no_module, another_module, Stands}
-use Rattle.verilog_parse.proofs.OneToken.{no_kind, ap₃}
+use Rattle.verilog_parse.proofs.OneToken.{no_kind}
 use Rattle.verilog_parse.proofs.OneModule.{one_module}
 
 -- ---- modules

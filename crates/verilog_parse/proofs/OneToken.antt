@@ -51,12 +51,3 @@ pub same_select : {n m : Identifier} {x y : Reference} {s q r p : List Token} �
 same_select {n} {m} {x} {y} {s} {q} {r} {p} h d is same =
     let e = subst (λ (i : Identifier). Spells (ASelect i y) q p) (sym is) d in
     one_select n x y s r p h (subst (λ (l : List Token). Spells (ASelect n y) l p) (sym same) e)
-
--- ---- equal parts
-
-pub ap₃ : {A B C D : Type 0} {x y : A} {u v : B} {m n : C} (f : A → B → C → D) → x ≡ y → u ≡ v → m ≡ n → f x u m ≡ f y v n
-ap₃ f a b c = cc
-
-pub ap₄ : {A B C D E : Type 0} {x y : A} {u v : B} {m n : C} {i j : D} (f : A → B → C → D → E) → x ≡ y → u ≡ v → m ≡ n → i ≡ j
-    → f x u m i ≡ f y v n j
-ap₄ f a b c d = cc

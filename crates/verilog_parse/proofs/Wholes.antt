@@ -18,7 +18,7 @@ use Rattle.verilog_expr.proofs.Complete.{Gets, gets_end, gets_token, gets_skip, 
 use Rattle.verilog_expr.proofs.Refusals.{heavy_alone}
 use Rattle.verilog_expr.proofs.Suffixes.{suffix, ends_last, taken_part}
 use Rattle.verilog_parse.specs.Modules as m
-use Rattle.verilog_parse.specs.Spellings.{spelling}
+use Rattle.verilog_spelling.specs.Spellings.{spelling}
 use Rattle.verilog_parse.specs.Files.{file, IsSpelledAs, SpellsAll, no_module, another_module, Stands, IsSpelled}
 use Rattle.verilog_parse.proofs.Complete.{seen, module_}
 

@@ -8,7 +8,7 @@ use Rattle.verilog_expr.specs.Grammar as grammar
 use Rattle.verilog_expr.specs.Grammar.{Symbol, T, N}
 use Rattle.verilog_expr.specs.Machine.{Run}
 use Rattle.verilog_parse.specs.Modules as modules
-use Rattle.verilog_parse.specs.Spellings.{spelling}
+use Rattle.verilog_spelling.specs.Spellings.{spelling}
 
 -- the symbols that the machine begins with
 abbrev pub file : List Symbol

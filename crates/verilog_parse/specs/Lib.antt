@@ -2,5 +2,4 @@ pub mod Statements
 pub mod Items
 pub mod Generates
 pub mod Modules
-pub mod Spellings
 pub mod Files

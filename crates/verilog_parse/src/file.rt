@@ -9,12 +9,12 @@ ghost use Rattle.verilog_expr.specs.Reads.{Reads, Fails};
 ghost use Rattle.verilog_parse.specs.Files.{IsSpelledAs, SpellsAll, Stands, file};
 
 use crate::modules::module;
-use crate::spelling::spelling;
 use ls_text::{Names, TextBytes};
 use std::alloc::Global;
 use verilog_ast::Module;
 use verilog_expr::{ParseError, Parser};
 use verilog_lex::{Kind, Token};
+use verilog_spelling::spelling;
 
 // A module with its spelling.
 fn spelled_module(p: &mut Parser<'_>, names: &Names) -> Result<Module, ParseError>

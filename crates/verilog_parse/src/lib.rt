@@ -10,7 +10,6 @@ mod laws;
 mod modules;
 mod parsing;
 mod plain_item;
-mod spelling;
 mod statement;
 mod target;
 

@@ -1,7 +1,7 @@
 // The one spelling of a module's tokens, by which two texts of one module are the same.
 ghost use Rattle.std.specs.Prelude.{◌≡◌, ◌==◌, ◌++◌, ◌<◌, ◌≤◌, length, All, IfOk, OnOk};
 ghost use Rattle.std.specs.List.{prefix_len};
-ghost use Rattle.verilog_parse.specs.Spellings.{spelling, spaced, token_text, number_text, pattern_text, hex_text, pattern_digits, pattern_digit, size_text};
+ghost use Rattle.verilog_spelling.specs.Spellings.{spelling, spaced, token_text, number_text, pattern_text, hex_text, binary_digits, binary_digit_of, size_text};
 
 use hex::encode_to_slice;
 use ls_text::{Names, NoMemory, push_decimal};
@@ -92,23 +92,23 @@ fn push_pattern(text: &mut Vec<u8>, literal: Literal) -> Result<(), NoMemory>
 {
     push_size(text, literal.size)?;
     text.extend_from_slice(b"'b")?;
-    push_digits(text, literal.size, literal.value, literal.mask)
+    push_binary_digits(text, literal.size, literal.value, literal.mask)
 }
 
 // So many binary digits, from the highest, with a `?` where the mask has a 1.
-fn push_digits(text: &mut Vec<u8>, size: u8, value: u128, mask: u128) -> Result<(), NoMemory>
-    ensures { OnOk result (text.new.items ≡ text.old.items ++ pattern_digits size value mask) }
+fn push_binary_digits(text: &mut Vec<u8>, size: u8, value: u128, mask: u128) -> Result<(), NoMemory>
+    ensures { OnOk result (text.new.items ≡ text.old.items ++ binary_digits size value mask) }
 {
     let mut left = size;
     while left > 0 {
         left -= 1;
-        text.push(digit(left, value, mask))?;
+        text.push(binary_digit(left, value, mask))?;
     }
     Ok(())
 }
 
-fn digit(bit: u8, value: u128, mask: u128) -> u8
-    ensures { result ≡ pattern_digit bit value mask }
+fn binary_digit(bit: u8, value: u128, mask: u128) -> u8
+    ensures { result ≡ binary_digit_of bit value mask }
 {
     if bit >= 128 {
         return b'0';

@@ -1,6 +1,6 @@
 use Rattle.std.proofs.Common.{◌≡◌, ◌++◌, drop}
-use Rattle.verilog_parse.specs.Spellings.{spaced}
-use Rattle.verilog_parse.proofs.spelling.push_spaced.Given as goal
+use Rattle.verilog_spelling.specs.Spellings.{spaced}
+use Rattle.verilog_spelling.proofs.texts.push_spaced.Given as goal
 
 -- the text so far, and the tokens that are left
 abbrev pub invariant-loop-token : goal.invariant-loop-token

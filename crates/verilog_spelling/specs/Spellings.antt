@@ -24,16 +24,16 @@ number_text l = size_text l.size ++ (if l.signed then codes "'sh" else codes "'h
 abbrev pub digit_of : ℕ → ℕ → ℕ
 digit_of mask_bit value_bit = if mask_bit == 1 then 63 else (if value_bit == 1 then 49 else 48)
 
-abbrev pub pattern_digit : ℕ → ℕ → ℕ → ℕ
-pattern_digit bit value mask = digit_of (bit_at mask bit) (bit_at value bit)
+abbrev pub binary_digit_of : ℕ → ℕ → ℕ → ℕ
+binary_digit_of bit value mask = digit_of (bit_at mask bit) (bit_at value bit)
 
--- so many digits, from the highest
-abbrev pub pattern_digits : ℕ → ℕ → ℕ → List ℕ
-pattern_digits zero value mask = []
-pattern_digits (suc n) value mask = pattern_digit n value mask ∷ pattern_digits n value mask
+-- so many binary digits, from the highest
+abbrev pub binary_digits : ℕ → ℕ → ℕ → List ℕ
+binary_digits zero value mask = []
+binary_digits (suc n) value mask = binary_digit_of n value mask ∷ binary_digits n value mask
 
 abbrev pub pattern_text : Literal → List ℕ
-pattern_text l = size_text l.size ++ codes "'b" ++ pattern_digits l.size l.value l.mask
+pattern_text l = size_text l.size ++ codes "'b" ++ binary_digits l.size l.value l.mask
 
 abbrev pub text_of_kind : Kind → List (List ℕ) → Token → List ℕ
 text_of_kind k.Number names t = number_text t.literal

@@ -1,0 +1,6 @@
+// From tokens to their one spelling, by which two texts of one module are the same.
+#![tactic(auto)]
+
+mod texts;
+
+pub use texts::spelling;
