@@ -6,7 +6,7 @@ use Rattle.typed_ir.specs.declared.span.Span.{Span}
 use Rattle.typed_ir.specs.declared.lane.Lane.{Lane}
 use Rattle.typed_ir.specs.Valuations.{Places, within, any_within, nowhere}
 use Rattle.typed_ir.specs.Sized.{reads, is_span, is_signal, is_width}
-use Rattle.typed_ir.specs.Stmts.{SizedTarget, Fixed, Moving, SizedStmt, SizedArms, Skip, Assign, Later, Then, If, Case, Arm, Default, span_of, targets, arm_targets, certain, known_after, known_after_arms, index_reads, open_indices, item_reads, open_reads, open_arm_reads, is_sized, is_target, are_targets, are_items, is_legal, are_legal_arms}
+use Rattle.typed_ir.specs.Stmts.{SizedTarget, Fixed, Moving, SizedStmt, SizedArms, Skip, Assign, Later, Then, If, Case, Arm, Default, span_of, targets, arm_targets, later_targets, later_arm_targets, certain, known_after, known_after_arms, index_reads, open_indices, item_reads, open_reads, open_arm_reads, is_sized, is_target, are_targets, are_items, is_legal, are_legal_arms}
 use Rattle.typed_ir.specs.Nodes.{FlatNode, Drive, Block, lane_spans, node_drives, node_reads, are_lanes, is_legal_node}
 use Rattle.typed_ir.specs.Flats.{NodeWritesFirst}
 use Rattle.typed_ir.specs.Touches.{all_reads, all_arm_reads, mentions, is_block}
@@ -259,3 +259,33 @@ unfolding node_drives is_legal_node
 drives_small (Drive form lanes e) widths s i most legal h =
     lanes_small lanes widths s i most (and_left (are_lanes lanes widths) (is_sized e widths) legal) h
 drives_small (Block form body) widths s i most legal h = targets_small body widths s i most legal h
+
+-- ---- the bits that a clocked block writes
+
+mutual
+  pub later_small : (st : SizedStmt) (widths : List ℕ) (s i : ℕ) → ((k : ℕ) → slice_index widths k ≤ 128) → is_legal st widths ≡ true
+      → any_within (later_targets st) s i ≡ true → (s < length widths) × (i < 128)
+  later_small Skip widths s i most legal h = absurd (true≢false (sym h))
+  later_small (Assign parts e) widths s i most legal h = absurd (true≢false (sym h))
+  later_small (Later parts e) widths s i most legal h =
+      parts_small parts widths s i most (and_left (are_targets parts widths) (is_sized e widths) legal) h
+  later_small (Then a b) widths s i most legal h =
+      either_small (later_targets a) (later_targets b) s i h
+      (later_small a widths s i most (and_left (is_legal a widths) (is_legal b widths) legal))
+      (later_small b widths s i most (and_right (is_legal a widths) (is_legal b widths) legal))
+  later_small (If c a b) widths s i most legal h =
+      let both : (is_legal a widths && is_legal b widths) ≡ true = and_right (is_sized c widths) (is_legal a widths && is_legal b widths) legal in
+      either_small (later_targets a) (later_targets b) s i h
+      (later_small a widths s i most (and_left (is_legal a widths) (is_legal b widths) both))
+      (later_small b widths s i most (and_right (is_legal a widths) (is_legal b widths) both))
+  later_small (Case e arms) widths s i most legal h =
+      later_arm_small arms widths s i most (and_right (is_sized e widths) (are_legal_arms arms widths) legal) h
+
+  later_arm_small : (arms : SizedArms) (widths : List ℕ) (s i : ℕ) → ((k : ℕ) → slice_index widths k ≤ 128) → are_legal_arms arms widths ≡ true
+      → any_within (later_arm_targets arms) s i ≡ true → (s < length widths) × (i < 128)
+  later_arm_small (Arm items body rest) widths s i most legal h =
+      let both : (is_legal body widths && are_legal_arms rest widths) ≡ true = and_right (are_items items widths) (is_legal body widths && are_legal_arms rest widths) legal in
+      either_small (later_targets body) (later_arm_targets rest) s i h
+      (later_small body widths s i most (and_left (is_legal body widths) (are_legal_arms rest widths) both))
+      (later_arm_small rest widths s i most (and_right (is_legal body widths) (are_legal_arms rest widths) both))
+  later_arm_small (Default otherwise) widths s i most legal h = later_small otherwise widths s i most legal h

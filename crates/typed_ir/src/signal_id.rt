@@ -24,4 +24,11 @@ impl SignalId {
     {
         self.0 as usize
     }
+
+    /// The number itself.
+    pub fn number(self) -> u32
+        ensures { result ≡ self }
+    {
+        self.0
+    }
 }
