@@ -124,7 +124,9 @@ fn is_clocked(st: &Stmt) -> bool
             ..
         } => is_clocked(consequent) && is_clocked(alternative),
         Stmt::Case {
-            arms, otherwise, ..
+            arms,
+            otherwise,
+            ..
         } => arms_clocked(arms, otherwise),
     }
 }

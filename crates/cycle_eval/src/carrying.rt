@@ -42,7 +42,11 @@ fn value_at(
 }
 
 // The beginning values of these registers.
-fn beginnings(alloc: Global, signals: &[Signal], registers: &[SignalId]) -> Result<RegState, NoMemory>
+fn beginnings(
+    alloc: Global,
+    signals: &[Signal],
+    registers: &[SignalId],
+) -> Result<RegState, NoMemory>
     requires { IsTrue (are_below registers.now (length signals.now)) }
     ensures { IfOk result (λ s. s ≡ paired (map (width_in signals.now) registers.now) (map (initial_in signals.now) registers.now)) }
 {
@@ -83,7 +87,7 @@ fn carried_into(
 
 impl Design {
     /// The registers at their beginning values.
-    pub fn reset_state(&self, alloc: Global) -> Result<RegState, NoMemory>
+    pub(crate) fn reset_state(&self, alloc: Global) -> Result<RegState, NoMemory>
         ensures value { IfOk result (λ s. s ≡ reset_of (flat_of self.now)) }
         ensures fits { IfOk result (λ s. Fits (flat_of self.now) s) }
     {
@@ -93,7 +97,7 @@ impl Design {
 
     /// The state of an older design, carried into this one: each register takes the value of the register of its path, where it
     /// is of the same module, cut or filled with zeros to its width; else it begins anew. Registers are found by hash.
-    pub fn carried(
+    pub(crate) fn carried(
         &self,
         alloc: Global,
         old: &Design,

@@ -34,7 +34,7 @@ fn put_row(inputs: &[SignalId], env: &mut [Bits], row: &[u128])
 impl Design {
     /// Sets the data inputs to what a row gives: each in its order, cut to its width, and 0 where the row has no number. All else
     /// stays. It takes no memory.
-    pub fn write_inputs(&self, env: &mut [Bits], row: &[u128])
+    pub(crate) fn write_inputs(&self, env: &mut [Bits], row: &[u128])
         requires { widths env.old ≡ signal_widths self.now.linked.design.signals.items }
         ensures widths { widths env.new ≡ widths env.old }
         ensures value { env_of env.new ≡ fill (flat_of self.now).inputs (input (flat_of self.now) row.now) (env_of env.old) }

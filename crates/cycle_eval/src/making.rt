@@ -66,7 +66,7 @@ impl Design {
     }
 
     /// Room for all updates of one cycle.
-    pub fn room(&self, alloc: Global) -> Result<Vec<Update>, NoMemory>
+    pub(crate) fn room(&self, alloc: Global) -> Result<Vec<Update>, NoMemory>
         ensures { IfOk result (λ room. all_updates (flat_of self.now).clocked ≤ vec_capacity room) }
     {
         // No memory has room for more than the largest number counts.

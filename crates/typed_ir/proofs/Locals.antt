@@ -120,7 +120,7 @@ written_local (Fixed lane ∷ ts) x y known B v w e sub hk hb =
     written_local ts x y more B (all_applied us v) (all_applied us w) e sub
     (lane_certain lane.span (x / 2 ^ lane.shift) known v w hk) (applied_same us B v w hb) in (
       (λ s i a. both.0 s i (sym (or_assoc (known s i) (within lane.span s i) (certain ts s i)) ∙ a)
-      ∙ ap (λ z. look (written ts y (all_applied z w)) s i) same),
+          ∙ ap (λ z. look (written ts y (all_applied z w)) s i) same),
       (λ s i a. both.1 s i a ∙ ap (λ z. look (written ts y (all_applied z w)) s i) same),
     )
 written_local (Moving reach index ∷ ts) x y known B v w e sub hk hb =

@@ -16,7 +16,10 @@ use bits::Bits;
 pub enum Form {
     Constant(Bits),
     /// A signal as a whole.
-    Name { signal: SignalId, width: u8 },
+    Name {
+        signal: SignalId,
+        width: u8,
+    },
     /// A select whose bits are known.
     Part(Span),
     /// A select at run time: `width` bits from the index on, read as signed where the flag is set, less `below`.
@@ -147,14 +150,7 @@ impl Form {
 
 // The bits of a signal from a place that the index gives.
 #[cycle(value)]
-fn pick(
-    signal: SignalId,
-    width: u8,
-    below: u32,
-    signed: bool,
-    index: &Form,
-    env: &[Bits],
-) -> Bits
+fn pick(signal: SignalId, width: u8, below: u32, signed: bool, index: &Form, env: &[Bits]) -> Bits
     requires agrees { IsTrue (agrees (Pick signal width below signed (sized index.now))) }
     requires fits { IsTrue (fits_signals (Pick signal width below signed (sized index.now)) (widths env.now)) }
     ensures width { result.width ≡ width_of (Pick signal width below signed (sized index.now)) }

@@ -22,7 +22,10 @@ pub enum Node {
         value: Typed,
     },
     /// A combinational block, with the form in which the target of its first assignment is shown.
-    Block { form: TargetForm, body: Stmt },
+    Block {
+        form: TargetForm,
+        body: Stmt,
+    },
 }
 
 impl Node {

@@ -18,9 +18,15 @@ pub enum Stmt {
     /// The null statement.
     Skip,
     /// A blocking assignment to these parts, from left to right.
-    Assign { targets: Vec<Target>, value: Typed },
+    Assign {
+        targets: Vec<Target>,
+        value: Typed,
+    },
     /// A nonblocking one.
-    Later { targets: Vec<Target>, value: Typed },
+    Later {
+        targets: Vec<Target>,
+        value: Typed,
+    },
     /// `begin .. end`: one after another.
     Sequence(Vec<Stmt>),
     /// A condition, what is done where it isn't 0, and what is done where it is.
@@ -177,7 +183,9 @@ impl Stmt {
                 .most_updates()
                 .saturating_add(alternative.most_updates()),
             Stmt::Case {
-                arms, otherwise, ..
+                arms,
+                otherwise,
+                ..
             } => most_of_arms(arms, otherwise),
         }
     }

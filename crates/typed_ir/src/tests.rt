@@ -248,7 +248,10 @@ fn unary_operators(rt: HostRuntime) -> Result<(), Fail> {
 fn selects(rt: HostRuntime) -> Result<(), Fail> {
     let env = two_signals(rt.alloc())?;
     assert_eq!(rt; value_in(&rt, &Typed::name(SignalId(0), 8), &env), 0xa5);
-    assert_eq!(rt; value_in(&rt, &Typed::name(SignalId(1), 128), &env), TOP + 1);
+    assert_eq!(rt;
+        value_in(&rt, &Typed::name(SignalId(1), 128), &env),
+        TOP + 1
+    );
     // the signal, the lowest bit and the width of a select
     for (number, low, width, wanted) in [(0, 4, 4, 0xa), (1, 64, 64, TOP_64), (1, 127, 1, 1)] {
         assert!(rt; width >= 1 && low <= 128 && width <= 128 - low);
@@ -443,7 +446,12 @@ fn operators_within_operators(rt: HostRuntime) -> Result<(), Fail> {
     let env = two_signals(rt.alloc())?;
     // (s0 + 1) * 2: 0xa6, twice, modulo 256
     let sum = BinaryOperator::Arithmetic(ArithmeticOperator::Sum);
-    let next = Typed::binary(rt.alloc(), sum, Typed::name(SignalId(0), 8), number(&rt, 8, 1))?;
+    let next = Typed::binary(
+        rt.alloc(),
+        sum,
+        Typed::name(SignalId(0), 8),
+        number(&rt, 8, 1),
+    )?;
     let product = BinaryOperator::Arithmetic(ArithmeticOperator::Product);
     let doubled = Typed::binary(rt.alloc(), product, next, number(&rt, 8, 2))?;
     assert_eq!(rt; value_in(&rt, &doubled, &env), 0x4c);

@@ -75,10 +75,14 @@ fn note_form(form: &Form, touches: &mut Vec<Touch>) -> Result<(), NoMemory>
         | Form::Repeat { part: a, .. }
         | Form::Resized { operand: a, .. } => note_form(a, touches),
         Form::Binary {
-            left: a, right: b, ..
+            left: a,
+            right: b,
+            ..
         }
         | Form::Concat {
-            high: a, low: b, ..
+            high: a,
+            low: b,
+            ..
         } => {
             note_form(a, touches)?;
             note_form(b, touches)
@@ -225,7 +229,9 @@ fn note_targets(st: &Stmt, touches: &mut Vec<Touch>) -> Result<(), NoMemory>
             note_targets(alternative, touches)
         }
         Stmt::Case {
-            arms, otherwise, ..
+            arms,
+            otherwise,
+            ..
         } => note_targets_of_arms(arms, otherwise, touches),
     }
 }

@@ -39,7 +39,9 @@ fn add_later(st: &Stmt, spans: &mut Vec<Span>) -> Result<(), NoMemory>
             add_later(alternative, spans)
         }
         Stmt::Case {
-            arms, otherwise, ..
+            arms,
+            otherwise,
+            ..
         } => add_later_of_arms(arms, otherwise, spans),
     }
 }
@@ -57,11 +59,7 @@ fn add_later_of_all(list: &[Stmt], spans: &mut Vec<Span>) -> Result<(), NoMemory
 
 // The same of the arms of a case and its default.
 #[cycle(later)]
-fn add_later_of_arms(
-    arms: &[Arm],
-    otherwise: &Stmt,
-    spans: &mut Vec<Span>,
-) -> Result<(), NoMemory>
+fn add_later_of_arms(arms: &[Arm], otherwise: &Stmt, spans: &mut Vec<Span>) -> Result<(), NoMemory>
     ensures { IfOk result (λ _. spans.new.items ≡ spans.old.items ++ later_arm_targets (arms_before (map arm_of arms.now) (stmt_of otherwise.now))) }
 {
     for arm in arms {

@@ -1,4 +1,4 @@
-use Rattle.std.proofs.Common.{◌≡◌, ◌++◌, ◌<◌, ◌∙◌, ℕ, List, length, get_or, map, sym, ap, ap₂, subst, arith}
+use Rattle.std.proofs.Common.{rules, ◌≡◌, ◌++◌, ◌<◌, ◌∙◌, ℕ, List, length, get_or, map, sym, ap, ap₂, subst, arith}
 use Rattle.std.specs.Prelude.{IfOk}
 use Rattle.std.proofs.lemmas.List.{append-nil, at_drop_all}
 use Rattle.bits.proofs.Modulo.{small}
@@ -47,3 +47,13 @@ returns c =
     ∙ sym (at_drop_all (λ (zs : List ℕ). map sized_value items ++ map f zs) rs c.loop-register.register-index c.loop-register-test.false)
     ∙ c.loop-register.invariant ∙ pairs_of (width_in signals) (initial_in signals) rs in
     subst (λ z. IfOk c.new-2.result (λ s. s ≡ z)) whole c.new-2.ensures
+
+pub offset_bounds-signals-place : goal.offset_bounds-signals-place
+offset_bounds-signals-place c =
+    let rs = c.args.registers.now in
+    let i = c.loop-register.register-index in
+    let listed : get_or rs i 0 < length c.args.signals.now = below_read rs (length c.args.signals.now) i c.requires c.loop-register-test.true in
+    let same : c.index-place.result ≡ get_or rs i 0 =
+    c.index-place.ensures ∙ c.register-item.is ∙ read_any rs i c.register-item.result 0 c.loop-register-test.true in
+    let within : c.index-place.result < length c.args.signals.now = omega (arith, listed, same) in
+    search (rules, within)

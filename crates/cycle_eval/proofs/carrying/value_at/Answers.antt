@@ -1,4 +1,4 @@
-use Rattle.std.proofs.Common.{◌≡◌, ◌<◌, ◌∙◌, ◌==◌, ℕ, length, get_or, sym, ap, arith}
+use Rattle.std.proofs.Common.{rules, ◌≡◌, ◌<◌, ◌∙◌, ◌==◌, ℕ, length, get_or, sym, ap, arith}
 use Rattle.std.proofs.lemmas.Bool.{cond-true, cond-false, eq-eqb, eqb-true}
 use Rattle.std.proofs.lemmas.List.{length-map}
 use Rattle.typed_ir.specs.Flats.{signal_of}
@@ -37,6 +37,19 @@ bounds-old_signals-register c =
     below_read c.args.old_registers.now (length c.args.old_signals.now) c.in-Some.place c.requires.old_there at.within in
     let same : c.index_at-register.result ≡ get_or c.args.old_registers.now c.in-Some.place 0 = c.index_at-register.ensures in
     omega (arith, listed, same)
+
+pub offset_bounds-old_signals-register : goal.offset_bounds-old_signals-register
+offset_bounds-old_signals-register c =
+    let xs = state_values c.args.state.now in
+    let r = register_of (signal_of c.args.signal.now) in
+    let one : length xs ≡ length c.args.old_registers.now = length-map c.args.state.now (λ (p : ℕ × ℕ). p.1) ∙ c.requires.one in
+    let at = chosen c.args.old_signals.now c.args.old_registers.now xs r c.args.signal.now.initial c.in-Some.place one c.requires.old_there
+    (sym (c.requires.first r.path) ∙ sym (ap (λ names. place_in c.args.places.now (ids names)) c.deref.ensures.value) ∙ sym c.get.ensures ∙ c.in-Some.is) in
+    let listed : get_or c.args.old_registers.now c.in-Some.place 0 < length c.args.old_signals.now =
+    below_read c.args.old_registers.now (length c.args.old_signals.now) c.in-Some.place c.requires.old_there at.within in
+    let same : c.index_at-register.result ≡ get_or c.args.old_registers.now c.in-Some.place 0 = c.index_at-register.ensures in
+    let within : c.index_at-register.result < length c.args.old_signals.now = omega (arith, listed, same) in
+    search (rules, within)
 
 pub get-requires-then-old-signal : goal.get-requires-then-old-signal
 get-requires-then-old-signal c =

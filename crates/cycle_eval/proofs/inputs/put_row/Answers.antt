@@ -1,4 +1,4 @@
-use Rattle.std.proofs.Common.{◌≡◌, ◌+◌, ◌-◌, ◌<◌, ◌%◌, ◌^◌, ◌∙◌, ℕ, length, get_or, map, drop, sym, ap, ap₂, subst, arith}
+use Rattle.std.proofs.Common.{rules, ◌≡◌, ◌+◌, ◌-◌, ◌<◌, ◌%◌, ◌^◌, ◌∙◌, ℕ, length, get_or, map, drop, sym, ap, ap₂, subst, arith}
 use Rattle.std.specs.Prelude.{slice_index}
 use Rattle.std.proofs.lemmas.List.{length-map}
 use Rattle.bits.specs.declared.Bits.{Bits}
@@ -61,3 +61,19 @@ loop-left-preserved c =
           ∙ fill_step ss (cut_to ws row) i (env_of old) (env_of env) s x.value within (omega (arith, few, size)) same cut
           (subst (λ k. env_of env ≡ fill (drop k ss) (drop k (cut_to ws row)) (env_of old)) (sym more) c.loop-left.invariant.value);
     }
+
+pub offset_bounds-env-input : goal.offset_bounds-env-input
+offset_bounds-env-input c =
+    let there : get_or c.args.inputs.now (c.loop-left.left - 1) 0 < length c.args.env.now =
+    below_read c.args.inputs.now (length c.args.env.now) (c.loop-left.left - 1) c.requires (omega arith) in
+    let same : c.index_at-input.result ≡ get_or c.args.inputs.now (c.loop-left.left - 1) 0 = c.index_at-input.ensures in
+    let within : c.index_at-input.result < length c.loop-left.env = omega (arith, there, same, c.loop-left.auto.env) in
+    search (rules, within)
+
+pub offset_bounds-env-input-in-loop-left : goal.offset_bounds-env-input-in-loop-left
+offset_bounds-env-input-in-loop-left c =
+    let there : get_or c.args.inputs.now (c.loop-left.left - 1) 0 < length c.args.env.now =
+    below_read c.args.inputs.now (length c.args.env.now) (c.loop-left.left - 1) c.requires (omega arith) in
+    let same : c.index_at-input.result ≡ get_or c.args.inputs.now (c.loop-left.left - 1) 0 = c.index_at-input.ensures in
+    let within : c.index_at-input.result < length c.loop-left.env = omega (arith, there, same, c.loop-left.auto.env) in
+    search (rules, within)

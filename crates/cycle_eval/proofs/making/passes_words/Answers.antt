@@ -1,4 +1,4 @@
-use Rattle.std.proofs.Common.{◌≡◌, ◌+◌, ◌/◌, ◌<◌, ◌∙◌, ℕ, length, map, drop, get_or, sym, ap, arith}
+use Rattle.std.proofs.Common.{rules, ◌≡◌, ◌+◌, ◌/◌, ◌<◌, ◌∙◌, ℕ, length, map, drop, get_or, sym, ap, arith}
 use Rattle.std.proofs.lemmas.Bool.{lt-ltb}
 use Rattle.typed_ir.proofs.Lists.{drop_split}
 use Rattle.cycle_eval.specs.Paths.{width_in}
@@ -54,3 +54,13 @@ loop-register-preserved c =
       most = omega (arith, c.loop-register.invariant.most);
       total = omega (arith, total, split, words, c.if-words-left.false);
     }
+
+pub offset_bounds-signals-place : goal.offset_bounds-signals-place
+offset_bounds-signals-place c =
+    let rs = c.args.registers.now in
+    let i = c.loop-register.register-index in
+    let listed : get_or rs i 0 < length c.args.signals.now = below_read rs (length c.args.signals.now) i c.requires c.loop-register-test.true in
+    let same : c.index-place.result ≡ get_or rs i 0 =
+    c.index-place.ensures ∙ c.register-item.is ∙ read_any rs i c.register-item.result 0 c.loop-register-test.true in
+    let within : c.index-place.result < length c.args.signals.now = omega (arith, listed, same) in
+    search (rules, within)

@@ -1,4 +1,4 @@
-use Rattle.std.proofs.Common.{◌≡◌, ◌+◌, ◌-◌, ◌<◌, ◌∙◌, ℕ, suc, List, Some, length, map, get_or, drop, sym, ap, ap₂, cond, arith}
+use Rattle.std.proofs.Common.{rules, ◌≡◌, ◌+◌, ◌-◌, ◌<◌, ◌∙◌, ℕ, suc, List, Some, length, map, get_or, drop, sym, ap, ap₂, cond, arith}
 use Rattle.cycle_eval.specs.Kits.{same_path}
 use Rattle.cycle_eval.specs.Paths.{ids, path_in}
 use Rattle.cycle_eval.specs.Places.{place_from}
@@ -40,3 +40,11 @@ loop-left-preserved c =
           (c.loop-left.invariant.found path ∙ sym (ap₂ (λ (n k : ℕ). place_from n (map f (drop k rs)) path) next more))
           ∙ sym (place_step f rs i path within);
     }
+
+pub offset_bounds-signals-register : goal.offset_bounds-signals-register
+offset_bounds-signals-register c =
+    let listed : get_or c.args.registers.now (c.loop-left.left - 1) 0 < length c.args.signals.now =
+    below_read c.args.registers.now (length c.args.signals.now) (c.loop-left.left - 1) c.requires (omega arith) in
+    let same : c.index_at-register.result ≡ get_or c.args.registers.now (c.loop-left.left - 1) 0 = c.index_at-register.ensures in
+    let within : c.index_at-register.result < length c.args.signals.now = omega (arith, listed, same) in
+    search (rules, within)

@@ -1,4 +1,4 @@
-use Rattle.std.proofs.Common.{◌≡◌, ◌+◌, ◌-◌, ◌<◌, ◌∙◌, ℕ, length, get_or, drop, sym, ap, subst, arith}
+use Rattle.std.proofs.Common.{rules, ◌≡◌, ◌+◌, ◌-◌, ◌<◌, ◌∙◌, ℕ, length, get_or, drop, sym, ap, subst, arith}
 use Rattle.std.specs.Prelude.{slice_index}
 use Rattle.typed_ir.specs.Cycles.{fill}
 use Rattle.typed_ir.specs.Views.{widths, env_of}
@@ -42,3 +42,11 @@ loop-left-preserved c =
           (got_within from i (x.width, x.value) c.get.ensures) same (sym (got_value from i (x.width, x.value) c.get.ensures))
           (subst (λ k. env_of c.loop-left.env ≡ fill (drop k rs) (drop k (state_values from)) (env_of c.args.env.now)) (sym more) c.loop-left.invariant.value);
     }
+
+pub offset_bounds-env-register : goal.offset_bounds-env-register
+offset_bounds-env-register c =
+    let there : get_or c.args.registers.now (c.loop-left.left - 1) 0 < length c.args.env.now =
+    below_read c.args.registers.now (length c.args.env.now) (c.loop-left.left - 1) c.requires.there (omega arith) in
+    let is : c.index_at-register.result ≡ get_or c.args.registers.now (c.loop-left.left - 1) 0 = c.index_at-register.ensures in
+    let within : c.index_at-register.result < length c.loop-left.env = omega (arith, there, is, c.loop-left.auto.env) in
+    search (rules, within)

@@ -1,4 +1,4 @@
-use Rattle.std.proofs.Common.{◌≡◌, ◌++◌, ◌<◌, ◌∙◌, ℕ, length, get_or, map, sym, ap, subst, arith, List}
+use Rattle.std.proofs.Common.{rules, ◌≡◌, ◌++◌, ◌<◌, ◌∙◌, ℕ, length, get_or, map, sym, ap, subst, arith, List}
 use Rattle.std.specs.Prelude.{slice_index, IfOk}
 use Rattle.std.proofs.lemmas.List.{append-nil, at_drop_all}
 use Rattle.cycle_eval.specs.States.{paired}
@@ -41,3 +41,13 @@ returns c =
     ∙ c.loop-register.invariant
     ∙ pairs_of (λ (r : ℕ). slice_index (widths env) r) (env_of env) rs in
     subst (λ z. IfOk c.new.result (λ s. s ≡ z)) whole c.new.ensures
+
+pub offset_bounds-env-place : goal.offset_bounds-env-place
+offset_bounds-env-place c =
+    let rs = c.args.registers.now in
+    let i = c.loop-register.register-index in
+    let listed : get_or rs i 0 < length c.args.env.now = below_read rs (length c.args.env.now) i c.requires c.loop-register-test.true in
+    let same : c.index-place.result ≡ get_or rs i 0 =
+    c.index-place.ensures ∙ c.register-item.is ∙ read_any rs i c.register-item.result 0 c.loop-register-test.true in
+    let within : c.index-place.result < length c.args.env.now = omega (arith, listed, same) in
+    search (rules, within)
