@@ -1,13 +1,19 @@
 -- What is so of the graph is so of the nodes.
-use Rattle.std.proofs.Common.{◌≡◌, ℕ, zero, suc, ◌<◌, ◌≤◌, ◌^◌, true, List, [], ◌∷◌, length, refl, sym, ◌∙◌, ap, subst, arith, true≢false, get_or, inl, inr}
-use Rattle.std.specs.Prelude.{All, slice_index}
+use Rattle.std.proofs.Common.{◌≡◌, ℕ, zero, suc, ◌<◌, ◌≤◌, ◌^◌, true, ◌&&◌, List, [], ◌∷◌, length, map, refl, sym, ◌∙◌, ap, subst, arith, true≢false, get_or, inl, inr}
+use Rattle.std.specs.Prelude.{All, slice_index, Result, Ok, Err, IfOk, IfErr, MatchResult}
 use Rattle.std.specs.declared.vec.Vec.{Vec}
 use Rattle.std.specs.Global.{Global}
 use Rattle.std.proofs.Math.Logic.{∥∥₁_elim}
 use Rattle.std.proofs.Props.{props}
 use Rattle.typed_ir.specs.declared.flat.Flat.{Flat as Flat'}
 use Rattle.typed_ir.specs.declared.signal.Signal.{Signal as Signal'}
-use Rattle.typed_ir.specs.Flats.{signal_widths}
+use Rattle.typed_ir.specs.declared.stmt.Stmt.{Stmt}
+use Rattle.typed_ir.specs.Cycles.{writes_at}
+use Rattle.typed_ir.specs.Flats.{signal_widths, are_clocked}
+use Rattle.typed_ir.specs.Statements.{stmt_of}
+use Rattle.typed_ir.specs.Stmts.{is_legal, is_clocked}
+use Rattle.typed_ir.proofs.Cases.{and_left, and_right}
+use Rattle.typed_ir.proofs.Mentions.{later_small}
 use Rattle.typed_ir.specs.Linkeds.{flat}
 use Rattle.typed_ir.specs.Nodes.{FlatNode, drives_at, reads_at, IsOrder, are_legal}
 use Rattle.typed_ir.specs.Orders.{Member, EachAfter, IsOrderOf, Precedes}
@@ -16,9 +22,10 @@ use Rattle.comb_order.specs.declared.refusing.OrderRefusal.{OrderRefusal}
 use Rattle.comb_order.specs.declared.refusing.OrderRefusal.TheVariants.{Loop, NoMemory}
 use Rattle.comb_order.specs.Graphs.{HasEdge, waiting}
 use Rattle.comb_order.specs.Kahn.{IsClosed}
-use Rattle.comb_order.specs.Loops.{Placeable, Place, IsStuck, Next, IsWalk, IsLoop}
-use Rattle.comb_order.specs.Refusals.{IsRefusal, is_loop}
-use Rattle.comb_order.specs.Driving.{row_in, drives_in, AreRows, IsTable, IsPlain, IsGraph}
+use Rattle.comb_order.specs.Loops.{Placeable, Place, IsStuck, Next, IsWalk, IsLoop, HasNoLoop}
+use Rattle.comb_order.specs.Refusals.{NodeBefore, IsRefusal, is_loop}
+use Rattle.comb_order.specs.Driving.{row_in, drives_in, AreRows, IsTableOf, IsTable, IsPlain, IsGraph}
+use Rattle.comb_order.proofs.Loops.{no_loop}
 use Rattle.comb_order.proofs.Stuck.{no_stuck}
 use Rattle.comb_order.proofs.Rows.{few_edges}
 use Rattle.comb_order.proofs.Edging.{at_apart, at_small, reader_there}
@@ -90,6 +97,13 @@ no_order nodes rows (Loop circle) order g h is o =
     no_stuck (HasEdge rows) (length rows) order (order_to (length nodes) (length rows) order (sym g.size) g.sound o) h.3.start h.3.starts.0
 no_order nodes rows NoMemory order g h is o = true≢false (sym is)
 
+-- an order just where there is no loop
+pub exactly : (nodes : List FlatNode) (rows : List (List ℕ)) (r : Result (Vec ℕ Global) OrderRefusal) → IsGraph nodes rows
+    → IfOk r (λ (order : Vec ℕ Global). IsOrderOf (HasEdge rows) (length rows) order.items) → IfErr r (λ refusal. IsRefusal (HasEdge rows) (length rows) refusal)
+    → MatchResult r (λ _. HasNoLoop (NodeBefore nodes) (length nodes)) (λ refusal. IsRefusal (NodeBefore nodes) (length nodes) refusal)
+exactly nodes rows (Ok order) g o h = no_loop (NodeBefore nodes) (length nodes) order.items (order_of nodes rows order.items g o)
+exactly nodes rows (Err refusal) g o h = refusal_of nodes rows refusal g h
+
 pub graph_closed : (nodes : List FlatNode) (rows : List (List ℕ)) → IsGraph nodes rows → IsClosed rows
 graph_closed nodes rows g a t e =
     let p = g.sound a t e in
@@ -127,6 +141,30 @@ pub parts_table : (signals : List Signal') (nodes : List FlatNode) (table : List
 parts_table signals nodes table legal long drives = record {
   inside = λ a s i d.
       (let h : (s < length (signal_widths signals)) × (i < 128) = at_small nodes (signal_widths signals) (narrow signals) legal a s i d in
+      let e : length (signal_widths signals) ≡ length signals = widths_long signals in
+      let there : s < length (signal_widths signals) = h.0 in
+      (omega (arith, there, e, long), h.1));
+  drives = λ a s i h low. drives a s i (omega (arith, h, long)) low;
+}
+
+block_small : (blocks : List Stmt) (widths : List ℕ) → ((k : ℕ) → slice_index widths k ≤ 128) → are_clocked blocks widths ≡ true
+    → (a s i : ℕ) → writes_at (map stmt_of blocks) a s i ≡ true → (s < length widths) × (i < 128)
+block_small [] widths most legal a s i d = absurd (true≢false (sym d))
+block_small (b ∷ bs) widths most legal zero s i d =
+    let one = is_legal (stmt_of b) widths && is_clocked (stmt_of b) in
+    later_small (stmt_of b) widths s i most
+    (and_left (is_legal (stmt_of b) widths) (is_clocked (stmt_of b)) (and_left one (are_clocked bs widths) legal)) d
+block_small (b ∷ bs) widths most legal (suc a) s i d =
+    block_small bs widths most (and_right (is_legal (stmt_of b) widths && is_clocked (stmt_of b)) (are_clocked bs widths) legal) a s i d
+
+-- the table of what clocked blocks write
+pub blocks_table : (signals : List Signal') (blocks : List Stmt) (table : List (Vec Driver Global)) → are_clocked blocks (signal_widths signals) ≡ true
+    → length table ≡ length signals
+    → ((a s i : ℕ) → s < length signals → i < 128 → drives_in (row_in table s) a i ≡ writes_at (map stmt_of blocks) a s i)
+    → IsTableOf (writes_at (map stmt_of blocks)) table
+blocks_table signals blocks table legal long drives = record {
+  inside = λ a s i d.
+      (let h : (s < length (signal_widths signals)) × (i < 128) = block_small blocks (signal_widths signals) (narrow signals) legal a s i d in
       let e : length (signal_widths signals) ≡ length signals = widths_long signals in
       let there : s < length (signal_widths signals) = h.0 in
       (omega (arith, there, e, long), h.1));

@@ -4,31 +4,24 @@ use Rattle.std.specs.Prelude.{bit_or}
 use Rattle.std.specs.declared.vec.Vec.{Vec}
 use Rattle.std.specs.Global.{Global}
 use Rattle.std.proofs.lemmas.Bool.{eqb-true, eq-eqb}
-use Rattle.typed_ir.specs.Stmts.{SizedStmt, later_signals}
-use Rattle.typed_ir.specs.Nodes.{FlatNode, Drive, Block, node_drives, drives_at, OneDriver, IsComplete}
+use Rattle.typed_ir.specs.declared.span.Span.{Span}
+use Rattle.typed_ir.specs.Stmts.{SizedStmt, later_targets}
+use Rattle.typed_ir.specs.Valuations.{Places}
+use Rattle.typed_ir.specs.Nodes.{FlatNode, Drive, Block, node_drives, drives_at, IsComplete}
 use Rattle.typed_ir.specs.Orders.{Member, Each, Distinct, any_drives}
-use Rattle.typed_ir.specs.Cycles.{Flat, WritesRegisters}
+use Rattle.typed_ir.specs.Cycles.{Flat, WritesRegisters, OneWriter}
 use Rattle.typed_ir.specs.Flats.{NodeWritesFirst, IsFlat}
 use Rattle.typed_ir.specs.Touches.{has_bit, is_block}
 use Rattle.typed_ir.proofs.Cases.{by_cases, left_or, right_or, and_left, and_right, or_left, or_right}
 use Rattle.typed_ir.proofs.Numbered.{driver_index}
 use Rattle.comb_order.specs.declared.drivers.Driver.{Driver}
-use Rattle.comb_order.specs.Driving.{row_in, drives_in, common, IsTable}
-use Rattle.comb_order.specs.Parts.{is_member, all_in, none_in, are_distinct, are_apart, rows_apart, are_idle, are_undriven, blocks_in, has_block}
+use Rattle.comb_order.specs.Driving.{row_in, drives_in, common, IsTableOf, IsTable}
+use Rattle.comb_order.specs.Parts.{is_member, spans_in, none_in, are_distinct, are_apart, rows_apart, are_idle, are_undriven, blocks_in, has_block}
 use Rattle.comb_order.proofs.Tables.{has_either}
 use Rattle.comb_order.proofs.Edging.{common_of}
 use Rattle.comb_order.proofs.Idle.{idle_drives}
 
 -- ---- lists
-
-and_assoc : (a b c : Bool) → ((a && b) && c) ≡ (a && (b && c))
-and_assoc true b c = refl
-and_assoc false b c = refl
-
-pub all_in_both : (all xs ys : List ℕ) → all_in all (xs ++ ys) ≡ (all_in all xs && all_in all ys)
-all_in_both all [] ys = refl
-all_in_both all (x ∷ xs) ys =
-    ap (λ t. is_member x all && t) (all_in_both all xs ys) ∙ sym (and_assoc (is_member x all) (all_in all xs) (all_in all ys))
 
 pub member_of : (x : ℕ) (xs : List ℕ) → is_member x xs ≡ true → Member x xs
 member_of x [] h = true≢false (sym h)
@@ -60,19 +53,21 @@ foreign_of all (x ∷ xs) h s (inr m) n = foreign_of all xs (and_right (not (is_
 pub written_of : (registers : List ℕ) (sts : List SizedStmt) → blocks_in registers sts ≡ true → WritesRegisters registers sts
 written_of registers [] h = tt
 written_of registers (st ∷ sts) h = (
-  each (later_signals st) (and_left (all_in registers (later_signals st)) (blocks_in registers sts) h),
-  written_of registers sts (and_right (all_in registers (later_signals st)) (blocks_in registers sts) h),
+  each (later_targets st) (and_left (spans_in registers (later_targets st)) (blocks_in registers sts) h),
+  written_of registers sts (and_right (spans_in registers (later_targets st)) (blocks_in registers sts) h),
 )
   where
-    each : (ss : List ℕ) → all_in registers ss ≡ true → Each (λ s. Member s registers) ss
+    each : (ps : List Span) → spans_in registers ps ≡ true → Each (λ (p : Span). Member p.signal registers) ps
     each [] k = tt
-    each (s ∷ ss) k =
-        (member_of s registers (and_left (is_member s registers) (all_in registers ss) k), each ss (and_right (is_member s registers) (all_in registers ss) k))
+    each (p ∷ ps) k = (
+      member_of p.signal registers (and_left (is_member p.signal registers) (spans_in registers ps) k),
+      each ps (and_right (is_member p.signal registers) (spans_in registers ps) k),
+    )
 
 drive_complete : (n : FlatNode) → is_block n ≡ false → IsComplete n
 unfolding IsComplete
-drive_complete (Drive lanes e) h = tt
-drive_complete (Block body) h = absurd (true≢false h)
+drive_complete (Drive form lanes e) h = tt
+drive_complete (Block form body) h = absurd (true≢false h)
 
 pub complete_of : (nodes : List FlatNode) → has_block nodes ≡ false → Each IsComplete nodes
 complete_of [] h = tt
@@ -83,8 +78,8 @@ first_of [] h = tt
 first_of (n ∷ ns) h = (one n (or_left (is_block n) (has_block ns) h), first_of ns (or_right (is_block n) (has_block ns) h))
   where
     one : (n : FlatNode) → is_block n ≡ false → NodeWritesFirst n
-    one (Drive lanes e) h = tt
-    one (Block body) h = absurd (true≢false h)
+    one (Drive form lanes e) h = tt
+    one (Block form body) h = absurd (true≢false h)
 
 -- ---- drivers
 
@@ -136,8 +131,10 @@ row_apart [] s h = refl
 row_apart (r ∷ rs) zero h = and_left (are_apart 0 r.items) (rows_apart rs) h
 row_apart (r ∷ rs) (suc s) h = row_apart rs s (and_right (are_apart 0 r.items) (rows_apart rs) h)
 
-pub one_driver_of : (nodes : List FlatNode) (table : List (Vec Driver Global)) → IsTable nodes table → rows_apart table ≡ true → OneDriver nodes
-one_driver_of nodes table is h a b s i d e =
+-- so each bit is driven by one
+pub one_each : (drives_at : ℕ → Places) (table : List (Vec Driver Global)) → IsTableOf drives_at table → rows_apart table ≡ true
+    → (a b s i : ℕ) → drives_at a s i ≡ true → drives_at b s i ≡ true → a ≡ b
+one_each drives_at table is h a b s i d e =
     let place : (s < length table) × (i < 128) = is.inside a s i d in
     one_of 0 (row_in table s) a b i place.1 (row_apart table s h) (is.drives a s i place.0 place.1 ∙ d) (is.drives b s i place.0 place.1 ∙ e)
 
@@ -178,16 +175,17 @@ pub flat_sound : (design : Flat) (table : List (Vec Driver Global)) → IsTable 
     → Each IsComplete design.nodes → Each NodeWritesFirst design.nodes
     → All4 (are_distinct design.registers) (are_distinct design.inputs) (none_in design.inputs design.registers) (blocks_in design.registers design.clocked)
     → (rows_apart table && (are_undriven table design.registers && are_undriven table design.inputs)) ≡ true
-    → IsFlat design
-flat_sound design table is complete first held driven =
+    → OneWriter design.clocked → IsFlat design
+flat_sound design table is complete first held driven once =
     let free : (are_undriven table design.registers && are_undriven table design.inputs) ≡ true =
     and_right (rows_apart table) (are_undriven table design.registers && are_undriven table design.inputs) driven in
     record {
       sound = record {
-        one_driver = one_driver_of design.nodes table is (and_left (rows_apart table) (are_undriven table design.registers && are_undriven table design.inputs) driven);
+        one_driver = one_each (drives_at design.nodes) table is (and_left (rows_apart table) (are_undriven table design.registers && are_undriven table design.inputs) driven);
         complete = complete;
       };
       first = first;
+      one_writer = once;
       registers_only = written_of design.registers design.clocked held.four;
       registers_once = distinct_of design.registers held.one;
       inputs_once = distinct_of design.inputs held.two;

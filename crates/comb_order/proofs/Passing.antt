@@ -4,9 +4,11 @@ use Rattle.std.specs.Prelude.{bit_or}
 use Rattle.std.specs.declared.vec.Vec.{Vec}
 use Rattle.std.specs.Global.{Global}
 use Rattle.std.proofs.lemmas.Bool.{eq-eqb, ltb-true, ltb-false}
-use Rattle.typed_ir.specs.Stmts.{SizedStmt, later_signals}
+use Rattle.typed_ir.specs.declared.span.Span.{Span}
+use Rattle.typed_ir.specs.Stmts.{SizedStmt, later_targets}
 use Rattle.typed_ir.specs.FlatNodes.{node_of}
-use Rattle.typed_ir.specs.Nodes.{FlatNode, node_drives, drives_at, OneDriver, are_legal}
+use Rattle.typed_ir.specs.Valuations.{Places}
+use Rattle.typed_ir.specs.Nodes.{FlatNode, node_drives, drives_at, are_legal}
 use Rattle.typed_ir.specs.Orders.{Member, Each, Distinct, any_drives}
 use Rattle.typed_ir.specs.Cycles.{Flat, WritesRegisters}
 use Rattle.typed_ir.specs.Flats.{IsFlat, signal_widths, are_clocked, are_below}
@@ -14,8 +16,8 @@ use Rattle.typed_ir.specs.Touches.{has_bit}
 use Rattle.typed_ir.proofs.Cases.{by_cases, left_or, right_or, and_both}
 use Rattle.comb_order.specs.declared.drivers.Driver.{Driver}
 use Rattle.comb_order.specs.declared.parts.Parts.{Parts}
-use Rattle.comb_order.specs.Driving.{row_in, drives_in, common, Rises, AllRise, IsTable}
-use Rattle.comb_order.specs.Parts.{IsDesign, is_member, all_in, none_in, are_distinct, are_apart, rows_apart, are_idle, are_undriven, blocks_in}
+use Rattle.comb_order.specs.Driving.{row_in, drives_in, common, Rises, AllRise, IsTableOf, IsTable}
+use Rattle.comb_order.specs.Parts.{IsDesign, is_member, spans_in, none_in, are_distinct, are_apart, rows_apart, are_idle, are_undriven, blocks_in}
 use Rattle.comb_order.proofs.Tables.{has_either, row_past}
 use Rattle.comb_order.proofs.Edging.{common_bit}
 use Rattle.comb_order.proofs.Flatten.{member_of, is_of}
@@ -52,11 +54,11 @@ foreign_passes all (x ∷ xs) h =
 written_passes : (registers : List ℕ) (sts : List SizedStmt) → WritesRegisters registers sts → blocks_in registers sts ≡ true
 written_passes registers [] w = refl
 written_passes registers (st ∷ sts) w =
-    and_both (all_in registers (later_signals st)) (blocks_in registers sts) (each (later_signals st) w.0) (written_passes registers sts w.1)
+    and_both (spans_in registers (later_targets st)) (blocks_in registers sts) (each (later_targets st) w.0) (written_passes registers sts w.1)
   where
-    each : (ss : List ℕ) → Each (λ s. Member s registers) ss → all_in registers ss ≡ true
-    each [] e = refl
-    each (s ∷ ss) e = and_both (is_member s registers) (all_in registers ss) (is_of s registers e.0) (each ss e.1)
+    each : (ps : List Span) → Each (λ (p : Span). Member p.signal registers) ps → spans_in registers ps ≡ true
+    each [] h = refl
+    each (p ∷ ps) h = and_both (is_member p.signal registers) (spans_in registers ps) (is_of p.signal registers h.0) (each ps h.1)
 
 -- ---- drivers
 
@@ -95,9 +97,9 @@ each_apart [] h = refl
 each_apart (r ∷ rs) h =
     and_both (are_apart 0 r.items) (rows_apart rs) (h zero (omega arith)) (each_apart rs (λ s small. h (suc s) (omega (arith, small))))
 
-rows_pass : (nodes : List FlatNode) (table : List (Vec Driver Global)) (high : ℕ) → IsTable nodes table → AllRise table high → OneDriver nodes
-    → rows_apart table ≡ true
-rows_pass nodes table high is rise one = each_apart table (λ s there.
+pub rows_pass : (drives_at : ℕ → Places) (table : List (Vec Driver Global)) (high : ℕ) → IsTableOf drives_at table → AllRise table high
+    → ((a b s i : ℕ) → drives_at a s i ≡ true → drives_at b s i ≡ true → a ≡ b) → rows_apart table ≡ true
+rows_pass drives_at table high is rise one = each_apart table (λ s there.
     apart_passes 0 0 (row_in table s) high (rise s)
     (λ a i small bit d. true≢false (sym bit ∙ no_bit i))
     (λ a b i small d e. one a b s i (sym (is.drives a s i there small) ∙ d) (sym (is.drives b s i there small) ∙ e)))
@@ -147,7 +149,7 @@ pub driven_passes : (design : Flat) (table : List (Vec Driver Global)) (high : �
     → (rows_apart table && (are_undriven table design.registers && are_undriven table design.inputs)) ≡ true
 driven_passes design table high is rise f =
     and_both (rows_apart table) (are_undriven table design.registers && are_undriven table design.inputs)
-    (rows_pass design.nodes table high is rise f.sound.one_driver)
+    (rows_pass (drives_at design.nodes) table high is rise f.sound.one_driver)
     (and_both (are_undriven table design.registers) (are_undriven table design.inputs)
     (undriven_passes design.nodes table design.registers is (λ s i m. f.held s i (inl m)))
     (undriven_passes design.nodes table design.inputs is (λ s i m. f.held s i (inr m))))

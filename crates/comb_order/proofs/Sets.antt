@@ -20,30 +20,30 @@ mix true false m = refl
 mix false c m = refl
 
 -- one more number of the list in the set
-pub one_more : (xs : List ℕ) (i q : ℕ) (c : Bool) → i < length xs
-    → (cond (get_or xs i 0 == q) true c || is_member q (drop (i + 1) xs)) ≡ (c || is_member q (drop i xs))
-one_more xs i q c h =
-    mix (get_or xs i 0 == q) c (is_member q (drop (i + 1) xs))
-    ∙ ap (λ b. c || (b || is_member q (drop (i + 1) xs))) (swap (get_or xs i 0) q)
-    ∙ ap (λ zs. c || is_member q zs) (sym (drop_split xs i 0 h))
+pub one_more : (xs : List ℕ) (i q d : ℕ) (c : Bool) → i < length xs
+    → (cond (get_or xs i d == q) true c || is_member q (drop (i + 1) xs)) ≡ (c || is_member q (drop i xs))
+one_more xs i q d c h =
+    mix (get_or xs i d == q) c (is_member q (drop (i + 1) xs))
+    ∙ ap (λ b. c || (b || is_member q (drop (i + 1) xs))) (swap (get_or xs i d) q)
+    ∙ ap (λ zs. c || is_member q zs) (sym (drop_split xs i d h))
 
 joined : (b m : Bool) → cond b true m ≡ (b || m)
 joined true m = refl
 joined false m = refl
 
 -- from the end
-pub one_before : (xs : List ℕ) (i q : ℕ) → i < length xs → cond (get_or xs i 0 == q) true (is_member q (drop (i + 1) xs)) ≡ is_member q (drop i xs)
-one_before xs i q h =
-    joined (get_or xs i 0 == q) (is_member q (drop (i + 1) xs))
-    ∙ ap (λ b. b || is_member q (drop (i + 1) xs)) (swap (get_or xs i 0) q)
-    ∙ ap (is_member q) (sym (drop_split xs i 0 h))
+pub one_before : (xs : List ℕ) (i q d : ℕ) → i < length xs → cond (get_or xs i d == q) true (is_member q (drop (i + 1) xs)) ≡ is_member q (drop i xs)
+one_before xs i q d h =
+    joined (get_or xs i d == q) (is_member q (drop (i + 1) xs))
+    ∙ ap (λ b. b || is_member q (drop (i + 1) xs)) (swap (get_or xs i d) q)
+    ∙ ap (is_member q) (sym (drop_split xs i d h))
 
-pub still_distinct : (xs : List ℕ) (i : ℕ) → i < length xs → is_member (get_or xs i 0) (drop (i + 1) xs) ≡ false → are_distinct (drop (i + 1) xs) ≡ true
+pub still_distinct : (xs : List ℕ) (i d : ℕ) → i < length xs → is_member (get_or xs i d) (drop (i + 1) xs) ≡ false → are_distinct (drop (i + 1) xs) ≡ true
     → are_distinct (drop i xs) ≡ true
-still_distinct xs i h new rest = ap are_distinct (drop_split xs i 0 h) ∙ ap₂ (λ (a b : Bool). not a && b) new rest
+still_distinct xs i d h new rest = ap are_distinct (drop_split xs i d h) ∙ ap₂ (λ (a b : Bool). not a && b) new rest
 
-pub twice : (xs : List ℕ) (i : ℕ) → i < length xs → is_member (get_or xs i 0) (drop (i + 1) xs) ≡ true → are_distinct xs ≡ false
-twice xs i h old = later xs i (ap are_distinct (drop_split xs i 0 h) ∙ ap (λ a. not a && are_distinct (drop (i + 1) xs)) old)
+pub twice : (xs : List ℕ) (i d : ℕ) → i < length xs → is_member (get_or xs i d) (drop (i + 1) xs) ≡ true → are_distinct xs ≡ false
+twice xs i d h old = later xs i (ap are_distinct (drop_split xs i d h) ∙ ap (λ a. not a && are_distinct (drop (i + 1) xs)) old)
   where
     and_false : (a b : Bool) → b ≡ false → (a && b) ≡ false
     and_false true b e = e

@@ -7,9 +7,8 @@ use Rattle.std.specs.Prelude.{bit_or}
 use Rattle.std.specs.Int.{bit_at}
 use Rattle.std.proofs.lemmas.Bool.{eqb-true, eqb-false, eq-eqb, ne_eqb}
 use Rattle.std.proofs.lemmas.Nat.Bits.{bit_at_or, bit_at-lt}
-use Rattle.typed_ir.specs.declared.node.Node.{Node}
-use Rattle.typed_ir.specs.FlatNodes.{node_of}
-use Rattle.typed_ir.specs.Nodes.{drives_at, node_drives}
+use Rattle.typed_ir.specs.Valuations.{Places, nowhere}
+use Rattle.typed_ir.specs.Orders.{at_or}
 use Rattle.typed_ir.specs.Touches.{has_bit}
 use Rattle.typed_ir.proofs.Cases.{by_cases}
 use Rattle.comb_order.specs.declared.drivers.Driver.{Driver}
@@ -121,31 +120,28 @@ written_back n new old same is =
     let all : length new ≤ n = omega (arith, is) in
     ap (λ zs. take n (new ++ zs)) (drop_all (length new) old few) ∙ ap (take n) (append-nil new) ∙ take_all n new all
 
--- ---- nodes by number
+-- ---- nodes and blocks by number
 
--- one more node
-pub drives_more : (nodes : List Node) (k : ℕ) (x : Node) (a s i : ℕ) → k < length nodes → x ≡ get_or nodes k x
-    → drives_at (map node_of (take (k + 1) nodes)) a s i ≡ (drives_at (map node_of (take k nodes)) a s i || ((a == k) && node_drives (node_of x) s i))
-drives_more nodes k x a s i h is =
+-- one more of a list
+pub at_more : {A N : Type 0} (f : N → Places) (g : A → N) (xs : List A) (k : ℕ) (x : A) (a s i : ℕ) → k < length xs → x ≡ get_or xs k x
+    → at_or f nowhere (map g (take (k + 1) xs)) a s i ≡ (at_or f nowhere (map g (take k xs)) a s i || ((a == k) && f (g x) s i))
+at_more {A} f g xs k x a s i h is =
     let more : k + 1 ≡ suc k = omega arith in
-    ap (λ n. drives_at (map node_of (take n nodes)) a s i) more ∙ go nodes k a h is
+    ap (λ n. at_or f nowhere (map g (take n xs)) a s i) more ∙ go xs k a h is
   where
     same_suc : (a k : ℕ) → (suc a == suc k) ≡ (a == k)
     same_suc a k = by_cases (a == k)
         (λ same. eq-eqb (suc a) (suc k) (ap suc (eqb-true a k same)) ∙ sym same)
         (λ out. ne_eqb (suc a) (suc k) (λ e. eqb-false a k out (omega (arith, e))) ∙ sym out)
 
-    go : (ns : List Node) (k a : ℕ) → k < length ns → x ≡ get_or ns k x
-        → drives_at (map node_of (take (suc k) ns)) a s i ≡ (drives_at (map node_of (take k ns)) a s i || ((a == k) && node_drives (node_of x) s i))
+    go : (ys : List A) (k a : ℕ) → k < length ys → x ≡ get_or ys k x
+        → at_or f nowhere (map g (take (suc k) ys)) a s i ≡ (at_or f nowhere (map g (take k ys)) a s i || ((a == k) && f (g x) s i))
     go [] k a h is = absurd (omega (arith, h))
-    go (n ∷ ns) zero zero h is = ap (λ z. node_drives (node_of z) s i) (sym is)
-    go (n ∷ ns) zero (suc a) h is = sym (ap (λ b. b && node_drives (node_of x) s i) (ne_eqb (suc a) 0 (λ e. omega (arith, e))))
-    go (n ∷ ns) (suc k) zero h is =
-        sym (ap (λ b. node_drives (node_of n) s i || (b && node_drives (node_of x) s i)) (ne_eqb 0 (suc k) (λ e. omega (arith, e)))
-        ∙ or_none (node_drives (node_of n) s i))
-    go (n ∷ ns) (suc k) (suc a) h is =
-        go ns k a (omega (arith, h)) is
-        ∙ ap (λ b. drives_at (map node_of (take k ns)) a s i || (b && node_drives (node_of x) s i)) (sym (same_suc a k))
-
-pub all_nodes : (nodes : List Node) (k a s i : ℕ) → length nodes ≤ k → drives_at (map node_of (take k nodes)) a s i ≡ drives_at (map node_of nodes) a s i
-all_nodes nodes k a s i h = ap (λ ns. drives_at (map node_of ns) a s i) (take_all k nodes h)
+    go (y ∷ ys) zero zero h is = ap (λ z. f (g z) s i) (sym is)
+    go (y ∷ ys) zero (suc a) h is = sym (ap (λ b. b && f (g x) s i) (ne_eqb (suc a) 0 (λ e. omega (arith, e))))
+    go (y ∷ ys) (suc k) zero h is =
+        sym (ap (λ b. f (g y) s i || (b && f (g x) s i)) (ne_eqb 0 (suc k) (λ e. omega (arith, e)))
+        ∙ or_none (f (g y) s i))
+    go (y ∷ ys) (suc k) (suc a) h is =
+        go ys k a (omega (arith, h)) is
+        ∙ ap (λ b. at_or f nowhere (map g (take k ys)) a s i || (b && f (g x) s i)) (sym (same_suc a k))

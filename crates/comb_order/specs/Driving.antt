@@ -3,6 +3,7 @@ use Rattle.std.specs.Prelude.{◌≡◌, ℕ, zero, suc, ◌+◌, ◌-◌, ◌<�
 use Rattle.std.specs.declared.vec.Vec.{Vec}
 use Rattle.std.specs.Global.{Global}
 use Rattle.typed_ir.specs.declared.touch.Touch.{Touch}
+use Rattle.typed_ir.specs.Valuations.{Places}
 use Rattle.typed_ir.specs.Nodes.{FlatNode, drives_at, reads_at}
 use Rattle.typed_ir.specs.Orders.{at_or, Precedes}
 use Rattle.typed_ir.specs.Touches.{has_bit, is_block}
@@ -58,10 +59,14 @@ pub record IsRow (b : ℕ) (row : List ℕ) : Type 0 where
 abbrev pub AreRows : ℕ → List (List ℕ) → Type 0
 AreRows b rows = (a : ℕ) → IsRow b (row_at rows a)
 
--- the table has just what the nodes drive, within signals of at most 128 bits
-pub record IsTable (nodes : List FlatNode) (table : List (Vec Driver Global)) : Type 0 where
-  pub inside : (a s i : ℕ) → drives_at nodes a s i ≡ true → (s < length table) × (i < 128)
-  pub drives : (a s i : ℕ) → s < length table → i < 128 → drives_in (row_in table s) a i ≡ drives_at nodes a s i
+-- the table has just what each drives, by its number, within signals of at most 128 bits
+pub record IsTableOf (drives_at : ℕ → Places) (table : List (Vec Driver Global)) : Type 0 where
+  pub inside : (a s i : ℕ) → drives_at a s i ≡ true → (s < length table) × (i < 128)
+  pub drives : (a s i : ℕ) → s < length table → i < 128 → drives_in (row_in table s) a i ≡ drives_at a s i
+
+-- what the nodes drive
+abbrev pub IsTable : List FlatNode → List (Vec Driver Global) → Type 0
+IsTable nodes table = IsTableOf (drives_at nodes) table
 
 abbrev pub block_at : List FlatNode → ℕ → Bool
 block_at nodes k = at_or is_block false nodes k

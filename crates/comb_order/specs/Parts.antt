@@ -2,7 +2,8 @@
 use Rattle.std.specs.Prelude.{ℕ, ◌%◌, ◌^◌, Bool, true, not, ◌&&◌, ◌||◌, ◌==◌, false, IsTrue, List, [], ◌∷◌, length, map, bit_or}
 use Rattle.std.specs.declared.vec.Vec.{Vec}
 use Rattle.std.specs.Global.{Global}
-use Rattle.typed_ir.specs.Stmts.{SizedStmt, later_signals}
+use Rattle.typed_ir.specs.declared.span.Span.{Span}
+use Rattle.typed_ir.specs.Stmts.{SizedStmt, later_targets}
 use Rattle.typed_ir.specs.Nodes.{FlatNode, are_legal}
 use Rattle.typed_ir.specs.FlatNodes.{node_of}
 use Rattle.typed_ir.specs.Flats.{signal_widths, are_clocked, are_below, flat_from, IsFlat}
@@ -23,10 +24,10 @@ abbrev pub is_member : ℕ → List ℕ → Bool
 is_member x [] = false
 is_member x (y ∷ ys) = (x == y) || is_member x ys
 
--- all of the second list are in the first
-abbrev pub all_in : List ℕ → List ℕ → Bool
-all_in all [] = true
-all_in all (x ∷ xs) = is_member x all && all_in all xs
+-- all spans are of signals of the list
+abbrev pub spans_in : List ℕ → List Span → Bool
+spans_in all [] = true
+spans_in all (p ∷ ps) = is_member p.signal all && spans_in all ps
 
 -- none of the second list is in the first
 abbrev pub none_in : List ℕ → List ℕ → Bool
@@ -63,7 +64,7 @@ are_undriven table (s ∷ ss) = are_idle (row_in table s) && are_undriven table 
 -- all clocked blocks write signals of the list alone
 abbrev pub blocks_in : List ℕ → List SizedStmt → Bool
 blocks_in registers [] = true
-blocks_in registers (st ∷ sts) = all_in registers (later_signals st) && blocks_in registers sts
+blocks_in registers (st ∷ sts) = spans_in registers (later_targets st) && blocks_in registers sts
 
 abbrev pub has_block : List FlatNode → Bool
 has_block [] = false

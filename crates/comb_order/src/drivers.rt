@@ -1,15 +1,17 @@
-// For each signal the nodes that drive bits of it.
+// For each signal the nodes that drive bits of it, and the clocked blocks that write bits of it.
 ghost use Rattle.std.specs.Prelude.{◌≡◌, ◌+◌, ◌<◌, ◌^◌, ◌==◌, ◌&&◌, ◌||◌, ℕ, [], IfOk, length, map};
 ghost use Rattle.typed_ir.specs.FlatNodes.{node_of};
 ghost use Rattle.typed_ir.specs.Nodes.{drives_at};
-ghost use Rattle.typed_ir.specs.Touches.{has_bit, touched};
+ghost use Rattle.typed_ir.specs.Touches.{has_bit, touched, Adds};
+ghost use Rattle.typed_ir.specs.Statements.{stmt_of};
+ghost use Rattle.typed_ir.specs.Cycles.{block_writes, writes_at};
 ghost use Rattle.comb_order.specs.Driving.{row_in, drives_in, Rises, AllRise};
 
 use no_memory::NoMemory;
 use std::alloc::Global;
-use typed_ir::{Node, Touch, note_drives};
+use typed_ir::{Node, Stmt, Touch, drives_of, later_spans, touches_of};
 
-/// A node, and the bits of a signal that it drives.
+/// A node or a clocked block, and the bits of a signal that it drives or may write.
 #[derive(Clone, Copy, Debug, PartialEq, Eq)]
 pub struct Driver {
     pub node: u32,
@@ -48,7 +50,7 @@ fn add_touch(table: &mut [Vec<Driver>], node: u32, touch: Touch) -> Result<(), N
         ≡ (drives_in (row_in table.old s) a i || ((a == node) && ((s == touch.signal) && has_bit touch.mask i)))) }
     ensures rises { IfOk result (λ _. AllRise table.new (node + 1)) }
 {
-    let signal = touch.signal as usize;
+    let signal = touch.signal.index();
     if signal >= table.len() {
         return Ok(());
     }
@@ -95,10 +97,36 @@ pub fn drivers_of(
     ensures rises { IfOk result (λ table. AllRise table.items (length nodes.now)) }
 {
     let mut table = empty_table(alloc, signals)?;
-    let mut touches = Vec::new(alloc);
     for k in 0..nodes.len() {
-        touches.clear();
-        note_drives(&nodes[k], &mut touches)?;
+        let touches = drives_of(alloc, &nodes[k])?;
+        add_touches(&mut table, k as u32, &touches)?;
+    }
+    Ok(table)
+}
+
+// The bits that a clocked block may write.
+fn writes_of(alloc: Global, block: &Stmt) -> Result<Vec<Touch>, NoMemory>
+    ensures { IfOk result (λ touches. Adds [] touches.items (block_writes (stmt_of block.now))) }
+{
+    let spans = later_spans(alloc, block)?;
+    touches_of(alloc, &spans)
+}
+
+/// For each of so many signals the clocked blocks that may write bits of it, in their order, each once.
+pub fn writers_of(
+    alloc: Global,
+    blocks: &[Stmt],
+    signals: usize,
+) -> Result<Vec<Vec<Driver>>, NoMemory>
+    requires few { length blocks.now < 2 ^ 32 }
+    ensures length { IfOk result (λ table. length table.items ≡ signals) }
+    ensures drives { IfOk result (λ table. (a s i : ℕ) → s < signals → i < 128
+        → drives_in (row_in table.items s) a i ≡ writes_at (map stmt_of blocks.now) a s i) }
+    ensures rises { IfOk result (λ table. AllRise table.items (length blocks.now)) }
+{
+    let mut table = empty_table(alloc, signals)?;
+    for k in 0..blocks.len() {
+        let touches = writes_of(alloc, &blocks[k])?;
         add_touches(&mut table, k as u32, &touches)?;
     }
     Ok(table)

@@ -8,7 +8,7 @@ ghost use Rattle.comb_order.specs.Driving.{row_in, common, drives_some, drives_a
 use crate::drivers::Driver;
 use no_memory::NoMemory;
 use std::alloc::Global;
-use typed_ir::{Node, Touch, note_reads};
+use typed_ir::{Node, SignalId, Touch, reads_of};
 
 /// Whether two masks have a bit in common.
 pub fn meet(a: u128, b: u128) -> bool
@@ -22,8 +22,8 @@ fn is_block(node: &Node) -> bool
     ensures { result ≡ is_block (node_of node.now) }
 {
     match node {
-        Node::Drive(_, _) => false,
-        Node::Block(_) => true,
+        Node::Drive { .. } => false,
+        Node::Block { .. } => true,
     }
 }
 
@@ -90,10 +90,10 @@ fn connect_signal(
 }
 
 /// The drivers of a signal; none where there is no such signal.
-pub fn drivers_at(table: &[Vec<Driver>], signal: u32) -> &[Driver]
+pub fn drivers_at(table: &[Vec<Driver>], signal: SignalId) -> &[Driver]
     ensures { result.now ≡ row_in table.now signal }
 {
-    let index = signal as usize;
+    let index = signal.index();
     if index < table.len() {
         &table[index]
     } else {
@@ -145,11 +145,9 @@ pub fn edges_of(
     ensures graph { IfOk result (λ rows. IsGraph (map node_of nodes.now) (rows_of rows.items)) }
 {
     let mut rows = empty_rows(alloc, nodes.len())?;
-    let mut touches = Vec::new(alloc);
     for b in 0..nodes.len() {
         let node = &nodes[b];
-        touches.clear();
-        note_reads(node, &mut touches)?;
+        let touches = reads_of(alloc, node)?;
         connect(&mut rows, b as u32, is_block(node), &touches, table)?;
     }
     Ok(rows)

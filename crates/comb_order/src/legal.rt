@@ -1,7 +1,7 @@
 // Whether the widths within nodes and blocks agree with those of the signals.
 ghost use Rattle.std.specs.Prelude.{◌≡◌, map};
 ghost use Rattle.typed_ir.specs.Sized.{is_width};
-ghost use Rattle.typed_ir.specs.Stmts.{is_sized, is_target, are_targets, are_items, is_legal, is_clocked};
+ghost use Rattle.typed_ir.specs.Stmts.{is_sized, is_target, are_targets, are_items, is_legal, are_legal_arms, is_clocked, are_clocked_arms};
 ghost use Rattle.typed_ir.specs.Forms.{sized};
 ghost use Rattle.typed_ir.specs.Targets.{target_of, targets_of};
 ghost use Rattle.typed_ir.specs.Statements.{item_of, stmt_of, arm_of, sequence_of, arms_before};
@@ -11,7 +11,7 @@ ghost use Rattle.typed_ir.specs.Flats.{are_clocked, are_below};
 ghost use Rattle.typed_ir.specs.Views.{widths};
 
 use bits::Bits;
-use typed_ir::{Arm, Item, Lane, Node, Stmt, Target, Typed, is_signal, is_span};
+use typed_ir::{Arm, Item, Lane, Node, SignalId, Stmt, Target, Typed, is_signal, is_span};
 
 fn is_width(width: u8) -> bool
     ensures { result ≡ is_width width }
@@ -30,7 +30,7 @@ fn is_target(part: &Target, env: &[Bits]) -> bool
 {
     match part {
         Target::Fixed(lane) => lane.shift < 128 && is_span(lane.span, env),
-        Target::Moving(reach, index) => {
+        Target::Moving { reach, index } => {
             (reach.shift < 128 && (is_width(reach.width) && is_width(reach.total)))
                 && (is_signal(reach.signal, reach.total, env) && is_sized(index, env))
         }
@@ -65,12 +65,22 @@ fn is_legal(st: &Stmt, env: &[Bits]) -> bool
 {
     match st {
         Stmt::Skip => true,
-        Stmt::Assign(parts, e) | Stmt::Later(parts, e) => {
-            are_targets(parts, env) && is_sized(e, env)
+        Stmt::Assign { targets, value } | Stmt::Later { targets, value } => {
+            are_targets(targets, env) && is_sized(value, env)
         }
         Stmt::Sequence(list) => all_legal(list, env),
-        Stmt::If(c, a, b) => is_sized(c, env) && (is_legal(a, env) && is_legal(b, env)),
-        Stmt::Case(e, arms, otherwise) => is_sized(e, env) && arms_legal(arms, otherwise, env),
+        Stmt::If {
+            condition,
+            consequent,
+            alternative,
+        } => {
+            is_sized(condition, env) && (is_legal(consequent, env) && is_legal(alternative, env))
+        }
+        Stmt::Case {
+            subject,
+            arms,
+            otherwise,
+        } => is_sized(subject, env) && arms_legal(arms, otherwise, env),
     }
 }
 
@@ -90,7 +100,7 @@ fn all_legal(list: &[Stmt], env: &[Bits]) -> bool
 // The same of the arms of a case and its default.
 #[cycle(legal)]
 fn arms_legal(arms: &[Arm], otherwise: &Stmt, env: &[Bits]) -> bool
-    ensures { result ≡ is_legal (arms_before (map arm_of arms.now) (stmt_of otherwise.now)) (widths env.now) }
+    ensures { result ≡ are_legal_arms (arms_before (map arm_of arms.now) (stmt_of otherwise.now)) (widths env.now) }
 {
     for arm in arms {
         if !(are_items(&arm.items, env) && is_legal(&arm.body, env)) {
@@ -105,11 +115,19 @@ fn is_clocked(st: &Stmt) -> bool
     ensures { result ≡ is_clocked (stmt_of st.now) }
 {
     match st {
-        Stmt::Skip | Stmt::Later(_, _) => true,
-        Stmt::Assign(_, _) => false,
+        Stmt::Skip | Stmt::Later { .. } => true,
+        Stmt::Assign { .. } => false,
         Stmt::Sequence(list) => all_clocked(list),
-        Stmt::If(_, a, b) => is_clocked(a) && is_clocked(b),
-        Stmt::Case(_, arms, otherwise) => arms_clocked(arms, otherwise),
+        Stmt::If {
+            consequent,
+            alternative,
+            ..
+        } => is_clocked(consequent) && is_clocked(alternative),
+        Stmt::Case {
+            arms,
+            otherwise,
+            ..
+        } => arms_clocked(arms, otherwise),
     }
 }
 
@@ -129,7 +147,7 @@ fn all_clocked(list: &[Stmt]) -> bool
 // The same of the arms of a case and its default.
 #[cycle(clocked)]
 fn arms_clocked(arms: &[Arm], otherwise: &Stmt) -> bool
-    ensures { result ≡ is_clocked (arms_before (map arm_of arms.now) (stmt_of otherwise.now)) }
+    ensures { result ≡ are_clocked_arms (arms_before (map arm_of arms.now) (stmt_of otherwise.now)) }
 {
     for arm in arms {
         if !is_clocked(&arm.body) {
@@ -167,8 +185,8 @@ fn is_legal_node(node: &Node, env: &[Bits]) -> bool
     ensures { result ≡ is_legal_node (node_of node.now) (widths env.now) }
 {
     match node {
-        Node::Drive(lanes, e) => are_lanes(lanes, env) && is_sized(e, env),
-        Node::Block(body) => is_legal(body, env),
+        Node::Drive { lanes, value, .. } => are_lanes(lanes, env) && is_sized(value, env),
+        Node::Block { body, .. } => is_legal(body, env),
     }
 }
 
@@ -185,11 +203,11 @@ pub fn are_legal(nodes: &[Node], env: &[Bits]) -> bool
 }
 
 /// Whether all numbers are below a count.
-pub fn are_below(numbers: &[u32], count: usize) -> bool
-    ensures { result ≡ are_below numbers.now count }
+pub fn are_below(signals: &[SignalId], count: usize) -> bool
+    ensures { result ≡ are_below signals.now count }
 {
-    for number in numbers {
-        if *number as usize >= count {
+    for signal in signals {
+        if signal.index() >= count {
             return false;
         }
     }

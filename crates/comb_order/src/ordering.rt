@@ -1,11 +1,11 @@
 // An order of the nodes of a design, or the loop.
-ghost use Rattle.std.specs.Prelude.{◌≡◌, true, ℕ, List, IfOk, IfErr, length};
+ghost use Rattle.std.specs.Prelude.{◌≡◌, true, ℕ, List, IfOk, IfErr, MatchResult, length};
 ghost use Rattle.typed_ir.specs.Linkeds.{flat};
-ghost use Rattle.typed_ir.specs.Nodes.{IsOrder, drives_at, reads_at};
-ghost use Rattle.typed_ir.specs.Orders.{Precedes};
+ghost use Rattle.typed_ir.specs.Nodes.{IsOrder};
 ghost use Rattle.comb_order.specs.Graphs.{rows_of};
 ghost use Rattle.comb_order.specs.Driving.{AreRows, IsGraph};
-ghost use Rattle.comb_order.specs.Refusals.{IsRefusal, is_loop};
+ghost use Rattle.comb_order.specs.Loops.{HasNoLoop};
+ghost use Rattle.comb_order.specs.Refusals.{NodeBefore, IsRefusal, is_loop};
 
 use crate::drivers::drivers_of;
 use crate::edges::edges_of;
@@ -24,12 +24,13 @@ fn graph_of(alloc: Global, design: &Flat) -> Result<Vec<Vec<u32>>, NoMemory>
     Ok(rows)
 }
 
-/// An order of the nodes of a design: each once, after those that drive a bit that it reads. Or the loop: it is listed along
-/// predecessors, and then there is no order.
+/// An order of the nodes of a design, each once, after those that drive a bit that it reads: just where there is no loop. Where
+/// there is one it is answered, listed along predecessors from its least node, and then there is no order. Want of memory is
+/// `NoMemory`.
 pub fn order(alloc: Global, design: &Flat) -> Result<Vec<u32>, OrderRefusal>
     ensures order { IfOk result (λ order. IsOrder (flat design.now).nodes order.items) }
-    ensures refusal { IfErr result (λ refusal.
-        IsRefusal (Precedes (drives_at (flat design.now).nodes) (reads_at (flat design.now).nodes)) (length (flat design.now).nodes) refusal) }
+    ensures exactly { MatchResult result (λ _. HasNoLoop (NodeBefore (flat design.now).nodes) (length (flat design.now).nodes))
+        (λ refusal. IsRefusal (NodeBefore (flat design.now).nodes) (length (flat design.now).nodes) refusal) }
 
     // Where the loop is answered no order exists.
     ensures none { IfErr result (λ refusal. is_loop refusal ≡ true → (order : List ℕ) → IsOrder (flat design.now).nodes order → ⊥) }
@@ -41,11 +42,11 @@ pub fn order(alloc: Global, design: &Flat) -> Result<Vec<u32>, OrderRefusal>
     ordered(alloc, &graph)
 }
 
-/// The design with an order of its nodes; or the loop, as `order` says.
+/// The design with an order of its nodes, just where there is no loop; else the loop, as `order` says.
 pub fn linked(alloc: Global, design: Flat) -> Result<Linked, OrderRefusal>
     ensures design { IfOk result (λ linked. linked.design ≡ design) }
-    ensures refusal { IfErr result (λ refusal.
-        IsRefusal (Precedes (drives_at (flat design).nodes) (reads_at (flat design).nodes)) (length (flat design).nodes) refusal) }
+    ensures exactly { MatchResult result (λ _. HasNoLoop (NodeBefore (flat design).nodes) (length (flat design).nodes))
+        (λ refusal. IsRefusal (NodeBefore (flat design).nodes) (length (flat design).nodes) refusal) }
 
     // Where the loop is answered no order exists.
     ensures none { IfErr result (λ refusal. is_loop refusal ≡ true → (order : List ℕ) → IsOrder (flat design).nodes order → ⊥) }

@@ -1,6 +1,7 @@
 // The parts of a flat design, and whether they make one.
-ghost use Rattle.std.specs.Prelude.{◌≡◌, ◌<◌, ◌^◌, ◌&&◌, not, IfOk, IfSome, IfNone, map, length};
+ghost use Rattle.std.specs.Prelude.{◌≡◌, ◌<◌, ◌^◌, ◌&&◌, not, true, false, IsTrue, IfOk, IfSome, IfNone, map, length};
 ghost use Rattle.typed_ir.specs.Flats.{signal_widths, are_clocked, are_below, flat_from, NodeWritesFirst};
+ghost use Rattle.typed_ir.specs.Cycles.{OneWriter};
 ghost use Rattle.typed_ir.specs.FlatNodes.{node_of};
 ghost use Rattle.typed_ir.specs.Linkeds.{flat};
 ghost use Rattle.typed_ir.specs.Nodes.{IsComplete, are_legal};
@@ -10,20 +11,20 @@ ghost use Rattle.typed_ir.specs.Views.{widths};
 ghost use Rattle.comb_order.specs.Parts.{has_block, are_distinct, none_in, blocks_in, rows_apart, are_undriven, IsDesign};
 
 use crate::belonging::{are_distinct, members_of, none_in, write_registers};
-use crate::drivers::{Driver, drivers_of};
+use crate::drivers::{Driver, drivers_of, writers_of};
 use crate::legal::{are_below, are_clocked, are_legal};
 use crate::undriven::{are_undriven, rows_apart};
 use bits::Bits;
 use no_memory::NoMemory;
 use std::alloc::Global;
-use typed_ir::{Flat, Node, Signal, Stmt};
+use typed_ir::{Flat, Node, Signal, SignalId, Stmt};
 
 /// What a flat design is made of.
 #[derive(Drop)]
 pub struct Parts {
     pub signals: Vec<Signal>,
-    pub registers: Vec<u32>,
-    pub inputs: Vec<u32>,
+    pub registers: Vec<SignalId>,
+    pub inputs: Vec<SignalId>,
     pub nodes: Vec<Node>,
     pub clocked: Vec<Stmt>,
 }
@@ -45,8 +46,8 @@ pub fn no_block(nodes: &[Node]) -> bool
 {
     for node in nodes {
         match node {
-            Node::Drive(_, _) => {}
-            Node::Block(_) => return false,
+            Node::Drive { .. } => {}
+            Node::Block { .. } => return false,
         }
     }
     true
@@ -76,10 +77,8 @@ fn are_held(alloc: Global, parts: &Parts) -> Result<bool, NoMemory>
     let once_too = are_distinct(alloc, &parts.inputs)?;
     let registers = members_of(alloc, &parts.registers)?;
     let inputs = members_of(alloc, &parts.inputs)?;
-    Ok(
-        once && (once_too
-            && (none_in(&inputs, &parts.registers) && write_registers(&parts.clocked, &registers))),
-    )
+    let only = write_registers(alloc, &parts.clocked, &registers)?;
+    Ok(once && (once_too && (none_in(&inputs, &parts.registers) && only)))
 }
 
 // Whether no bit has two drivers, and registers and data inputs have none.
@@ -91,9 +90,23 @@ fn are_driven_once(parts: &Parts, table: &[Vec<Driver>]) -> bool
         && (are_undriven(table, &parts.registers) && are_undriven(table, &parts.inputs))
 }
 
+// Whether no bit is written by two clocked blocks.
+fn are_written_once(alloc: Global, parts: &Parts) -> Result<bool, NoMemory>
+    requires { IsTrue (are_clocked parts.now.clocked.items (signal_widths parts.now.signals.items)) }
+    ensures one { IfOk result (λ once. once ≡ true → OneWriter (map stmt_of parts.now.clocked.items)) }
+    ensures two { IfOk result (λ once. once ≡ false → OneWriter (map stmt_of parts.now.clocked.items) → ⊥) }
+{
+    // No memory holds as many blocks.
+    if parts.clocked.len() > u32::MAX as usize {
+        return Err(NoMemory);
+    }
+    let table = writers_of(alloc, &parts.clocked, parts.signals.len())?;
+    Ok(rows_apart(&table))
+}
+
 /// The flat design of these parts; None just where they make none. So it is where widths don't agree, a number names no signal, a bit
-/// has two drivers, a clocked block has a blocking assignment or writes what isn't a register, a register or data input is driven
-/// or stands twice, or a signal is both of them.
+/// has two drivers or two clocked blocks that may write it, a clocked block has a blocking assignment or writes what isn't a
+/// register, a register or data input is driven or stands twice, or a signal is both of them.
 pub fn flat_of(alloc: Global, parts: Parts) -> Result<Option<Flat>, NoMemory>
     requires complete { Each IsComplete (map node_of parts.nodes.items) }
     requires first { Each NodeWritesFirst (map node_of parts.nodes.items) }
@@ -108,6 +121,10 @@ pub fn flat_of(alloc: Global, parts: Parts) -> Result<Option<Flat>, NoMemory>
     }
     let held = are_held(alloc, &parts)?;
     if !held {
+        return Ok(None);
+    }
+    let written = are_written_once(alloc, &parts)?;
+    if !written {
         return Ok(None);
     }
     let table = drivers_of(alloc, &parts.nodes, parts.signals.len())?;

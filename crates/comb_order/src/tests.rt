@@ -7,14 +7,16 @@ use no_memory::NoMemory;
 use std::alloc::Global;
 use std::process::Abort;
 use std::test::Fail;
-use typed_ir::{ArithmeticOperator, BinaryOperator, Lane, Node, Signal, Span, Typed};
+use typed_ir::{
+    ArithmeticOperator, BinaryOperator, Lane, Node, Signal, SignalId, Span, TargetForm, Typed,
+};
 
-fn bit(signal: u32, low: u8) -> Span
+fn bit(number: u32, low: u8) -> Span
     ensures width { result.width ≡ 1 }
     ensures low { result.low ≡ low }
 {
     Span {
-        signal,
+        signal: SignalId(number),
         low,
         width: 1,
     }
@@ -24,14 +26,18 @@ fn bit(signal: u32, low: u8) -> Span
 fn assign(alloc: Global, span: Span, e: Typed) -> Result<Node, NoMemory> {
     let mut lanes = Vec::new(alloc);
     lanes.push(Lane { shift: 0, span })?;
-    Ok(Node::Drive(lanes, e))
+    Ok(Node::Drive {
+        form: TargetForm::Bit,
+        lanes,
+        value: e,
+    })
 }
 
 // assign TO = FROM; both of one bit, for each pair
 fn copies(alloc: Global, pairs: &[(u32, u32)]) -> Result<Vec<Node>, NoMemory> {
     let mut nodes = Vec::new(alloc);
     for (to, from) in pairs {
-        nodes.push(assign(alloc, bit(*to, 0), Typed::name(*from, 1))?)?;
+        nodes.push(assign(alloc, bit(*to, 0), Typed::name(SignalId(*from), 1))?)?;
     }
     Ok(nodes)
 }
@@ -82,7 +88,7 @@ fn answer(
     let design = flat_of(alloc, parts)?.expect(rt, "a design");
     match order(alloc, &design) {
         Ok(order) => Ok((true, order)),
-        Err(OrderRefusal::Loop(circle)) => Ok((false, circle)),
+        Err(OrderRefusal::Loop(circle)) => Ok((false, circle.into_nodes())),
         Err(OrderRefusal::NoMemory) => Err(NoMemory),
     }
 }
@@ -127,7 +133,12 @@ fn a_chain_written_backwards(rt: HostRuntime) -> Result<(), Fail> {
 fn two_ways_that_join(rt: HostRuntime) -> Result<(), Fail> {
     let alloc = rt.alloc();
     let both = BinaryOperator::Arithmetic(ArithmeticOperator::And);
-    let sum = Typed::binary(alloc, both, Typed::name(1, 1), Typed::name(2, 1))?;
+    let sum = Typed::binary(
+        alloc,
+        both,
+        Typed::name(SignalId(1), 1),
+        Typed::name(SignalId(2), 1),
+    )?;
     let mut nodes = copies(alloc, &[(1, 0), (2, 0)])?;
     nodes.push(assign(alloc, bit(3, 0), sum)?)?;
     let (placed, list) = answer(&rt, alloc, &[1; 4], nodes)?;
@@ -156,7 +167,7 @@ fn one_bit_from_another_of_its_signal(rt: HostRuntime) -> Result<(), Fail> {
 #[test]
 fn a_select_at_run_time_reads_the_whole_signal(rt: HostRuntime) -> Result<(), Fail> {
     let alloc = rt.alloc();
-    let pick = Typed::pick(alloc, 0, 1, 0, false, Typed::name(1, 1))?;
+    let pick = Typed::pick(alloc, SignalId(0), 1, 0, false, Typed::name(SignalId(1), 1))?;
     let mut nodes = Vec::new(alloc);
     nodes.push(assign(alloc, bit(0, 1), pick)?)?;
     expect_loop(&rt, alloc, &[2, 1], nodes, &[0])?;

@@ -5,6 +5,7 @@ ghost use Rattle.comb_order.specs.Parts.{are_apart, rows_apart, is_idle, are_idl
 
 use crate::drivers::Driver;
 use crate::edges::{drivers_at, meet};
+use typed_ir::SignalId;
 
 // Whether no two masks of a row share a bit.
 fn are_apart(row: &[Driver]) -> bool
@@ -52,7 +53,7 @@ fn are_idle(row: &[Driver]) -> bool
 }
 
 /// Whether no bit of these signals has a driver.
-pub fn are_undriven(table: &[Vec<Driver>], signals: &[u32]) -> bool
+pub fn are_undriven(table: &[Vec<Driver>], signals: &[SignalId]) -> bool
     ensures { result ≡ are_undriven table.now signals.now }
 {
     for signal in signals {

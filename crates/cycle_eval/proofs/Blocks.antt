@@ -21,6 +21,6 @@ pub noted_spans : (sts : List Stmt) (ws : List ℕ) (env : Valuation) → IsTrue
 noted_spans [] ws env h = refl
 noted_spans (st ∷ sts) ws env h =
     spans_append (pending (stmt_of st) env) (all_pending (map stmt_of sts) env) ws
-    (pending_spans (stmt_of st) 0 env ws
+    (pending_spans (stmt_of st) env ws
     (and_left (is_legal (stmt_of st) ws) (is_clocked (stmt_of st)) (and_left (is_legal (stmt_of st) ws && is_clocked (stmt_of st)) (are_clocked sts ws) h)))
     (noted_spans sts ws env (and_right (is_legal (stmt_of st) ws && is_clocked (stmt_of st)) (are_clocked sts ws) h))

@@ -20,6 +20,12 @@ below_read [] count i h k = absurd (omega (arith, k))
 below_read (r ∷ rs) count zero h k = ltb-true r count (and_left (nat_lt r count) (are_below rs count) h)
 below_read (r ∷ rs) count (suc i) h k = below_read rs count i (and_right (nat_lt r count) (are_below rs count) h) (omega (arith, k))
 
+-- an element of a list, whatever stands for none
+pub read_any : (rs : List ℕ) (i d e : ℕ) → i < length rs → get_or rs i d ≡ get_or rs i e
+read_any [] i d e h = absurd (omega (arith, h))
+read_any (r ∷ rs) zero d e h = refl
+read_any (r ∷ rs) (suc i) d e h = read_any rs i d e (omega (arith, h))
+
 -- one more register filled, from the end
 pub fill_step : (rs xs : List ℕ) (i : ℕ) (start env : Valuation) (r x : ℕ) → i < length rs → i < length xs → r ≡ get_or rs i 0 → x ≡ get_or xs i 0
     → env ≡ fill (drop (i + 1) rs) (drop (i + 1) xs) start → put env r x ≡ fill (drop i rs) (drop i xs) start

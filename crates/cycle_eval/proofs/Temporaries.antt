@@ -1,8 +1,9 @@
 -- The combinational block of the tests writes each of its bits, and before it reads it.
 use Rattle.std.proofs.Common.{◌≡◌, ℕ, Bool, true, false, not, ◌&&◌, ◌||◌, ◌==◌, nat_le, nat_lt, [], ◌∷◌, map, refl, sym, subst, true≢false}
 use Rattle.std.proofs.lemmas.Bool.{eqb-true}
-use Rattle.typed_ir.specs.declared.operators.BinaryOperator.{BinaryOperator}
+use Rattle.typed_ir.specs.declared.binary_operator.BinaryOperator.{BinaryOperator}
 use Rattle.typed_ir.specs.declared.node.Node.{Node}
+use Rattle.typed_ir.specs.declared.target_form.TargetForm.{TargetForm}
 use Rattle.typed_ir.specs.Valuations.{nowhere, any_within}
 use Rattle.typed_ir.specs.Stmts.{targets, open_reads, IsWhole, WritesFirst}
 use Rattle.typed_ir.specs.Nodes.{Block, IsComplete}
@@ -28,7 +29,9 @@ at_one : (p q : BinaryOperator) (i : ℕ) → WritesBit p q 1 i
 at_one p q i = go (nat_le 0 i && nat_lt i 4)
   where
     go : (b : Bool) → (b || (b || (false || false))) ≡ true
-        → (((false || false) || false) && true || ((((true || false) || false) && not (false || (b || false))) || (((true || false) && not ((false || (b || false)) || (b || false))) || false))) ≡ false
+        → ((((false || false) && not false) || false)
+        || ((((true || false) && not (false || (b || false))) || false)
+        || (((true && not ((false || (b || false)) || (b || false))) || false) || false))) ≡ false
     go true h = refl
     go false h = absurd (true≢false (sym h))
 
@@ -48,9 +51,9 @@ elsewhere p q s i out = by_cases (s == 2)
 writes_first : (p q : BinaryOperator) → WritesFirst (temporary p q)
 writes_first p q s i = by_cases (s == 1) (λ t. subst (λ k. WritesBit p q k i) (sym (eqb-true s 1 t)) (at_one p q i)) (λ f. elsewhere p q s i f)
 
-pub complete : (n : Node) (p q : BinaryOperator) → node_of n ≡ Block (temporary p q) → Each IsComplete (map node_of (n ∷ []))
+pub complete : (n : Node) (form : TargetForm) (p q : BinaryOperator) → node_of n ≡ Block form (temporary p q) → Each IsComplete (map node_of (n ∷ []))
 unfolding IsComplete
-complete n p q is = (subst IsComplete (sym is) (whole p q), tt)
+complete n form p q is = (subst IsComplete (sym is) (whole p q), tt)
 
-pub first : (n : Node) (p q : BinaryOperator) → node_of n ≡ Block (temporary p q) → Each NodeWritesFirst (map node_of (n ∷ []))
-first n p q is = (subst NodeWritesFirst (sym is) (writes_first p q), tt)
+pub first : (n : Node) (form : TargetForm) (p q : BinaryOperator) → node_of n ≡ Block form (temporary p q) → Each NodeWritesFirst (map node_of (n ∷ []))
+first n form p q is = (subst NodeWritesFirst (sym is) (writes_first p q), tt)

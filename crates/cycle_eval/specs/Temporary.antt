@@ -1,6 +1,6 @@
 -- A combinational block of the tests: a temporary that is written twice and then read.
 use Rattle.std.specs.Prelude.{ℕ, List, [], ◌∷◌}
-use Rattle.typed_ir.specs.declared.operators.BinaryOperator.{BinaryOperator}
+use Rattle.typed_ir.specs.declared.binary_operator.BinaryOperator.{BinaryOperator}
 use Rattle.typed_ir.specs.Sized.{Constant, Name, Binary}
 use Rattle.typed_ir.specs.Stmts.{SizedStmt, SizedTarget, Skip, Assign, Then, Fixed}
 

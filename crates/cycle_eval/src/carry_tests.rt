@@ -8,7 +8,7 @@ use no_memory::NoMemory;
 use std::alloc::Global;
 use std::process::Abort;
 use std::test::Fail;
-use typed_ir::Signal;
+use typed_ir::{Signal, SignalId};
 
 // A register: the number of its module, that of its name, its width, and what it has at the beginning.
 type Register = (u64, u64, u8, u128);
@@ -19,7 +19,7 @@ fn design(rt: &impl Abort, alloc: Global, list: &[Register]) -> Result<Design, N
     let mut registers = Vec::new(alloc);
     for (in_module, name, width, initial) in list {
         assert!(rt; 1 <= *width && *width <= 128 && signals.len() < 100);
-        registers.push(signals.len() as u32)?;
+        registers.push(SignalId(signals.len() as u32))?;
         signals.push(Signal {
             in_module: NameId(*in_module),
             path: vec![in alloc; NameId(0), NameId(*name)]?,

@@ -9,17 +9,18 @@ ghost use Rattle.cycle_eval.specs.Found.{place_in};
 ghost use Rattle.cycle_eval.specs.States.{paired, state_values};
 
 use crate::design::Design;
+use crate::numbers::index_at;
 use crate::places::{Places, places_of};
 use bits::Bits;
 use no_memory::NoMemory;
 use std::alloc::Global;
-use typed_ir::{RegState, Signal};
+use typed_ir::{RegState, Signal, SignalId};
 
 // What a register takes from the state of older ones, of which these are the places.
 fn value_at(
     places: &Places<'_>,
     old_signals: &[Signal],
-    old_registers: &[u32],
+    old_registers: &[SignalId],
     state: &RegState,
     signal: &Signal,
 ) -> u128
@@ -31,7 +32,8 @@ fn value_at(
     let Some(place) = places.get(&signal.path) else {
         return signal.initial;
     };
-    let old = &old_signals[old_registers[place] as usize];
+    let register = index_at(old_registers, place);
+    let old = &old_signals[register];
     if old.in_module.0 == signal.in_module.0 {
         state.get(place).value
     } else {
@@ -40,13 +42,18 @@ fn value_at(
 }
 
 // The beginning values of these registers.
-fn beginnings(alloc: Global, signals: &[Signal], registers: &[u32]) -> Result<RegState, NoMemory>
+fn beginnings(
+    alloc: Global,
+    signals: &[Signal],
+    registers: &[SignalId],
+) -> Result<RegState, NoMemory>
     requires { IsTrue (are_below registers.now (length signals.now)) }
     ensures { IfOk result (λ s. s ≡ paired (map (width_in signals.now) registers.now) (map (initial_in signals.now) registers.now)) }
 {
     let mut values = Vec::new(alloc);
     for register in registers {
-        let signal = &signals[*register as usize];
+        let place = register.index();
+        let signal = &signals[place];
         values.push(Bits::new(signal.width, signal.initial))?;
     }
     RegState::new(values)
@@ -56,9 +63,9 @@ fn beginnings(alloc: Global, signals: &[Signal], registers: &[u32]) -> Result<Re
 fn carried_into(
     alloc: Global,
     signals: &[Signal],
-    registers: &[u32],
+    registers: &[SignalId],
     old_signals: &[Signal],
-    old_registers: &[u32],
+    old_registers: &[SignalId],
     state: &RegState,
 ) -> Result<RegState, NoMemory>
     requires there { IsTrue (are_below registers.now (length signals.now)) }
@@ -70,7 +77,8 @@ fn carried_into(
     let places = places_of(alloc, old_signals, old_registers)?;
     let mut values = Vec::new(alloc);
     for register in registers {
-        let signal = &signals[*register as usize];
+        let place = register.index();
+        let signal = &signals[place];
         let value = value_at(&places, old_signals, old_registers, state, signal);
         values.push(Bits::new(signal.width, value))?;
     }
@@ -79,7 +87,7 @@ fn carried_into(
 
 impl Design {
     /// The registers at their beginning values.
-    pub fn reset_state(&self, alloc: Global) -> Result<RegState, NoMemory>
+    pub(crate) fn reset_state(&self, alloc: Global) -> Result<RegState, NoMemory>
         ensures value { IfOk result (λ s. s ≡ reset_of (flat_of self.now)) }
         ensures fits { IfOk result (λ s. Fits (flat_of self.now) s) }
     {
@@ -89,7 +97,7 @@ impl Design {
 
     /// The state of an older design, carried into this one: each register takes the value of the register of its path, where it
     /// is of the same module, cut or filled with zeros to its width; else it begins anew. Registers are found by hash.
-    pub fn carried(
+    pub(crate) fn carried(
         &self,
         alloc: Global,
         old: &Design,

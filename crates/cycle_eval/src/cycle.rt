@@ -109,7 +109,7 @@ fn update_registers<L: Ledger>(
 
 impl Design {
     /// Settles the wires, whatever they hold, by one pass over the nodes. Each node is one step.
-    pub fn settle<L: Ledger>(&self, env: &mut [Bits], steps: &mut Steps<L>)
+    pub(crate) fn settle<L: Ledger>(&self, env: &mut [Bits], steps: &mut Steps<L>)
         requires { widths env.old ≡ signal_widths self.now.linked.design.signals.items }
         ensures widths { widths env.new ≡ widths env.old }
         ensures value { (state inputs : List ℕ) → IsReady (flat_of self.now) state inputs (env_of env.old)
@@ -121,7 +121,7 @@ impl Design {
 
     /// One cycle: the registers in `env` go on to their next values. Nothing is cleared before or after it, and it takes no
     /// memory: `updates` has room for all that the clocked blocks may note.
-    pub fn cycle<L: Ledger>(
+    pub(crate) fn cycle<L: Ledger>(
         &self,
         env: &mut [Bits],
         updates: &mut Vec<Update>,

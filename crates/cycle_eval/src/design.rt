@@ -8,9 +8,9 @@ use typed_ir::Linked;
 /// A linked design that an evaluator runs.
 #[derive(Drop)]
 pub struct Design {
-    pub linked: Linked,
+    pub(crate) linked: Linked,
     /// How many updates its clocked blocks note at most in one cycle, for which a run takes room before its first. The largest
     /// number stands for itself and for all above it.
-    pub updates: usize,
+    pub(crate) updates: usize,
     ghost most: { updates ≡ min (all_updates (map stmt_of linked.design.clocked.items)) (2 ^ 64 - 1) },
 }

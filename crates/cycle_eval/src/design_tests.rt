@@ -7,8 +7,9 @@ ghost use Rattle.typed_ir.specs.Orders.{Each};
 ghost use Rattle.typed_ir.specs.Statements.{stmt_of};
 ghost use Rattle.typed_ir.specs.Stmts.{Assign};
 ghost use Rattle.typed_ir.specs.Forms.{sized};
-ghost use Rattle.typed_ir.specs.declared.operators.ArithmeticOperator.TheVariants.{Sum, Xor};
-ghost use Rattle.typed_ir.specs.declared.operators.BinaryOperator.TheVariants.{Arithmetic};
+ghost use Rattle.typed_ir.specs.declared.arithmetic_operator.ArithmeticOperator.TheVariants.{Sum, Xor};
+ghost use Rattle.typed_ir.specs.declared.binary_operator.BinaryOperator.TheVariants.{Arithmetic};
+ghost use Rattle.typed_ir.specs.declared.target_form.TargetForm.TheVariants.{Name as Shown};
 ghost use Rattle.cycle_eval.specs.Designs.{work_of};
 ghost use Rattle.cycle_eval.specs.Temporary.{all_of, temporary};
 
@@ -24,8 +25,8 @@ use std::process::Abort;
 use std::sync::ledger::{Blank, Ledger};
 use std::test::Fail;
 use typed_ir::{
-    ArithmeticOperator, Arm, BinaryOperator, Item, Lane, Node, Reach, RegState, Signal, Span, Stmt,
-    Target, Typed,
+    ArithmeticOperator, Arm, BinaryOperator, Item, Lane, Node, Reach, RegState, Signal, SignalId,
+    Span, Stmt, Target, TargetForm, Typed,
 };
 
 // Signals of these widths and values at the beginning.
@@ -124,7 +125,7 @@ fn whole(signal: u32, width: u8) -> Lane
     Lane {
         shift: 0,
         span: Span {
-            signal,
+            signal: SignalId(signal),
             low: 0,
             width,
         },
@@ -135,14 +136,21 @@ fn whole(signal: u32, width: u8) -> Lane
 pub fn later(alloc: Global, signal: u32, width: u8, e: Typed) -> Result<Stmt, NoMemory> {
     let mut parts = Vec::new(alloc);
     parts.push(Target::Fixed(whole(signal, width)))?;
-    Ok(Stmt::Later(parts, e))
+    Ok(Stmt::Later {
+        targets: parts,
+        value: e,
+    })
 }
 
 // assign SIGNAL = E;
 pub fn assign(alloc: Global, signal: u32, width: u8, e: Typed) -> Result<Node, NoMemory> {
     let mut lanes = Vec::new(alloc);
     lanes.push(whole(signal, width))?;
-    Ok(Node::Drive(lanes, e))
+    Ok(Node::Drive {
+        form: TargetForm::Name,
+        lanes,
+        value: e,
+    })
 }
 
 fn number(n: u8, width: u8) -> Typed
@@ -158,7 +166,12 @@ pub fn plus(alloc: Global, signal: u32, width: u8, n: u8) -> Result<Typed, NoMem
     requires few { width < 9 }
 {
     let sum = BinaryOperator::Arithmetic(ArithmeticOperator::Sum);
-    Typed::binary(alloc, sum, Typed::name(signal, width), number(n, width))
+    Typed::binary(
+        alloc,
+        sum,
+        Typed::name(SignalId(signal), width),
+        number(n, width),
+    )
 }
 
 // reg [7:0] a = 1, b = 2, c; always @(posedge clk) begin a <= b; b <= a; c <= 1; c <= 2; end
@@ -166,14 +179,14 @@ pub fn plus(alloc: Global, signal: u32, width: u8, n: u8) -> Result<Typed, NoMem
 fn right_sides_read_old_registers(rt: HostRuntime) -> Result<(), Fail> {
     let alloc = rt.alloc();
     let body = vec![in alloc;
-        later(alloc, 0, 8, Typed::name(1, 8))?,
-        later(alloc, 1, 8, Typed::name(0, 8))?,
+        later(alloc, 0, 8, Typed::name(SignalId(1), 8))?,
+        later(alloc, 1, 8, Typed::name(SignalId(0), 8))?,
         later(alloc, 2, 8, number(1, 8))?,
         later(alloc, 2, 8, number(2, 8))?,
     ]?;
     let parts = Parts {
         signals: signals(&rt, alloc, &[(8, 1), (8, 2), (8, 0)])?,
-        registers: vec![in alloc; 0, 1, 2]?,
+        registers: vec![in alloc; SignalId(0), SignalId(1), SignalId(2)]?,
         inputs: Vec::new(alloc),
         nodes: Vec::new(alloc),
         clocked: vec![in alloc; Stmt::Sequence(body)]?,
@@ -191,19 +204,27 @@ fn a_place_known_at_run_time(rt: HostRuntime) -> Result<(), Fail> {
     let alloc = rt.alloc();
     let reach = Reach {
         shift: 0,
-        signal: 0,
+        signal: SignalId(0),
         total: 4,
         width: 1,
         below: 0,
         signed: false,
     };
-    let places = vec![in alloc; Target::Moving(reach, Typed::name(1, 3))]?;
-    let one = Stmt::Later(places, number(1, 1));
+    let places = vec![in alloc;
+        Target::Moving {
+            reach,
+            index: Typed::name(SignalId(1), 3)
+        },
+    ]?;
+    let one = Stmt::Later {
+        targets: places,
+        value: number(1, 1),
+    };
     let next = later(alloc, 1, 3, plus(alloc, 1, 3, 1)?)?;
     let body = vec![in alloc; one, next]?;
     let parts = Parts {
         signals: signals(&rt, alloc, &[(4, 0), (3, 0)])?,
-        registers: vec![in alloc; 0, 1]?,
+        registers: vec![in alloc; SignalId(0), SignalId(1)]?,
         inputs: Vec::new(alloc),
         nodes: Vec::new(alloc),
         clocked: vec![in alloc; Stmt::Sequence(body)]?,
@@ -247,10 +268,17 @@ fn a_case_with_dont_cares(rt: HostRuntime) -> Result<(), Fail> {
         arm(alloc, 0b0111, 0b0000, 2)?,
     ]?;
     let next = later(alloc, 0, 4, plus(alloc, 0, 4, 6)?)?;
-    let body = vec![in alloc; next, Stmt::Case(Typed::name(0, 4), arms, otherwise)]?;
+    let body = vec![in alloc;
+        next,
+        Stmt::Case {
+            subject: Typed::name(SignalId(0), 4),
+            arms,
+            otherwise
+        },
+    ]?;
     let parts = Parts {
         signals: signals(&rt, alloc, &[(4, 5), (2, 0)])?,
-        registers: vec![in alloc; 0, 1]?,
+        registers: vec![in alloc; SignalId(0), SignalId(1)]?,
         inputs: Vec::new(alloc),
         nodes: Vec::new(alloc),
         clocked: vec![in alloc; Stmt::Sequence(body)]?,
@@ -277,10 +305,14 @@ fn a_long_block(rt: HostRuntime) -> Result<(), Fail> {
         arms.push(arm(alloc, 0, 1, 1)?)?;
     }
     let otherwise = Box::new(alloc, later(alloc, 1, 2, number(3, 2))?)?;
-    body.push(Stmt::Case(Typed::name(0, 4), arms, otherwise))?;
+    body.push(Stmt::Case {
+        subject: Typed::name(SignalId(0), 4),
+        arms,
+        otherwise,
+    })?;
     let parts = Parts {
         signals: signals(&rt, alloc, &[(4, 0), (2, 0)])?,
-        registers: vec![in alloc; 0, 1]?,
+        registers: vec![in alloc; SignalId(0), SignalId(1)]?,
         inputs: Vec::new(alloc),
         nodes: Vec::new(alloc),
         clocked: vec![in alloc; Stmt::Sequence(body)]?,
@@ -297,19 +329,32 @@ fn a_condition_and_two_parts(rt: HostRuntime) -> Result<(), Fail> {
     let high = Lane {
         shift: 4,
         span: Span {
-            signal: 0,
+            signal: SignalId(0),
             low: 0,
             width: 2,
         },
     };
     let places = vec![in alloc; Target::Fixed(high), Target::Fixed(whole(1, 4))]?;
-    let both = Box::new(alloc, Stmt::Later(places, number(45, 6)))?;
+    let both = Box::new(
+        alloc,
+        Stmt::Later {
+            targets: places,
+            value: number(45, 6),
+        },
+    )?;
     let nothing = Box::new(alloc, Stmt::Skip)?;
     let next = later(alloc, 2, 1, plus(alloc, 2, 1, 1)?)?;
-    let body = vec![in alloc; next, Stmt::If(Typed::name(2, 1), both, nothing)]?;
+    let body = vec![in alloc;
+        next,
+        Stmt::If {
+            condition: Typed::name(SignalId(2), 1),
+            consequent: both,
+            alternative: nothing
+        },
+    ]?;
     let parts = Parts {
         signals: signals(&rt, alloc, &[(2, 0), (4, 9), (1, 0)])?,
-        registers: vec![in alloc; 0, 1, 2]?,
+        registers: vec![in alloc; SignalId(0), SignalId(1), SignalId(2)]?,
         inputs: Vec::new(alloc),
         nodes: Vec::new(alloc),
         clocked: vec![in alloc; Stmt::Sequence(body)]?,
@@ -333,12 +378,12 @@ fn wires_written_backwards(rt: HostRuntime) -> Result<(), Fail> {
             alloc,
             4,
             4,
-            Typed::binary(alloc, xor, Typed::name(3, 4), number(3, 4))?
+            Typed::binary(alloc, xor, Typed::name(SignalId(3), 4), number(3, 4))?
         )?,
         assign(alloc, 3, 4, plus(alloc, 0, 4, 1)?)?,
     ]?;
     let others = vec![in alloc;
-        later(alloc, 1, 4, Typed::name(5, 4))?,
+        later(alloc, 1, 4, Typed::name(SignalId(5), 4))?,
         later(alloc, 2, 4, plus(alloc, 6, 4, 1)?)?,
     ]?;
     let parts = Parts {
@@ -347,11 +392,11 @@ fn wires_written_backwards(rt: HostRuntime) -> Result<(), Fail> {
             alloc,
             &[(4, 0), (4, 9), (4, 0), (4, 0), (4, 0), (4, 0), (4, 0)],
         )?,
-        registers: vec![in alloc; 0, 1, 2]?,
-        inputs: vec![in alloc; 6]?,
+        registers: vec![in alloc; SignalId(0), SignalId(1), SignalId(2)]?,
+        inputs: vec![in alloc; SignalId(6)]?,
         nodes,
         clocked: vec![in alloc;
-            later(alloc, 0, 4, Typed::name(4, 4))?,
+            later(alloc, 0, 4, Typed::name(SignalId(4), 4))?,
             Stmt::Sequence(others),
         ]?,
     };
@@ -370,25 +415,31 @@ fn now(alloc: Global, signal: u32, e: Typed) -> Result<Stmt, NoMemory>
 {
     let mut parts = Vec::new(alloc);
     parts.push(Target::Fixed(whole(signal, 4)))?;
-    Ok(Stmt::Assign(parts, e))
+    Ok(Stmt::Assign {
+        targets: parts,
+        value: e,
+    })
 }
 
 // always @* begin t = q + 1; t = t ^ 6; y = t; end
 fn block(alloc: Global) -> Result<Node, NoMemory>
-    ensures { IfOk result (λ n. node_of n ≡ Block (temporary (Arithmetic Sum) (Arithmetic Xor))) }
+    ensures { IfOk result (λ n. node_of n ≡ Block Shown (temporary (Arithmetic Sum) (Arithmetic Xor))) }
 {
     let sum = BinaryOperator::Arithmetic(ArithmeticOperator::Sum);
     let xor = BinaryOperator::Arithmetic(ArithmeticOperator::Xor);
     let one = Typed::constant(Bits::new(4, 1));
     let six = Typed::constant(Bits::new(4, 6));
-    let more = Typed::binary(alloc, sum, Typed::name(0, 4), one)?;
-    let mixed = Typed::binary(alloc, xor, Typed::name(1, 4), six)?;
+    let more = Typed::binary(alloc, sum, Typed::name(SignalId(0), 4), one)?;
+    let mixed = Typed::binary(alloc, xor, Typed::name(SignalId(1), 4), six)?;
     let body = vec![in alloc;
         now(alloc, 1, more)?,
         now(alloc, 1, mixed)?,
-        now(alloc, 2, Typed::name(1, 4))?,
+        now(alloc, 2, Typed::name(SignalId(1), 4))?,
     ]?;
-    Ok(Node::Block(Stmt::Sequence(body)))
+    Ok(Node::Block {
+        form: TargetForm::Name,
+        body: Stmt::Sequence(body),
+    })
 }
 
 // reg [3:0] q = 4; reg [3:0] t, y; the block; always @(posedge clk) q <= y;
@@ -398,10 +449,10 @@ fn a_block_with_a_temporary(rt: HostRuntime) -> Result<(), Fail> {
     let nodes = vec![in alloc; block(alloc)?]?;
     let parts = Parts {
         signals: signals(&rt, alloc, &[(4, 4), (4, 0), (4, 0)])?,
-        registers: vec![in alloc; 0]?,
+        registers: vec![in alloc; SignalId(0)]?,
         inputs: Vec::new(alloc),
         nodes,
-        clocked: vec![in alloc; later(alloc, 0, 4, Typed::name(2, 4))?]?,
+        clocked: vec![in alloc; later(alloc, 0, 4, Typed::name(SignalId(2), 4))?]?,
     };
     let design = design_with(&rt, alloc, parts)?;
     // 5 ^ 6 is 3, 4 ^ 6 is 2, 3 ^ 6 is 5, 6 ^ 6 is 0, and 1 ^ 6 is 7.
@@ -427,10 +478,10 @@ fn a_long_chain(rt: HostRuntime) -> Result<(), Fail> {
     all.append(&mut signals(&rt, alloc, &[(8, 7)])?)?;
     let parts = Parts {
         signals: all,
-        registers: vec![in alloc; 100_000]?,
+        registers: vec![in alloc; SignalId(100_000)]?,
         inputs: Vec::new(alloc),
         nodes,
-        clocked: vec![in alloc; later(alloc, 100_000, 8, Typed::name(0, 8))?]?,
+        clocked: vec![in alloc; later(alloc, 100_000, 8, Typed::name(SignalId(0), 8))?]?,
     };
     let design = design_of(&rt, alloc, parts)?;
     assert_eq!(rt; after(alloc, &design, 1)?.as_slice(), [167].as_slice());

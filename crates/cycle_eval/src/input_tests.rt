@@ -15,7 +15,7 @@ use std::alloc::Global;
 use std::marker::Brand;
 use std::sync::ledger::{Blank, Ledger};
 use std::test::Fail;
-use typed_ir::{Typed, Update};
+use typed_ir::{SignalId, Typed, Update};
 
 // A cycle under the one row, and then one under the other.
 fn two_cycles<L: Ledger>(
@@ -72,12 +72,12 @@ fn inputs_by_rows(rt: HostRuntime) -> Result<(), Fail> {
     let alloc = rt.alloc();
     let parts = Parts {
         signals: signals(&rt, alloc, &[(4, 7), (8, 7), (4, 0), (8, 0), (4, 0)])?,
-        registers: vec![in alloc; 0, 1]?,
-        inputs: vec![in alloc; 2, 3]?,
+        registers: vec![in alloc; SignalId(0), SignalId(1)]?,
+        inputs: vec![in alloc; SignalId(2), SignalId(3)]?,
         nodes: vec![in alloc; assign(alloc, 4, 4, plus(alloc, 2, 4, 1)?)?]?,
         clocked: vec![in alloc;
-            later(alloc, 0, 4, Typed::name(4, 4))?,
-            later(alloc, 1, 8, Typed::name(3, 8))?,
+            later(alloc, 0, 4, Typed::name(SignalId(4), 4))?,
+            later(alloc, 1, 8, Typed::name(SignalId(3), 8))?,
         ]?,
     };
     let design = design_of(&rt, alloc, parts)?;

@@ -6,7 +6,9 @@ ghost use Rattle.typed_ir.specs.Views.{widths, env_of};
 ghost use Rattle.cycle_eval.specs.Designs.{flat_of};
 
 use crate::design::Design;
+use crate::numbers::index_at;
 use bits::Bits;
+use typed_ir::SignalId;
 
 // The number at a place of a row, 0 where it has none.
 fn number_at(row: &[u128], place: usize) -> u128
@@ -16,7 +18,7 @@ fn number_at(row: &[u128], place: usize) -> u128
 }
 
 // Puts the numbers of a row at these signals, each cut to its width, and 0 where the row has none.
-fn put_row(inputs: &[u32], env: &mut [Bits], row: &[u128])
+fn put_row(inputs: &[SignalId], env: &mut [Bits], row: &[u128])
     requires { IsTrue (are_below inputs.now (length env.old)) }
     ensures widths { widths env.new ≡ widths env.old }
     ensures value { env_of env.new ≡ fill inputs.now (cut_to (map (λ s. slice_index (widths env.old) s) inputs.now) row.now) (env_of env.old) }
@@ -24,7 +26,7 @@ fn put_row(inputs: &[u32], env: &mut [Bits], row: &[u128])
     let mut left = inputs.len();
     while left > 0 {
         left -= 1;
-        let input = inputs[left] as usize;
+        let input = index_at(inputs, left);
         env[input] = Bits::new(env[input].width, number_at(row, left));
     }
 }
@@ -32,7 +34,7 @@ fn put_row(inputs: &[u32], env: &mut [Bits], row: &[u128])
 impl Design {
     /// Sets the data inputs to what a row gives: each in its order, cut to its width, and 0 where the row has no number. All else
     /// stays. It takes no memory.
-    pub fn write_inputs(&self, env: &mut [Bits], row: &[u128])
+    pub(crate) fn write_inputs(&self, env: &mut [Bits], row: &[u128])
         requires { widths env.old ≡ signal_widths self.now.linked.design.signals.items }
         ensures widths { widths env.new ≡ widths env.old }
         ensures value { env_of env.new ≡ fill (flat_of self.now).inputs (input (flat_of self.now) row.now) (env_of env.old) }

@@ -14,6 +14,7 @@ mod input_tests;
 mod inputs;
 mod making;
 mod no_row;
+mod numbers;
 mod places;
 mod run;
 mod state;

@@ -13,19 +13,20 @@ use crate::design::Design;
 use ls_text::{At, Fault, NameList, Refusal};
 use no_memory::NoMemory;
 use std::alloc::Global;
-use typed_ir::{Linked, Signal, Stmt, Update};
+use typed_ir::{Linked, Signal, SignalId, Stmt, Update};
 
 // The words of 64 bits that a state may take.
 const STATE_WORDS: u32 = 65_536;
 
 // Whether these registers take more words than a state may take.
-fn passes_words(signals: &[Signal], registers: &[u32]) -> bool
+fn passes_words(signals: &[Signal], registers: &[SignalId]) -> bool
     requires { IsTrue (are_below registers.now (length signals.now)) }
     ensures { result ≡ nat_lt 65536 (words_of (map (width_in signals.now) registers.now)) }
 {
     let mut left = STATE_WORDS;
     for register in registers {
-        let signal = &signals[*register as usize];
+        let place = register.index();
+        let signal = &signals[place];
         let words = (u32::from(signal.width) + 63) / 64;
         if words > left {
             return true;
@@ -65,7 +66,7 @@ impl Design {
     }
 
     /// Room for all updates of one cycle.
-    pub fn room(&self, alloc: Global) -> Result<Vec<Update>, NoMemory>
+    pub(crate) fn room(&self, alloc: Global) -> Result<Vec<Update>, NoMemory>
         ensures { IfOk result (λ room. all_updates (flat_of self.now).clocked ≤ vec_capacity room) }
     {
         // No memory has room for more than the largest number counts.

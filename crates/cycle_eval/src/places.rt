@@ -6,11 +6,12 @@ ghost use Rattle.cycle_eval.specs.Kits.{same_path};
 ghost use Rattle.cycle_eval.specs.Places.{place_from};
 ghost use Rattle.cycle_eval.specs.Found.{place_in};
 
+use crate::numbers::index_at;
 use indexmap::IndexMap;
 use ls_text::NameId;
 use no_memory::NoMemory;
 use std::alloc::Global;
-use typed_ir::Signal;
+use typed_ir::{Signal, SignalId};
 
 /// The place of the first register of each path. A path is found by its hash.
 #[derive(Drop)]
@@ -42,7 +43,7 @@ impl<'a> Places<'a> {
 pub fn places_of<'a>(
     alloc: Global,
     signals: &'a [Signal],
-    registers: &[u32],
+    registers: &[SignalId],
 ) -> Result<Places<'a>, NoMemory>
     requires { IsTrue (are_below registers.now (length signals.now)) }
     ensures { IfOk result (λ places. (path : List ℕ) → place_in places path ≡ place_from 0 (map (path_in signals.now) registers.now) path) }
@@ -53,7 +54,8 @@ pub fn places_of<'a>(
     let mut left = registers.len();
     while left > 0 {
         left -= 1;
-        let signal = &signals[registers[left] as usize];
+        let register = index_at(registers, left);
+        let signal = &signals[register];
         places.put(&signal.path, left)?;
     }
     Ok(places)

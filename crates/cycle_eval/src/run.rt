@@ -19,7 +19,7 @@ use typed_ir::{RegState, Update};
 
 impl Design {
     /// An environment with the registers of a state; all else is 0.
-    pub fn loaded(&self, alloc: Global, from: &RegState) -> Result<Vec<Bits>, NoMemory>
+    pub(crate) fn loaded(&self, alloc: Global, from: &RegState) -> Result<Vec<Bits>, NoMemory>
         requires { Fits (flat_of self.now) from.now }
         ensures widths { IfOk result (λ env. widths env.items ≡ signal_widths self.now.linked.design.signals.items) }
         ensures value { IfOk result (λ env. env_of env.items ≡ base (flat_of self.now) (state_values from.now) []) }
@@ -31,7 +31,7 @@ impl Design {
 
     /// So many cycles in place, all under the empty row, whatever the inputs were before. It takes no memory: `updates` has room for
     /// those of a cycle.
-    pub fn run<L: Ledger>(
+    pub(crate) fn run<L: Ledger>(
         &self,
         env: &mut [Bits],
         updates: &mut Vec<Update>,
@@ -54,7 +54,7 @@ impl Design {
     }
 
     /// The registers of an environment, as a state.
-    pub fn state_of(&self, alloc: Global, env: &[Bits]) -> Result<RegState, NoMemory>
+    pub(crate) fn state_of(&self, alloc: Global, env: &[Bits]) -> Result<RegState, NoMemory>
         requires { widths env.now ≡ signal_widths self.now.linked.design.signals.items }
         ensures { IfOk result (λ s. s ≡ paired (register_widths (flat_of self.now)) (map (env_of env.now) self.now.linked.design.registers.items)) }
     {

@@ -8,10 +8,11 @@ ghost use Rattle.cycle_eval.specs.Kits.{register_widths, Fits};
 ghost use Rattle.cycle_eval.specs.States.{paired, state_widths, state_values};
 
 use crate::design::Design;
+use crate::numbers::index_at;
 use bits::Bits;
 use no_memory::NoMemory;
 use std::alloc::Global;
-use typed_ir::{RegState, Signal};
+use typed_ir::{RegState, Signal, SignalId};
 
 // 0 for each signal.
 pub fn zeros(alloc: Global, signals: &[Signal]) -> Result<Vec<Bits>, NoMemory>
@@ -26,7 +27,7 @@ pub fn zeros(alloc: Global, signals: &[Signal]) -> Result<Vec<Bits>, NoMemory>
 }
 
 // Puts the values of a state at its registers.
-pub fn load(registers: &[u32], from: &RegState, env: &mut [Bits])
+pub fn load(registers: &[SignalId], from: &RegState, env: &mut [Bits])
     requires there { IsTrue (are_below registers.now (length env.old)) }
     requires fits { state_widths from.now ≡ map (λ s. slice_index (widths env.old) s) registers.now }
     ensures widths { widths env.new ≡ widths env.old }
@@ -35,18 +36,20 @@ pub fn load(registers: &[u32], from: &RegState, env: &mut [Bits])
     let mut left = registers.len();
     while left > 0 {
         left -= 1;
-        env[registers[left] as usize] = from.get(left);
+        let register = index_at(registers, left);
+        env[register] = from.get(left);
     }
 }
 
 // The values that an environment has at these registers.
-pub fn stored(alloc: Global, registers: &[u32], env: &[Bits]) -> Result<RegState, NoMemory>
+pub fn stored(alloc: Global, registers: &[SignalId], env: &[Bits]) -> Result<RegState, NoMemory>
     requires { IsTrue (are_below registers.now (length env.now)) }
     ensures { IfOk result (λ s. s ≡ paired (map (λ s. slice_index (widths env.now) s) registers.now) (map (env_of env.now) registers.now)) }
 {
     let mut values = Vec::new(alloc);
     for register in registers {
-        values.push(env[*register as usize])?;
+        let place = register.index();
+        values.push(env[place])?;
     }
     RegState::new(values)
 }

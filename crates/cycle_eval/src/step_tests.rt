@@ -12,7 +12,7 @@ use std::marker::Brand;
 use std::process::Abort;
 use std::sync::ledger::{Blank, Ledger};
 use std::test::Fail;
-use typed_ir::Typed;
+use typed_ir::{SignalId, Typed};
 
 // reg [3:0] a = 1; reg [3:0] b = 2; wire [3:0] v = b + 1; wire [3:0] w = v + 1; always @(posedge clk) a <= v; always @(posedge clk) b <= w;
 // Two nodes and two blocks are four steps a cycle.
@@ -24,12 +24,12 @@ fn two_and_two(rt: &impl Abort, alloc: Global) -> Result<Design, NoMemory>
         assign(alloc, 2, 4, plus(alloc, 1, 4, 1)?)?,
     ]?;
     let clocked = vec![in alloc;
-        later(alloc, 0, 4, Typed::name(2, 4))?,
-        later(alloc, 1, 4, Typed::name(3, 4))?,
+        later(alloc, 0, 4, Typed::name(SignalId(2), 4))?,
+        later(alloc, 1, 4, Typed::name(SignalId(3), 4))?,
     ]?;
     let parts = Parts {
         signals: signals(rt, alloc, &[(4, 1), (4, 2), (4, 0), (4, 0)])?,
-        registers: vec![in alloc; 0, 1]?,
+        registers: vec![in alloc; SignalId(0), SignalId(1)]?,
         inputs: Vec::new(alloc),
         nodes,
         clocked,

@@ -17,8 +17,8 @@ use std::sync::Arc;
 use std::sync::ledger::{Blank, Ledger};
 use std::test::Fail;
 use typed_ir::{
-    ArithmeticOperator, BinaryOperator, Flat, Lane, Linked, RegState, Signal, Span, Stmt, Target,
-    Typed,
+    ArithmeticOperator, BinaryOperator, Flat, Lane, Linked, RegState, Signal, SignalId, Span, Stmt,
+    Target, Typed,
 };
 
 // reg [3:0] q = 14; always @(posedge clk) q <= q + 4'd3;
@@ -33,23 +33,26 @@ fn counter(alloc: Global) -> Result<Linked, NoMemory> {
         initial: 14,
     })?;
     let mut registers = Vec::new(alloc);
-    registers.push(0)?;
+    registers.push(SignalId(0))?;
     let sum = BinaryOperator::Arithmetic(ArithmeticOperator::Sum);
     let next = Typed::binary(
         alloc,
         sum,
-        Typed::name(0, 4),
+        Typed::name(SignalId(0), 4),
         Typed::constant(Bits::new(4, 3)),
     )?;
     let span = Span {
-        signal: 0,
+        signal: SignalId(0),
         low: 0,
         width: 4,
     };
     let mut parts = Vec::new(alloc);
     parts.push(Target::Fixed(Lane { shift: 0, span }))?;
     let mut clocked = Vec::new(alloc);
-    clocked.push(Stmt::Later(parts, next))?;
+    clocked.push(Stmt::Later {
+        targets: parts,
+        value: next,
+    })?;
     let design = Flat {
         signals,
         registers,

@@ -2,8 +2,8 @@
 use Rattle.std.specs.Prelude.{ℕ, max, false, List, [], ◌∷◌, ◌++◌, codes, Option, Some, None, Result, Ok, Err}
 use Rattle.bits.specs.Values.{resized}
 use Rattle.typed_ir.specs.Sized.{Sized, Constant, Name, Binary, Resized}
-use Rattle.typed_ir.specs.declared.operators.ArithmeticOperator.TheVariants.{Sum}
-use Rattle.typed_ir.specs.declared.operators.BinaryOperator.TheVariants.{Arithmetic}
+use Rattle.typed_ir.specs.declared.arithmetic_operator.ArithmeticOperator.TheVariants.{Sum}
+use Rattle.typed_ir.specs.declared.binary_operator.BinaryOperator.TheVariants.{Arithmetic}
 use Rattle.typed_ir.specs.Stmts.{Later, Fixed}
 use Rattle.typed_ir.specs.Cycles.{Flat}
 use Rattle.ls_text.specs.Readings.{TextFault, fault_at}

@@ -14,7 +14,7 @@ use crate::term::Term;
 use bits::Bits;
 use ls_text::NoMemory;
 use std::alloc::Global;
-use typed_ir::{ArithmeticOperator, BinaryOperator, Typed};
+use typed_ir::{ArithmeticOperator, BinaryOperator, SignalId, Typed};
 
 // The larger of a width and an operand's.
 fn wider(width: u8, term: Term) -> u8
@@ -50,7 +50,7 @@ fn simple(width: u8, term: Term) -> Typed
 {
     match term {
         Term::Literal(bits) => Typed::constant(bits),
-        Term::Register | Term::Unknown(_) => Typed::name(0, width),
+        Term::Register | Term::Unknown(_) => Typed::name(SignalId(0), width),
     }
 }
 

@@ -1,5 +1,5 @@
 -- Statements and arms of lists, taken one by one.
-use Rattle.std.proofs.Common.{◌≡◌, ℕ, ◌+◌, ◌<◌, ◌≤◌, true, ◌||◌, List, ◌∷◌, ◌++◌, map, length, get_or, drop, Result, Ok, Err, Box, Global, IfOk, sym, ◌∙◌, ap}
+use Rattle.std.proofs.Common.{◌≡◌, ℕ, ◌+◌, ◌<◌, ◌≤◌, true, ◌||◌, List, [], ◌∷◌, ◌++◌, map, length, get_or, drop, Result, Ok, Err, Box, Global, IfOk, sym, ◌∙◌, ap, append_assoc}
 use Rattle.std.proofs.lemmas.List.{at_drop_all}
 use Rattle.typed_ir.specs.declared.arm.Arm.{Arm as Arm'}
 use Rattle.typed_ir.specs.declared.stmt.Stmt.{Stmt}
@@ -7,10 +7,11 @@ use Rattle.typed_ir.specs.declared.stmt.Stmt.TheFolds.{fold-roll-Stmt, fold_out-
 use Rattle.typed_ir.specs.declared.stmt.Stmt.TheOpen.{Stmt-F}
 use Rattle.typed_ir.specs.declared.stmt.Stmt.TheVariants.{If as If', rolls-If}
 use Rattle.typed_ir.specs.declared.typed.Typed.{Typed}
+use Rattle.typed_ir.specs.declared.span.Span.{Span}
 use Rattle.typed_ir.specs.declared.touch.Touch.{Touch}
 use Rattle.typed_ir.specs.declared.update.Update.{Update}
 use Rattle.typed_ir.specs.Valuations.{Valuation, Places, any_within}
-use Rattle.typed_ir.specs.Stmts.{SizedStmt, If, Arm, pending_at, is_legal, is_clocked, most_updates, targets}
+use Rattle.typed_ir.specs.Stmts.{SizedStmt, SizedArms, If, Arm, pending, is_legal, is_clocked, most_updates, targets, arm_targets, later_targets, later_arm_targets}
 use Rattle.typed_ir.specs.Statements.{stmt_step, arm_step, stmt_of, arm_of, item_of, sequence_of, arms_before}
 use Rattle.typed_ir.specs.Forms.{sized}
 use Rattle.typed_ir.specs.Touches.{touched, Adds}
@@ -37,11 +38,11 @@ adds_targets old mid new a b h k = record {
 }
 
 pub if_is : (c : Typed) (a b : Box Stmt Global) → stmt_of (If' c a b) ≡ If (sized c.form) (stmt_of a.value) (stmt_of b.value)
-if_is c a b = ap stmt_of (sym (rolls-If c a b)) ∙ fold-roll-Stmt SizedStmt (SizedStmt → SizedStmt) stmt_step arm_step (Stmt-F.If c a b)
+if_is c a b = ap stmt_of (sym (rolls-If c a b)) ∙ fold-roll-Stmt SizedStmt (SizedArms → SizedArms) stmt_step arm_step (Stmt-F.If c a b)
 
 -- one arm before the others
-pub arm_is : (arm : Arm') (rest : SizedStmt) → arm_of arm rest ≡ Arm (map item_of arm.items.items) (stmt_of arm.body) rest
-arm_is arm rest = ap (λ f. f rest) (fold_out-Arm SizedStmt (SizedStmt → SizedStmt) stmt_step arm_step arm)
+pub arm_is : (arm : Arm') (rest : SizedArms) → arm_of arm rest ≡ Arm (map item_of arm.items.items) (stmt_of arm.body) rest
+arm_is arm rest = ap (λ f. f rest) (fold_out-Arm SizedStmt (SizedArms → SizedArms) stmt_step arm_step arm)
 
 -- one more statement of a list
 pub rest_legal : (list : List Stmt) (k : ℕ) (x : Stmt) (ws : List ℕ) → k < length list → x ≡ get_or list k x
@@ -60,18 +61,18 @@ pub most_next : (list : List Stmt) (k : ℕ) (x : Stmt) → k < length list → 
     → most_updates (sequence_of (map stmt_of (drop k list))) ≡ most_updates (stmt_of x) + most_updates (sequence_of (map stmt_of (drop (k + 1) list)))
 most_next list k x h is = ap (λ zs. most_updates (sequence_of (map stmt_of zs))) (drop_read list k x h is)
 
-pub noted_next : (list : List Stmt) (k : ℕ) (x : Stmt) (subject : ℕ) (env : Valuation) (old mid new : List Update) → k < length list → x ≡ get_or list k x
+pub noted_next : (list : List Stmt) (k : ℕ) (x : Stmt) (env : Valuation) (old mid new : List Update) → k < length list → x ≡ get_or list k x
     → is_clocked (sequence_of (map stmt_of (drop k list))) ≡ true
-    → new ≡ mid ++ pending_at (stmt_of x) subject env
-    → mid ++ pending_at (sequence_of (map stmt_of (drop k list))) subject env ≡ old
-    → new ++ pending_at (sequence_of (map stmt_of (drop (k + 1) list))) subject env ≡ old
-noted_next list k x subject env old mid new h is clocked noted left =
+    → new ≡ mid ++ pending (stmt_of x) env
+    → mid ++ pending (sequence_of (map stmt_of (drop k list))) env ≡ old
+    → new ++ pending (sequence_of (map stmt_of (drop (k + 1) list))) env ≡ old
+noted_next list k x env old mid new h is clocked noted left =
     let rest = sequence_of (map stmt_of (drop (k + 1) list)) in
     let one : drop k list ≡ x ∷ drop (k + 1) list = drop_read list k x h is in
-    ap (λ us. us ++ pending_at rest subject env) noted
-    ∙ pending_then (stmt_of x) rest subject env mid
+    ap (λ us. us ++ pending rest env) noted
+    ∙ pending_then (stmt_of x) rest env mid
     (and_left (is_clocked (stmt_of x)) (is_clocked rest) (sym (ap (λ zs. is_clocked (sequence_of (map stmt_of zs))) one) ∙ clocked))
-    ∙ ap (λ zs. mid ++ pending_at (sequence_of (map stmt_of zs)) subject env) (sym one)
+    ∙ ap (λ zs. mid ++ pending (sequence_of (map stmt_of zs)) env) (sym one)
     ∙ left
 
 pub targets_next : (list : List Stmt) (k : ℕ) (x : Stmt) (mid new : List Touch) (s i : ℕ) → k < length list → x ≡ get_or list k x → i < 128
@@ -88,23 +89,51 @@ targets_next list k x mid new s i h is small adds =
 -- one more arm
 pub arm_targets_next : (arms : List Arm') (otherwise : SizedStmt) (k : ℕ) (x : Arm') (mid new : List Touch) (s i : ℕ) → k < length arms → x ≡ get_or arms k x
     → i < 128 → Adds mid new (any_within (targets (stmt_of x.body)))
-    → (touched new s i || any_within (targets (arms_before (map arm_of (drop (k + 1) arms)) otherwise)) s i)
-    ≡ (touched mid s i || any_within (targets (arms_before (map arm_of (drop k arms)) otherwise)) s i)
+    → (touched new s i || any_within (arm_targets (arms_before (map arm_of (drop (k + 1) arms)) otherwise)) s i)
+    ≡ (touched mid s i || any_within (arm_targets (arms_before (map arm_of (drop k arms)) otherwise)) s i)
 arm_targets_next arms otherwise k x mid new s i h is small adds =
     let rest = arms_before (map arm_of (drop (k + 1) arms)) otherwise in
-    ap (λ b. b || any_within (targets rest) s i) (adds.says s i small)
-    ∙ or_assoc (touched mid s i) (any_within (targets (stmt_of x.body)) s i) (any_within (targets rest) s i)
-    ∙ ap (λ b. touched mid s i || b) (sym (both_spans (targets (stmt_of x.body)) (targets rest) s i))
-    ∙ ap (λ st. touched mid s i || any_within (targets st) s i) (sym (arm_is x rest))
-    ∙ ap (λ zs. touched mid s i || any_within (targets (arms_before (map arm_of zs) otherwise)) s i) (sym (drop_read arms k x h is))
+    ap (λ b. b || any_within (arm_targets rest) s i) (adds.says s i small)
+    ∙ or_assoc (touched mid s i) (any_within (targets (stmt_of x.body)) s i) (any_within (arm_targets rest) s i)
+    ∙ ap (λ b. touched mid s i || b) (sym (both_spans (targets (stmt_of x.body)) (arm_targets rest) s i))
+    ∙ ap (λ a. touched mid s i || any_within (arm_targets a) s i) (sym (arm_is x rest))
+    ∙ ap (λ zs. touched mid s i || any_within (arm_targets (arms_before (map arm_of zs) otherwise)) s i) (sym (drop_read arms k x h is))
 
 -- after all arms, the default
-pub arms_done : (places : SizedStmt → Places) (arms : List Arm') (otherwise : SizedStmt) (k : ℕ) (old mid new : List Touch) → length arms ≤ k
-    → ((s i : ℕ) → i < 128 → (touched mid s i || places (arms_before (map arm_of (drop k arms)) otherwise) s i)
-    ≡ (touched old s i || places (arms_before (map arm_of arms) otherwise) s i))
-    → Adds mid new (places otherwise) → Adds old new (places (arms_before (map arm_of arms) otherwise))
-arms_done places arms otherwise k old mid new h left adds = record {
+pub arms_done : (places : SizedStmt → Places) (arm_places : SizedArms → Places) (arms : List Arm') (otherwise : SizedStmt) (k : ℕ) (old mid new : List Touch)
+    → length arms ≤ k
+    → ((s i : ℕ) → i < 128 → (touched mid s i || arm_places (arms_before (map arm_of (drop k arms)) otherwise) s i)
+    ≡ (touched old s i || arm_places (arms_before (map arm_of arms) otherwise) s i))
+    → ((s i : ℕ) → arm_places (arms_before [] otherwise) s i ≡ places otherwise s i)
+    → Adds mid new (places otherwise) → Adds old new (arm_places (arms_before (map arm_of arms) otherwise))
+arms_done places arm_places arms otherwise k old mid new h left last adds = record {
   says = λ s i small. adds.says s i small
-      ∙ sym (at_drop_all (λ (zs : List Arm'). touched mid s i || places (arms_before (map arm_of zs) otherwise) s i) arms k h)
+      ∙ ap (λ b. touched mid s i || b) (sym (last s i))
+      ∙ sym (at_drop_all (λ (zs : List Arm'). touched mid s i || arm_places (arms_before (map arm_of zs) otherwise) s i) arms k h)
       ∙ left s i small;
 }
+
+-- ---- what is written later
+
+pub later_next : (list : List Stmt) (k : ℕ) (x : Stmt) (mid new : List Span) → k < length list → x ≡ get_or list k x
+    → new ≡ mid ++ later_targets (stmt_of x)
+    → new ++ later_targets (sequence_of (map stmt_of (drop (k + 1) list))) ≡ mid ++ later_targets (sequence_of (map stmt_of (drop k list)))
+later_next list k x mid new h is more =
+    let rest = sequence_of (map stmt_of (drop (k + 1) list)) in
+    ap (λ us. us ++ later_targets rest) more ∙ append_assoc mid (later_targets (stmt_of x)) (later_targets rest)
+    ∙ ap (λ zs. mid ++ later_targets (sequence_of (map stmt_of zs))) (sym (drop_read list k x h is))
+
+pub later_arm_next : (arms : List Arm') (otherwise : SizedStmt) (k : ℕ) (x : Arm') (mid new : List Span) → k < length arms → x ≡ get_or arms k x
+    → new ≡ mid ++ later_targets (stmt_of x.body)
+    → new ++ later_arm_targets (arms_before (map arm_of (drop (k + 1) arms)) otherwise) ≡ mid ++ later_arm_targets (arms_before (map arm_of (drop k arms)) otherwise)
+later_arm_next arms otherwise k x mid new h is more =
+    let rest = arms_before (map arm_of (drop (k + 1) arms)) otherwise in
+    ap (λ us. us ++ later_arm_targets rest) more ∙ append_assoc mid (later_targets (stmt_of x.body)) (later_arm_targets rest)
+    ∙ ap (λ a. mid ++ later_arm_targets a) (sym (arm_is x rest))
+    ∙ ap (λ zs. mid ++ later_arm_targets (arms_before (map arm_of zs) otherwise)) (sym (drop_read arms k x h is))
+
+pub later_arms_done : (arms : List Arm') (otherwise : SizedStmt) (k : ℕ) (old mid new : List Span) → length arms ≤ k
+    → mid ++ later_arm_targets (arms_before (map arm_of (drop k arms)) otherwise) ≡ old ++ later_arm_targets (arms_before (map arm_of arms) otherwise)
+    → new ≡ mid ++ later_targets otherwise → new ≡ old ++ later_arm_targets (arms_before (map arm_of arms) otherwise)
+later_arms_done arms otherwise k old mid new h left is =
+    is ∙ sym (at_drop_all (λ (zs : List Arm'). mid ++ later_arm_targets (arms_before (map arm_of zs) otherwise)) arms k h) ∙ left

@@ -9,10 +9,11 @@ use Rattle.bits.proofs.Runs.{bit_at-shr, bit_at-mod_in, bit_at-mod_out}
 use Rattle.typed_ir.specs.declared.span.Span.{Span}
 use Rattle.typed_ir.specs.declared.lane.Lane.{Lane}
 use Rattle.typed_ir.specs.declared.reach.Reach.{Reach}
+use Rattle.typed_ir.specs.declared.target_form.TargetForm.{TargetForm}
 use Rattle.typed_ir.specs.declared.update.Update.{Update}
 use Rattle.typed_ir.specs.Valuations.{Valuation, Places, look, placed, within, any_within, nowhere, Same}
 use Rattle.typed_ir.specs.Sized.{Sized, Constant, Name, Part, Pick, Unary, Binary, Choice, Concat, Repeat, Resized, value_of, width_of, apply_unary, apply_binary, place_of, copies, reads}
-use Rattle.typed_ir.specs.Stmts.{SizedTarget, Fixed, Moving, SizedItem, SizedStmt, Skip, Assign, Later, Then, If, Case, Arm, moved, all_applied, update_of, written, matches_item, matches_any, exec, exec_at, span_of, targets, certain, known_after, index_reads, item_reads, open_reads}
+use Rattle.typed_ir.specs.Stmts.{SizedTarget, Fixed, Moving, SizedItem, SizedStmt, SizedArms, Skip, Assign, Later, Then, If, Case, Arm, Default, moved, all_applied, update_of, written, matches_item, matches_any, exec, exec_arms, span_of, targets, arm_targets, certain, known_after, known_after_arms, index_reads, open_indices, item_reads, open_reads, open_arm_reads}
 use Rattle.typed_ir.specs.Nodes.{FlatNode, Drive, Block, spread, lane_spans, copied, drive, node_drives, node_reads, IsComplete}
 use Rattle.typed_ir.specs.Orders.{NodeLaws}
 use Rattle.typed_ir.proofs.Cases.{by_cases, or_left, or_right, or_both, left_or, right_or, and_left, and_right, and_both, cond_same}
@@ -80,68 +81,64 @@ update_local (Moving reach index) x y v w e h =
     ap₂ (λ n z. moved reach (place_of reach.below reach.signed (width_of index) n) (z / 2 ^ reach.shift))
     (value_local index v w (λ s i r. h s i (left_or (reads index s i) false r))) e
 
--- the indices of the first part, and of the others
-first_index : (t : SizedTarget) (ts : List SizedTarget) (s i : ℕ) → index_reads (t ∷ []) s i ≡ true → index_reads (t ∷ ts) s i ≡ true
-first_index (Fixed lane) ts s i h = absurd (true≢false (sym h))
-first_index (Moving reach index) ts s i h =
-    left_or (reads index s i) (index_reads ts s i)
-    (by_cases (reads index s i) (λ yes. yes) (λ no. absurd (true≢false (sym h ∙ or_both (reads index s i) false no refl))))
-
-other_index : (t : SizedTarget) (ts : List SizedTarget) (s i : ℕ) → index_reads ts s i ≡ true → index_reads (t ∷ ts) s i ≡ true
-other_index (Fixed lane) ts s i h = h
-other_index (Moving reach index) ts s i h = right_or (reads index s i) (index_reads ts s i) h
-
--- the same value written to the same parts keeps the same bits the same
-pub written_same : (ts : List SizedTarget) (x y : ℕ) (A : Places) (v w : Valuation) → x ≡ y → Same (index_reads ts) v w → Same A v w
-    → Same A (written ts x v) (written ts y w)
-written_same [] x y A v w e h k = k
-written_same (t ∷ ts) x y A v w e h k =
-    let us = update_of t x v in
-    let same : us ≡ update_of t y w = update_local t x y v w e (λ s i r. h s i (first_index t ts s i r)) in
-    λ s i a. written_same ts x y A (all_applied us v) (all_applied us w) e
-    (applied_same us (index_reads ts) v w (λ s' i' r. h s' i' (other_index t ts s' i' r))) (applied_same us A v w k) s i a
-    ∙ ap (λ z. look (written ts y (all_applied z w)) s i) same
-
--- and makes those the same that are written for certain
-pub written_certain : (ts : List SizedTarget) (x y : ℕ) (A : Places) (v w : Valuation) → x ≡ y → Same (index_reads ts) v w → Same A v w
-    → Same (λ s i. A s i || certain ts s i) (written ts x v) (written ts y w)
-written_certain [] x y A v w e h k s i a =
-    k s i (by_cases (A s i) (λ yes. yes) (λ no. absurd (true≢false (sym a ∙ or_both (A s i) false no refl))))
-written_certain (Fixed lane ∷ ts) x y A v w e h k s i a =
-    let us = update_of (Fixed lane) x v in
-    let same : us ≡ update_of (Fixed lane) y w = update_local (Fixed lane) x y v w e (λ s' i' r. absurd (true≢false (sym r))) in
-    written_certain ts x y (λ s' i'. A s' i' || within lane.span s' i') (all_applied us v) (all_applied us w) e
-    (applied_same us (index_reads ts) v w h) (lane_certain lane.span (x / 2 ^ lane.shift) A v w k) s i
-    (sym (or_assoc (A s i) (within lane.span s i) (certain ts s i)) ∙ a)
-    ∙ ap (λ z. look (written ts y (all_applied z w)) s i) same
-  where
-    lane_certain : (p : Span) (z : ℕ) (A : Places) (v w : Valuation) → Same A v w
-        → Same (λ s i. A s i || within p s i) (placed p z v) (placed p z w)
-    lane_certain p z A v w k s i a =
-        by_cases (within p s i)
-        (λ inside. placed-inside p z v s i inside ∙ sym (placed-inside p z w s i inside))
-        (λ outside. placed-outside p z v s i outside
-        ∙ by_cases (A s i) (k s i) (λ no. absurd (true≢false (sym a ∙ or_both (A s i) (within p s i) no outside)))
-        ∙ sym (placed-outside p z w s i outside))
-
-    or_assoc : (a b c : Bool) → (a || (b || c)) ≡ ((a || b) || c)
-    or_assoc true b c = refl
-    or_assoc false b c = refl
-written_certain (Moving reach index ∷ ts) x y A v w e h k s i a =
-    let us = update_of (Moving reach index) x v in
-    let same : us ≡ update_of (Moving reach index) y w =
-    update_local (Moving reach index) x y v w e (λ s' i' r. h s' i' (first_index (Moving reach index) ts s' i' r)) in
-    written_certain ts x y A (all_applied us v) (all_applied us w) e
-    (applied_same us (index_reads ts) v w (λ s' i' r. h s' i' (other_index (Moving reach index) ts s' i' r))) (applied_same us A v w k) s i a
-    ∙ ap (λ z. look (written ts y (all_applied z w)) s i) same
-
--- ---- statements
-
 -- what is read is known or read openly
 pub read_same : (A known : Places) (B : Places) (v w : Valuation) → ((s i : ℕ) → (A s i && not (known s i)) ≡ true → B s i ≡ true)
     → Same known v w → Same B v w → Same A v w
 read_same A known B v w sub hk hb s i a =
     by_cases (known s i) (hk s i) (λ no. hb s i (sub s i (and_both (A s i) (not (known s i)) a (ap not no))))
+
+or_none : (a : Bool) → (a || false) ≡ true → a ≡ true
+or_none true h = refl
+or_none false h = h
+
+or_assoc : (a b c : Bool) → (a || (b || c)) ≡ ((a || b) || c)
+or_assoc true b c = refl
+or_assoc false b c = refl
+
+-- the bits of a part become known
+lane_certain : (p : Span) (z : ℕ) (A : Places) (v w : Valuation) → Same A v w
+    → Same (λ s i. A s i || within p s i) (placed p z v) (placed p z w)
+lane_certain p z A v w k s i a =
+    by_cases (within p s i)
+    (λ inside. placed-inside p z v s i inside ∙ sym (placed-inside p z w s i inside))
+    (λ outside. placed-outside p z v s i outside
+    ∙ by_cases (A s i) (k s i) (λ no. absurd (true≢false (sym a ∙ or_both (A s i) (within p s i) no outside)))
+    ∙ sym (placed-outside p z w s i outside))
+
+-- the same value written to the same parts makes those bits the same that are written for certain, and keeps bits B the same, where
+-- all that the indices read openly is among B
+pub written_local : (ts : List SizedTarget) (x y : ℕ) (known B : Places) (v w : Valuation) → x ≡ y
+    → ((s i : ℕ) → open_indices ts known s i ≡ true → B s i ≡ true) → Same known v w → Same B v w
+    → Same (λ s i. known s i || certain ts s i) (written ts x v) (written ts y w) × Same B (written ts x v) (written ts y w)
+written_local [] x y known B v w e sub hk hb = (λ s i a. hk s i (or_none (known s i) a), hb)
+written_local (Fixed lane ∷ ts) x y known B v w e sub hk hb =
+    let us = update_of (Fixed lane) x v in
+    let more : Places = λ s i. known s i || within lane.span s i in
+    let same : us ≡ update_of (Fixed lane) y w = update_local (Fixed lane) x y v w e (λ s i r. absurd (true≢false (sym r))) in
+    let both : Same (λ s i. more s i || certain ts s i) (written ts x (all_applied us v)) (written ts y (all_applied us w))
+    × Same B (written ts x (all_applied us v)) (written ts y (all_applied us w)) =
+    written_local ts x y more B (all_applied us v) (all_applied us w) e sub
+    (lane_certain lane.span (x / 2 ^ lane.shift) known v w hk) (applied_same us B v w hb) in (
+      (λ s i a. both.0 s i (sym (or_assoc (known s i) (within lane.span s i) (certain ts s i)) ∙ a)
+          ∙ ap (λ z. look (written ts y (all_applied z w)) s i) same),
+      (λ s i a. both.1 s i a ∙ ap (λ z. look (written ts y (all_applied z w)) s i) same),
+    )
+written_local (Moving reach index ∷ ts) x y known B v w e sub hk hb =
+    let us = update_of (Moving reach index) x v in
+    let read : Same (reads index) v w = read_same (reads index) known B v w
+    (λ s i r. sub s i (left_or (reads index s i && not (known s i)) (open_indices ts known s i) r)) hk hb in
+    let same : us ≡ update_of (Moving reach index) y w =
+    update_local (Moving reach index) x y v w e (λ s i r. read s i (or_none (reads index s i) r)) in
+    let both : Same (λ s i. known s i || certain ts s i) (written ts x (all_applied us v)) (written ts y (all_applied us w))
+    × Same B (written ts x (all_applied us v)) (written ts y (all_applied us w)) =
+    written_local ts x y known B (all_applied us v) (all_applied us w) e
+    (λ s i r. sub s i (right_or (reads index s i && not (known s i)) (open_indices ts known s i) r))
+    (applied_same us known v w hk) (applied_same us B v w hb) in (
+      (λ s i a. both.0 s i a ∙ ap (λ z. look (written ts y (all_applied z w)) s i) same),
+      (λ s i a. both.1 s i a ∙ ap (λ z. look (written ts y (all_applied z w)) s i) same),
+    )
+
+-- ---- statements
 
 pub if_same : (A : Places) (s t : Bool) (x y x' y' : Valuation) → s ≡ t → Same A x x' → Same A y y' → Same A (cond s x y) (cond t x' y')
 if_same A true true x y x' y' e h k = h
@@ -159,73 +156,72 @@ items_local subject (x ∷ xs) v w h =
     (items_local subject xs v w (λ s i r. h s i (right_or (reads x.item s i) (item_reads xs s i) r)))
 
 -- bits written for certain, and bits B, stay the same where all that is read openly is among B
-pub exec_local : (st : SizedStmt) (subject : ℕ) (known B : Places) (v w : Valuation) → ((s i : ℕ) → open_reads st known s i ≡ true → B s i ≡ true)
-    → Same known v w → Same B v w → Same (known_after st known) (exec_at st subject v) (exec_at st subject w) × Same B (exec_at st subject v) (exec_at st subject w)
-exec_local Skip subject known B v w sub hk hb = (hk, hb)
-exec_local (Later parts e) subject known B v w sub hk hb = (hk, hb)
-exec_local (Assign parts e) subject known B v w sub hk hb =
-    let all : Same (λ s i. reads e s i || index_reads parts s i) v w =
-    read_same (λ s i. reads e s i || index_reads parts s i) known B v w sub hk hb in
-    let same : value_of e v ≡ value_of e w = value_local e v w (λ s i r. all s i (left_or (reads e s i) (index_reads parts s i) r)) in
-    let indices : Same (index_reads parts) v w = λ s i r. all s i (right_or (reads e s i) (index_reads parts s i) r) in (
-      written_certain parts (value_of e v) (value_of e w) known v w same indices hk,
-      written_same parts (value_of e v) (value_of e w) B v w same indices hb,
-    )
-exec_local (Then a b) subject known B v w sub hk hb =
-    let first : Same (known_after a known) (exec_at a subject v) (exec_at a subject w) × Same B (exec_at a subject v) (exec_at a subject w) =
-    exec_local a subject known B v w (λ s i r. sub s i (left_or (open_reads a known s i) (open_reads b (known_after a known) s i) r)) hk hb in
-    exec_local b subject (known_after a known) B (exec_at a subject v) (exec_at a subject w)
-    (λ s i r. sub s i (right_or (open_reads a known s i) (open_reads b (known_after a known) s i) r)) first.0 first.1
-exec_local (If c a b) subject known B v w sub hk hb =
-    let test : (value_of c v == 0) ≡ (value_of c w == 0) = ap (λ n. n == 0) (value_local c v w (read_same (reads c) known B v w
-    (λ s i r. sub s i (left_or (reads c s i && not (known s i)) (open_reads a known s i || open_reads b known s i) r)) hk hb)) in
-    let yes : Same (known_after a known) (exec_at a subject v) (exec_at a subject w) × Same B (exec_at a subject v) (exec_at a subject w) =
-    exec_local a subject known B v w (λ s i r. sub s i (right_or (reads c s i && not (known s i)) (open_reads a known s i || open_reads b known s i)
-    (left_or (open_reads a known s i) (open_reads b known s i) r))) hk hb in
-    let no : Same (known_after b known) (exec_at b subject v) (exec_at b subject w) × Same B (exec_at b subject v) (exec_at b subject w) =
-    exec_local b subject known B v w (λ s i r. sub s i (right_or (reads c s i && not (known s i)) (open_reads a known s i || open_reads b known s i)
-    (right_or (open_reads a known s i) (open_reads b known s i) r))) hk hb in (
-      if_same (λ s i. known_after a known s i && known_after b known s i) (value_of c v == 0) (value_of c w == 0)
-          (exec_at b subject v) (exec_at a subject v) (exec_at b subject w) (exec_at a subject w) test
-          (λ s i k. no.0 s i (and_right (known_after a known s i) (known_after b known s i) k))
-          (λ s i k. yes.0 s i (and_left (known_after a known s i) (known_after b known s i) k)),
-      if_same B (value_of c v == 0) (value_of c w == 0) (exec_at b subject v) (exec_at a subject v) (exec_at b subject w) (exec_at a subject w) test no.1 yes.1,
-    )
-exec_local (Case e arms) subject known B v w sub hk hb =
-    let same : value_of e v ≡ value_of e w = value_local e v w (read_same (reads e) known B v w
-    (λ s i r. sub s i (left_or (reads e s i && not (known s i)) (open_reads arms known s i) r)) hk hb) in
-    let inner : Same (known_after arms known) (exec_at arms (value_of e v) v) (exec_at arms (value_of e v) w)
-    × Same B (exec_at arms (value_of e v) v) (exec_at arms (value_of e v) w) =
-    exec_local arms (value_of e v) known B v w
-    (λ s i r. sub s i (right_or (reads e s i && not (known s i)) (open_reads arms known s i) r)) hk hb in (
-      (λ s i a. inner.0 s i a ∙ ap (λ n. look (exec_at arms n w) s i) same),
-      (λ s i a. inner.1 s i a ∙ ap (λ n. look (exec_at arms n w) s i) same),
-    )
-exec_local (Arm items body rest) subject known B v w sub hk hb =
-    let test : matches_any subject items v ≡ matches_any subject items w = items_local subject items v w (read_same (item_reads items) known B v w
-    (λ s i r. sub s i (left_or (item_reads items s i && not (known s i)) (open_reads body known s i || open_reads rest known s i) r)) hk hb) in
-    let yes : Same (known_after body known) (exec_at body subject v) (exec_at body subject w) × Same B (exec_at body subject v) (exec_at body subject w) =
-    exec_local body subject known B v w (λ s i r. sub s i (right_or (item_reads items s i && not (known s i)) (open_reads body known s i || open_reads rest known s i)
-    (left_or (open_reads body known s i) (open_reads rest known s i) r))) hk hb in
-    let no : Same (known_after rest known) (exec_at rest subject v) (exec_at rest subject w) × Same B (exec_at rest subject v) (exec_at rest subject w) =
-    exec_local rest subject known B v w (λ s i r. sub s i (right_or (item_reads items s i && not (known s i)) (open_reads body known s i || open_reads rest known s i)
-    (right_or (open_reads body known s i) (open_reads rest known s i) r))) hk hb in (
-      if_same (λ s i. known_after body known s i && known_after rest known s i) (matches_any subject items v) (matches_any subject items w)
-          (exec_at body subject v) (exec_at rest subject v) (exec_at body subject w) (exec_at rest subject w) test
-          (λ s i k. yes.0 s i (and_left (known_after body known s i) (known_after rest known s i) k))
-          (λ s i k. no.0 s i (and_right (known_after body known s i) (known_after rest known s i) k)),
-      if_same B (matches_any subject items v) (matches_any subject items w) (exec_at body subject v) (exec_at rest subject v) (exec_at body subject w) (exec_at rest subject w) test yes.1 no.1,
-    )
+mutual
+  pub exec_local : (st : SizedStmt) (known B : Places) (v w : Valuation) → ((s i : ℕ) → open_reads st known s i ≡ true → B s i ≡ true)
+      → Same known v w → Same B v w → Same (known_after st known) (exec st v) (exec st w) × Same B (exec st v) (exec st w)
+  exec_local Skip known B v w sub hk hb = (hk, hb)
+  exec_local (Later parts e) known B v w sub hk hb = (hk, hb)
+  exec_local (Assign parts e) known B v w sub hk hb =
+      let same : value_of e v ≡ value_of e w = value_local e v w (read_same (reads e) known B v w
+      (λ s i r. sub s i (left_or (reads e s i && not (known s i)) (open_indices parts known s i) r)) hk hb) in
+      written_local parts (value_of e v) (value_of e w) known B v w same
+      (λ s i r. sub s i (right_or (reads e s i && not (known s i)) (open_indices parts known s i) r)) hk hb
+  exec_local (Then a b) known B v w sub hk hb =
+      let first : Same (known_after a known) (exec a v) (exec a w) × Same B (exec a v) (exec a w) =
+      exec_local a known B v w (λ s i r. sub s i (left_or (open_reads a known s i) (open_reads b (known_after a known) s i) r)) hk hb in
+      exec_local b (known_after a known) B (exec a v) (exec a w)
+      (λ s i r. sub s i (right_or (open_reads a known s i) (open_reads b (known_after a known) s i) r)) first.0 first.1
+  exec_local (If c a b) known B v w sub hk hb =
+      let test : (value_of c v == 0) ≡ (value_of c w == 0) = ap (λ n. n == 0) (value_local c v w (read_same (reads c) known B v w
+      (λ s i r. sub s i (left_or (reads c s i && not (known s i)) (open_reads a known s i || open_reads b known s i) r)) hk hb)) in
+      let yes : Same (known_after a known) (exec a v) (exec a w) × Same B (exec a v) (exec a w) =
+      exec_local a known B v w (λ s i r. sub s i (right_or (reads c s i && not (known s i)) (open_reads a known s i || open_reads b known s i)
+      (left_or (open_reads a known s i) (open_reads b known s i) r))) hk hb in
+      let no : Same (known_after b known) (exec b v) (exec b w) × Same B (exec b v) (exec b w) =
+      exec_local b known B v w (λ s i r. sub s i (right_or (reads c s i && not (known s i)) (open_reads a known s i || open_reads b known s i)
+      (right_or (open_reads a known s i) (open_reads b known s i) r))) hk hb in (
+        if_same (λ s i. known_after a known s i && known_after b known s i) (value_of c v == 0) (value_of c w == 0)
+            (exec b v) (exec a v) (exec b w) (exec a w) test
+            (λ s i k. no.0 s i (and_right (known_after a known s i) (known_after b known s i) k))
+            (λ s i k. yes.0 s i (and_left (known_after a known s i) (known_after b known s i) k)),
+        if_same B (value_of c v == 0) (value_of c w == 0) (exec b v) (exec a v) (exec b w) (exec a w) test no.1 yes.1,
+      )
+  exec_local (Case e arms) known B v w sub hk hb =
+      let same : value_of e v ≡ value_of e w = value_local e v w (read_same (reads e) known B v w
+      (λ s i r. sub s i (left_or (reads e s i && not (known s i)) (open_arm_reads arms known s i) r)) hk hb) in
+      let inner : Same (known_after_arms arms known) (exec_arms arms (value_of e v) v) (exec_arms arms (value_of e v) w)
+      × Same B (exec_arms arms (value_of e v) v) (exec_arms arms (value_of e v) w) =
+      exec_arms_local arms (value_of e v) known B v w
+      (λ s i r. sub s i (right_or (reads e s i && not (known s i)) (open_arm_reads arms known s i) r)) hk hb in (
+        (λ s i a. inner.0 s i a ∙ ap (λ n. look (exec_arms arms n w) s i) same),
+        (λ s i a. inner.1 s i a ∙ ap (λ n. look (exec_arms arms n w) s i) same),
+      )
+
+  exec_arms_local : (arms : SizedArms) (subject : ℕ) (known B : Places) (v w : Valuation) → ((s i : ℕ) → open_arm_reads arms known s i ≡ true → B s i ≡ true)
+      → Same known v w → Same B v w
+      → Same (known_after_arms arms known) (exec_arms arms subject v) (exec_arms arms subject w) × Same B (exec_arms arms subject v) (exec_arms arms subject w)
+  exec_arms_local (Arm items body rest) subject known B v w sub hk hb =
+      let test : matches_any subject items v ≡ matches_any subject items w = items_local subject items v w (read_same (item_reads items) known B v w
+      (λ s i r. sub s i (left_or (item_reads items s i && not (known s i)) (open_reads body known s i || open_arm_reads rest known s i) r)) hk hb) in
+      let yes : Same (known_after body known) (exec body v) (exec body w) × Same B (exec body v) (exec body w) =
+      exec_local body known B v w (λ s i r. sub s i (right_or (item_reads items s i && not (known s i)) (open_reads body known s i || open_arm_reads rest known s i)
+      (left_or (open_reads body known s i) (open_arm_reads rest known s i) r))) hk hb in
+      let no : Same (known_after_arms rest known) (exec_arms rest subject v) (exec_arms rest subject w) × Same B (exec_arms rest subject v) (exec_arms rest subject w) =
+      exec_arms_local rest subject known B v w (λ s i r. sub s i (right_or (item_reads items s i && not (known s i)) (open_reads body known s i || open_arm_reads rest known s i)
+      (right_or (open_reads body known s i) (open_arm_reads rest known s i) r))) hk hb in (
+        if_same (λ s i. known_after body known s i && known_after_arms rest known s i) (matches_any subject items v) (matches_any subject items w)
+            (exec body v) (exec_arms rest subject v) (exec body w) (exec_arms rest subject w) test
+            (λ s i k. yes.0 s i (and_left (known_after body known s i) (known_after_arms rest known s i) k))
+            (λ s i k. no.0 s i (and_right (known_after body known s i) (known_after_arms rest known s i) k)),
+        if_same B (matches_any subject items v) (matches_any subject items w) (exec body v) (exec_arms rest subject v) (exec body w) (exec_arms rest subject w) test yes.1 no.1,
+      )
+  exec_arms_local (Default otherwise) subject known B v w sub hk hb = exec_local otherwise known B v w sub hk hb
 
 -- spans of two lists
 pub any_within-append : (xs ys : List Span) (s i : ℕ) → any_within (xs ++ ys) s i ≡ (any_within xs s i || any_within ys s i)
 any_within-append [] ys s i = refl
 any_within-append (x ∷ xs) ys s i =
     ap (λ t. within x s i || t) (any_within-append xs ys s i) ∙ or_assoc (within x s i) (any_within xs s i) (any_within ys s i)
-  where
-    or_assoc : (a b c : Bool) → (a || (b || c)) ≡ ((a || b) || c)
-    or_assoc true b c = refl
-    or_assoc false b c = refl
 
 pub first_of_two : (xs ys : List Span) (s i : ℕ) → any_within (xs ++ ys) s i ≡ false → any_within xs s i ≡ false
 first_of_two xs ys s i h = or_left (any_within xs s i) (any_within ys s i) (sym (any_within-append xs ys s i) ∙ h)
@@ -280,21 +276,26 @@ written_outside (t ∷ ts) x env s i h =
     written_outside ts x (all_applied (update_of t x env) env) s i (or_right (within (span_of t) s i) (any_within (map span_of ts) s i) h)
     ∙ update_outside t x env env s i (or_left (within (span_of t) s i) (any_within (map span_of ts) s i) h)
 
-pub exec_outside : (st : SizedStmt) (subject : ℕ) (env : Valuation) (s i : ℕ) → any_within (targets st) s i ≡ false → look (exec_at st subject env) s i ≡ look env s i
-exec_outside Skip subject env s i h = refl
-exec_outside (Later parts e) subject env s i h = refl
-exec_outside (Assign parts e) subject env s i h = written_outside parts (value_of e env) env s i h
-exec_outside (Then a b) subject env s i h =
-    exec_outside b subject (exec_at a subject env) s i (second_of_two (targets a) (targets b) s i h) ∙ exec_outside a subject env s i (first_of_two (targets a) (targets b) s i h)
-exec_outside (If c a b) subject env s i h =
-    by_cases (value_of c env == 0)
-    (λ t. ap (λ e. look e s i) (cond-true (value_of c env == 0) (exec_at b subject env) (exec_at a subject env) t) ∙ exec_outside b subject env s i (second_of_two (targets a) (targets b) s i h))
-    (λ t. ap (λ e. look e s i) (cond-false (value_of c env == 0) (exec_at b subject env) (exec_at a subject env) t) ∙ exec_outside a subject env s i (first_of_two (targets a) (targets b) s i h))
-exec_outside (Case e arms) subject env s i h = exec_outside arms (value_of e env) env s i h
-exec_outside (Arm items body rest) subject env s i h =
-    by_cases (matches_any subject items env)
-    (λ t. ap (λ e. look e s i) (cond-true (matches_any subject items env) (exec_at body subject env) (exec_at rest subject env) t) ∙ exec_outside body subject env s i (first_of_two (targets body) (targets rest) s i h))
-    (λ t. ap (λ e. look e s i) (cond-false (matches_any subject items env) (exec_at body subject env) (exec_at rest subject env) t) ∙ exec_outside rest subject env s i (second_of_two (targets body) (targets rest) s i h))
+mutual
+  pub exec_outside : (st : SizedStmt) (env : Valuation) (s i : ℕ) → any_within (targets st) s i ≡ false → look (exec st env) s i ≡ look env s i
+  exec_outside Skip env s i h = refl
+  exec_outside (Later parts e) env s i h = refl
+  exec_outside (Assign parts e) env s i h = written_outside parts (value_of e env) env s i h
+  exec_outside (Then a b) env s i h =
+      exec_outside b (exec a env) s i (second_of_two (targets a) (targets b) s i h) ∙ exec_outside a env s i (first_of_two (targets a) (targets b) s i h)
+  exec_outside (If c a b) env s i h =
+      by_cases (value_of c env == 0)
+      (λ t. ap (λ e. look e s i) (cond-true (value_of c env == 0) (exec b env) (exec a env) t) ∙ exec_outside b env s i (second_of_two (targets a) (targets b) s i h))
+      (λ t. ap (λ e. look e s i) (cond-false (value_of c env == 0) (exec b env) (exec a env) t) ∙ exec_outside a env s i (first_of_two (targets a) (targets b) s i h))
+  exec_outside (Case e arms) env s i h = exec_arms_outside arms (value_of e env) env s i h
+
+  exec_arms_outside : (arms : SizedArms) (subject : ℕ) (env : Valuation) (s i : ℕ) → any_within (arm_targets arms) s i ≡ false
+      → look (exec_arms arms subject env) s i ≡ look env s i
+  exec_arms_outside (Arm items body rest) subject env s i h =
+      by_cases (matches_any subject items env)
+      (λ t. ap (λ e. look e s i) (cond-true (matches_any subject items env) (exec body env) (exec_arms rest subject env) t) ∙ exec_outside body env s i (first_of_two (targets body) (arm_targets rest) s i h))
+      (λ t. ap (λ e. look e s i) (cond-false (matches_any subject items env) (exec body env) (exec_arms rest subject env) t) ∙ exec_arms_outside rest subject env s i (second_of_two (targets body) (arm_targets rest) s i h))
+  exec_arms_outside (Default otherwise) subject env s i h = exec_outside otherwise env s i h
 
 -- ---- nodes
 
@@ -342,25 +343,25 @@ copied_inside (p ∷ ps) from env s i h =
 pub drive_local : (k : FlatNode) (v w env env' : Valuation) → IsComplete k → Same (node_reads k) v w
     → (s i : ℕ) → node_drives k s i ≡ true → look (drive k v env) s i ≡ look (drive k w env') s i
 unfolding drive node_drives node_reads IsComplete
-drive_local (Drive lanes e) v w env env' c h s i d =
+drive_local (Drive form lanes e) v w env env' c h s i d =
     spread_inside lanes (value_of e v) env env' s i d ∙ ap (λ x. look (spread lanes x env') s i) (value_local e v w h)
-drive_local (Block body) v w env env' c h s i d =
+drive_local (Block form body) v w env env' c h s i d =
     copied_inside (targets body) (exec body v) env s i d
-    ∙ (exec_local body 0 nowhere (open_reads body nowhere) v w (λ t j r. r) (λ t j r. absurd (true≢false (sym r))) h).0 s i (c s i d)
+    ∙ (exec_local body nowhere (open_reads body nowhere) v w (λ t j r. r) (λ t j r. absurd (true≢false (sym r))) h).0 s i (c s i d)
     ∙ sym (copied_inside (targets body) (exec body w) env' s i d)
 
 pub drive_outside : (k : FlatNode) (v env : Valuation) (s i : ℕ) → node_drives k s i ≡ false → look (drive k v env) s i ≡ look env s i
 unfolding drive node_drives
-drive_outside (Drive lanes e) v env s i d = spread_outside lanes (value_of e v) env s i d
-drive_outside (Block body) v env s i d = copied_outside (targets body) (exec body v) env s i d
+drive_outside (Drive form lanes e) v env s i d = spread_outside lanes (value_of e v) env s i d
+drive_outside (Block form body) v env s i d = copied_outside (targets body) (exec body v) env s i d
 
 pub node_laws : NodeLaws node_drives node_reads drive IsComplete
 node_laws = record { local = drive_local; outside = drive_outside }
 
 -- a block may run in place
-pub block_in_place : (body : SizedStmt) (env : Valuation) → drive (Block body) env env ≡ exec body env
+pub block_in_place : (form : TargetForm) (body : SizedStmt) (env : Valuation) → drive (Block form body) env env ≡ exec body env
 unfolding drive
-block_in_place body env = same_valuation (copied (targets body) (exec body env) env) (exec body env) (λ s i.
+block_in_place form body env = same_valuation (copied (targets body) (exec body env) env) (exec body env) (λ s i.
     by_cases (any_within (targets body) s i)
     (λ inside. copied_inside (targets body) (exec body env) env s i inside)
-    (λ outside. copied_outside (targets body) (exec body env) env s i outside ∙ sym (exec_outside body 0 env s i outside)))
+    (λ outside. copied_outside (targets body) (exec body env) env s i outside ∙ sym (exec_outside body env s i outside)))

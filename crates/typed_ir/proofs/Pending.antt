@@ -6,31 +6,35 @@ use Rattle.typed_ir.specs.declared.reach.Reach.{Reach}
 use Rattle.typed_ir.specs.declared.update.Update.{Update}
 use Rattle.typed_ir.specs.Valuations.{Valuation}
 use Rattle.typed_ir.specs.Sized.{value_of, width_of, place_of, is_span, is_signal, is_width}
-use Rattle.typed_ir.specs.Stmts.{SizedTarget, Fixed, Moving, SizedStmt, Skip, Assign, Later, Then, If, Case, Arm, moved, update_of, updates_of, matches_any, exec_at, is_clocked, pending_at, is_legal, is_sized, is_target, are_targets, are_items, are_spans}
+use Rattle.typed_ir.specs.Stmts.{SizedTarget, Fixed, Moving, SizedStmt, SizedArms, Skip, Assign, Later, Then, If, Case, Arm, Default, moved, update_of, updates_of, matches_any, exec, exec_arms, is_clocked, are_clocked_arms, pending, pending_arms, is_legal, are_legal_arms, is_sized, is_target, are_targets, are_items, are_spans}
 use Rattle.typed_ir.proofs.Cases.{by_cases, and_left, and_right, and_both}
 
 -- without blocking assignments nothing is written
-pub clocked_still : (st : SizedStmt) (subject : ℕ) → is_clocked st ≡ true → (env : Valuation) → exec_at st subject env ≡ env
-clocked_still Skip subject h env = refl
-clocked_still (Assign parts e) subject h env = absurd (true≢false (sym h))
-clocked_still (Later parts e) subject h env = refl
-clocked_still (Then a b) subject h env =
-    ap (exec_at b subject) (clocked_still a subject (and_left (is_clocked a) (is_clocked b) h) env) ∙ clocked_still b subject (and_right (is_clocked a) (is_clocked b) h) env
-clocked_still (If c a b) subject h env =
-    by_cases (value_of c env == 0)
-    (λ t. cond-true (value_of c env == 0) (exec_at b subject env) (exec_at a subject env) t ∙ clocked_still b subject (and_right (is_clocked a) (is_clocked b) h) env)
-    (λ t. cond-false (value_of c env == 0) (exec_at b subject env) (exec_at a subject env) t ∙ clocked_still a subject (and_left (is_clocked a) (is_clocked b) h) env)
-clocked_still (Case e arms) subject h env = clocked_still arms (value_of e env) h env
-clocked_still (Arm items body rest) subject h env =
-    by_cases (matches_any subject items env)
-    (λ t. cond-true (matches_any subject items env) (exec_at body subject env) (exec_at rest subject env) t ∙ clocked_still body subject (and_left (is_clocked body) (is_clocked rest) h) env)
-    (λ t. cond-false (matches_any subject items env) (exec_at body subject env) (exec_at rest subject env) t ∙ clocked_still rest subject (and_right (is_clocked body) (is_clocked rest) h) env)
+mutual
+  pub clocked_still : (st : SizedStmt) → is_clocked st ≡ true → (env : Valuation) → exec st env ≡ env
+  clocked_still Skip h env = refl
+  clocked_still (Assign parts e) h env = absurd (true≢false (sym h))
+  clocked_still (Later parts e) h env = refl
+  clocked_still (Then a b) h env =
+      ap (exec b) (clocked_still a (and_left (is_clocked a) (is_clocked b) h) env) ∙ clocked_still b (and_right (is_clocked a) (is_clocked b) h) env
+  clocked_still (If c a b) h env =
+      by_cases (value_of c env == 0)
+      (λ t. cond-true (value_of c env == 0) (exec b env) (exec a env) t ∙ clocked_still b (and_right (is_clocked a) (is_clocked b) h) env)
+      (λ t. cond-false (value_of c env == 0) (exec b env) (exec a env) t ∙ clocked_still a (and_left (is_clocked a) (is_clocked b) h) env)
+  clocked_still (Case e arms) h env = clocked_arms_still arms (value_of e env) h env
 
-pub pending_then : (a b : SizedStmt) (subject : ℕ) (env : Valuation) (old : List Update) → is_clocked a ≡ true
-    → (old ++ pending_at a subject env) ++ pending_at b subject env ≡ old ++ (pending_at a subject env ++ pending_at b subject (exec_at a subject env))
-pending_then a b subject env old h =
-    append_assoc old (pending_at a subject env) (pending_at b subject env)
-    ∙ ap (λ e. old ++ (pending_at a subject env ++ pending_at b subject e)) (sym (clocked_still a subject h env))
+  clocked_arms_still : (arms : SizedArms) (subject : ℕ) → are_clocked_arms arms ≡ true → (env : Valuation) → exec_arms arms subject env ≡ env
+  clocked_arms_still (Arm items body rest) subject h env =
+      by_cases (matches_any subject items env)
+      (λ t. cond-true (matches_any subject items env) (exec body env) (exec_arms rest subject env) t ∙ clocked_still body (and_left (is_clocked body) (are_clocked_arms rest) h) env)
+      (λ t. cond-false (matches_any subject items env) (exec body env) (exec_arms rest subject env) t ∙ clocked_arms_still rest subject (and_right (is_clocked body) (are_clocked_arms rest) h) env)
+  clocked_arms_still (Default otherwise) subject h env = clocked_still otherwise h env
+
+pub pending_then : (a b : SizedStmt) (env : Valuation) (old : List Update) → is_clocked a ≡ true
+    → (old ++ pending a env) ++ pending b env ≡ old ++ (pending a env ++ pending b (exec a env))
+pending_then a b env old h =
+    append_assoc old (pending a env) (pending b env)
+    ∙ ap (λ e. old ++ (pending a env ++ pending b e)) (sym (clocked_still a h env))
 
 pub spans_append : (us vs : List Update) (ws : List ℕ) → are_spans us ws ≡ true → are_spans vs ws ≡ true → are_spans (us ++ vs) ws ≡ true
 spans_append [] vs ws h k = k
@@ -84,22 +88,27 @@ updates_spans (t ∷ ts) x env ws h =
     spans_append (update_of t x env) (updates_of ts x env) ws (update_spans t x env ws (and_left (is_target t ws) (are_targets ts ws) h))
     (updates_spans ts x env ws (and_right (is_target t ws) (are_targets ts ws) h))
 
-pub pending_spans : (st : SizedStmt) (subject : ℕ) (env : Valuation) (ws : List ℕ) → is_legal st ws ≡ true → are_spans (pending_at st subject env) ws ≡ true
-pending_spans Skip subject env ws h = refl
-pending_spans (Assign parts e) subject env ws h = refl
-pending_spans (Later parts e) subject env ws h = updates_spans parts (value_of e env) env ws (and_left (are_targets parts ws) (is_sized e ws) h)
-pending_spans (Then a b) subject env ws h =
-    spans_append (pending_at a subject env) (pending_at b subject (exec_at a subject env)) ws
-    (pending_spans a subject env ws (and_left (is_legal a ws) (is_legal b ws) h))
-    (pending_spans b subject (exec_at a subject env) ws (and_right (is_legal a ws) (is_legal b ws) h))
-pending_spans (If c a b) subject env ws h =
-    let both : (is_legal a ws && is_legal b ws) ≡ true = and_right (is_sized c ws) (is_legal a ws && is_legal b ws) h in
-    by_cases (value_of c env == 0)
-    (λ t. ap (λ us. are_spans us ws) (cond-true (value_of c env == 0) (pending_at b subject env) (pending_at a subject env) t) ∙ pending_spans b subject env ws (and_right (is_legal a ws) (is_legal b ws) both))
-    (λ t. ap (λ us. are_spans us ws) (cond-false (value_of c env == 0) (pending_at b subject env) (pending_at a subject env) t) ∙ pending_spans a subject env ws (and_left (is_legal a ws) (is_legal b ws) both))
-pending_spans (Case e arms) subject env ws h = pending_spans arms (value_of e env) env ws (and_right (is_sized e ws) (is_legal arms ws) h)
-pending_spans (Arm items body rest) subject env ws h =
-    let both : (is_legal body ws && is_legal rest ws) ≡ true = and_right (are_items items ws) (is_legal body ws && is_legal rest ws) h in
-    by_cases (matches_any subject items env)
-    (λ t. ap (λ us. are_spans us ws) (cond-true (matches_any subject items env) (pending_at body subject env) (pending_at rest subject env) t) ∙ pending_spans body subject env ws (and_left (is_legal body ws) (is_legal rest ws) both))
-    (λ t. ap (λ us. are_spans us ws) (cond-false (matches_any subject items env) (pending_at body subject env) (pending_at rest subject env) t) ∙ pending_spans rest subject env ws (and_right (is_legal body ws) (is_legal rest ws) both))
+mutual
+  pub pending_spans : (st : SizedStmt) (env : Valuation) (ws : List ℕ) → is_legal st ws ≡ true → are_spans (pending st env) ws ≡ true
+  pending_spans Skip env ws h = refl
+  pending_spans (Assign parts e) env ws h = refl
+  pending_spans (Later parts e) env ws h = updates_spans parts (value_of e env) env ws (and_left (are_targets parts ws) (is_sized e ws) h)
+  pending_spans (Then a b) env ws h =
+      spans_append (pending a env) (pending b (exec a env)) ws
+      (pending_spans a env ws (and_left (is_legal a ws) (is_legal b ws) h))
+      (pending_spans b (exec a env) ws (and_right (is_legal a ws) (is_legal b ws) h))
+  pending_spans (If c a b) env ws h =
+      let both : (is_legal a ws && is_legal b ws) ≡ true = and_right (is_sized c ws) (is_legal a ws && is_legal b ws) h in
+      by_cases (value_of c env == 0)
+      (λ t. ap (λ us. are_spans us ws) (cond-true (value_of c env == 0) (pending b env) (pending a env) t) ∙ pending_spans b env ws (and_right (is_legal a ws) (is_legal b ws) both))
+      (λ t. ap (λ us. are_spans us ws) (cond-false (value_of c env == 0) (pending b env) (pending a env) t) ∙ pending_spans a env ws (and_left (is_legal a ws) (is_legal b ws) both))
+  pending_spans (Case e arms) env ws h = pending_arms_spans arms (value_of e env) env ws (and_right (is_sized e ws) (are_legal_arms arms ws) h)
+
+  pending_arms_spans : (arms : SizedArms) (subject : ℕ) (env : Valuation) (ws : List ℕ) → are_legal_arms arms ws ≡ true
+      → are_spans (pending_arms arms subject env) ws ≡ true
+  pending_arms_spans (Arm items body rest) subject env ws h =
+      let both : (is_legal body ws && are_legal_arms rest ws) ≡ true = and_right (are_items items ws) (is_legal body ws && are_legal_arms rest ws) h in
+      by_cases (matches_any subject items env)
+      (λ t. ap (λ us. are_spans us ws) (cond-true (matches_any subject items env) (pending body env) (pending_arms rest subject env) t) ∙ pending_spans body env ws (and_left (is_legal body ws) (are_legal_arms rest ws) both))
+      (λ t. ap (λ us. are_spans us ws) (cond-false (matches_any subject items env) (pending body env) (pending_arms rest subject env) t) ∙ pending_arms_spans rest subject env ws (and_right (is_legal body ws) (are_legal_arms rest ws) both))
+  pending_arms_spans (Default otherwise) subject env ws h = pending_spans otherwise env ws h

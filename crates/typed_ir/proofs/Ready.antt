@@ -2,11 +2,12 @@
 use Rattle.std.proofs.Common.{◌≡◌, ℕ, suc, ◌-◌, ◌/◌, ◌^◌, min, ℤ, pos, Bool, true, false, ◌==◌, cond, ◌⊎◌, inl, inr, List, [], ◌∷◌, ◌++◌, map, refl, sym, ◌∙◌, ap, subst, nat_lt}
 use Rattle.std.specs.Prelude.{negsuc}
 use Rattle.std.proofs.lemmas.Bool.{eqb-true, eqb-false, ne_eqb, cond-true, cond-false}
+use Rattle.typed_ir.specs.declared.span.Span.{Span}
 use Rattle.typed_ir.specs.declared.update.Update.{Update}
 use Rattle.typed_ir.specs.Valuations.{Valuation, look, placed}
 use Rattle.typed_ir.specs.Sized.{value_of, width_of, place_of}
 use Rattle.typed_ir.specs.declared.reach.Reach.{Reach}
-use Rattle.typed_ir.specs.Stmts.{SizedTarget, Fixed, Moving, SizedStmt, Skip, Assign, Later, Then, If, Case, Arm, moved, update_of, updates_of, all_applied, matches_any, pending, pending_at, exec_at, span_of, later_signals}
+use Rattle.typed_ir.specs.Stmts.{SizedTarget, Fixed, Moving, SizedStmt, SizedArms, Skip, Assign, Later, Then, If, Case, Arm, Default, moved, update_of, updates_of, all_applied, matches_any, pending, pending_arms, exec, span_of, later_targets, later_arm_targets}
 use Rattle.typed_ir.specs.Orders.{Member, Each}
 use Rattle.typed_ir.specs.Cycles.{Flat, fill, base, wires, step, all_pending, Satisfies, WritesRegisters, IsReady}
 use Rattle.typed_ir.proofs.Cases.{by_cases}
@@ -41,44 +42,44 @@ update_signals : (P : ℕ → Type 0) (t : SizedTarget) (x : ℕ) (env : Valuati
 update_signals P (Fixed lane) x env h = (h, tt)
 update_signals P (Moving reach index) x env h = moved_signals P reach (place_of reach.below reach.signed (width_of index) (value_of index env)) (x / 2 ^ reach.shift) h
 
-updates_signals : (P : ℕ → Type 0) (ts : List SizedTarget) (x : ℕ) (env : Valuation) → Each P (map (λ (t : SizedTarget). (span_of t).signal) ts)
+updates_signals : (P : ℕ → Type 0) (ts : List SizedTarget) (x : ℕ) (env : Valuation) → Each (λ (p : Span). P p.signal) (map span_of ts)
     → Each (λ (u : Update). P u.span.signal) (updates_of ts x env)
 updates_signals P [] x env h = tt
 updates_signals P (t ∷ ts) x env h =
     each_append (λ (u : Update). P u.span.signal) (update_of t x env) (updates_of ts x env) (update_signals P t x env h.0) (updates_signals P ts x env h.1)
 
-pub pending_signals : (P : ℕ → Type 0) (st : SizedStmt) (subject : ℕ) (env : Valuation) → Each P (later_signals st) → Each (λ (u : Update). P u.span.signal) (pending_at st subject env)
-pending_signals P Skip subject env h = tt
-pending_signals P (Assign parts e) subject env h = tt
-pending_signals P (Later parts e) subject env h = updates_signals P parts (value_of e env) env h
-pending_signals P (Then a b) subject env h =
-    each_append (λ (u : Update). P u.span.signal) (pending_at a subject env) (pending_at b subject (exec_at a subject env))
-    (pending_signals P a subject env (each_first P (later_signals a) (later_signals b) h))
-    (pending_signals P b subject (exec_at a subject env) (each_second P (later_signals a) (later_signals b) h))
-pending_signals P (If c a b) subject env h =
-    go (value_of c env == 0) (pending_signals P b subject env (each_second P (later_signals a) (later_signals b) h))
-    (pending_signals P a subject env (each_first P (later_signals a) (later_signals b) h))
-  where
-    go : (t : Bool) → Each (λ (u : Update). P u.span.signal) (pending_at b subject env) → Each (λ (u : Update). P u.span.signal) (pending_at a subject env)
-        → Each (λ (u : Update). P u.span.signal) (cond t (pending_at b subject env) (pending_at a subject env))
-    go true x y = x
-    go false x y = y
-pending_signals P (Case e arms) subject env h = pending_signals P arms (value_of e env) env h
-pending_signals P (Arm items body rest) subject env h =
-    go (matches_any subject items env) (pending_signals P body subject env (each_first P (later_signals body) (later_signals rest) h))
-    (pending_signals P rest subject env (each_second P (later_signals body) (later_signals rest) h))
-  where
-    go : (t : Bool) → Each (λ (u : Update). P u.span.signal) (pending_at body subject env) → Each (λ (u : Update). P u.span.signal) (pending_at rest subject env)
-        → Each (λ (u : Update). P u.span.signal) (cond t (pending_at body subject env) (pending_at rest subject env))
-    go true x y = x
-    go false x y = y
+chosen : (P : ℕ → Type 0) (t : Bool) (us vs : List Update) → Each (λ (u : Update). P u.span.signal) us → Each (λ (u : Update). P u.span.signal) vs
+    → Each (λ (u : Update). P u.span.signal) (cond t us vs)
+chosen P true us vs x y = x
+chosen P false us vs x y = y
+
+mutual
+  pub pending_signals : (P : ℕ → Type 0) (st : SizedStmt) (env : Valuation) → Each (λ (p : Span). P p.signal) (later_targets st) → Each (λ (u : Update). P u.span.signal) (pending st env)
+  pending_signals P Skip env h = tt
+  pending_signals P (Assign parts e) env h = tt
+  pending_signals P (Later parts e) env h = updates_signals P parts (value_of e env) env h
+  pending_signals P (Then a b) env h =
+      each_append (λ (u : Update). P u.span.signal) (pending a env) (pending b (exec a env))
+      (pending_signals P a env (each_first (λ (p : Span). P p.signal) (later_targets a) (later_targets b) h))
+      (pending_signals P b (exec a env) (each_second (λ (p : Span). P p.signal) (later_targets a) (later_targets b) h))
+  pending_signals P (If c a b) env h =
+      chosen P (value_of c env == 0) (pending b env) (pending a env) (pending_signals P b env (each_second (λ (p : Span). P p.signal) (later_targets a) (later_targets b) h))
+      (pending_signals P a env (each_first (λ (p : Span). P p.signal) (later_targets a) (later_targets b) h))
+  pending_signals P (Case e arms) env h = pending_arms_signals P arms (value_of e env) env h
+
+  pending_arms_signals : (P : ℕ → Type 0) (arms : SizedArms) (subject : ℕ) (env : Valuation) → Each (λ (p : Span). P p.signal) (later_arm_targets arms)
+      → Each (λ (u : Update). P u.span.signal) (pending_arms arms subject env)
+  pending_arms_signals P (Arm items body rest) subject env h =
+      chosen P (matches_any subject items env) (pending body env) (pending_arms rest subject env) (pending_signals P body env (each_first (λ (p : Span). P p.signal) (later_targets body) (later_arm_targets rest) h))
+      (pending_arms_signals P rest subject env (each_second (λ (p : Span). P p.signal) (later_targets body) (later_arm_targets rest) h))
+  pending_arms_signals P (Default otherwise) subject env h = pending_signals P otherwise env h
 
 pub all_signals : (registers : List ℕ) (sts : List SizedStmt) (env : Valuation) → WritesRegisters registers sts
     → Each (λ (u : Update). Member u.span.signal registers) (all_pending sts env)
 all_signals registers [] env h = tt
 all_signals registers (st ∷ sts) env h =
     each_append (λ (u : Update). Member u.span.signal registers) (pending st env) (all_pending sts env)
-    (pending_signals (λ s. Member s registers) st 0 env h.0) (all_signals registers sts env h.1)
+    (pending_signals (λ s. Member s registers) st env h.0) (all_signals registers sts env h.1)
 
 -- updates of registers leave every other signal
 pub applied_others : (registers : List ℕ) (us : List Update) (env : Valuation) (s : ℕ) → Each (λ (u : Update). Member u.span.signal registers) us

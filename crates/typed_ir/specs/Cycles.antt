@@ -1,10 +1,11 @@
 -- A flat design, its settled wires, one cycle, and runs.
-use Rattle.std.specs.Prelude.{◌≡◌, false, ℕ, zero, suc, ◌+◌, ◌%◌, ◌^◌, Bool, List, [], ◌∷◌, ◌++◌, map, length, slice_index}
+use Rattle.std.specs.Prelude.{◌≡◌, true, false, ℕ, zero, suc, ◌+◌, ◌%◌, ◌^◌, Bool, List, [], ◌∷◌, ◌++◌, map, length, slice_index}
+use Rattle.typed_ir.specs.declared.span.Span.{Span}
 use Rattle.typed_ir.specs.declared.update.Update.{Update}
-use Rattle.typed_ir.specs.Valuations.{Valuation, put, look}
-use Rattle.typed_ir.specs.Stmts.{SizedStmt, all_applied, pending, later_signals}
+use Rattle.typed_ir.specs.Valuations.{Valuation, Places, put, look, any_within, nowhere}
+use Rattle.typed_ir.specs.Stmts.{SizedStmt, all_applied, pending, later_targets}
 use Rattle.typed_ir.specs.Nodes.{FlatNode, drive, node_drives, OneDriver, IsComplete}
-use Rattle.typed_ir.specs.Orders.{round_by, any_drives, Each, Member}
+use Rattle.typed_ir.specs.Orders.{round_by, any_drives, Each, Member, at_or}
 
 -- a net or variable: the module that declares it, its hierarchical name, the lower bound of its declared range, its sign and
 -- width (3.3, 3.9, 12.4), and what it has at the beginning where it is a register
@@ -70,7 +71,18 @@ all_pending (st ∷ sts) env = pending st env ++ all_pending sts env
 -- clocked blocks write registers alone
 abbrev pub WritesRegisters : List ℕ → List SizedStmt → Type 0
 WritesRegisters registers [] = Unit {0}
-WritesRegisters registers (st ∷ sts) = Each (λ s. Member s registers) (later_signals st) × WritesRegisters registers sts
+WritesRegisters registers (st ∷ sts) = Each (λ (p : Span). Member p.signal registers) (later_targets st) × WritesRegisters registers sts
+
+-- the bits that a clocked block may write
+abbrev pub block_writes : SizedStmt → Places
+block_writes st = any_within (later_targets st)
+
+abbrev pub writes_at : List SizedStmt → ℕ → Places
+writes_at blocks k = at_or block_writes nowhere blocks k
+
+-- no bit is written by two blocks
+abbrev pub OneWriter : List SizedStmt → Type 0
+OneWriter blocks = (a b s i : ℕ) → writes_at blocks a s i ≡ true → writes_at blocks b s i ≡ true → a ≡ b
 
 -- registers, inputs and the bits that no node drives are as they are to be; driven bits may hold anything
 abbrev pub IsReady : Flat → List ℕ → List ℕ → Valuation → Type 0

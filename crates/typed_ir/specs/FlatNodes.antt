@@ -6,5 +6,5 @@ use Rattle.typed_ir.specs.declared.node.Node.{Node}
 use Rattle.typed_ir.specs.declared.node.Node.TheVariants.{Drive as Drive', Block as Block'}
 
 abbrev pub node_of : Node → FlatNode
-node_of (Drive' lanes e) = Drive lanes.items (sized e.form)
-node_of (Block' body) = Block (stmt_of body)
+node_of (Drive' form lanes e) = Drive form lanes.items (sized e.form)
+node_of (Block' form body) = Block form (stmt_of body)

@@ -4,7 +4,7 @@ use Rattle.ls_text.specs.declared.name_id.NameId.{NameId}
 use Rattle.typed_ir.specs.Stmts.{is_legal, is_clocked, WritesFirst}
 use Rattle.typed_ir.specs.Nodes.{FlatNode, Drive, Block, node_drives}
 use Rattle.typed_ir.specs.Orders.{Member, Each, Distinct, any_drives}
-use Rattle.typed_ir.specs.Cycles.{Signal, Flat, IsSound, WritesRegisters}
+use Rattle.typed_ir.specs.Cycles.{Signal, Flat, IsSound, WritesRegisters, OneWriter}
 use Rattle.typed_ir.specs.Statements.{stmt_of}
 use Rattle.typed_ir.specs.FlatNodes.{node_of}
 use Rattle.typed_ir.specs.declared.signal.Signal.{Signal as Signal'}
@@ -44,13 +44,15 @@ are_below (s ∷ ss) count = nat_lt s count && are_below ss count
 
 -- a combinational block writes each of its bits before it reads it
 abbrev pub NodeWritesFirst : FlatNode → Type 0
-NodeWritesFirst (Drive lanes e) = Unit {0}
-NodeWritesFirst (Block body) = WritesFirst body
+NodeWritesFirst (Drive form lanes e) = Unit {0}
+NodeWritesFirst (Block form body) = WritesFirst body
 
 -- what a flat design keeps beside its widths
 pub record IsFlat (design : Flat) : Type 0 where
   pub sound : IsSound design
   pub first : Each NodeWritesFirst design.nodes
+  -- no bit is written by two clocked blocks
+  pub one_writer : OneWriter design.clocked
   -- clocked blocks write registers alone; registers and data inputs are apart, each once, and no node drives them
   pub registers_only : WritesRegisters design.registers design.clocked
   pub registers_once : Distinct design.registers

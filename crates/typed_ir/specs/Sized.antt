@@ -4,18 +4,18 @@ use Rattle.std.specs.Int.{int_shr}
 use Rattle.bits.specs.Values.{signed_of, wrapped, resized, quotient, remainder, is_below}
 use Rattle.bits.specs.Runs.{selected}
 use Rattle.typed_ir.specs.declared.span.Span.{Span}
-use Rattle.typed_ir.specs.declared.operators.UnaryOperator.{UnaryOperator}
-use Rattle.typed_ir.specs.declared.operators.UnaryOperator.TheVariants.{Inverse, Negative, AllOnes, AnyOne, NoOne, OddOnes}
-use Rattle.typed_ir.specs.declared.operators.ArithmeticOperator.{ArithmeticOperator}
-use Rattle.typed_ir.specs.declared.operators.ArithmeticOperator.TheVariants.{Sum, Difference, Product, Quotient, Remainder, And, Or, Xor, Xnor}
-use Rattle.typed_ir.specs.declared.operators.Comparison.{Comparison}
-use Rattle.typed_ir.specs.declared.operators.Comparison.TheVariants.{Equal, Unequal, Less, AtMost}
-use Rattle.typed_ir.specs.declared.operators.LogicalOperator.{LogicalOperator}
-use Rattle.typed_ir.specs.declared.operators.LogicalOperator.TheVariants.{Both, Either}
-use Rattle.typed_ir.specs.declared.operators.ShiftOperator.{ShiftOperator}
-use Rattle.typed_ir.specs.declared.operators.ShiftOperator.TheVariants.{Left, Right, Arithmetic as ArithmeticRight}
-use Rattle.typed_ir.specs.declared.operators.BinaryOperator.{BinaryOperator}
-use Rattle.typed_ir.specs.declared.operators.BinaryOperator.TheVariants.{Arithmetic, Compare, Logical, Shift}
+use Rattle.typed_ir.specs.declared.unary_operator.UnaryOperator.{UnaryOperator}
+use Rattle.typed_ir.specs.declared.unary_operator.UnaryOperator.TheVariants.{Inverse, Negative, AllOnes, AnyOne, NoOne, OddOnes}
+use Rattle.typed_ir.specs.declared.arithmetic_operator.ArithmeticOperator.{ArithmeticOperator}
+use Rattle.typed_ir.specs.declared.arithmetic_operator.ArithmeticOperator.TheVariants.{Sum, Difference, Product, Quotient, Remainder, And, Or, Xor, Xnor}
+use Rattle.typed_ir.specs.declared.comparison.Comparison.{Comparison}
+use Rattle.typed_ir.specs.declared.comparison.Comparison.TheVariants.{Equal, Unequal, Less, AtMost, Greater, AtLeast}
+use Rattle.typed_ir.specs.declared.logical_operator.LogicalOperator.{LogicalOperator}
+use Rattle.typed_ir.specs.declared.logical_operator.LogicalOperator.TheVariants.{Both, Either}
+use Rattle.typed_ir.specs.declared.shift_operator.ShiftOperator.{ShiftOperator}
+use Rattle.typed_ir.specs.declared.shift_operator.ShiftOperator.TheVariants.{Left, Right, Arithmetic as ArithmeticRight}
+use Rattle.typed_ir.specs.declared.binary_operator.BinaryOperator.{BinaryOperator}
+use Rattle.typed_ir.specs.declared.binary_operator.BinaryOperator.TheVariants.{Arithmetic, Compare, Logical, Shift}
 use Rattle.typed_ir.specs.Valuations.{Valuation, Places, within}
 
 pub data Sized : Type 0 where
@@ -93,12 +93,14 @@ apply_arithmetic Or width x y = bit_or x y
 apply_arithmetic Xor width x y = bit_xor x y
 apply_arithmetic Xnor width x y = 2 ^ width - 1 - bit_xor x y
 
--- two operands of one width (5.1.7, 5.1.8); > and >= are these with the operands exchanged
+-- two operands of one width (5.1.7, 5.1.8)
 abbrev pub apply_comparison : Comparison → ℕ → ℕ → ℕ → Bool
 apply_comparison Equal width x y = x == y
 apply_comparison Unequal width x y = not (x == y)
 apply_comparison (Less signed) width x y = is_below width signed x y
 apply_comparison (AtMost signed) width x y = not (is_below width signed y x)
+apply_comparison (Greater signed) width x y = is_below width signed y x
+apply_comparison (AtLeast signed) width x y = not (is_below width signed x y)
 
 -- && and || (5.1.9)
 abbrev pub apply_logical : LogicalOperator → ℕ → ℕ → Bool

@@ -18,17 +18,21 @@ pub record SizedItem : Type 0 where
   pub ignored : ℕ
   pub item : Sized
 
-pub data SizedStmt : Type 0 where
-  Skip : SizedStmt
-  -- a blocking assignment (9.2.1), and a nonblocking one (9.2.2); the parts left of it from left to right
-  Assign : (parts : List SizedTarget) (e : Sized) → SizedStmt
-  Later : (parts : List SizedTarget) (e : Sized) → SizedStmt
-  Then : (a b : SizedStmt) → SizedStmt
-  If : (c : Sized) (a b : SizedStmt) → SizedStmt
-  -- a case or casez: its expression, and its arms
-  Case : (subject : Sized) (arms : SizedStmt) → SizedStmt
-  -- an arm: its body where one of its items matches the subject of the case, else the other arms or the default
-  Arm : (items : List SizedItem) (body rest : SizedStmt) → SizedStmt
+mutual
+  pub data SizedStmt : Type 0 where
+    Skip : SizedStmt
+    -- a blocking assignment (9.2.1), and a nonblocking one (9.2.2); the parts left of it from left to right
+    Assign : (parts : List SizedTarget) (e : Sized) → SizedStmt
+    Later : (parts : List SizedTarget) (e : Sized) → SizedStmt
+    Then : (a b : SizedStmt) → SizedStmt
+    If : (c : Sized) (a b : SizedStmt) → SizedStmt
+    -- a case or casez: its expression, and its arms
+    Case : (subject : Sized) (arms : SizedArms) → SizedStmt
+
+  -- the arms of a case, from the first one on; at the end the default
+  pub data SizedArms : Type 0 where
+    Arm : (items : List SizedItem) (body : SizedStmt) (rest : SizedArms) → SizedArms
+    Default : (otherwise : SizedStmt) → SizedArms
 
 -- ---- what an assignment writes
 
@@ -79,44 +83,48 @@ abbrev pub matches_any : ℕ → List SizedItem → Valuation → Bool
 matches_any subject [] env = false
 matches_any subject (i ∷ is) env = matches_item subject i env || matches_any subject is env
 
--- the valuation after the blocking assignments (9.2.1), conditionals (9.4), cases (9.5) and statements in sequence (9.8.1);
--- `subject` is the value of the case expression that an arm compares with
-abbrev pub exec_at : SizedStmt → ℕ → Valuation → Valuation
-exec_at Skip subject env = env
-exec_at (Assign parts e) subject env = written parts (value_of e env) env
-exec_at (Later parts e) subject env = env
-exec_at (Then a b) subject env = exec_at b subject (exec_at a subject env)
-exec_at (If c a b) subject env = if value_of c env == 0 then exec_at b subject env else exec_at a subject env
-exec_at (Case e arms) subject env = exec_at arms (value_of e env) env
-exec_at (Arm items body rest) subject env =
-    if matches_any subject items env then exec_at body subject env else exec_at rest subject env
+abbrev mutual
+  -- the valuation after the blocking assignments (9.2.1), conditionals (9.4), cases (9.5) and statements in sequence (9.8.1)
+  pub exec : SizedStmt → Valuation → Valuation
+  exec Skip env = env
+  exec (Assign parts e) env = written parts (value_of e env) env
+  exec (Later parts e) env = env
+  exec (Then a b) env = exec b (exec a env)
+  exec (If c a b) env = if value_of c env == 0 then exec b env else exec a env
+  exec (Case e arms) env = exec_arms arms (value_of e env) env
 
-abbrev pub exec : SizedStmt → Valuation → Valuation
-exec st env = exec_at st 0 env
+  -- after the first arm with an item that matches the subject, or the default
+  pub exec_arms : SizedArms → ℕ → Valuation → Valuation
+  exec_arms (Arm items body rest) subject env = if matches_any subject items env then exec body env else exec_arms rest subject env
+  exec_arms (Default otherwise) subject env = exec otherwise env
 
--- the nonblocking updates, in the order of execution (9.2.2)
-abbrev pub pending_at : SizedStmt → ℕ → Valuation → List Update
-pending_at Skip subject env = []
-pending_at (Assign parts e) subject env = []
-pending_at (Later parts e) subject env = updates_of parts (value_of e env) env
-pending_at (Then a b) subject env = pending_at a subject env ++ pending_at b subject (exec_at a subject env)
-pending_at (If c a b) subject env = if value_of c env == 0 then pending_at b subject env else pending_at a subject env
-pending_at (Case e arms) subject env = pending_at arms (value_of e env) env
-pending_at (Arm items body rest) subject env =
-    if matches_any subject items env then pending_at body subject env else pending_at rest subject env
+abbrev mutual
+  -- the nonblocking updates, in the order of execution (9.2.2)
+  pub pending : SizedStmt → Valuation → List Update
+  pending Skip env = []
+  pending (Assign parts e) env = []
+  pending (Later parts e) env = updates_of parts (value_of e env) env
+  pending (Then a b) env = pending a env ++ pending b (exec a env)
+  pending (If c a b) env = if value_of c env == 0 then pending b env else pending a env
+  pending (Case e arms) env = pending_arms arms (value_of e env) env
 
-abbrev pub pending : SizedStmt → Valuation → List Update
-pending st env = pending_at st 0 env
+  pub pending_arms : SizedArms → ℕ → Valuation → List Update
+  pending_arms (Arm items body rest) subject env = if matches_any subject items env then pending body env else pending_arms rest subject env
+  pending_arms (Default otherwise) subject env = pending otherwise env
 
--- how many parts its nonblocking assignments have: no execution notes more updates
-abbrev pub most_updates : SizedStmt → ℕ
-most_updates Skip = 0
-most_updates (Assign parts e) = 0
-most_updates (Later parts e) = length parts
-most_updates (Then a b) = most_updates a + most_updates b
-most_updates (If c a b) = most_updates a + most_updates b
-most_updates (Case e arms) = most_updates arms
-most_updates (Arm items body rest) = most_updates body + most_updates rest
+abbrev mutual
+  -- how many parts its nonblocking assignments have: no execution notes more updates
+  pub most_updates : SizedStmt → ℕ
+  most_updates Skip = 0
+  most_updates (Assign parts e) = 0
+  most_updates (Later parts e) = length parts
+  most_updates (Then a b) = most_updates a + most_updates b
+  most_updates (If c a b) = most_updates a + most_updates b
+  most_updates (Case e arms) = most_arm_updates arms
+
+  pub most_arm_updates : SizedArms → ℕ
+  most_arm_updates (Arm items body rest) = most_updates body + most_arm_updates rest
+  most_arm_updates (Default otherwise) = most_updates otherwise
 
 -- ---- bits that are written and read, by the text
 
@@ -125,15 +133,33 @@ abbrev pub span_of : SizedTarget → Span
 span_of (Fixed lane) = lane.span
 span_of (Moving reach index) = record { signal = reach.signal; low = 0; width = reach.total }
 
--- the bits that the blocking assignments may write, in the order of the text
-abbrev pub targets : SizedStmt → List Span
-targets Skip = []
-targets (Assign parts e) = map span_of parts
-targets (Later parts e) = []
-targets (Then a b) = targets a ++ targets b
-targets (If c a b) = targets a ++ targets b
-targets (Case e arms) = targets arms
-targets (Arm items body rest) = targets body ++ targets rest
+abbrev mutual
+  -- the bits that the blocking assignments may write, in the order of the text
+  pub targets : SizedStmt → List Span
+  targets Skip = []
+  targets (Assign parts e) = map span_of parts
+  targets (Later parts e) = []
+  targets (Then a b) = targets a ++ targets b
+  targets (If c a b) = targets a ++ targets b
+  targets (Case e arms) = arm_targets arms
+
+  pub arm_targets : SizedArms → List Span
+  arm_targets (Arm items body rest) = targets body ++ arm_targets rest
+  arm_targets (Default otherwise) = targets otherwise
+
+abbrev mutual
+  -- the bits that the nonblocking assignments may write
+  pub later_targets : SizedStmt → List Span
+  later_targets Skip = []
+  later_targets (Assign parts e) = []
+  later_targets (Later parts e) = map span_of parts
+  later_targets (Then a b) = later_targets a ++ later_targets b
+  later_targets (If c a b) = later_targets a ++ later_targets b
+  later_targets (Case e arms) = later_arm_targets arms
+
+  pub later_arm_targets : SizedArms → List Span
+  later_arm_targets (Arm items body rest) = later_targets body ++ later_arm_targets rest
+  later_arm_targets (Default otherwise) = later_targets otherwise
 
 -- the bits that an assignment writes for certain
 abbrev pub certain : List SizedTarget → Places
@@ -141,15 +167,19 @@ certain [] = nowhere
 certain (Fixed lane ∷ ts) = λ s i. within lane.span s i || certain ts s i
 certain (Moving reach index ∷ ts) = certain ts
 
--- the bits that are written on every path, where `known` were written before
-abbrev pub known_after : SizedStmt → Places → Places
-known_after Skip known = known
-known_after (Assign parts e) known = λ s i. known s i || certain parts s i
-known_after (Later parts e) known = known
-known_after (Then a b) known = known_after b (known_after a known)
-known_after (If c a b) known = λ s i. known_after a known s i && known_after b known s i
-known_after (Case e arms) known = known_after arms known
-known_after (Arm items body rest) known = λ s i. known_after body known s i && known_after rest known s i
+abbrev mutual
+  -- the bits that are written on every path, where `known` were written before
+  pub known_after : SizedStmt → Places → Places
+  known_after Skip known = known
+  known_after (Assign parts e) known = λ s i. known s i || certain parts s i
+  known_after (Later parts e) known = known
+  known_after (Then a b) known = known_after b (known_after a known)
+  known_after (If c a b) known = λ s i. known_after a known s i && known_after b known s i
+  known_after (Case e arms) known = known_after_arms arms known
+
+  pub known_after_arms : SizedArms → Places → Places
+  known_after_arms (Arm items body rest) known = λ s i. known_after body known s i && known_after_arms rest known s i
+  known_after_arms (Default otherwise) known = known_after otherwise known
 
 -- the bits that the indices left of an assignment read
 abbrev pub index_reads : List SizedTarget → Places
@@ -157,21 +187,31 @@ index_reads [] = nowhere
 index_reads (Fixed lane ∷ ts) = index_reads ts
 index_reads (Moving reach index ∷ ts) = λ s i. reads index s i || index_reads ts s i
 
+-- those of them that aren't written for certain before, a part after those left of it
+abbrev pub open_indices : List SizedTarget → Places → Places
+open_indices [] known = nowhere
+open_indices (Fixed lane ∷ ts) known = open_indices ts (λ s i. known s i || within lane.span s i)
+open_indices (Moving reach index ∷ ts) known = λ s i. (reads index s i && not (known s i)) || open_indices ts known s i
+
 abbrev pub item_reads : List SizedItem → Places
 item_reads [] = nowhere
 item_reads (x ∷ xs) = λ s i. reads x.item s i || item_reads xs s i
 
--- the bits that are read where they aren't written for certain before
-abbrev pub open_reads : SizedStmt → Places → Places
-open_reads Skip known = nowhere
-open_reads (Assign parts e) known = λ s i. (reads e s i || index_reads parts s i) && not (known s i)
-open_reads (Later parts e) known = λ s i. (reads e s i || index_reads parts s i) && not (known s i)
-open_reads (Then a b) known = λ s i. open_reads a known s i || open_reads b (known_after a known) s i
-open_reads (If c a b) known =
-    λ s i. (reads c s i && not (known s i)) || (open_reads a known s i || open_reads b known s i)
-open_reads (Case e arms) known = λ s i. (reads e s i && not (known s i)) || open_reads arms known s i
-open_reads (Arm items body rest) known =
-    λ s i. (item_reads items s i && not (known s i)) || (open_reads body known s i || open_reads rest known s i)
+abbrev mutual
+  -- the bits that are read where they aren't written for certain before
+  pub open_reads : SizedStmt → Places → Places
+  open_reads Skip known = nowhere
+  open_reads (Assign parts e) known = λ s i. (reads e s i && not (known s i)) || open_indices parts known s i
+  open_reads (Later parts e) known = λ s i. (reads e s i || index_reads parts s i) && not (known s i)
+  open_reads (Then a b) known = λ s i. open_reads a known s i || open_reads b (known_after a known) s i
+  open_reads (If c a b) known =
+      λ s i. (reads c s i && not (known s i)) || (open_reads a known s i || open_reads b known s i)
+  open_reads (Case e arms) known = λ s i. (reads e s i && not (known s i)) || open_arm_reads arms known s i
+
+  pub open_arm_reads : SizedArms → Places → Places
+  open_arm_reads (Arm items body rest) known =
+      λ s i. (item_reads items s i && not (known s i)) || (open_reads body known s i || open_arm_reads rest known s i)
+  open_arm_reads (Default otherwise) known = open_reads otherwise known
 
 -- no latch: each bit that it may write is written on every path
 abbrev pub IsWhole : SizedStmt → Type 0
@@ -181,25 +221,19 @@ IsWhole st = (s i : ℕ) → any_within (targets st) s i ≡ true → known_afte
 abbrev pub WritesFirst : SizedStmt → Type 0
 WritesFirst st = (s i : ℕ) → any_within (targets st) s i ≡ true → open_reads st nowhere s i ≡ false
 
--- the signals that the nonblocking assignments may write
-abbrev pub later_signals : SizedStmt → List ℕ
-later_signals Skip = []
-later_signals (Assign parts e) = []
-later_signals (Later parts e) = map (λ (t : SizedTarget). (span_of t).signal) parts
-later_signals (Then a b) = later_signals a ++ later_signals b
-later_signals (If c a b) = later_signals a ++ later_signals b
-later_signals (Case e arms) = later_signals arms
-later_signals (Arm items body rest) = later_signals body ++ later_signals rest
+abbrev mutual
+  -- no blocking assignment: the statement of a clocked block
+  pub is_clocked : SizedStmt → Bool
+  is_clocked Skip = true
+  is_clocked (Assign parts e) = false
+  is_clocked (Later parts e) = true
+  is_clocked (Then a b) = is_clocked a && is_clocked b
+  is_clocked (If c a b) = is_clocked a && is_clocked b
+  is_clocked (Case e arms) = are_clocked_arms arms
 
--- no blocking assignment: the statement of a clocked block
-abbrev pub is_clocked : SizedStmt → Bool
-is_clocked Skip = true
-is_clocked (Assign parts e) = false
-is_clocked (Later parts e) = true
-is_clocked (Then a b) = is_clocked a && is_clocked b
-is_clocked (If c a b) = is_clocked a && is_clocked b
-is_clocked (Case e arms) = is_clocked arms
-is_clocked (Arm items body rest) = is_clocked body && is_clocked rest
+  pub are_clocked_arms : SizedArms → Bool
+  are_clocked_arms (Arm items body rest) = is_clocked body && are_clocked_arms rest
+  are_clocked_arms (Default otherwise) = is_clocked otherwise
 
 -- ---- widths that agree, with those of the signals too
 
@@ -219,14 +253,18 @@ abbrev pub are_items : List SizedItem → List ℕ → Bool
 are_items [] widths = true
 are_items (x ∷ xs) widths = is_sized x.item widths && are_items xs widths
 
-abbrev pub is_legal : SizedStmt → List ℕ → Bool
-is_legal Skip widths = true
-is_legal (Assign parts e) widths = are_targets parts widths && is_sized e widths
-is_legal (Later parts e) widths = are_targets parts widths && is_sized e widths
-is_legal (Then a b) widths = is_legal a widths && is_legal b widths
-is_legal (If c a b) widths = is_sized c widths && (is_legal a widths && is_legal b widths)
-is_legal (Case e arms) widths = is_sized e widths && is_legal arms widths
-is_legal (Arm items body rest) widths = are_items items widths && (is_legal body widths && is_legal rest widths)
+abbrev mutual
+  pub is_legal : SizedStmt → List ℕ → Bool
+  is_legal Skip widths = true
+  is_legal (Assign parts e) widths = are_targets parts widths && is_sized e widths
+  is_legal (Later parts e) widths = are_targets parts widths && is_sized e widths
+  is_legal (Then a b) widths = is_legal a widths && is_legal b widths
+  is_legal (If c a b) widths = is_sized c widths && (is_legal a widths && is_legal b widths)
+  is_legal (Case e arms) widths = is_sized e widths && are_legal_arms arms widths
+
+  pub are_legal_arms : SizedArms → List ℕ → Bool
+  are_legal_arms (Arm items body rest) widths = are_items items widths && (is_legal body widths && are_legal_arms rest widths)
+  are_legal_arms (Default otherwise) widths = is_legal otherwise widths
 
 abbrev pub are_spans : List Update → List ℕ → Bool
 are_spans [] widths = true

@@ -3,9 +3,12 @@ ghost use Rattle.std.specs.Prelude.{◌≡◌, ◌≤◌, ◌+◌, ◌*◌, ◌^
 ghost use Rattle.bits.specs.Runs.{selected};
 ghost use Rattle.typed_ir.specs.Sized.{apply_unary, unary_width, apply_binary, binary_width, apply_arithmetic, apply_comparison, apply_logical, apply_shift, takes_widths, place_of, copies};
 
-use crate::operators::{
-    ArithmeticOperator, BinaryOperator, Comparison, LogicalOperator, ShiftOperator, UnaryOperator,
-};
+use crate::arithmetic_operator::ArithmeticOperator;
+use crate::binary_operator::BinaryOperator;
+use crate::comparison::Comparison;
+use crate::logical_operator::LogicalOperator;
+use crate::shift_operator::ShiftOperator;
+use crate::unary_operator::UnaryOperator;
 use bits::Bits;
 
 // One bit.
@@ -77,6 +80,8 @@ fn apply_comparison(op: Comparison, x: Bits, y: Bits) -> bool
         Comparison::Unequal => x.value != y.value,
         Comparison::Less(signed) => x.lt(y, signed),
         Comparison::AtMost(signed) => !y.lt(x, signed),
+        Comparison::Greater(signed) => y.lt(x, signed),
+        Comparison::AtLeast(signed) => !x.lt(y, signed),
     }
 }
 

@@ -6,6 +6,7 @@ ghost use Rattle.typed_ir.specs.Flats.{signal_widths, are_clocked, are_below, fl
 
 use crate::node::Node;
 use crate::signal::Signal;
+use crate::signal_id::SignalId;
 use crate::stmt::Stmt;
 
 /// All signals and nodes of a design, each instance copied out.
@@ -13,9 +14,9 @@ use crate::stmt::Stmt;
 pub struct Flat {
     pub signals: Vec<Signal>,
     /// The numbers of the signals that are registers, in order.
-    pub registers: Vec<u32>,
+    pub registers: Vec<SignalId>,
     /// The numbers of the data inputs of the top.
-    pub inputs: Vec<u32>,
+    pub inputs: Vec<SignalId>,
     pub nodes: Vec<Node>,
     /// The clocked blocks.
     pub clocked: Vec<Stmt>,

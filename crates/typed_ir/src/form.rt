@@ -5,30 +5,64 @@ ghost use Rattle.typed_ir.specs.Forms.{sized};
 ghost use Rattle.typed_ir.specs.Views.{widths, env_of};
 
 use crate::apply::{apply_binary, apply_unary, copied, joined, picked};
-use crate::operators::{BinaryOperator, UnaryOperator};
+use crate::binary_operator::BinaryOperator;
+use crate::signal_id::SignalId;
 use crate::span::Span;
+use crate::unary_operator::UnaryOperator;
 use bits::Bits;
 
 /// A sized expression: what each part is. A width is stored wherever it isn't that of a part or 1.
 #[derive(Drop)]
 pub enum Form {
     Constant(Bits),
-    /// A signal's number and width.
-    Name(u32, u8),
+    /// A signal as a whole.
+    Name {
+        signal: SignalId,
+        width: u8,
+    },
     /// A select whose bits are known.
     Part(Span),
-    /// A select at run time: signal, width of the select, what is taken from the index, whether the index is signed.
-    Pick(u32, u8, u32, bool, Box<Form>),
-    Unary(UnaryOperator, Box<Form>),
-    Binary(BinaryOperator, Box<Form>, Box<Form>),
-    /// A condition, and what stands where it isn't 0 and where it is.
-    Choice(Box<Form>, Box<Form>, Box<Form>),
-    /// The width, the upper part, and the lower.
-    Concat(u8, Box<Form>, Box<Form>),
-    /// The width, the number of copies, and the part.
-    Repeat(u8, u8, Box<Form>),
+    /// A select at run time: `width` bits from the index on, read as signed where the flag is set, less `below`.
+    Pick {
+        signal: SignalId,
+        width: u8,
+        below: u32,
+        signed: bool,
+        index: Box<Form>,
+    },
+    Unary {
+        operator: UnaryOperator,
+        operand: Box<Form>,
+    },
+    Binary {
+        operator: BinaryOperator,
+        left: Box<Form>,
+        right: Box<Form>,
+    },
+    /// `condition ? consequent : alternative`
+    Choice {
+        condition: Box<Form>,
+        consequent: Box<Form>,
+        alternative: Box<Form>,
+    },
+    /// One value above the other, at the width of both together.
+    Concat {
+        width: u8,
+        high: Box<Form>,
+        low: Box<Form>,
+    },
+    /// So many copies, at the width of all together.
+    Repeat {
+        width: u8,
+        count: u8,
+        part: Box<Form>,
+    },
     /// At another width, extended by its sign where the flag is set.
-    Resized(Box<Form>, u8, bool),
+    Resized {
+        operand: Box<Form>,
+        width: u8,
+        signed: bool,
+    },
 }
 
 impl Form {
@@ -58,17 +92,33 @@ impl Form {
     {
         match self {
             Form::Constant(bits) => *bits,
-            Form::Name(signal, _) => env[*signal as usize],
-            Form::Part(span) => env[span.signal as usize].select(span.low as i16, span.width),
-            Form::Pick(signal, width, below, signed, index) => {
-                pick(*signal, *width, *below, *signed, index, env)
-            }
-            Form::Unary(op, a) => unary(*op, a, env),
-            Form::Binary(op, a, b) => binary(*op, a, b, env),
-            Form::Choice(c, a, b) => choice(c, a, b, env),
-            Form::Concat(width, a, b) => concat(*width, a, b, env),
-            Form::Repeat(width, count, a) => repeat(*width, *count, a, env),
-            Form::Resized(a, width, signed) => resized(a, *width, *signed, env),
+            Form::Name { signal, .. } => env[signal.index()],
+            Form::Part(span) => env[span.signal.index()].select(span.low as i16, span.width),
+            Form::Pick {
+                signal,
+                width,
+                below,
+                signed,
+                index,
+            } => pick(*signal, *width, *below, *signed, index, env),
+            Form::Unary { operator, operand } => unary(*operator, operand, env),
+            Form::Binary {
+                operator,
+                left,
+                right,
+            } => binary(*operator, left, right, env),
+            Form::Choice {
+                condition,
+                consequent,
+                alternative,
+            } => choice(condition, consequent, alternative, env),
+            Form::Concat { width, high, low } => concat(*width, high, low, env),
+            Form::Repeat { width, count, part } => repeat(*width, *count, part, env),
+            Form::Resized {
+                operand,
+                width,
+                signed,
+            } => resized(operand, *width, *signed, env),
         }
     }
 
@@ -78,17 +128,19 @@ impl Form {
     {
         match self {
             Form::Constant(_) => true,
-            Form::Name(signal, width) => is_signal(*signal, *width, env),
+            Form::Name { signal, width } => is_signal(*signal, *width, env),
             Form::Part(span) => is_span(*span, env),
-            Form::Pick(signal, _, _, _, index) => {
-                (*signal as usize) < env.len() && index.fits(env)
-            }
-            Form::Unary(_, a) => a.fits(env),
-            Form::Binary(_, a, b) => a.fits(env) && b.fits(env),
-            Form::Choice(c, a, b) => c.fits(env) && a.fits(env) && b.fits(env),
-            Form::Concat(_, a, b) => a.fits(env) && b.fits(env),
-            Form::Repeat(_, _, a) => a.fits(env),
-            Form::Resized(a, _, _) => a.fits(env),
+            Form::Pick { signal, index, .. } => signal.index() < env.len() && index.fits(env),
+            Form::Unary { operand, .. } => operand.fits(env),
+            Form::Binary { left, right, .. } => left.fits(env) && right.fits(env),
+            Form::Choice {
+                condition,
+                consequent,
+                alternative,
+            } => condition.fits(env) && consequent.fits(env) && alternative.fits(env),
+            Form::Concat { high, low, .. } => high.fits(env) && low.fits(env),
+            Form::Repeat { part, .. } => part.fits(env),
+            Form::Resized { operand, .. } => operand.fits(env),
         }
     }
 }
@@ -98,13 +150,13 @@ impl Form {
 
 // The bits of a signal from a place that the index gives.
 #[cycle(value)]
-fn pick(signal: u32, width: u8, below: u32, signed: bool, index: &Form, env: &[Bits]) -> Bits
+fn pick(signal: SignalId, width: u8, below: u32, signed: bool, index: &Form, env: &[Bits]) -> Bits
     requires agrees { IsTrue (agrees (Pick signal width below signed (sized index.now))) }
     requires fits { IsTrue (fits_signals (Pick signal width below signed (sized index.now)) (widths env.now)) }
     ensures width { result.width ≡ width_of (Pick signal width below signed (sized index.now)) }
     ensures value { result.value ≡ value_of (Pick signal width below signed (sized index.now)) (env_of env.now) }
 {
-    let x = env[signal as usize];
+    let x = env[signal.index()];
     picked(x, width, below, signed, index.value(env))
 }
 
@@ -179,10 +231,10 @@ fn resized(a: &Form, width: u8, signed: bool, env: &[Bits]) -> Bits
 }
 
 /// Whether a signal has this number and width.
-pub fn is_signal(signal: u32, width: u8, env: &[Bits]) -> bool
+pub fn is_signal(signal: SignalId, width: u8, env: &[Bits]) -> bool
     ensures { result ≡ is_signal signal width (widths env.now) }
 {
-    let index = signal as usize;
+    let index = signal.index();
     index < env.len() && env[index].width == width
 }
 
@@ -190,7 +242,7 @@ pub fn is_signal(signal: u32, width: u8, env: &[Bits]) -> bool
 pub fn is_span(span: Span, env: &[Bits]) -> bool
     ensures { result ≡ is_span span (widths env.now) }
 {
-    let index = span.signal as usize;
+    let index = span.signal.index();
     if index >= env.len() || span.width == 0 {
         return false;
     }

@@ -2,7 +2,10 @@
 #![tactic(auto)]
 
 mod apply;
+mod arithmetic_operator;
 mod arm;
+mod binary_operator;
+mod comparison;
 mod env;
 mod flat;
 mod form;
@@ -10,23 +13,32 @@ mod item;
 mod lane;
 mod laws;
 mod linked;
+mod logical_operator;
 mod node;
-mod operators;
+mod node_list;
 mod placing;
 mod reach;
 mod reg_state;
+mod shift_operator;
 mod signal;
+mod signal_id;
 mod span;
 mod stmt;
 mod target;
+mod target_form;
 #[cfg(test)]
 mod tests;
 mod touch;
 mod touching;
 mod typed;
+mod unary_operator;
 mod update;
+mod writing;
 
+pub use arithmetic_operator::ArithmeticOperator;
 pub use arm::Arm;
+pub use binary_operator::BinaryOperator;
+pub use comparison::Comparison;
 pub use env::Env;
 pub use flat::Flat;
 pub use form::{Form, is_signal, is_span};
@@ -34,18 +46,22 @@ pub use item::Item;
 pub use lane::Lane;
 pub use laws::{order_settles, runs_join};
 pub use linked::Linked;
+pub use logical_operator::LogicalOperator;
 pub use node::Node;
-pub use operators::{
-    ArithmeticOperator, BinaryOperator, Comparison, LogicalOperator, ShiftOperator, UnaryOperator,
-};
+pub use node_list::NodeList;
 pub use placing::apply_all;
 pub use reach::Reach;
 pub use reg_state::RegState;
+pub use shift_operator::ShiftOperator;
 pub use signal::Signal;
+pub use signal_id::SignalId;
 pub use span::Span;
 pub use stmt::Stmt;
-pub use target::Target;
+pub use target::{Target, span_of};
+pub use target_form::TargetForm;
 pub use touch::Touch;
-pub use touching::{note_drives, note_reads};
+pub use touching::{drives_of, reads_of, touches_of};
 pub use typed::{Typed, fits, value};
+pub use unary_operator::UnaryOperator;
 pub use update::Update;
+pub use writing::later_spans;

@@ -17,7 +17,7 @@ pub fn put(env: &mut [Bits], span: Span, x: u128)
     ensures widths { widths env.new ≡ widths env.old }
     ensures value { env_of env.new ≡ placed span x (env_of env.old) }
 {
-    let signal = span.signal as usize;
+    let signal = span.signal.index();
     let part = Bits::new(span.width, x);
     env[signal] = env[signal].replace(span.low as i16, part);
 }

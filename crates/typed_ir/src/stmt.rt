@@ -1,6 +1,6 @@
 // Statements, and the execution of one.
 ghost use Rattle.std.specs.Prelude.{◌≡◌, ◌≤◌, ◌+◌, ◌-◌, ◌^◌, min, ◌++◌, IsTrue, map, vec_len, vec_capacity};
-ghost use Rattle.typed_ir.specs.Stmts.{exec, exec_at, pending, pending_at, most_updates, is_legal, is_clocked};
+ghost use Rattle.typed_ir.specs.Stmts.{exec, exec_arms, pending, pending_arms, most_updates, most_arm_updates, is_legal, are_legal_arms, is_clocked, are_clocked_arms};
 ghost use Rattle.typed_ir.specs.Statements.{stmt_of, arm_of, sequence_of, arms_before};
 ghost use Rattle.typed_ir.specs.Views.{widths, env_of};
 
@@ -18,42 +18,56 @@ pub enum Stmt {
     /// The null statement.
     Skip,
     /// A blocking assignment to these parts, from left to right.
-    Assign(Vec<Target>, Typed),
+    Assign {
+        targets: Vec<Target>,
+        value: Typed,
+    },
     /// A nonblocking one.
-    Later(Vec<Target>, Typed),
+    Later {
+        targets: Vec<Target>,
+        value: Typed,
+    },
     /// `begin .. end`: one after another.
     Sequence(Vec<Stmt>),
     /// A condition, what is done where it isn't 0, and what is done where it is.
-    If(Typed, Box<Stmt>, Box<Stmt>),
+    If {
+        condition: Typed,
+        consequent: Box<Stmt>,
+        alternative: Box<Stmt>,
+    },
     /// A case's expression, its arms in their order, and what is done where none matches.
-    Case(Typed, Vec<Arm>, Box<Stmt>),
+    Case {
+        subject: Typed,
+        arms: Vec<Arm>,
+        otherwise: Box<Stmt>,
+    },
 }
 
 // Executes statements one after another.
 #[cycle(run)]
-fn run_all(list: &[Stmt], subject: u128, env: &mut [Bits])
+fn run_all(list: &[Stmt], env: &mut [Bits])
     requires { IsTrue (is_legal (sequence_of (map stmt_of list.now)) (widths env.old)) }
     ensures widths { widths env.new ≡ widths env.old }
-    ensures value { env_of env.new ≡ exec_at (sequence_of (map stmt_of list.now)) subject (env_of env.old) }
+    ensures value { env_of env.new ≡ exec (sequence_of (map stmt_of list.now)) (env_of env.old) }
 {
     for st in list {
-        st.run_at(subject, env);
+        st.run(env);
     }
 }
 
 // Executes the first arm that matches the value of a case's expression, or the default.
 #[cycle(run)]
 fn run_arms(arms: &[Arm], otherwise: &Stmt, subject: u128, env: &mut [Bits])
-    requires { IsTrue (is_legal (arms_before (map arm_of arms.now) (stmt_of otherwise.now)) (widths env.old)) }
+    requires { IsTrue (are_legal_arms (arms_before (map arm_of arms.now) (stmt_of otherwise.now)) (widths env.old)) }
     ensures widths { widths env.new ≡ widths env.old }
-    ensures value { env_of env.new ≡ exec_at (arms_before (map arm_of arms.now) (stmt_of otherwise.now)) subject (env_of env.old) }
+    ensures value { env_of env.new ≡ exec_arms (arms_before (map arm_of arms.now) (stmt_of otherwise.now)) subject (env_of env.old) }
 {
     for arm in arms {
         if matches_any(&arm.items, subject, env) {
-            return arm.body.run_at(subject, env);
+            return arm.body.run(env);
         }
     }
-    otherwise.run_at(subject, env)
+    otherwise.run(env)
 }
 
 // How many updates statements note at most.
@@ -71,7 +85,7 @@ fn most_of_all(list: &[Stmt]) -> usize
 // The same of the arms of a case and its default.
 #[cycle(count)]
 fn most_of_arms(arms: &[Arm], otherwise: &Stmt) -> usize
-    ensures { result ≡ min (most_updates (arms_before (map arm_of arms.now) (stmt_of otherwise.now))) (2 ^ 64 - 1) }
+    ensures { result ≡ min (most_arm_updates (arms_before (map arm_of arms.now) (stmt_of otherwise.now))) (2 ^ 64 - 1) }
 {
     let mut most = 0usize;
     for arm in arms {
@@ -82,72 +96,71 @@ fn most_of_arms(arms: &[Arm], otherwise: &Stmt) -> usize
 
 // Notes the updates of statements one after another.
 #[cycle(note)]
-fn note_statements(list: &[Stmt], subject: u128, env: &[Bits], updates: &mut Vec<Update>)
+fn note_statements(list: &[Stmt], env: &[Bits], updates: &mut Vec<Update>)
     requires legal { IsTrue (is_legal (sequence_of (map stmt_of list.now)) (widths env.now)) }
     requires clocked { IsTrue (is_clocked (sequence_of (map stmt_of list.now))) }
     requires room { vec_len updates.old + most_updates (sequence_of (map stmt_of list.now)) ≤ vec_capacity updates.old }
-    ensures noted { updates.new.items ≡ updates.old.items ++ pending_at (sequence_of (map stmt_of list.now)) subject (env_of env.now) }
+    ensures noted { updates.new.items ≡ updates.old.items ++ pending (sequence_of (map stmt_of list.now)) (env_of env.now) }
     ensures few { vec_len updates.new ≤ vec_len updates.old + most_updates (sequence_of (map stmt_of list.now)) }
     ensures capacity { vec_capacity updates.new ≡ vec_capacity updates.old }
 {
     for st in list {
-        st.note_at(subject, env, updates);
+        st.note(env, updates);
     }
 }
 
 // Notes the updates of the first arm that matches the value of a case's expression, or of the default.
 #[cycle(note)]
 fn note_arms(arms: &[Arm], otherwise: &Stmt, subject: u128, env: &[Bits], updates: &mut Vec<Update>)
-    requires legal { IsTrue (is_legal (arms_before (map arm_of arms.now) (stmt_of otherwise.now)) (widths env.now)) }
-    requires clocked { IsTrue (is_clocked (arms_before (map arm_of arms.now) (stmt_of otherwise.now))) }
-    requires room { vec_len updates.old + most_updates (arms_before (map arm_of arms.now) (stmt_of otherwise.now)) ≤ vec_capacity updates.old }
-    ensures noted { updates.new.items ≡ updates.old.items ++ pending_at (arms_before (map arm_of arms.now) (stmt_of otherwise.now)) subject (env_of env.now) }
-    ensures few { vec_len updates.new ≤ vec_len updates.old + most_updates (arms_before (map arm_of arms.now) (stmt_of otherwise.now)) }
+    requires legal { IsTrue (are_legal_arms (arms_before (map arm_of arms.now) (stmt_of otherwise.now)) (widths env.now)) }
+    requires clocked { IsTrue (are_clocked_arms (arms_before (map arm_of arms.now) (stmt_of otherwise.now))) }
+    requires room { vec_len updates.old + most_arm_updates (arms_before (map arm_of arms.now) (stmt_of otherwise.now)) ≤ vec_capacity updates.old }
+    ensures noted { updates.new.items ≡ updates.old.items ++ pending_arms (arms_before (map arm_of arms.now) (stmt_of otherwise.now)) subject (env_of env.now) }
+    ensures few { vec_len updates.new ≤ vec_len updates.old + most_arm_updates (arms_before (map arm_of arms.now) (stmt_of otherwise.now)) }
     ensures capacity { vec_capacity updates.new ≡ vec_capacity updates.old }
 {
     for arm in arms {
         if matches_any(&arm.items, subject, env) {
-            return arm.body.note_at(subject, env, updates);
+            return arm.body.note(env, updates);
         }
     }
-    otherwise.note_at(subject, env, updates)
+    otherwise.note(env, updates)
 }
 
 impl Stmt {
     /// Executes the blocking assignments in place.
+    #[cycle(run)]
     pub fn run(&self, env: &mut [Bits])
         requires { IsTrue (is_legal (stmt_of self.now) (widths env.old)) }
         ensures widths { widths env.new ≡ widths env.old }
         ensures value { env_of env.new ≡ exec (stmt_of self.now) (env_of env.old) }
     {
-        self.run_at(0, env)
-    }
-
-    // The same, within a case whose expression has this value.
-    #[cycle(run)]
-    fn run_at(&self, subject: u128, env: &mut [Bits])
-        requires { IsTrue (is_legal (stmt_of self.now) (widths env.old)) }
-        ensures widths { widths env.new ≡ widths env.old }
-        ensures value { env_of env.new ≡ exec_at (stmt_of self.now) subject (env_of env.old) }
-    {
         match self {
             Stmt::Skip => {}
-            Stmt::Assign(parts, e) => {
-                let x = e.form.value(env).value;
-                write_all(parts, env, x)
+            Stmt::Assign { targets, value } => {
+                let x = value.form.value(env).value;
+                write_all(targets, env, x)
             }
-            Stmt::Later(_, _) => {}
-            Stmt::Sequence(list) => run_all(list, subject, env),
-            Stmt::If(c, a, b) => {
-                if c.form.value(env).value == 0 {
-                    b.run_at(subject, env)
+            Stmt::Later { .. } => {}
+            Stmt::Sequence(list) => run_all(list, env),
+            Stmt::If {
+                condition,
+                consequent,
+                alternative,
+            } => {
+                if condition.form.value(env).value == 0 {
+                    alternative.run(env)
                 } else {
-                    a.run_at(subject, env)
+                    consequent.run(env)
                 }
             }
-            Stmt::Case(e, arms, otherwise) => {
-                let inner = e.form.value(env).value;
-                run_arms(arms, otherwise, inner, env)
+            Stmt::Case {
+                subject,
+                arms,
+                otherwise,
+            } => {
+                let x = subject.form.value(env).value;
+                run_arms(arms, otherwise, x, env)
             }
         }
     }
@@ -159,15 +172,26 @@ impl Stmt {
         ensures { result ≡ min (most_updates (stmt_of self.now)) (2 ^ 64 - 1) }
     {
         match self {
-            Stmt::Skip | Stmt::Assign(_, _) => 0,
-            Stmt::Later(parts, _) => parts.len(),
+            Stmt::Skip | Stmt::Assign { .. } => 0,
+            Stmt::Later { targets, .. } => targets.len(),
             Stmt::Sequence(list) => most_of_all(list),
-            Stmt::If(_, a, b) => a.most_updates().saturating_add(b.most_updates()),
-            Stmt::Case(_, arms, otherwise) => most_of_arms(arms, otherwise),
+            Stmt::If {
+                consequent,
+                alternative,
+                ..
+            } => consequent
+                .most_updates()
+                .saturating_add(alternative.most_updates()),
+            Stmt::Case {
+                arms,
+                otherwise,
+                ..
+            } => most_of_arms(arms, otherwise),
         }
     }
 
     /// Notes the nonblocking updates of a clocked block, in the order of execution. It takes no memory: there is room for them.
+    #[cycle(note)]
     pub fn note(&self, env: &[Bits], updates: &mut Vec<Update>)
         requires legal { IsTrue (is_legal (stmt_of self.now) (widths env.now)) }
         requires clocked { IsTrue (is_clocked (stmt_of self.now)) }
@@ -176,36 +200,31 @@ impl Stmt {
         ensures few { vec_len updates.new ≤ vec_len updates.old + most_updates (stmt_of self.now) }
         ensures capacity { vec_capacity updates.new ≡ vec_capacity updates.old }
     {
-        self.note_at(0, env, updates)
-    }
-
-    // The same, within a case whose expression has this value.
-    #[cycle(note)]
-    fn note_at(&self, subject: u128, env: &[Bits], updates: &mut Vec<Update>)
-        requires legal { IsTrue (is_legal (stmt_of self.now) (widths env.now)) }
-        requires clocked { IsTrue (is_clocked (stmt_of self.now)) }
-        requires room { vec_len updates.old + most_updates (stmt_of self.now) ≤ vec_capacity updates.old }
-        ensures noted { updates.new.items ≡ updates.old.items ++ pending_at (stmt_of self.now) subject (env_of env.now) }
-        ensures few { vec_len updates.new ≤ vec_len updates.old + most_updates (stmt_of self.now) }
-        ensures capacity { vec_capacity updates.new ≡ vec_capacity updates.old }
-    {
         match self {
-            Stmt::Skip | Stmt::Assign(_, _) => {}
-            Stmt::Later(parts, e) => {
-                let x = e.form.value(env).value;
-                note_all(parts, env, x, updates)
+            Stmt::Skip | Stmt::Assign { .. } => {}
+            Stmt::Later { targets, value } => {
+                let x = value.form.value(env).value;
+                note_all(targets, env, x, updates)
             }
-            Stmt::Sequence(list) => note_statements(list, subject, env, updates),
-            Stmt::If(c, a, b) => {
-                if c.form.value(env).value == 0 {
-                    b.note_at(subject, env, updates)
+            Stmt::Sequence(list) => note_statements(list, env, updates),
+            Stmt::If {
+                condition,
+                consequent,
+                alternative,
+            } => {
+                if condition.form.value(env).value == 0 {
+                    alternative.note(env, updates)
                 } else {
-                    a.note_at(subject, env, updates)
+                    consequent.note(env, updates)
                 }
             }
-            Stmt::Case(e, arms, otherwise) => {
-                let inner = e.form.value(env).value;
-                note_arms(arms, otherwise, inner, env, updates)
+            Stmt::Case {
+                subject,
+                arms,
+                otherwise,
+            } => {
+                let x = subject.form.value(env).value;
+                note_arms(arms, otherwise, x, env, updates)
             }
         }
     }

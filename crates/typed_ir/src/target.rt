@@ -1,7 +1,7 @@
 // What stands left of an assignment.
 ghost use Rattle.std.specs.Prelude.{◌≡◌, ◌≤◌, ◌<◌, ◌+◌, IsTrue, IfSome, option_to_list, ◌++◌, length, vec_len, vec_capacity};
 ghost use Rattle.typed_ir.specs.Sized.{is_span};
-ghost use Rattle.typed_ir.specs.Stmts.{update_of, moved, is_target, all_applied, written, updates_of, are_targets};
+ghost use Rattle.typed_ir.specs.Stmts.{span_of, update_of, moved, is_target, all_applied, written, updates_of, are_targets};
 ghost use Rattle.typed_ir.specs.Targets.{target_of, targets_of};
 ghost use Rattle.typed_ir.specs.Views.{widths, env_of};
 
@@ -20,7 +20,7 @@ pub enum Target {
     /// Bits that are known.
     Fixed(Lane),
     /// Bits from a place that is known at run time; those outside the variable are dropped.
-    Moving(Reach, Typed),
+    Moving { reach: Reach, index: Typed },
 }
 
 // The run from a place on, as far as it lies in the variable.
@@ -71,7 +71,7 @@ impl Target {
                 span: lane.span,
                 value: x >> lane.shift,
             }),
-            Target::Moving(reach, index) => {
+            Target::Moving { reach, index } => {
                 match place(index.form.value(env), reach.signed, reach.below) {
                     Some(at) => run_within(*reach, at, x >> reach.shift),
                     None => None,
@@ -102,6 +102,20 @@ impl Target {
         if let Some(update) = self.update(env, x) {
             updates.push_reserved(update);
         }
+    }
+}
+
+/// The bits that an assignment to a part may write; of a select at run time all of its variable.
+pub fn span_of(part: &Target) -> Span
+    ensures { result ≡ span_of (target_of part.now) }
+{
+    match part {
+        Target::Fixed(lane) => lane.span,
+        Target::Moving { reach, .. } => Span {
+            signal: reach.signal,
+            low: 0,
+            width: reach.total,
+        },
     }
 }
 

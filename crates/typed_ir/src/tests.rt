@@ -2,8 +2,8 @@
 ghost use Rattle.std.specs.Prelude.{◌≡◌};
 
 use crate::{
-    ArithmeticOperator, BinaryOperator, Comparison, Env, LogicalOperator, ShiftOperator, Span,
-    Typed, UnaryOperator, fits, value,
+    ArithmeticOperator, BinaryOperator, Comparison, Env, LogicalOperator, ShiftOperator, SignalId,
+    Span, Typed, UnaryOperator, fits, value,
 };
 use bits::Bits;
 use no_memory::NoMemory;
@@ -123,6 +123,12 @@ fn comparisons(rt: HostRuntime) -> Result<(), Fail> {
         (Comparison::AtMost(true), 127, TOP_127, ONES_127, 1),
         (Comparison::AtMost(true), 128, 0, TOP, 0),
         (Comparison::AtMost(false), 128, 0, TOP, 1),
+        (Comparison::Greater(true), 8, 1, 0x80, 1),
+        (Comparison::Greater(false), 8, 1, 0x80, 0),
+        (Comparison::Greater(false), 128, TOP, TOP, 0),
+        (Comparison::AtLeast(true), 8, 0x80, 1, 0),
+        (Comparison::AtLeast(false), 8, 0x80, 1, 1),
+        (Comparison::AtLeast(true), 128, TOP, TOP, 1),
     ];
     for (op, width, x, y, wanted) in table {
         let op = BinaryOperator::Compare(op);
@@ -241,11 +247,15 @@ fn unary_operators(rt: HostRuntime) -> Result<(), Fail> {
 #[test]
 fn selects(rt: HostRuntime) -> Result<(), Fail> {
     let env = two_signals(rt.alloc())?;
-    assert_eq!(rt; value_in(&rt, &Typed::name(0, 8), &env), 0xa5);
-    assert_eq!(rt; value_in(&rt, &Typed::name(1, 128), &env), TOP + 1);
+    assert_eq!(rt; value_in(&rt, &Typed::name(SignalId(0), 8), &env), 0xa5);
+    assert_eq!(rt;
+        value_in(&rt, &Typed::name(SignalId(1), 128), &env),
+        TOP + 1
+    );
     // the signal, the lowest bit and the width of a select
-    for (signal, low, width, wanted) in [(0, 4, 4, 0xa), (1, 64, 64, TOP_64), (1, 127, 1, 1)] {
+    for (number, low, width, wanted) in [(0, 4, 4, 0xa), (1, 64, 64, TOP_64), (1, 127, 1, 1)] {
         assert!(rt; width >= 1 && low <= 128 && width <= 128 - low);
+        let signal = SignalId(number);
         let e = Typed::part(Span { signal, low, width });
         assert_eq!(rt; value_in(&rt, &e, &env), wanted, "{width} bits from {low}");
     }
@@ -275,7 +285,7 @@ fn selects(rt: HostRuntime) -> Result<(), Fail> {
     for (signal, width, below, signed, index, wanted) in table {
         assert!(rt; width >= 1 && width <= 128);
         let place = number(&rt, 8, index);
-        let e = Typed::pick(rt.alloc(), signal, width, below, signed, place)?;
+        let e = Typed::pick(rt.alloc(), SignalId(signal), width, below, signed, place)?;
         assert_eq!(rt;
             value_in(&rt, &e, &env),
             wanted,
@@ -298,7 +308,7 @@ fn wide_indices(rt: HostRuntime) -> Result<(), Fail> {
     ];
     for (signed, index, wanted) in table {
         let place = number(&rt, 128, index);
-        let e = Typed::pick(rt.alloc(), 0, 4, 0, signed, place)?;
+        let e = Typed::pick(rt.alloc(), SignalId(0), 4, 0, signed, place)?;
         assert_eq!(rt; value_in(&rt, &e, &env), wanted, "from {index}");
     }
     Ok(())
@@ -307,15 +317,15 @@ fn wide_indices(rt: HostRuntime) -> Result<(), Fail> {
 #[test]
 fn signals_that_are_not_there(rt: HostRuntime) -> Result<(), Fail> {
     let env = two_signals(rt.alloc())?;
-    assert!(rt; !fits(&Typed::name(2, 8), &env));
-    assert!(rt; !fits(&Typed::name(0, 7), &env));
+    assert!(rt; !fits(&Typed::name(SignalId(2), 8), &env));
+    assert!(rt; !fits(&Typed::name(SignalId(0), 7), &env));
     let outside = Span {
-        signal: 0,
+        signal: SignalId(0),
         low: 5,
         width: 4,
     };
     assert!(rt; !fits(&Typed::part(outside), &env));
-    let absent = Typed::pick(rt.alloc(), 2, 1, 0, false, number(&rt, 4, 0))?;
+    let absent = Typed::pick(rt.alloc(), SignalId(2), 1, 0, false, number(&rt, 4, 0))?;
     assert!(rt; !fits(&absent, &env));
     Ok(())
 }
@@ -354,7 +364,7 @@ fn replications(rt: HostRuntime) -> Result<(), Fail> {
     assert_eq!(rt; ten.width, 10);
     assert_eq!(rt; value_in(&rt, &ten, &env), 0b01011_01011);
     // {8{ {2{s0}} }}
-    let two = Typed::repeat(rt.alloc(), 2, Typed::name(0, 8))?;
+    let two = Typed::repeat(rt.alloc(), 2, Typed::name(SignalId(0), 8))?;
     let sixteen = Typed::repeat(rt.alloc(), 8, two)?;
     assert_eq!(rt; sixteen.width, 128);
     assert_eq!(rt;
@@ -373,7 +383,7 @@ fn replications(rt: HostRuntime) -> Result<(), Fail> {
     let zeros = Typed::repeat(rt.alloc(), 42, number(&rt, 3, 0))?;
     assert_eq!(rt; zeros.width, 126);
     assert_eq!(rt; value_in(&rt, &zeros, &env), 0);
-    let once = Typed::repeat(rt.alloc(), 1, Typed::name(1, 128))?;
+    let once = Typed::repeat(rt.alloc(), 1, Typed::name(SignalId(1), 128))?;
     assert_eq!(rt; value_in(&rt, &once, &env), TOP + 1);
     Ok(())
 }
@@ -436,7 +446,12 @@ fn operators_within_operators(rt: HostRuntime) -> Result<(), Fail> {
     let env = two_signals(rt.alloc())?;
     // (s0 + 1) * 2: 0xa6, twice, modulo 256
     let sum = BinaryOperator::Arithmetic(ArithmeticOperator::Sum);
-    let next = Typed::binary(rt.alloc(), sum, Typed::name(0, 8), number(&rt, 8, 1))?;
+    let next = Typed::binary(
+        rt.alloc(),
+        sum,
+        Typed::name(SignalId(0), 8),
+        number(&rt, 8, 1),
+    )?;
     let product = BinaryOperator::Arithmetic(ArithmeticOperator::Product);
     let doubled = Typed::binary(rt.alloc(), product, next, number(&rt, 8, 2))?;
     assert_eq!(rt; value_in(&rt, &doubled, &env), 0x4c);
@@ -444,11 +459,11 @@ fn operators_within_operators(rt: HostRuntime) -> Result<(), Fail> {
     for (low, width, wanted) in [(0, 1, 2), (126, 2, 9)] {
         assert!(rt; width >= 1 && low <= 128 && width <= 128 - low);
         let place = Typed::part(Span {
-            signal: 1,
+            signal: SignalId(1),
             low,
             width,
         });
-        let e = Typed::pick(rt.alloc(), 0, 4, 0, false, place)?;
+        let e = Typed::pick(rt.alloc(), SignalId(0), 4, 0, false, place)?;
         assert_eq!(rt; value_in(&rt, &e, &env), wanted, "from s1[{low}]");
     }
     Ok(())

@@ -1,25 +1,27 @@
 // Which bits a node drives and which its text reads, as masks.
-ghost use Rattle.std.specs.Prelude.{◌≡◌, ◌+◌, ◌<◌, ◌&&◌, ◌==◌, ℕ, IfOk, nat_le, nat_lt, map};
+ghost use Rattle.std.specs.Prelude.{◌≡◌, ◌+◌, ◌<◌, ◌&&◌, ◌==◌, ℕ, IfOk, nat_le, nat_lt, map, []};
 ghost use Rattle.typed_ir.specs.Valuations.{within, any_within};
 ghost use Rattle.typed_ir.specs.Sized.{reads};
-ghost use Rattle.typed_ir.specs.Stmts.{targets, span_of, index_reads, item_reads};
+ghost use Rattle.typed_ir.specs.Stmts.{targets, arm_targets, span_of, index_reads, item_reads};
 ghost use Rattle.typed_ir.specs.Nodes.{node_drives, lane_spans};
 ghost use Rattle.typed_ir.specs.Forms.{sized};
 ghost use Rattle.typed_ir.specs.Targets.{target_of, targets_of};
 ghost use Rattle.typed_ir.specs.Statements.{item_of, stmt_of, arm_of, sequence_of, arms_before};
 ghost use Rattle.typed_ir.specs.FlatNodes.{node_of};
-ghost use Rattle.typed_ir.specs.Touches.{has_bit, Adds, all_reads, mentions};
+ghost use Rattle.typed_ir.specs.Touches.{has_bit, Adds, all_reads, all_arm_reads, mentions};
 
 use crate::arm::Arm;
 use crate::form::Form;
 use crate::item::Item;
 use crate::lane::Lane;
 use crate::node::Node;
+use crate::signal_id::SignalId;
 use crate::span::Span;
 use crate::stmt::Stmt;
-use crate::target::Target;
+use crate::target::{Target, span_of};
 use crate::touch::Touch;
 use no_memory::NoMemory;
+use std::alloc::Global;
 
 // The bits of a run, of which only those below 128 have a place in a mask.
 fn run_mask(low: u8, width: u8) -> u128
@@ -47,7 +49,7 @@ fn note_span(span: Span, touches: &mut Vec<Touch>) -> Result<(), NoMemory>
 }
 
 // Notes all bits of a signal.
-fn note_signal(signal: u32, touches: &mut Vec<Touch>) -> Result<(), NoMemory>
+fn note_signal(signal: SignalId, touches: &mut Vec<Touch>) -> Result<(), NoMemory>
     ensures { IfOk result (λ _. Adds touches.old.items touches.new.items (λ s i. s == signal)) }
 {
     touches.push(Touch {
@@ -63,21 +65,36 @@ fn note_form(form: &Form, touches: &mut Vec<Touch>) -> Result<(), NoMemory>
 {
     match form {
         Form::Constant(_) => Ok(()),
-        Form::Name(signal, _) => note_signal(*signal, touches),
+        Form::Name { signal, .. } => note_signal(*signal, touches),
         Form::Part(span) => note_span(*span, touches),
-        Form::Pick(signal, _, _, _, index) => {
+        Form::Pick { signal, index, .. } => {
             note_signal(*signal, touches)?;
             note_form(index, touches)
         }
-        Form::Unary(_, a) | Form::Repeat(_, _, a) | Form::Resized(a, _, _) => note_form(a, touches),
-        Form::Binary(_, a, b) | Form::Concat(_, a, b) => {
+        Form::Unary { operand: a, .. }
+        | Form::Repeat { part: a, .. }
+        | Form::Resized { operand: a, .. } => note_form(a, touches),
+        Form::Binary {
+            left: a,
+            right: b,
+            ..
+        }
+        | Form::Concat {
+            high: a,
+            low: b,
+            ..
+        } => {
             note_form(a, touches)?;
             note_form(b, touches)
         }
-        Form::Choice(c, a, b) => {
-            note_form(c, touches)?;
-            note_form(a, touches)?;
-            note_form(b, touches)
+        Form::Choice {
+            condition,
+            consequent,
+            alternative,
+        } => {
+            note_form(condition, touches)?;
+            note_form(consequent, touches)?;
+            note_form(alternative, touches)
         }
     }
 }
@@ -89,7 +106,7 @@ fn note_indices(parts: &[Target], touches: &mut Vec<Touch>) -> Result<(), NoMemo
     for part in parts {
         match part {
             Target::Fixed(_) => {}
-            Target::Moving(_, index) => note_form(&index.form, touches)?,
+            Target::Moving { index, .. } => note_form(&index.form, touches)?,
         }
     }
     Ok(())
@@ -112,18 +129,26 @@ fn note_reads_of(st: &Stmt, touches: &mut Vec<Touch>) -> Result<(), NoMemory>
 {
     match st {
         Stmt::Skip => Ok(()),
-        Stmt::Assign(parts, e) | Stmt::Later(parts, e) => {
-            note_form(&e.form, touches)?;
-            note_indices(parts, touches)
+        Stmt::Assign { targets, value } | Stmt::Later { targets, value } => {
+            note_form(&value.form, touches)?;
+            note_indices(targets, touches)
         }
         Stmt::Sequence(list) => note_reads_of_all(list, touches),
-        Stmt::If(c, a, b) => {
-            note_form(&c.form, touches)?;
-            note_reads_of(a, touches)?;
-            note_reads_of(b, touches)
+        Stmt::If {
+            condition,
+            consequent,
+            alternative,
+        } => {
+            note_form(&condition.form, touches)?;
+            note_reads_of(consequent, touches)?;
+            note_reads_of(alternative, touches)
         }
-        Stmt::Case(e, arms, otherwise) => {
-            note_form(&e.form, touches)?;
+        Stmt::Case {
+            subject,
+            arms,
+            otherwise,
+        } => {
+            note_form(&subject.form, touches)?;
             note_reads_of_arms(arms, otherwise, touches)
         }
     }
@@ -147,13 +172,23 @@ fn note_reads_of_arms(
     otherwise: &Stmt,
     touches: &mut Vec<Touch>,
 ) -> Result<(), NoMemory>
-    ensures { IfOk result (λ _. Adds touches.old.items touches.new.items (all_reads (arms_before (map arm_of arms.now) (stmt_of otherwise.now)))) }
+    ensures { IfOk result (λ _. Adds touches.old.items touches.new.items (all_arm_reads (arms_before (map arm_of arms.now) (stmt_of otherwise.now)))) }
 {
     for arm in arms {
         note_items(&arm.items, touches)?;
         note_reads_of(&arm.body, touches)?;
     }
     note_reads_of(otherwise, touches)
+}
+
+// Notes the bits of spans.
+fn note_spans(spans: &[Span], touches: &mut Vec<Touch>) -> Result<(), NoMemory>
+    ensures { IfOk result (λ _. Adds touches.old.items touches.new.items (any_within spans.now)) }
+{
+    for span in spans {
+        note_span(*span, touches)?;
+    }
+    Ok(())
 }
 
 // Notes the bits of a target's lanes.
@@ -164,20 +199,6 @@ fn note_lanes(lanes: &[Lane], touches: &mut Vec<Touch>) -> Result<(), NoMemory>
         note_span(lane.span, touches)?;
     }
     Ok(())
-}
-
-// The bits that an assignment to a part may write.
-fn span_of(part: &Target) -> Span
-    ensures { result ≡ span_of (target_of part.now) }
-{
-    match part {
-        Target::Fixed(lane) => lane.span,
-        Target::Moving(reach, _) => Span {
-            signal: reach.signal,
-            low: 0,
-            width: reach.total,
-        },
-    }
 }
 
 // Notes the bits that an assignment to these parts may write.
@@ -196,14 +217,22 @@ fn note_targets(st: &Stmt, touches: &mut Vec<Touch>) -> Result<(), NoMemory>
     ensures { IfOk result (λ _. Adds touches.old.items touches.new.items (any_within (targets (stmt_of st.now)))) }
 {
     match st {
-        Stmt::Skip | Stmt::Later(_, _) => Ok(()),
-        Stmt::Assign(parts, _) => note_parts(parts, touches),
+        Stmt::Skip | Stmt::Later { .. } => Ok(()),
+        Stmt::Assign { targets, .. } => note_parts(targets, touches),
         Stmt::Sequence(list) => note_targets_of_all(list, touches),
-        Stmt::If(_, a, b) => {
-            note_targets(a, touches)?;
-            note_targets(b, touches)
+        Stmt::If {
+            consequent,
+            alternative,
+            ..
+        } => {
+            note_targets(consequent, touches)?;
+            note_targets(alternative, touches)
         }
-        Stmt::Case(_, arms, otherwise) => note_targets_of_arms(arms, otherwise, touches),
+        Stmt::Case {
+            arms,
+            otherwise,
+            ..
+        } => note_targets_of_arms(arms, otherwise, touches),
     }
 }
 
@@ -225,7 +254,7 @@ fn note_targets_of_arms(
     otherwise: &Stmt,
     touches: &mut Vec<Touch>,
 ) -> Result<(), NoMemory>
-    ensures { IfOk result (λ _. Adds touches.old.items touches.new.items (any_within (targets (arms_before (map arm_of arms.now) (stmt_of otherwise.now))))) }
+    ensures { IfOk result (λ _. Adds touches.old.items touches.new.items (any_within (arm_targets (arms_before (map arm_of arms.now) (stmt_of otherwise.now))))) }
 {
     for arm in arms {
         note_targets(&arm.body, touches)?;
@@ -233,24 +262,51 @@ fn note_targets_of_arms(
     note_targets(otherwise, touches)
 }
 
-/// Adds the bits that the text of a node reads: a select whose bits are known its bits, a name or a select at run time the
-/// whole signal. A block's reads of what it wrote before are among them.
-pub fn note_reads(node: &Node, touches: &mut Vec<Touch>) -> Result<(), NoMemory>
+// Notes the bits that the text of a node reads.
+fn note_reads(node: &Node, touches: &mut Vec<Touch>) -> Result<(), NoMemory>
     ensures { IfOk result (λ _. Adds touches.old.items touches.new.items (mentions (node_of node.now))) }
 {
     match node {
-        Node::Drive(_, e) => note_form(&e.form, touches),
-        Node::Block(body) => note_reads_of(body, touches),
+        Node::Drive { value, .. } => note_form(&value.form, touches),
+        Node::Block { body, .. } => note_reads_of(body, touches),
     }
 }
 
-/// Adds the bits that a node drives.
+// Notes the bits that a node drives.
 #[tactic(auto, unfolding(crate::specs::Nodes::node_drives))]
-pub fn note_drives(node: &Node, touches: &mut Vec<Touch>) -> Result<(), NoMemory>
+fn note_drives(node: &Node, touches: &mut Vec<Touch>) -> Result<(), NoMemory>
     ensures { IfOk result (λ _. Adds touches.old.items touches.new.items (node_drives (node_of node.now))) }
 {
     match node {
-        Node::Drive(lanes, _) => note_lanes(lanes, touches),
-        Node::Block(body) => note_targets(body, touches),
+        Node::Drive { lanes, .. } => note_lanes(lanes, touches),
+        Node::Block { body, .. } => note_targets(body, touches),
     }
+}
+
+/// The bits that the text of a node reads: a select whose bits are known its bits, a name or a select at run time the whole
+/// signal. A block's reads of what it wrote before are among them.
+pub fn reads_of(alloc: Global, node: &Node) -> Result<Vec<Touch>, NoMemory>
+    ensures { IfOk result (λ touches. Adds [] touches.items (mentions (node_of node.now))) }
+{
+    let mut touches = Vec::new(alloc);
+    note_reads(node, &mut touches)?;
+    Ok(touches)
+}
+
+/// The bits that a node drives.
+pub fn drives_of(alloc: Global, node: &Node) -> Result<Vec<Touch>, NoMemory>
+    ensures { IfOk result (λ touches. Adds [] touches.items (node_drives (node_of node.now))) }
+{
+    let mut touches = Vec::new(alloc);
+    note_drives(node, &mut touches)?;
+    Ok(touches)
+}
+
+/// The bits of spans.
+pub fn touches_of(alloc: Global, spans: &[Span]) -> Result<Vec<Touch>, NoMemory>
+    ensures { IfOk result (λ touches. Adds [] touches.items (any_within spans.now)) }
+{
+    let mut touches = Vec::new(alloc);
+    note_spans(spans, &mut touches)?;
+    Ok(touches)
 }

@@ -5,10 +5,12 @@ ghost use Rattle.typed_ir.specs.Forms.{sized};
 ghost use Rattle.typed_ir.specs.Views.{widths, env_of};
 
 use crate::apply::{binary_width, unary_width};
+use crate::binary_operator::BinaryOperator;
 use crate::env::Env;
 use crate::form::Form;
-use crate::operators::{BinaryOperator, UnaryOperator};
+use crate::signal_id::SignalId;
 use crate::span::Span;
+use crate::unary_operator::UnaryOperator;
 use bits::Bits;
 use no_memory::NoMemory;
 use std::alloc::Global;
@@ -52,7 +54,7 @@ impl Typed {
     }
 
     /// A signal as a whole, by its number and width.
-    pub fn name(signal: u32, width: u8) -> Typed
+    pub fn name(signal: SignalId, width: u8) -> Typed
         requires at_least_one { 1 ≤ width }
         requires at_most_128 { width ≤ 128 }
         ensures width { result.width ≡ width }
@@ -60,7 +62,7 @@ impl Typed {
     {
         Typed {
             width,
-            form: Form::Name(signal, width),
+            form: Form::Name { signal, width },
         }
     }
 
@@ -71,8 +73,9 @@ impl Typed {
         ensures width { result.width ≡ span.width }
         ensures form { sized result.form ≡ Part span }
     {
+        let width = span.width;
         Typed {
-            width: span.width,
+            width,
             form: Form::Part(span),
         }
     }
@@ -80,7 +83,7 @@ impl Typed {
     /// `width` bits of a signal from a place that is known at run time: the index, read by its own type, less `below`.
     pub fn pick(
         alloc: Global,
-        signal: u32,
+        signal: SignalId,
         width: u8,
         below: u32,
         signed: bool,
@@ -94,7 +97,13 @@ impl Typed {
         let index = Box::new(alloc, index.form)?;
         Ok(Typed {
             width,
-            form: Form::Pick(signal, width, below, signed, index),
+            form: Form::Pick {
+                signal,
+                width,
+                below,
+                signed,
+                index,
+            },
         })
     }
 }
@@ -108,7 +117,11 @@ impl Typed {
         ensures form { IfOk result (λ e. sized e.form ≡ Unary op (sized a.form)) }
     {
         let width = unary_width(op, a.width);
-        let form = Form::Unary(op, Box::new(alloc, a.form)?);
+        let operand = Box::new(alloc, a.form)?;
+        let form = Form::Unary {
+            operator: op,
+            operand,
+        };
         Ok(Typed { width, form })
     }
 
@@ -123,7 +136,11 @@ impl Typed {
         let width = binary_width(op, a.width);
         let first = Box::new(alloc, a.form)?;
         let second = Box::new(alloc, b.form)?;
-        let form = Form::Binary(op, first, second);
+        let form = Form::Binary {
+            operator: op,
+            left: first,
+            right: second,
+        };
         Ok(Typed { width, form })
     }
 
@@ -137,7 +154,11 @@ impl Typed {
         let condition = Box::new(alloc, c.form)?;
         let first = Box::new(alloc, a.form)?;
         let second = Box::new(alloc, b.form)?;
-        let form = Form::Choice(condition, first, second);
+        let form = Form::Choice {
+            condition,
+            consequent: first,
+            alternative: second,
+        };
         Ok(Typed { width, form })
     }
 
@@ -150,7 +171,11 @@ impl Typed {
         let width = high.width + low.width;
         let upper = Box::new(alloc, high.form)?;
         let lower = Box::new(alloc, low.form)?;
-        let form = Form::Concat(width, upper, lower);
+        let form = Form::Concat {
+            width,
+            high: upper,
+            low: lower,
+        };
         Ok(Typed { width, form })
     }
 
@@ -162,7 +187,8 @@ impl Typed {
         ensures form { IfOk result (λ e. sized e.form ≡ Repeat (count * a.width) count (sized a.form)) }
     {
         let width = count * a.width;
-        let form = Form::Repeat(width, count, Box::new(alloc, a.form)?);
+        let part = Box::new(alloc, a.form)?;
+        let form = Form::Repeat { width, count, part };
         Ok(Typed { width, form })
     }
 
@@ -173,7 +199,12 @@ impl Typed {
         ensures width { IfOk result (λ e. e.width ≡ width) }
         ensures form { IfOk result (λ e. sized e.form ≡ Resized (sized a.form) width signed) }
     {
-        let form = Form::Resized(Box::new(alloc, a.form)?, width, signed);
+        let operand = Box::new(alloc, a.form)?;
+        let form = Form::Resized {
+            operand,
+            width,
+            signed,
+        };
         Ok(Typed { width, form })
     }
 }

@@ -5,7 +5,7 @@ use Rattle.typed_ir.specs.Nodes.{node_drives}
 use Rattle.typed_ir.specs.Touches.{touched}
 use Rattle.comb_order.specs.declared.drivers.Driver.{Driver}
 use Rattle.comb_order.specs.Driving.{row_in, drives_in, AllRise}
-use Rattle.comb_order.proofs.Tables.{written_back, drives_more}
+use Rattle.comb_order.proofs.Tables.{written_back, at_more}
 use Rattle.comb_order.proofs.Rising.{none_rise, all_wider}
 use Rattle.comb_order.proofs.drivers.drivers_of.Goals as goal
 
@@ -37,8 +37,8 @@ loop-k-preserved c =
           ap (λ z. drives_in (row_in z s) a i) whole
           ∙ c.in_ok-add_touches.ensures.drives a s i (omega (arith, small, ap length c.deref_mut.ensures.value, c.loop-k.invariant.length))
           ∙ ap₂ (λ z t. drives_in (row_in z s) a i || ((a == k) && t)) c.deref_mut.ensures.value
-          (ap (λ z. touched z s i) c.deref.ensures.value ∙ c.in_ok-note_drives.ensures.says s i low ∙ ap (λ z. touched z s i || own) c.clear.ensures.items)
+          (ap (λ z. touched z s i) c.deref.ensures.value ∙ c.in_ok-touches.ensures.says s i low)
           ∙ ap (λ z. z || ((a == k) && own)) (c.loop-k.invariant.drives a s i small low)
-          ∙ sym (drives_more c.args.nodes.now k x a s i c.loop-k-test.true c.index-nodes-k.is));
+          ∙ sym (at_more node_drives node_of c.args.nodes.now k x a s i c.loop-k-test.true c.index-nodes-k.is));
       rises = subst (λ (t : List (Vec Driver Global)). AllRise t (c.loop-k.k + 1)) (sym whole) c.in_ok-add_touches.ensures.rises;
     }

@@ -1,14 +1,14 @@
-use Rattle.std.proofs.Common.{◌<◌, length, arith, ◌∙◌, ◌+◌, ◌||◌, ◌&&◌, ◌==◌, not, drop, get_or, ap, sym}
+use Rattle.std.proofs.Common.{◌<◌, length, arith, ◌∙◌, ◌+◌, ◌||◌, ◌&&◌, ◌==◌, not, drop, ap, sym}
 use Rattle.comb_order.specs.Graphs.{rows_of}
 use Rattle.comb_order.specs.Driving.{drives_some, drives_any, edge}
-use Rattle.typed_ir.proofs.Lists.{drop_split}
+use Rattle.typed_ir.proofs.Lists.{drop_read}
 use Rattle.comb_order.proofs.Rows.{joined}
 use Rattle.comb_order.proofs.edges.connect.Goals as goal
 
 pub loop-touch-preserved : goal.loop-touch-preserved
 loop-touch-preserved c =
     let b = c.args.b in
-    let touch = get_or c.args.touches.now c.loop-touch.touch-index (record { signal = 0; mask = 0 }) in
+    let touch = c.touch-item.result in
     let j = c.loop-touch.touch-index in
     let drivers = c.drivers_at.result.now in
     record {
@@ -21,7 +21,7 @@ loop-touch-preserved c =
           joined old (t == b) (drives_some drivers touch.mask a) rest foreign _ _
           (c.in_ok-connect_signal.ensures.edges a t there)
           (ap (λ z. old || ((t == b) && (z && foreign)))
-          (sym (ap (λ z. drives_any c.args.table.now z a) (drop_split c.args.touches.now j (record { signal = 0; mask = 0 }) c.loop-touch-test.true)
+          (sym (ap (λ z. drives_any c.args.table.now z a) (drop_read c.args.touches.now j touch c.loop-touch-test.true c.touch-item.is)
           ∙ ap (λ z. drives_some z touch.mask a || rest) (sym c.drivers_at.ensures)))
           ∙ c.loop-touch.invariant.edges a t there));
     }

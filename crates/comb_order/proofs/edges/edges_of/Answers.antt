@@ -29,8 +29,8 @@ loop-b-preserved c =
           omega (arith, e, same, c.loop-b.invariant.size));
       rows = subst (λ z. AreRows (b + 1) (rows_of z)) (sym whole) (rows_next (rows_of new) b c.in_ok-connect.ensures.rows);
       edges = subst (λ z. AreEdges (map node_of nodes) (b + 1) (rows_of z)) (sym whole)
-          (edges_step (map node_of nodes) c.args.table.now (rows_of rows.items) (rows_of new) b c.note_reads.new.touches.items c.requires.table c.requires.plain
-          (λ s i low. c.in_ok-note_reads.ensures.says s i low ∙ ap (λ z. touched z s i || mentions (node_of x) s i) c.clear.ensures.items
+          (edges_step (map node_of nodes) c.args.table.now (rows_of rows.items) (rows_of new) b c.in_ok-touches.touches.items c.requires.table c.requires.plain
+          (λ s i low. c.in_ok-touches.ensures.says s i low
           ∙ sym (ap (λ f. f s i) (at_read mentions nowhere node_of nodes b x c.loop-b-test.true c.index-nodes-b.is)))
           (length_rows new ∙ same ∙ sym (length_rows rows.items))
           (λ a t h.

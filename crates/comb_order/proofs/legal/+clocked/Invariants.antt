@@ -1,6 +1,6 @@
 -- The walk goes down the nesting; lists of statements and arms stand between a statement and those in it.
 use Rattle.std.proofs.Common.{◌≡◌, ◌+◌, ◌*◌, max, map, drop}
-use Rattle.typed_ir.specs.Stmts.{is_clocked}
+use Rattle.typed_ir.specs.Stmts.{is_clocked, are_clocked_arms}
 use Rattle.typed_ir.specs.Statements.{stmt_of, arm_of, sequence_of, arms_before}
 use Rattle.typed_ir.proofs.stmt.Stmt.TheLaws.{the_size}
 use Rattle.comb_order.proofs.legal.+clocked.Given as goal
@@ -19,5 +19,5 @@ invariant-all_clocked-loop-st l = is_clocked (sequence_of (map stmt_of (drop l.s
     ≡ is_clocked (sequence_of (map stmt_of l.list))
 
 abbrev pub invariant-arms_clocked-loop-arm : goal.invariant-arms_clocked-loop-arm
-invariant-arms_clocked-loop-arm l = is_clocked (arms_before (map arm_of (drop l.arm-index l.arms)) (stmt_of l.otherwise))
-    ≡ is_clocked (arms_before (map arm_of l.arms) (stmt_of l.otherwise))
+invariant-arms_clocked-loop-arm l = are_clocked_arms (arms_before (map arm_of (drop l.arm-index l.arms)) (stmt_of l.otherwise))
+    ≡ are_clocked_arms (arms_before (map arm_of l.arms) (stmt_of l.otherwise))

@@ -1,6 +1,6 @@
 -- The walk goes down the nesting; lists of statements and arms stand between a statement and those in it.
 use Rattle.std.proofs.Common.{◌≡◌, ◌+◌, ◌*◌, max, map, drop}
-use Rattle.typed_ir.specs.Stmts.{is_legal}
+use Rattle.typed_ir.specs.Stmts.{is_legal, are_legal_arms}
 use Rattle.typed_ir.specs.Views.{widths}
 use Rattle.typed_ir.specs.Statements.{stmt_of, arm_of, sequence_of, arms_before}
 use Rattle.typed_ir.proofs.stmt.Stmt.TheLaws.{the_size}
@@ -20,5 +20,5 @@ invariant-all_legal-loop-st l = is_legal (sequence_of (map stmt_of (drop l.st-in
     ≡ is_legal (sequence_of (map stmt_of l.list)) (widths l.env)
 
 abbrev pub invariant-arms_legal-loop-arm : goal.invariant-arms_legal-loop-arm
-invariant-arms_legal-loop-arm l = is_legal (arms_before (map arm_of (drop l.arm-index l.arms)) (stmt_of l.otherwise)) (widths l.env)
-    ≡ is_legal (arms_before (map arm_of l.arms) (stmt_of l.otherwise)) (widths l.env)
+invariant-arms_legal-loop-arm l = are_legal_arms (arms_before (map arm_of (drop l.arm-index l.arms)) (stmt_of l.otherwise)) (widths l.env)
+    ≡ are_legal_arms (arms_before (map arm_of l.arms) (stmt_of l.otherwise)) (widths l.env)

@@ -2,5 +2,5 @@ use Rattle.std.proofs.Common.{◌≡◌, drop}
 use Rattle.typed_ir.specs.Flats.{are_below}
 use Rattle.comb_order.proofs.legal.are_below.Given as goal
 
-abbrev pub invariant-loop-number : goal.invariant-loop-number
-invariant-loop-number l = are_below (drop l.number-index l.numbers) l.count ≡ are_below l.numbers l.count
+abbrev pub invariant-loop-signal : goal.invariant-loop-signal
+invariant-loop-signal l = are_below (drop l.signal-index l.signals) l.count ≡ are_below l.signals l.count

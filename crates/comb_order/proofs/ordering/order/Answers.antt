@@ -8,7 +8,7 @@ use Rattle.comb_order.specs.Graphs.{rows_of, waiting, HasEdge}
 use Rattle.comb_order.specs.Kahn.{IsClosed}
 use Rattle.comb_order.specs.Refusals.{IsRefusal}
 use Rattle.comb_order.proofs.Counts.{length_rows}
-use Rattle.comb_order.proofs.Designs.{order_of, refusal_of, no_order, graph_closed, graph_few}
+use Rattle.comb_order.proofs.Designs.{order_of, exactly, no_order, graph_closed, graph_few}
 use Rattle.comb_order.proofs.ordering.order.Goals as goal
 
 pub ordered-requires-clause-closed : goal.ordered-requires-clause-closed
@@ -39,11 +39,13 @@ returns-clause-order c =
     (subst (λ n. IsOrderOf (HasEdge (rows_of rows)) n order.items) (sym (length_rows rows)) o))
     (subst (λ g. IfOk c.ordered.result (λ order. IsOrderOf (HasEdge (rows_of g)) (length g) order.items)) c.deref.ensures.value c.ordered.ensures.order)
 
-pub returns-clause-refusal : goal.returns-clause-refusal
-returns-clause-refusal c =
+pub returns-clause-exactly : goal.returns-clause-exactly
+returns-clause-exactly c =
     let rows = c.in-Ok.graph.items in
-    IfErr-weaker c.ordered.result _ _
-    (λ r h. refusal_of (flat c.args.design.now).nodes (rows_of rows) r c.in-Ok.ensures.graph h)
+    let nodes = (flat c.args.design.now).nodes in
+    exactly nodes (rows_of rows) c.ordered.result c.in-Ok.ensures.graph
+    (IfOk-weaker c.ordered.result _ _ (λ order o. subst (λ n. IsOrderOf (HasEdge (rows_of rows)) n order.items) (sym (length_rows rows)) o)
+    (subst (λ g. IfOk c.ordered.result (λ order. IsOrderOf (HasEdge (rows_of g)) (length g) order.items)) c.deref.ensures.value c.ordered.ensures.order))
     (subst (λ g. IfErr c.ordered.result (λ r. IsRefusal (HasEdge (rows_of g)) (length (rows_of g)) r)) c.deref.ensures.value c.ordered.ensures.refusal)
 
 pub returns-clause-none : goal.returns-clause-none

@@ -44,7 +44,8 @@ invariant_of-result c =
       registers_there = sized.three;
       inputs_there = sized.four;
       few = c.requires.few;
-      sound = ∣ flat_sound (flat_from signals registers inputs nodes clocked) table is c.requires.complete c.requires.first held driven ∣₁;
+      sound = ∣ flat_sound (flat_from signals registers inputs nodes clocked) table is c.requires.complete c.requires.first held driven
+          (c.in_ok-written.ensures.one c.if-not-written.false) ∣₁;
     }
 
 pub returns-then-not-are_sized-clause-refused : goal.returns-then-not-are_sized-clause-refused
@@ -81,3 +82,23 @@ returns-then-not-are_driven_once-clause-refused c = λ (is : IsDesign c.args.par
     true≢false (sym (driven_passes (flat_from signals registers inputs nodes clocked) table (length c.deref-3.result.now) whole c.in_ok-table.ensures.rises is.flat)
     ∙ ap (λ (t : List (Vec Driver Global)). rows_apart t && (are_undriven t registers && are_undriven t inputs)) (sym c.deref-4.ensures.value)
     ∙ sym c.are_driven_once.ensures ∙ c.if-not-are_driven_once.true)
+
+pub are_written_once-requires : goal.are_written_once-requires
+are_written_once-requires c =
+    let signals = c.args.parts.signals.items in
+    let registers = c.args.parts.registers.items in
+    let inputs = c.args.parts.inputs.items in
+    let nodes = c.args.parts.nodes.items in
+    let clocked = c.args.parts.clocked.items in
+    let ws = signal_widths signals in
+    let widths_are : widths c.deref-2.result.now ≡ ws =
+    ap widths c.deref-2.ensures.value ∙ c.in_ok-env.ensures ∙ ap signal_widths c.deref.ensures.value in
+    let sized : All4 (are_legal (map node_of nodes) ws) (are_clocked clocked ws) (are_below registers (length signals)) (are_below inputs (length signals)) =
+    all_four _ _ _ _
+    (subst (λ (w : List ℕ). (are_legal (map node_of nodes) w && (are_clocked clocked w && (are_below registers (length signals) && are_below inputs (length signals)))) ≡ true)
+    widths_are (sym c.are_sized.ensures ∙ c.if-not-are_sized.false)) in
+    sized.two
+
+pub returns-then-not-written-clause-refused : goal.returns-then-not-written-clause-refused
+returns-then-not-written-clause-refused c = λ (is : IsDesign c.args.parts).
+    c.in_ok-written.ensures.two c.if-not-written.true is.flat.one_writer

@@ -1,16 +1,22 @@
-use Rattle.std.proofs.Common.{◌≡◌, ◌++◌, ◌<◌, ◌∙◌, ℕ, List, length, get_or, map, sym, ap₂, subst}
+use Rattle.std.proofs.Common.{rules, ◌≡◌, ◌++◌, ◌<◌, ◌∙◌, ℕ, List, length, get_or, map, sym, ap, ap₂, subst, arith}
 use Rattle.std.specs.Prelude.{IfOk}
 use Rattle.std.proofs.lemmas.List.{append-nil, at_drop_all}
 use Rattle.bits.proofs.Modulo.{small}
 use Rattle.typed_ir.specs.States.{sized_value}
 use Rattle.cycle_eval.specs.Paths.{width_in, initial_in}
 use Rattle.cycle_eval.specs.States.{paired}
-use Rattle.cycle_eval.proofs.Loads.{below_read, pairs_of}
+use Rattle.cycle_eval.proofs.Loads.{below_read, read_any, pairs_of}
 use Rattle.cycle_eval.proofs.Carries.{width_read, initial_read, push_step, pair}
 use Rattle.cycle_eval.proofs.carrying.beginnings.Goals as goal
 
-pub bounds-signals-register : goal.bounds-signals-register
-bounds-signals-register c = below_read c.args.registers.now (length c.args.signals.now) c.loop-register.register-index c.requires c.loop-register-test.true
+pub bounds-signals-place : goal.bounds-signals-place
+bounds-signals-place c =
+    let rs = c.args.registers.now in
+    let i = c.loop-register.register-index in
+    let listed : get_or rs i 0 < length c.args.signals.now = below_read rs (length c.args.signals.now) i c.requires c.loop-register-test.true in
+    let same : c.index-place.result ≡ get_or rs i 0 =
+    c.index-place.ensures ∙ c.register-item.is ∙ read_any rs i c.register-item.result 0 c.loop-register-test.true in
+    omega (arith, listed, same)
 
 pub loop-register-preserved : goal.loop-register-preserved
 loop-register-preserved c =
@@ -18,12 +24,15 @@ loop-register-preserved c =
     let rs = c.args.registers.now in
     let i = c.loop-register.register-index in
     let f : ℕ → ℕ × ℕ = λ r. (width_in signals r, initial_in signals r) in
-    let x = c.index-signals-register.result in
+    let x = c.index-signals-place.result in
     let r = get_or rs i 0 in
-    let there : r < length signals = below_read rs (length signals) i c.requires c.loop-register-test.true in
+    let at = c.index-place.result in
+    let same : at ≡ r = c.index-place.ensures ∙ c.register-item.is ∙ read_any rs i c.register-item.result 0 c.loop-register-test.true in
+    let listed : r < length signals = below_read rs (length signals) i c.requires c.loop-register-test.true in
+    let there : at < length signals = omega (arith, listed, same) in
     let here : sized_value c.new.result ≡ f r = ap₂ pair
-    (c.new.ensures.width ∙ width_read signals r x there c.index-signals-register.is)
-    (c.new.ensures.value ∙ small x.initial x.width x.fits ∙ initial_read signals r x there c.index-signals-register.is) in
+    (c.new.ensures.width ∙ width_read signals at x there c.index-signals-place.is ∙ ap (width_in signals) same)
+    (c.new.ensures.value ∙ small x.initial x.width x.fits ∙ initial_read signals at x there c.index-signals-place.is ∙ ap (initial_in signals) same) in
     push_step f rs i c.loop-register.values.items c.push.new.self.items c.new.result c.loop-register-test.true here c.in_ok-push.ensures.items
     ∙ c.loop-register.invariant
 
@@ -38,3 +47,13 @@ returns c =
     ∙ sym (at_drop_all (λ (zs : List ℕ). map sized_value items ++ map f zs) rs c.loop-register.register-index c.loop-register-test.false)
     ∙ c.loop-register.invariant ∙ pairs_of (width_in signals) (initial_in signals) rs in
     subst (λ z. IfOk c.new-2.result (λ s. s ≡ z)) whole c.new-2.ensures
+
+pub offset_bounds-signals-place : goal.offset_bounds-signals-place
+offset_bounds-signals-place c =
+    let rs = c.args.registers.now in
+    let i = c.loop-register.register-index in
+    let listed : get_or rs i 0 < length c.args.signals.now = below_read rs (length c.args.signals.now) i c.requires c.loop-register-test.true in
+    let same : c.index-place.result ≡ get_or rs i 0 =
+    c.index-place.ensures ∙ c.register-item.is ∙ read_any rs i c.register-item.result 0 c.loop-register-test.true in
+    let within : c.index-place.result < length c.args.signals.now = omega (arith, listed, same) in
+    search (rules, within)

@@ -1,16 +1,22 @@
-use Rattle.std.proofs.Common.{◌≡◌, ◌++◌, ◌<◌, ◌%◌, ◌^◌, ◌∙◌, ℕ, List, length, get_or, map, sym, ap, ap₂, subst}
+use Rattle.std.proofs.Common.{rules, ◌≡◌, ◌++◌, ◌<◌, ◌%◌, ◌^◌, ◌∙◌, ℕ, List, length, get_or, map, sym, ap, ap₂, subst, arith}
 use Rattle.std.specs.Prelude.{IfOk}
 use Rattle.std.proofs.lemmas.List.{append-nil, at_drop_all}
 use Rattle.typed_ir.specs.States.{sized_value}
 use Rattle.cycle_eval.specs.Kits.{carried_value}
 use Rattle.cycle_eval.specs.Paths.{register_in, width_in, initial_in, carried_in}
 use Rattle.cycle_eval.specs.States.{paired, state_values}
-use Rattle.cycle_eval.proofs.Loads.{below_read, pairs_of}
+use Rattle.cycle_eval.proofs.Loads.{below_read, read_any, pairs_of}
 use Rattle.cycle_eval.proofs.Carries.{width_read, initial_read, register_read, push_step, pair}
 use Rattle.cycle_eval.proofs.carrying.carried_into.Goals as goal
 
-pub bounds-signals-register : goal.bounds-signals-register
-bounds-signals-register c = below_read c.args.registers.now (length c.args.signals.now) c.loop-register.register-index c.requires.there c.loop-register-test.true
+pub bounds-signals-place : goal.bounds-signals-place
+bounds-signals-place c =
+    let rs = c.args.registers.now in
+    let i = c.loop-register.register-index in
+    let listed : get_or rs i 0 < length c.args.signals.now = below_read rs (length c.args.signals.now) i c.requires.there c.loop-register-test.true in
+    let same : c.index-place.result ≡ get_or rs i 0 =
+    c.index-place.ensures ∙ c.register-item.is ∙ read_any rs i c.register-item.result 0 c.loop-register-test.true in
+    omega (arith, listed, same)
 
 pub loop-register-preserved : goal.loop-register-preserved
 loop-register-preserved c =
@@ -20,14 +26,17 @@ loop-register-preserved c =
     let xs = state_values c.args.state.now in
     let old = map (register_in c.args.old_signals.now) c.args.old_registers.now in
     let f : ℕ → ℕ × ℕ = λ r. (width_in signals r, carried_in signals c.args.old_signals.now c.args.old_registers.now xs r) in
-    let x = c.index-signals-register.result in
+    let x = c.index-signals-place.result in
     let r = get_or rs i 0 in
-    let there : r < length signals = below_read rs (length signals) i c.requires.there c.loop-register-test.true in
-    let width : x.width ≡ width_in signals r = width_read signals r x there c.index-signals-register.is in
+    let at = c.index-place.result in
+    let same : at ≡ r = c.index-place.ensures ∙ c.register-item.is ∙ read_any rs i c.register-item.result 0 c.loop-register-test.true in
+    let listed : r < length signals = below_read rs (length signals) i c.requires.there c.loop-register-test.true in
+    let there : at < length signals = omega (arith, listed, same) in
+    let width : x.width ≡ width_in signals r = width_read signals at x there c.index-signals-place.is ∙ ap (width_in signals) same in
     let taken : c.value_at-value.result ≡ carried_value old xs (register_in signals r) (initial_in signals r) =
     c.value_at-value.ensures
-    ∙ ap (λ k. carried_value old xs k x.initial) (register_read signals r x there c.index-signals-register.is)
-    ∙ ap (carried_value old xs (register_in signals r)) (initial_read signals r x there c.index-signals-register.is) in
+    ∙ ap (λ k. carried_value old xs k x.initial) (register_read signals at x there c.index-signals-place.is ∙ ap (register_in signals) same)
+    ∙ ap (carried_value old xs (register_in signals r)) (initial_read signals at x there c.index-signals-place.is ∙ ap (initial_in signals) same) in
     let here : sized_value c.new.result ≡ f r = ap₂ pair (c.new.ensures.width ∙ width)
     (c.new.ensures.value ∙ ap₂ (λ n w. n % 2 ^ w) taken width) in
     push_step f rs i c.loop-register.values.items c.push.new.self.items c.new.result c.loop-register-test.true here c.in_ok-push.ensures.items
@@ -45,3 +54,13 @@ returns c =
     ∙ sym (at_drop_all (λ (zs : List ℕ). map sized_value items ++ map f zs) rs c.loop-register.register-index c.loop-register-test.false)
     ∙ c.loop-register.invariant ∙ pairs_of (width_in signals) g rs in
     subst (λ z. IfOk c.new-2.result (λ s. s ≡ z)) whole c.new-2.ensures
+
+pub offset_bounds-signals-place : goal.offset_bounds-signals-place
+offset_bounds-signals-place c =
+    let rs = c.args.registers.now in
+    let i = c.loop-register.register-index in
+    let listed : get_or rs i 0 < length c.args.signals.now = below_read rs (length c.args.signals.now) i c.requires.there c.loop-register-test.true in
+    let same : c.index-place.result ≡ get_or rs i 0 =
+    c.index-place.ensures ∙ c.register-item.is ∙ read_any rs i c.register-item.result 0 c.loop-register-test.true in
+    let within : c.index-place.result < length c.args.signals.now = omega (arith, listed, same) in
+    search (rules, within)

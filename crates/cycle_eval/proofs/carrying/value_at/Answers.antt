@@ -17,8 +17,8 @@ returns-in_default c =
     sym (not_chosen c.args.old_signals.now c.args.old_registers.now (state_values c.args.state.now) r c.args.signal.now.initial
     (sym (c.requires.first r.path) ∙ sym (ap (λ names. place_in c.args.places.now (ids names)) c.deref.ensures.value) ∙ sym c.get.ensures ∙ c.in_default.is))
 
-pub bounds-old_registers-place : goal.bounds-old_registers-place
-bounds-old_registers-place c =
+pub index_at-register-requires : goal.index_at-register-requires
+index_at-register-requires c =
     let xs = state_values c.args.state.now in
     let r = register_of (signal_of c.args.signal.now) in
     let one : length xs ≡ length c.args.old_registers.now = length-map c.args.state.now (λ (p : ℕ × ℕ). p.1) ∙ c.requires.one in
@@ -26,24 +26,30 @@ bounds-old_registers-place c =
     (sym (c.requires.first r.path) ∙ sym (ap (λ names. place_in c.args.places.now (ids names)) c.deref.ensures.value) ∙ sym c.get.ensures ∙ c.in-Some.is) in
     at.within
 
-pub offset_bounds-old_registers-place : goal.offset_bounds-old_registers-place
-offset_bounds-old_registers-place c =
+pub bounds-old_signals-register : goal.bounds-old_signals-register
+bounds-old_signals-register c =
     let xs = state_values c.args.state.now in
     let r = register_of (signal_of c.args.signal.now) in
     let one : length xs ≡ length c.args.old_registers.now = length-map c.args.state.now (λ (p : ℕ × ℕ). p.1) ∙ c.requires.one in
     let at = chosen c.args.old_signals.now c.args.old_registers.now xs r c.args.signal.now.initial c.in-Some.place one c.requires.old_there
     (sym (c.requires.first r.path) ∙ sym (ap (λ names. place_in c.args.places.now (ids names)) c.deref.ensures.value) ∙ sym c.get.ensures ∙ c.in-Some.is) in
-    let within : c.in-Some.place < length c.args.old_registers.now = at.within in
-    search (rules, within)
+    let listed : get_or c.args.old_registers.now c.in-Some.place 0 < length c.args.old_signals.now =
+    below_read c.args.old_registers.now (length c.args.old_signals.now) c.in-Some.place c.requires.old_there at.within in
+    let same : c.index_at-register.result ≡ get_or c.args.old_registers.now c.in-Some.place 0 = c.index_at-register.ensures in
+    omega (arith, listed, same)
 
-pub bounds-old_signals-old_registers : goal.bounds-old_signals-old_registers
-bounds-old_signals-old_registers c =
+pub offset_bounds-old_signals-register : goal.offset_bounds-old_signals-register
+offset_bounds-old_signals-register c =
     let xs = state_values c.args.state.now in
     let r = register_of (signal_of c.args.signal.now) in
     let one : length xs ≡ length c.args.old_registers.now = length-map c.args.state.now (λ (p : ℕ × ℕ). p.1) ∙ c.requires.one in
     let at = chosen c.args.old_signals.now c.args.old_registers.now xs r c.args.signal.now.initial c.in-Some.place one c.requires.old_there
     (sym (c.requires.first r.path) ∙ sym (ap (λ names. place_in c.args.places.now (ids names)) c.deref.ensures.value) ∙ sym c.get.ensures ∙ c.in-Some.is) in
-    below_read c.args.old_registers.now (length c.args.old_signals.now) c.in-Some.place c.requires.old_there at.within
+    let listed : get_or c.args.old_registers.now c.in-Some.place 0 < length c.args.old_signals.now =
+    below_read c.args.old_registers.now (length c.args.old_signals.now) c.in-Some.place c.requires.old_there at.within in
+    let same : c.index_at-register.result ≡ get_or c.args.old_registers.now c.in-Some.place 0 = c.index_at-register.ensures in
+    let within : c.index_at-register.result < length c.args.old_signals.now = omega (arith, listed, same) in
+    search (rules, within)
 
 pub get-requires-then-old-signal : goal.get-requires-then-old-signal
 get-requires-then-old-signal c =
@@ -63,10 +69,10 @@ returns-then-old-signal c =
     let at = chosen c.args.old_signals.now c.args.old_registers.now xs r c.args.signal.now.initial c.in-Some.place one c.requires.old_there
     (sym (c.requires.first r.path) ∙ sym (ap (λ names. place_in c.args.places.now (ids names)) c.deref.ensures.value) ∙ sym c.get.ensures ∙ c.in-Some.is) in
     let b = c.get-then-old-signal.result in
-    let old = c.index-old_signals-old_registers.result in
+    let old = c.index-old_signals-register.result in
     sym (got_value c.args.state.now c.in-Some.place (b.width, b.value) c.get-then-old-signal.ensures)
     ∙ sym (cond-true (old.in_module.0 == r.in_module) (get_or xs c.in-Some.place 0) c.args.signal.now.initial (eq-eqb old.in_module.0 r.in_module c.if-old-signal.true))
-    ∙ sym (at.value old c.index-old_signals-old_registers.is)
+    ∙ sym (at.value old (c.index-old_signals-register.is ∙ ap (λ z. get_or c.args.old_signals.now z old) c.index_at-register.ensures))
 
 pub returns-else-old-signal : goal.returns-else-old-signal
 returns-else-old-signal c =
@@ -75,7 +81,7 @@ returns-else-old-signal c =
     let one : length xs ≡ length c.args.old_registers.now = length-map c.args.state.now (λ (p : ℕ × ℕ). p.1) ∙ c.requires.one in
     let at = chosen c.args.old_signals.now c.args.old_registers.now xs r c.args.signal.now.initial c.in-Some.place one c.requires.old_there
     (sym (c.requires.first r.path) ∙ sym (ap (λ names. place_in c.args.places.now (ids names)) c.deref.ensures.value) ∙ sym c.get.ensures ∙ c.in-Some.is) in
-    let old = c.index-old_signals-old_registers.result in
+    let old = c.index-old_signals-register.result in
     sym (cond-false (old.in_module.0 == r.in_module) (get_or xs c.in-Some.place 0) c.args.signal.now.initial
     (by_cases (old.in_module.0 == r.in_module) (λ t. absurd (c.if-old-signal.false (eqb-true old.in_module.0 r.in_module t))) (λ f. f)))
-    ∙ sym (at.value old c.index-old_signals-old_registers.is)
+    ∙ sym (at.value old (c.index-old_signals-register.is ∙ ap (λ z. get_or c.args.old_signals.now z old) c.index_at-register.ensures))

@@ -8,8 +8,8 @@ use Rattle.cycle_eval.proofs.design_tests.a_block_with_a_temporary.Goals as goal
 
 pub design_with-requires-clause-complete : goal.design_with-requires-clause-complete
 design_with-requires-clause-complete g c =
-    subst (λ ns. Each IsComplete (map node_of ns)) (sym c.in_ok-nodes.ensures.items) (complete c.in_ok-block.field-0 _ _ c.in_ok-block.ensures)
+    subst (λ ns. Each IsComplete (map node_of ns)) (sym c.in_ok-nodes.ensures.items) (complete c.in_ok-block.field-0 _ _ _ c.in_ok-block.ensures)
 
 pub design_with-requires-clause-first : goal.design_with-requires-clause-first
 design_with-requires-clause-first g c =
-    subst (λ ns. Each NodeWritesFirst (map node_of ns)) (sym c.in_ok-nodes.ensures.items) (first c.in_ok-block.field-0 _ _ c.in_ok-block.ensures)
+    subst (λ ns. Each NodeWritesFirst (map node_of ns)) (sym c.in_ok-nodes.ensures.items) (first c.in_ok-block.field-0 _ _ _ c.in_ok-block.ensures)

@@ -1,4 +1,4 @@
-use Rattle.std.proofs.Common.{◌≡◌, ◌+◌, ◌-◌, ◌<◌, ◌%◌, ◌^◌, ◌∙◌, ℕ, length, get_or, map, drop, sym, ap, ap₂, subst, arith}
+use Rattle.std.proofs.Common.{rules, ◌≡◌, ◌+◌, ◌-◌, ◌<◌, ◌%◌, ◌^◌, ◌∙◌, ℕ, length, get_or, map, drop, sym, ap, ap₂, subst, arith}
 use Rattle.std.specs.Prelude.{slice_index}
 use Rattle.std.proofs.lemmas.List.{length-map}
 use Rattle.bits.specs.declared.Bits.{Bits}
@@ -13,19 +13,22 @@ pub bounds-env-input : goal.bounds-env-input
 bounds-env-input c =
     let there : get_or c.args.inputs.now (c.loop-left.left - 1) 0 < length c.args.env.now =
     below_read c.args.inputs.now (length c.args.env.now) (c.loop-left.left - 1) c.requires (omega arith) in
-    omega (arith, there, c.loop-left.auto.env)
+    let same : c.index_at-input.result ≡ get_or c.args.inputs.now (c.loop-left.left - 1) 0 = c.index_at-input.ensures in
+    omega (arith, there, same, c.loop-left.auto.env)
 
 pub bounds-env-input-in-loop-left : goal.bounds-env-input-in-loop-left
 bounds-env-input-in-loop-left c = λ old.
     let there : get_or c.args.inputs.now (c.loop-left.left - 1) 0 < length c.args.env.now =
     below_read c.args.inputs.now (length c.args.env.now) (c.loop-left.left - 1) c.requires (omega arith) in
-    omega (arith, there, c.loop-left.auto.env)
+    let same : c.index_at-input.result ≡ get_or c.args.inputs.now (c.loop-left.left - 1) 0 = c.index_at-input.ensures in
+    omega (arith, there, same, c.loop-left.auto.env)
 
 pub bounds-env-input-in-loop-left-2 : goal.bounds-env-input-in-loop-left-2
 bounds-env-input-in-loop-left-2 c =
     let there : get_or c.args.inputs.now (c.loop-left.left - 1) 0 < length c.args.env.now =
     below_read c.args.inputs.now (length c.args.env.now) (c.loop-left.left - 1) c.requires (omega arith) in
-    omega (arith, there, c.loop-left.auto.env)
+    let same : c.index_at-input.result ≡ get_or c.args.inputs.now (c.loop-left.left - 1) 0 = c.index_at-input.ensures in
+    omega (arith, there, same, c.loop-left.auto.env)
 
 pub loop-left-preserved : goal.loop-left-preserved
 loop-left-preserved c =
@@ -35,17 +38,19 @@ loop-left-preserved c =
     let ws = map (λ (s : ℕ). slice_index (widths old) s) ss in
     let row = c.args.row.now in
     let i = c.loop-left.left - 1 in
-    let s = get_or ss i 0 in
+    let s = c.index_at-input.result in
+    let same : s ≡ get_or ss i 0 = c.index_at-input.ensures in
     let x = c.new.result in
     let within : i < length ss = omega arith in
-    let there : s < length old = below_read ss (length old) i c.requires within in
+    let listed : get_or ss i 0 < length old = below_read ss (length old) i c.requires within in
+    let there : s < length old = omega (arith, listed, same) in
     let here : s < length env = omega (arith, there, c.loop-left.auto.env) in
     let more : i + 1 ≡ c.loop-left.left = omega arith in
     let count : length ws ≡ length ss = length-map ss (λ (s : ℕ). slice_index (widths old) s) in
     let few : i < length ws = omega (arith, within, count) in
     let width : x.width ≡ slice_index (widths env) s = c.new.ensures.width ∙ sym (get_or-map (λ (b : Bits). b.width) env s 0 c.index-env-input.result here) in
     let declared : x.width ≡ get_or ws i 0 =
-    width ∙ ap (λ zs. slice_index zs s) c.loop-left.invariant.kept ∙ sym (get_or-map (λ (s : ℕ). slice_index (widths old) s) ss i 0 0 within) in
+    width ∙ ap (λ zs. slice_index zs s) c.loop-left.invariant.kept ∙ ap (λ z. slice_index (widths old) z) same ∙ sym (get_or-map (λ (s : ℕ). slice_index (widths old) s) ss i 0 0 within) in
     let cut : x.value ≡ get_or (cut_to ws row) i 0 =
     c.new.ensures.value ∙ ap₂ (λ n w. n % 2 ^ w) c.number_at.ensures (sym c.new.ensures.width ∙ declared) ∙ cut_read ws row i few in
     let size : length (cut_to ws row) ≡ length ws = cut_length ws row in
@@ -53,6 +58,22 @@ loop-left-preserved c =
       within = omega arith;
       kept = widths_put env s x width ∙ c.loop-left.invariant.kept;
       value = env_of-set env s x here
-          ∙ fill_step ss (cut_to ws row) i (env_of old) (env_of env) s x.value within (omega (arith, few, size)) (λ j. s) cut
+          ∙ fill_step ss (cut_to ws row) i (env_of old) (env_of env) s x.value within (omega (arith, few, size)) same cut
           (subst (λ k. env_of env ≡ fill (drop k ss) (drop k (cut_to ws row)) (env_of old)) (sym more) c.loop-left.invariant.value);
     }
+
+pub offset_bounds-env-input : goal.offset_bounds-env-input
+offset_bounds-env-input c =
+    let there : get_or c.args.inputs.now (c.loop-left.left - 1) 0 < length c.args.env.now =
+    below_read c.args.inputs.now (length c.args.env.now) (c.loop-left.left - 1) c.requires (omega arith) in
+    let same : c.index_at-input.result ≡ get_or c.args.inputs.now (c.loop-left.left - 1) 0 = c.index_at-input.ensures in
+    let within : c.index_at-input.result < length c.loop-left.env = omega (arith, there, same, c.loop-left.auto.env) in
+    search (rules, within)
+
+pub offset_bounds-env-input-in-loop-left : goal.offset_bounds-env-input-in-loop-left
+offset_bounds-env-input-in-loop-left c =
+    let there : get_or c.args.inputs.now (c.loop-left.left - 1) 0 < length c.args.env.now =
+    below_read c.args.inputs.now (length c.args.env.now) (c.loop-left.left - 1) c.requires (omega arith) in
+    let same : c.index_at-input.result ≡ get_or c.args.inputs.now (c.loop-left.left - 1) 0 = c.index_at-input.ensures in
+    let within : c.index_at-input.result < length c.loop-left.env = omega (arith, there, same, c.loop-left.auto.env) in
+    search (rules, within)

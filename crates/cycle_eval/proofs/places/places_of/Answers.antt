@@ -1,4 +1,4 @@
-use Rattle.std.proofs.Common.{◌≡◌, ◌+◌, ◌-◌, ◌<◌, ◌∙◌, ℕ, suc, List, Some, length, map, get_or, drop, sym, ap, ap₂, cond, arith}
+use Rattle.std.proofs.Common.{rules, ◌≡◌, ◌+◌, ◌-◌, ◌<◌, ◌∙◌, ℕ, suc, List, Some, length, map, get_or, drop, sym, ap, ap₂, cond, arith}
 use Rattle.cycle_eval.specs.Kits.{same_path}
 use Rattle.cycle_eval.specs.Paths.{ids, path_in}
 use Rattle.cycle_eval.specs.Places.{place_from}
@@ -8,10 +8,13 @@ use Rattle.cycle_eval.proofs.Carries.{path_read}
 use Rattle.cycle_eval.proofs.Finding.{place_step}
 use Rattle.cycle_eval.proofs.places.places_of.Goals as goal
 
-pub bounds-signals-registers : goal.bounds-signals-registers
-bounds-signals-registers c =
+pub bounds-signals-register : goal.bounds-signals-register
+bounds-signals-register c =
     let within : c.loop-left.left - 1 < length c.args.registers.now = omega arith in
-    below_read c.args.registers.now (length c.args.signals.now) (c.loop-left.left - 1) c.requires within
+    let listed : get_or c.args.registers.now (c.loop-left.left - 1) 0 < length c.args.signals.now =
+    below_read c.args.registers.now (length c.args.signals.now) (c.loop-left.left - 1) c.requires within in
+    let same : c.index_at-register.result ≡ get_or c.args.registers.now (c.loop-left.left - 1) 0 = c.index_at-register.ensures in
+    omega (arith, listed, same)
 
 pub loop-left-preserved : goal.loop-left-preserved
 loop-left-preserved c =
@@ -21,8 +24,11 @@ loop-left-preserved c =
     let i = c.loop-left.left - 1 in
     let r = get_or rs i 0 in
     let within : i < length rs = omega arith in
-    let there : r < length signals = below_read rs (length signals) i c.requires within in
-    let read : ids c.deref.result.now ≡ f r = ap ids c.deref.ensures.value ∙ path_read signals r c.index-signals-registers.result there c.index-signals-registers.is in
+    let same : c.index_at-register.result ≡ r = c.index_at-register.ensures in
+    let listed : r < length signals = below_read rs (length signals) i c.requires within in
+    let there : c.index_at-register.result < length signals = omega (arith, listed, same) in
+    let read : ids c.deref.result.now ≡ f r = ap ids c.deref.ensures.value
+    ∙ path_read signals c.index_at-register.result c.index-signals-register.result there c.index-signals-register.is ∙ ap f same in
     let more : i + 1 ≡ c.loop-left.left = omega arith in
     let next : suc i ≡ c.loop-left.left = omega arith in
     record {
@@ -34,3 +40,11 @@ loop-left-preserved c =
           (c.loop-left.invariant.found path ∙ sym (ap₂ (λ (n k : ℕ). place_from n (map f (drop k rs)) path) next more))
           ∙ sym (place_step f rs i path within);
     }
+
+pub offset_bounds-signals-register : goal.offset_bounds-signals-register
+offset_bounds-signals-register c =
+    let listed : get_or c.args.registers.now (c.loop-left.left - 1) 0 < length c.args.signals.now =
+    below_read c.args.registers.now (length c.args.signals.now) (c.loop-left.left - 1) c.requires (omega arith) in
+    let same : c.index_at-register.result ≡ get_or c.args.registers.now (c.loop-left.left - 1) 0 = c.index_at-register.ensures in
+    let within : c.index_at-register.result < length c.args.signals.now = omega (arith, listed, same) in
+    search (rules, within)

@@ -1,6 +1,6 @@
 -- The count goes down the nesting.
 use Rattle.std.proofs.Common.{◌≡◌, ◌+◌, ◌-◌, ◌*◌, ◌^◌, ◌<◌, min, max, map, drop}
-use Rattle.typed_ir.specs.Stmts.{most_updates}
+use Rattle.typed_ir.specs.Stmts.{most_updates, most_arm_updates}
 use Rattle.typed_ir.specs.Statements.{stmt_of, arm_of, sequence_of, arms_before}
 use Rattle.typed_ir.proofs.stmt.Stmt.TheLaws.{the_size}
 use Rattle.typed_ir.proofs.stmt.+count.Given as goal
@@ -23,5 +23,5 @@ invariant-most_of_all-loop-st l = record {
 
 abbrev pub invariant-most_of_arms-loop-arm : goal.invariant-most_of_arms-loop-arm
 invariant-most_of_arms-loop-arm l =
-    min (l.most + most_updates (arms_before (map arm_of (drop l.arm-index l.arms)) (stmt_of l.otherwise))) (2 ^ 64 - 1)
-    ≡ min (most_updates (arms_before (map arm_of l.arms) (stmt_of l.otherwise))) (2 ^ 64 - 1)
+    min (l.most + most_arm_updates (arms_before (map arm_of (drop l.arm-index l.arms)) (stmt_of l.otherwise))) (2 ^ 64 - 1)
+    ≡ min (most_arm_updates (arms_before (map arm_of l.arms) (stmt_of l.otherwise))) (2 ^ 64 - 1)

@@ -1,5 +1,5 @@
 use Rattle.std.proofs.Common.{◌++◌, ◌∙◌, map, arith}
-use Rattle.typed_ir.specs.Stmts.{pending_at}
+use Rattle.typed_ir.specs.Stmts.{pending}
 use Rattle.typed_ir.specs.Statements.{stmt_of, sequence_of}
 use Rattle.typed_ir.specs.Views.{widths, env_of}
 use Rattle.typed_ir.proofs.Listed.{rest_legal, rest_clocked, most_next, noted_next}
@@ -14,8 +14,8 @@ note_statements-loop-st-preserved t c =
     record {
       fit = rest_legal list k x (widths c.args.env.now) c.loop-st-test.true c.st-item.is kept.fit;
       clocked = rest_clocked list k x c.loop-st-test.true c.st-item.is kept.clocked;
-      left = noted_next list k x c.args.subject (env_of c.args.env.now) (c.args.updates.now.items ++ pending_at (sequence_of (map stmt_of list)) c.args.subject (env_of c.args.env.now))
-          c.loop-st.updates.items c.note_at.new.updates.items c.loop-st-test.true c.st-item.is kept.clocked c.note_at.ensures.noted kept.left;
-      few = omega (arith, c.note_at.ensures.few, kept.few, most_next list k x c.loop-st-test.true c.st-item.is);
-      room = c.note_at.ensures.capacity ∙ kept.room;
+      left = noted_next list k x (env_of c.args.env.now) (c.args.updates.now.items ++ pending (sequence_of (map stmt_of list)) (env_of c.args.env.now))
+          c.loop-st.updates.items c.note.new.updates.items c.loop-st-test.true c.st-item.is kept.clocked c.note.ensures.noted kept.left;
+      few = omega (arith, c.note.ensures.few, kept.few, most_next list k x c.loop-st-test.true c.st-item.is);
+      room = c.note.ensures.capacity ∙ kept.room;
     }

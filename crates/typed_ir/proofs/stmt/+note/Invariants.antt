@@ -1,13 +1,13 @@
 -- Noting goes down the nesting; lists of statements and arms stand between a statement and those in it.
 use Rattle.std.proofs.Common.{◌≡◌, ◌≤◌, ◌+◌, ◌*◌, ◌++◌, max, map, drop, IsTrue, vec_len, vec_capacity}
-use Rattle.typed_ir.specs.Stmts.{pending_at, most_updates, is_legal, is_clocked}
+use Rattle.typed_ir.specs.Stmts.{pending, pending_arms, most_updates, most_arm_updates, is_legal, are_legal_arms, is_clocked, are_clocked_arms}
 use Rattle.typed_ir.specs.Statements.{stmt_of, arm_of, sequence_of, arms_before}
 use Rattle.typed_ir.specs.Views.{widths, env_of}
 use Rattle.typed_ir.proofs.stmt.Stmt.TheLaws.{the_size}
 use Rattle.typed_ir.proofs.stmt.+note.Given as goal
 
-abbrev pub decreases-Stmt::note_at : goal.decreases-Stmt::note_at
-decreases-Stmt::note_at l = 2 * goal.size-Stmt::note_at l
+abbrev pub decreases-Stmt::note : goal.decreases-Stmt::note
+decreases-Stmt::note l = 2 * goal.size-Stmt::note l
 
 abbrev pub decreases-note_statements : goal.decreases-note_statements
 decreases-note_statements l = 2 * goal.size-note_statements l + 1
@@ -19,8 +19,8 @@ abbrev pub invariant-note_statements-loop-st : goal.invariant-note_statements-lo
 invariant-note_statements-loop-st l = record {
   fit : IsTrue (is_legal (sequence_of (map stmt_of (drop l.st-index l.list))) (widths l.env));
   clocked : IsTrue (is_clocked (sequence_of (map stmt_of (drop l.st-index l.list))));
-  left : l.updates.items ++ pending_at (sequence_of (map stmt_of (drop l.st-index l.list))) l.subject (env_of l.env)
-      ≡ l.initial.updates.items ++ pending_at (sequence_of (map stmt_of l.list)) l.subject (env_of l.env);
+  left : l.updates.items ++ pending (sequence_of (map stmt_of (drop l.st-index l.list))) (env_of l.env)
+      ≡ l.initial.updates.items ++ pending (sequence_of (map stmt_of l.list)) (env_of l.env);
   few : vec_len l.updates + most_updates (sequence_of (map stmt_of (drop l.st-index l.list)))
       ≤ vec_len l.initial.updates + most_updates (sequence_of (map stmt_of l.list));
   room : vec_capacity l.updates ≡ vec_capacity l.initial.updates;
@@ -29,10 +29,10 @@ invariant-note_statements-loop-st l = record {
 abbrev pub invariant-note_arms-loop-arm : goal.invariant-note_arms-loop-arm
 invariant-note_arms-loop-arm l = record {
   same : l.updates ≡ l.initial.updates;
-  fit : IsTrue (is_legal (arms_before (map arm_of (drop l.arm-index l.arms)) (stmt_of l.otherwise)) (widths l.env));
-  clocked : IsTrue (is_clocked (arms_before (map arm_of (drop l.arm-index l.arms)) (stmt_of l.otherwise)));
-  left : pending_at (arms_before (map arm_of (drop l.arm-index l.arms)) (stmt_of l.otherwise)) l.subject (env_of l.env)
-      ≡ pending_at (arms_before (map arm_of l.arms) (stmt_of l.otherwise)) l.subject (env_of l.env);
-  few : most_updates (arms_before (map arm_of (drop l.arm-index l.arms)) (stmt_of l.otherwise))
-      ≤ most_updates (arms_before (map arm_of l.arms) (stmt_of l.otherwise));
+  fit : IsTrue (are_legal_arms (arms_before (map arm_of (drop l.arm-index l.arms)) (stmt_of l.otherwise)) (widths l.env));
+  clocked : IsTrue (are_clocked_arms (arms_before (map arm_of (drop l.arm-index l.arms)) (stmt_of l.otherwise)));
+  left : pending_arms (arms_before (map arm_of (drop l.arm-index l.arms)) (stmt_of l.otherwise)) l.subject (env_of l.env)
+      ≡ pending_arms (arms_before (map arm_of l.arms) (stmt_of l.otherwise)) l.subject (env_of l.env);
+  few : most_arm_updates (arms_before (map arm_of (drop l.arm-index l.arms)) (stmt_of l.otherwise))
+      ≤ most_arm_updates (arms_before (map arm_of l.arms) (stmt_of l.otherwise));
 }

@@ -1,6 +1,6 @@
-use Rattle.std.proofs.Common.{◌≡◌, ◌++◌, ◌∙◌, map, ap, ap₂, sym, subst}
+use Rattle.std.proofs.Common.{◌≡◌, ◌++◌, ◌∙◌, map, ap, ap₂, refl, sym, subst}
 use Rattle.typed_ir.specs.Valuations.{any_within}
-use Rattle.typed_ir.specs.Stmts.{SizedStmt, targets}
+use Rattle.typed_ir.specs.Stmts.{SizedStmt, SizedArms, targets, arm_targets}
 use Rattle.typed_ir.specs.Statements.{stmt_of, arm_of, arms_before}
 use Rattle.typed_ir.specs.Touches.{Adds}
 use Rattle.typed_ir.proofs.Listed.{if_ok, if_is, adds_targets, targets_next, arm_targets_next, arms_done}
@@ -15,7 +15,7 @@ note_targets-returns-in_ok-note_targets-in-If t c =
     let one = stmt_of c.deref-in-If.result.now in
     let two = stmt_of c.deref-in-If-2.result.now in
     let whole : targets (stmt_of c.args.st.now) ≡ targets one ++ targets two =
-    ap targets (ap stmt_of node.is ∙ if_is node.field-0 node.a node.b)
+    ap targets (ap stmt_of node.is ∙ if_is node.condition node.consequent node.alternative)
     ∙ ap₂ (λ x y. targets (stmt_of x) ++ targets (stmt_of y)) (sym c.deref-in-If.ensures) (sym c.deref-in-If-2.ensures) in
     if_ok c.note_targets-in-If.result (λ _. Adds mid new (any_within (targets two))) (λ _. Adds old new (any_within (targets (stmt_of c.args.st.now))))
     (λ x adds. subst (λ spans. Adds old new (any_within spans)) (sym whole)
@@ -39,9 +39,10 @@ note_targets_of_arms-returns t c =
     let arms = c.args.arms.now in
     let otherwise = stmt_of c.args.otherwise.now in
     let places = λ (st : SizedStmt). any_within (targets st) in
+    let arm_places = λ (a : SizedArms). any_within (arm_targets a) in
     let old = c.args.touches.now.items in
     let mid = c.loop-arm.touches.items in
     let new = c.note_targets-2.new.touches.items in
-    if_ok c.note_targets-2.result (λ _. Adds mid new (places otherwise)) (λ _. Adds old new (places (arms_before (map arm_of arms) otherwise)))
-    (λ x adds. arms_done places arms otherwise c.loop-arm.arm-index old mid new c.loop-arm-test.false c.loop-arm.invariant adds)
+    if_ok c.note_targets-2.result (λ _. Adds mid new (places otherwise)) (λ _. Adds old new (arm_places (arms_before (map arm_of arms) otherwise)))
+    (λ x adds. arms_done places arm_places arms otherwise c.loop-arm.arm-index old mid new c.loop-arm-test.false c.loop-arm.invariant (λ s i. refl) adds)
     c.note_targets-2.ensures

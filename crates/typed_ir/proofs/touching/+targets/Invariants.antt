@@ -2,7 +2,7 @@
 use Rattle.std.proofs.Common.{◌≡◌, ◌<◌, ◌||◌, ◌+◌, ◌*◌, ℕ, max, map, drop}
 use Rattle.typed_ir.specs.Statements.{stmt_of, arm_of, sequence_of, arms_before}
 use Rattle.typed_ir.specs.Touches.{touched}
-use Rattle.typed_ir.specs.Stmts.{targets}
+use Rattle.typed_ir.specs.Stmts.{targets, arm_targets}
 use Rattle.typed_ir.specs.Valuations.{any_within}
 use Rattle.typed_ir.proofs.stmt.Stmt.TheLaws.{the_size}
 use Rattle.typed_ir.proofs.touching.+targets.Given as goal
@@ -23,5 +23,5 @@ invariant-note_targets_of_all-loop-st l = (s i : ℕ) → i < 128
 
 abbrev pub invariant-note_targets_of_arms-loop-arm : goal.invariant-note_targets_of_arms-loop-arm
 invariant-note_targets_of_arms-loop-arm l = (s i : ℕ) → i < 128
-    → (touched l.touches.items s i || any_within (targets (arms_before (map arm_of (drop l.arm-index l.arms)) (stmt_of l.otherwise))) s i)
-    ≡ (touched l.initial.touches.items s i || any_within (targets (arms_before (map arm_of l.arms) (stmt_of l.otherwise))) s i)
+    → (touched l.touches.items s i || any_within (arm_targets (arms_before (map arm_of (drop l.arm-index l.arms)) (stmt_of l.otherwise))) s i)
+    ≡ (touched l.initial.touches.items s i || any_within (arm_targets (arms_before (map arm_of l.arms) (stmt_of l.otherwise))) s i)

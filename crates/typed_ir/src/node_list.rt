@@ -1,0 +1,41 @@
+// A list of nodes by their numbers.
+ghost use Rattle.std.specs.Prelude.{◌≡◌};
+
+use std::marker::Model;
+
+/// A list of nodes by their numbers. Contracts see it as the list of these.
+#[derive(Debug, Drop)]
+pub struct NodeList {
+    nodes: Vec<u32>,
+}
+
+impl Model for NodeList {
+    ghost use Rattle.std.specs.Prelude.{ℕ, List};
+
+    ghost Value = { List ℕ };
+
+    ghost view = { λ l. l.nodes.items };
+}
+
+impl NodeList {
+    /// The list of these nodes. It takes no memory.
+    pub fn new(nodes: Vec<u32>) -> Self
+        ensures { result ≡ nodes.items }
+    {
+        NodeList { nodes }
+    }
+
+    /// The numbers of the nodes.
+    pub fn nodes(&self) -> &[u32]
+        ensures { result.now ≡ self.now }
+    {
+        &self.nodes
+    }
+
+    /// Gives the numbers back. It takes no memory.
+    pub fn into_nodes(self) -> Vec<u32>
+        ensures { result.items ≡ self }
+    {
+        self.nodes
+    }
+}
