@@ -1,14 +1,14 @@
 // The book.
 ghost use Rattle.std.specs.Prelude.{◌≡◌, ℕ, ◌+◌, ◌-◌, ◌*◌, ◌<◌, ◌≤◌, ◌^◌, length, List, [], ◌∷◌, ◌++◌, true, false, Bool, ◌||◌, None, Some, IfOk, IfSome, IfNone, OnErr, OnOk, IsTrue};
-ghost use Rattle.book_history.specs.Book.{replay, Opened as OpenedEvent, Ran, Reloaded, Installed as InstalledEvent, Released, Shown as ShownEvent, Closed};
+ghost use Rattle.book_history.specs.Book.{replay, Opens, Runs, Reloads, Installs, Releases, Shows, Closes};
 ghost use Rattle.book_history.specs.Legal.{Legal};
 ghost use Rattle.book_history.specs.Outs.{IsOutFor};
 ghost use Rattle.book_history.specs.Rooms.{HasRoom, out_in};
 ghost use Rattle.book_history.specs.Truth.{True};
 ghost use Rattle.checkpoint_book.specs.Answers.{is_joined_answer, shown_to};
 ghost use Rattle.book_history.specs.declared.who.Who.TheVariants.{Session, Worker};
-ghost use Rattle.checkpoint_book.specs.Claims.{IsDrawn, ClaimIs, claims_nothing};
-ghost use Rattle.checkpoint_book.specs.Views.{book_of, counts_of, IsOpened, version_in, cycle_in, links_in, marks_in, work_in, IsLast, LeadTo, chosen_in, shown_in, answer_in, is_none, none_free, is_full, HasSessionRoom, HasRoomFor};
+ghost use Rattle.checkpoint_book.specs.Claims.{IsDrawn, ClaimIs, CausesAre, ticket_in, claims_nothing};
+ghost use Rattle.checkpoint_book.specs.Views.{book_of, counts_of, IsOpened, version_in, cycle_in, links_in, marks_in, work_in, IsLast, FitsMachine, LeadTo, chosen_in, shown_in, answer_in, is_none, none_free, is_full, HasSessionRoom, HasRoomFor};
 
 use crate::begin::begun;
 use crate::claimed::Claimed;
@@ -124,7 +124,7 @@ impl<M: Machine> Book<M> {
         requires out { IsOutFor (book_of M.kit self.old) v.0 v.1 by }
         requires room { HasRoomFor self.old by }
         ensures settings { self.new.settings ≡ self.old.settings }
-        ensures events { self.new.events ≡ self.old.events ++ InstalledEvent v.0 (is_joined_answer result) by ∷ [] }
+        ensures events { self.new.events ≡ self.old.events ++ Installs v.0 (is_joined_answer result) by ∷ [] }
         ensures answer { result ≡ answer_in M.kit (book_of M.kit self.old) v.1 }
     {
         self.history.legal();
@@ -144,7 +144,7 @@ impl<M: Machine> Book<M> {
         requires out { IsOutFor (book_of M.kit self.old) t.0 t.1 by }
         requires room { HasRoomFor self.old by }
         ensures settings { self.new.settings ≡ self.old.settings }
-        ensures events { self.new.events ≡ self.old.events ++ Released t.0 by ∷ [] }
+        ensures events { self.new.events ≡ self.old.events ++ Releases t.0 by ∷ [] }
     {
         self.history.legal();
         let ticket = t.number();
@@ -161,7 +161,7 @@ impl<M: Machine> Book<M> {
         requires opened { IsOpened (book_of M.kit self.old) }
         requires room { HasSessionRoom self.old 1 }
         ensures settings { self.new.settings ≡ self.old.settings }
-        ensures events { self.new.events ≡ self.old.events ++ ShownEvent (shown_to result) ∷ [] }
+        ensures events { self.new.events ≡ self.old.events ++ Shows (shown_to result) ∷ [] }
         ensures answer { shown_to result ≡ shown_in (book_of M.kit self.old) }
     {
         self.history.legal();
@@ -180,7 +180,7 @@ impl<M: Machine> Book<M> {
     pub fn close(&mut self)
         requires open { (counts_of self.old).closed ≡ false }
         ensures settings { self.new.settings ≡ self.old.settings }
-        ensures events { self.new.events ≡ self.old.events ++ Closed ∷ [] }
+        ensures events { self.new.events ≡ self.old.events ++ Closes ∷ [] }
     {
         self.history.legal();
         self.history.push(Entry::Close);
@@ -193,7 +193,7 @@ impl<M: Machine> Book<M> {
         requires number { version.value.number ≡ 1 }
         requires room { HasSessionRoom self.old 1 }
         ensures settings { self.new.settings ≡ self.old.settings }
-        ensures ok { OnOk result (self.new.events ≡ self.old.events ++ OpenedEvent version.value.number version.value.machine.value ∷ []) }
+        ensures ok { OnOk result (self.new.events ≡ self.old.events ++ Opens version.value.number version.value.machine.value ∷ []) }
         ensures err { OnErr result (self.new.events ≡ self.old.events) }
     {
         self.history.legal();
@@ -221,7 +221,7 @@ impl<M: Machine> Book<M> {
         requires bound { cycle_in (book_of M.kit self.old) + n ≤ 2 ^ 40 }
         requires room { HasSessionRoom self.old 1 }
         ensures settings { self.new.settings ≡ self.old.settings }
-        ensures ok { OnOk result (self.new.events ≡ self.old.events ++ Ran n rows.1 ∷ []) }
+        ensures ok { OnOk result (self.new.events ≡ self.old.events ++ Runs n rows.1 ∷ []) }
         ensures err { OnErr result (self.new.events ≡ self.old.events) }
         ensures taken { OnOk result (steps.new ≡ steps.old + n * work_in M.work (book_of M.kit self.old)) }
         ensures rises { steps.old ≤ steps.new }
@@ -252,7 +252,7 @@ impl<M: Machine> Book<M> {
         requires valid { LeadTo M.valid (book_of M.kit self.old) version.value.machine.value ops }
         requires room { HasSessionRoom self.old 1 }
         ensures settings { self.new.settings ≡ self.old.settings }
-        ensures ok { IfOk result (λ from. self.new.events ≡ self.old.events ++ Reloaded version.value.number version.value.machine.value ops from ∷ []) }
+        ensures ok { IfOk result (λ from. self.new.events ≡ self.old.events ++ Reloads version.value.number version.value.machine.value ops from ∷ []) }
         ensures chosen { IfOk result (λ from. from ≡ chosen_in self.old.settings (book_of M.kit self.old)) }
         ensures err { OnErr result (self.new.events ≡ self.old.events) }
         ensures taken { OnOk result (steps.new ≡ steps.old + (cycle_in (book_of M.kit self.old) - chosen_in self.old.settings (book_of M.kit self.old)) * M.work version.value.machine.value) }
@@ -263,6 +263,7 @@ impl<M: Machine> Book<M> {
         let Some(opened) = &self.opened else {
             unreachable!()
         };
+        let ops = Arc::new(self.alloc, ops)?;
         let limit = self.history.cycle().saturating_sub(self.history.lookback());
         let (next, from) = renewed(
             self.alloc,
@@ -313,7 +314,8 @@ impl<M: Machine> Book<M> {
     /// the book is closed. Only a ticket takes memory.
     pub fn claim(&mut self, alloc: Global, by: u16) -> Result<Claimed<M>, NoMemory>
         ensures settings { self.new.settings ≡ self.old.settings }
-        ensures answer { IfOk result (λ r. ClaimIs M.kit (Worker by) self.old self.new r) }
+        ensures answer { IfOk result (λ r. ClaimIs M.kit (Worker by) self.old self.new (ticket_in r)) }
+        ensures causes { IfOk result (λ r. CausesAre M.kit self.old r) }
         ensures err { OnErr result ((self.new.events ≡ self.old.events) × (claims_nothing M.kit (Worker by) self.old ≡ false)) }
     {
         let full = self.is_full();
@@ -335,13 +337,11 @@ impl<M: Machine> Book<M> {
         requires open { (counts_of self.old).closed ≡ false }
         requires room { HasSessionRoom self.old 2 }
         ensures settings { self.new.settings ≡ self.old.settings }
-        ensures none { IfOk result (λ r. IfNone r ((self.new.events ≡ self.old.events) × (none_free Session (book_of M.kit self.old) ≡ true))) }
-        ensures some { IfOk result (λ r. IfSome r (λ t. IsDrawn M.kit Session self.old self.new t)) }
-        ensures free { IfOk result (λ r. IfSome r (λ t. none_free Session (book_of M.kit self.old) ≡ false)) }
+        ensures answer { IfOk result (λ r. ClaimIs M.kit Session self.old self.new r) }
 
         // It is None exactly where a show would answer Settled.
         ensures settled { IfOk result (λ r. is_none r ≡ is_none (shown_in (book_of M.kit self.old))) }
-        ensures err { OnErr result ((self.new.events ≡ self.old.events) × (none_free Session (book_of M.kit self.old) ≡ false)) }
+        ensures err { OnErr result ((self.new.events ≡ self.old.events) × (claims_nothing M.kit Session self.old ≡ false)) }
     {
         self.take(alloc, Who::Session)
     }
@@ -355,11 +355,13 @@ impl<M: Machine> Book<M> {
         self.counters.workers + self.counters.out + 2 > u64::from(rooms.workers)
     }
 
-    /// The state of the last mark.
+    /// The state of the last mark, which is one of the current machine's own.
     pub fn current(&self) -> &M::State
         requires opened { IsOpened (book_of M.kit self.now) }
-        ensures { IsLast (book_of M.kit self.now) result.now }
+        ensures last { IsLast (book_of M.kit self.now) result.now }
+        ensures fits { FitsMachine M.fits (book_of M.kit self.now) result.now }
     {
+        self.history.legal();
         let Some(opened) = &self.opened else {
             unreachable!()
         };
