@@ -52,7 +52,7 @@ pub record Lived (left_old left_new written_old written_new : Option (List ℕ))
   pub front : WritesFront written_old written_new (lines told fresh)
   -- and each display among them, where there is a design, tells the truth
   pub settled : (before rest : List Told) (line : ℕ) (design : Flat) → before ++ plain (Display line) ∷ rest ≡ told
-    → (world_after before fresh).design ≡ Some design → TellsTruth before line design
+      → (world_after before fresh).design ≡ Some design → TellsTruth before line design
   -- 6 comes exactly where too much was taken, but where the sink failed or memory ran out
   pub too_much : status ≡ 6 → 67108864 < length bytes
   pub not_too_much : 67108864 < length bytes → status ≢ 4 → status ≢ 5 → status ≡ 6
@@ -60,4 +60,3 @@ pub record Lived (left_old left_new written_old written_new : Option (List ℕ))
 -- at status 0, 1 or 5, where nothing outside failed and the script isn't too long
 abbrev pub IsComplete : ℕ → Type 0
 IsComplete status = (status ≡ 0) ⊎ ((status ≡ 1) ⊎ (status ≡ 5))
-

@@ -261,7 +261,6 @@ record IsCut (file offset : ℕ) (bytes rest : List ℕ) (parts : List Part) : T
 first_is_none : (a : ℕ) (zs : List ℕ) → Plain a zs → (((a == 92) && (slice_index (a ∷ zs) 1 == 10)) ≡ false) × (((a == 47) && (slice_index (a ∷ zs) 1 == 47)) ≡ false)
     × (((a == 47) && (slice_index (a ∷ zs) 1 == 42)) ≡ false) × (((a == 96) && is_letter (slice_index (a ∷ zs) 1)) ≡ false)
 first_is_none a [] plain = (and-false (a == 92), and-false (a == 47), and-false (a == 47), and-false (a == 96))
-
 first_is_none a (b ∷ bs) plain = parts ((a == 92) && (b == 10)) (a == 47) (b == 47) (b == 42) ((a == 96) && is_letter b) plain
   where
     parts : (v x y z w : Bool) → (v || ((x && (y || z)) || w)) ≡ false → (v ≡ false) × ((x && y) ≡ false) × ((x && z) ≡ false) × (w ≡ false)

@@ -131,7 +131,6 @@ headed (a ∷ []) some =
     ∙ ap (λ t. cond t (comment_head (through_pair 42 47 false 0 [])) (cond ((a == 96) && false) (head.Word (prefix_len is_word_byte [])) (head.Run (plain_len 0 1 [])))) (and-false (a == 47))
     ∙ ap (λ t. cond t (head.Word (prefix_len is_word_byte [])) (head.Run (plain_len 0 1 []))) (and-false (a == 96))))
     (plain_run a [] tt)
-
 headed (a ∷ b ∷ bs) some = line ((a == 47) && (b == 47)) refl
   where
     plain : ((a == 47) && (b == 47)) ≡ false → ((a == 47) && (b == 42)) ≡ false → (t : Bool) → ((a == 96) && is_letter b) ≡ t
@@ -195,7 +194,6 @@ word_head (w ∷ ws) rest is =
 first_is_none : (a : ℕ) (zs : List ℕ) → HasNo begins_cut (a ∷ take 1 zs) → (((a == 47) && (slice_index (a ∷ zs) 1 == 47)) ≡ false)
     × (((a == 47) && (slice_index (a ∷ zs) 1 == 42)) ≡ false) × (((a == 96) && is_letter (slice_index (a ∷ zs) 1)) ≡ false)
 first_is_none a [] has = (and-false (a == 47), and-false (a == 47), and-false (a == 96))
-
 first_is_none a (b ∷ bs) has = parts (a == 47) (b == 47) (b == 42) ((a == 96) && is_letter b) has.0
   where
     parts : (x y z w : Bool) → ((x && (y || z)) || w) ≡ false → ((x && y) ≡ false) × ((x && z) ≡ false) × (w ≡ false)
