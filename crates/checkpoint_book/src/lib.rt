@@ -1,5 +1,8 @@
 // The checkpoint book: marks, links, versions and tickets over any machine. Each call appends its own entry to the
 // history, and the book is what the entries make of it.
+//
+// `book` has the calls; each works on values of its own first: `opened`, `grow` (a run's marks), `reload` and `renew` (an edit's), `draw` (a
+// ticket of a claim), `find` and `install` (a result), `settled` (a display).
 #![tactic(auto)]
 
 mod begin;

@@ -3,11 +3,13 @@ ghost use Rattle.std.specs.Prelude.{◌≡◌, []};
 
 use crate::{At, NameList, Place};
 use std::alloc::Global;
+use thiserror::Error;
 
 /// What is wrong with a text or a command: its code, where it stands, and the names that it shows.
 ///
 /// The codes are those of the fault table, from 10 `TextTooLong` to 90 `NotBuilt`.
-#[derive(Debug, Drop)]
+#[derive(Debug, Drop, Error)]
+#[error("a fault of code {code}")]
 pub struct Fault {
     pub code: u8,
     pub at: At,

@@ -3,11 +3,14 @@ ghost use Rattle.std.specs.Prelude.{◌≡◌};
 
 use crate::{Fault, NoMemory};
 use std::alloc::{AllocError, AllocFailed};
+use thiserror::Error;
 
 /// A fault, or want of memory.
-#[derive(Debug, Drop)]
+#[derive(Debug, Drop, Error)]
 pub enum Refusal {
+    #[error("a text or a command is refused")]
     Fault(Fault),
+    #[error("out of memory")]
     NoMemory,
 }
 

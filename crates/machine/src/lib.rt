@@ -1,4 +1,7 @@
 // Machines that a checkpoint book can run, the rows that drive them, and the counter of their steps.
+//
+// The trait `Machine` stands here; `row_run`, `row_runs`, `stretch` and `merge` are rows as runs of equal ones, `steps` is the counter,
+// and `tally` a machine for tests.
 #![tactic(auto)]
 
 ghost use Rattle.std.specs.Prelude.{◌≡◌, ℕ, ◌+◌, ◌*◌, ◌-◌, ◌≤◌, Bool, true, IfOk, OnOk};

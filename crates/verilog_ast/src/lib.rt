@@ -1,4 +1,7 @@
 // The tree of a Verilog text: modules, items, statements, targets and expressions, each with its place.
+//
+// One type a file, from `module` down to `expression`; `nodes` has what holds the parts of a node. All that is defined above the
+// parser speaks of the plain data that `specs/Views` gives of a tree; `laws` says that views keep names and renaming.
 #![tactic(auto)]
 
 mod binary_operator;

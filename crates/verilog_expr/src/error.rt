@@ -5,13 +5,16 @@ ghost use Rattle.verilog_expr.specs.declared.error.ParseError.TheVariants.{NoMem
 use crate::fault::ParseFault;
 use no_memory::NoMemory;
 use std::alloc::{AllocError, AllocFailed};
+use thiserror::Error;
 
 /// Why nothing was read.
-#[derive(Debug, Drop)]
+#[derive(Debug, Drop, Error)]
 pub enum ParseError {
     /// Memory ran out.
+    #[error("out of memory")]
     NoMemory,
     /// The grammar's machine refuses the tokens.
+    #[error("the grammar refuses a token")]
     Fault(ParseFault),
 }
 

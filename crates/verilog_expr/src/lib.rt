@@ -1,5 +1,8 @@
 // Expressions of a Verilog text, read exactly as the grammar says; the cursor and the grammar machine of the whole
 // language.
+//
+// `parser` is the cursor over tokens, `parsing` reads one expression from a token on by `expression` (`operators`, `leaf`), and `showing`
+// makes a fault of what the machine refuses (`error`, `fault`, `stop`). The machine stands in `specs/`.
 #![tactic(auto)]
 
 mod error;

@@ -1,4 +1,7 @@
 // Verilog texts, read exactly as the grammar says.
+//
+// `parsing` and `file` read a whole text into `modules`: a `header`, then items, each by a function of its nonterminal (`plain_item`,
+// `generate`, `declaration`, `connection`, `statement`, `target`). Each ensures one phrase of the relation `Spells`.
 #![tactic(auto)]
 
 mod connection;
