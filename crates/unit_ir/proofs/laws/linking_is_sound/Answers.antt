@@ -1,0 +1,18 @@
+use Rattle.unit_ir.proofs.Linking.{flat_sound}
+use Rattle.unit_ir.proofs.Widths.{flat_legal, flat_clocked, flat_registers, flat_inputs}
+use Rattle.unit_ir.proofs.laws.linking_is_sound.Goals as goal
+
+pub returns-clause-sound : goal.returns-clause-sound
+returns-clause-sound c = flat_sound
+
+pub returns-clause-legal : goal.returns-clause-legal
+returns-clause-legal c = flat_legal
+
+pub returns-clause-blocks : goal.returns-clause-blocks
+returns-clause-blocks c = flat_clocked
+
+pub returns-clause-registers : goal.returns-clause-registers
+returns-clause-registers c = flat_registers
+
+pub returns-clause-inputs : goal.returns-clause-inputs
+returns-clause-inputs c = flat_inputs
