@@ -2,9 +2,9 @@
 use Rattle.std.proofs.Common.{◌≡◌, ℕ, zero, suc, ◌+◌, ◌<◌, ◌==◌, Bool, true, false, not, ◌&&◌, cond, nat_lt, List, [], ◌∷◌, length, drop, drop-cons, get_or, refl, sym, ◌∙◌, ap, ap₂, arith, true≢false}
 use Rattle.std.specs.declared.vec.Vec.{Vec}
 use Rattle.std.specs.Global.{Global}
-use Rattle.std.proofs.lemmas.Bool.{ltb-true, lt-ltb, cond-true, cond-false}
+use Rattle.std.proofs.lemmas.Bool.{ltb-true, lt-ltb, cond-true, cond-false, not-true, and_from}
 use Rattle.typed_ir.specs.Valuations.{put}
-use Rattle.typed_ir.proofs.Cases.{by_cases, and_left, and_right, and_both}
+use Rattle.typed_ir.proofs.Cases.{by_cases, and_left, and_right}
 use Rattle.comb_order.specs.Graphs.{times, rows_of, HasEdge, flag_at}
 use Rattle.comb_order.specs.Loops.{nearest, overwritten}
 use Rattle.comb_order.proofs.Released.{times-same, times-other, put-same, put-other}
@@ -33,7 +33,7 @@ nearest-says [] flags a t k e h f edge = absurd (omega (arith, h))
 nearest-says (r ∷ rs) [] a t k e h f edge = absurd (omega (arith, e))
 nearest-says (r ∷ rs) (g ∷ fs) a t zero e h f edge =
     let z : a ≡ a + zero = omega arith in
-    let yes : (not g && nat_lt 0 (times t r)) ≡ true = and_both (not g) (nat_lt 0 (times t r)) (ap not f) (lt-ltb 0 (times t r) edge) in
+    let yes : (not g && nat_lt 0 (times t r)) ≡ true = and_from (not g) (nat_lt 0 (times t r)) (ap not f) (lt-ltb 0 (times t r) edge) in
     (zero, cond-true (not g && nat_lt 0 (times t r)) a (nearest (a + 1) rs fs t) yes ∙ z, omega arith, f, edge, λ i l p q. omega (arith, l))
 nearest-says (r ∷ rs) (g ∷ fs) a t (suc k) e h f edge =
     let more : (j : ℕ) × (nearest (a + 1) rs fs t ≡ a + 1 + j) × (j < length rs) × (flag_at fs j ≡ false) × HasEdge rs j t
@@ -44,7 +44,7 @@ nearest-says (r ∷ rs) (g ∷ fs) a t (suc k) e h f edge =
       zero,
       cond-true (not g && nat_lt 0 (times t r)) a (nearest (a + 1) rs fs t) yes ∙ z,
       omega arith,
-      opened g (and_left (not g) (nat_lt 0 (times t r)) yes),
+      not-true g (and_left (not g) (nat_lt 0 (times t r)) yes),
       ltb-true 0 (times t r) (and_right (not g) (nat_lt 0 (times t r)) yes),
       λ i l p q. omega (arith, l),
     ))
@@ -59,13 +59,9 @@ nearest-says (r ∷ rs) (g ∷ fs) a t (suc k) e h f edge =
       λ i. earlier i more.0 none more.5,
     ))
   where
-    opened : (g : Bool) → not g ≡ true → g ≡ false
-    opened true h = sym h
-    opened false h = refl
-
     earlier : (i j : ℕ) → (not g && nat_lt 0 (times t r)) ≡ false → ((i : ℕ) → i < j → flag_at fs i ≡ false → HasEdge rs i t → ⊥)
         → i < suc j → flag_at (g ∷ fs) i ≡ false → HasEdge (r ∷ rs) i t → ⊥
-    earlier zero j none before l p q = true≢false (sym (and_both (not g) (nat_lt 0 (times t r)) (ap not p) (lt-ltb 0 (times t r) q)) ∙ none)
+    earlier zero j none before l p q = true≢false (sym (and_from (not g) (nat_lt 0 (times t r)) (ap not p) (lt-ltb 0 (times t r) q)) ∙ none)
     earlier (suc i) j none before l p q = before i (omega (arith, l)) p q
 
 -- the loop's step over one row, and over all rows from the last to the first

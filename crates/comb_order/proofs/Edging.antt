@@ -4,7 +4,7 @@ use Rattle.std.specs.Prelude.{bit_and, slice_index}
 use Rattle.std.specs.declared.vec.Vec.{Vec}
 use Rattle.std.specs.Global.{Global}
 use Rattle.std.specs.Int.{bit_at}
-use Rattle.std.proofs.lemmas.Bool.{eqb-true, eqb-false, eq-eqb, ne_eqb, ltb-true, ltb-false, lt-ltb}
+use Rattle.std.proofs.lemmas.Bool.{eqb-true, eqb-false, eq-eqb, ne_eqb, ltb-true, ltb-false, lt-ltb, not-true, and_from}
 use Rattle.std.proofs.lemmas.Nat.{pow_pos}
 use Rattle.std.proofs.lemmas.Nat.Bits.{bit_at_and, bit_at-lt, bit_at-zero, same_from_bits_below}
 use Rattle.bits.proofs.Runs.{below_pow, bit_at-mod_in}
@@ -14,7 +14,7 @@ use Rattle.typed_ir.specs.Nodes.{FlatNode, node_drives, drives_at, reads_at, are
 use Rattle.typed_ir.specs.Orders.{Each, at_or, Precedes}
 use Rattle.typed_ir.specs.Flats.{NodeWritesFirst}
 use Rattle.typed_ir.specs.Touches.{has_bit, touched, mentions}
-use Rattle.typed_ir.proofs.Cases.{by_cases, left_or, right_or, and_left, and_right, and_both}
+use Rattle.typed_ir.proofs.Cases.{by_cases, left_or, right_or, and_left, and_right}
 use Rattle.typed_ir.proofs.Mentions.{reads_foreign, reads_mentioned, drive_reads, block_apart, drives_small}
 use Rattle.comb_order.specs.declared.drivers.Driver.{Driver}
 use Rattle.comb_order.specs.Graphs.{times, row_at, HasEdge}
@@ -86,7 +86,7 @@ some_true (d ∷ ds) mask a h =
       c.0,
       c.1,
       left_or ((a == d.node) && has_bit d.mask c.0) (drives_in ds a c.0)
-          (and_both (a == d.node) (has_bit d.mask c.0) (and_left (a == d.node) (common d.mask mask) yes) c.2),
+          (and_from (a == d.node) (has_bit d.mask c.0) (and_left (a == d.node) (common d.mask mask) yes) c.2),
       c.3,
     ))
     (λ out. let r : (i : ℕ) × (i < 128) × (drives_in ds a i ≡ true) × (has_bit mask i ≡ true) =
@@ -99,7 +99,7 @@ some_whole (x ∷ ds) mask a i small d h =
     let here = (a == x.node) && has_bit x.mask i in
     by_cases here
     (λ yes. left_or ((a == x.node) && common x.mask mask) (drives_some ds mask a)
-    (and_both (a == x.node) (common x.mask mask) (and_left (a == x.node) (has_bit x.mask i) yes)
+    (and_from (a == x.node) (common x.mask mask) (and_left (a == x.node) (has_bit x.mask i) yes)
     (common_of x.mask mask i small (and_right (a == x.node) (has_bit x.mask i) yes) h)))
     (λ out. right_or ((a == x.node) && common x.mask mask) (drives_some ds mask a)
     (some_whole ds mask a i small (only_right here (drives_in ds a i) out d) h))
@@ -119,7 +119,7 @@ any_true table (t ∷ ts) a h =
       r.1,
       r.2,
       left_or ((t.signal == t.signal) && has_bit t.mask r.0) (touched ts t.signal r.0)
-          (and_both (t.signal == t.signal) (has_bit t.mask r.0) (eq-eqb t.signal t.signal refl) r.3),
+          (and_from (t.signal == t.signal) (has_bit t.mask r.0) (eq-eqb t.signal t.signal refl) r.3),
     ))
     (λ out. let r : Shared table ts a = any_true table ts a (only_right here (drives_any table ts a) out h) in
     (r.0, r.1, r.2, r.3, right_or ((r.0 == t.signal) && has_bit t.mask r.1) (touched ts r.0 r.1) r.4))
@@ -195,7 +195,7 @@ joins_sound nodes table ts a b is plain same h apart =
       d,
       by_cases (block_at nodes b)
           (λ block. by_cases (drives_at nodes b s i)
-          (λ own. absurd (true≢false (sym (and_both (block_at nodes b) (a == b) block (eq-eqb a b (plain.one a b s i d own))) ∙ apart)))
+          (λ own. absurd (true≢false (sym (and_from (block_at nodes b) (a == b) block (eq-eqb a b (plain.one a b s i d own))) ∙ apart)))
           (λ foreign. at_foreign nodes b s i foreign m))
           (λ drive. at_drive nodes b s i drive m),
     )
@@ -207,7 +207,7 @@ joins_whole nodes table ts a b is plain same p =
     let s = p.0 in
     let i = p.1 in
     let place : (s < length table) × (i < 128) = is.inside a s i p.2 in
-    and_both (drives_any table ts a) (not (block_at nodes b && (a == b)))
+    and_from (drives_any table ts a) (not (block_at nodes b && (a == b)))
     (any_whole table ts a s i place.1 (is.drives a s i place.0 place.1 ∙ p.2) (same s i place.1 ∙ at_mentioned nodes b s i p.3))
     (ap not (by_cases (block_at nodes b && (a == b))
     (λ own. absurd (true≢false (sym p.2
@@ -248,7 +248,7 @@ edges_step nodes table old new b ts is plain same long eq was = record {
         omega (arith, here),
         subst (Before nodes a) (sym here)
             (joins_sound nodes table ts a b is plain same (and_left (drives_any table ts a) (not (block_at nodes b && (a == b))) both)
-            (not_true (block_at nodes b && (a == b)) (and_right (drives_any table ts a) (not (block_at nodes b && (a == b))) both))),
+            (not-true (block_at nodes b && (a == b)) (and_right (drives_any table ts a) (not (block_at nodes b && (a == b))) both))),
       )));
   whole = λ a t small p.
       (let there : a < length nodes = driver_there nodes a p.0 p.1 p.2 in
@@ -256,16 +256,12 @@ edges_step nodes table old new b ts is plain same long eq was = record {
       ltb-true 0 (times t (row_at new a)) (eq a t (omega (arith, there, count))
       ∙ by_cases (t == b)
       (λ here. right_or (edge old a t) ((t == b) && (drives_any table ts a && not (block_at nodes b && (a == b))))
-      (and_both (t == b) (drives_any table ts a && not (block_at nodes b && (a == b))) here
+      (and_from (t == b) (drives_any table ts a && not (block_at nodes b && (a == b))) here
       (joins_whole nodes table ts a b is plain same (subst (Before nodes a) (eqb-true t b here) p))))
       (λ other. let apart : t ≡ b → ⊥ = eqb-false t b other in
       left_or (edge old a t) ((t == b) && (drives_any table ts a && not (block_at nodes b && (a == b))))
       (lt-ltb 0 (times t (row_at old a)) (was.whole a t (omega (arith, small, apart)) p)))));
 }
-  where
-    not_true : (b : Bool) → not b ≡ true → b ≡ false
-    not_true true h = sym h
-    not_true false h = refl
 
 pub no_edges : (nodes : List FlatNode) (rows : List (List ℕ)) → length rows ≡ length nodes → ((a : ℕ) → row_at rows a ≡ []) → AreEdges nodes 0 rows
 no_edges nodes rows size none = record {

@@ -3,7 +3,7 @@ use Rattle.std.proofs.Common.{◌≡◌, ℕ, zero, suc, ◌<◌, inl, inr, Bool
 use Rattle.std.specs.Prelude.{bit_or}
 use Rattle.std.specs.declared.vec.Vec.{Vec}
 use Rattle.std.specs.Global.{Global}
-use Rattle.std.proofs.lemmas.Bool.{eqb-true, eq-eqb}
+use Rattle.std.proofs.lemmas.Bool.{eqb-true, eq-eqb, not-true}
 use Rattle.typed_ir.specs.declared.span.Span.{Span}
 use Rattle.typed_ir.specs.Stmts.{SizedStmt, later_targets}
 use Rattle.typed_ir.specs.Valuations.{Places}
@@ -83,15 +83,11 @@ first_of (n ∷ ns) h = (one n (or_left (is_block n) (has_block ns) h), first_of
 
 -- ---- drivers
 
-not_true : (b : Bool) → not b ≡ true → b ≡ false
-not_true true h = sym h
-not_true false h = refl
-
 -- a bit that is driven wasn't taken
 taken_free : (taken : ℕ) (ds : List Driver) (a i : ℕ) → i < 128 → are_apart taken ds ≡ true → drives_in ds a i ≡ true → has_bit taken i ≡ false
 taken_free taken [] a i low h d = absurd (true≢false (sym d))
 taken_free taken (x ∷ ds) a i low h d =
-    let apart : common taken x.mask ≡ false = not_true (common taken x.mask) (and_left (not (common taken x.mask)) (are_apart (bit_or taken x.mask) ds) h) in
+    let apart : common taken x.mask ≡ false = not-true (common taken x.mask) (and_left (not (common taken x.mask)) (are_apart (bit_or taken x.mask) ds) h) in
     by_cases ((a == x.node) && has_bit x.mask i)
     (λ here. by_cases (has_bit taken i)
     (λ bit. absurd (true≢false (sym (common_of taken x.mask i low bit (and_right (a == x.node) (has_bit x.mask i) here)) ∙ apart)))

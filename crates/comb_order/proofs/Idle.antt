@@ -1,12 +1,12 @@
 -- Drivers of no bit.
 use Rattle.std.proofs.Common.{◌≡◌, ℕ, ◌%◌, ◌^◌, ◌<◌, ◌==◌, inl, inr, Bool, true, false, ◌&&◌, List, [], ◌∷◌, refl, sym, ◌∙◌, ap, arith, true≢false}
 use Rattle.std.specs.Int.{bit_at}
-use Rattle.std.proofs.lemmas.Bool.{eqb-true, eqb-false, eq-eqb, ne_eqb}
+use Rattle.std.proofs.lemmas.Bool.{eqb-true, eqb-false, eq-eqb, ne_eqb, and_from, or_from}
 use Rattle.std.proofs.lemmas.Nat.{pow_pos}
 use Rattle.std.proofs.lemmas.Nat.Bits.{bit_at-lt, bit_at-zero, same_from_bits_below}
 use Rattle.bits.proofs.Runs.{below_pow, bit_at-mod_in}
 use Rattle.typed_ir.specs.Touches.{has_bit}
-use Rattle.typed_ir.proofs.Cases.{by_cases, left_or, or_right, or_both, and_left, and_right, and_both}
+use Rattle.typed_ir.proofs.Cases.{by_cases, left_or, or_right, and_left, and_right}
 use Rattle.comb_order.specs.declared.drivers.Driver.{Driver}
 use Rattle.comb_order.specs.Driving.{drives_in}
 use Rattle.comb_order.specs.Parts.{is_idle, are_idle}
@@ -41,7 +41,7 @@ and_none false b h = refl
 pub idle_drives : (ds : List Driver) (a i : ℕ) → i < 128 → are_idle ds ≡ true → drives_in ds a i ≡ false
 idle_drives [] a i small h = refl
 idle_drives (d ∷ ds) a i small h =
-    or_both ((a == d.node) && has_bit d.mask i) (drives_in ds a i)
+    or_from ((a == d.node) && has_bit d.mask i) (drives_in ds a i)
     (and_none (a == d.node) (has_bit d.mask i) (idle_bit d.mask i small (and_left (is_idle d) (are_idle ds) h)))
     (idle_drives ds a i small (and_right (is_idle d) (are_idle ds) h))
 
@@ -49,9 +49,9 @@ idle_drives (d ∷ ds) a i small h =
 pub all_idle : (ds : List Driver) → ((a i : ℕ) → i < 128 → drives_in ds a i ≡ false) → are_idle ds ≡ true
 all_idle [] h = refl
 all_idle (d ∷ ds) h =
-    and_both (is_idle d) (are_idle ds)
+    and_from (is_idle d) (are_idle ds)
     (by_cases (is_idle d) (λ yes. yes)
     (λ busy. let f : (i : ℕ) × (i < 128) × (has_bit d.mask i ≡ true) = some_bit d.mask busy in
     absurd (true≢false (sym (left_or ((d.node == d.node) && has_bit d.mask f.0) (drives_in ds d.node f.0)
-    (and_both (d.node == d.node) (has_bit d.mask f.0) (eq-eqb d.node d.node refl) f.2)) ∙ h d.node f.0 f.1))))
+    (and_from (d.node == d.node) (has_bit d.mask f.0) (eq-eqb d.node d.node refl) f.2)) ∙ h d.node f.0 f.1))))
     (all_idle ds (λ a i small. or_right ((a == d.node) && has_bit d.mask i) (drives_in ds a i) (h a i small)))

@@ -3,7 +3,7 @@ use Rattle.std.proofs.Common.{◌≡◌, ℕ, zero, suc, ◌+◌, ◌<◌, ◌�
 use Rattle.std.specs.Prelude.{bit_or}
 use Rattle.std.specs.declared.vec.Vec.{Vec}
 use Rattle.std.specs.Global.{Global}
-use Rattle.std.proofs.lemmas.Bool.{eq-eqb, ltb-true, ltb-false}
+use Rattle.std.proofs.lemmas.Bool.{eq-eqb, ltb-true, ltb-false, and_from}
 use Rattle.typed_ir.specs.declared.span.Span.{Span}
 use Rattle.typed_ir.specs.Stmts.{SizedStmt, later_targets}
 use Rattle.typed_ir.specs.FlatNodes.{node_of}
@@ -13,7 +13,7 @@ use Rattle.typed_ir.specs.Orders.{Member, Each, Distinct, any_drives}
 use Rattle.typed_ir.specs.Cycles.{Flat, WritesRegisters}
 use Rattle.typed_ir.specs.Flats.{IsFlat, signal_widths, are_clocked, are_below}
 use Rattle.typed_ir.specs.Touches.{has_bit}
-use Rattle.typed_ir.proofs.Cases.{by_cases, left_or, right_or, and_both}
+use Rattle.typed_ir.proofs.Cases.{by_cases, left_or, right_or}
 use Rattle.comb_order.specs.declared.drivers.Driver.{Driver}
 use Rattle.comb_order.specs.declared.parts.Parts.{Parts}
 use Rattle.comb_order.specs.Driving.{row_in, drives_in, common, Rises, AllRise, IsTableOf, IsTable}
@@ -35,30 +35,30 @@ only_right true b out h = absurd (true≢false out)
 only_right false b out h = h
 
 all_pass : (a b c d : Bool) → a ≡ true → b ≡ true → c ≡ true → d ≡ true → (a && (b && (c && d))) ≡ true
-all_pass a b c d h k l m = and_both a (b && (c && d)) h (and_both b (c && d) k (and_both c d l m))
+all_pass a b c d h k l m = and_from a (b && (c && d)) h (and_from b (c && d) k (and_from c d l m))
 
 -- ---- lists
 
 distinct_passes : (xs : List ℕ) → Distinct xs → are_distinct xs ≡ true
 distinct_passes [] d = refl
 distinct_passes (x ∷ xs) d =
-    and_both (not (is_member x xs)) (are_distinct xs) (ap not (false_of (is_member x xs) (λ m. d.0 (member_of x xs m)))) (distinct_passes xs d.1)
+    and_from (not (is_member x xs)) (are_distinct xs) (ap not (false_of (is_member x xs) (λ m. d.0 (member_of x xs m)))) (distinct_passes xs d.1)
 
 foreign_passes : (all xs : List ℕ) → ((s : ℕ) → Member s xs → Member s all → ⊥) → none_in all xs ≡ true
 foreign_passes all [] h = refl
 foreign_passes all (x ∷ xs) h =
-    and_both (not (is_member x all)) (none_in all xs)
+    and_from (not (is_member x all)) (none_in all xs)
     (ap not (false_of (is_member x all) (λ m. h x (inl refl) (member_of x all m))))
     (foreign_passes all xs (λ s m n. h s (inr m) n))
 
 written_passes : (registers : List ℕ) (sts : List SizedStmt) → WritesRegisters registers sts → blocks_in registers sts ≡ true
 written_passes registers [] w = refl
 written_passes registers (st ∷ sts) w =
-    and_both (spans_in registers (later_targets st)) (blocks_in registers sts) (each (later_targets st) w.0) (written_passes registers sts w.1)
+    and_from (spans_in registers (later_targets st)) (blocks_in registers sts) (each (later_targets st) w.0) (written_passes registers sts w.1)
   where
     each : (ps : List Span) → Each (λ (p : Span). Member p.signal registers) ps → spans_in registers ps ≡ true
     each [] h = refl
-    each (p ∷ ps) h = and_both (is_member p.signal registers) (spans_in registers ps) (is_of p.signal registers h.0) (each ps h.1)
+    each (p ∷ ps) h = and_from (is_member p.signal registers) (spans_in registers ps) (is_of p.signal registers h.0) (each ps h.1)
 
 -- ---- drivers
 
@@ -68,7 +68,7 @@ apart_passes : (taken low : ℕ) (ds : List Driver) (high : ℕ) → Rises low d
     → are_apart taken ds ≡ true
 apart_passes taken low [] high r free one = refl
 apart_passes taken low (x ∷ ds) high r free one =
-    and_both (not (common taken x.mask)) (are_apart (bit_or taken x.mask) ds)
+    and_from (not (common taken x.mask)) (are_apart (bit_or taken x.mask) ds)
     (ap not (false_of (common taken x.mask) (λ c.
     let f : (i : ℕ) × (i < 128) × (has_bit taken i ≡ true) × (has_bit x.mask i ≡ true) = common_bit taken x.mask c in
     free x.node f.0 f.1 f.2 (own f.0 f.3))))
@@ -80,7 +80,7 @@ apart_passes taken low (x ∷ ds) high r free one =
   where
     own : (i : ℕ) → has_bit x.mask i ≡ true → drives_in (x ∷ ds) x.node i ≡ true
     own i bit = left_or ((x.node == x.node) && has_bit x.mask i) (drives_in ds x.node i)
-        (and_both (x.node == x.node) (has_bit x.mask i) (eq-eqb x.node x.node refl) bit)
+        (and_from (x.node == x.node) (has_bit x.mask i) (eq-eqb x.node x.node refl) bit)
 
     more : (a i : ℕ) → drives_in ds a i ≡ true → drives_in (x ∷ ds) a i ≡ true
     more a i d = right_or ((a == x.node) && has_bit x.mask i) (drives_in ds a i) d
@@ -95,7 +95,7 @@ apart_passes taken low (x ∷ ds) high r free one =
 each_apart : (table : List (Vec Driver Global)) → ((s : ℕ) → s < length table → are_apart 0 (row_in table s) ≡ true) → rows_apart table ≡ true
 each_apart [] h = refl
 each_apart (r ∷ rs) h =
-    and_both (are_apart 0 r.items) (rows_apart rs) (h zero (omega arith)) (each_apart rs (λ s small. h (suc s) (omega (arith, small))))
+    and_from (are_apart 0 r.items) (rows_apart rs) (h zero (omega arith)) (each_apart rs (λ s small. h (suc s) (omega (arith, small))))
 
 pub rows_pass : (drives_at : ℕ → Places) (table : List (Vec Driver Global)) (high : ℕ) → IsTableOf drives_at table → AllRise table high
     → ((a b s i : ℕ) → drives_at a s i ≡ true → drives_at b s i ≡ true → a ≡ b) → rows_apart table ≡ true
@@ -120,7 +120,7 @@ undriven_passes : (nodes : List FlatNode) (table : List (Vec Driver Global)) (ss
     → ((s i : ℕ) → Member s ss → any_drives node_drives nodes s i ≡ false) → are_undriven table ss ≡ true
 undriven_passes nodes table [] is h = refl
 undriven_passes nodes table (s ∷ ss) is h =
-    and_both (are_idle (row_in table s)) (are_undriven table ss)
+    and_from (are_idle (row_in table s)) (are_undriven table ss)
     (all_idle (row_in table s) (λ a i small. false_of (drives_in (row_in table s) a i)
     (λ d. true≢false (sym (any_at nodes a s i (listed nodes table a s i is small d)) ∙ h s i (inl refl)))))
     (undriven_passes nodes table ss is (λ t i m. h t i (inr m)))
@@ -148,8 +148,8 @@ held_passes design f = all_pass (are_distinct design.registers) (are_distinct de
 pub driven_passes : (design : Flat) (table : List (Vec Driver Global)) (high : ℕ) → IsTable design.nodes table → AllRise table high → IsFlat design
     → (rows_apart table && (are_undriven table design.registers && are_undriven table design.inputs)) ≡ true
 driven_passes design table high is rise f =
-    and_both (rows_apart table) (are_undriven table design.registers && are_undriven table design.inputs)
+    and_from (rows_apart table) (are_undriven table design.registers && are_undriven table design.inputs)
     (rows_pass (drives_at design.nodes) table high is rise f.sound.one_driver)
-    (and_both (are_undriven table design.registers) (are_undriven table design.inputs)
+    (and_from (are_undriven table design.registers) (are_undriven table design.inputs)
     (undriven_passes design.nodes table design.registers is (λ s i m. f.held s i (inl m)))
     (undriven_passes design.nodes table design.inputs is (λ s i m. f.held s i (inr m))))

@@ -1,11 +1,12 @@
 -- Rows in which no node stands twice.
 use Rattle.std.proofs.Common.{◌≡◌, ℕ, suc, ◌+◌, ◌-◌, ◌<◌, ◌≤◌, ◌==◌, Bool, true, false, ◌||◌, ◌&&◌, not, ◌⊎◌, inl, inr, nat_lt, List, [], ◌∷◌, ◌++◌, length, set, refl, sym, ◌∙◌, ap, ap₂, subst, arith, true≢false}
+use Rattle.std.proofs.Math.Bool.{or-false, or_assoc}
 use Rattle.std.specs.Prelude.{slice_index}
 use Rattle.std.specs.declared.vec.Vec.{Vec}
 use Rattle.std.specs.Global.{Global}
-use Rattle.std.proofs.lemmas.Bool.{eqb-true, eqb-false, eq-eqb, ne_eqb, ltb-true, lt-ltb}
+use Rattle.std.proofs.lemmas.Bool.{eqb-true, eqb-false, eq-eqb, ne_eqb, ltb-true, lt-ltb, and_from}
 use Rattle.std.proofs.lemmas.List.{length-append}
-use Rattle.typed_ir.proofs.Cases.{by_cases, and_left, and_right, and_both, left_or, right_or}
+use Rattle.typed_ir.proofs.Cases.{by_cases, and_left, and_right, left_or, right_or}
 use Rattle.comb_order.specs.Graphs.{times, row_at, rows_of, waiting}
 use Rattle.comb_order.specs.Driving.{row_in, edge, ends_with, IsRow, AreRows}
 use Rattle.comb_order.proofs.Counts.{times-at}
@@ -30,11 +31,7 @@ pushed_edge row b t = by_cases (t == b)
     let one : times t (row ++ b ∷ []) ≡ 1 + times t row =
     ap (λ x. times x (row ++ b ∷ [])) e ∙ times_one row b ∙ ap (λ x. 1 + times x row) (sym e) in
     lt-ltb 0 (times t (row ++ b ∷ [])) (omega (arith, one)) ∙ sym (right_or (nat_lt 0 (times t row)) (t == b) yes))
-    (λ out. ap (nat_lt 0) (times_none t row b out) ∙ sym (ap (λ x. nat_lt 0 (times t row) || x) out ∙ or_none (nat_lt 0 (times t row))))
-  where
-    or_none : (a : Bool) → (a || false) ≡ a
-    or_none true = refl
-    or_none false = refl
+    (λ out. ap (nat_lt 0) (times_none t row b out) ∙ sym (ap (λ x. nat_lt 0 (times t row) || x) out ∙ or-false (nat_lt 0 (times t row))))
 
 pub ends_there : (row : List ℕ) (b : ℕ) → ends_with row b ≡ true → 0 < times b row
 ends_there row b h =
@@ -47,17 +44,13 @@ kept_edge row b h t = by_cases (t == b)
     (λ yes. let there : 0 < times b row = ends_there row b h in
     let here : nat_lt 0 (times t row) ≡ true = ap (λ x. nat_lt 0 (times x row)) (eqb-true t b yes) ∙ lt-ltb 0 (times b row) there in
     here ∙ sym (left_or (nat_lt 0 (times t row)) (t == b) here))
-    (λ out. sym (ap (λ x. nat_lt 0 (times t row) || x) out ∙ or_none (nat_lt 0 (times t row))))
-  where
-    or_none : (a : Bool) → (a || false) ≡ a
-    or_none true = refl
-    or_none false = refl
+    (λ out. sym (ap (λ x. nat_lt 0 (times t row) || x) out ∙ or-false (nat_lt 0 (times t row))))
 
 ends_pushed : (row : List ℕ) (b : ℕ) → ends_with (row ++ b ∷ []) b ≡ true
 ends_pushed row b =
     let long : length (row ++ b ∷ []) ≡ length row + 1 = length-append row (b ∷ []) in
     let less : length (row ++ b ∷ []) - 1 ≡ length row = omega (arith, long) in
-    and_both (nat_lt 0 (length (row ++ b ∷ []))) (slice_index (row ++ b ∷ []) (length (row ++ b ∷ []) - 1) == b)
+    and_from (nat_lt 0 (length (row ++ b ∷ []))) (slice_index (row ++ b ∷ []) (length (row ++ b ∷ []) - 1) == b)
     (lt-ltb 0 (length (row ++ b ∷ [])) (omega (arith, long)))
     (eq-eqb (slice_index (row ++ b ∷ []) (length (row ++ b ∷ []) - 1)) b (ap (slice_index (row ++ b ∷ [])) less ∙ at_end row b))
   where
@@ -110,7 +103,7 @@ edges_set rows k b r test block h step holds foreign a t = by_cases (a == k)
     (λ here. ap (λ z. nat_lt 0 (times t z)) (rows_row (set rows k r) a ∙ ap (row_in (set rows k r)) (eqb-true a k here) ∙ row_same rows k r h)
     ∙ step t
     ∙ ap₂ (λ x y. nat_lt 0 (times t x) || y) (ap (row_in rows) (sym (eqb-true a k here)) ∙ sym (rows_row rows a))
-    (sym (ap₂ (λ x y. (t == b) && (x && y)) (and_both (a == k) test here holds)
+    (sym (ap₂ (λ x y. (t == b) && (x && y)) (and_from (a == k) test here holds)
     (ap (λ z. not (block && (z == b))) (eqb-true a k here) ∙ ap not foreign) ∙ and_true (t == b))))
     (λ out. ap (λ z. nat_lt 0 (times t z)) (rows_row (set rows k r) a ∙ row_other rows k a r (eqb-false a k out) ∙ sym (rows_row rows a))
     ∙ sym (ap (λ x. edge (rows_of rows) a t || ((t == b) && ((x && test) && not (block && (a == b))))) out ∙ idle (edge (rows_of rows) a t) (t == b)))
@@ -140,10 +133,6 @@ pub joined : (e t s r n e' total : Bool) → e' ≡ (e || (t && (s && n))) → (
 joined e t s r n e' total here all =
     ap (λ x. x || (t && (r && n))) here ∙ or_assoc e (t && (s && n)) (t && (r && n)) ∙ ap (λ x. e || x) (spread t s r n) ∙ all
   where
-    or_assoc : (a b c : Bool) → ((a || b) || c) ≡ (a || (b || c))
-    or_assoc true b c = refl
-    or_assoc false b c = refl
-
     spread : (t s r n : Bool) → ((t && (s && n)) || (t && (r && n))) ≡ (t && ((s || r) && n))
     spread false s r n = refl
     spread true false r n = refl

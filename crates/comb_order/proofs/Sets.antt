@@ -1,6 +1,7 @@
 -- Sets of the numbers of a list.
 use Rattle.std.proofs.Common.{◌≡◌, ℕ, zero, suc, ◌+◌, ◌<◌, Bool, true, false, not, ◌&&◌, ◌||◌, ◌==◌, cond, List, [], ◌∷◌, length, get_or, drop, refl, sym, ◌∙◌, ap, ap₂, true≢false}
-use Rattle.std.proofs.lemmas.Bool.{eqb-true, eq-eqb}
+use Rattle.std.proofs.Math.Bool.{or-false}
+use Rattle.std.proofs.lemmas.Bool.{eqb-true, eq-eqb, not-false, not-true}
 use Rattle.typed_ir.proofs.Cases.{by_cases}
 use Rattle.typed_ir.proofs.Lists.{drop_split}
 use Rattle.comb_order.specs.Parts.{is_member, are_distinct}
@@ -9,10 +10,6 @@ swap : (x q : ℕ) → (x == q) ≡ (q == x)
 swap x q = by_cases (x == q)
     (λ t. t ∙ sym (eq-eqb q x (sym (eqb-true x q t))))
     (λ f. f ∙ sym (by_cases (q == x) (λ t. absurd (true≢false (sym (eq-eqb x q (sym (eqb-true q x t))) ∙ f))) (λ g. g)))
-
-pub or_false : (b : Bool) → (b || false) ≡ b
-or_false true = refl
-or_false false = refl
 
 mix : (b c m : Bool) → (cond b true c || m) ≡ (c || (b || m))
 mix true true m = refl
@@ -53,11 +50,3 @@ twice xs i d h old = later xs i (ap are_distinct (drop_split xs i d h) ∙ ap (�
     later ys zero e = e
     later [] (suc j) e = e
     later (y ∷ ys) (suc j) e = and_false (not (is_member y ys)) (are_distinct ys) (later ys j e)
-
-pub not_true : (b : Bool) → not b ≡ true → b ≡ false
-not_true true h = sym h
-not_true false h = refl
-
-pub not_false : (b : Bool) → not b ≡ false → b ≡ true
-not_false true h = refl
-not_false false h = sym h

@@ -1,5 +1,6 @@
 -- Tables by rows, and the drivers of a signal.
 use Rattle.std.proofs.Common.{◌≡◌, ℕ, zero, suc, ◌+◌, ◌<◌, ◌≤◌, ◌==◌, Bool, true, false, ◌||◌, ◌&&◌, List, [], ◌∷◌, ◌++◌, length, map, take, drop, get_or, set, refl, sym, ◌∙◌, ap, ap₂, arith, append-nil}
+use Rattle.std.proofs.Math.Bool.{or-false, or_assoc}
 use Rattle.std.proofs.lemmas.List.{drop_all, take_all}
 use Rattle.std.specs.declared.vec.Vec.{Vec}
 use Rattle.std.specs.Global.{Global}
@@ -54,14 +55,6 @@ row_more (x ∷ xs) r e h (suc s) = row_more xs r e (λ k. h (suc k)) s
 
 -- ---- drivers
 
-or_assoc : (a b c : Bool) → ((a || b) || c) ≡ (a || (b || c))
-or_assoc true b c = refl
-or_assoc false b c = refl
-
-or_none : (a : Bool) → (a || false) ≡ a
-or_none true = refl
-or_none false = refl
-
 and_or : (a b c : Bool) → (a && (b || c)) ≡ ((a && b) || (a && c))
 and_or true b c = refl
 and_or false b c = refl
@@ -73,7 +66,7 @@ drives_both (x ∷ xs) ys a i =
     ∙ sym (or_assoc ((a == x.node) && has_bit x.mask i) (drives_in xs a i) (drives_in ys a i))
 
 pub drives_one : (d : Driver) (a i : ℕ) → drives_in (d ∷ []) a i ≡ ((a == d.node) && has_bit d.mask i)
-drives_one d a i = or_none ((a == d.node) && has_bit d.mask i)
+drives_one d a i = or-false ((a == d.node) && has_bit d.mask i)
 
 -- the bits of two masks together
 pub has_either : (m n i : ℕ) → has_bit (bit_or m n) i ≡ (has_bit m i || has_bit n i)
@@ -141,7 +134,7 @@ at_more {A} f g xs k x a s i h is =
     go (y ∷ ys) zero (suc a) h is = sym (ap (λ b. b && f (g x) s i) (ne_eqb (suc a) 0 (λ e. omega (arith, e))))
     go (y ∷ ys) (suc k) zero h is =
         sym (ap (λ b. f (g y) s i || (b && f (g x) s i)) (ne_eqb 0 (suc k) (λ e. omega (arith, e)))
-        ∙ or_none (f (g y) s i))
+        ∙ or-false (f (g y) s i))
     go (y ∷ ys) (suc k) (suc a) h is =
         go ys k a (omega (arith, h)) is
         ∙ ap (λ b. at_or f nowhere (map g (take k ys)) a s i || (b && f (g x) s i)) (sym (same_suc a k))

@@ -2,11 +2,11 @@
 use Rattle.std.proofs.Common.{◌≡◌, ℕ, zero, suc, ◌+◌, ◌-◌, ◌<◌, ◌≤◌, Bool, true, false, ◌&&◌, ◌==◌, List, [], ◌∷◌, length, map, get_or, drop, refl, sym, ◌∙◌, ap, ap₂, arith, cond, true≢false, IsTrue}
 use Rattle.std.specs.Prelude.{Option, Some, None}
 use Rattle.std.specs.Map.{lookup, KeepsOthers}
-use Rattle.std.proofs.lemmas.Bool.{eqb-true, eq-eqb, cond-true, cond-false}
+use Rattle.std.proofs.lemmas.Bool.{eqb-true, eq-eqb, cond-true, cond-false, and_from}
 use Rattle.std.proofs.lemmas.Option.{same_Some, none-some}
 use lib.Pointwise.{pointwise}
 use Rattle.ls_text.specs.declared.name_id.NameId.{NameId}
-use Rattle.typed_ir.proofs.Cases.{by_cases, and_left, and_right, and_both}
+use Rattle.typed_ir.proofs.Cases.{by_cases, and_left, and_right}
 use Rattle.typed_ir.proofs.Lists.{drop_split}
 use Rattle.cycle_eval.proofs.Loads.{below_read}
 use Rattle.cycle_eval.proofs.Carries.{register_read}
@@ -27,7 +27,7 @@ same_is (x ∷ xs) (y ∷ ys) h =
 
 same_own : (xs : List ℕ) → same_path xs xs ≡ true
 same_own [] = refl
-same_own (x ∷ xs) = and_both (x == x) (same_path xs xs) (eq-eqb x x refl) (same_own xs)
+same_own (x ∷ xs) = and_from (x == x) (same_path xs xs) (eq-eqb x x refl) (same_own xs)
 
 pub swap : (xs ys : List ℕ) → same_path xs ys ≡ same_path ys xs
 swap xs ys = by_cases (same_path xs ys)

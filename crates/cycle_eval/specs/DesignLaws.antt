@@ -1,7 +1,7 @@
 -- The laws of a design as a machine.
 use Rattle.std.proofs.Common.{◌≡◌, ℕ, zero, suc, ◌+◌, ◌%◌, ◌^◌, Bool, true, false, ◌&&◌, ◌==◌, List, [], ◌∷◌, ◌++◌, length, map, refl, sym, ◌∙◌, ap, ap₂, ◌↔◌, true≢false}
 use Rattle.std.proofs.Math.Nat.{suc-add}
-use Rattle.std.proofs.lemmas.Bool.{eqb-true, eq-eqb}
+use Rattle.std.proofs.lemmas.Bool.{eqb-true, eq-eqb, and_from}
 use Rattle.std.proofs.lemmas.List.{append-nil, length-append}
 use Rattle.typed_ir.specs.RunLaws.{seg_more}
 use Rattle.typed_ir.specs.Stmts.{all_applied}
@@ -69,10 +69,6 @@ and_right : (a b : Bool) → (a && b) ≡ true → b ≡ true
 and_right true b h = h
 and_right false b h = absurd (true≢false (sym h))
 
-and_both : (a b : Bool) → a ≡ true → b ≡ true → (a && b) ≡ true
-and_both true b h k = k
-and_both false b h k = h
-
 pub alike_is : (x y : List (ℕ × ℕ)) → (are_alike x y ≡ true) ↔ (x ≡ y)
 alike_is x y = (same x y, λ e. ap (are_alike x) (sym e) ∙ itself x)
   where
@@ -94,5 +90,5 @@ alike_is x y = (same x y, λ e. ap (are_alike x) (sym e) ∙ itself x)
 
     itself : (x : List (ℕ × ℕ)) → are_alike x x ≡ true
     itself [] = refl
-    itself (x ∷ xs) = and_both ((x.0 == x.0) && (x.1 == x.1)) (are_alike xs xs)
-        (and_both (x.0 == x.0) (x.1 == x.1) (eq-eqb x.0 x.0 refl) (eq-eqb x.1 x.1 refl)) (itself xs)
+    itself (x ∷ xs) = and_from ((x.0 == x.0) && (x.1 == x.1)) (are_alike xs xs)
+        (and_from (x.0 == x.0) (x.1 == x.1) (eq-eqb x.0 x.0 refl) (eq-eqb x.1 x.1 refl)) (itself xs)

@@ -1,5 +1,6 @@
 -- Statements and arms of lists, taken one by one.
 use Rattle.std.proofs.Common.{◌≡◌, ℕ, ◌+◌, ◌<◌, ◌≤◌, true, ◌||◌, List, [], ◌∷◌, ◌++◌, map, length, get_or, drop, Result, Ok, Err, Box, Global, IfOk, sym, ◌∙◌, ap, append_assoc}
+use Rattle.std.proofs.Math.Bool.{or_assoc}
 use Rattle.std.proofs.lemmas.List.{at_drop_all}
 use Rattle.typed_ir.specs.declared.arm.Arm.{Arm as Arm'}
 use Rattle.typed_ir.specs.declared.stmt.Stmt.{Stmt}
@@ -17,7 +18,7 @@ use Rattle.typed_ir.specs.Forms.{sized}
 use Rattle.typed_ir.specs.Touches.{touched, Adds}
 use Rattle.typed_ir.proofs.Cases.{and_left, and_right}
 use Rattle.typed_ir.proofs.Lists.{drop_read}
-use Rattle.typed_ir.proofs.Masks.{or_assoc, both_spans}
+use Rattle.typed_ir.proofs.Masks.{both_spans}
 use Rattle.typed_ir.proofs.Pending.{pending_then}
 
 -- what holds where a call succeeds

@@ -1,7 +1,8 @@
 -- What an expression, a statement and a node give depends on the bits that they read.
 use Rattle.std.proofs.Common.{◌≡◌, ℕ, suc, ◌+◌, ◌-◌, ◌*◌, ◌/◌, ◌%◌, ◌^◌, ◌<◌, ◌≤◌, min, Bool, true, false, ◌||◌, ◌&&◌, not, ◌==◌, nat_le, nat_lt, cond, List, [], ◌∷◌, ◌++◌, map, refl, sym, ◌∙◌, ap, ap₂, arith, true≢false, ℤ, pos}
+use Rattle.std.proofs.Math.Bool.{or_assoc}
 use Rattle.std.specs.Prelude.{bit_or, negsuc}
-use Rattle.std.proofs.lemmas.Bool.{eqb-true, eq-eqb, leb-true, le-leb, ltb-true, lt-ltb, ltb-false, cond-true, cond-false}
+use Rattle.std.proofs.lemmas.Bool.{eqb-true, eq-eqb, leb-true, le-leb, ltb-true, lt-ltb, ltb-false, cond-true, cond-false, or_from, and_from}
 use Rattle.std.proofs.lemmas.Nat.Bits.{same_from_bits}
 use Rattle.bits.specs.Values.{resized}
 use Rattle.bits.specs.Runs.{selected}
@@ -16,7 +17,7 @@ use Rattle.typed_ir.specs.Sized.{Sized, Constant, Name, Part, Pick, Unary, Binar
 use Rattle.typed_ir.specs.Stmts.{SizedTarget, Fixed, Moving, SizedItem, SizedStmt, SizedArms, Skip, Assign, Later, Then, If, Case, Arm, Default, moved, all_applied, update_of, written, matches_item, matches_any, exec, exec_arms, span_of, targets, arm_targets, certain, known_after, known_after_arms, index_reads, open_indices, item_reads, open_reads, open_arm_reads}
 use Rattle.typed_ir.specs.Nodes.{FlatNode, Drive, Block, spread, lane_spans, copied, drive, node_drives, node_reads, IsComplete}
 use Rattle.typed_ir.specs.Orders.{NodeLaws}
-use Rattle.typed_ir.proofs.Cases.{by_cases, or_left, or_right, or_both, left_or, right_or, and_left, and_right, and_both, cond_same}
+use Rattle.typed_ir.proofs.Cases.{by_cases, or_left, or_right, left_or, right_or, and_left, and_right, cond_same}
 use Rattle.typed_ir.proofs.BitRuns.{placed-inside, placed-outside}
 use Rattle.typed_ir.proofs.Settled.{same_valuation}
 
@@ -32,9 +33,9 @@ part_local p v w h = same_from_bits (v p.signal / 2 ^ p.low % 2 ^ p.width) (w p.
     by_cases (nat_lt i p.width)
     (λ inside. let small : i < p.width = ltb-true i p.width inside in
     bit_at-mod_in (v p.signal / 2 ^ p.low) p.width i small ∙ bit_at-shr (v p.signal) p.low i
-    ∙ h p.signal (p.low + i) (and_both (p.signal == p.signal) (nat_le p.low (p.low + i) && nat_lt (p.low + i) (p.low + p.width))
+    ∙ h p.signal (p.low + i) (and_from (p.signal == p.signal) (nat_le p.low (p.low + i) && nat_lt (p.low + i) (p.low + p.width))
     (eq-eqb p.signal p.signal refl)
-    (and_both (nat_le p.low (p.low + i)) (nat_lt (p.low + i) (p.low + p.width))
+    (and_from (nat_le p.low (p.low + i)) (nat_lt (p.low + i) (p.low + p.width))
     (le-leb p.low (p.low + i) (omega arith)) (lt-ltb (p.low + i) (p.low + p.width) (omega (arith, small)))))
     ∙ sym (bit_at-shr (w p.signal) p.low i) ∙ sym (bit_at-mod_in (w p.signal / 2 ^ p.low) p.width i small))
     (λ outside. let large : p.width ≤ i = ltb-false i p.width outside in
@@ -85,15 +86,11 @@ update_local (Moving reach index) x y v w e h =
 pub read_same : (A known : Places) (B : Places) (v w : Valuation) → ((s i : ℕ) → (A s i && not (known s i)) ≡ true → B s i ≡ true)
     → Same known v w → Same B v w → Same A v w
 read_same A known B v w sub hk hb s i a =
-    by_cases (known s i) (hk s i) (λ no. hb s i (sub s i (and_both (A s i) (not (known s i)) a (ap not no))))
+    by_cases (known s i) (hk s i) (λ no. hb s i (sub s i (and_from (A s i) (not (known s i)) a (ap not no))))
 
 or_none : (a : Bool) → (a || false) ≡ true → a ≡ true
 or_none true h = refl
 or_none false h = h
-
-or_assoc : (a b c : Bool) → (a || (b || c)) ≡ ((a || b) || c)
-or_assoc true b c = refl
-or_assoc false b c = refl
 
 -- the bits of a part become known
 lane_certain : (p : Span) (z : ℕ) (A : Places) (v w : Valuation) → Same A v w
@@ -102,7 +99,7 @@ lane_certain p z A v w k s i a =
     by_cases (within p s i)
     (λ inside. placed-inside p z v s i inside ∙ sym (placed-inside p z w s i inside))
     (λ outside. placed-outside p z v s i outside
-    ∙ by_cases (A s i) (k s i) (λ no. absurd (true≢false (sym a ∙ or_both (A s i) (within p s i) no outside)))
+    ∙ by_cases (A s i) (k s i) (λ no. absurd (true≢false (sym a ∙ or_from (A s i) (within p s i) no outside)))
     ∙ sym (placed-outside p z w s i outside))
 
 -- the same value written to the same parts makes those bits the same that are written for certain, and keeps bits B the same, where
@@ -119,7 +116,7 @@ written_local (Fixed lane ∷ ts) x y known B v w e sub hk hb =
     × Same B (written ts x (all_applied us v)) (written ts y (all_applied us w)) =
     written_local ts x y more B (all_applied us v) (all_applied us w) e sub
     (lane_certain lane.span (x / 2 ^ lane.shift) known v w hk) (applied_same us B v w hb) in (
-      (λ s i a. both.0 s i (sym (or_assoc (known s i) (within lane.span s i) (certain ts s i)) ∙ a)
+      (λ s i a. both.0 s i (or_assoc (known s i) (within lane.span s i) (certain ts s i) ∙ a)
           ∙ ap (λ z. look (written ts y (all_applied z w)) s i) same),
       (λ s i a. both.1 s i a ∙ ap (λ z. look (written ts y (all_applied z w)) s i) same),
     )
@@ -221,7 +218,7 @@ mutual
 pub any_within-append : (xs ys : List Span) (s i : ℕ) → any_within (xs ++ ys) s i ≡ (any_within xs s i || any_within ys s i)
 any_within-append [] ys s i = refl
 any_within-append (x ∷ xs) ys s i =
-    ap (λ t. within x s i || t) (any_within-append xs ys s i) ∙ or_assoc (within x s i) (any_within xs s i) (any_within ys s i)
+    ap (λ t. within x s i || t) (any_within-append xs ys s i) ∙ sym (or_assoc (within x s i) (any_within xs s i) (any_within ys s i))
 
 pub first_of_two : (xs ys : List Span) (s i : ℕ) → any_within (xs ++ ys) s i ≡ false → any_within xs s i ≡ false
 first_of_two xs ys s i h = or_left (any_within xs s i) (any_within ys s i) (sym (any_within-append xs ys s i) ∙ h)
@@ -235,8 +232,8 @@ pub run_among : (signal low width total : ℕ) (s i : ℕ) → low + width ≤ t
 run_among signal low width total s i few h =
     let run : (nat_le low i && nat_lt i (low + width)) ≡ true = and_right (s == signal) (nat_le low i && nat_lt i (low + width)) h in
     let high : i < low + width = ltb-true i (low + width) (and_right (nat_le low i) (nat_lt i (low + width)) run) in
-    and_both (s == signal) (nat_le 0 i && nat_lt i (0 + total)) (and_left (s == signal) (nat_le low i && nat_lt i (low + width)) h)
-    (and_both (nat_le 0 i) (nat_lt i (0 + total)) (le-leb 0 i (omega arith)) (lt-ltb i (0 + total) (omega (arith, high, few))))
+    and_from (s == signal) (nat_le 0 i && nat_lt i (0 + total)) (and_left (s == signal) (nat_le low i && nat_lt i (low + width)) h)
+    (and_from (nat_le 0 i) (nat_lt i (0 + total)) (le-leb 0 i (omega arith)) (lt-ltb i (0 + total) (omega (arith, high, few))))
 
 run_outside : (signal low width total x : ℕ) (env : Valuation) (s i : ℕ) → low + width ≤ total
     → within (record { signal = signal; low = 0; width = total }) s i ≡ false
@@ -315,7 +312,7 @@ spread_inside (l ∷ ls) x env env' s i h =
     (λ last. spread_outside ls x (placed l.span z env) s i last
     ∙ by_cases (within l.span s i)
     (λ inside. placed-inside l.span z env s i inside ∙ sym (placed-inside l.span z env' s i inside))
-    (λ outside. absurd (true≢false (sym h ∙ or_both (within l.span s i) (any_within (lane_spans ls) s i) outside last)))
+    (λ outside. absurd (true≢false (sym h ∙ or_from (within l.span s i) (any_within (lane_spans ls) s i) outside last)))
     ∙ sym (spread_outside ls x (placed l.span z env') s i last))
 
 pub copied_outside : (ps : List Span) (from env : Valuation) (s i : ℕ) → any_within ps s i ≡ false → look (copied ps from env) s i ≡ look env s i
@@ -338,7 +335,7 @@ copied_inside (p ∷ ps) from env s i h =
     let whole : p.low + (i - p.low) ≡ i = omega (arith, from_low) in
     ap (look from p.signal) whole)
     ∙ ap (λ t. look from t i) (sym (eqb-true s p.signal (and_left (s == p.signal) (nat_le p.low i && nat_lt i (p.low + p.width)) inside))))
-    (λ outside. absurd (true≢false (sym h ∙ or_both (within p s i) (any_within ps s i) outside last))))
+    (λ outside. absurd (true≢false (sym h ∙ or_from (within p s i) (any_within ps s i) outside last))))
 
 pub drive_local : (k : FlatNode) (v w env env' : Valuation) → IsComplete k → Same (node_reads k) v w
     → (s i : ℕ) → node_drives k s i ≡ true → look (drive k v env) s i ≡ look (drive k w env') s i

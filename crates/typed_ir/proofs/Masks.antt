@@ -1,5 +1,6 @@
 -- Lists of masks name the bits that the definitions name.
 use Rattle.std.proofs.Common.{◌≡◌, ℕ, ◌+◌, ◌-◌, ◌*◌, ◌/◌, ◌%◌, ◌^◌, ◌<◌, ◌≤◌, ◌⊎◌, inl, inr, Bool, true, false, ◌||◌, ◌&&◌, ◌==◌, nat_le, nat_lt, List, [], ◌∷◌, ◌++◌, refl, sym, ◌∙◌, ap, ap₂, arith}
+use Rattle.std.proofs.Math.Bool.{and-false, or-false, or_assoc}
 use Rattle.std.specs.Int.{bit_at}
 use Rattle.std.proofs.lemmas.Bool.{eq-eqb, ne_eqb, le-leb, lt-leb, lt-ltb, le-ltb}
 use Rattle.std.proofs.lemmas.Nat.Bits.{bit_at_ones, bit_at-zero, bit_at_mask_inside, bit_at_mask_below, bit_at_mask_above, ones_shr}
@@ -11,14 +12,6 @@ use Rattle.typed_ir.specs.declared.span.Span.{Span}
 use Rattle.typed_ir.specs.declared.touch.Touch.{Touch}
 use Rattle.typed_ir.specs.Valuations.{Places, within, any_within}
 use Rattle.typed_ir.specs.Touches.{has_bit, touched, Adds}
-
-pub or_assoc : (a b c : Bool) → ((a || b) || c) ≡ (a || (b || c))
-or_assoc true b c = refl
-or_assoc false b c = refl
-
-pub or_false : (a : Bool) → (a || false) ≡ a
-or_false true = refl
-or_false false = refl
 
 pub and_true : (a b : Bool) → b ≡ true → (a && b) ≡ a
 and_true true b h = h
@@ -35,7 +28,7 @@ touched-append (x ∷ xs) ys s i =
 pub adds_one : (xs : List Touch) (t : Touch) (p : Places) → ((s i : ℕ) → i < 128 → ((s == t.signal) && has_bit t.mask i) ≡ p s i) → Adds xs (xs ++ t ∷ []) p
 adds_one xs t p e = record {
   says = λ s i h. touched-append xs (t ∷ []) s i
-      ∙ ap (λ b. touched xs s i || b) (or_false ((s == t.signal) && has_bit t.mask i) ∙ e s i h);
+      ∙ ap (λ b. touched xs s i || b) (or-false ((s == t.signal) && has_bit t.mask i) ∙ e s i h);
 }
 
 -- spans of one list, then those of another
@@ -94,12 +87,8 @@ run_to_end low width i far small = ap (λ t. nat_le low i && t) (lt-ltb i 128 sm
 pub run_none : (low width i : ℕ) → i < 128 → 128 ≤ low ⊎ width ≡ 0 → has_bit 0 i ≡ (nat_le low i && nat_lt i (low + width))
 run_none low width i small why = no_mask i ∙ sym (by_order i low
     (λ h. ap (λ t. t && nat_lt i (low + width)) (lt-leb low i h))
-    (λ h. ap (λ t. nat_le low i && t) (le-ltb i (low + width) (past why h)) ∙ never (nat_le low i)))
+    (λ h. ap (λ t. nat_le low i && t) (le-ltb i (low + width) (past why h)) ∙ and-false (nat_le low i)))
   where
     past : 128 ≤ low ⊎ width ≡ 0 → low ≤ i → low + width ≤ i
     past (inl far) h = absurd (omega (arith, far, h, small))
     past (inr none) h = omega (arith, none, h)
-
-    never : (b : Bool) → (b && false) ≡ false
-    never true = refl
-    never false = refl

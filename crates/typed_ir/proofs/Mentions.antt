@@ -1,7 +1,7 @@
 -- What a node reads is what its text reads and it doesn't write itself; and the bits that it drives lie in signals.
 use Rattle.std.proofs.Common.{◌≡◌, ℕ, ◌+◌, ◌<◌, ◌≤◌, Bool, true, false, ◌||◌, ◌&&◌, not, ◌==◌, nat_le, nat_lt, List, [], ◌∷◌, ◌++◌, map, length, refl, sym, ◌∙◌, ap₂, arith, true≢false}
 use Rattle.std.specs.Prelude.{slice_index}
-use Rattle.std.proofs.lemmas.Bool.{eqb-true, leb-true, ltb-true}
+use Rattle.std.proofs.lemmas.Bool.{eqb-true, leb-true, ltb-true, or_from}
 use Rattle.typed_ir.specs.declared.span.Span.{Span}
 use Rattle.typed_ir.specs.declared.lane.Lane.{Lane}
 use Rattle.typed_ir.specs.Valuations.{Places, within, any_within, nowhere}
@@ -10,7 +10,7 @@ use Rattle.typed_ir.specs.Stmts.{SizedTarget, Fixed, Moving, SizedStmt, SizedArm
 use Rattle.typed_ir.specs.Nodes.{FlatNode, Drive, Block, lane_spans, node_drives, node_reads, are_lanes, is_legal_node}
 use Rattle.typed_ir.specs.Flats.{NodeWritesFirst}
 use Rattle.typed_ir.specs.Touches.{all_reads, all_arm_reads, mentions, is_block}
-use Rattle.typed_ir.proofs.Cases.{by_cases, or_left, or_right, or_both, left_or, right_or, and_left, and_right}
+use Rattle.typed_ir.proofs.Cases.{by_cases, or_left, or_right, left_or, right_or, and_left, and_right}
 use Rattle.typed_ir.proofs.Masks.{both_spans}
 
 -- ---- reads
@@ -37,7 +37,7 @@ second_free ps qs s i h = or_right (any_within ps s i) (any_within qs s i) (sym 
 certain_free : (ts : List SizedTarget) (s i : ℕ) → any_within (map span_of ts) s i ≡ false → certain ts s i ≡ false
 certain_free [] s i h = refl
 certain_free (Fixed lane ∷ ts) s i h =
-    or_both (within lane.span s i) (certain ts s i) (or_left (within lane.span s i) (any_within (map span_of ts) s i) h)
+    or_from (within lane.span s i) (certain ts s i) (or_left (within lane.span s i) (any_within (map span_of ts) s i) h)
     (certain_free ts s i (or_right (within lane.span s i) (any_within (map span_of ts) s i) h))
 certain_free (Moving reach index ∷ ts) s i h =
     certain_free ts s i (or_right (within (span_of (Moving reach index)) s i) (any_within (map span_of ts) s i) h)
@@ -75,7 +75,7 @@ indices_are : (ts : List SizedTarget) (known : Places) (s i : ℕ) → any_withi
 indices_are [] known s i h k = refl
 indices_are (Fixed lane ∷ ts) known s i h k =
     indices_are ts (λ s' i'. known s' i' || within lane.span s' i') s i (or_right (within lane.span s i) (any_within (map span_of ts) s i) h)
-    (or_both (known s i) (within lane.span s i) k (or_left (within lane.span s i) (any_within (map span_of ts) s i) h))
+    (or_from (known s i) (within lane.span s i) k (or_left (within lane.span s i) (any_within (map span_of ts) s i) h))
 indices_are (Moving reach index ∷ ts) known s i h k =
     ap₂ (λ x y. x || y) (and_not (reads index s i) (known s i) k)
     (indices_are ts known s i (or_right (within (span_of (Moving reach index)) s i) (any_within (map span_of ts) s i) h) k)

@@ -1,10 +1,11 @@
 -- Nodes by number, and an order of them.
 use Rattle.std.proofs.Common.{◌≡◌, ℕ, zero, suc, ◌<◌, true, false, inl, inr, List, [], ◌∷◌, length, refl, sym, ◌∙◌, ap, subst, arith, true≢false}
+use Rattle.std.proofs.lemmas.Bool.{or_from}
 use Rattle.typed_ir.specs.Valuations.{Valuation, Places, look, Same}
 use Rattle.typed_ir.specs.Orders.{round_by, pass, any_drives, Ordered, Member, Each, NodeLaws, Precedes, EachAfter, Distinct}
 use Rattle.typed_ir.specs.Nodes.{FlatNode, drive, node_drives, IsComplete, drive_at, drives_at, reads_at, OneDriver, IsOrder}
 use Rattle.typed_ir.specs.Cycles.{Flat, base, wires, Satisfies, IsSound}
-use Rattle.typed_ir.proofs.Cases.{by_cases, or_both, left_or, right_or}
+use Rattle.typed_ir.proofs.Cases.{by_cases, left_or, right_or}
 use Rattle.typed_ir.proofs.Locals.{node_laws, drive_local, drive_outside}
 use Rattle.typed_ir.proofs.Settled.{IsRound, round-outside, rounds-satisfy, pass-only, passes, same_valuation}
 
@@ -41,7 +42,7 @@ driver_index (n ∷ ns) s i h =
     (λ yes. (zero, omega arith, yes))
     (λ no. let rest : (k : ℕ) × (k < length ns) × (drives_at ns k s i ≡ true) =
     driver_index ns s i (by_cases (any_drives node_drives ns s i) (λ t. t)
-    (λ f. absurd (true≢false (sym h ∙ or_both (node_drives n s i) (any_drives node_drives ns s i) no f)))) in
+    (λ f. absurd (true≢false (sym h ∙ or_from (node_drives n s i) (any_drives node_drives ns s i) no f)))) in
     let small : rest.0 < length ns = rest.1 in
     (suc rest.0, omega (arith, small), rest.2))
 
@@ -59,7 +60,7 @@ member_of_any drives (x ∷ xs) s i h =
     (λ yes. (x, inl refl, yes))
     (λ no. let rest : (k : ℕ) × Member k xs × (drives k s i ≡ true) =
     member_of_any drives xs s i (by_cases (any_drives drives xs s i) (λ t. t)
-    (λ f. absurd (true≢false (sym h ∙ or_both (drives x s i) (any_drives drives xs s i) no f)))) in
+    (λ f. absurd (true≢false (sym h ∙ or_from (drives x s i) (any_drives drives xs s i) no f)))) in
     (rest.0, inr rest.1, rest.2))
 
 -- a bit is what its driver gives

@@ -1,13 +1,13 @@
 -- What clocked blocks note.
 use Rattle.std.proofs.Common.{◌≡◌, ℕ, suc, length, ◌+◌, ◌-◌, ◌/◌, ◌^◌, ◌<◌, ◌≤◌, min, true, ◌&&◌, ◌==◌, nat_le, nat_lt, List, [], ◌∷◌, ◌++◌, refl, sym, ◌∙◌, ap, arith, true≢false, append_assoc, ℤ, pos}
 use Rattle.std.specs.Prelude.{slice_index, negsuc}
-use Rattle.std.proofs.lemmas.Bool.{eqb-true, leb-true, le-leb, ltb-true, cond-true, cond-false}
+use Rattle.std.proofs.lemmas.Bool.{eqb-true, leb-true, le-leb, ltb-true, cond-true, cond-false, and_from}
 use Rattle.typed_ir.specs.declared.reach.Reach.{Reach}
 use Rattle.typed_ir.specs.declared.update.Update.{Update}
 use Rattle.typed_ir.specs.Valuations.{Valuation}
 use Rattle.typed_ir.specs.Sized.{value_of, width_of, place_of, is_span, is_signal, is_width}
 use Rattle.typed_ir.specs.Stmts.{SizedTarget, Fixed, Moving, SizedStmt, SizedArms, Skip, Assign, Later, Then, If, Case, Arm, Default, moved, update_of, updates_of, matches_any, exec, exec_arms, is_clocked, are_clocked_arms, pending, pending_arms, is_legal, are_legal_arms, is_sized, is_target, are_targets, are_items, are_spans}
-use Rattle.typed_ir.proofs.Cases.{by_cases, and_left, and_right, and_both}
+use Rattle.typed_ir.proofs.Cases.{by_cases, and_left, and_right}
 
 -- without blocking assignments nothing is written
 mutual
@@ -39,7 +39,7 @@ pending_then a b env old h =
 pub spans_append : (us vs : List Update) (ws : List ℕ) → are_spans us ws ≡ true → are_spans vs ws ≡ true → are_spans (us ++ vs) ws ≡ true
 spans_append [] vs ws h k = k
 spans_append (u ∷ us) vs ws h k =
-    and_both (is_span u.span ws) (are_spans (us ++ vs) ws) (and_left (is_span u.span ws) (are_spans us ws) h)
+    and_from (is_span u.span ws) (are_spans (us ++ vs) ws) (and_left (is_span u.span ws) (are_spans us ws) h)
     (spans_append us vs ws (and_right (is_span u.span ws) (are_spans us ws) h) k)
 
 -- a run within a signal
@@ -48,8 +48,8 @@ pub run_span : (signal low width total : ℕ) (ws : List ℕ) → is_signal sign
 run_span signal low width total ws s some few =
     let there : nat_lt signal (length ws) ≡ true = and_left (nat_lt signal (length ws)) (slice_index ws signal == total) s in
     let same : slice_index ws signal ≡ total = eqb-true (slice_index ws signal) total (and_right (nat_lt signal (length ws)) (slice_index ws signal == total) s) in
-    and_both (nat_lt signal (length ws)) (nat_le 1 width && nat_le (low + width) (slice_index ws signal)) there
-    (and_both (nat_le 1 width) (nat_le (low + width) (slice_index ws signal)) (le-leb 1 width some) (le-leb (low + width) (slice_index ws signal) (omega (arith, few, same))))
+    and_from (nat_lt signal (length ws)) (nat_le 1 width && nat_le (low + width) (slice_index ws signal)) there
+    (and_from (nat_le 1 width) (nat_le (low + width) (slice_index ws signal)) (le-leb 1 width some) (le-leb (low + width) (slice_index ws signal) (omega (arith, few, same))))
 
 pub moved_spans : (reach : Reach) (z : ℤ) (x : ℕ) (ws : List ℕ) → is_signal reach.signal reach.total ws ≡ true → 1 ≤ reach.width → 1 ≤ reach.total
     → are_spans (moved reach z x) ws ≡ true
@@ -57,20 +57,20 @@ moved_spans reach (pos low) x ws s some more =
     by_cases (nat_lt low reach.total)
     (λ t. ap (λ us. are_spans us ws) (cond-true (nat_lt low reach.total) (record { span = record { signal = reach.signal; low = low; width = min reach.width (reach.total - low) }; value = x } ∷ []) [] t)
     ∙ (let small : low < reach.total = ltb-true low reach.total t in
-    and_both (is_span (record { signal = reach.signal; low = low; width = min reach.width (reach.total - low) }) ws) true
+    and_from (is_span (record { signal = reach.signal; low = low; width = min reach.width (reach.total - low) }) ws) true
     (run_span reach.signal low (min reach.width (reach.total - low)) reach.total ws s (omega (arith, small, some)) (omega (arith, small))) refl))
     (λ t. ap (λ us. are_spans us ws) (cond-false (nat_lt low reach.total) (record { span = record { signal = reach.signal; low = low; width = min reach.width (reach.total - low) }; value = x } ∷ []) [] t))
 moved_spans reach (negsuc below) x ws s some more =
     by_cases (nat_lt (suc below) reach.width)
     (λ t. ap (λ us. are_spans us ws) (cond-true (nat_lt (suc below) reach.width) (record { span = record { signal = reach.signal; low = 0; width = min (reach.width - suc below) reach.total }; value = x / 2 ^ suc below } ∷ []) [] t)
     ∙ (let small : suc below < reach.width = ltb-true (suc below) reach.width t in
-    and_both (is_span (record { signal = reach.signal; low = 0; width = min (reach.width - suc below) reach.total }) ws) true
+    and_from (is_span (record { signal = reach.signal; low = 0; width = min (reach.width - suc below) reach.total }) ws) true
     (run_span reach.signal 0 (min (reach.width - suc below) reach.total) reach.total ws s (omega (arith, small, more)) (omega arith)) refl))
     (λ t. ap (λ us. are_spans us ws) (cond-false (nat_lt (suc below) reach.width) (record { span = record { signal = reach.signal; low = 0; width = min (reach.width - suc below) reach.total }; value = x / 2 ^ suc below } ∷ []) [] t))
 
 -- what is noted lies in its signals
 update_spans : (t : SizedTarget) (x : ℕ) (env : Valuation) (ws : List ℕ) → is_target t ws ≡ true → are_spans (update_of t x env) ws ≡ true
-update_spans (Fixed lane) x env ws h = and_both (is_span lane.span ws) true (and_right (nat_lt lane.shift 128) (is_span lane.span ws) h) refl
+update_spans (Fixed lane) x env ws h = and_from (is_span lane.span ws) true (and_right (nat_lt lane.shift 128) (is_span lane.span ws) h) refl
 update_spans (Moving reach index) x env ws h =
     let shape : (nat_lt reach.shift 128 && (is_width reach.width && is_width reach.total)) ≡ true =
     and_left (nat_lt reach.shift 128 && (is_width reach.width && is_width reach.total)) (is_signal reach.signal reach.total ws && is_sized index ws) h in

@@ -1,8 +1,9 @@
 -- One pass over the nodes in an order gives the one valuation that satisfies them, and so do rounds.
 use Rattle.std.proofs.Common.{◌≡◌, ℕ, zero, suc, ◌+◌, ◌≤◌, true, false, inl, inr, List, [], ◌∷◌, length, refl, sym, ◌∙◌, ap, arith}
+use Rattle.std.proofs.lemmas.Bool.{or_from}
 use Rattle.std.proofs.lemmas.Nat.Bits.{same_from_bits}
 use Rattle.typed_ir.specs.Valuations.{Valuation, Places, look}
-use Rattle.typed_ir.proofs.Cases.{by_cases, or_left, or_right, or_both}
+use Rattle.typed_ir.proofs.Cases.{by_cases, or_left, or_right}
 use Rattle.typed_ir.specs.Orders.{round_by, pass, any_drives, Ordered, Member, Each, NodeLaws}
 use Rattle.typed_ir.specs.Cycles.{repeated}
 
@@ -35,7 +36,7 @@ passes {N} {drives} {reads} {drive} l (k ∷ ks) ord c env v fixed agree s i =
     passes l ks ord.1 c.1 (drive k env env) v (λ j m. fixed j (inr m))
     (λ t j free. by_cases (drives k t j)
     (λ d. l.local k env v env env c.0 (λ t' j' r. agree t' j' (ord.0 t' j' r)) t j d ∙ sym (fixed k (inl refl) env t j d))
-    (λ d. l.outside k env env t j d ∙ agree t j (or_both (drives k t j) (any_drives drives ks t j) d free)))
+    (λ d. l.outside k env env t j d ∙ agree t j (or_from (drives k t j) (any_drives drives ks t j) d free)))
     s i
 
 -- what no node drives is the same after any number of rounds
@@ -57,7 +58,7 @@ rounds-step {N} {drives} {reads} {drive} {Complete} {os} {base} {R} l r k ks mem
     (λ d. r.driven k mem (repeated m R base) base s i d
     ∙ l.local k (repeated m R base) (repeated p R base) base base c (λ t j q. agree m p (omega (arith, lo)) (omega (arith, hi)) t j (ord t j q)) s i d
     ∙ sym (r.driven k mem (repeated p R base) base s i d))
-    (λ d. agree (suc m) (suc p) (omega (arith, lo)) (omega (arith, hi)) s i (or_both (drives k s i) (any_drives drives ks s i) d h))
+    (λ d. agree (suc m) (suc p) (omega (arith, lo)) (omega (arith, hi)) s i (or_from (drives k s i) (any_drives drives ks s i) d h))
 
 pub rounds-settle : {N : Type 0} {drives reads : N → Places} {drive : N → Valuation → Valuation → Valuation} {Complete : N → Type 0} {os : List N} {base : Valuation} {R : Valuation → Valuation}
     → NodeLaws drives reads drive Complete → IsRound drives drive os base R

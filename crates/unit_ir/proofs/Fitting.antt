@@ -1,5 +1,6 @@
 -- Widths: where a list of widths holds another from `first` on, what is legal over the one is legal, moved up, over the other.
 use Rattle.std.proofs.Common.{◌≡◌, ℕ, zero, suc, ◌+◌, ◌<◌, ◌≤◌, ◌==◌, ◌&&◌, ◌⊎◌, inl, inr, Bool, true, false, List, [], ◌∷◌, ◌++◌, map, length, slice_index, nat_le, nat_lt, cond, refl, sym, ◌∙◌, ap, ap₂, subst, ltb-true, lt-ltb, true≢false, arith}
+use Rattle.std.proofs.lemmas.Bool.{and_from}
 use Rattle.std.proofs.lemmas.List.{map-append}
 use Rattle.typed_ir.specs.declared.span.Span.{Span}
 use Rattle.typed_ir.specs.declared.lane.Lane.{Lane}
@@ -8,7 +9,7 @@ use Rattle.typed_ir.specs.Stmts.{SizedTarget, Fixed, Moving, SizedItem, SizedStm
 use Rattle.typed_ir.specs.Nodes.{FlatNode, Drive, Block, are_lanes, is_legal_node}
 use Rattle.unit_ir.specs.Shifts.{shifted_span, shifted, shifted_lane, shifted_target, shifted_item, shifted_stmt, shifted_arms, shifted_node}
 use Rattle.unit_ir.specs.Trees.{count}
-use Rattle.typed_ir.proofs.Cases.{and_left, and_right, and_both, by_cases}
+use Rattle.typed_ir.proofs.Cases.{and_left, and_right, by_cases}
 use Rattle.typed_ir.specs.declared.target_form.TargetForm.{TargetForm}
 use Rattle.typed_ir.specs.Valuations.{Places, nowhere}
 use Rattle.typed_ir.specs.Orders.{at_or}
@@ -20,7 +21,7 @@ pub record Holds (first : ℕ) (whole part : List ℕ) : Type 0 where
   pub same : (s : ℕ) → s < length part → slice_index whole (first + s) ≡ slice_index part s
 
 both_from : (a b c d : Bool) → (a ≡ true → c ≡ true) → (b ≡ true → d ≡ true) → (a && b) ≡ true → (c && d) ≡ true
-both_from a b c d f g h = and_both c d (f (and_left a b h)) (g (and_right a b h))
+both_from a b c d f g h = and_from c d (f (and_left a b h)) (g (and_right a b h))
 
 signal_fits : (first : ℕ) (ws part : List ℕ) → Holds first ws part → (s : ℕ) → nat_lt s (length part) ≡ true → nat_lt (first + s) (length ws) ≡ true
 signal_fits first ws part holds s h = lt-ltb (first + s) (length ws) (holds.there s (ltb-true s (length part) h))
@@ -29,13 +30,13 @@ pub span_fits : (first : ℕ) (ws part : List ℕ) → Holds first ws part → (
 span_fits first ws part holds p h =
     let inside : nat_lt p.signal (length part) ≡ true = and_left _ _ h in
     let same = holds.same p.signal (ltb-true p.signal (length part) inside) in
-    and_both _ _ (signal_fits first ws part holds p.signal inside)
+    and_from _ _ (signal_fits first ws part holds p.signal inside)
     (ap (λ w. nat_le 1 p.width && nat_le (p.low + p.width) w) same ∙ and_right (nat_lt p.signal (length part)) _ h)
 
 pub name_fits : (first : ℕ) (ws part : List ℕ) → Holds first ws part → (s w : ℕ) → is_signal s w part ≡ true → is_signal (first + s) w ws ≡ true
 name_fits first ws part holds s w h =
     let inside : nat_lt s (length part) ≡ true = and_left _ _ h in
-    and_both _ _ (signal_fits first ws part holds s inside)
+    and_from _ _ (signal_fits first ws part holds s inside)
     (ap (λ x. x == w) (holds.same s (ltb-true s (length part) inside)) ∙ and_right (nat_lt s (length part)) _ h)
 
 pub form_fits : (first : ℕ) (ws part : List ℕ) → Holds first ws part → (e : Sized) → fits_signals e part ≡ true → fits_signals (shifted first e) ws ≡ true
@@ -116,7 +117,7 @@ pub joint_fits : (form : TargetForm) (a b : ℕ) (ws port_widths own_widths : Li
     → are_lanes lanes port_widths ≡ true → is_sized e own_widths ≡ true → is_legal_node (Drive form (map (shifted_lane a) lanes) (shifted b e)) ws ≡ true
 unfolding is_legal_node
 joint_fits form a b ws port_widths own_widths there here lanes e h k =
-    and_both _ _ (lanes_fit a ws port_widths there lanes h) (sized_fits b ws own_widths here e k)
+    and_from _ _ (lanes_fit a ws port_widths there lanes h) (sized_fits b ws own_widths here e k)
 
 -- ---- clocked blocks
 

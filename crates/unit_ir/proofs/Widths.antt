@@ -1,5 +1,6 @@
 -- The widths of a linked design agree where those of its units do.
 use Rattle.std.proofs.Common.{◌≡◌, ℕ, zero, suc, ◌+◌, true, List, [], ◌∷◌, ◌++◌, map, length, slice_index, append_assoc, append-nil, refl, sym, ◌∙◌, ap, ap₂, arith, inl, inr, subst, ◌<◌}
+use Rattle.std.proofs.lemmas.Bool.{and_from}
 use Rattle.std.proofs.lemmas.List.{length-append, length-map, map-append, get_or-append-add, get_or_append_left}
 use Rattle.typed_ir.specs.Stmts.{is_sized, is_legal, is_clocked, SizedStmt}
 use Rattle.typed_ir.specs.Nodes.{FlatNode, are_lanes, is_legal_node, are_legal}
@@ -7,7 +8,7 @@ use Rattle.typed_ir.specs.Orders.{Each, Member}
 use Rattle.typed_ir.specs.Cycles.{Signal}
 use Rattle.unit_ir.specs.Shifts.{shifted_stmt}
 use Rattle.unit_ir.specs.Trees.{Piece, Own, Into, From, SizedUnit, Instances, Nothing, One, signals_in, firsts, copied_out, piece_there, signal_there, signals_at, nodes_at, flat_of, unit_widths, kid_widths, is_legal_piece, AreLegal, blocks_at, is_legal_block, top_inputs, AreSound}
-use Rattle.typed_ir.proofs.Cases.{and_left, and_right, and_both}
+use Rattle.typed_ir.proofs.Cases.{and_left, and_right}
 use Rattle.unit_ir.proofs.Fitting.{Holds, node_fits, joint_fits, stmt_fits, clocked_shifted}
 use Rattle.unit_ir.proofs.Counted.{nodes_given, kid_at, registers_range}
 use Rattle.unit_ir.proofs.Linking.{each_append, each_map}
@@ -93,7 +94,7 @@ piece_legal first kid whole own kids here there (From c form lanes e) h =
 legal_append : (whole : List ℕ) (xs ys : List FlatNode) → are_legal xs whole ≡ true → are_legal ys whole ≡ true → are_legal (xs ++ ys) whole ≡ true
 legal_append whole [] ys h k = k
 legal_append whole (x ∷ xs) ys h k =
-    and_both (is_legal_node x whole) (are_legal (xs ++ ys) whole) (and_left (is_legal_node x whole) (are_legal xs whole) h)
+    and_from (is_legal_node x whole) (are_legal (xs ++ ys) whole) (and_left (is_legal_node x whole) (are_legal xs whole) h)
     (legal_append whole xs ys (and_right (is_legal_node x whole) (are_legal xs whole) h) k)
 
 legal_map : (whole own : List ℕ) (kids : ℕ → List ℕ) (f : Piece → FlatNode) (xs : List Piece)
@@ -101,7 +102,7 @@ legal_map : (whole own : List ℕ) (kids : ℕ → List ℕ) (f : Piece → Flat
     → Each (λ x. is_legal_piece own kids x ≡ true) xs → are_legal (map f xs) whole ≡ true
 legal_map whole own kids f [] h all = refl
 legal_map whole own kids f (x ∷ xs) h all =
-    and_both (is_legal_node (f x) whole) (are_legal (map f xs) whole) (h x all.0) (legal_map whole own kids f xs h all.1)
+    and_from (is_legal_node (f x) whole) (are_legal (map f xs) whole) (h x all.0) (legal_map whole own kids f xs h all.1)
 
 legal_given : (whole before rest path : List ℕ) (first : ℕ) (tree : Instances) → length before ≡ first → whole ≡ before ++ (widths_in tree ++ rest)
     → AreLegal tree → are_legal (nodes_given path first tree) whole ≡ true
@@ -133,7 +134,7 @@ flat_legal tree legal =
 
 block_legal : (first : ℕ) (whole own : List ℕ) → Holds first whole own → (st : SizedStmt) → is_legal_block own st ≡ true → is_legal_block whole (shifted_stmt first st) ≡ true
 block_legal first whole own here st h =
-    and_both (is_legal (shifted_stmt first st) whole) (is_clocked (shifted_stmt first st))
+    and_from (is_legal (shifted_stmt first st) whole) (is_clocked (shifted_stmt first st))
     (stmt_fits first whole own here st (and_left (is_legal st own) (is_clocked st) h))
     (clocked_shifted first st ∙ and_right (is_legal st own) (is_clocked st) h)
 

@@ -1,7 +1,8 @@
 use Rattle.std.proofs.Common.{◌≡◌, ◌+◌, ◌-◌, ◌<◌, ◌∙◌, ◌==◌, true, false, cond, length, get_or, drop, sym, ap, arith, nat_eq}
+use Rattle.std.proofs.lemmas.Bool.{not-true, not-false}
 use Rattle.indexmap.specs.IndexSet.{contains}
 use Rattle.comb_order.specs.Parts.{is_member, are_distinct}
-use Rattle.comb_order.proofs.Sets.{one_before, still_distinct, twice, not_true, not_false}
+use Rattle.comb_order.proofs.Sets.{one_before, still_distinct, twice}
 use Rattle.comb_order.proofs.belonging.are_distinct.Goals as goal
 
 pub returns-then-not-is_new : goal.returns-then-not-is_new
@@ -13,7 +14,7 @@ returns-then-not-is_new c =
     let same : n ≡ get_or xs i x = c.number-number.ensures ∙ c.index-xs-left.is in
     let within : i < length xs = omega arith in
     let more : c.loop-left.left ≡ i + 1 = omega arith in
-    let there : contains nat_eq c.loop-left.set n ≡ true = not_false (contains nat_eq c.loop-left.set n) (sym c.in_ok-is_new.ensures.added ∙ c.if-not-is_new.true) in
+    let there : contains nat_eq c.loop-left.set n ≡ true = not-false (contains nat_eq c.loop-left.set n) (sym c.in_ok-is_new.ensures.added ∙ c.if-not-is_new.true) in
     sym (twice xs i x within (ap (λ z. is_member z (drop (i + 1) xs)) (sym same) ∙ ap (λ k. is_member n (drop k xs)) (sym more)
     ∙ sym (c.loop-left.invariant.has n) ∙ there))
 
@@ -26,7 +27,7 @@ loop-left-preserved c =
     let same : n ≡ get_or xs i x = c.number-number.ensures ∙ c.index-xs-left.is in
     let within : i < length xs = omega arith in
     let more : c.loop-left.left ≡ i + 1 = omega arith in
-    let new : contains nat_eq c.loop-left.set n ≡ false = not_true (contains nat_eq c.loop-left.set n) (sym c.in_ok-is_new.ensures.added ∙ c.if-not-is_new.false) in
+    let new : contains nat_eq c.loop-left.set n ≡ false = not-true (contains nat_eq c.loop-left.set n) (sym c.in_ok-is_new.ensures.added ∙ c.if-not-is_new.false) in
     record {
       within = omega arith;
       has = λ q.
