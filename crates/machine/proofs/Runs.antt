@@ -1,7 +1,8 @@
 -- The rows of a list of runs, and where its runs begin.
-use Rattle.std.proofs.Common.{◌≡◌, ℕ, zero, suc, ◌+◌, ◌-◌, ◌<◌, ◌≤◌, List, [], ◌∷◌, ◌++◌, length, take, drop, get_or, replicate, refl, sym, subst, inl, inr, eq-or-lt_of_le, ◌∙◌, ap, arith, length-append, append_assoc, append-nil, drop-drop, take-add, add-one}
+use Rattle.std.proofs.Common.{◌≡◌, ℕ, zero, suc, ◌+◌, ◌-◌, ◌<◌, ◌≤◌, List, [], ◌∷◌, ◌++◌, length, take, drop, get_or, set, replicate, refl, sym, subst, inl, inr, eq-or-lt_of_le, ◌∙◌, ap, arith, length-append, append_assoc, append-nil, drop-drop, take-add, add-one}
 use Rattle.std.proofs.lemmas.List.{length-replicate, drop-replicate, drop-append-le, replicate-append-replicate}
 use Rattle.std.proofs.Math.Seq.{drop-append-add, take-append_seam}
+use Rattle.std.specs.List.{remove}
 use Rattle.std.specs.Prelude.{Result, Ok, Err, OnOk, is_err, false}
 use Rattle.std.proofs.lemmas.Grind.{take_at_read}
 use Rattle.no_memory.specs.declared.NoMemory.{NoMemory}
@@ -126,6 +127,21 @@ module _ {R : Type 0} where
   gapless_whole a rs rs' b e h =
       let at_rs : IsGapless a rs (a + length (expanded rs)) = subst (λ (x : ℕ). IsGapless a rs x) (end_is a rs b h) h in
       subst (λ (x : List (RowRun R)). IsGapless a x (a + length (expanded x))) (sym e) at_rs
+
+  pub begins_within : (a : ℕ) (rs : List (RowRun R)) (b i : ℕ) → IsGapless a rs b → begins_at a rs i ≤ b
+  begins_within a [] b i h = omega (arith, h)
+  begins_within a (r ∷ rs) b zero h = omega (arith, h.0, h.1, end_is r.end rs b h.2)
+  begins_within a (r ∷ rs) b (suc i) h = begins_within r.end rs b i h.2
+
+  -- a run ends where the next one begins, and no later than all rows do
+  pub run_ends : (a : ℕ) (rs rs' : List (RowRun R)) (e : ℕ) (rows : ℕ × List R) (i : ℕ) (g : RowRun R)
+      → rs' ≡ rs → IsGapless a rs e → (a, expanded rs) ≡ rows → i < length rs' → g ≡ get_or rs' i g
+      → (g.end ≡ begins_at a rs' (i + 1)) × (g.end ≤ rows.0 + length rows.1)
+  run_ends a rs rs' e rows i g same h shown lt is =
+      let h' : IsGapless a rs' e = subst (λ (x : List (RowRun R)). IsGapless a x e) (sym same) h in
+      let next : g.end ≡ begins_at a rs' (i + 1) = end_at a rs' e i g h' lt is ∙ ap (λ (x : ℕ). begins_at a rs' x) (sym (add-one i)) in
+      let end : e ≡ rows.0 + length rows.1 = end_is a rs e h ∙ ap (λ (r : ℕ × List R). r.0 + length r.1) shown in
+      (next, omega (arith, next, begins_within a rs' e (i + 1) h', end))
 
   -- the rows from a cycle on are that of its run, and then the rest
   pub row_here : (a : ℕ) (rs rs' : List (RowRun R)) (e : ℕ) (rows : ℕ × List R) (cycle i b : ℕ) (g : RowRun R) (row : R)
@@ -277,3 +293,50 @@ module _ {R : Type 0} where
       let at_end : IsGapless a (old ++ h.added) (rows.0 + length rows.1) = subst (λ (x : ℕ). IsGapless a (old ++ h.added) x) end joined in
       subst (λ (l : List (RowRun R)). IsGapless a l (rows.0 + length rows.1)) (sym h.items) at_end
   appended_gapless old new runs runs' rows s b (Err x) e shown g h = tt
+
+  -- two runs with one row, as one
+
+  abbrev pub as_one : RowRun R → RowRun R → RowRun R
+  as_one r s = record { start = r.start; end = s.end; row = r.row }
+
+  -- the second of two runs taken out, and the first one lengthened
+  pub merged : (i a : ℕ) (rs : List (RowRun R)) (b : ℕ) (r t s u : RowRun R) → suc i < length rs → r ≡ get_or rs i r → t ≡ get_or rs (suc i) t → s ≡ get_or rs (suc i) s → r.row.value ≡ t.row.value
+      → u ≡ get_or (remove rs (suc i)) i u → IsGapless a rs b
+      → IsGapless a (set (remove rs (suc i)) i (as_one u s)) b × (expanded (set (remove rs (suc i)) i (as_one u s)) ≡ expanded rs)
+  merged i a [] b r t s u lt is other next row left h = absurd (omega arith)
+  merged zero a (x ∷ []) b r t s u lt is other next row left h = absurd (omega arith)
+  merged zero a (x ∷ y ∷ zs) b r t s u lt is other next row left h =
+      let first : u.start ≡ x.start = ap (λ (g : RowRun R). g.start) left in
+      let last : s.end ≡ y.end = ap (λ (g : RowRun R). g.end) next in
+      let one : x.row.value ≡ u.row.value = ap (λ (g : RowRun R). g.row.value) (sym left) in
+      let two : y.row.value ≡ u.row.value = ap (λ (g : RowRun R). g.row.value) (sym other) ∙ sym row ∙ ap (λ (g : RowRun R). g.row.value) is ∙ one in
+      let n = x.end - x.start in
+      let m = y.end - y.start in
+      let v = u.row.value in
+      let count : s.end - u.start ≡ n + m = omega (arith, first, last, h.1, h.2.0, h.2.1) in
+      let split : replicate (s.end - u.start) v ≡ replicate n v ++ replicate m v =
+      ap (λ (k : ℕ). replicate k v) count ∙ sym (replicate-append-replicate n m v) in (
+        (omega (arith, first, h.0), omega (arith, first, last, h.1, h.2.0, h.2.1), subst (λ (g : ℕ). IsGapless g zs b) (sym last) h.2.2),
+        ap (λ (l : List R). l ++ expanded zs) split
+            ∙ append_assoc (replicate n v) (replicate m v) (expanded zs)
+            ∙ ap (λ (w : R). replicate n v ++ (replicate m w ++ expanded zs)) (sym two)
+            ∙ ap (λ (w : R). replicate n w ++ (replicate m y.row.value ++ expanded zs)) (sym one),
+      )
+  merged (suc i) a (x ∷ xs) b r t s u lt is other next row left h =
+      let ih = merged i x.end xs b r t s u (omega arith) is other next row left h.2 in
+      ((h.0, h.1, ih.0), ap (λ (l : List R). replicate (x.end - x.start) x.row.value ++ l) ih.1)
+
+  -- the same by the second one's place
+  pub merged_at : (at a : ℕ) (rs mid : List (RowRun R)) (b : ℕ) (r t s u : RowRun R) → 0 < at → at < length rs → r ≡ get_or rs (at - 1) r → t ≡ get_or rs at t → s ≡ get_or rs at s → r.row.value ≡ t.row.value
+      → mid ≡ remove rs at → u ≡ get_or mid (at - 1) u → IsGapless a rs b
+      → IsGapless a (set mid (at - 1) (as_one u s)) b × (expanded (set mid (at - 1) (as_one u s)) ≡ expanded rs)
+  merged_at zero a rs mid b r t s u some lt is other next row middle left h = absurd (omega arith)
+  merged_at (suc i) a rs mid b r t s u some lt is other next row middle left h =
+      let before : suc i - 1 ≡ i = omega arith in
+      let is' : r ≡ get_or rs i r = is ∙ ap (λ (k : ℕ). get_or rs k r) before in
+      let left' : u ≡ get_or (remove rs (suc i)) i u =
+      left ∙ ap (λ (k : ℕ). get_or mid k u) before ∙ ap (λ (l : List (RowRun R)). get_or l i u) middle in
+      let P : List (RowRun R) → Type 0 = λ l. IsGapless a l b × (expanded l ≡ expanded rs) in
+      let same : set (remove rs (suc i)) i (as_one u s) ≡ set mid (suc i - 1) (as_one u s) =
+      ap (λ (l : List (RowRun R)). set l i (as_one u s)) (sym middle) ∙ ap (λ (k : ℕ). set mid k (as_one u s)) (sym before) in
+      subst P same (merged i a rs b r t s u lt is' other next row left' h)

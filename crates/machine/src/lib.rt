@@ -1,13 +1,15 @@
 // Machines that a checkpoint book can run, the rows that drive them, and the counter of their steps.
 #![tactic(auto)]
 
-ghost use Rattle.std.specs.Prelude.{◌≡◌, ℕ, ◌+◌, ◌*◌, ◌-◌, ◌≤◌, Bool, IfOk, OnOk};
+ghost use Rattle.std.specs.Prelude.{◌≡◌, ℕ, ◌+◌, ◌*◌, ◌-◌, ◌≤◌, Bool, true, IfOk, OnOk};
 ghost use Rattle.machine.specs.Kit.{Kit, Laws};
 ghost use Rattle.machine.specs.Rows.{between, Covers};
 
+pub mod merge;
 pub mod row_run;
 pub mod row_runs;
 pub mod steps;
+pub mod stretch;
 pub mod tally;
 #[cfg(test)]
 mod tests;
@@ -80,6 +82,13 @@ pub trait Machine: Drop + Send + Sync + Sized {
     /// The same state once more.
     fn share(&self, alloc: Global, x: &Self::State) -> Result<Self::State, NoMemory>
         ensures { IfOk result (λ s. s ≡ x.now) };
+
+    /// Whether two rows are the same, so that a record keeps them once. A machine may answer false of any two.
+    fn same_row(_one: &Self::Row, _other: &Self::Row) -> bool
+        ensures { result ≡ true → _one.now ≡ _other.now }
+    {
+        false
+    }
 
     ghost laws: { Laws kit fits valid };
 }

@@ -4,6 +4,7 @@ ghost use Rattle.machine.specs.declared.row_run.RowRun.{RowRun};
 ghost use Rattle.machine.specs.Rows.{expanded, slice, IsGapless, begins_at, between, Covers, IsWithRun, IsWithRuns};
 
 use crate::row_run::RowRun;
+use crate::stretch::Stretch;
 use no_memory::NoMemory;
 use std::alloc::Global;
 use std::marker::Model;
@@ -60,7 +61,8 @@ fn earlier(a: u64, b: u64) -> u64
     if a < b { a } else { b }
 }
 
-/// The rows of the cycles from `a` to `b` - 1 of runs that begin at cycle `start`, each row shared.
+/// The rows of the cycles from `a` to `b` - 1 of runs that begin at cycle `start`, each row shared. A record that isn't one
+/// value yet, but a list that grows, is read by it.
 pub fn share_between<R: Drop>(
     alloc: Global,
     start: u64,
@@ -167,15 +169,31 @@ impl<R: Drop> RowRuns<R> {
         append_runs(list, &self.runs)
     }
 
+    /// The row of a cycle with the end of its stretch, so that a machine takes equal rows in once. The end is that of a run,
+    /// so the next stretch may have an equal row.
+    pub fn stretch_at(&self, cycle: u64) -> Stretch<'_, R>
+        requires begins { self.now.0 ≤ cycle }
+        requires ends { cycle < self.now.0 + length self.now.1 }
+        ensures after { cycle < result.end }
+        ensures within { result.end ≤ self.now.0 + length self.now.1 }
+        ensures rows { (t b : ℕ) → cycle ≤ t → t < result.end → t < b → between self.now t b ≡ result.row.now ∷ between self.now (t + 1) b }
+    {
+        let runs: &[RowRun<R>] = &self.runs;
+        let index = run_at(self.start, runs, cycle);
+        let run = &runs[index];
+        Stretch {
+            row: &run.row,
+            end: run.end,
+        }
+    }
+
     /// The row of a cycle.
     pub fn row_at(&self, cycle: u64) -> &R
         requires begins { self.now.0 ≤ cycle }
         requires ends { cycle < self.now.0 + length self.now.1 }
         ensures { (b : ℕ) → cycle < b → between self.now cycle b ≡ result.now ∷ between self.now (cycle + 1) b }
     {
-        let runs: &[RowRun<R>] = &self.runs;
-        let index = run_at(self.start, runs, cycle);
-        &runs[index].row
+        self.stretch_at(cycle).row
     }
 
     /// The rows of the cycles from `a` to `b` - 1, shared.

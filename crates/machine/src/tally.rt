@@ -65,6 +65,10 @@ impl Machine for TallyMachine {
         Ok(*x)
     }
 
+    fn same_row(one: &u64, other: &u64) -> bool {
+        *one == *other
+    }
+
     ghost laws = { record {
       seg_none = λ m s. refl;
       seg_more = λ m xs ys s. tally_more m.add xs ys s;

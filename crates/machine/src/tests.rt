@@ -2,6 +2,7 @@
 ghost use Rattle.std.specs.Prelude.{◌≡◌, ◌<◌, ◌∷◌, [], IfOk};
 
 use crate::Machine;
+use crate::merge::merge_at;
 use crate::row_run::RowRun;
 use crate::row_runs::RowRuns;
 use crate::steps::Steps;
@@ -58,12 +59,32 @@ fn reads_rows(rt: HostRuntime) -> Result<(), Fail> {
     let rows = three_rows(rt.alloc())?;
     assert_eq!(rt; (rows.start(), rows.end()), (0, 3));
     assert_eq!(rt; (*rows.row_at(1), *rows.row_at(2)), (0, 5));
+    let first = rows.stretch_at(0);
+    let last = rows.stretch_at(2);
+    assert_eq!(rt; (*first.row, first.end, *last.row, last.end), (0, 2, 5, 3));
     let part = rows.part(rt.alloc(), 1, 2)?;
     assert_eq!(rt; (part.start(), part.end()), (1, 2));
     let mut list = Vec::new(rt.alloc());
     rows.append_to(&mut list)?;
     part.append_to(&mut list)?;
     assert_eq!(rt; list.len(), 3);
+    Ok(())
+}
+
+/// Three runs with the rows 0, 0 and 5 become two.
+#[test]
+fn merges_equal_rows(rt: HostRuntime) -> Result<(), Fail> {
+    let rows = three_rows(rt.alloc())?;
+    let mut list = Vec::new(rt.alloc());
+    rows.part(rt.alloc(), 0, 1)?.append_to(&mut list)?;
+    rows.part(rt.alloc(), 1, 3)?.append_to(&mut list)?;
+    merge_at::<TallyMachine>(&mut list, 2);
+    assert_eq!(rt; list.len(), 3);
+    merge_at::<TallyMachine>(&mut list, 1);
+    assert_eq!(rt; list.len(), 2);
+    if let Some(run) = list.first() {
+        assert_eq!(rt; (run.start, run.end), (0, 2));
+    }
     Ok(())
 }
 
