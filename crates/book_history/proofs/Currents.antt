@@ -5,7 +5,7 @@ use Rattle.std.proofs.lemmas.Bool.{cond_both, cond-true}
 use Rattle.machine.specs.Kit.{Kit, Laws}
 use Rattle.book_history.specs.declared.who.Who.{Who}
 use Rattle.book_history.specs.declared.link.Link.{Link}
-use Rattle.book_history.specs.Book.{Segment, Ticket, Book, Settings, Event, Installed, drawn, matches, has_link, is_current, install_found, apply, replay_from, replay}
+use Rattle.book_history.specs.Book.{Segment, DrawnTicket, Book, Settings, Event, Installs, drawn, matches, has_link, is_current, install_found, apply, replay_from, replay}
 use Rattle.book_history.specs.Truth.{Chain, HasLink, Current}
 use Rattle.book_history.specs.Legal.{MayCome, LegalFrom, Follows}
 use Rattle.book_history.specs.Law.{SameBook, InstallIsRight}
@@ -14,12 +14,12 @@ use Rattle.book_history.proofs.KeptInstall.{matches_same, if_true, each_drawn}
 use Rattle.book_history.proofs.Law.{InvOf, replay_kept}
 
 pub same_matches : {D S R O : Type 0} (k : Kit D S R O) (fits : D → S → Type 0) (valid : D → D → O → Type 0) → Laws k fits valid
-    → (m : D) (t : Ticket D S R) (a : ℕ) (s : S) (g : Segment S) → fits m s → fits m t.start → a ≡ t.a → g.to ≡ t.b → s ≡ t.start → matches k m t a s g ≡ true
+    → (m : D) (t : DrawnTicket D S R) (a : ℕ) (s : S) (g : Segment S) → fits m s → fits m t.start → a ≡ t.a → g.to ≡ t.b → s ≡ t.start → matches k m t a s g ≡ true
 same_matches k fits valid laws m t a s g f ft ea eb es =
     rw (eq-eqb a t.a ea, eq-eqb g.to t.b eb, (laws.alike_is m s t.start f ft).1 es)
 
 pub has_link_sound : {D S R O : Type 0} (k : Kit D S R O) (fits : D → S → Type 0) (valid : D → D → O → Type 0) → Laws k fits valid
-    → (J : Link → ℕ → S → ℕ → S → Type 0) (m : D) (t : Ticket D S R) → fits m t.start → (a : ℕ) (s : S) (segs : List (Segment S))
+    → (J : Link → ℕ → S → ℕ → S → Type 0) (m : D) (t : DrawnTicket D S R) → fits m t.start → (a : ℕ) (s : S) (segs : List (Segment S))
     → Chain (fits m) J a s segs → has_link k m t a s segs ≡ true → HasLink t a s segs
 has_link_sound k fits valid laws J m t ft a s [] h e = absurd cc
 has_link_sound k fits valid laws J m t ft a s (g ∷ gs) h e =
@@ -31,7 +31,7 @@ has_link_sound k fits valid laws J m t ft a s (g ∷ gs) h e =
     go false is ih x = inr (ih x)
 
 pub has_link_complete : {D S R O : Type 0} (k : Kit D S R O) (fits : D → S → Type 0) (valid : D → D → O → Type 0) → Laws k fits valid
-    → (J : Link → ℕ → S → ℕ → S → Type 0) (m : D) (t : Ticket D S R) → fits m t.start → (a : ℕ) (s : S) (segs : List (Segment S))
+    → (J : Link → ℕ → S → ℕ → S → Type 0) (m : D) (t : DrawnTicket D S R) → fits m t.start → (a : ℕ) (s : S) (segs : List (Segment S))
     → Chain (fits m) J a s segs → HasLink t a s segs → has_link k m t a s segs ≡ true
 has_link_complete k fits valid laws J m t ft a s [] h e = absurd e
 has_link_complete k fits valid laws J m t ft a s (g ∷ gs) h (inl x) =
@@ -41,7 +41,7 @@ has_link_complete k fits valid laws J m t ft a s (g ∷ gs) h (inr x) =
     (λ _. has_link_complete k fits valid laws J m t ft g.to g.state gs h.3 x)
 
 pub is_current_iff : {D S R O : Type 0} (k : Kit D S R O) (fits : D → S → Type 0) (valid : D → D → O → Type 0) → Laws k fits valid
-    → (c : Book D S R) (n : ℕ) (t : Ticket D S R) → Inv k fits c → drawn n c.tickets ≡ Some t → (is_current k c t ≡ true) ↔ Current c t
+    → (c : Book D S R) (n : ℕ) (t : DrawnTicket D S R) → Inv k fits c → drawn n c.tickets ≡ Some t → (is_current k c t ≡ true) ↔ Current c t
 is_current_iff {D} {S} {R} k fits valid laws c n t h is =
     let kept : TicketIsKept fits c.machine c.rows c.version t = each_drawn (TicketIsKept fits c.machine c.rows c.version) n c.tickets t is h.tickets in
     let fit : t.version ≡ c.version → fits c.machine t.start = λ v. subst (λ (m : D). fits m t.start) (kept.machine_is v) kept.fit in
@@ -64,7 +64,7 @@ legal_at k valid st b (x ∷ xs) e ys l =
     ((l.0, r.0), r.1, r.2)
 
 pub install_right : {D S R O : Type 0} (k : Kit D S R O) (fits : D → S → Type 0) (valid : D → D → O → Type 0) → Laws k fits valid
-    → (st : Settings) (b : Option (Book D S R)) (n : ℕ) (j : Bool) (by : Who) → InvOf k fits b → MayCome k valid st b (Installed n j by) → InstallIsRight k st b n j by
+    → (st : Settings) (b : Option (Book D S R)) (n : ℕ) (j : Bool) (by : Who) → InvOf k fits b → MayCome k valid st b (Installs n j by) → InstallIsRight k st b n j by
 install_right k fits valid laws st None n j by h may = may
 install_right {D} {S} {R} {O} k fits valid laws st (Some c) n j by h may =
     let t = may.0 in
@@ -74,15 +74,15 @@ install_right {D} {S} {R} {O} k fits valid laws st (Some c) n j by h may =
       (λ e. iff.0 (sym may.4 ∙ e), λ cur. may.4 ∙ iff.1 cur),
       λ e.
           let no : is_current k c t ≡ false = sym may.4 ∙ e in
-          let P : Option (Ticket D S R) → Type 0 = λ o. SameBook c (install_found k c n o) in
+          let P : Option (DrawnTicket D S R) → Type 0 = λ o. SameBook c (install_found k c n o) in
           let here : SameBook c (install_found k c n (Some t)) =
           rw no (record { version = refl; machine = refl; rows = refl; first = refl; segs = refl; tickets = refl }) in
           subst P (sym may.1) here,
     )
 
 pub legal_installs : {D S R O : Type 0} (k : Kit D S R O) (fits : D → S → Type 0) (valid : D → D → O → Type 0) → Laws k fits valid
-    → (st : Settings) (xs ys : List (Event D R O)) (n : ℕ) (j : Bool) (by : Who) → Follows k valid st (xs ++ Installed n j by ∷ ys)
+    → (st : Settings) (xs ys : List (Event D R O)) (n : ℕ) (j : Bool) (by : Who) → Follows k valid st (xs ++ Installs n j by ∷ ys)
     → InstallIsRight k st (replay k st xs) n j by
 legal_installs k fits valid laws st xs ys n j by l =
-    let at = legal_at k valid st None xs (Installed n j by) ys l in
+    let at = legal_at k valid st None xs (Installs n j by) ys l in
     install_right k fits valid laws st (replay k st xs) n j by (replay_kept k fits valid laws st None xs tt at.0) at.1

@@ -4,28 +4,28 @@ use Rattle.std.specs.Prelude.{Some}
 use Rattle.machine.specs.Kit.{Kit, Laws}
 use Rattle.book_history.specs.declared.link.Link.{Link}
 use Rattle.book_history.specs.declared.link.Link.TheVariants.{Open, Out, Joined}
-use Rattle.book_history.specs.Book.{Segment, Ticket, Book, slice, drawn, last_cycle, last_state, both, thin}
+use Rattle.book_history.specs.Book.{Segment, DrawnTicket, Book, slice, drawn, last_cycle, last_state, both, thin}
 use Rattle.book_history.specs.Truth.{Chain}
 use Rattle.book_history.proofs.Slices.{slice_joins}
 
 -- the ticket of this number was drawn for the link from a to b, whose first mark has the state s
-pub record IsOut {D S R : Type 0} (version : ℕ) (tickets : List (Ticket D S R)) (n a b : ℕ) (s : S) : Type 0 where
-  pub ticket : Ticket D S R
+pub record IsOut {D S R : Type 0} (version : ℕ) (tickets : List (DrawnTicket D S R)) (n a b : ℕ) (s : S) : Type 0 where
+  pub ticket : DrawnTicket D S R
   pub is_drawn : drawn n tickets ≡ Some ticket
   pub version_is : ticket.version ≡ version
   pub a_is : ticket.a ≡ a
   pub b_is : ticket.b ≡ b
   pub start_is : ticket.start ≡ s
 
-abbrev pub KeptAs : {D S R O : Type 0} → Kit D S R O → D → List R → ℕ → List (Ticket D S R) → Link → ℕ → S → ℕ → S → Type 0
+abbrev pub KeptAs : {D S R O : Type 0} → Kit D S R O → D → List R → ℕ → List (DrawnTicket D S R) → Link → ℕ → S → ℕ → S → Type 0
 KeptAs k m rows v ts Open a s b e = Unit {0}
 KeptAs k m rows v ts (Out n) a s b e = IsOut v ts n a b s
 KeptAs k m rows v ts Joined a s b e = k.seg m (slice rows a b) s ≡ e
 
-abbrev pub Kept : {D S R O : Type 0} → Kit D S R O → D → List R → ℕ → List (Ticket D S R) → Link → ℕ → S → ℕ → S → Type 0
+abbrev pub Kept : {D S R O : Type 0} → Kit D S R O → D → List R → ℕ → List (DrawnTicket D S R) → Link → ℕ → S → ℕ → S → Type 0
 Kept k m rows v ts l a s b e = (b ≤ length rows) × KeptAs k m rows v ts l a s b e
 
-pub record TicketIsKept {D S R : Type 0} (fits : D → S → Type 0) (m : D) (rows : List R) (v : ℕ) (t : Ticket D S R) : Type 0 where
+pub record TicketIsKept {D S R : Type 0} (fits : D → S → Type 0) (m : D) (rows : List R) (v : ℕ) (t : DrawnTicket D S R) : Type 0 where
   pub rises : t.a < t.b
   pub within : t.b ≤ length rows
   pub rows_are : t.rows ≡ slice rows t.a t.b
@@ -90,7 +90,7 @@ last_state-thin s (g ∷ []) = refl
 last_state-thin s (g ∷ h ∷ gs) = last_state-thin h.state gs
 
 pub both_kept : {D S R O : Type 0} (k : Kit D S R O) (fits : D → S → Type 0) (valid : D → D → O → Type 0) → Laws k fits valid
-    → (m : D) (rows : List R) (v : ℕ) (ts : List (Ticket D S R)) (l l' : Link) (a b c : ℕ) (s e e' : S) → a < b → b < c
+    → (m : D) (rows : List R) (v : ℕ) (ts : List (DrawnTicket D S R)) (l l' : Link) (a b c : ℕ) (s e e' : S) → a < b → b < c
     → Kept k m rows v ts l a s b e → Kept k m rows v ts l' b e c e' → Kept k m rows v ts (both l l') a s c e'
 both_kept k fits valid laws m rows v ts Open l' a b c s e e' ab bc x y = (y.0, tt)
 both_kept k fits valid laws m rows v ts (Out n) l' a b c s e e' ab bc x y = (y.0, tt)
@@ -103,7 +103,7 @@ both_kept k fits valid laws m rows v ts Joined Joined a b c s e e' ab bc x y =
     )
 
 pub thin_chain : {D S R O : Type 0} (k : Kit D S R O) (fits : D → S → Type 0) (valid : D → D → O → Type 0) → Laws k fits valid
-    → (m : D) (rows : List R) (v : ℕ) (ts : List (Ticket D S R)) (a : ℕ) (s : S) (segs : List (Segment S))
+    → (m : D) (rows : List R) (v : ℕ) (ts : List (DrawnTicket D S R)) (a : ℕ) (s : S) (segs : List (Segment S))
     → Chain (fits m) (Kept k m rows v ts) a s segs → Chain (fits m) (Kept k m rows v ts) a s (thin segs)
 thin_chain k fits valid laws m rows v ts a s [] h = h
 thin_chain k fits valid laws m rows v ts a s (g ∷ []) h = h

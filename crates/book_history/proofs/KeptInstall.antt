@@ -6,13 +6,13 @@ use Rattle.machine.specs.Kit.{Kit, Laws}
 use Rattle.book_history.specs.declared.who.Who.{Who}
 use Rattle.book_history.specs.declared.link.Link.{Link}
 use Rattle.book_history.specs.declared.link.Link.TheVariants.{Open, Out, Joined}
-use Rattle.book_history.specs.Book.{Segment, Ticket, Book, slice, drawn, last_cycle, takes, find_link, mark_out, claim_found, matches, has_link, is_current, reopen, joined, freed, free_link, with_segs, with_used, result_of, install_found}
+use Rattle.book_history.specs.Book.{Segment, DrawnTicket, Book, slice, drawn, last_cycle, takes, first_link, mark_out, claim_found, matches, has_link, is_current, reopen, joined, freed, free_link, with_segs, with_used, result_of, install_found}
 use Rattle.book_history.specs.Truth.{Chain}
 use Rattle.book_history.proofs.Kept.{Kept, TicketIsKept, Each, Inv, chain_head, chain_map}
 
 -- tickets
 
-pub drawn_within : {D S R : Type 0} (n : ℕ) (ts : List (Ticket D S R)) (t : Ticket D S R) → drawn n ts ≡ Some t → n ≤ length ts
+pub drawn_within : {D S R : Type 0} (n : ℕ) (ts : List (DrawnTicket D S R)) (t : DrawnTicket D S R) → drawn n ts ≡ Some t → n ≤ length ts
 drawn_within n [] t e = cc
 drawn_within {D} {S} {R} n (u ∷ ts) t e =
     go (eqb n (length ts + 1)) refl (drawn_within n ts t) e
@@ -21,13 +21,13 @@ drawn_within {D} {S} {R} n (u ∷ ts) t e =
     go true is ih h = omega (arith, eqb-true n (length ts + 1) is)
     go false is ih h = omega (arith, ih h)
 
-pub drawn_grows : {D S R : Type 0} (n : ℕ) (u : Ticket D S R) (ts : List (Ticket D S R)) (t : Ticket D S R) → drawn n ts ≡ Some t → drawn n (u ∷ ts) ≡ Some t
+pub drawn_grows : {D S R : Type 0} (n : ℕ) (u : DrawnTicket D S R) (ts : List (DrawnTicket D S R)) (t : DrawnTicket D S R) → drawn n ts ≡ Some t → drawn n (u ∷ ts) ≡ Some t
 drawn_grows n u ts t e =
     let le : n ≤ length ts = drawn_within n ts t e in
     let ne : n ≢ length ts + 1 = omega arith in
     cond-false (eqb n (length ts + 1)) (Some u) (drawn n ts) (ne_eqb n (length ts + 1) ne) ∙ e
 
-pub each_drawn : {D S R : Type 0} (P : Ticket D S R → Type 0) (n : ℕ) (ts : List (Ticket D S R)) (t : Ticket D S R) → drawn n ts ≡ Some t → Each P ts → P t
+pub each_drawn : {D S R : Type 0} (P : DrawnTicket D S R → Type 0) (n : ℕ) (ts : List (DrawnTicket D S R)) (t : DrawnTicket D S R) → drawn n ts ≡ Some t → Each P ts → P t
 each_drawn P n [] t e h = absurd cc
 each_drawn P n (u ∷ ts) t e h =
     go (eqb n (length ts + 1)) (λ is. each_drawn P n ts t is h.1) e
@@ -44,14 +44,14 @@ pub record Found {S R : Type 0} (F : S → Type 0) (rows : List R) (f : ℕ × �
   pub within : f.1 ≤ length rows
   pub fit : F f.2
 
-pub find_found : {D S R O : Type 0} (k : Kit D S R O) (F : S → Type 0) (m : D) (rows : List R) (v : ℕ) (ts : List (Ticket D S R))
+pub find_found : {D S R O : Type 0} (k : Kit D S R O) (F : S → Type 0) (m : D) (rows : List R) (v : ℕ) (ts : List (DrawnTicket D S R))
     (p : Link → Bool) (a : ℕ) (s : S) (segs : List (Segment S)) (f : ℕ × ℕ × S)
-    → Chain F (Kept k m rows v ts) a s segs → find_link p a s segs ≡ Some f → Found F rows f
+    → Chain F (Kept k m rows v ts) a s segs → first_link p a s segs ≡ Some f → Found F rows f
 find_found k F m rows v ts p a s [] f h e = absurd cc
 find_found {D} {S} {R} k F m rows v ts p a s (g ∷ gs) f h e =
     go (p g.link) (find_found k F m rows v ts p g.to g.state gs f h.3) e
   where
-    go : (b : Bool) → (find_link p g.to g.state gs ≡ Some f → Found F rows f) → cond b (Some (a, g.to, s)) (find_link p g.to g.state gs) ≡ Some f → Found F rows f
+    go : (b : Bool) → (first_link p g.to g.state gs ≡ Some f → Found F rows f) → cond b (Some (a, g.to, s)) (first_link p g.to g.state gs) ≡ Some f → Found F rows f
     go true ih is =
         let here : Found F rows (a, g.to, s) = record { rises = h.1; within = h.2.0; fit = h.0 } in
         let eq : ◌≡◌ {A = ℕ × ℕ × S} (a, g.to, s) f = cc in
@@ -59,7 +59,7 @@ find_found {D} {S} {R} k F m rows v ts p a s (g ∷ gs) f h e =
     go false ih is = ih is
 
 -- one more ticket leaves what was kept
-pub kept_draws : {D S R O : Type 0} (k : Kit D S R O) (m : D) (rows : List R) (v : ℕ) (ts : List (Ticket D S R)) (t : Ticket D S R)
+pub kept_draws : {D S R O : Type 0} (k : Kit D S R O) (m : D) (rows : List R) (v : ℕ) (ts : List (DrawnTicket D S R)) (t : DrawnTicket D S R)
     (l : Link) (a : ℕ) (s : S) (b : ℕ) (e : S) → a < b → Kept k m rows v ts l a s b e → Kept k m rows v (t ∷ ts) l a s b e
 kept_draws k m rows v ts t Open a s b e lt h = h
 kept_draws k m rows v ts t (Out n) a s b e lt h = (
@@ -75,14 +75,14 @@ kept_draws k m rows v ts t (Out n) a s b e lt h = (
 )
 kept_draws k m rows v ts t Joined a s b e lt h = h
 
-pub drawn_newest : {D S R : Type 0} (u : Ticket D S R) (ts : List (Ticket D S R)) → drawn (length ts + 1) (u ∷ ts) ≡ Some u
+pub drawn_newest : {D S R : Type 0} (u : DrawnTicket D S R) (ts : List (DrawnTicket D S R)) → drawn (length ts + 1) (u ∷ ts) ≡ Some u
 drawn_newest u ts = rw (eq-eqb (length ts + 1) (length ts + 1) refl)
 
 -- the link that the test finds first is out with the new ticket
-pub out_chain : {D S R O : Type 0} (k : Kit D S R O) (F : S → Type 0) (m : D) (rows : List R) (v : ℕ) (ts : List (Ticket D S R)) (t : Ticket D S R)
+pub out_chain : {D S R O : Type 0} (k : Kit D S R O) (F : S → Type 0) (m : D) (rows : List R) (v : ℕ) (ts : List (DrawnTicket D S R)) (t : DrawnTicket D S R)
     (p : Link → Bool) (a : ℕ) (s : S) (segs : List (Segment S)) (f : ℕ × ℕ × S)
     → t.version ≡ v → t.a ≡ f.0 → t.b ≡ f.1 → t.start ≡ f.2
-    → Chain F (Kept k m rows v ts) a s segs → find_link p a s segs ≡ Some f
+    → Chain F (Kept k m rows v ts) a s segs → first_link p a s segs ≡ Some f
     → Chain F (Kept k m rows v (t ∷ ts)) a s (mark_out p (length ts + 1) segs)
 out_chain k F m rows v ts t p a s [] f tv ta tb ts' h e = absurd cc
 out_chain {D} {S} {R} {O} k F m rows v ts t p a s (g ∷ gs) f tv ta tb tstart h e =
@@ -92,8 +92,8 @@ out_chain {D} {S} {R} {O} k F m rows v ts t p a s (g ∷ gs) f tv ta tb tstart h
     rest = chain_map F (Kept k m rows v ts) (Kept k m rows v (t ∷ ts)) g.to g.state gs (kept_draws k m rows v ts t) h.3
 
     go : (b : Bool)
-        → (find_link p g.to g.state gs ≡ Some f → Chain F (Kept k m rows v (t ∷ ts)) g.to g.state (mark_out p (length ts + 1) gs))
-        → cond b (Some (a, g.to, s)) (find_link p g.to g.state gs) ≡ Some f
+        → (first_link p g.to g.state gs ≡ Some f → Chain F (Kept k m rows v (t ∷ ts)) g.to g.state (mark_out p (length ts + 1) gs))
+        → cond b (Some (a, g.to, s)) (first_link p g.to g.state gs) ≡ Some f
         → Chain F (Kept k m rows v (t ∷ ts)) a s
         (cond b (record { link = Out (length ts + 1); to = g.to; state = g.state } ∷ gs) (g ∷ mark_out p (length ts + 1) gs))
     go true ih is =
@@ -127,12 +127,12 @@ out_ends p n a (g ∷ gs) =
     (λ _. out_ends p n g.to gs)
 
 pub claim_found_kept : {D S R O : Type 0} (k : Kit D S R O) (fits : D → S → Type 0) (c : Book D S R) (by : Who) (o : Option (ℕ × ℕ × S))
-    → find_link (takes by) 0 c.first c.segs ≡ o → Inv k fits c → Inv k fits (claim_found c by o)
+    → first_link (takes by) 0 c.first c.segs ≡ o → Inv k fits c → Inv k fits (claim_found c by o)
 claim_found_kept k fits c by None is h = h
 claim_found_kept {D} {S} {R} k fits c by (Some f) is h =
     let found : Found (fits c.machine) c.rows f =
     find_found k (fits c.machine) c.machine c.rows c.version c.tickets (takes by) 0 c.first c.segs f h.links is in
-    let t : Ticket D S R =
+    let t : DrawnTicket D S R =
     record { by = by; version = c.version; machine = c.machine; a = f.0; b = f.1; rows = slice c.rows f.0 f.1; start = f.2 } in
     record {
       first_is = h.first_is;
@@ -146,14 +146,14 @@ claim_found_kept {D} {S} {R} k fits c by (Some f) is h =
 
 -- a release
 
-pub freed_kept : {D S R O : Type 0} (k : Kit D S R O) (m : D) (rows : List R) (v : ℕ) (ts : List (Ticket D S R))
+pub freed_kept : {D S R O : Type 0} (k : Kit D S R O) (m : D) (rows : List R) (v : ℕ) (ts : List (DrawnTicket D S R))
     (n : ℕ) (l : Link) (a : ℕ) (s : S) (b : ℕ) (e : S) → Kept k m rows v ts l a s b e → Kept k m rows v ts (free_link n l) a s b e
 freed_kept k m rows v ts n Open a s b e h = h
 freed_kept k m rows v ts n (Out i) a s b e h =
     cond_both (eqb i n) Open (Out i) (λ l. Kept k m rows v ts l a s b e) (λ _. (h.0, tt)) (λ _. h)
 freed_kept k m rows v ts n Joined a s b e h = h
 
-pub freed_chain : {D S R O : Type 0} (k : Kit D S R O) (F : S → Type 0) (m : D) (rows : List R) (v : ℕ) (ts : List (Ticket D S R))
+pub freed_chain : {D S R O : Type 0} (k : Kit D S R O) (F : S → Type 0) (m : D) (rows : List R) (v : ℕ) (ts : List (DrawnTicket D S R))
     (n a : ℕ) (s : S) (segs : List (Segment S)) → Chain F (Kept k m rows v ts) a s segs → Chain F (Kept k m rows v ts) a s (freed n segs)
 freed_chain k F m rows v ts n a s [] h = h
 freed_chain k F m rows v ts n a s (g ∷ gs) h = (h.0, h.1, freed_kept k m rows v ts n g.link a s g.to g.state h.2, freed_chain k F m rows v ts n g.to g.state gs h.3)
@@ -164,7 +164,7 @@ freed_ends n a (g ∷ gs) = freed_ends n g.to gs
 
 -- an install
 
-pub reopen_chain : {D S R O : Type 0} (k : Kit D S R O) (F : S → Type 0) (m : D) (rows : List R) (v : ℕ) (ts : List (Ticket D S R))
+pub reopen_chain : {D S R O : Type 0} (k : Kit D S R O) (F : S → Type 0) (m : D) (rows : List R) (v : ℕ) (ts : List (DrawnTicket D S R))
     (a : ℕ) (s r : S) (segs : List (Segment S)) → F r → Chain F (Kept k m rows v ts) a s segs → Chain F (Kept k m rows v ts) a r (reopen segs)
 reopen_chain k F m rows v ts a s r [] f h = f
 reopen_chain k F m rows v ts a s r (g ∷ gs) f h = (f, h.1, (h.2.0, tt), h.3)
@@ -174,7 +174,7 @@ reopen_ends a [] = refl
 reopen_ends a (g ∷ gs) = refl
 
 -- what the tests of a match say
-pub record Same {D S R : Type 0} (t : Ticket D S R) (a : ℕ) (s : S) (b : ℕ) : Type 0 where
+pub record Same {D S R : Type 0} (t : DrawnTicket D S R) (a : ℕ) (s : S) (b : ℕ) : Type 0 where
   pub a_is : a ≡ t.a
   pub b_is : b ≡ t.b
   pub s_is : s ≡ t.start
@@ -189,7 +189,7 @@ if_true true x e = (refl, e)
 if_true false x e = absurd cc
 
 pub matches_same : {D S R O : Type 0} (k : Kit D S R O) (fits : D → S → Type 0) (valid : D → D → O → Type 0) → Laws k fits valid
-    → (m : D) (t : Ticket D S R) (a : ℕ) (s : S) (g : Segment S) → fits m s → fits m t.start → matches k m t a s g ≡ true → Same t a s g.to
+    → (m : D) (t : DrawnTicket D S R) (a : ℕ) (s : S) (g : Segment S) → fits m s → fits m t.start → matches k m t a s g ≡ true → Same t a s g.to
 matches_same k fits valid laws m t a s g f ft e =
     let p = both_true (eqb a t.a) (eqb g.to t.b && k.alike m s t.start) e in
     let q = both_true (eqb g.to t.b) (k.alike m s t.start) p.1 in
@@ -200,7 +200,7 @@ matches_same k fits valid laws m t a s g f ft e =
     }
 
 pub joined_chain : {D S R O : Type 0} (k : Kit D S R O) (fits : D → S → Type 0) (valid : D → D → O → Type 0) → Laws k fits valid
-    → (m : D) (rows : List R) (v : ℕ) (ts : List (Ticket D S R)) (t : Ticket D S R) (r : S)
+    → (m : D) (rows : List R) (v : ℕ) (ts : List (DrawnTicket D S R)) (t : DrawnTicket D S R) (r : S)
     → fits m t.start → k.seg m (slice rows t.a t.b) t.start ≡ r
     → (a : ℕ) (s : S) (segs : List (Segment S))
     → Chain (fits m) (Kept k m rows v ts) a s segs → Chain (fits m) (Kept k m rows v ts) a s (joined k m t r a s segs)
@@ -227,7 +227,7 @@ joined_chain {D} {S} k fits valid laws m rows v ts t r ft is a s (g ∷ gs) h =
     (λ _. (h.0, h.1, (h.2.0, run), reopen_chain k (fits m) m rows v ts g.to g.state r gs fr h.3)))
     (λ _. (h.0, h.1, h.2, joined_chain k fits valid laws m rows v ts t r ft is g.to g.state gs h.3))
 
-pub joined_ends : {D S R O : Type 0} (k : Kit D S R O) (m : D) (t : Ticket D S R) (r : S) (a : ℕ) (s : S) (segs : List (Segment S))
+pub joined_ends : {D S R O : Type 0} (k : Kit D S R O) (m : D) (t : DrawnTicket D S R) (r : S) (a : ℕ) (s : S) (segs : List (Segment S))
     → last_cycle a (joined k m t r a s segs) ≡ last_cycle a segs
 joined_ends k m t r a s [] = refl
 joined_ends k m t r a s (g ∷ gs) =
@@ -248,7 +248,7 @@ joined_ends k m t r a s (g ∷ gs) =
     (λ _. joined_ends k m t r g.to g.state gs)
 
 pub install_found_kept : {D S R O : Type 0} (k : Kit D S R O) (fits : D → S → Type 0) (valid : D → D → O → Type 0) → Laws k fits valid
-    → (c : Book D S R) (n : ℕ) (o : Option (Ticket D S R)) → drawn n c.tickets ≡ o → Inv k fits c → Inv k fits (install_found k c n o)
+    → (c : Book D S R) (n : ℕ) (o : Option (DrawnTicket D S R)) → drawn n c.tickets ≡ o → Inv k fits c → Inv k fits (install_found k c n o)
 install_found_kept k fits valid laws c n None is h = h
 install_found_kept {D} {S} {R} k fits valid laws c n (Some t) is h =
     let kept : TicketIsKept fits c.machine c.rows c.version t = each_drawn (TicketIsKept fits c.machine c.rows c.version) n c.tickets t is h.tickets in

@@ -4,7 +4,7 @@ use Rattle.std.proofs.lemmas.Bool.{cond_both}
 use Rattle.machine.specs.Kit.{Kit, Laws}
 use Rattle.book_history.specs.declared.link.Link.{Link}
 use Rattle.book_history.specs.declared.link.Link.TheVariants.{Open, Out, Joined}
-use Rattle.book_history.specs.Book.{Segment, Ticket, Book, Settings, slice, last_cycle, last_state, cycles, thin, add_mark, extend, grid, simulated, reloaded, run_by, reload_to}
+use Rattle.book_history.specs.Book.{Segment, DrawnTicket, Book, Settings, slice, last_cycle, last_state, cycles, thin, add_mark, extend, grid, simulated, reloaded, run_by, reload_to}
 use Rattle.book_history.specs.Truth.{Chain}
 use Rattle.book_history.proofs.Slices.{slice_grows}
 use Rattle.book_history.proofs.Kept.{Kept, TicketIsKept, each_map, Inv, chain_head, chain_map, chain_snoc, last_cycle-snoc, last_state-snoc, last_cycle-thin, last_state-thin, thin_chain}
@@ -58,7 +58,7 @@ grid_ends interval c (suc n) = grid_ends_from interval c c n
 
 -- a run
 
-pub record Reaches {D S R O : Type 0} (k : Kit D S R O) (fits : D → S → Type 0) (m : D) (rows : List R) (v : ℕ) (ts : List (Ticket D S R)) (first : S) (segs : List (Segment S)) (a : ℕ) (s : S) : Type 0 where
+pub record Reaches {D S R O : Type 0} (k : Kit D S R O) (fits : D → S → Type 0) (m : D) (rows : List R) (v : ℕ) (ts : List (DrawnTicket D S R)) (first : S) (segs : List (Segment S)) (a : ℕ) (s : S) : Type 0 where
   pub links : Chain (fits m) (Kept k m rows v ts) 0 first segs
   pub cycle_is : last_cycle 0 segs ≡ a
   pub state_is : last_state first segs ≡ s
@@ -68,7 +68,7 @@ chain_last F J a s [] h = h
 chain_last F J a s (g ∷ gs) h = chain_last F J g.to g.state gs h.3
 
 pub add_reaches : {D S R O : Type 0} (k : Kit D S R O) (fits : D → S → Type 0) (valid : D → D → O → Type 0) → Laws k fits valid
-    → (m : D) (rows : List R) (v : ℕ) (ts : List (Ticket D S R)) (first : S) (segs : List (Segment S)) (a : ℕ) (s : S) (c : ℕ)
+    → (m : D) (rows : List R) (v : ℕ) (ts : List (DrawnTicket D S R)) (first : S) (segs : List (Segment S)) (a : ℕ) (s : S) (c : ℕ)
     → Reaches k fits m rows v ts first segs a s → a < c → c ≤ length rows
     → Reaches k fits m rows v ts first (add_mark segs (record { link = Joined; to = c; state = k.seg m (slice rows a c) s })) c (k.seg m (slice rows a c) s)
 add_reaches {D} {S} {R} {O} k fits valid laws m rows v ts first segs a s c h lt within =
@@ -97,7 +97,7 @@ add_reaches {D} {S} {R} {O} k fits valid laws m rows v ts first segs a s c h lt 
     })
 
 pub extend_reaches : {D S R O : Type 0} (k : Kit D S R O) (fits : D → S → Type 0) (valid : D → D → O → Type 0) → Laws k fits valid
-    → (m : D) (rows : List R) (v : ℕ) (ts : List (Ticket D S R)) (first : S) (segs : List (Segment S)) (a : ℕ) (s : S) (cs : List ℕ)
+    → (m : D) (rows : List R) (v : ℕ) (ts : List (DrawnTicket D S R)) (first : S) (segs : List (Segment S)) (a : ℕ) (s : S) (cs : List ℕ)
     → Reaches k fits m rows v ts first segs a s → Rising a cs (length rows)
     → (e : S) × Reaches k fits m rows v ts first (extend k m rows segs a s cs) (last_of a cs) e
 extend_reaches k fits valid laws m rows v ts first segs a s [] h r = (s, h)
@@ -108,14 +108,14 @@ extend_reaches k fits valid laws m rows v ts first segs a s (c ∷ cs) h r =
 
 -- more rows leave what was kept
 
-pub kept_grows : {D S R O : Type 0} (k : Kit D S R O) (m : D) (rows more : List R) (v : ℕ) (ts : List (Ticket D S R))
+pub kept_grows : {D S R O : Type 0} (k : Kit D S R O) (m : D) (rows more : List R) (v : ℕ) (ts : List (DrawnTicket D S R))
     (l : Link) (a : ℕ) (s : S) (b : ℕ) (e : S) → a < b → Kept k m rows v ts l a s b e → Kept k m (rows ++ more) v ts l a s b e
 kept_grows k m rows more v ts Open a s b e lt h = (omega (arith, h.0, length-append rows more), tt)
 kept_grows k m rows more v ts (Out n) a s b e lt h = (omega (arith, h.0, length-append rows more), h.1)
 kept_grows k m rows more v ts Joined a s b e lt h =
     (omega (arith, h.0, length-append rows more), ap (λ r. k.seg m r s) (slice_grows rows more a b (omega arith) h.0) ∙ h.1)
 
-pub ticket_grows : {D S R : Type 0} (fits : D → S → Type 0) (m : D) (rows more : List R) (v : ℕ) (t : Ticket D S R)
+pub ticket_grows : {D S R : Type 0} (fits : D → S → Type 0) (m : D) (rows more : List R) (v : ℕ) (t : DrawnTicket D S R)
     → TicketIsKept fits m rows v t → TicketIsKept fits m (rows ++ more) v t
 ticket_grows fits m rows more v t h =
     record {
@@ -154,7 +154,7 @@ run_kept {D} {S} k fits valid laws st c rows h =
 -- a reload
 
 pub simulated_chain : {D S R O : Type 0} (k : Kit D S R O) (fits : D → S → Type 0) (valid : D → D → O → Type 0) → Laws k fits valid
-    → (m : D) (rows : List R) (v : ℕ) (ts : List (Ticket D S R)) (a : ℕ) (s : S) (cs : List ℕ)
+    → (m : D) (rows : List R) (v : ℕ) (ts : List (DrawnTicket D S R)) (a : ℕ) (s : S) (cs : List ℕ)
     → fits m s → Rising a cs (length rows) → Chain (fits m) (Kept k m rows v ts) a s (simulated k m rows a s cs)
 simulated_chain k fits valid laws m rows v ts a s [] f r = f
 simulated_chain k fits valid laws m rows v ts a s (c ∷ cs) f r = (
@@ -172,13 +172,13 @@ pub cycles_end : {S : Type 0} (a : ℕ) (segs : List (Segment S)) → last_of a 
 cycles_end a [] = refl
 cycles_end a (g ∷ gs) = cycles_end g.to gs
 
-pub cycles_rise : {D S R O : Type 0} (k : Kit D S R O) (F : S → Type 0) (m : D) (rows : List R) (v : ℕ) (ts : List (Ticket D S R)) (a : ℕ) (s : S) (segs : List (Segment S))
+pub cycles_rise : {D S R O : Type 0} (k : Kit D S R O) (F : S → Type 0) (m : D) (rows : List R) (v : ℕ) (ts : List (DrawnTicket D S R)) (a : ℕ) (s : S) (segs : List (Segment S))
     → Chain F (Kept k m rows v ts) a s segs → Rising a (cycles segs) (length rows)
 cycles_rise k F m rows v ts a s [] h = tt
 cycles_rise k F m rows v ts a s (g ∷ gs) h = (h.1, h.2.0, cycles_rise k F m rows v ts g.to g.state gs h.3)
 
 pub reloaded_chain : {D S R O : Type 0} (k : Kit D S R O) (fits : D → S → Type 0) (valid : D → D → O → Type 0) → Laws k fits valid
-    → (old new : D) (ops : O) → valid old new ops → (rows : List R) (v : ℕ) (ts : List (Ticket D S R)) (limit a : ℕ) (s0 s : S) (segs : List (Segment S))
+    → (old new : D) (ops : O) → valid old new ops → (rows : List R) (v : ℕ) (ts : List (DrawnTicket D S R)) (limit a : ℕ) (s0 s : S) (segs : List (Segment S))
     → fits new s → Chain (fits old) (Kept k old rows v ts) a s0 segs
     → Chain (fits new) (Kept k new rows (v + 1) ts) a s (reloaded k old new ops rows limit a s segs)
 reloaded_chain k fits valid laws old new ops ok rows v ts limit a s0 s [] f h = f
@@ -206,7 +206,7 @@ reloaded_ends {D} {S} k old new ops rows limit a s (g ∷ gs) =
     (λ _. reloaded_ends k old new ops rows limit g.to e gs)
     (λ _. simulated_ends k new rows a s (g.to ∷ cycles gs) ∙ cycles_end a (g ∷ gs))
 
-pub ticket_older : {D S R : Type 0} (fits : D → S → Type 0) (m n : D) (rows : List R) (v : ℕ) (t : Ticket D S R)
+pub ticket_older : {D S R : Type 0} (fits : D → S → Type 0) (m n : D) (rows : List R) (v : ℕ) (t : DrawnTicket D S R)
     → TicketIsKept fits m rows v t → TicketIsKept fits n rows (v + 1) t
 ticket_older fits m n rows v t h =
     record {

@@ -4,7 +4,7 @@ use Rattle.std.specs.Prelude.{Option, Some, None}
 use Rattle.machine.specs.Kit.{Kit, Laws}
 use Rattle.book_history.specs.declared.link.Link.{Link}
 use Rattle.book_history.specs.declared.link.Link.TheVariants.{Open, Out, Joined}
-use Rattle.book_history.specs.Book.{Segment, Ticket, Book, Settings, Event, Opened, Ran, Reloaded, Claimed, Installed, Released, Shown, Closed, drawn, takes, find_link, opened, step, apply, replay_from, replay}
+use Rattle.book_history.specs.Book.{Segment, DrawnTicket, Book, Settings, Event, Opens, Runs, Reloads, Claims, Installs, Releases, Shows, Closes, drawn, takes, first_link, opened, step, apply, replay_from, replay}
 use Rattle.book_history.specs.Truth.{Chain, LinkIsTrue, True, HasLink, Current, OutIsCurrent, OutsAreCurrent}
 use Rattle.book_history.specs.Legal.{MayFollow, MayCome, LegalFrom, Follows}
 use Rattle.book_history.proofs.Kept.{Kept, Inv, chain_map}
@@ -16,14 +16,14 @@ opened_kept k fits valid laws m = record { first_is = refl; end_is = refl; links
 
 pub step_kept : {D S R O : Type 0} (k : Kit D S R O) (fits : D → S → Type 0) (valid : D → D → O → Type 0) → Laws k fits valid
     → (st : Settings) (c : Book D S R) (e : Event D R O) → Inv k fits c → MayFollow k valid st c e → Inv k fits (step k st c e)
-step_kept k fits valid laws st c (Opened v m) h may = h
-step_kept k fits valid laws st c (Ran x rows) h may = run_kept k fits valid laws st c rows h
-step_kept k fits valid laws st c (Reloaded v m ops from) h may = reload_kept k fits valid laws st c m ops may.1 h
-step_kept k fits valid laws st c (Claimed n a b by) h may = claim_found_kept k fits c by (find_link (takes by) 0 c.first c.segs) refl h
-step_kept k fits valid laws st c (Installed n j by) h may = install_found_kept k fits valid laws c n (drawn n c.tickets) refl h
-step_kept k fits valid laws st c (Released n by) h may = release_kept k fits c n h
-step_kept k fits valid laws st c (Shown s) h may = h
-step_kept k fits valid laws st c Closed h may = h
+step_kept k fits valid laws st c (Opens v m) h may = h
+step_kept k fits valid laws st c (Runs x rows) h may = run_kept k fits valid laws st c rows h
+step_kept k fits valid laws st c (Reloads v m ops from) h may = reload_kept k fits valid laws st c m ops may.1 h
+step_kept k fits valid laws st c (Claims n a b by) h may = claim_found_kept k fits c by (first_link (takes by) 0 c.first c.segs) refl h
+step_kept k fits valid laws st c (Installs n j by) h may = install_found_kept k fits valid laws c n (drawn n c.tickets) refl h
+step_kept k fits valid laws st c (Releases n by) h may = release_kept k fits c n h
+step_kept k fits valid laws st c (Shows s) h may = h
+step_kept k fits valid laws st c Closes h may = h
 
 abbrev pub InvOf : {D S R O : Type 0} → Kit D S R O → (D → S → Type 0) → Option (Book D S R) → Type 0
 InvOf k fits None = Unit {0}
@@ -31,14 +31,14 @@ InvOf k fits (Some c) = Inv k fits c
 
 pub apply_kept : {D S R O : Type 0} (k : Kit D S R O) (fits : D → S → Type 0) (valid : D → D → O → Type 0) → Laws k fits valid
     → (st : Settings) (b : Option (Book D S R)) (e : Event D R O) → InvOf k fits b → MayCome k valid st b e → InvOf k fits (apply k st b e)
-apply_kept k fits valid laws st None (Opened v m) h may = opened_kept k fits valid laws m
-apply_kept k fits valid laws st None (Ran x rows) h may = tt
-apply_kept k fits valid laws st None (Reloaded v m ops from) h may = tt
-apply_kept k fits valid laws st None (Claimed n a b by) h may = tt
-apply_kept k fits valid laws st None (Installed n j by) h may = tt
-apply_kept k fits valid laws st None (Released n by) h may = tt
-apply_kept k fits valid laws st None (Shown s) h may = tt
-apply_kept k fits valid laws st None Closed h may = tt
+apply_kept k fits valid laws st None (Opens v m) h may = opened_kept k fits valid laws m
+apply_kept k fits valid laws st None (Runs x rows) h may = tt
+apply_kept k fits valid laws st None (Reloads v m ops from) h may = tt
+apply_kept k fits valid laws st None (Claims n a b by) h may = tt
+apply_kept k fits valid laws st None (Installs n j by) h may = tt
+apply_kept k fits valid laws st None (Releases n by) h may = tt
+apply_kept k fits valid laws st None (Shows s) h may = tt
+apply_kept k fits valid laws st None Closes h may = tt
 apply_kept k fits valid laws st (Some c) e h may = step_kept k fits valid laws st c e h may
 
 pub replay_kept : {D S R O : Type 0} (k : Kit D S R O) (fits : D → S → Type 0) (valid : D → D → O → Type 0) → Laws k fits valid
@@ -49,7 +49,7 @@ replay_kept k fits valid laws st b (e ∷ es) i l =
 
 -- what the invariant gives
 
-pub kept_true : {D S R O : Type 0} (k : Kit D S R O) (m : D) (rows : List R) (v : ℕ) (ts : List (Ticket D S R))
+pub kept_true : {D S R O : Type 0} (k : Kit D S R O) (m : D) (rows : List R) (v : ℕ) (ts : List (DrawnTicket D S R))
     (l : Link) (a : ℕ) (s : S) (b : ℕ) (e : S) → a < b → Kept k m rows v ts l a s b e → LinkIsTrue k m rows l a s b e
 kept_true k m rows v ts Open a s b e lt h = tt
 kept_true k m rows v ts (Out n) a s b e lt h = tt
@@ -66,7 +66,7 @@ inv_true k fits (Some c) h =
 
 pub out_current : {D S R O : Type 0} (k : Kit D S R O) (F : S → Type 0) (c : Book D S R) (a : ℕ) (s : S) (segs : List (Segment S))
     → Chain F (Kept k c.machine c.rows c.version c.tickets) a s segs
-    → ((t : Ticket D S R) → HasLink t a s segs → HasLink t 0 c.first c.segs)
+    → ((t : DrawnTicket D S R) → HasLink t a s segs → HasLink t 0 c.first c.segs)
     → OutIsCurrent c segs
 out_current k F c a s [] h up = tt
 out_current {D} {S} {R} {O} k F c a s (g ∷ gs) h up = (
@@ -75,7 +75,7 @@ out_current {D} {S} {R} {O} k F c a s (g ∷ gs) h up = (
 )
   where
     here : (l : Link) (n : ℕ) → l ≡ Out n → Kept k c.machine c.rows c.version c.tickets l a s g.to g.state
-        → (t : Ticket D S R) × (drawn n c.tickets ≡ Some t) × Current c t
+        → (t : DrawnTicket D S R) × (drawn n c.tickets ≡ Some t) × Current c t
     here Open n is h = absurd cc
     here (Out i) n is h =
         let same : i ≡ n = cc in

@@ -7,7 +7,7 @@ use Rattle.book_history.specs.declared.who.Who.{Who}
 use Rattle.book_history.specs.declared.who.Who.TheVariants.{Session, Worker}
 use Rattle.book_history.specs.declared.link.Link.{Link}
 use Rattle.book_history.specs.declared.link.Link.TheVariants.{Open, Out, Joined}
-use Rattle.book_history.specs.Book.{Segment, Ticket, Book, Settings, Event, Opened, Ran, Reloaded, Claimed, Installed, Released, Shown, Closed, slice, drawn, last_cycle, last_state, takes, find_link, mark_out, matches, is_current, reopen, joined, freed, free_link, thin, add_mark, extend, grid, simulated, settled_to, settled_past, result_of, with_segs, install_found, claim_found, step, replay}
+use Rattle.book_history.specs.Book.{Segment, DrawnTicket, Book, Settings, Event, Opens, Runs, Reloads, Claims, Installs, Releases, Shows, Closes, slice, drawn, last_cycle, last_state, takes, first_link, mark_out, matches, is_current, reopen, joined, freed, free_link, thin, add_mark, extend, grid, simulated, settled_to, settled_past, result_of, with_segs, install_found, claim_found, step, replay}
 use Rattle.book_history.specs.Truth.{Chain}
 use Rattle.book_history.specs.Legal.{Follows}
 use Rattle.book_history.specs.Law.{Further, ThinsNot, FallsNot, LeadFallsNot}
@@ -87,7 +87,7 @@ freed_further {S} n a (g ∷ gs) = go g.link (freed_further n g.to gs)
 -- an install
 
 pub joined_further : {D S R O : Type 0} (k : Kit D S R O) (fits : D → S → Type 0) (valid : D → D → O → Type 0) → Laws k fits valid
-    → (m : D) (rows : List R) (v : ℕ) (ts : List (Ticket D S R)) (t : Ticket D S R) (r : S)
+    → (m : D) (rows : List R) (v : ℕ) (ts : List (DrawnTicket D S R)) (t : DrawnTicket D S R) (r : S)
     → fits m t.start → k.seg m (slice rows t.a t.b) t.start ≡ r
     → (a : ℕ) (s : S) (segs : List (Segment S))
     → Chain (fits m) (Kept k m rows v ts) a s segs → Further a segs (joined k m t r a s segs)
@@ -130,7 +130,7 @@ joined_further {D} {S} k fits valid laws m rows v ts t r ft is a s (g ∷ gs) h 
     opens b (x ∷ xs) = refl
 
 pub install_further : {D S R O : Type 0} (k : Kit D S R O) (fits : D → S → Type 0) (valid : D → D → O → Type 0) → Laws k fits valid
-    → (c : Book D S R) (n : ℕ) (o : Option (Ticket D S R)) → drawn n c.tickets ≡ o → Inv k fits c → Further 0 c.segs (install_found k c n o).segs
+    → (c : Book D S R) (n : ℕ) (o : Option (DrawnTicket D S R)) → drawn n c.tickets ≡ o → Inv k fits c → Further 0 c.segs (install_found k c n o).segs
 install_further k fits valid laws c n None is h = further_same 0 c.segs
 install_further {D} {S} {R} k fits valid laws c n (Some t) is h =
     let kept : TicketIsKept fits c.machine c.rows c.version t = each_drawn (TicketIsKept fits c.machine c.rows c.version) n c.tickets t is h.tickets in
@@ -174,7 +174,7 @@ extend_plain {D} {S} k m rows segs a s (c ∷ cs) few =
     ∙ append_assoc segs (g ∷ []) (simulated k m rows c e cs)
 
 pub run_further : {D S R O : Type 0} (k : Kit D S R O) (fits : D → S → Type 0) (st : Settings) (c : Book D S R) (x : ℕ) (rows : List R)
-    → Inv k fits c → ThinsNot st c rows → Further 0 c.segs (step k st c (Ran x rows)).segs
+    → Inv k fits c → ThinsNot st c rows → Further 0 c.segs (step k st c (Runs x rows)).segs
 run_further {D} {S} {R} k fits st c x rows h few =
     let cs = grid st.interval (length c.rows) (length rows) in
     let s = last_state c.first c.segs in
@@ -189,14 +189,14 @@ run_further {D} {S} {R} k fits st c x rows h few =
 
 pub step_falls_not : {D S R O : Type 0} (k : Kit D S R O) (fits : D → S → Type 0) (valid : D → D → O → Type 0) → Laws k fits valid
     → (st : Settings) (c : Book D S R) (e : Event D R O) → Inv k fits c → FallsNot k st c e
-step_falls_not k fits valid laws st c (Opened v m) h = tt
-step_falls_not k fits valid laws st c (Ran x rows) h = run_further k fits st c x rows h
-step_falls_not k fits valid laws st c (Reloaded v m ops from) h = tt
-step_falls_not k fits valid laws st c (Claimed n a b by) h = claim_further c by (find_link (takes by) 0 c.first c.segs)
-step_falls_not k fits valid laws st c (Installed n j by) h = install_further k fits valid laws c n (drawn n c.tickets) refl h
-step_falls_not k fits valid laws st c (Released n by) h = freed_further n 0 c.segs
-step_falls_not k fits valid laws st c (Shown s) h = further_same 0 c.segs
-step_falls_not k fits valid laws st c Closed h = further_same 0 c.segs
+step_falls_not k fits valid laws st c (Opens v m) h = tt
+step_falls_not k fits valid laws st c (Runs x rows) h = run_further k fits st c x rows h
+step_falls_not k fits valid laws st c (Reloads v m ops from) h = tt
+step_falls_not k fits valid laws st c (Claims n a b by) h = claim_further c by (first_link (takes by) 0 c.first c.segs)
+step_falls_not k fits valid laws st c (Installs n j by) h = install_further k fits valid laws c n (drawn n c.tickets) refl h
+step_falls_not k fits valid laws st c (Releases n by) h = freed_further n 0 c.segs
+step_falls_not k fits valid laws st c (Shows s) h = further_same 0 c.segs
+step_falls_not k fits valid laws st c Closes h = further_same 0 c.segs
 
 pub falls_not : {D S R O : Type 0} (k : Kit D S R O) (fits : D → S → Type 0) (valid : D → D → O → Type 0) → Laws k fits valid
     → (st : Settings) (b : Option (Book D S R)) (e : Event D R O) → InvOf k fits b → LeadFallsNot k st b e

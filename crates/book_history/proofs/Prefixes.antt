@@ -4,7 +4,7 @@ use Rattle.std.specs.Prelude.{Option, Some, None, false, true}
 use Rattle.machine.specs.Kit.{Kit}
 use Rattle.book_history.specs.declared.who.Who.{Who}
 use Rattle.book_history.specs.declared.who.Who.TheVariants.{Session, Worker}
-use Rattle.book_history.specs.Book.{Book, Settings, Event, Opened, Ran, Reloaded, Claimed, Installed, Released, Shown, Closed, apply, replay_from, replay, takes, find_link, claim_found, install_found, drawn, is_current, joined, result_of, with_segs, with_used, step, Ticket}
+use Rattle.book_history.specs.Book.{Book, Settings, Event, Opens, Runs, Reloads, Claims, Installs, Releases, Shows, Closes, apply, replay_from, replay, takes, first_link, claim_found, install_found, drawn, is_current, joined, result_of, with_segs, with_used, step, DrawnTicket}
 use Rattle.book_history.specs.Legal.{MayCome, LegalFrom, Legal}
 use Rattle.book_history.specs.Rooms.{Counts, count, counted, count_all, no_entry, FitsRooms, RoomsFrom, AreInRooms, out_in, one_if}
 use Rattle.book_history.specs.Law.{record_in, ran_rows, record_of}
@@ -59,14 +59,14 @@ counted_total n Session = omega arith
 counted_total n (Worker w) = omega arith
 
 pub count_total : {D R O : Type 0} (st : Settings) (n : Counts) (out : ℕ) (e : Event D R O) → FitsRooms st n out e → total (count n e) ≡ total n + 1
-count_total st n out (Opened v m) f = counted_total n Session
-count_total st n out (Ran x rows) f = counted_total n Session
-count_total st n out (Reloaded v m ops from) f = counted_total n Session
-count_total st n out (Claimed i a b by) f = counted_total n by
-count_total st n out (Installed i j by) f = counted_total n by
-count_total st n out (Released i by) f = counted_total n by
-count_total st n out (Shown s) f = counted_total n Session
-count_total st n out Closed f = let z : one_if n.closed ≡ 0 = ap one_if f in omega (arith, z)
+count_total st n out (Opens v m) f = counted_total n Session
+count_total st n out (Runs x rows) f = counted_total n Session
+count_total st n out (Reloads v m ops from) f = counted_total n Session
+count_total st n out (Claims i a b by) f = counted_total n by
+count_total st n out (Installs i j by) f = counted_total n by
+count_total st n out (Releases i by) f = counted_total n by
+count_total st n out (Shows s) f = counted_total n Session
+count_total st n out Closes f = let z : one_if n.closed ≡ 0 = ap one_if f in omega (arith, z)
 
 pub length_total : {D S R O : Type 0} (k : Kit D S R O) (st : Settings) (n : Counts) (b : Option (Book D S R)) (h : List (Event D R O)) → RoomsFrom k st n b h
     → total (count_all n h) ≡ total n + length h
@@ -90,31 +90,31 @@ pub claim_record : {D S R : Type 0} (c : Book D S R) (by : Who) (o : Option (ℕ
 claim_record c by None = refl
 claim_record c by (Some f) = refl
 
-pub install_record : {D S R O : Type 0} (k : Kit D S R O) (c : Book D S R) (n : ℕ) (o : Option (Ticket D S R)) → (install_found k c n o).rows ≡ c.rows
+pub install_record : {D S R O : Type 0} (k : Kit D S R O) (c : Book D S R) (n : ℕ) (o : Option (DrawnTicket D S R)) → (install_found k c n o).rows ≡ c.rows
 install_record k c n None = refl
 install_record k c n (Some t) =
     cond_both (is_current k c t) (with_segs c (joined k c.machine t (result_of k t) 0 c.first c.segs)) c (λ x. (with_used x n).rows ≡ c.rows) (λ _. refl) (λ _. refl)
 
 pub step_record : {D S R O : Type 0} (k : Kit D S R O) (st : Settings) (c : Book D S R) (e : Event D R O) → (step k st c e).rows ≡ c.rows ++ ran_rows e
-step_record k st c (Opened v m) = sym (append-nil c.rows)
-step_record k st c (Ran x rows) = refl
-step_record k st c (Reloaded v m ops from) = sym (append-nil c.rows)
-step_record k st c (Claimed n a b by) = claim_record c by (find_link (takes by) 0 c.first c.segs) ∙ sym (append-nil c.rows)
-step_record k st c (Installed n j by) = install_record k c n (drawn n c.tickets) ∙ sym (append-nil c.rows)
-step_record k st c (Released n by) = sym (append-nil c.rows)
-step_record k st c (Shown s) = sym (append-nil c.rows)
-step_record k st c Closed = sym (append-nil c.rows)
+step_record k st c (Opens v m) = sym (append-nil c.rows)
+step_record k st c (Runs x rows) = refl
+step_record k st c (Reloads v m ops from) = sym (append-nil c.rows)
+step_record k st c (Claims n a b by) = claim_record c by (first_link (takes by) 0 c.first c.segs) ∙ sym (append-nil c.rows)
+step_record k st c (Installs n j by) = install_record k c n (drawn n c.tickets) ∙ sym (append-nil c.rows)
+step_record k st c (Releases n by) = sym (append-nil c.rows)
+step_record k st c (Shows s) = sym (append-nil c.rows)
+step_record k st c Closes = sym (append-nil c.rows)
 
 pub apply_record : {D S R O : Type 0} (k : Kit D S R O) (valid : D → D → O → Type 0) (st : Settings) (b : Option (Book D S R)) (e : Event D R O) → MayCome k valid st b e
     → record_in (apply k st b e) ≡ record_in b ++ ran_rows e
-apply_record k valid st None (Opened v m) may = refl
-apply_record k valid st None (Ran x rows) may = absurd may
-apply_record k valid st None (Reloaded v m ops from) may = absurd may
-apply_record k valid st None (Claimed n a b by) may = absurd may
-apply_record k valid st None (Installed n j by) may = absurd may
-apply_record k valid st None (Released n by) may = absurd may
-apply_record k valid st None (Shown s) may = absurd may
-apply_record k valid st None Closed may = refl
+apply_record k valid st None (Opens v m) may = refl
+apply_record k valid st None (Runs x rows) may = absurd may
+apply_record k valid st None (Reloads v m ops from) may = absurd may
+apply_record k valid st None (Claims n a b by) may = absurd may
+apply_record k valid st None (Installs n j by) may = absurd may
+apply_record k valid st None (Releases n by) may = absurd may
+apply_record k valid st None (Shows s) may = absurd may
+apply_record k valid st None Closes may = refl
 apply_record k valid st (Some c) e may = step_record k st c e
 
 pub replay_record : {D S R O : Type 0} (k : Kit D S R O) (valid : D → D → O → Type 0) (st : Settings) (b : Option (Book D S R)) (h : List (Event D R O))

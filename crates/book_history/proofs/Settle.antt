@@ -7,7 +7,7 @@ use Rattle.book_history.specs.declared.who.Who.{Who}
 use Rattle.book_history.specs.declared.who.Who.TheVariants.{Session, Worker}
 use Rattle.book_history.specs.declared.link.Link.{Link}
 use Rattle.book_history.specs.declared.link.Link.TheVariants.{Open, Out, Joined}
-use Rattle.book_history.specs.Book.{Segment, Ticket, Book, Settings, Event, Opened, Ran, Reloaded, Claimed, Installed, Released, Shown, Closed, slice, drawn, takes, find_link, mark_out, matches, is_current, reopen, joined, freed, free_link, lead, lead_past, result_of, with_segs, with_used, install_found, claim_found, step, apply, replay_from, replay}
+use Rattle.book_history.specs.Book.{Segment, DrawnTicket, Book, Settings, Event, Opens, Runs, Reloads, Claims, Installs, Releases, Shows, Closes, slice, drawn, takes, first_link, mark_out, matches, is_current, reopen, joined, freed, free_link, lead, lead_past, result_of, with_segs, with_used, install_found, claim_found, step, apply, replay_from, replay}
 use Rattle.book_history.specs.Truth.{Chain, HasLink}
 use Rattle.book_history.specs.Legal.{MayFollow, LegalFrom, Follows}
 use Rattle.book_history.specs.Law.{IsCalm, AreCalm, lead_in}
@@ -17,12 +17,12 @@ use Rattle.book_history.proofs.Law.{InvOf, replay_kept, step_kept}
 use Rattle.book_history.proofs.Currents.{legal_at, is_current_iff, same_matches}
 
 -- l links are joined, and the one after them is the ticket's
-abbrev pub Ready : {D S R : Type 0} → Ticket D S R → ℕ → ℕ → S → List (Segment S) → Type 0
+abbrev pub Ready : {D S R : Type 0} → DrawnTicket D S R → ℕ → ℕ → S → List (Segment S) → Type 0
 Ready t l a s [] = ⊥
 Ready t zero a s (g ∷ gs) = (a ≡ t.a) × (g.to ≡ t.b) × (s ≡ t.start)
 Ready t (suc l) a s (g ∷ gs) = (g.link ≡ Joined) × Ready t l g.to g.state gs
 
-pub ready_has : {D S R : Type 0} (t : Ticket D S R) (l a : ℕ) (s : S) (segs : List (Segment S)) → Ready t l a s segs → HasLink t a s segs
+pub ready_has : {D S R : Type 0} (t : DrawnTicket D S R) (l a : ℕ) (s : S) (segs : List (Segment S)) → Ready t l a s segs → HasLink t a s segs
 ready_has t l a s [] h = h
 ready_has t zero a s (g ∷ gs) h = inl h
 ready_has t (suc l) a s (g ∷ gs) h = inr (ready_has t l g.to g.state gs h.1)
@@ -32,7 +32,7 @@ joined_not_taken Session l e = rw e refl
 joined_not_taken (Worker w) l e = rw e refl
 
 -- a claim
-pub ready_out : {D S R : Type 0} (t : Ticket D S R) (by : Who) (n l a : ℕ) (s : S) (segs : List (Segment S)) → Ready t l a s segs → Ready t l a s (mark_out (takes by) n segs)
+pub ready_out : {D S R : Type 0} (t : DrawnTicket D S R) (by : Who) (n l a : ℕ) (s : S) (segs : List (Segment S)) → Ready t l a s segs → Ready t l a s (mark_out (takes by) n segs)
 ready_out t by n l a s [] h = h
 ready_out t by n zero a s (g ∷ gs) h =
     cond_both (takes by g.link) (record { link = Out n; to = g.to; state = g.state } ∷ gs) (g ∷ mark_out (takes by) n gs)
@@ -43,16 +43,16 @@ ready_out {D} {S} t by n (suc l) a s (g ∷ gs) h =
     subst (λ (x : List (Segment S)). Ready t (suc l) a s x) (sym same) (h.0, ready_out t by n l g.to g.state gs h.1)
 
 -- a release
-pub ready_freed : {D S R : Type 0} (t : Ticket D S R) (n l a : ℕ) (s : S) (segs : List (Segment S)) → Ready t l a s segs → Ready t l a s (freed n segs)
+pub ready_freed : {D S R : Type 0} (t : DrawnTicket D S R) (n l a : ℕ) (s : S) (segs : List (Segment S)) → Ready t l a s segs → Ready t l a s (freed n segs)
 ready_freed t n l a s [] h = h
 ready_freed t n zero a s (g ∷ gs) h = h
 ready_freed t n (suc l) a s (g ∷ gs) h = (ap (free_link n) h.0, ready_freed t n l g.to g.state gs h.1)
 
 -- an install of any ticket that is current
 pub ready_joined : {D S R O : Type 0} (k : Kit D S R O) (fits : D → S → Type 0) (valid : D → D → O → Type 0) → Laws k fits valid
-    → (m : D) (rows : List R) (v : ℕ) (ts : List (Ticket D S R)) (u : Ticket D S R) (r : S)
+    → (m : D) (rows : List R) (v : ℕ) (ts : List (DrawnTicket D S R)) (u : DrawnTicket D S R) (r : S)
     → fits m u.start → k.seg m (slice rows u.a u.b) u.start ≡ r
-    → (t : Ticket D S R) (l a : ℕ) (s : S) (segs : List (Segment S))
+    → (t : DrawnTicket D S R) (l a : ℕ) (s : S) (segs : List (Segment S))
     → Chain (fits m) (Kept k m rows v ts) a s segs → Ready t l a s segs → Ready t l a s (joined k m u r a s segs)
 ready_joined k fits valid laws m rows v ts u r ft is t l a s [] h y = y
 ready_joined k fits valid laws m rows v ts u r ft is t zero a s (g ∷ gs) h y =
@@ -85,7 +85,7 @@ ready_joined {D} {S} k fits valid laws m rows v ts u r ft is t (suc l) a s (g �
     (λ _. (y.0, ready_joined k fits valid laws m rows v ts u r ft is t l g.to g.state gs h.3 y.1))
 
 -- the links before the ticket's end where it begins, or earlier
-pub ready_after : {D S R : Type 0} (F : S → Type 0) (J : Link → ℕ → S → ℕ → S → Type 0) (t : Ticket D S R) (l a : ℕ) (s : S) (segs : List (Segment S))
+pub ready_after : {D S R : Type 0} (F : S → Type 0) (J : Link → ℕ → S → ℕ → S → Type 0) (t : DrawnTicket D S R) (l a : ℕ) (s : S) (segs : List (Segment S))
     → Chain F J a s segs → Ready t l a s segs → a ≤ t.a
 ready_after F J t l a s [] h y = absurd y
 ready_after F J t zero a s (g ∷ gs) h y = omega (arith, y.0)
@@ -93,7 +93,7 @@ ready_after F J t (suc l) a s (g ∷ gs) h y = omega (arith, h.1, ready_after F 
 
 -- its own install
 pub ready_joins : {D S R O : Type 0} (k : Kit D S R O) (fits : D → S → Type 0) (valid : D → D → O → Type 0) → Laws k fits valid
-    → (J : Link → ℕ → S → ℕ → S → Type 0) (m : D) (t : Ticket D S R) (r : S) → fits m t.start → (l a : ℕ) (s : S) (segs : List (Segment S))
+    → (J : Link → ℕ → S → ℕ → S → Type 0) (m : D) (t : DrawnTicket D S R) (r : S) → fits m t.start → (l a : ℕ) (s : S) (segs : List (Segment S))
     → Chain (fits m) J a s segs → Ready t l a s segs → l + 1 ≤ lead (joined k m t r a s segs)
 ready_joins k fits valid laws J m t r ft l a s [] h y = absurd y
 ready_joins {D} {S} k fits valid laws J m t r ft zero a s (g ∷ gs) h y =
@@ -118,8 +118,8 @@ ready_joins {D} {S} k fits valid laws J m t r ft (suc l) a s (g ∷ gs) h y =
     (λ _. rw y.0 (omega (arith, ih)))
 
 -- the session's claim makes its ticket ready
-pub ready_claimed : {D S R : Type 0} (t : Ticket D S R) (n a : ℕ) (s : S) (segs : List (Segment S)) (f : ℕ × ℕ × S)
-    → t.a ≡ f.0 → t.b ≡ f.1 → t.start ≡ f.2 → find_link (takes Session) a s segs ≡ Some f
+pub ready_claimed : {D S R : Type 0} (t : DrawnTicket D S R) (n a : ℕ) (s : S) (segs : List (Segment S)) (f : ℕ × ℕ × S)
+    → t.a ≡ f.0 → t.b ≡ f.1 → t.start ≡ f.2 → first_link (takes Session) a s segs ≡ Some f
     → Ready t (lead segs) a s (mark_out (takes Session) n segs)
 ready_claimed t n a s [] f ta tb tstart e = absurd cc
 ready_claimed {D} {S} {R} t n a s (g ∷ gs) f ta tb tstart e =
@@ -133,8 +133,8 @@ ready_claimed {D} {S} {R} t n a s (g ∷ gs) f ta tb tstart e =
           ap (λ (x : ℕ × ℕ × S). x.2) eq ∙ sym tstart,
         )
 
-    go : (l : Link) → (find_link (takes Session) g.to g.state gs ≡ Some f → Ready t (lead gs) g.to g.state (mark_out (takes Session) n gs))
-        → cond (takes Session l) (Some (a, g.to, s)) (find_link (takes Session) g.to g.state gs) ≡ Some f
+    go : (l : Link) → (first_link (takes Session) g.to g.state gs ≡ Some f → Ready t (lead gs) g.to g.state (mark_out (takes Session) n gs))
+        → cond (takes Session l) (Some (a, g.to, s)) (first_link (takes Session) g.to g.state gs) ≡ Some f
         → Ready t (lead_past l (lead gs)) a s
         (cond (takes Session l) (record { link = Out n; to = g.to; state = g.state } ∷ gs) (record { link = l; to = g.to; state = g.state } ∷ mark_out (takes Session) n gs))
     go Open ih is = here (Out n) is
@@ -143,12 +143,12 @@ ready_claimed {D} {S} {R} t n a s (g ∷ gs) f ta tb tstart e =
         subst (λ (i : ℕ). Ready t i a s (record { link = Joined; to = g.to; state = g.state } ∷ mark_out (takes Session) n gs)) (sym (add-one (lead gs))) (refl, ih is)
 
 -- ticket n was drawn, is of this version, and is ready behind l links
-pub record Pends {D S R : Type 0} (c : Book D S R) (n : ℕ) (t : Ticket D S R) (l : ℕ) : Type 0 where
+pub record Pends {D S R : Type 0} (c : Book D S R) (n : ℕ) (t : DrawnTicket D S R) (l : ℕ) : Type 0 where
   pub is_drawn : drawn n c.tickets ≡ Some t
   pub version_is : t.version ≡ c.version
   pub ready : Ready t l 0 c.first c.segs
 
-pub pends_claim : {D S R : Type 0} (c : Book D S R) (n : ℕ) (t : Ticket D S R) (l : ℕ) (by : Who) (o : Option (ℕ × ℕ × S)) → Pends c n t l → Pends (claim_found c by o) n t l
+pub pends_claim : {D S R : Type 0} (c : Book D S R) (n : ℕ) (t : DrawnTicket D S R) (l : ℕ) (by : Who) (o : Option (ℕ × ℕ × S)) → Pends c n t l → Pends (claim_found c by o) n t l
 pends_claim c n t l by None p = p
 pends_claim {D} {S} {R} c n t l by (Some f) p =
     record {
@@ -158,7 +158,7 @@ pends_claim {D} {S} {R} c n t l by (Some f) p =
     }
 
 pub pends_install : {D S R O : Type 0} (k : Kit D S R O) (fits : D → S → Type 0) (valid : D → D → O → Type 0) → Laws k fits valid
-    → (c : Book D S R) (n : ℕ) (t : Ticket D S R) (l : ℕ) (i : ℕ) (o : Option (Ticket D S R)) → drawn i c.tickets ≡ o → Inv k fits c → Pends c n t l → Pends (install_found k c i o) n t l
+    → (c : Book D S R) (n : ℕ) (t : DrawnTicket D S R) (l : ℕ) (i : ℕ) (o : Option (DrawnTicket D S R)) → drawn i c.tickets ≡ o → Inv k fits c → Pends c n t l → Pends (install_found k c i o) n t l
 pends_install k fits valid laws c n t l i None is h p = p
 pends_install {D} {S} {R} k fits valid laws c n t l i (Some u) is h p =
     let kept : TicketIsKept fits c.machine c.rows c.version u = each_drawn (TicketIsKept fits c.machine c.rows c.version) i c.tickets u is h.tickets in
@@ -181,21 +181,21 @@ pends_install {D} {S} {R} k fits valid laws c n t l i (Some u) is h p =
     (λ _. record { is_drawn = p.is_drawn; version_is = p.version_is; ready = p.ready })
 
 pub pends_step : {D S R O : Type 0} (k : Kit D S R O) (fits : D → S → Type 0) (valid : D → D → O → Type 0) → Laws k fits valid
-    → (st : Settings) (c : Book D S R) (n : ℕ) (t : Ticket D S R) (l : ℕ) (e : Event D R O) → IsCalm e → Inv k fits c → Pends c n t l → Pends (step k st c e) n t l
-pends_step k fits valid laws st c n t l (Opened v m) calm h p = absurd calm
-pends_step k fits valid laws st c n t l (Ran x rows) calm h p = absurd calm
-pends_step k fits valid laws st c n t l (Reloaded v m ops from) calm h p = absurd calm
-pends_step k fits valid laws st c n t l (Claimed i a b by) calm h p = pends_claim c n t l by (find_link (takes by) 0 c.first c.segs) p
-pends_step k fits valid laws st c n t l (Installed i j by) calm h p = pends_install k fits valid laws c n t l i (drawn i c.tickets) refl h p
-pends_step k fits valid laws st c n t l (Released i by) calm h p =
+    → (st : Settings) (c : Book D S R) (n : ℕ) (t : DrawnTicket D S R) (l : ℕ) (e : Event D R O) → IsCalm e → Inv k fits c → Pends c n t l → Pends (step k st c e) n t l
+pends_step k fits valid laws st c n t l (Opens v m) calm h p = absurd calm
+pends_step k fits valid laws st c n t l (Runs x rows) calm h p = absurd calm
+pends_step k fits valid laws st c n t l (Reloads v m ops from) calm h p = absurd calm
+pends_step k fits valid laws st c n t l (Claims i a b by) calm h p = pends_claim c n t l by (first_link (takes by) 0 c.first c.segs) p
+pends_step k fits valid laws st c n t l (Installs i j by) calm h p = pends_install k fits valid laws c n t l i (drawn i c.tickets) refl h p
+pends_step k fits valid laws st c n t l (Releases i by) calm h p =
     record { is_drawn = p.is_drawn; version_is = p.version_is; ready = ready_freed t i l 0 c.first c.segs p.ready }
-pends_step k fits valid laws st c n t l (Shown s) calm h p = p
-pends_step k fits valid laws st c n t l Closed calm h p = p
+pends_step k fits valid laws st c n t l (Shows s) calm h p = p
+pends_step k fits valid laws st c n t l Closes calm h p = p
 
 -- its own install, at last
 pub pends_joins : {D S R O : Type 0} (k : Kit D S R O) (fits : D → S → Type 0) (valid : D → D → O → Type 0) → Laws k fits valid
-    → (st : Settings) (c : Book D S R) (n : ℕ) (t : Ticket D S R) (l : ℕ) (j : Bool) (by : Who) → Inv k fits c → Pends c n t l → MayFollow k valid st c (Installed n j by)
-    → (j ≡ true) × (l + 1 ≤ lead (step k st c (Installed n j by)).segs)
+    → (st : Settings) (c : Book D S R) (n : ℕ) (t : DrawnTicket D S R) (l : ℕ) (j : Bool) (by : Who) → Inv k fits c → Pends c n t l → MayFollow k valid st c (Installs n j by)
+    → (j ≡ true) × (l + 1 ≤ lead (step k st c (Installs n j by)).segs)
 pends_joins {D} {S} {R} k fits valid laws st c n t l j by h p may =
     let kept : TicketIsKept fits c.machine c.rows c.version t = each_drawn (TicketIsKept fits c.machine c.rows c.version) n c.tickets t p.is_drawn h.tickets in
     let m_is : t.machine ≡ c.machine = kept.machine_is p.version_is in
@@ -203,25 +203,25 @@ pends_joins {D} {S} {R} k fits valid laws st c n t l j by h p may =
     let current : is_current k c t ≡ true = (is_current_iff k fits valid laws c n t h p.is_drawn).1 (p.version_is, ready_has t l 0 c.first c.segs p.ready) in
     let same : may.0 ≡ t = let e : Some may.0 ≡ Some t = sym may.1 ∙ p.is_drawn in cc in
     let leads = ready_joins k fits valid laws (Kept k c.machine c.rows c.version c.tickets) c.machine t (result_of k t) ft l 0 c.first c.segs h.links p.ready in
-    let P : Option (Ticket D S R) → Type 0 = λ o. l + 1 ≤ lead (install_found k c n o).segs in (
+    let P : Option (DrawnTicket D S R) → Type 0 = λ o. l + 1 ≤ lead (install_found k c n o).segs in (
       may.4 ∙ ap (is_current k c) same ∙ current,
       subst P (sym p.is_drawn) (rw current leads),
     )
 
 pub calm_joins : {D S R O : Type 0} (k : Kit D S R O) (fits : D → S → Type 0) (valid : D → D → O → Type 0) → Laws k fits valid
-    → (st : Settings) (c : Book D S R) (n : ℕ) (t : Ticket D S R) (l : ℕ) (j : Bool) (by : Who) (es ys : List (Event D R O))
-    → Inv k fits c → Pends c n t l → AreCalm es → LegalFrom k valid st (Some c) (es ++ Installed n j by ∷ ys)
-    → (j ≡ true) × (l + 1 ≤ lead_in (apply k st (replay_from k st (Some c) es) (Installed n j by)))
+    → (st : Settings) (c : Book D S R) (n : ℕ) (t : DrawnTicket D S R) (l : ℕ) (j : Bool) (by : Who) (es ys : List (Event D R O))
+    → Inv k fits c → Pends c n t l → AreCalm es → LegalFrom k valid st (Some c) (es ++ Installs n j by ∷ ys)
+    → (j ≡ true) × (l + 1 ≤ lead_in (apply k st (replay_from k st (Some c) es) (Installs n j by)))
 calm_joins k fits valid laws st c n t l j by [] ys h p calm legal = pends_joins k fits valid laws st c n t l j by h p legal.0
 calm_joins k fits valid laws st c n t l j by (e ∷ es) ys h p calm legal =
     calm_joins k fits valid laws st (step k st c e) n t l j by es ys
     (step_kept k fits valid laws st c e h legal.0) (pends_step k fits valid laws st c n t l e calm.0 h p) calm.1 legal.1
 
-pub claim_pends : {D S R : Type 0} (c : Book D S R) (o : Option (ℕ × ℕ × S)) (f : ℕ × ℕ × S) → find_link (takes Session) 0 c.first c.segs ≡ o → o ≡ Some f
-    → (t : Ticket D S R) × Pends (claim_found c Session o) (length c.tickets + 1) t (lead c.segs)
+pub claim_pends : {D S R : Type 0} (c : Book D S R) (o : Option (ℕ × ℕ × S)) (f : ℕ × ℕ × S) → first_link (takes Session) 0 c.first c.segs ≡ o → o ≡ Some f
+    → (t : DrawnTicket D S R) × Pends (claim_found c Session o) (length c.tickets + 1) t (lead c.segs)
 claim_pends c None f is e = absurd cc
 claim_pends {D} {S} {R} c (Some g) f is e =
-    let t : Ticket D S R = record { by = Session; version = c.version; machine = c.machine; a = g.0; b = g.1; rows = slice c.rows g.0 g.1; start = g.2 } in (
+    let t : DrawnTicket D S R = record { by = Session; version = c.version; machine = c.machine; a = g.0; b = g.1; rows = slice c.rows g.0 g.1; start = g.2 } in (
       t,
       record {
         is_drawn = drawn_newest t c.tickets;
@@ -232,15 +232,15 @@ claim_pends {D} {S} {R} c (Some g) f is e =
 
 pub settles_from : {D S R O : Type 0} (k : Kit D S R O) (fits : D → S → Type 0) (valid : D → D → O → Type 0) → Laws k fits valid
     → (st : Settings) (b : Option (Book D S R)) (es ys : List (Event D R O)) (n x y : ℕ) (j : Bool) → InvOf k fits b → AreCalm es
-    → LegalFrom k valid st b (Claimed n x y Session ∷ (es ++ Installed n j Session ∷ ys))
-    → (j ≡ true) × (lead_in b + 1 ≤ lead_in (apply k st (replay_from k st (apply k st b (Claimed n x y Session)) es) (Installed n j Session)))
+    → LegalFrom k valid st b (Claims n x y Session ∷ (es ++ Installs n j Session ∷ ys))
+    → (j ≡ true) × (lead_in b + 1 ≤ lead_in (apply k st (replay_from k st (apply k st b (Claims n x y Session)) es) (Installs n j Session)))
 settles_from k fits valid laws st None es ys n x y j h calm legal = absurd legal.0
 settles_from {D} {S} {R} {O} k fits valid laws st (Some c) es ys n x y j h calm legal =
-    let p = claim_pends c (find_link (takes Session) 0 c.first c.segs) (x, y, legal.0.1.0) refl legal.0.1.1 in
-    let q : Pends (step k st c (Claimed n x y Session)) n p.0 (lead c.segs) =
-    subst (λ (i : ℕ). Pends (step k st c (Claimed n x y Session)) i p.0 (lead c.segs)) (sym legal.0.0) p.1 in
-    calm_joins k fits valid laws st (step k st c (Claimed n x y Session)) n p.0 (lead c.segs) j Session es ys
-    (step_kept k fits valid laws st c (Claimed n x y Session) h legal.0) q calm legal.1
+    let p = claim_pends c (first_link (takes Session) 0 c.first c.segs) (x, y, legal.0.1.0) refl legal.0.1.1 in
+    let q : Pends (step k st c (Claims n x y Session)) n p.0 (lead c.segs) =
+    subst (λ (i : ℕ). Pends (step k st c (Claims n x y Session)) i p.0 (lead c.segs)) (sym legal.0.0) p.1 in
+    calm_joins k fits valid laws st (step k st c (Claims n x y Session)) n p.0 (lead c.segs) j Session es ys
+    (step_kept k fits valid laws st c (Claims n x y Session) h legal.0) q calm legal.1
 
 pub replay-append : {D S R O : Type 0} (k : Kit D S R O) (st : Settings) (b : Option (Book D S R)) (xs ys : List (Event D R O))
     → replay_from k st b (xs ++ ys) ≡ replay_from k st (replay_from k st b xs) ys
@@ -249,12 +249,12 @@ replay-append k st b (x ∷ xs) ys = replay-append k st (apply k st b x) xs ys
 
 pub legal_settles : {D S R O : Type 0} (k : Kit D S R O) (fits : D → S → Type 0) (valid : D → D → O → Type 0) → Laws k fits valid
     → (st : Settings) (xs es ys : List (Event D R O)) (n x y : ℕ) (j : Bool) → AreCalm es
-    → Follows k valid st (xs ++ Claimed n x y Session ∷ (es ++ Installed n j Session ∷ ys))
-    → (j ≡ true) × (lead_in (replay k st xs) + 1 ≤ lead_in (replay k st (xs ++ Claimed n x y Session ∷ (es ++ Installed n j Session ∷ []))))
+    → Follows k valid st (xs ++ Claims n x y Session ∷ (es ++ Installs n j Session ∷ ys))
+    → (j ≡ true) × (lead_in (replay k st xs) + 1 ≤ lead_in (replay k st (xs ++ Claims n x y Session ∷ (es ++ Installs n j Session ∷ []))))
 legal_settles k fits valid laws st xs es ys n x y j calm legal =
-    let at = legal_at k valid st None xs (Claimed n x y Session) (es ++ Installed n j Session ∷ ys) legal in
+    let at = legal_at k valid st None xs (Claims n x y Session) (es ++ Installs n j Session ∷ ys) legal in
     rw (
-      replay-append k st None xs (Claimed n x y Session ∷ (es ++ Installed n j Session ∷ [])),
-      replay-append k st (apply k st (replay k st xs) (Claimed n x y Session)) es (Installed n j Session ∷ []),
+      replay-append k st None xs (Claims n x y Session ∷ (es ++ Installs n j Session ∷ [])),
+      replay-append k st (apply k st (replay k st xs) (Claims n x y Session)) es (Installs n j Session ∷ []),
     )
     (settles_from k fits valid laws st (replay k st xs) es ys n x y j (replay_kept k fits valid laws st None xs tt at.0) calm (at.1, at.2))

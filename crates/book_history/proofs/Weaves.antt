@@ -5,7 +5,7 @@ use Rattle.book_history.specs.declared.entry.Entry.{Entry}
 use Rattle.book_history.specs.declared.entry.Entry.TheVariants.{Open, Run, Reload, Claim, Install, Release, Show, Close}
 use Rattle.book_history.specs.declared.load.Load.{Load}
 use Rattle.book_history.specs.declared.load.Load.TheVariants as held
-use Rattle.book_history.specs.Book.{Event, Ran}
+use Rattle.book_history.specs.Book.{Event, Runs}
 use Rattle.book_history.specs.Law.{ran_rows, record_of}
 use Rattle.book_history.specs.Entries.{entry_of}
 use Rattle.book_history.specs.Weave.{event_of, needs, cycles_of, rest_after, weave, IsLoadOf, AreHeld}
@@ -43,7 +43,7 @@ module _ {D R O : Type 0} where
   event_same (Open v) [] more rows rows' h le = absurd h
   event_same (Open v) (held.Open y ∷ ls) more rows rows' h le = refl
   event_same (Open v) (held.Reload y z ∷ ls) more rows rows' h le = absurd h
-  event_same (Run n) ls more rows rows' h le = ap (λ (l : List R). Ran n l) (take-append-le n rows rows' le)
+  event_same (Run n) ls more rows rows' h le = ap (λ (l : List R). Runs n l) (take-append-le n rows rows' le)
   event_same (Reload v f) [] more rows rows' h le = absurd h
   event_same (Reload v f) (held.Open y ∷ ls) more rows rows' h le = absurd h
   event_same (Reload v f) (held.Reload y z ∷ ls) more rows rows' h le = refl

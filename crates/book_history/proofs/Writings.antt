@@ -9,7 +9,7 @@ use Rattle.machine.specs.Rows.{expanded, IsGapless}
 use Rattle.book_history.specs.declared.entry.Entry.{Entry}
 use Rattle.book_history.specs.declared.load.Load.{Load}
 use Rattle.book_history.specs.declared.written.Written.{Written}
-use Rattle.book_history.specs.Book.{Event, Settings, Ran}
+use Rattle.book_history.specs.Book.{Event, Settings, Runs}
 use Rattle.no_memory.specs.declared.NoMemory.{NoMemory}
 use Rattle.machine.proofs.Runs.{end_is}
 use Rattle.book_history.specs.Entries.{IsBare}
@@ -108,20 +108,23 @@ module _ {D S R O : Type 0} (k : Kit D S R O) (valid : D → D → O → Type 0)
         whole = drop-nil (cycles_of e);
       }
 
-  pub run_written : (w w' : Written D R O) (rows : ℕ × List R) (n : ℕ) (r : Result (Unit {0}) NoMemory) (j : Journal D R O) → journal_of w ≡ j → IsWritten k valid w
+  -- the runs behind the others, and then the two that meet there as one
+  pub run_written : (w w' : Written D R O) (mid : List (RowRun R)) (rows : ℕ × List R) (n : ℕ) (r : Result (Unit {0}) NoMemory) (j : Journal D R O) → journal_of w ≡ j → IsWritten k valid w
       → (journal_of w').settings ≡ (journal_of w).settings → w'.entries.items ≡ w.entries.items ++ Run n ∷ [] → w'.loads.items ≡ w.loads.items
-      → is_err r ≡ false → OnOk r (expanded w'.runs.items ≡ expanded w.runs.items ++ rows.1)
-      → OnOk r ((a : ℕ) → IsGapless a w.runs.items rows.0 → IsGapless a w'.runs.items (rows.0 + length rows.1))
+      → is_err r ≡ false → OnOk r (expanded mid ≡ expanded w.runs.items ++ rows.1)
+      → OnOk r ((a : ℕ) → IsGapless a w.runs.items rows.0 → IsGapless a mid (rows.0 + length rows.1))
+      → ((a b : ℕ) → IsGapless a mid b → expanded w'.runs.items ≡ expanded mid) → ((a b : ℕ) → IsGapless a mid b → IsGapless a w'.runs.items b)
       → rows.0 ≡ length (record_of j.events) → w'.cycle ≡ rows.0 + length rows.1 → n ≡ length rows.1
-      → Legal k valid j.settings (j.events ++ Ran (length rows.1) rows.1 ∷ [])
-      → IsWritten k valid w' × ((journal_of w').events ≡ j.events ++ Ran (length rows.1) rows.1 ∷ [])
-  run_written w w' rows n (Ok x) j shown old settings entries loads ok grown gapless next cycle count legal =
+      → Legal k valid j.settings (j.events ++ Runs (length rows.1) rows.1 ∷ [])
+      → IsWritten k valid w' × ((journal_of w').events ≡ j.events ++ Runs (length rows.1) rows.1 ∷ [])
+  run_written w w' mid rows n (Ok x) j shown old settings entries loads ok grown gapless same kept_gapless next cycle count legal =
       let kept = record_kept w j shown old in
       let start : w.cycle ≡ rows.0 = omega (arith, end_is 0 w.runs.items w.cycle old.gapless, ap (λ (l : List R). length l) kept, next) in
       let begun : IsGapless 0 w.runs.items rows.0 = subst (λ (i : ℕ). IsGapless 0 w.runs.items i) start old.gapless in
-      let ends : IsGapless 0 w'.runs.items w'.cycle = subst (λ (i : ℕ). IsGapless 0 w'.runs.items i) (sym cycle) (gapless 0 begun) in
+      let behind : IsGapless 0 mid (rows.0 + length rows.1) = gapless 0 begun in
+      let ends : IsGapless 0 w'.runs.items w'.cycle = subst (λ (i : ℕ). IsGapless 0 w'.runs.items i) (sym cycle) (kept_gapless 0 (rows.0 + length rows.1) behind) in
       let all : take n rows.1 ≡ rows.1 = ap (λ (i : ℕ). take i rows.1) count ∙ take-length rows.1 in
-      let event : event_of (Run n) [] rows.1 ≡ Ran (length rows.1) rows.1 = ap (λ (l : List R). Ran n l) all ∙ ap (λ (i : ℕ). Ran i rows.1) count in
+      let event : event_of (Run n) [] rows.1 ≡ Runs (length rows.1) rows.1 = ap (λ (l : List R). Runs n l) all ∙ ap (λ (i : ℕ). Runs i rows.1) count in
       let P : Event D R O → Type 0 = λ e. IsWritten k valid w' × ((journal_of w').events ≡ j.events ++ e ∷ []) in
       let here : Legal k valid j.settings (j.events ++ event_of (Run n) [] rows.1 ∷ []) =
       subst (λ (e : Event D R O). Legal k valid j.settings (j.events ++ e ∷ [])) (sym event) legal in
@@ -130,7 +133,7 @@ module _ {D S R O : Type 0} (k : Kit D S R O) (valid : D → D → O → Type 0)
         settings = settings;
         entries = entries;
         loads = loads ∙ sym (append-nil w.loads.items);
-        rows_are = grown;
+        rows_are = same 0 (rows.0 + length rows.1) behind ∙ grown;
         gapless = ends;
         load = tt;
         no_other = refl;
@@ -138,7 +141,7 @@ module _ {D S R O : Type 0} (k : Kit D S R O) (valid : D → D → O → Type 0)
         whole = ap (λ (i : ℕ). drop i rows.1) count ∙ drop-length rows.1;
       } in
       subst P event (more_written w w' (Run n) [] rows.1 j shown old more here)
-  run_written w w' rows n (Err x) j shown old settings entries loads ok grown gapless next cycle count legal = absurd cc
+  run_written w w' mid rows n (Err x) j shown old settings entries loads ok grown gapless same kept_gapless next cycle count legal = absurd cc
 
   -- no rows are added
   pub loaded_written : (w w' : Written D R O) (e : Entry) (load : Load D O) (x : Event D R O) (j : Journal D R O) → journal_of w ≡ j → IsWritten k valid w

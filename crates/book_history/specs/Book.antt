@@ -3,14 +3,14 @@ use Rattle.std.specs.Prelude.{◌+◌, ◌-◌, List, [], ◌∷◌, ◌++◌, l
 use Rattle.machine.specs.Kit.{Kit}
 pub use Rattle.machine.specs.Rows.{slice}
 pub use Rattle.book_history.specs.declared.segment.Segment.{Segment}
-pub use Rattle.book_history.specs.Ticket.{Ticket, drawn}
+pub use Rattle.book_history.specs.Ticket.{DrawnTicket, drawn}
 pub use Rattle.book_history.specs.State.{Book}
-pub use Rattle.book_history.specs.Event.{Settings, Event, Opened, Ran, Reloaded, Claimed, Installed, Released, Shown, Closed}
+pub use Rattle.book_history.specs.Event.{Settings, Event, Opens, Runs, Reloads, Claims, Installs, Releases, Shows, Closes}
 pub use Rattle.book_history.specs.Links.{is_open, is_joined, takes, both, free_link}
 pub use Rattle.book_history.specs.Marks.{last_cycle, last_state, cycles, lead_past, lead, settled_past, settled_to, all_joined, shown}
 pub use Rattle.book_history.specs.Run.{grid, thin, add_mark, extend}
 pub use Rattle.book_history.specs.Reload.{simulated, reloaded, chosen}
-pub use Rattle.book_history.specs.Claim.{find_link, mark_out, claim_found}
+pub use Rattle.book_history.specs.Claim.{first_link, mark_out, claim_found}
 pub use Rattle.book_history.specs.Install.{matches, has_link, is_current, reopen, joined, freed, with_segs, with_used, result_of, install_found}
 
 abbrev pub opened : {D S R O : Type 0} → Kit D S R O → D → Book D S R
@@ -41,25 +41,25 @@ reload_to k st c m ops =
     }
 
 abbrev pub step : {D S R O : Type 0} → Kit D S R O → Settings → Book D S R → Event D R O → Book D S R
-step k st c (Opened v m) = c
-step k st c (Ran n rows) = run_by k st c rows
-step k st c (Reloaded v m ops from) = reload_to k st c m ops
-step k st c (Claimed n a b by) = claim_found c by (find_link (takes by) 0 c.first c.segs)
-step k st c (Installed n j by) = install_found k c n (drawn n c.tickets)
-step k st c (Released n by) = with_used (with_segs c (freed n c.segs)) n
-step k st c (Shown s) = c
-step k st c Closed = c
+step k st c (Opens v m) = c
+step k st c (Runs n rows) = run_by k st c rows
+step k st c (Reloads v m ops from) = reload_to k st c m ops
+step k st c (Claims n a b by) = claim_found c by (first_link (takes by) 0 c.first c.segs)
+step k st c (Installs n j by) = install_found k c n (drawn n c.tickets)
+step k st c (Releases n by) = with_used (with_segs c (freed n c.segs)) n
+step k st c (Shows s) = c
+step k st c Closes = c
 
 -- a book without a version is None
 abbrev pub apply : {D S R O : Type 0} → Kit D S R O → Settings → Option (Book D S R) → Event D R O → Option (Book D S R)
-apply k st None (Opened v m) = Some (opened k m)
-apply k st None (Ran n rows) = None
-apply k st None (Reloaded v m ops from) = None
-apply k st None (Claimed n a b by) = None
-apply k st None (Installed n j by) = None
-apply k st None (Released n by) = None
-apply k st None (Shown s) = None
-apply k st None Closed = None
+apply k st None (Opens v m) = Some (opened k m)
+apply k st None (Runs n rows) = None
+apply k st None (Reloads v m ops from) = None
+apply k st None (Claims n a b by) = None
+apply k st None (Installs n j by) = None
+apply k st None (Releases n by) = None
+apply k st None (Shows s) = None
+apply k st None Closes = None
 apply k st (Some c) e = Some (step k st c e)
 
 abbrev pub replay_from : {D S R O : Type 0} → Kit D S R O → Settings → Option (Book D S R) → List (Event D R O) → Option (Book D S R)

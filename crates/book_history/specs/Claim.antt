@@ -9,9 +9,9 @@ use Rattle.book_history.specs.State.{Book}
 use Rattle.book_history.specs.Links.{takes}
 
 -- the first link that the test takes: its two cycles and the state at its beginning
-abbrev pub find_link : {S : Type 0} → (Link → Bool) → ℕ → S → List (Segment S) → Option (ℕ × ℕ × S)
-find_link p a s [] = None
-find_link p a s (g ∷ gs) = if p g.link then Some (a, g.to, s) else find_link p g.to g.state gs
+abbrev pub first_link : {S : Type 0} → (Link → Bool) → ℕ → S → List (Segment S) → Option (ℕ × ℕ × S)
+first_link p a s [] = None
+first_link p a s (g ∷ gs) = if p g.link then Some (a, g.to, s) else first_link p g.to g.state gs
 
 abbrev pub mark_out : {S : Type 0} → (Link → Bool) → ℕ → List (Segment S) → List (Segment S)
 mark_out p n [] = []

@@ -10,11 +10,11 @@ pub record Settings : Type 0 where
 
 -- an entry of a history with all its data
 pub data Event (D R O : Type 0) : Type 0 where
-  Opened : (version : ℕ) → D → Event D R O
-  Ran : (n : ℕ) → List R → Event D R O
-  Reloaded : (version : ℕ) → D → O → (from : ℕ) → Event D R O
-  Claimed : (ticket a b : ℕ) → Who → Event D R O
-  Installed : (ticket : ℕ) → (joined : Bool) → Who → Event D R O
-  Released : (ticket : ℕ) → Who → Event D R O
-  Shown : Option ℕ → Event D R O
-  Closed : Event D R O
+  Opens : (version : ℕ) → D → Event D R O
+  Runs : (n : ℕ) → List R → Event D R O
+  Reloads : (version : ℕ) → D → O → (from : ℕ) → Event D R O
+  Claims : (ticket a b : ℕ) → Who → Event D R O
+  Installs : (ticket : ℕ) → (joined : Bool) → Who → Event D R O
+  Releases : (ticket : ℕ) → Who → Event D R O
+  Shows : Option ℕ → Event D R O
+  Closes : Event D R O

@@ -2,7 +2,7 @@
 use Rattle.std.specs.Prelude.{◌≡◌, ℕ, ◌+◌, ◌<◌, ◌≤◌, ◌↔◌, List, [], ◌∷◌, ◌++◌, length, Bool, true, false, Option, Some, None}
 use Rattle.machine.specs.Kit.{Kit}
 use Rattle.book_history.specs.declared.who.Who.{Who}
-use Rattle.book_history.specs.Book.{Segment, Ticket, Book, Settings, Event, Opened, Ran, Reloaded, Claimed, Installed, Released, Shown, Closed, drawn, lead, settled_to, grid, step}
+use Rattle.book_history.specs.Book.{Segment, DrawnTicket, Book, Settings, Event, Opens, Runs, Reloads, Claims, Installs, Releases, Shows, Closes, drawn, lead, settled_to, grid, step}
 use Rattle.book_history.specs.Truth.{Current}
 
 -- version, record, marks, links and tickets drawn are the same
@@ -18,7 +18,7 @@ pub record SameBook {D S R : Type 0} (c d : Book D S R) : Type 0 where
 abbrev pub InstallIsRight : {D S R O : Type 0} → Kit D S R O → Settings → Option (Book D S R) → ℕ → Bool → Who → Type 0
 InstallIsRight k st None n j by = ⊥
 InstallIsRight {D} {S} {R} k st (Some c) n j by =
-    (t : Ticket D S R) × (drawn n c.tickets ≡ Some t) × ((j ≡ true) ↔ Current c t) × (j ≡ false → SameBook c (step k st c (Installed n j by)))
+    (t : DrawnTicket D S R) × (drawn n c.tickets ≡ Some t) × ((j ≡ true) ↔ Current c t) × (j ≡ false → SameBook c (step k st c (Installs n j by)))
 
 -- no fewer links lead, and they settle no less
 pub record Further {S : Type 0} (a : ℕ) (old new : List (Segment S)) : Type 0 where
@@ -30,14 +30,14 @@ abbrev pub ThinsNot : {D S R : Type 0} → Settings → Book D S R → List R �
 ThinsNot st c rows = length c.segs + 1 + length (grid st.interval (length c.rows) (length rows)) < 1025
 
 abbrev pub FallsNot : {D S R O : Type 0} → Kit D S R O → Settings → Book D S R → Event D R O → Type 0
-FallsNot k st c (Opened v m) = Unit {0}
-FallsNot k st c (Ran x rows) = ThinsNot st c rows → Further 0 c.segs (step k st c (Ran x rows)).segs
-FallsNot k st c (Reloaded v m ops from) = Unit {0}
-FallsNot k st c (Claimed n a b by) = Further 0 c.segs (step k st c (Claimed n a b by)).segs
-FallsNot k st c (Installed n j by) = Further 0 c.segs (step k st c (Installed n j by)).segs
-FallsNot k st c (Released n by) = Further 0 c.segs (step k st c (Released n by)).segs
-FallsNot k st c (Shown s) = Further 0 c.segs (step k st c (Shown s)).segs
-FallsNot k st c Closed = Further 0 c.segs (step k st c Closed).segs
+FallsNot k st c (Opens v m) = Unit {0}
+FallsNot k st c (Runs x rows) = ThinsNot st c rows → Further 0 c.segs (step k st c (Runs x rows)).segs
+FallsNot k st c (Reloads v m ops from) = Unit {0}
+FallsNot k st c (Claims n a b by) = Further 0 c.segs (step k st c (Claims n a b by)).segs
+FallsNot k st c (Installs n j by) = Further 0 c.segs (step k st c (Installs n j by)).segs
+FallsNot k st c (Releases n by) = Further 0 c.segs (step k st c (Releases n by)).segs
+FallsNot k st c (Shows s) = Further 0 c.segs (step k st c (Shows s)).segs
+FallsNot k st c Closes = Further 0 c.segs (step k st c Closes).segs
 
 abbrev pub LeadFallsNot : {D S R O : Type 0} → Kit D S R O → Settings → Option (Book D S R) → Event D R O → Type 0
 LeadFallsNot k st None e = Unit {0}
@@ -45,14 +45,14 @@ LeadFallsNot k st (Some c) e = FallsNot k st c e
 
 -- neither a run nor a reload
 abbrev pub IsCalm : {D R O : Type 0} → Event D R O → Type 0
-IsCalm (Opened v m) = ⊥
-IsCalm (Ran x rows) = ⊥
-IsCalm (Reloaded v m ops from) = ⊥
-IsCalm (Claimed n a b by) = Unit {0}
-IsCalm (Installed n j by) = Unit {0}
-IsCalm (Released n by) = Unit {0}
-IsCalm (Shown s) = Unit {0}
-IsCalm Closed = Unit {0}
+IsCalm (Opens v m) = ⊥
+IsCalm (Runs x rows) = ⊥
+IsCalm (Reloads v m ops from) = ⊥
+IsCalm (Claims n a b by) = Unit {0}
+IsCalm (Installs n j by) = Unit {0}
+IsCalm (Releases n by) = Unit {0}
+IsCalm (Shows s) = Unit {0}
+IsCalm Closes = Unit {0}
 
 abbrev pub AreCalm : {D R O : Type 0} → List (Event D R O) → Type 0
 AreCalm [] = Unit {0}
@@ -68,14 +68,14 @@ record_in None = []
 record_in (Some c) = c.rows
 
 abbrev pub ran_rows : {D R O : Type 0} → Event D R O → List R
-ran_rows (Opened v m) = []
-ran_rows (Ran x rows) = rows
-ran_rows (Reloaded v m ops from) = []
-ran_rows (Claimed n a b by) = []
-ran_rows (Installed n j by) = []
-ran_rows (Released n by) = []
-ran_rows (Shown s) = []
-ran_rows Closed = []
+ran_rows (Opens v m) = []
+ran_rows (Runs x rows) = rows
+ran_rows (Reloads v m ops from) = []
+ran_rows (Claims n a b by) = []
+ran_rows (Installs n j by) = []
+ran_rows (Releases n by) = []
+ran_rows (Shows s) = []
+ran_rows Closes = []
 
 -- the rows of the runs, in order
 abbrev pub record_of : {D R O : Type 0} → List (Event D R O) → List R

@@ -1,39 +1,35 @@
 -- Which histories are legal.
-use Rattle.std.specs.Prelude.{◌≡◌, ℕ, ◌+◌, ◌-◌, ◌<◌, List, [], ◌∷◌, length, Option, Some, None}
+use Rattle.std.specs.Prelude.{◌≡◌, ◌+◌, ◌-◌, ◌<◌, List, [], ◌∷◌, length, false, Option, Some, None}
 use Rattle.machine.specs.Kit.{Kit}
 use Rattle.book_history.specs.Rooms.{RoomsFrom, no_entry}
-use Rattle.book_history.specs.Book.{Ticket, Book, Settings, Event, Opened, Ran, Reloaded, Claimed, Installed, Released, Shown, Closed, takes, find_link, drawn, is_current, shown, chosen, apply}
-
--- the number isn't in the list
-abbrev pub IsNotIn : ℕ → List ℕ → Type 0
-IsNotIn n [] = Unit {0}
-IsNotIn n (m ∷ ms) = (n ≡ m → ⊥) × IsNotIn n ms
+use Rattle.book_history.specs.Tickets.{is_among}
+use Rattle.book_history.specs.Book.{DrawnTicket, Book, Settings, Event, Opens, Runs, Reloads, Claims, Installs, Releases, Shows, Closes, takes, first_link, drawn, is_current, shown, chosen, apply}
 
 -- the entry's fields are the book's answers, and its conditions hold
 abbrev pub MayFollow : {D S R O : Type 0} → Kit D S R O → (D → D → O → Type 0) → Settings → Book D S R → Event D R O → Type 0
-MayFollow k valid st c (Opened v m) = ⊥
-MayFollow k valid st c (Ran n rows) = (n ≡ length rows) × (0 < n)
-MayFollow k valid st c (Reloaded v m ops from) =
+MayFollow k valid st c (Opens v m) = ⊥
+MayFollow k valid st c (Runs n rows) = (n ≡ length rows) × (0 < n)
+MayFollow k valid st c (Reloads v m ops from) =
     (v ≡ c.version + 1) × valid c.machine m ops × (from ≡ chosen (length c.rows - st.lookback) 0 c.segs)
-MayFollow {D} {S} k valid st c (Claimed n a b by) =
-    (n ≡ length c.tickets + 1) × ((s : S) × (find_link (takes by) 0 c.first c.segs ≡ Some (a, b, s)))
-MayFollow {D} {S} {R} k valid st c (Installed n j by) =
-    (t : Ticket D S R) × (drawn n c.tickets ≡ Some t) × (t.by ≡ by) × IsNotIn n c.used × (j ≡ is_current k c t)
-MayFollow {D} {S} {R} k valid st c (Released n by) =
-    (t : Ticket D S R) × (drawn n c.tickets ≡ Some t) × (t.by ≡ by) × IsNotIn n c.used
-MayFollow k valid st c (Shown s) = s ≡ shown c.segs
-MayFollow k valid st c Closed = Unit {0}
+MayFollow {D} {S} k valid st c (Claims n a b by) =
+    (n ≡ length c.tickets + 1) × ((s : S) × (first_link (takes by) 0 c.first c.segs ≡ Some (a, b, s)))
+MayFollow {D} {S} {R} k valid st c (Installs n j by) =
+    (t : DrawnTicket D S R) × (drawn n c.tickets ≡ Some t) × (t.by ≡ by) × (is_among n c.used ≡ false) × (j ≡ is_current k c t)
+MayFollow {D} {S} {R} k valid st c (Releases n by) =
+    (t : DrawnTicket D S R) × (drawn n c.tickets ≡ Some t) × (t.by ≡ by) × (is_among n c.used ≡ false)
+MayFollow k valid st c (Shows s) = s ≡ shown c.segs
+MayFollow k valid st c Closes = Unit {0}
 
 -- before the first open, only a close
 abbrev pub MayCome : {D S R O : Type 0} → Kit D S R O → (D → D → O → Type 0) → Settings → Option (Book D S R) → Event D R O → Type 0
-MayCome k valid st None (Opened v m) = v ≡ 1
-MayCome k valid st None (Ran x rows) = ⊥
-MayCome k valid st None (Reloaded v m ops from) = ⊥
-MayCome k valid st None (Claimed n a b by) = ⊥
-MayCome k valid st None (Installed n j by) = ⊥
-MayCome k valid st None (Released n by) = ⊥
-MayCome k valid st None (Shown s) = ⊥
-MayCome k valid st None Closed = Unit {0}
+MayCome k valid st None (Opens v m) = v ≡ 1
+MayCome k valid st None (Runs x rows) = ⊥
+MayCome k valid st None (Reloads v m ops from) = ⊥
+MayCome k valid st None (Claims n a b by) = ⊥
+MayCome k valid st None (Installs n j by) = ⊥
+MayCome k valid st None (Releases n by) = ⊥
+MayCome k valid st None (Shows s) = ⊥
+MayCome k valid st None Closes = Unit {0}
 MayCome k valid st (Some c) e = MayFollow k valid st c e
 
 abbrev pub LegalFrom : {D S R O : Type 0} → Kit D S R O → (D → D → O → Type 0) → Settings → Option (Book D S R) → List (Event D R O) → Type 0

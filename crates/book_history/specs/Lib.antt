@@ -2,6 +2,7 @@ pub mod Links
 pub mod Ticket
 pub mod State
 pub mod Event
+pub mod Kind
 pub mod Marks
 pub mod Run
 pub mod Reload

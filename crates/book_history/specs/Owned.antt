@@ -1,24 +1,19 @@
 -- The session's own entries, and what begins a history.
 use Rattle.std.specs.Prelude.{◌≡◌, List, [], ◌∷◌, ◌++◌, length, drop, Bool, true, false, if◌then◌else◌}
-use Rattle.book_history.specs.declared.who.Who.{Who}
-use Rattle.book_history.specs.declared.who.Who.TheVariants.{Session, Worker}
-use Rattle.book_history.specs.Book.{Event, Opened, Ran, Reloaded, Claimed, Installed, Released, Shown, Closed}
+use Rattle.book_history.specs.Event.{Event}
+pub use Rattle.book_history.specs.Kind.{Kind, SessionsOwn, DrawsTicket, UsesTicket, EndsClaims, kind_of, is_session}
 
-abbrev pub is_session : Who → Bool
-is_session Session = true
-is_session (Worker n) = false
+-- an entry of this kind is the session's: also a close, which ends the claims of all
+abbrev pub is_of_session : Kind → Bool
+is_of_session SessionsOwn = true
+is_of_session (DrawsTicket n by) = is_session by
+is_of_session (UsesTicket n by) = is_session by
+is_of_session EndsClaims = true
 
 module _ {D R O : Type 0} where
   -- the entry is the session's own
   abbrev pub is_owned : Event D R O → Bool
-  is_owned (Opened v m) = true
-  is_owned (Ran n rows) = true
-  is_owned (Reloaded v m ops from) = true
-  is_owned (Claimed n a b by) = is_session by
-  is_owned (Installed n j by) = is_session by
-  is_owned (Released n by) = is_session by
-  is_owned (Shown s) = true
-  is_owned Closed = true
+  is_owned e = is_of_session (kind_of e)
 
   -- the session's own entries, in order
   abbrev pub owned : List (Event D R O) → List (Event D R O)

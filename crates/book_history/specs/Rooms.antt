@@ -4,7 +4,8 @@ use Rattle.machine.specs.Kit.{Kit}
 use Rattle.book_history.specs.declared.who.Who.{Who}
 use Rattle.book_history.specs.declared.who.Who.TheVariants.{Session, Worker}
 pub use Rattle.book_history.specs.Tickets.{is_among}
-use Rattle.book_history.specs.Book.{Ticket, Book, Settings, Event, Opened, Ran, Reloaded, Claimed, Installed, Released, Shown, Closed, apply}
+use Rattle.book_history.specs.Book.{DrawnTicket, Book, Settings, Event, apply}
+use Rattle.book_history.specs.Kind.{Kind, SessionsOwn, DrawsTicket, UsesTicket, EndsClaims, kind_of}
 
 abbrev pub is_worker : Who → Bool
 is_worker Session = false
@@ -15,7 +16,7 @@ one_if true = 1
 one_if false = 0
 
 -- workers' tickets that are drawn and not used up
-abbrev pub out_of : {D S R : Type 0} → List (Ticket D S R) → List ℕ → ℕ
+abbrev pub out_of : {D S R : Type 0} → List (DrawnTicket D S R) → List ℕ → ℕ
 out_of [] used = 0
 out_of (t ∷ ts) used = one_if (is_worker t.by && not (is_among (length ts + 1) used)) + out_of ts used
 
@@ -33,32 +34,30 @@ abbrev pub counted : Counts → Who → Counts
 counted n Session = record { session = n.session + 1; workers = n.workers; closed = n.closed }
 counted n (Worker w) = record { session = n.session; workers = n.workers + 1; closed = n.closed }
 
+abbrev pub count_kind : Counts → Kind → Counts
+count_kind n SessionsOwn = counted n Session
+count_kind n (DrawsTicket i by) = counted n by
+count_kind n (UsesTicket i by) = counted n by
+count_kind n EndsClaims = record { session = n.session; workers = n.workers; closed = true }
+
 abbrev pub count : {D R O : Type 0} → Counts → Event D R O → Counts
-count n (Opened v m) = counted n Session
-count n (Ran x rows) = counted n Session
-count n (Reloaded v m ops from) = counted n Session
-count n (Claimed i a b by) = counted n by
-count n (Installed i j by) = counted n by
-count n (Released i by) = counted n by
-count n (Shown s) = counted n Session
-count n Closed = record { session = n.session; workers = n.workers; closed = true }
+count n e = count_kind n (kind_of e)
 
 -- the holder has room for one entry more, beside the `out` tickets of workers that are out
 abbrev pub HasRoom : Settings → Counts → ℕ → Who → Type 0
 HasRoom st n out Session = n.session + 1 ≤ st.rooms.session
 HasRoom st n out (Worker w) = n.workers + out + 2 ≤ st.rooms.workers
 
+-- a worker's ticket has the place of its end kept from its claim on
+abbrev pub KindFits : Settings → Counts → ℕ → Kind → Type 0
+KindFits st n out SessionsOwn = HasRoom st n out Session
+KindFits st n out (DrawsTicket i by) = HasRoom st n out by × (n.closed ≡ false)
+KindFits st n out (UsesTicket i Session) = HasRoom st n out Session
+KindFits st n out (UsesTicket i (Worker w)) = Unit {0}
+KindFits st n out EndsClaims = n.closed ≡ false
+
 abbrev pub FitsRooms : {D R O : Type 0} → Settings → Counts → ℕ → Event D R O → Type 0
-FitsRooms st n out (Opened v m) = HasRoom st n out Session
-FitsRooms st n out (Ran x rows) = HasRoom st n out Session
-FitsRooms st n out (Reloaded v m ops from) = HasRoom st n out Session
-FitsRooms st n out (Claimed i a b by) = HasRoom st n out by × (n.closed ≡ false)
-FitsRooms st n out (Installed i j Session) = HasRoom st n out Session
-FitsRooms st n out (Installed i j (Worker w)) = Unit {0}
-FitsRooms st n out (Released i Session) = HasRoom st n out Session
-FitsRooms st n out (Released i (Worker w)) = Unit {0}
-FitsRooms st n out (Shown s) = HasRoom st n out Session
-FitsRooms st n out Closed = n.closed ≡ false
+FitsRooms st n out e = KindFits st n out (kind_of e)
 
 abbrev pub RoomsFrom : {D S R O : Type 0} → Kit D S R O → Settings → Counts → Option (Book D S R) → List (Event D R O) → Type 0
 RoomsFrom k st n b [] = Unit {0}

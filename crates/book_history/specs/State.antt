@@ -1,7 +1,7 @@
 -- The state of a book that has a version.
 use Rattle.std.specs.Prelude.{ℕ, List}
 use Rattle.book_history.specs.declared.segment.Segment.{Segment}
-use Rattle.book_history.specs.Ticket.{Ticket}
+use Rattle.book_history.specs.Ticket.{DrawnTicket}
 
 -- an opened book. Mark 0 is at cycle 0; tickets, the newest first, and rows only grow
 pub record Book (D S R : Type 0) : Type 0 where
@@ -10,5 +10,5 @@ pub record Book (D S R : Type 0) : Type 0 where
   pub rows : List R
   pub first : S
   pub segs : List (Segment S)
-  pub tickets : List (Ticket D S R)
+  pub tickets : List (DrawnTicket D S R)
   pub used : List ℕ

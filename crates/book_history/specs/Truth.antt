@@ -2,7 +2,7 @@ use Rattle.std.specs.Prelude.{true, ◌≡◌, ℕ, List, [], ◌∷◌, ◌⊎�
 use Rattle.machine.specs.Kit.{Kit}
 use Rattle.book_history.specs.declared.link.Link.{Link}
 use Rattle.book_history.specs.declared.link.Link.TheVariants.{Open, Out, Joined}
-use Rattle.book_history.specs.Book.{Segment, Ticket, Book, slice, drawn, all_joined, last_state}
+use Rattle.book_history.specs.Book.{Segment, DrawnTicket, Book, slice, drawn, all_joined, last_state}
 
 -- F holds of each state from the mark at a with state s on, the cycles rise, and J holds of each link between its two marks
 abbrev pub Chain : {S : Type 0} → (S → Type 0) → (Link → ℕ → S → ℕ → S → Type 0) → ℕ → S → List (Segment S) → Type 0
@@ -24,17 +24,17 @@ True k fits None = Unit {0}
 True k fits (Some c) = IsTrueBook k fits c
 
 -- the book has a link with the ticket's two cycles, and at the first of them a mark equal to its start
-abbrev pub HasLink : {D S R : Type 0} → Ticket D S R → ℕ → S → List (Segment S) → Type 0
+abbrev pub HasLink : {D S R : Type 0} → DrawnTicket D S R → ℕ → S → List (Segment S) → Type 0
 HasLink t a s [] = ⊥
 HasLink t a s (g ∷ gs) = ((a ≡ t.a) × (g.to ≡ t.b) × (s ≡ t.start)) ⊎ HasLink t g.to g.state gs
 
-abbrev pub Current : {D S R : Type 0} → Book D S R → Ticket D S R → Type 0
+abbrev pub Current : {D S R : Type 0} → Book D S R → DrawnTicket D S R → Type 0
 Current c t = (t.version ≡ c.version) × HasLink t 0 c.first c.segs
 
 -- the ticket of each link that is out was drawn and is current
 abbrev pub OutIsCurrent : {D S R : Type 0} → Book D S R → List (Segment S) → Type 0
 OutIsCurrent c [] = Unit {0}
-OutIsCurrent {D} {S} {R} c (g ∷ gs) = ((n : ℕ) → g.link ≡ Out n → (t : Ticket D S R) × (drawn n c.tickets ≡ Some t) × Current c t) × OutIsCurrent c gs
+OutIsCurrent {D} {S} {R} c (g ∷ gs) = ((n : ℕ) → g.link ≡ Out n → (t : DrawnTicket D S R) × (drawn n c.tickets ≡ Some t) × Current c t) × OutIsCurrent c gs
 
 abbrev pub OutsAreCurrent : {D S R : Type 0} → Option (Book D S R) → Type 0
 OutsAreCurrent None = Unit {0}

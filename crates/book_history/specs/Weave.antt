@@ -4,29 +4,29 @@ use Rattle.book_history.specs.declared.entry.Entry.{Entry}
 use Rattle.book_history.specs.declared.entry.Entry.TheVariants.{Open, Run, Reload, Claim, Install, Release, Show, Close}
 use Rattle.book_history.specs.declared.load.Load.{Load}
 use Rattle.book_history.specs.declared.load.Load.TheVariants as held
-use Rattle.book_history.specs.Book.{Event, Opened, Ran, Reloaded, Claimed, Installed, Released, Shown, Closed}
+use Rattle.book_history.specs.Book.{Event, Opens, Runs, Reloads, Claims, Installs, Releases, Shows, Closes}
 
 module _ {D R O : Type 0} where
   abbrev pub opened_by : ℕ → List (Load D O) → Event D R O
-  opened_by n [] = Closed
-  opened_by n (held.Open v ∷ ls) = Opened n v.value.machine.value
-  opened_by n (held.Reload v ops ∷ ls) = Closed
+  opened_by n [] = Closes
+  opened_by n (held.Open v ∷ ls) = Opens n v.value.machine.value
+  opened_by n (held.Reload v ops ∷ ls) = Closes
 
   abbrev pub reloaded_by : ℕ → ℕ → List (Load D O) → Event D R O
-  reloaded_by n from [] = Closed
-  reloaded_by n from (held.Open v ∷ ls) = Closed
-  reloaded_by n from (held.Reload v ops ∷ ls) = Reloaded n v.value.machine.value ops from
+  reloaded_by n from [] = Closes
+  reloaded_by n from (held.Open v ∷ ls) = Closes
+  reloaded_by n from (held.Reload v ops ∷ ls) = Reloads n v.value.machine.value ops.value from
 
   -- the entry with what the first load holds, and the first rows, where it needs them
   abbrev pub event_of : Entry → List (Load D O) → List R → Event D R O
   event_of (Open v) ls rows = opened_by v ls
-  event_of (Run n) ls rows = Ran n (take n rows)
+  event_of (Run n) ls rows = Runs n (take n rows)
   event_of (Reload v from) ls rows = reloaded_by v from ls
-  event_of (Claim n a b by) ls rows = Claimed n a b by
-  event_of (Install n j by) ls rows = Installed n j by
-  event_of (Release n by) ls rows = Released n by
-  event_of (Show s) ls rows = Shown s
-  event_of Close ls rows = Closed
+  event_of (Claim n a b by) ls rows = Claims n a b by
+  event_of (Install n j by) ls rows = Installs n j by
+  event_of (Release n by) ls rows = Releases n by
+  event_of (Show s) ls rows = Shows s
+  event_of Close ls rows = Closes
 
 abbrev pub tail : {A : Type 0} → List A → List A
 tail [] = []

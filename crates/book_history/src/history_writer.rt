@@ -1,7 +1,7 @@
 // A history that is being written, with room for all of its entries.
 ghost use Rattle.std.specs.Prelude.{◌≡◌, ℕ, ◌+◌, ◌≤◌, List, [], ◌∷◌, ◌++◌, length, IfOk, OnErr, OnOk};
 ghost use Rattle.machine.specs.Rows.{between, Covers};
-ghost use Rattle.book_history.specs.Book.{Opened, Ran, Reloaded};
+ghost use Rattle.book_history.specs.Book.{Opens, Runs, Reloads};
 ghost use Rattle.book_history.specs.Entries.{IsBare};
 ghost use Rattle.book_history.specs.Law.{record_of};
 ghost use Rattle.book_history.specs.Legal.{Legal};
@@ -15,6 +15,7 @@ use crate::rooms::Rooms;
 use crate::version::Version;
 use crate::written::Written;
 use machine::Machine;
+use machine::merge::merge_at;
 use machine::row_runs::{RowRuns, share_between};
 use no_memory::NoMemory;
 use std::alloc::Global;
@@ -120,9 +121,9 @@ impl<M: Machine> HistoryWriter<M> {
 
     /// The entry of an open.
     pub fn push_open(&mut self, version: Arc<Version<M>, Global>) -> Result<(), NoMemory>
-        requires legal { Legal M.kit M.valid self.old.settings (self.old.events ++ Opened version.value.number version.value.machine.value ∷ []) }
+        requires legal { Legal M.kit M.valid self.old.settings (self.old.events ++ Opens version.value.number version.value.machine.value ∷ []) }
         ensures settings { self.new.settings ≡ self.old.settings }
-        ensures ok { OnOk result (self.new.events ≡ self.old.events ++ Opened version.value.number version.value.machine.value ∷ []) }
+        ensures ok { OnOk result (self.new.events ≡ self.old.events ++ Opens version.value.number version.value.machine.value ∷ []) }
         ensures err { OnErr result (self.new.events ≡ self.old.events) }
     {
         let number = version.number;
@@ -140,12 +141,12 @@ impl<M: Machine> HistoryWriter<M> {
     pub fn push_reload(
         &mut self,
         version: Arc<Version<M>, Global>,
-        ops: M::Ops,
+        ops: Arc<M::Ops, Global>,
         from: u64,
     ) -> Result<(), NoMemory>
-        requires legal { Legal M.kit M.valid self.old.settings (self.old.events ++ Reloaded version.value.number version.value.machine.value ops from ∷ []) }
+        requires legal { Legal M.kit M.valid self.old.settings (self.old.events ++ Reloads version.value.number version.value.machine.value ops.value from ∷ []) }
         ensures settings { self.new.settings ≡ self.old.settings }
-        ensures ok { OnOk result (self.new.events ≡ self.old.events ++ Reloaded version.value.number version.value.machine.value ops from ∷ []) }
+        ensures ok { OnOk result (self.new.events ≡ self.old.events ++ Reloads version.value.number version.value.machine.value ops.value from ∷ []) }
         ensures err { OnErr result (self.new.events ≡ self.old.events) }
     {
         let number = version.number;
@@ -160,19 +161,22 @@ impl<M: Machine> HistoryWriter<M> {
         Ok(())
     }
 
-    /// The entry of a run over these rows, which begin at the current cycle.
+    /// The entry of a run over these rows, which begin at the current cycle. Where the first of them is the last row of the
+    /// record, the two are one run of rows.
     pub fn push_run(&mut self, rows: &RowRuns<M::Row>) -> Result<(), NoMemory>
         requires next { rows.now.0 ≡ length (record_of self.old.events) }
-        requires legal { Legal M.kit M.valid self.old.settings (self.old.events ++ Ran (length rows.now.1) rows.now.1 ∷ []) }
+        requires legal { Legal M.kit M.valid self.old.settings (self.old.events ++ Runs (length rows.now.1) rows.now.1 ∷ []) }
         ensures settings { self.new.settings ≡ self.old.settings }
-        ensures ok { OnOk result (self.new.events ≡ self.old.events ++ Ran (length rows.now.1) rows.now.1 ∷ []) }
+        ensures ok { OnOk result (self.new.events ≡ self.old.events ++ Runs (length rows.now.1) rows.now.1 ∷ []) }
         ensures err { OnErr result (self.new.events ≡ self.old.events) }
     {
         let end = rows.end();
         let n = end - rows.start();
+        let before = self.written.runs.len();
         if rows.append_to(&mut self.written.runs).is_err() {
             return Err(NoMemory);
         }
+        merge_at::<M>(&mut self.written.runs, before);
         self.written.cycle = end;
         self.written.entries.push_reserved(Entry::Run { n });
         Ok(())

@@ -2,7 +2,7 @@
 ghost use Rattle.std.specs.Prelude.{◌≡◌, ℕ, ◌+◌, ◌≤◌, List, [], ◌∷◌, ◌++◌, Bool, true, false, length, Some};
 ghost use Rattle.book_history.specs.declared.who.Who.{Who};
 ghost use Rattle.book_history.specs.declared.who.Who.TheVariants.{Session};
-ghost use Rattle.book_history.specs.Book.{Settings, Event, Ticket, Claimed, Installed, replay};
+ghost use Rattle.book_history.specs.Book.{Settings, Event, DrawnTicket, Claims, Installs, replay};
 ghost use Rattle.book_history.specs.Truth.{True, OutsAreCurrent, SettledIsTruth};
 ghost use Rattle.book_history.specs.Legal.{Legal};
 ghost use Rattle.book_history.specs.Rooms.{AreInRooms, count_all, no_entry};
@@ -31,22 +31,22 @@ pub fn legal_histories<M: Machine>()
     ensures outs { (st : Settings) (h : List (Event M M.Row M.Ops)) → Legal M.kit M.valid st h → OutsAreCurrent (replay M.kit st h) }
     // An install joins exactly where its ticket is current; where it doesn't, version, record, marks and links stay.
     ensures installs { (st : Settings) (xs ys : List (Event M M.Row M.Ops)) (n : ℕ) (j : Bool) (by : Who)
-        → Legal M.kit M.valid st (xs ++ Installed n j by ∷ ys) → InstallIsRight M.kit st (replay M.kit st xs) n j by }
+        → Legal M.kit M.valid st (xs ++ Installs n j by ∷ ys) → InstallIsRight M.kit st (replay M.kit st xs) n j by }
     // What is settled falls only at a reload, and at a run that thins; and so does the number of leading joined links.
     ensures leads { (st : Settings) (xs ys : List (Event M M.Row M.Ops)) (e : Event M M.Row M.Ops)
         → Legal M.kit M.valid st (xs ++ e ∷ ys) → LeadFallsNot M.kit st (replay M.kit st xs) e }
     // The session's claim and its install, with neither run nor reload between, join at least one leading link more,
     // whatever else stands between.
     ensures settles { (st : Settings) (xs es ys : List (Event M M.Row M.Ops)) (n a b : ℕ) (j : Bool)
-        → AreCalm es → Legal M.kit M.valid st (xs ++ Claimed n a b Session ∷ (es ++ Installed n j Session ∷ ys))
-        → (j ≡ true) × (lead_in (replay M.kit st xs) + 1 ≤ lead_in (replay M.kit st (xs ++ Claimed n a b Session ∷ (es ++ Installed n j Session ∷ [])))) }
+        → AreCalm es → Legal M.kit M.valid st (xs ++ Claims n a b Session ∷ (es ++ Installs n j Session ∷ ys))
+        → (j ≡ true) × (lead_in (replay M.kit st xs) + 1 ≤ lead_in (replay M.kit st (xs ++ Claims n a b Session ∷ (es ++ Installs n j Session ∷ [])))) }
 {}
 
 /// What a history says of its tickets holds of the replayed book.
 #[tactic(none)]
 pub fn tickets_of_histories<M: Machine>()
     // A ticket that is out stays so until an entry uses it up.
-    ensures still_out { (st : Settings) (h es : List (Event M M.Row M.Ops)) (n : ℕ) (t : Ticket M M.State M.Row) (by : Who)
+    ensures still_out { (st : Settings) (h es : List (Event M M.Row M.Ops)) (n : ℕ) (t : DrawnTicket M M.State M.Row) (by : Who)
         → IsOutFor (replay M.kit st h) n t by → is_used n es ≡ false → IsOutFor (replay M.kit st (h ++ es)) n t by }
     // The number of the next ticket is new to the history.
     ensures next_is_new { (st : Settings) (h : List (Event M M.Row M.Ops)) → Legal M.kit M.valid st h → (n : ℕ)

@@ -3,9 +3,9 @@ use crate::version::Version;
 use std::alloc::Global;
 use std::sync::Arc;
 
-/// The version that came, and for a reload its operations.
+/// The version that came, and for a reload its operations, shared so that a history can be copied.
 #[derive(Drop)]
 pub enum Load<D, O> {
     Open(Arc<Version<D>, Global>),
-    Reload(Arc<Version<D>, Global>, O),
+    Reload(Arc<Version<D>, Global>, Arc<O, Global>),
 }

@@ -7,7 +7,7 @@ use Rattle.machine.specs.Rows.{between}
 use Rattle.book_history.specs.declared.segment.Segment.{Segment}
 use Rattle.book_history.specs.declared.link.Link.{Link}
 use Rattle.book_history.specs.declared.link.Link.TheVariants.{Out}
-use Rattle.book_history.specs.Book.{find_link, mark_out, slice}
+use Rattle.book_history.specs.Book.{first_link, mark_out, slice}
 use Rattle.checkpoint_book.specs.Draw.{IsPlace}
 use Rattle.checkpoint_book.proofs.Places.{get_or_one}
 
@@ -18,7 +18,7 @@ set_splits (suc i) (y ∷ ys) x lt = ap (λ l. y ∷ l) (set_splits i ys x (omeg
 
 pub place_free : {S : Type 0} (p : Link → Bool) (first : S) (segs : List (Segment S)) (i a : ℕ) (s : S) (g : Segment S)
     → i < length segs → g ≡ get_or segs i g → p g.link ≡ true
-    → find_link p 0 first segs ≡ find_link p a s (drop i segs)
+    → first_link p 0 first segs ≡ first_link p a s (drop i segs)
     → ((n : ℕ) → mark_out p n segs ≡ take i segs ++ mark_out p n (drop i segs))
     → IsPlace p first segs i a s
 place_free {S} p first segs i a s g lt is free found marks =
@@ -27,7 +27,7 @@ place_free {S} p first segs i a s g lt is free found marks =
       within = lt;
       seg = g;
       is_at = is;
-      found = found ∙ ap (λ (x : List (Segment S)). find_link p a s x) e ∙ cond-true (p g.link) _ _ free;
+      found = found ∙ ap (λ (x : List (Segment S)). first_link p a s x) e ∙ cond-true (p g.link) _ _ free;
       marks = λ n.
           marks n ∙ ap (λ (x : List (Segment S)). take i segs ++ mark_out p n x) e
           ∙ ap (λ (x : List (Segment S)). take i segs ++ x) (cond-true (p g.link) _ _ free)
@@ -39,7 +39,7 @@ map-slice f xs a b = sym (take-map f (b - a) (drop a xs)) ∙ ap (λ l. take (b 
 
 -- the link that was read at i, and written
 pub record At {S : Type 0} (p : Link → Bool) (first : S) (segs : List (Segment S)) (i a : ℕ) (s : S) (g : Segment S) : Type 0 where
-  pub found : find_link p 0 first segs ≡ Some (a, g.to, s)
+  pub found : first_link p 0 first segs ≡ Some (a, g.to, s)
   pub marks : (n : ℕ) (h : Segment S) → h ≡ get_or segs i h → mark_out p n segs ≡ set segs i (record { link = Out n; to = h.to; state = h.state })
 
 pub place_at : {S : Type 0} (p : Link → Bool) (first : S) (segs segs' : List (Segment S)) (i a : ℕ) (s : S) (g : Segment S)

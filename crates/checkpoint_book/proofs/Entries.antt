@@ -10,7 +10,7 @@ use Rattle.book_history.specs.declared.who.Who.TheVariants.{Session, Worker}
 use Rattle.book_history.specs.declared.link.Link.{Link}
 use Rattle.book_history.specs.declared.segment.Segment.{Segment}
 use Rattle.book_history.specs.declared.version.Version.{Version}
-use Rattle.book_history.specs.Book.{Book, Ticket, Settings, Event, Opened as OpenedEvent, Ran, Reloaded, Claimed, Installed, Released, Shown, Closed, slice, drawn, takes, find_link, mark_out, claim_found, with_segs, last_cycle, last_state, shown, chosen, reloaded, extend, grid, opened, step, apply, replay_from}
+use Rattle.book_history.specs.Book.{Book, DrawnTicket, Settings, Event, Opens, Runs, Reloads, Claims, Installs, Releases, Shows, Closes, slice, drawn, takes, first_link, mark_out, claim_found, with_segs, last_cycle, last_state, shown, chosen, reloaded, extend, grid, opened, step, apply, replay_from}
 use Rattle.book_history.specs.Journal.{Journal}
 use Rattle.book_history.specs.Law.{record_in, record_of}
 use Rattle.book_history.specs.Legal.{MayFollow, MayCome, Legal, LegalFrom, IsNotIn}
@@ -49,7 +49,7 @@ pub record Facts {S R : Type 0} (fits : S → Type 0) (first : S) (segs : List (
   pub all_fit : AllFit fits segs
   pub rises : Rises 0 segs
   pub end : last_cycle 0 segs ≡ length rows
-  pub drawable : (p : Link → Bool) (f : ℕ × ℕ × S) → find_link p 0 first segs ≡ Some f → IsDrawable fits (length rows) f
+  pub drawable : (p : Link → Bool) (f : ℕ × ℕ × S) → first_link p 0 first segs ≡ Some f → IsDrawable fits (length rows) f
 
 pub chain_fits : {S : Type 0} (F : S → Type 0) (J : Link → ℕ → S → ℕ → S → Type 0) (a : ℕ) (s : S) (segs : List (Segment S)) → Chain F J a s segs → AllFit F segs
 chain_fits F J a s [] h = tt
@@ -107,20 +107,20 @@ module _ {D S R O : Type 0} (k : Kit D S R O) where
   -- entries
 
   pub show_next : (valid : D → D → O → Type 0) (st : Settings) (b : Option (Book D S R)) (o : Opened D S) (drawn out : ℕ) (x : Option ℕ) → Stands b (Some o) drawn out → x ≡ shown o.segs.items
-      → MayCome k valid st b (Shown x) × Stands (apply k st b (Shown x)) (Some o) drawn out
+      → MayCome k valid st b (Shows x) × Stands (apply k st b (Shows x)) (Some o) drawn out
   show_next valid st None o drawn out x s e = absurd s
   show_next valid st (Some c) o drawn out x s e = (e ∙ ap (λ (y : Book D S R). shown y.segs) (sym s.core), s)
 
   pub close_next : (valid : D → D → O → Type 0) (st : Settings) (b : Option (Book D S R)) (o : Option (Opened D S)) (drawn out : ℕ) → Stands b o drawn out
-      → MayCome k valid st b Closed × Stands (apply k st b Closed) o drawn out
+      → MayCome k valid st b Closes × Stands (apply k st b Closes) o drawn out
   close_next valid st None o drawn out s = (tt, s)
   close_next valid st (Some c) o drawn out s = (tt, s)
 
   pub open_next : (valid : D → D → O → Type 0) (st : Settings) (b : Option (Book D S R)) (o : Option (Opened D S)) (o' : Opened D S) (v : Version D) (drawn out : ℕ)
       → b ≡ None → Stands b o drawn out → v.number ≡ 1 → o'.version.value ≡ v → o'.first ≡ k.start v.machine.value → o'.segs.items ≡ [] → 1024 ≤ vec_capacity o'.segs
-      → MayCome k valid st b (OpenedEvent v.number v.machine.value) × Stands (apply k st b (OpenedEvent v.number v.machine.value)) (Some o') drawn out
+      → MayCome k valid st b (Opens v.number v.machine.value) × Stands (apply k st b (Opens v.number v.machine.value)) (Some o') drawn out
   open_next valid st b o o' v drawn out none s one version first segs room =
-      let P : Option (Book D S R) → Type 0 = λ x. Stands x o drawn out → MayCome k valid st x (OpenedEvent v.number v.machine.value) × Stands (apply k st x (OpenedEvent v.number v.machine.value)) (Some o') drawn out in
+      let P : Option (Book D S R) → Type 0 = λ x. Stands x o drawn out → MayCome k valid st x (Opens v.number v.machine.value) × Stands (apply k st x (Opens v.number v.machine.value)) (Some o') drawn out in
       let F : ℕ → D → S → List (Segment S) → Book D S R = λ n m a gs. record { version = n; machine = m; rows = []; first = a; segs = gs; tickets = []; used = [] } in
       let core : opened k v.machine.value ≡ core_of o' [] [] [] =
       ap (λ (n : ℕ). F n v.machine.value (k.start v.machine.value) []) (sym one)
@@ -141,22 +141,22 @@ module _ {D S R O : Type 0} (k : Kit D S R O) where
       → o'.version ≡ o.version → o'.first ≡ o.first
       → ((before : List R) → length before ≡ rows.0 → o'.segs.items ≡ extend k o.version.value.machine.value (before ++ rows.1) o.segs.items rows.0 (last_state o.first o.segs.items) (grid st.interval rows.0 n))
       → length o'.segs.items < 1024 → 1024 ≤ vec_capacity o'.segs
-      → MayCome k valid st b (Ran n rows.1) × Stands (apply k st b (Ran n rows.1)) (Some o') drawn out
+      → MayCome k valid st b (Runs n rows.1) × Stands (apply k st b (Runs n rows.1)) (Some o') drawn out
   run_next valid st None o o' drawn out rows n s starts count some version first items few room = absurd s
   run_next valid st (Some c) o o' drawn out rows n s starts count some version first items few room =
       let x : Book D S R = core_of o c.rows c.tickets c.used in
       let m = o.version.value.machine.value in
-      let P : Book D S R → Type 0 = λ y. MayFollow k valid st y (Ran n rows.1) × Stands (Some (step k st y (Ran n rows.1))) (Some o') drawn out in
+      let P : Book D S R → Type 0 = λ y. MayFollow k valid st y (Runs n rows.1) × Stands (Some (step k st y (Runs n rows.1))) (Some o') drawn out in
       let G : Opened D S → S → List (Segment S) → Book D S R = λ p a gs.
       record { version = p.version.value.number; machine = p.version.value.machine.value; rows = c.rows ++ rows.1; first = a; segs = gs; tickets = c.tickets; used = c.used } in
       let E : ℕ → ℕ → List (Segment S) = λ a i. extend k m (c.rows ++ rows.1) o.segs.items a (last_state o.first o.segs.items) (grid st.interval a i) in
       let segs : E (length c.rows) (length rows.1) ≡ o'.segs.items =
       ap (λ (a : ℕ). E a (length rows.1)) (sym starts) ∙ ap (λ (i : ℕ). E rows.0 i) count ∙ sym (items c.rows (sym starts)) in
-      let core : step k st x (Ran n rows.1) ≡ core_of o' (c.rows ++ rows.1) c.tickets c.used =
+      let core : step k st x (Runs n rows.1) ≡ core_of o' (c.rows ++ rows.1) c.tickets c.used =
       ap (λ (gs : List (Segment S)). G o o.first gs) segs
       ∙ ap (λ (a : S). G o a o'.segs.items) (sym first)
       ∙ ap (λ (v : Arc (Version D) Global). record { version = v.value.number; machine = v.value.machine.value; rows = c.rows ++ rows.1; first = o'.first; segs = o'.segs.items; tickets = c.tickets; used = c.used }) (sym version) in
-      let after : StandsFor (step k st x (Ran n rows.1)) o' drawn out = record { core = core; tickets = s.tickets; outs = s.outs; few = few; room = room } in
+      let after : StandsFor (step k st x (Runs n rows.1)) o' drawn out = record { core = core; tickets = s.tickets; outs = s.outs; few = few; room = room } in
       let here : P x = ((sym count, omega (arith, some)), after) in
       subst P (sym s.core) here
 
@@ -166,11 +166,11 @@ module _ {D S R O : Type 0} (k : Kit D S R O) where
       → o'.version.value ≡ v → o'.first ≡ k.start v.machine.value
       → o'.segs.items ≡ reloaded k o.version.value.machine.value v.machine.value ops (record_in b) (length (record_in b) - st.lookback) 0 (k.start v.machine.value) o.segs.items
       → length o'.segs.items < 1024 → 1024 ≤ vec_capacity o'.segs
-      → MayCome k valid st b (Reloaded v.number v.machine.value ops from) × Stands (apply k st b (Reloaded v.number v.machine.value ops from)) (Some o') drawn out
+      → MayCome k valid st b (Reloads v.number v.machine.value ops from) × Stands (apply k st b (Reloads v.number v.machine.value ops from)) (Some o') drawn out
   reload_next valid st None o o' drawn out v ops from s number lead choice version first items few room = absurd s
   reload_next valid st (Some c) o o' drawn out v ops from s number lead choice version first items few room =
       let x : Book D S R = core_of o c.rows c.tickets c.used in
-      let e : Event D R O = Reloaded v.number v.machine.value ops from in
+      let e : Event D R O = Reloads v.number v.machine.value ops from in
       let P : Book D S R → Type 0 = λ y. MayFollow k valid st y e × Stands (Some (step k st y e)) (Some o') drawn out in
       let F : ℕ → D → S → List (Segment S) → Book D S R = λ n m a gs. record { version = n; machine = m; rows = c.rows; first = a; segs = gs; tickets = c.tickets; used = c.used } in
       let next : o.version.value.number + 1 ≡ v.number = omega (arith, number, ap (λ (y : Book D S R). y.version) s.core) in
@@ -186,14 +186,14 @@ module _ {D S R O : Type 0} (k : Kit D S R O) where
 -- numbers used up are of tickets drawn
 
 pub apply_drawn : {D S R O : Type 0} (k : Kit D S R O) (valid : D → D → O → Type 0) (st : Settings) (b : Option (Book D S R)) (e : Event D R O) → UsedAreDrawn b → MayCome k valid st b e → UsedAreDrawn (apply k st b e)
-apply_drawn k valid st None (OpenedEvent v m) h may = tt
-apply_drawn k valid st None (Ran x rows) h may = tt
-apply_drawn k valid st None (Reloaded v m ops from) h may = tt
-apply_drawn k valid st None (Claimed n a b by) h may = tt
-apply_drawn k valid st None (Installed n j by) h may = tt
-apply_drawn k valid st None (Released n by) h may = tt
-apply_drawn k valid st None (Shown s) h may = tt
-apply_drawn k valid st None Closed h may = tt
+apply_drawn k valid st None (Opens v m) h may = tt
+apply_drawn k valid st None (Runs x rows) h may = tt
+apply_drawn k valid st None (Reloads v m ops from) h may = tt
+apply_drawn k valid st None (Claims n a b by) h may = tt
+apply_drawn k valid st None (Installs n j by) h may = tt
+apply_drawn k valid st None (Releases n by) h may = tt
+apply_drawn k valid st None (Shows s) h may = tt
+apply_drawn k valid st None Closes h may = tt
 apply_drawn k valid st (Some c) e h may = step_drawn k valid st c e h may
 
 pub replay_drawn : {D S R O : Type 0} (k : Kit D S R O) (valid : D → D → O → Type 0) (st : Settings) (b : Option (Book D S R)) (h : List (Event D R O)) → UsedAreDrawn b → LegalFrom k valid st b h
@@ -213,24 +213,24 @@ pub drew_drawn : (by : Who) (n : Counters) → (drew_by by n).drawn ≡ n.drawn 
 drew_drawn Session n = refl
 drew_drawn (Worker w) n = refl
 
-pub drew_out : {D S R : Type 0} (ts : List (Ticket D S R)) (us : List ℕ) (new : Ticket D S R) (by : Who) (n : Counters) → new.by ≡ by → IsNotIn (length ts + 1) us → n.out ≡ out_of ts us
+pub drew_out : {D S R : Type 0} (ts : List (DrawnTicket D S R)) (us : List ℕ) (new : DrawnTicket D S R) (by : Who) (n : Counters) → new.by ≡ by → IsNotIn (length ts + 1) us → n.out ≡ out_of ts us
     → (drew_by by n).out ≡ out_of (new ∷ ts) us
 drew_out ts us new Session n is fresh out = rw is (omega (arith, out))
 drew_out ts us new (Worker w) n is fresh out = rw (is, not_among (length ts + 1) us fresh) (omega (arith, out))
 
-pub claim_next : {D S R O : Type 0} (k : Kit D S R O) (valid : D → D → O → Type 0) (st : Settings) (b : Option (Book D S R)) (o o' : Opened D S) (n : Counters) (by : Who) (t : ℕ × Ticket D S R)
+pub claim_next : {D S R O : Type 0} (k : Kit D S R O) (valid : D → D → O → Type 0) (st : Settings) (b : Option (Book D S R)) (o o' : Opened D S) (n : Counters) (by : Who) (t : ℕ × DrawnTicket D S R)
     → UsedAreDrawn b → Stands b (Some o) n.drawn n.out → IsDrawnAs k by (n.drawn + 1) (core_of o (record_in b) [] []) (core_of o' (record_in b) [] []) t → vec_capacity o'.segs ≡ vec_capacity o.segs
-    → MayCome k valid st b (Claimed t.0 t.1.a t.1.b by) × Stands (apply k st b (Claimed t.0 t.1.a t.1.b by)) (Some o') (drew_by by n).drawn (drew_by by n).out
-    × IsOutFor (apply k st b (Claimed t.0 t.1.a t.1.b by)) t.0 t.1 by
+    → MayCome k valid st b (Claims t.0 t.1.a t.1.b by) × Stands (apply k st b (Claims t.0 t.1.a t.1.b by)) (Some o') (drew_by by n).drawn (drew_by by n).out
+    × IsOutFor (apply k st b (Claims t.0 t.1.a t.1.b by)) t.0 t.1 by
 claim_next k valid st None o o' n by t u s d cap = absurd s
 claim_next {D} {S} {R} {O} k valid st (Some c) o o' n by t u s d cap =
     let ts = c.tickets in
     let us = c.used in
     let f = d.place in
     let x : Book D S R = core_of o c.rows ts us in
-    let new : Ticket D S R = record { by = by; version = x.version; machine = x.machine; a = f.0; b = f.1; rows = slice c.rows f.0 f.1; start = f.2 } in
+    let new : DrawnTicket D S R = record { by = by; version = x.version; machine = x.machine; a = f.0; b = f.1; rows = slice c.rows f.0 f.1; start = f.2 } in
     let number : n.drawn + 1 ≡ length ts + 1 = ap (λ (i : ℕ). i + 1) s.tickets in
-    let e : Event D R O = Claimed t.0 t.1.a t.1.b by in
+    let e : Event D R O = Claims t.0 t.1.a t.1.b by in
     let P : Book D S R → Type 0 = λ y. MayFollow k valid st y e × Stands (Some (step k st y e)) (Some o') (drew_by by n).drawn (drew_by by n).out × IsOutFor (Some (step k st y e)) t.0 t.1 by in
     let Q : Option (ℕ × ℕ × S) → Type 0 = λ r. Stands (Some (claim_found x by r)) (Some o') (drew_by by n).drawn (drew_by by n).out × IsOutFor (Some (claim_found x by r)) t.0 t.1 by in
     let marked : core_of o' c.rows [] [] ≡ with_segs (core_of o c.rows [] []) (mark_out (takes by) (length ts + 1) x.segs) =
@@ -239,7 +239,7 @@ claim_next {D} {S} {R} {O} k valid st (Some c) o o' n by t u s d cap =
     ap (λ (y : Book D S R). record { version = y.version; machine = y.machine; rows = y.rows; first = y.first; segs = y.segs; tickets = new ∷ ts; used = us }) (sym marked) in
     let not_used : IsNotIn (length ts + 1) us = fresh (length ts) us u in
     let newest : drawn t.0 (new ∷ ts) ≡ Some t.1 =
-    ap (λ (i : ℕ). drawn i (new ∷ ts)) (d.number_is ∙ number) ∙ drawn_newest new ts ∙ ap (λ (y : Ticket D S R). Some y) (sym d.ticket) in
+    ap (λ (i : ℕ). drawn i (new ∷ ts)) (d.number_is ∙ number) ∙ drawn_newest new ts ∙ ap (λ (y : DrawnTicket D S R). Some y) (sym d.ticket) in
     let after : StandsFor (claim_found x by (Some f)) o' (drew_by by n).drawn (drew_by by n).out =
     record {
       core = core;
@@ -250,16 +250,16 @@ claim_next {D} {S} {R} {O} k valid st (Some c) o o' n by t u s d cap =
     } in
     let here : Q (Some f) = (
       after,
-      (newest, ap (λ (y : Ticket D S R). y.by) d.ticket, subst (λ (i : ℕ). IsNotIn i us) (sym (d.number_is ∙ number)) not_used),
+      (newest, ap (λ (y : DrawnTicket D S R). y.by) d.ticket, subst (λ (i : ℕ). IsNotIn i us) (sym (d.number_is ∙ number)) not_used),
     ) in
-    let all : Q (find_link (takes by) 0 x.first x.segs) = subst Q (sym d.found) here in
-    let place : find_link (takes by) 0 x.first x.segs ≡ Some (t.1.a, t.1.b, f.2) = d.found ∙ ap (λ (y : Ticket D S R). Some (y.a, y.b, f.2)) (sym d.ticket) in
+    let all : Q (first_link (takes by) 0 x.first x.segs) = subst Q (sym d.found) here in
+    let place : first_link (takes by) 0 x.first x.segs ≡ Some (t.1.a, t.1.b, f.2) = d.found ∙ ap (λ (y : DrawnTicket D S R). Some (y.a, y.b, f.2)) (sym d.ticket) in
     let q : P x = ((d.number_is ∙ number, (f.2, place)), all.0, all.1) in
     subst P (sym s.core) q
 
-pub none_free_is : {D S R : Type 0} (by : Who) (b : Option (Book D S R)) (o : Opened D S) (drawn out : ℕ) → Stands b (Some o) drawn out → none_free by b ≡ is_none (find_link (takes by) 0 o.first o.segs.items)
+pub none_free_is : {D S R : Type 0} (by : Who) (b : Option (Book D S R)) (o : Opened D S) (drawn out : ℕ) → Stands b (Some o) drawn out → none_free by b ≡ is_none (first_link (takes by) 0 o.first o.segs.items)
 none_free_is by None o drawn out s = absurd s
-none_free_is {D} {S} {R} by (Some c) o drawn out s = ap (λ (x : Book D S R). is_none (find_link (takes by) 0 x.first x.segs)) s.core
+none_free_is {D} {S} {R} by (Some c) o drawn out s = ap (λ (x : Book D S R). is_none (first_link (takes by) 0 x.first x.segs)) s.core
 
 pub tickets_are : {D S R : Type 0} (b : Option (Book D S R)) (o : Option (Opened D S)) (drawn out : ℕ) → Stands b o drawn out → drawn ≡ tickets_drawn b
 tickets_are None None drawn out s = s.0

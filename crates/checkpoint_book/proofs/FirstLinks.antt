@@ -5,7 +5,7 @@ use Rattle.book_history.specs.declared.link.Link.{Link}
 use Rattle.book_history.specs.declared.link.Link.TheVariants.{Open, Out, Joined}
 use Rattle.book_history.specs.declared.segment.Segment.{Segment}
 use Rattle.book_history.specs.declared.who.Who.TheVariants.{Session}
-use Rattle.book_history.specs.Book.{Book, takes, find_link, is_joined, all_joined, settled_to}
+use Rattle.book_history.specs.Book.{Book, takes, first_link, is_joined, all_joined, settled_to}
 use Rattle.checkpoint_book.specs.Views.{is_none, none_free, shown_in}
 
 takes_not_joined : (l : Link) → takes Session l ≡ not (is_joined l)
@@ -18,11 +18,11 @@ first_free : {A : Type 0} (joined rest : Bool) (x : A) (o : Option A) → is_non
 first_free true rest x o h = h
 first_free false rest x o h = refl
 
-finds_none : {S : Type 0} (a : ℕ) (s : S) (gs : List (Segment S)) → is_none (find_link (takes Session) a s gs) ≡ all_joined gs
+finds_none : {S : Type 0} (a : ℕ) (s : S) (gs : List (Segment S)) → is_none (first_link (takes Session) a s gs) ≡ all_joined gs
 finds_none a s [] = refl
 finds_none a s (g ∷ gs) =
-    ap (λ b. is_none (cond b (Some (a, g.to, s)) (find_link (takes Session) g.to g.state gs))) (takes_not_joined g.link)
-    ∙ first_free (is_joined g.link) (all_joined gs) (a, g.to, s) (find_link (takes Session) g.to g.state gs) (finds_none g.to g.state gs)
+    ap (λ b. is_none (cond b (Some (a, g.to, s)) (first_link (takes Session) g.to g.state gs))) (takes_not_joined g.link)
+    ∙ first_free (is_joined g.link) (all_joined gs) (a, g.to, s) (first_link (takes Session) g.to g.state gs) (finds_none g.to g.state gs)
 
 shows_none : (joined : Bool) (n : ℕ) → joined ≡ is_none (cond joined None (Some n))
 shows_none true n = refl

@@ -5,13 +5,13 @@ use Rattle.machine.specs.Kit.{Kit}
 use Rattle.book_history.specs.declared.link.Link.{Link}
 use Rattle.book_history.specs.declared.link.Link.TheVariants.{Joined, Out}
 use Rattle.book_history.specs.declared.segment.Segment.{Segment}
-use Rattle.book_history.specs.Book.{slice, Ticket, matches, joined, reopen, mark_out, simulated, cycles}
+use Rattle.book_history.specs.Book.{slice, DrawnTicket, matches, joined, reopen, mark_out, simulated, cycles}
 
 pub length-reopen : {S : Type 0} (xs : List (Segment S)) → length (reopen xs) ≡ length xs
 length-reopen [] = refl
 length-reopen (x ∷ xs) = refl
 
-pub length-joined : {D S R O : Type 0} (k : Kit D S R O) (m : D) (t : Ticket D S R) (r : S) (a : ℕ) (s : S) (xs : List (Segment S)) → length (joined k m t r a s xs) ≡ length xs
+pub length-joined : {D S R O : Type 0} (k : Kit D S R O) (m : D) (t : DrawnTicket D S R) (r : S) (a : ℕ) (s : S) (xs : List (Segment S)) → length (joined k m t r a s xs) ≡ length xs
 length-joined k m t r a s [] = refl
 length-joined {D} {S} k m t r a s (g ∷ gs) =
     let here : length (if k.alike m r g.state then record { link = Joined; to = g.to; state = g.state } ∷ gs else record { link = Joined; to = g.to; state = r } ∷ reopen gs) ≡ suc (length gs) =

@@ -3,7 +3,7 @@ use Rattle.std.proofs.lemmas.Bool.{cond-true}
 use Rattle.machine.specs.Kit.{Kit}
 use Rattle.book_history.specs.declared.segment.Segment.{Segment}
 use Rattle.book_history.specs.declared.link.Link.TheVariants.{Open, Joined}
-use Rattle.book_history.specs.Book.{Ticket, matches, joined}
+use Rattle.book_history.specs.Book.{DrawnTicket, matches, joined}
 use Rattle.checkpoint_book.specs.Place.{joined_at}
 
 pub joined_at_splits : {D S R O : Type 0} (k : Kit D S R O) (m : D) (r : S) (i : ℕ) (segs : List (Segment S)) → i ≤ length segs
@@ -12,7 +12,7 @@ joined_at_splits k m r zero segs h = refl
 joined_at_splits k m r (suc i) [] h = refl
 joined_at_splits k m r (suc i) (g ∷ gs) h = ap (λ l. g ∷ l) (joined_at_splits k m r i gs (omega arith))
 
-pub place_found : {D S R O : Type 0} (k : Kit D S R O) (m : D) (t : Ticket D S R) (r : S) (i a : ℕ) (s : S) (segs : List (Segment S)) (g : Segment S)
+pub place_found : {D S R O : Type 0} (k : Kit D S R O) (m : D) (t : DrawnTicket D S R) (r : S) (i a : ℕ) (s : S) (segs : List (Segment S)) (g : Segment S)
     → i < length segs → g ≡ get_or segs i g → matches k m t a s g ≡ true
     → take i segs ++ joined k m t r a s (drop i segs) ≡ joined_at k m r i segs
 place_found {D} {S} k m t r i a s segs g lt is found =

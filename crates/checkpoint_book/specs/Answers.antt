@@ -4,7 +4,7 @@ use Rattle.checkpoint_book.specs.declared.shown.Shown.{Shown}
 use Rattle.checkpoint_book.specs.declared.shown.Shown.TheVariants.{Settled, Estimate}
 use Rattle.machine.specs.Kit.{Kit}
 use Rattle.book_history.specs.declared.segment.Segment.{Segment}
-use Rattle.book_history.specs.Book.{Book, Ticket, is_current}
+use Rattle.book_history.specs.Book.{Book, DrawnTicket, is_current}
 use Rattle.checkpoint_book.specs.declared.installed.Installed.{Installed}
 use Rattle.checkpoint_book.specs.declared.installed.Installed.TheVariants.{Joined, Stale}
 use Rattle.checkpoint_book.specs.declared.why.Why.{Why}
@@ -24,10 +24,10 @@ link_or_start true = Start
 link_or_start false = Link
 
 -- the first of version, link and start that differs
-abbrev pub stale_why : {D S R : Type 0} → Book D S R → Ticket D S R → Why
+abbrev pub stale_why : {D S R : Type 0} → Book D S R → DrawnTicket D S R → Why
 stale_why c t = if eqb t.version c.version then link_or_start (has_cycles t.a t.b 0 c.segs) else Version
 
-abbrev pub install_answer : {D S R O : Type 0} → Kit D S R O → Book D S R → Ticket D S R → Installed
+abbrev pub install_answer : {D S R O : Type 0} → Kit D S R O → Book D S R → DrawnTicket D S R → Installed
 install_answer k c t = if is_current k c t then Joined else Stale t.version c.version (stale_why c t)
 
 abbrev pub shown_to : Shown → Option ℕ

@@ -2,7 +2,7 @@
 use Rattle.std.specs.Prelude.{◌≡◌, ℕ, [], ◌∷◌, ◌++◌, Bool, true, false, ◌||◌}
 use Rattle.machine.specs.Kit.{Kit}
 use Rattle.book_history.specs.declared.who.Who.{Who}
-use Rattle.book_history.specs.Book.{Ticket as Drawn, Claimed}
+use Rattle.book_history.specs.Book.{DrawnTicket, Claims}
 use Rattle.checkpoint_book.specs.declared.claimed.Claimed.{Claimed as Answer}
 use Rattle.checkpoint_book.specs.declared.claimed.Claimed.TheVariants.{Ticket, Nothing}
 use Rattle.book_history.specs.Journal.{Journal}
@@ -11,8 +11,8 @@ use Rattle.book_history.specs.Tickets.{is_drawn, is_used}
 use Rattle.checkpoint_book.specs.Views.{book_of, counts_of, none_free, is_full}
 
 -- ticket t.0 was drawn: its number is new to the history before, its claim is the one entry more, and it is out
-pub record IsDrawn {D S R O : Type 0} (k : Kit D S R O) (by : Who) (old new : Journal D R O) (t : ℕ × Drawn D S R) : Type 0 where
-  pub events : new.events ≡ old.events ++ Claimed t.0 t.1.a t.1.b by ∷ []
+pub record IsDrawn {D S R O : Type 0} (k : Kit D S R O) (by : Who) (old new : Journal D R O) (t : ℕ × DrawnTicket D S R) : Type 0 where
+  pub events : new.events ≡ old.events ++ Claims t.0 t.1.a t.1.b by ∷ []
   pub not_drawn : is_drawn t.0 old.events ≡ false
   pub not_used : is_used t.0 old.events ≡ false
   pub is_out : IsOutFor (book_of k new) t.0 t.1 by

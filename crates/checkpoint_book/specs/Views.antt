@@ -3,7 +3,7 @@ use Rattle.std.specs.Prelude.{◌≡◌, ℕ, suc, ◌+◌, ◌-◌, ◌≤◌, 
 use Rattle.machine.specs.Kit.{Kit}
 use Rattle.book_history.specs.declared.who.Who.{Who}
 use Rattle.book_history.specs.declared.who.Who.TheVariants.{Session, Worker}
-use Rattle.book_history.specs.Book.{Book, Ticket, Settings, replay, last_state, chosen, shown, find_link, takes}
+use Rattle.book_history.specs.Book.{Book, DrawnTicket, Settings, replay, last_state, chosen, shown, first_link, takes}
 use Rattle.book_history.specs.Journal.{Journal}
 use Rattle.book_history.specs.Rooms.{Counts, count_all, no_entry, out_in}
 use Rattle.checkpoint_book.specs.declared.installed.Installed.{Installed}
@@ -67,14 +67,14 @@ module _ {D S R : Type 0} where
   shown_in None = None
   shown_in (Some c) = shown c.segs
 
-  abbrev pub answer_in : {O : Type 0} → Kit D S R O → Option (Book D S R) → Ticket D S R → Installed
+  abbrev pub answer_in : {O : Type 0} → Kit D S R O → Option (Book D S R) → DrawnTicket D S R → Installed
   answer_in k None t = Joined
   answer_in k (Some c) t = install_answer k c t
 
   -- there is no link that a claim takes
   abbrev pub none_free : Who → Option (Book D S R) → Bool
   none_free by None = true
-  none_free by (Some c) = is_none (find_link (takes by) 0 c.first c.segs)
+  none_free by (Some c) = is_none (first_link (takes by) 0 c.first c.segs)
 
 -- the workers' room is full
 abbrev pub is_full : {D S R : Type 0} → Settings → Counts → Option (Book D S R) → Bool

@@ -1,6 +1,6 @@
 // The book.
 ghost use Rattle.std.specs.Prelude.{◌≡◌, ℕ, ◌+◌, ◌-◌, ◌*◌, ◌<◌, ◌≤◌, ◌^◌, length, List, [], ◌∷◌, ◌++◌, true, false, Bool, ◌||◌, None, Some, IfOk, IfSome, IfNone, OnErr, OnOk, IsTrue};
-ghost use Rattle.book_history.specs.Book.{replay, Opened as OpenedEvent, Ran, Reloaded, Installed as InstalledEvent, Released, Shown as ShownEvent, Closed};
+ghost use Rattle.book_history.specs.Book.{replay, Opens, Runs, Reloads, Installs, Releases, Shows, Closes};
 ghost use Rattle.book_history.specs.Legal.{Legal};
 ghost use Rattle.book_history.specs.Outs.{IsOutFor};
 ghost use Rattle.book_history.specs.Rooms.{HasRoom, out_in};
@@ -124,7 +124,7 @@ impl<M: Machine> Book<M> {
         requires out { IsOutFor (book_of M.kit self.old) v.0 v.1 by }
         requires room { HasRoomFor self.old by }
         ensures settings { self.new.settings ≡ self.old.settings }
-        ensures events { self.new.events ≡ self.old.events ++ InstalledEvent v.0 (is_joined_answer result) by ∷ [] }
+        ensures events { self.new.events ≡ self.old.events ++ Installs v.0 (is_joined_answer result) by ∷ [] }
         ensures answer { result ≡ answer_in M.kit (book_of M.kit self.old) v.1 }
     {
         self.history.legal();
@@ -144,7 +144,7 @@ impl<M: Machine> Book<M> {
         requires out { IsOutFor (book_of M.kit self.old) t.0 t.1 by }
         requires room { HasRoomFor self.old by }
         ensures settings { self.new.settings ≡ self.old.settings }
-        ensures events { self.new.events ≡ self.old.events ++ Released t.0 by ∷ [] }
+        ensures events { self.new.events ≡ self.old.events ++ Releases t.0 by ∷ [] }
     {
         self.history.legal();
         let ticket = t.number();
@@ -161,7 +161,7 @@ impl<M: Machine> Book<M> {
         requires opened { IsOpened (book_of M.kit self.old) }
         requires room { HasSessionRoom self.old 1 }
         ensures settings { self.new.settings ≡ self.old.settings }
-        ensures events { self.new.events ≡ self.old.events ++ ShownEvent (shown_to result) ∷ [] }
+        ensures events { self.new.events ≡ self.old.events ++ Shows (shown_to result) ∷ [] }
         ensures answer { shown_to result ≡ shown_in (book_of M.kit self.old) }
     {
         self.history.legal();
@@ -180,7 +180,7 @@ impl<M: Machine> Book<M> {
     pub fn close(&mut self)
         requires open { (counts_of self.old).closed ≡ false }
         ensures settings { self.new.settings ≡ self.old.settings }
-        ensures events { self.new.events ≡ self.old.events ++ Closed ∷ [] }
+        ensures events { self.new.events ≡ self.old.events ++ Closes ∷ [] }
     {
         self.history.legal();
         self.history.push(Entry::Close);
@@ -193,7 +193,7 @@ impl<M: Machine> Book<M> {
         requires number { version.value.number ≡ 1 }
         requires room { HasSessionRoom self.old 1 }
         ensures settings { self.new.settings ≡ self.old.settings }
-        ensures ok { OnOk result (self.new.events ≡ self.old.events ++ OpenedEvent version.value.number version.value.machine.value ∷ []) }
+        ensures ok { OnOk result (self.new.events ≡ self.old.events ++ Opens version.value.number version.value.machine.value ∷ []) }
         ensures err { OnErr result (self.new.events ≡ self.old.events) }
     {
         self.history.legal();
@@ -221,7 +221,7 @@ impl<M: Machine> Book<M> {
         requires bound { cycle_in (book_of M.kit self.old) + n ≤ 2 ^ 40 }
         requires room { HasSessionRoom self.old 1 }
         ensures settings { self.new.settings ≡ self.old.settings }
-        ensures ok { OnOk result (self.new.events ≡ self.old.events ++ Ran n rows.1 ∷ []) }
+        ensures ok { OnOk result (self.new.events ≡ self.old.events ++ Runs n rows.1 ∷ []) }
         ensures err { OnErr result (self.new.events ≡ self.old.events) }
         ensures taken { OnOk result (steps.new ≡ steps.old + n * work_in M.work (book_of M.kit self.old)) }
         ensures rises { steps.old ≤ steps.new }
@@ -252,7 +252,7 @@ impl<M: Machine> Book<M> {
         requires valid { LeadTo M.valid (book_of M.kit self.old) version.value.machine.value ops }
         requires room { HasSessionRoom self.old 1 }
         ensures settings { self.new.settings ≡ self.old.settings }
-        ensures ok { IfOk result (λ from. self.new.events ≡ self.old.events ++ Reloaded version.value.number version.value.machine.value ops from ∷ []) }
+        ensures ok { IfOk result (λ from. self.new.events ≡ self.old.events ++ Reloads version.value.number version.value.machine.value ops from ∷ []) }
         ensures chosen { IfOk result (λ from. from ≡ chosen_in self.old.settings (book_of M.kit self.old)) }
         ensures err { OnErr result (self.new.events ≡ self.old.events) }
         ensures taken { OnOk result (steps.new ≡ steps.old + (cycle_in (book_of M.kit self.old) - chosen_in self.old.settings (book_of M.kit self.old)) * M.work version.value.machine.value) }

@@ -1,7 +1,7 @@
 // A ticket is drawn for a link.
 ghost use Rattle.std.specs.Prelude.{◌≡◌, ℕ, ◌<◌, ◌≤◌, ◌+◌, length, List, [], Some, None, vec_capacity, IfOk, IfSome, IfNone, OnErr};
 ghost use Rattle.book_history.specs.declared.link.Link.TheVariants.{Out};
-ghost use Rattle.book_history.specs.Book.{takes, find_link, mark_out};
+ghost use Rattle.book_history.specs.Book.{takes, first_link, mark_out};
 ghost use Rattle.book_history.specs.Law.{record_of};
 ghost use Rattle.checkpoint_book.specs.Opened.{core_of};
 ghost use Rattle.checkpoint_book.specs.Draw.{IsPlace, IsDrawable, IsDrawnAs};
@@ -41,7 +41,7 @@ pub fn find_free<'a, S>(
     segs: &'a [Segment<S>],
     by: Who,
 ) -> Option<(usize, u64, &'a S)>
-    ensures none { IfNone result (find_link (takes by) 0 first.now segs.now ≡ None) }
+    ensures none { IfNone result (first_link (takes by) 0 first.now segs.now ≡ None) }
     ensures some { IfSome result (λ f. IsPlace (takes by) first.now segs.now f.0 f.1 f.2.now) }
 {
     let mut a = 0;
@@ -65,12 +65,12 @@ pub fn draw<M: Machine>(
     number: u64,
     by: Who,
 ) -> Result<Option<Ticket<M>>, NoMemory>
-    requires drawable { (f : ℕ × ℕ × M.State) → find_link (takes by) 0 o.old.first o.old.segs.items ≡ Some f
+    requires drawable { (f : ℕ × ℕ × M.State) → first_link (takes by) 0 o.old.first o.old.segs.items ≡ Some f
         → IsDrawable (M.fits o.old.version.value.machine.value) (length (record_of history.now.events)) f }
-    ensures none { IfOk result (λ r. IfNone r ((o.new ≡ o.old) × (find_link (takes by) 0 o.old.first o.old.segs.items ≡ None))) }
+    ensures none { IfOk result (λ r. IfNone r ((o.new ≡ o.old) × (first_link (takes by) 0 o.old.first o.old.segs.items ≡ None))) }
     ensures some { IfOk result (λ r. IfSome r (λ t. IsDrawnAs M.kit by number (core_of o.old (record_of history.now.events) [] []) (core_of o.new (record_of history.now.events) [] []) t)) }
     ensures capacity { vec_capacity o.new.segs ≡ vec_capacity o.old.segs }
-    ensures err { OnErr result ((o.new ≡ o.old) × ((f : ℕ × ℕ × M.State) × (find_link (takes by) 0 o.old.first o.old.segs.items ≡ Some f))) }
+    ensures err { OnErr result ((o.new ≡ o.old) × ((f : ℕ × ℕ × M.State) × (first_link (takes by) 0 o.old.first o.old.segs.items ≡ Some f))) }
 {
     let Some((i, a, start)) = find_free(&o.first, &o.segs, by) else {
         return Ok(None);

@@ -24,10 +24,10 @@ pub struct Ticket<M: Machine> {
 
 impl<M: Machine> Model for Ticket<M> {
     ghost use Rattle.std.specs.Prelude.{ℕ};
-    ghost use Rattle.book_history.specs.Book.{Ticket as Drawn};
+    ghost use Rattle.book_history.specs.Book.{DrawnTicket};
     ghost use Rattle.checkpoint_book.specs.Tickets.{IsTicket};
 
-    ghost Value = { ℕ × Drawn M M.State M.Row };
+    ghost Value = { ℕ × DrawnTicket M M.State M.Row };
 
     ghost view = { λ t. (t.number, record { by = t.by; version = t.version.value.number; machine = t.version.value.machine.value; a = t.a; b = t.b; rows = t.rows.1; start = t.start }) };
 

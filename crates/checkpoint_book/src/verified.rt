@@ -15,9 +15,9 @@ pub struct Verified<M: Machine> {
 
 impl<M: Machine> Model for Verified<M> {
     ghost use Rattle.std.specs.Prelude.{◌≡◌, ℕ};
-    ghost use Rattle.book_history.specs.Book.{Ticket as Drawn, result_of};
+    ghost use Rattle.book_history.specs.Book.{DrawnTicket, result_of};
 
-    ghost Value = { ℕ × Drawn M M.State M.Row };
+    ghost Value = { ℕ × DrawnTicket M M.State M.Row };
 
     ghost view = { λ v. v.ticket };
 

@@ -16,7 +16,7 @@ returns-clause-all c = refl
 pub returns-clause-all_legal : goal.returns-clause-all_legal
 returns-clause-all_legal c =
     record {
-      follows = (refl, ((refl, omega arith), ((refl, tt, refl), ((refl, (0, refl)), ((_, refl, refl, tt, refl), ((refl, (8, refl)), ((_, refl, refl, (omega arith, tt), refl), (refl, ((refl, (16, refl)), ((_, refl, refl, (omega arith, (omega arith, tt)), refl), (refl, tt)))))))))));
+      follows = (refl, ((refl, omega arith), ((refl, tt, refl), ((refl, (0, refl)), ((_, refl, refl, refl, refl), ((refl, (8, refl)), ((_, refl, refl, refl, refl), (refl, ((refl, (16, refl)), ((_, refl, refl, refl, refl), (refl, tt)))))))))));
       in_rooms = (omega arith, (omega arith, (omega arith, ((omega arith, refl), (omega arith, ((omega arith, refl), (omega arith, (omega arith, ((omega arith, refl), (omega arith, (omega arith, tt)))))))))));
     }
 
@@ -29,7 +29,7 @@ returns-clause-stale c = refl
 pub returns-clause-stale_legal : goal.returns-clause-stale_legal
 returns-clause-stale_legal c =
     record {
-      follows = (refl, ((refl, omega arith), ((refl, tt, refl), ((refl, (0, refl)), ((refl, tt, refl), ((_, refl, refl, tt, refl), ((refl, (0, refl)), ((refl, (6, refl)), ((_, refl, refl, (omega arith, tt), refl), ((_, refl, refl, (omega arith, (omega arith, tt)), refl), ((refl, (10, refl)), ((_, refl, refl, (omega arith, (omega arith, (omega arith, tt)))), ((refl, (10, refl)), ((_, refl, refl, (omega arith, (omega arith, (omega arith, (omega arith, tt)))), refl), (refl, ((refl, (20, refl)), ((_, refl, refl, (omega arith, (omega arith, (omega arith, (omega arith, (omega arith, tt))))), refl), (refl, tt))))))))))))))))));
+      follows = (refl, ((refl, omega arith), ((refl, tt, refl), ((refl, (0, refl)), ((refl, tt, refl), ((_, refl, refl, refl, refl), ((refl, (0, refl)), ((refl, (6, refl)), ((_, refl, refl, refl, refl), ((_, refl, refl, refl, refl), ((refl, (10, refl)), ((_, refl, refl, refl), ((refl, (10, refl)), ((_, refl, refl, refl, refl), (refl, ((refl, (20, refl)), ((_, refl, refl, refl, refl), (refl, tt))))))))))))))))));
       in_rooms = (omega arith, (omega arith, (omega arith, ((omega arith, refl), (omega arith, (tt, ((omega arith, refl), ((omega arith, refl), (tt, (tt, ((omega arith, refl), (tt, ((omega arith, refl), (tt, (omega arith, ((omega arith, refl), (tt, (omega arith, tt))))))))))))))))));
     }
 
@@ -42,7 +42,7 @@ returns-clause-merges c = refl
 pub returns-clause-twice_legal : goal.returns-clause-twice_legal
 returns-clause-twice_legal c =
     record {
-      follows = (refl, ((refl, omega arith), ((refl, tt, refl), ((refl, (0, refl)), ((refl, (0, refl)), ((_, refl, refl, tt, refl), ((_, refl, refl, (omega arith, tt), refl), tt)))))));
+      follows = (refl, ((refl, omega arith), ((refl, tt, refl), ((refl, (0, refl)), ((refl, (0, refl)), ((_, refl, refl, refl, refl), ((_, refl, refl, refl, refl), tt)))))));
       in_rooms = (omega arith, (omega arith, (omega arith, ((omega arith, refl), ((omega arith, refl), (omega arith, (omega arith, tt)))))));
     }
 
@@ -52,7 +52,7 @@ returns-clause-once c = refl
 pub returns-clause-once_legal : goal.returns-clause-once_legal
 returns-clause-once_legal c =
     record {
-      follows = (refl, ((refl, omega arith), ((refl, tt, refl), ((refl, (0, refl)), ((refl, tt, refl), ((_, refl, refl, tt, refl), tt))))));
+      follows = (refl, ((refl, omega arith), ((refl, tt, refl), ((refl, (0, refl)), ((refl, tt, refl), ((_, refl, refl, refl, refl), tt))))));
       in_rooms = (omega arith, (omega arith, (omega arith, ((omega arith, refl), (omega arith, (omega arith, tt))))));
     }
 

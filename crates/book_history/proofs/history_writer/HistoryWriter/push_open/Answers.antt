@@ -4,7 +4,7 @@ use Rattle.book_history.specs.declared.version.Version.{Version}
 use Rattle.book_history.specs.declared.load.Load.{Load}
 use Rattle.book_history.specs.declared.load.Load.TheVariants as held
 use Rattle.book_history.specs.declared.entry.Entry.TheVariants.{Open}
-use Rattle.book_history.specs.Book.{Opened}
+use Rattle.book_history.specs.Book.{Opens}
 use Rattle.book_history.proofs.Writings.{has_place, loaded_written}
 use Rattle.book_history.proofs.history_writer.HistoryWriter.push_open.Goals as goal
 
@@ -23,7 +23,7 @@ invariant_of-self-2 g c =
     c.push_reserved-2.ensures.items ∙ ap (λ (x : Version g.row.M.Denot). w.entries.items ++ (Open x.number) ∷ []) c.deref.ensures in
     let loads : new.loads.items ≡ w.loads.items ++ (held.Open c.args.version) ∷ [] =
     c.push_reserved.ensures.items ∙ ap (λ (l : List (Load g.row.M.Denot g.row.M-Ops.Denot)). l ++ (held.Open c.args.version) ∷ []) c.reserve.ensures.items in (
-      (loaded_written m.kit m.valid w new (Open c.args.version.value.number) (held.Open c.args.version) (Opened c.args.version.value.number c.args.version.value.machine.value) c.args.self.now c.self.view_is c.self.invariant.0
+      (loaded_written m.kit m.valid w new (Open c.args.version.value.number) (held.Open c.args.version) (Opens c.args.version.value.number c.args.version.value.machine.value) c.args.self.now c.self.view_is c.self.invariant.0
           refl entries loads refl refl refl refl refl refl c.requires.legal).0,
       omega (arith, c.push_reserved-2.ensures.capacity, c.self.invariant.1),
     )
@@ -38,5 +38,5 @@ returns-clause-ok g c =
     c.push_reserved-2.ensures.items ∙ ap (λ (x : Version g.row.M.Denot). w.entries.items ++ (Open x.number) ∷ []) c.deref.ensures in
     let loads : new.loads.items ≡ w.loads.items ++ (held.Open c.args.version) ∷ [] =
     c.push_reserved.ensures.items ∙ ap (λ (l : List (Load g.row.M.Denot g.row.M-Ops.Denot)). l ++ (held.Open c.args.version) ∷ []) c.reserve.ensures.items in
-    (loaded_written m.kit m.valid w new (Open c.args.version.value.number) (held.Open c.args.version) (Opened c.args.version.value.number c.args.version.value.machine.value) c.args.self.now c.self.view_is c.self.invariant.0
+    (loaded_written m.kit m.valid w new (Open c.args.version.value.number) (held.Open c.args.version) (Opens c.args.version.value.number c.args.version.value.machine.value) c.args.self.now c.self.view_is c.self.invariant.0
     refl entries loads refl refl refl refl refl refl c.requires.legal).1

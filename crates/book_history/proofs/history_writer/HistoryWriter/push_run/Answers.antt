@@ -13,9 +13,9 @@ invariant_of-self-2 g c =
     let m = g.M.Machine in
     let w = c.self.inside.written in
     let new : Written g.row.M.Denot g.row.M-Row.Denot g.row.M-Ops.Denot =
-    record { interval = w.interval; lookback = w.lookback; rooms = w.rooms; cycle = c.end-end.result; entries = c.push_reserved.new.self; loads = w.loads; runs = c.append_to.new.list } in (
-      (run_written m.kit m.valid w new c.args.rows.now (c.end-end.result - c.start.result) c.append_to.result c.args.self.now c.self.view_is c.self.invariant.0 refl c.push_reserved.ensures.items refl
-          (sym c.is_err.ensures.value ∙ c.if-is_err.false) c.append_to.ensures.rows c.append_to.ensures.gapless c.requires.next c.end-end.ensures (omega (arith, c.end-end.ensures, c.start.ensures)) c.requires.legal).0,
+    record { interval = w.interval; lookback = w.lookback; rooms = w.rooms; cycle = c.end-end.result; entries = c.push_reserved.new.self; loads = w.loads; runs = c.merge_at.new.list } in (
+      (run_written m.kit m.valid w new c.append_to.new.list.items c.args.rows.now (c.end-end.result - c.start.result) c.append_to.result c.args.self.now c.self.view_is c.self.invariant.0 refl c.push_reserved.ensures.items refl
+          (sym c.is_err.ensures.value ∙ c.if-is_err.false) c.append_to.ensures.rows c.append_to.ensures.gapless c.merge_at.ensures.rows c.merge_at.ensures.gapless c.requires.next c.end-end.ensures (omega (arith, c.end-end.ensures, c.start.ensures)) c.requires.legal).0,
       omega (arith, c.push_reserved.ensures.capacity, c.self.invariant.1),
     )
 
@@ -24,6 +24,6 @@ returns-clause-ok g c =
     let m = g.M.Machine in
     let w = c.self.inside.written in
     let new : Written g.row.M.Denot g.row.M-Row.Denot g.row.M-Ops.Denot =
-    record { interval = w.interval; lookback = w.lookback; rooms = w.rooms; cycle = c.end-end.result; entries = c.push_reserved.new.self; loads = w.loads; runs = c.append_to.new.list } in
-    (run_written m.kit m.valid w new c.args.rows.now (c.end-end.result - c.start.result) c.append_to.result c.args.self.now c.self.view_is c.self.invariant.0 refl c.push_reserved.ensures.items refl
-    (sym c.is_err.ensures.value ∙ c.if-is_err.false) c.append_to.ensures.rows c.append_to.ensures.gapless c.requires.next c.end-end.ensures (omega (arith, c.end-end.ensures, c.start.ensures)) c.requires.legal).1
+    record { interval = w.interval; lookback = w.lookback; rooms = w.rooms; cycle = c.end-end.result; entries = c.push_reserved.new.self; loads = w.loads; runs = c.merge_at.new.list } in
+    (run_written m.kit m.valid w new c.append_to.new.list.items c.args.rows.now (c.end-end.result - c.start.result) c.append_to.result c.args.self.now c.self.view_is c.self.invariant.0 refl c.push_reserved.ensures.items refl
+    (sym c.is_err.ensures.value ∙ c.if-is_err.false) c.append_to.ensures.rows c.append_to.ensures.gapless c.merge_at.ensures.rows c.merge_at.ensures.gapless c.requires.next c.end-end.ensures (omega (arith, c.end-end.ensures, c.start.ensures)) c.requires.legal).1

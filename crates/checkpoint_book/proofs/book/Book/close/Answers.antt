@@ -1,5 +1,5 @@
 use Rattle.std.proofs.Common.{◌≡◌, sym, ◌∙◌, ap, subst, refl, false}
-use Rattle.book_history.specs.Book.{Closed}
+use Rattle.book_history.specs.Book.{Closes}
 use Rattle.book_history.specs.Journal.{Journal}
 use Rattle.book_history.specs.Rooms.{Counts}
 use Rattle.checkpoint_book.specs.Counts.{closing}
@@ -18,7 +18,7 @@ push-requires-clause-legal g c κs within =
     let next = close_next m.kit m.valid j.settings (book_of m.kit j) o n.drawn n.out kept.stands in
     let Q : Journal g.row.M.Denot g.row.M-Row.Denot g.row.M-Ops.Denot → Type 0 = λ x. (counts_of x).closed ≡ false in
     let not_closed : Q j = subst Q (sym c.self.view_is) c.requires.open in
-    legal_next m.kit m.valid j Closed o n kept c.legal.ensures next.0 (sym (ap (λ (x : Counts). x.closed) kept.counted) ∙ not_closed)
+    legal_next m.kit m.valid j Closes o n kept c.legal.ensures next.0 (sym (ap (λ (x : Counts). x.closed) kept.counted) ∙ not_closed)
 
 pub invariant_of-self : goal.invariant_of-self
 invariant_of-self g c =
@@ -28,4 +28,4 @@ invariant_of-self g c =
     let o = c.self.inside.opened in
     let kept = c.self.invariant in
     let next = close_next m.kit m.valid j.settings (book_of m.kit j) o n.drawn n.out kept.stands in
-    kept_more m.kit j c.push.new.self Closed o o n (closing n) kept c.push.ensures.settings c.push.ensures.events next.1 refl kept.fewer
+    kept_more m.kit j c.push.new.self Closes o o n (closing n) kept c.push.ensures.settings c.push.ensures.events next.1 refl kept.fewer

@@ -1,6 +1,6 @@
 use Rattle.std.proofs.Common.{◌≡◌, [], sym, ◌∙◌, ap, subst}
 use Rattle.std.specs.Prelude.{Option, Some}
-use Rattle.book_history.specs.Book.{Installed}
+use Rattle.book_history.specs.Book.{Installs}
 use Rattle.book_history.specs.Journal.{Journal}
 use Rattle.book_history.specs.Outs.{IsOutFor}
 use Rattle.checkpoint_book.specs.declared.opened.Opened.{Opened}
@@ -33,7 +33,7 @@ push-requires-clause-legal g c κs within =
       book = c.install_in-answer.ensures.book;
       capacity = c.install_in-answer.ensures.capacity;
     }) in
-    rw num (legal_next m.kit m.valid j (Installed c.args.v.0 joined c.args.by) (Some o) n kept c.legal.ensures next.0 (install_fits g.row.M.Denot g.row.M-Row.Denot g.row.M-Ops.Denot j.settings n c.args.v.0 joined c.args.by (room_of j n c.args.by kept.counted room)))
+    rw num (legal_next m.kit m.valid j (Installs c.args.v.0 joined c.args.by) (Some o) n kept c.legal.ensures next.0 (install_fits g.row.M.Denot g.row.M-Row.Denot g.row.M-Ops.Denot j.settings n c.args.v.0 joined c.args.by (room_of j n c.args.by kept.counted room)))
 
 pub used-self-inside-requires : goal.used-self-inside-requires
 used-self-inside-requires g c =
@@ -59,6 +59,6 @@ invariant_of-self g c =
       book = c.install_in-answer.ensures.book;
       capacity = c.install_in-answer.ensures.capacity;
     }) in
-    let after = kept_more m.kit j c.push.new.self (Installed c.args.v.0 joined c.args.by) (Some o) (Some c.install_in-answer.new.o) n (used_by c.args.by n) kept c.push.ensures.settings (rw num at c.push.ensures.events)
+    let after = kept_more m.kit j c.push.new.self (Installs c.args.v.0 joined c.args.by) (Some o) (Some c.install_in-answer.new.o) n (used_by c.args.by n) kept c.push.ensures.settings (rw num at c.push.ensures.events)
     next.1 (used_counts c.args.by n) (used_fewer c.args.by n kept.fewer) in
     subst (λ (x : Counters). IsKept m.kit c.push.new.self (Some c.install_in-answer.new.o) x) (sym c.used-self-inside.ensures) after

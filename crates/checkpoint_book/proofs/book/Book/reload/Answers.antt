@@ -1,6 +1,6 @@
 use Rattle.std.proofs.Common.{◌≡◌, ◌≤◌, ℕ, List, ◌+◌, ◌-◌, ◌*◌, sym, ◌∙◌, ap, subst, refl, arith, length}
 use Rattle.std.specs.Prelude.{Option, Some, None}
-use Rattle.book_history.specs.Book.{Reloaded, chosen, reloaded}
+use Rattle.book_history.specs.Book.{Reloads, chosen, reloaded}
 use Rattle.book_history.specs.Journal.{Journal}
 use Rattle.book_history.specs.declared.segment.Segment.{Segment}
 use Rattle.book_history.specs.declared.version.Version.{Version}
@@ -229,7 +229,7 @@ push_reload-requires-clause-legal g c κs within =
     let first : o'.first ≡ m.kit.start v.machine.value = is.first ∙ ap (λ (x : Version g.row.M.Denot). m.kit.start x.machine.value) (sym same_v) in
     let from_is : c.in_ok-next.from ≡ chosen (length (record_in b) - j.settings.lookback) 0 segs = c.in_ok-next.ensures.cycle ∙ ap (λ (x : ℕ). chosen x 0 segs) limit_is in
     let next = reload_next m.kit m.valid j.settings b o o' n.drawn n.out v c.args.ops c.in_ok-next.from kept.stands number lead from_is (sym c.in_ok-version.ensures) first items is.few is.room in
-    let event = Reloaded v.number v.machine.value c.args.ops c.in_ok-next.from in
+    let event = Reloads v.number v.machine.value c.args.ops c.in_ok-next.from in
     legal_next m.kit m.valid j event (Some o) n kept c.legal.ensures next.0 fits
 
 pub one_of_session-self-inside-requires : goal.one_of_session-self-inside-requires
@@ -276,6 +276,6 @@ invariant_of-self-2 g c =
     let first : o'.first ≡ m.kit.start v.machine.value = is.first ∙ ap (λ (x : Version g.row.M.Denot). m.kit.start x.machine.value) (sym same_v) in
     let from_is : c.in_ok-next.from ≡ chosen (length (record_in b) - j.settings.lookback) 0 segs = c.in_ok-next.ensures.cycle ∙ ap (λ (x : ℕ). chosen x 0 segs) limit_is in
     let next = reload_next m.kit m.valid j.settings b o o' n.drawn n.out v c.args.ops c.in_ok-next.from kept.stands number lead from_is (sym c.in_ok-version.ensures) first items is.few is.room in
-    let event = Reloaded v.number v.machine.value c.args.ops c.in_ok-next.from in
+    let event = Reloads v.number v.machine.value c.args.ops c.in_ok-next.from in
     let after = kept_more m.kit j c.push_reload.new.self event (Some o) (Some o') n (one_more n) kept c.push_reload.ensures.settings c.in_ok-push_reload.ensures.ok next.1 refl (omega (arith, kept.fewer)) in
     subst (λ (x : Counters). IsKept m.kit c.push_reload.new.self (Some o') x) (sym c.one_of_session-self-inside.ensures) after

@@ -1,6 +1,6 @@
 use Rattle.std.proofs.Common.{◌≡◌, ◌≤◌, ℕ, List, [], ◌∷◌, ◌++◌, ◌+◌, sym, ◌∙◌, ap, subst, refl, arith, length}
 use Rattle.std.specs.Prelude.{Option, Some, None}
-use Rattle.book_history.specs.Book.{Ran, extend, last_state, grid}
+use Rattle.book_history.specs.Book.{Runs, extend, last_state, grid}
 use Rattle.book_history.specs.Journal.{Journal}
 use Rattle.book_history.specs.Legal.{Legal}
 use Rattle.book_history.specs.Rooms.{Counts}
@@ -46,8 +46,8 @@ push_run-requires-clause-legal g c κs within =
     let o' : Opened g.row.M.Denot g.row.M-State.Denot = record { version = o.version; first = o.first; segs = c.in_ok-segs.segs } in
     let items = λ (before : List g.row.M-Row.Denot) (len : length before ≡ c.args.rows.0). c.in_ok-segs.ensures.items before len ∙ ap (λ (i : ℕ). extend m.kit o.version.value.machine.value (before ++ c.args.rows.1) o.segs.items c.args.rows.0 (last_state o.first o.segs.items) (grid i c.args.rows.0 c.args.n)) c.interval.ensures in
     let next = run_next m.kit m.valid j.settings (book_of m.kit j) o o' n.drawn n.out c.args.rows c.args.n kept.stands starts c.requires.count c.requires.some refl refl items c.in_ok-segs.ensures.few c.in_ok-segs.ensures.room in
-    let here = legal_next m.kit m.valid j (Ran c.args.n c.args.rows.1) (Some o) n kept c.legal.ensures next.0 fits in
-    subst (λ (i : ℕ). Legal m.kit m.valid j.settings (j.events ++ Ran i c.args.rows.1 ∷ [])) (sym c.requires.count) here
+    let here = legal_next m.kit m.valid j (Runs c.args.n c.args.rows.1) (Some o) n kept c.legal.ensures next.0 fits in
+    subst (λ (i : ℕ). Legal m.kit m.valid j.settings (j.events ++ Runs i c.args.rows.1 ∷ [])) (sym c.requires.count) here
 
 pub one_of_session-self-inside-requires : goal.one_of_session-self-inside-requires
 one_of_session-self-inside-requires g c =
@@ -69,8 +69,8 @@ invariant_of-self-2 g c =
     let o' : Opened g.row.M.Denot g.row.M-State.Denot = record { version = o.version; first = o.first; segs = c.in_ok-segs.segs } in
     let items = λ (before : List g.row.M-Row.Denot) (len : length before ≡ c.args.rows.0). c.in_ok-segs.ensures.items before len ∙ ap (λ (i : ℕ). extend m.kit o.version.value.machine.value (before ++ c.args.rows.1) o.segs.items c.args.rows.0 (last_state o.first o.segs.items) (grid i c.args.rows.0 c.args.n)) c.interval.ensures in
     let next = run_next m.kit m.valid j.settings (book_of m.kit j) o o' n.drawn n.out c.args.rows c.args.n kept.stands starts c.requires.count c.requires.some refl refl items c.in_ok-segs.ensures.few c.in_ok-segs.ensures.room in
-    let events = c.in_ok-push_run.ensures.ok ∙ ap (λ (i : ℕ). j.events ++ Ran i c.args.rows.1 ∷ []) c.requires.count in
-    let after = kept_more m.kit j c.push_run.new.self (Ran c.args.n c.args.rows.1) (Some o) (Some o') n (one_more n) kept c.push_run.ensures.settings events next.1 refl (omega (arith, kept.fewer)) in
+    let events = c.in_ok-push_run.ensures.ok ∙ ap (λ (i : ℕ). j.events ++ Runs i c.args.rows.1 ∷ []) c.requires.count in
+    let after = kept_more m.kit j c.push_run.new.self (Runs c.args.n c.args.rows.1) (Some o) (Some o') n (one_more n) kept c.push_run.ensures.settings events next.1 refl (omega (arith, kept.fewer)) in
     let same : o' ≡ c.replace_segs.new.o = replaced o c.replace_segs.new.o c.in_ok-segs.segs c.replace_segs.ensures.version c.replace_segs.ensures.first c.replace_segs.ensures.segs in
     let moved : IsKept m.kit c.push_run.new.self (Some c.replace_segs.new.o) (one_more n) = subst (λ (x : Opened g.row.M.Denot g.row.M-State.Denot). IsKept m.kit c.push_run.new.self (Some x) (one_more n)) same after in
     subst (λ (x : Counters). IsKept m.kit c.push_run.new.self (Some c.replace_segs.new.o) x) (sym c.one_of_session-self-inside.ensures) moved

@@ -1,6 +1,6 @@
 use Rattle.std.proofs.Common.{◌≤◌, List, ◌+◌, sym, ◌∙◌, ap, subst, refl, arith}
 use Rattle.std.specs.Prelude.{Option, Some}
-use Rattle.book_history.specs.Book.{Shown, shown}
+use Rattle.book_history.specs.Book.{Shows, shown}
 use Rattle.book_history.specs.Journal.{Journal}
 use Rattle.book_history.specs.declared.segment.Segment.{Segment}
 use Rattle.book_history.specs.Rooms.{Counts}
@@ -25,7 +25,7 @@ push-requires-clause-legal g c κs within =
     let fits : n.session + 1 ≤ j.settings.rooms.session = omega (arith, room, ap (λ (x : Counts). x.session) c.self.invariant.counted) in
     let e = c.settled_to-2.ensures ∙ c.shown-answer.ensures ∙ c.settled_to.ensures ∙ ap (λ (l : List (Segment g.row.M-State.Denot)). shown l) c.deref.ensures.value in
     let next = show_next m.kit m.valid j.settings (book_of m.kit j) o n.drawn n.out c.settled_to-2.result kept.stands e in
-    legal_next m.kit m.valid j (Shown c.settled_to-2.result) (Some o) n kept c.legal.ensures next.0 fits
+    legal_next m.kit m.valid j (Shows c.settled_to-2.result) (Some o) n kept c.legal.ensures next.0 fits
 
 pub one_of_session-self-inside-requires : goal.one_of_session-self-inside-requires
 one_of_session-self-inside-requires g c =
@@ -44,6 +44,6 @@ invariant_of-self g c =
     let fits : n.session + 1 ≤ j.settings.rooms.session = omega (arith, room, ap (λ (x : Counts). x.session) c.self.invariant.counted) in
     let e = c.settled_to-2.ensures ∙ c.shown-answer.ensures ∙ c.settled_to.ensures ∙ ap (λ (l : List (Segment g.row.M-State.Denot)). shown l) c.deref.ensures.value in
     let next = show_next m.kit m.valid j.settings (book_of m.kit j) o n.drawn n.out c.settled_to-2.result kept.stands e in
-    let after = kept_more m.kit j c.push.new.self (Shown c.settled_to-2.result) (Some o) (Some o) n (one_more n) kept c.push.ensures.settings c.push.ensures.events next.1 refl (omega (arith, kept.fewer)) in
+    let after = kept_more m.kit j c.push.new.self (Shows c.settled_to-2.result) (Some o) (Some o) n (one_more n) kept c.push.ensures.settings c.push.ensures.events next.1 refl (omega (arith, kept.fewer)) in
     let back : IsKept m.kit c.push.new.self c.self.inside.opened (one_more n) = subst (λ (x : Option (Opened g.row.M.Denot g.row.M-State.Denot)). IsKept m.kit c.push.new.self x (one_more n)) (sym c.in-Some.is) after in
     subst (λ (x : Counters). IsKept m.kit c.push.new.self c.self.inside.opened x) (sym c.one_of_session-self-inside.ensures) back

@@ -1,6 +1,6 @@
 use Rattle.std.proofs.Common.{◌≡◌, ℕ, List, [], ◌∷◌, ◌++◌, ◌+◌, sym, ◌∙◌, ap, subst, arith, false}
 use Rattle.std.specs.Prelude.{Option, Some, None}
-use Rattle.book_history.specs.Book.{Event, Claimed, Book, Settings, apply, takes, replay}
+use Rattle.book_history.specs.Book.{Event, Claims, Book, Settings, apply, takes, replay}
 use Rattle.book_history.specs.Journal.{Journal}
 use Rattle.book_history.specs.Law.{record_in, record_of}
 use Rattle.book_history.specs.Legal.{Legal}
@@ -52,9 +52,9 @@ push-requires-clause-legal g c κs within =
     let drawn1 : IsDrawnAs m.kit c.args.by (n.drawn + 1) (core_of o (record_in (book_of m.kit j)) [] []) (core_of c.draw.new.o (record_in (book_of m.kit j)) [] []) t =
     subst (λ (l : List g.row.M-Row.Denot). IsDrawnAs m.kit c.args.by (n.drawn + 1) (core_of o l [] []) (core_of c.draw.new.o l [] []) t) rows drawn0 in
     let next = claim_next m.kit m.valid j.settings (book_of m.kit j) o c.draw.new.o n c.args.by t (replay_drawn m.kit m.valid j.settings None j.events tt c.legal.ensures.follows) kept.stands drawn1 c.draw.ensures.capacity in
-    let event = Claimed t.0 t.1.a t.1.b c.args.by in
-    let same : ◌≡◌ {A = Event g.row.M.Denot g.row.M-Row.Denot g.row.M-Ops.Denot} event (Claimed (n.drawn + 1) c.a.result c.b.result c.args.by) =
-    ap (λ (i : ℕ). Claimed i t.1.a t.1.b c.args.by) drawn0.number_is ∙ ap (λ (i : ℕ). Claimed (n.drawn + 1) i t.1.b c.args.by) (sym c.a.ensures) ∙ ap (λ (i : ℕ). Claimed (n.drawn + 1) c.a.result i c.args.by) (sym c.b.ensures.value) in
+    let event = Claims t.0 t.1.a t.1.b c.args.by in
+    let same : ◌≡◌ {A = Event g.row.M.Denot g.row.M-Row.Denot g.row.M-Ops.Denot} event (Claims (n.drawn + 1) c.a.result c.b.result c.args.by) =
+    ap (λ (i : ℕ). Claims i t.1.a t.1.b c.args.by) drawn0.number_is ∙ ap (λ (i : ℕ). Claims (n.drawn + 1) i t.1.b c.args.by) (sym c.a.ensures) ∙ ap (λ (i : ℕ). Claims (n.drawn + 1) c.a.result i c.args.by) (sym c.b.ensures.value) in
     subst (λ (x : Event g.row.M.Denot g.row.M-Row.Denot g.row.M-Ops.Denot). Legal m.kit m.valid j.settings (j.events ++ x ∷ [])) same
     (legal_next m.kit m.valid j event (Some o) n kept c.legal.ensures next.0 (room2, not_closed))
 
@@ -82,9 +82,9 @@ invariant_of-self-2 g c =
     let drawn1 : IsDrawnAs m.kit c.args.by (n.drawn + 1) (core_of o (record_in (book_of m.kit j)) [] []) (core_of c.draw.new.o (record_in (book_of m.kit j)) [] []) t =
     subst (λ (l : List g.row.M-Row.Denot). IsDrawnAs m.kit c.args.by (n.drawn + 1) (core_of o l [] []) (core_of c.draw.new.o l [] []) t) rows drawn0 in
     let next = claim_next m.kit m.valid j.settings (book_of m.kit j) o c.draw.new.o n c.args.by t (replay_drawn m.kit m.valid j.settings None j.events tt c.legal.ensures.follows) kept.stands drawn1 c.draw.ensures.capacity in
-    let event = Claimed t.0 t.1.a t.1.b c.args.by in
-    let same : ◌≡◌ {A = Event g.row.M.Denot g.row.M-Row.Denot g.row.M-Ops.Denot} event (Claimed (n.drawn + 1) c.a.result c.b.result c.args.by) =
-    ap (λ (i : ℕ). Claimed i t.1.a t.1.b c.args.by) drawn0.number_is ∙ ap (λ (i : ℕ). Claimed (n.drawn + 1) i t.1.b c.args.by) (sym c.a.ensures) ∙ ap (λ (i : ℕ). Claimed (n.drawn + 1) c.a.result i c.args.by) (sym c.b.ensures.value) in
+    let event = Claims t.0 t.1.a t.1.b c.args.by in
+    let same : ◌≡◌ {A = Event g.row.M.Denot g.row.M-Row.Denot g.row.M-Ops.Denot} event (Claims (n.drawn + 1) c.a.result c.b.result c.args.by) =
+    ap (λ (i : ℕ). Claims i t.1.a t.1.b c.args.by) drawn0.number_is ∙ ap (λ (i : ℕ). Claims (n.drawn + 1) i t.1.b c.args.by) (sym c.a.ensures) ∙ ap (λ (i : ℕ). Claims (n.drawn + 1) c.a.result i c.args.by) (sym c.b.ensures.value) in
     let events = c.push.ensures.events ∙ ap (λ (x : Event g.row.M.Denot g.row.M-Row.Denot g.row.M-Ops.Denot). j.events ++ x ∷ []) (sym same) in
     let after = kept_more m.kit j c.push.new.self event (Some o) (Some c.draw.new.o) n (drew_by c.args.by n) kept c.push.ensures.settings events next.1 (drew_counts c.args.by n) (drew_fewer c.args.by n kept.fewer) in
     subst (λ (x : Counters). IsKept m.kit c.push.new.self (Some c.draw.new.o) x) (sym c.drew-self-inside.ensures) after
@@ -108,9 +108,9 @@ returns-clause-some g c =
     let drawn1 : IsDrawnAs m.kit c.args.by (n.drawn + 1) (core_of o (record_in (book_of m.kit j)) [] []) (core_of c.draw.new.o (record_in (book_of m.kit j)) [] []) t =
     subst (λ (l : List g.row.M-Row.Denot). IsDrawnAs m.kit c.args.by (n.drawn + 1) (core_of o l [] []) (core_of c.draw.new.o l [] []) t) rows drawn0 in
     let next = claim_next m.kit m.valid j.settings (book_of m.kit j) o c.draw.new.o n c.args.by t (replay_drawn m.kit m.valid j.settings None j.events tt c.legal.ensures.follows) kept.stands drawn1 c.draw.ensures.capacity in
-    let event = Claimed t.0 t.1.a t.1.b c.args.by in
-    let same : ◌≡◌ {A = Event g.row.M.Denot g.row.M-Row.Denot g.row.M-Ops.Denot} event (Claimed (n.drawn + 1) c.a.result c.b.result c.args.by) =
-    ap (λ (i : ℕ). Claimed i t.1.a t.1.b c.args.by) drawn0.number_is ∙ ap (λ (i : ℕ). Claimed (n.drawn + 1) i t.1.b c.args.by) (sym c.a.ensures) ∙ ap (λ (i : ℕ). Claimed (n.drawn + 1) c.a.result i c.args.by) (sym c.b.ensures.value) in
+    let event = Claims t.0 t.1.a t.1.b c.args.by in
+    let same : ◌≡◌ {A = Event g.row.M.Denot g.row.M-Row.Denot g.row.M-Ops.Denot} event (Claims (n.drawn + 1) c.a.result c.b.result c.args.by) =
+    ap (λ (i : ℕ). Claims i t.1.a t.1.b c.args.by) drawn0.number_is ∙ ap (λ (i : ℕ). Claims (n.drawn + 1) i t.1.b c.args.by) (sym c.a.ensures) ∙ ap (λ (i : ℕ). Claims (n.drawn + 1) c.a.result i c.args.by) (sym c.b.ensures.value) in
     let events = c.push.ensures.events ∙ ap (λ (x : Event g.row.M.Denot g.row.M-Row.Denot g.row.M-Ops.Denot). j.events ++ x ∷ []) (sym same) in
     let number : t.0 ≡ tickets_drawn (book_of m.kit j) + 1 = drawn0.number_is ∙ ap (λ (i : ℕ). i + 1) (tickets_are (book_of m.kit j) (Some o) n.drawn n.out kept.stands) in
     let new = c.tickets_of_histories.ensures.next_is_new j.settings j.events c.legal.ensures t.0 number in
