@@ -8,6 +8,7 @@ use Rattle.book_history.specs.Legal.{MayCome, LegalFrom, Follows}
 use Rattle.book_history.specs.Tickets.{is_among, draws, uses, is_drawn, is_used}
 use Rattle.book_history.specs.Outs.{IsOutFor, tickets_drawn}
 use Rattle.book_history.proofs.KeptInstall.{drawn_within}
+use Rattle.book_history.proofs.Places.{replay-append}
 
 left_false : (a b : Bool) → a || b ≡ false → a ≡ false
 left_false true b e = e
@@ -29,10 +30,6 @@ differs n m h = go (eqb n m) refl
     go false t = refl
 
 module _ {D S R O : Type 0} (k : Kit D S R O) (st : Settings) where
-  replay_append : (b : Option (Book D S R)) (xs ys : List (Event D R O)) → replay_from k st b (xs ++ ys) ≡ replay_from k st (replay_from k st b xs) ys
-  replay_append b [] ys = refl
-  replay_append b (x ∷ xs) ys = replay_append (apply k st b x) xs ys
-
   abbrev Is : Book D S R → ℕ → DrawnTicket D S R → Type 0
   Is c n t = (drawn n c.tickets ≡ Some t) × (is_among n c.used ≡ false)
 
@@ -64,7 +61,7 @@ module _ {D S R O : Type 0} (k : Kit D S R O) (st : Settings) where
 
   -- a ticket that is out stays so until an entry uses it up
   pub still_out : (h es : List (Event D R O)) (n : ℕ) (t : DrawnTicket D S R) (by : Who) → IsOutFor (replay k st h) n t by → is_used n es ≡ false → IsOutFor (replay k st (h ++ es)) n t by
-  still_out h es n t by o u = subst (λ b. IsOutFor b n t by) (sym (replay_append None h es)) (outs_from (replay k st h) es n t by o u)
+  still_out h es n t by o u = subst (λ b. IsOutFor b n t by) (sym (replay-append k st None h es)) (outs_from (replay k st h) es n t by o u)
 
   claim_grows : (c : Book D S R) (by : Who) (o : Option (ℕ × ℕ × S)) → length c.tickets ≤ length (claim_found c by o).tickets
   claim_grows c by None = omega arith

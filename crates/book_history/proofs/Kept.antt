@@ -53,6 +53,10 @@ pub chain_head : {S : Type 0} (F : S → Type 0) (J : Link → ℕ → S → ℕ
 chain_head F J a s [] h = h
 chain_head F J a s (g ∷ gs) h = h.0
 
+pub chain_last : {S : Type 0} (F : S → Type 0) (J : Link → ℕ → S → ℕ → S → Type 0) (a : ℕ) (s : S) (segs : List (Segment S)) → Chain F J a s segs → F (last_state s segs)
+chain_last F J a s [] h = h
+chain_last F J a s (g ∷ gs) h = chain_last F J g.to g.state gs h.3
+
 pub chain_map : {S : Type 0} (F : S → Type 0) (J J' : Link → ℕ → S → ℕ → S → Type 0) (a : ℕ) (s : S) (segs : List (Segment S))
     → ((l : Link) (a : ℕ) (s : S) (b : ℕ) (e : S) → a < b → J l a s b e → J' l a s b e)
     → Chain F J a s segs → Chain F J' a s segs

@@ -7,7 +7,7 @@ use Rattle.book_history.specs.declared.link.Link.TheVariants.{Open, Out, Joined}
 use Rattle.book_history.specs.Book.{Segment, DrawnTicket, Book, Settings, slice, last_cycle, last_state, cycles, thin, add_mark, extend, grid, simulated, reloaded, run_by, reload_to}
 use Rattle.book_history.specs.Truth.{Chain}
 use Rattle.book_history.proofs.Slices.{slice_grows}
-use Rattle.book_history.proofs.Kept.{Kept, TicketIsKept, each_map, Inv, chain_head, chain_map, chain_snoc, last_cycle-snoc, last_state-snoc, last_cycle-thin, last_state-thin, thin_chain}
+use Rattle.book_history.proofs.Kept.{Kept, TicketIsKept, each_map, Inv, chain_head, chain_last, chain_map, chain_snoc, last_cycle-snoc, last_state-snoc, last_cycle-thin, last_state-thin, thin_chain}
 
 -- cycles that rise from a, up to top
 abbrev pub Rising : ℕ → List ℕ → ℕ → Type 0
@@ -62,10 +62,6 @@ pub record Reaches {D S R O : Type 0} (k : Kit D S R O) (fits : D → S → Type
   pub links : Chain (fits m) (Kept k m rows v ts) 0 first segs
   pub cycle_is : last_cycle 0 segs ≡ a
   pub state_is : last_state first segs ≡ s
-
-pub chain_last : {S : Type 0} (F : S → Type 0) (J : Link → ℕ → S → ℕ → S → Type 0) (a : ℕ) (s : S) (segs : List (Segment S)) → Chain F J a s segs → F (last_state s segs)
-chain_last F J a s [] h = h
-chain_last F J a s (g ∷ gs) h = chain_last F J g.to g.state gs h.3
 
 pub add_reaches : {D S R O : Type 0} (k : Kit D S R O) (fits : D → S → Type 0) (valid : D → D → O → Type 0) → Laws k fits valid
     → (m : D) (rows : List R) (v : ℕ) (ts : List (DrawnTicket D S R)) (first : S) (segs : List (Segment S)) (a : ℕ) (s : S) (c : ℕ)

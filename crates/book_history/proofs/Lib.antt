@@ -9,7 +9,11 @@ pub mod Settle
 pub mod Settled
 pub mod Outs
 pub mod InRooms
+pub mod Places
 pub mod Bridge
 pub mod Weaves
 pub mod Prefixes
+pub mod Outlines
+pub mod Others
+pub mod Leading
 pub mod Writings

@@ -1,6 +1,6 @@
 -- Histories with one entry more, and what comes first in a legal history.
 use Rattle.std.proofs.Common.{◌≡◌, ℕ, ◌+◌, ◌≤◌, List, [], ◌∷◌, ◌++◌, length, refl, sym, ◌∙◌, ap, arith, append_assoc, append-nil}
-use Rattle.std.specs.Prelude.{Option, Some, None, false, true}
+use Rattle.std.specs.Prelude.{Option, Some, None}
 use Rattle.machine.specs.Kit.{Kit}
 use Rattle.book_history.specs.declared.who.Who.{Who}
 use Rattle.book_history.specs.declared.who.Who.TheVariants.{Session, Worker}
@@ -8,7 +8,7 @@ use Rattle.book_history.specs.Book.{Book, Settings, Event, Opens, Runs, Reloads,
 use Rattle.book_history.specs.Legal.{MayCome, LegalFrom, Legal}
 use Rattle.book_history.specs.Rooms.{Counts, count, counted, count_all, no_entry, FitsRooms, RoomsFrom, AreInRooms, out_in, one_if}
 use Rattle.book_history.specs.Law.{record_in, ran_rows, record_of}
-use Rattle.book_history.proofs.InRooms.{rooms_kept}
+use Rattle.book_history.proofs.InRooms.{one_if-le, rooms_kept}
 use Rattle.std.proofs.lemmas.Bool.{cond_both}
 
 module _ {D S R O : Type 0} (k : Kit D S R O) (st : Settings) where
@@ -73,16 +73,12 @@ pub length_total : {D S R O : Type 0} (k : Kit D S R O) (st : Settings) (n : Cou
 length_total k st n b [] r = omega arith
 length_total k st n b (e ∷ es) r = omega (arith, count_total st n (out_in b) e r.0, length_total k st (count n e) (apply k st b e) es r.1)
 
-pub one_if_small : (b : _) → one_if b ≤ 1
-one_if_small true = omega arith
-one_if_small false = omega arith
-
 -- a legal history has no more entries than its rooms and one place for a close
 pub legal_length : {D S R O : Type 0} (k : Kit D S R O) (valid : D → D → O → Type 0) (st : Settings) (h : List (Event D R O)) → Legal k valid st h
     → length h ≤ st.rooms.session + st.rooms.workers + 1
 legal_length k valid st h l =
     let i = legal_rooms k st valid h l in
-    omega (arith, length_total k st no_entry None h l.in_rooms, i.session, i.workers, one_if_small (count_all no_entry h).closed)
+    omega (arith, length_total k st no_entry None h l.in_rooms, i.session, i.workers, one_if-le (count_all no_entry h).closed)
 
 -- the record of the replayed book is the rows of the runs
 

@@ -1,5 +1,5 @@
 -- What kind of entry an event is. The rules of whose it is, of tickets and of rooms are written over it.
-use Rattle.std.specs.Prelude.{ℕ, Bool, true, false, eqb}
+use Rattle.std.specs.Prelude.{ℕ, Bool, true, false}
 use Rattle.book_history.specs.declared.who.Who.{Who}
 use Rattle.book_history.specs.declared.who.Who.TheVariants.{Session, Worker}
 use Rattle.book_history.specs.Event.{Event, Opens, Runs, Reloads, Claims, Installs, Releases, Shows, Closes}

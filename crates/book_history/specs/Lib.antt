@@ -9,6 +9,7 @@ pub mod Reload
 pub mod Claim
 pub mod Install
 pub mod Book
+pub mod Readers
 pub mod Truth
 pub mod Tickets
 pub mod Owned
@@ -16,6 +17,8 @@ pub mod Rooms
 pub mod Legal
 pub mod Law
 pub mod Outs
+pub mod Outline
+pub mod Moments
 pub mod Journal
 pub mod Weave
 pub mod Written

@@ -1,5 +1,5 @@
 -- The session's own entries, and what begins a history.
-use Rattle.std.specs.Prelude.{◌≡◌, List, [], ◌∷◌, ◌++◌, length, drop, Bool, true, false, if◌then◌else◌}
+use Rattle.std.specs.Prelude.{◌≡◌, List, [], ◌∷◌, ◌++◌, length, drop, Bool, true, if◌then◌else◌}
 use Rattle.book_history.specs.Event.{Event}
 pub use Rattle.book_history.specs.Kind.{Kind, SessionsOwn, DrawsTicket, UsesTicket, EndsClaims, kind_of, is_session}
 

@@ -1,8 +1,9 @@
-use Rattle.std.specs.Prelude.{true, ◌≡◌, ℕ, List, [], ◌∷◌, ◌⊎◌, ◌<◌, Option, Some, None}
+-- What is true of a book, and which tickets are current in it.
+use Rattle.std.specs.Prelude.{true, ◌≡◌, ℕ, List, [], ◌∷◌, length, take, ◌⊎◌, ◌<◌, Option, Some, None}
 use Rattle.machine.specs.Kit.{Kit}
 use Rattle.book_history.specs.declared.link.Link.{Link}
 use Rattle.book_history.specs.declared.link.Link.TheVariants.{Open, Out, Joined}
-use Rattle.book_history.specs.Book.{Segment, DrawnTicket, Book, slice, drawn, all_joined, last_state}
+use Rattle.book_history.specs.Book.{Segment, DrawnTicket, Book, slice, drawn, all_joined, is_joined, last_cycle, last_state}
 
 -- F holds of each state from the mark at a with state s on, the cycles rise, and J holds of each link between its two marks
 abbrev pub Chain : {S : Type 0} → (S → Type 0) → (Link → ℕ → S → ℕ → S → Type 0) → ℕ → S → List (Segment S) → Type 0
@@ -44,3 +45,21 @@ OutsAreCurrent (Some c) = OutIsCurrent c c.segs
 abbrev pub SettledIsTruth : {D S R O : Type 0} → Kit D S R O → Option (Book D S R) → Type 0
 SettledIsTruth k None = Unit {0}
 SettledIsTruth k (Some c) = all_joined c.segs ≡ true → last_state c.first c.segs ≡ k.seg c.machine c.rows (k.start c.machine)
+
+-- the run of so many cycles of the record from reset
+abbrev pub truth_at : {D S R O : Type 0} → Kit D S R O → Book D S R → ℕ → S
+truth_at k c n = k.seg c.machine (take n c.rows) (k.start c.machine)
+
+-- each mark up to the end of the leading joined links is the truth at its cycle
+abbrev pub LeadingAreTrue : {D S R O : Type 0} → Kit D S R O → Book D S R → List (Segment S) → Type 0
+LeadingAreTrue k c [] = Unit {0}
+LeadingAreTrue k c (g ∷ gs) = is_joined g.link ≡ true → (g.state ≡ truth_at k c g.to) × LeadingAreTrue k c gs
+
+abbrev pub LeadsInTruth : {D S R O : Type 0} → Kit D S R O → Option (Book D S R) → Type 0
+LeadsInTruth k None = Unit {0}
+LeadsInTruth k (Some c) = LeadingAreTrue k c c.segs
+
+-- the last mark stands at the current cycle
+abbrev pub EndsAtCycle : {D S R : Type 0} → Option (Book D S R) → Type 0
+EndsAtCycle None = Unit {0}
+EndsAtCycle (Some c) = last_cycle 0 c.segs ≡ length c.rows

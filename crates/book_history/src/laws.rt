@@ -1,13 +1,17 @@
 // What holds of every legal history, in whatever order its entries came. Each function here is a law: its contract.
-ghost use Rattle.std.specs.Prelude.{◌≡◌, ℕ, ◌+◌, ◌≤◌, List, [], ◌∷◌, ◌++◌, Bool, true, false, length, Some};
+ghost use Rattle.std.specs.Prelude.{◌≡◌, ℕ, ◌+◌, ◌≤◌, List, [], ◌∷◌, ◌++◌, Bool, true, false, length, Option, Some};
 ghost use Rattle.book_history.specs.declared.who.Who.{Who};
 ghost use Rattle.book_history.specs.declared.who.Who.TheVariants.{Session};
-ghost use Rattle.book_history.specs.Book.{Settings, Event, DrawnTicket, Claims, Installs, replay};
-ghost use Rattle.book_history.specs.Truth.{True, OutsAreCurrent, SettledIsTruth};
+ghost use Rattle.book_history.specs.Book.{Settings, Event, Book, Segment, DrawnTicket, Claims, Installs, replay, replay_from, lead, all_joined, chosen, cycles};
+ghost use Rattle.book_history.specs.Truth.{True, OutsAreCurrent, SettledIsTruth, EndsAtCycle, LeadsInTruth};
 ghost use Rattle.book_history.specs.Legal.{Legal};
-ghost use Rattle.book_history.specs.Rooms.{AreInRooms, count_all, no_entry};
+ghost use Rattle.book_history.specs.Rooms.{AreInRooms, count_all, no_entry, one_if};
 ghost use Rattle.book_history.specs.Law.{InstallIsRight, LeadFallsNot, AreCalm, lead_in, record_in, record_of};
 ghost use Rattle.book_history.specs.Outs.{IsOutFor, tickets_drawn};
+ghost use Rattle.book_history.specs.Moments.{moments_from};
+ghost use Rattle.book_history.specs.Outline.{outline_in, outline_from, blank, last_until, VersionIs};
+ghost use Rattle.book_history.specs.Owned.{owned};
+ghost use Rattle.book_history.specs.Readers.{IsOpened, links_in};
 ghost use Rattle.book_history.specs.Tickets.{is_drawn, is_used};
 ghost use Rattle.book_history.specs.declared.link.Link.TheVariants.{Open, Joined};
 ghost use Rattle.book_history.specs.Worked.{tally, always_valid, settings, links_and_marks, mark, reloaded_once, settled_first, settled_second, settled_all, claimed_twice, stale_once, stale_results, thinned, first_of};
@@ -21,6 +25,10 @@ pub fn legal_histories<M: Machine>()
     ensures prefixes { (st : Settings) (xs ys : List (Event M M.Row M.Ops)) → Legal M.kit M.valid st (xs ++ ys) → Legal M.kit M.valid st xs }
     // The replayed book is true.
     ensures is_true { (st : Settings) (h : List (Event M M.Row M.Ops)) → Legal M.kit M.valid st h → True M.kit M.fits (replay M.kit st h) }
+    // The last mark stands at the current cycle.
+    ensures ends { (st : Settings) (h : List (Event M M.Row M.Ops)) → Legal M.kit M.valid st h → EndsAtCycle (replay M.kit st h) }
+    // Each mark up to the end of the leading joined links is the run of the record from reset.
+    ensures leading { (st : Settings) (h : List (Event M M.Row M.Ops)) → Legal M.kit M.valid st h → LeadsInTruth M.kit (replay M.kit st h) }
     // Where all links are joined, the last mark is the run of the whole record from reset.
     ensures settled { (st : Settings) (h : List (Event M M.Row M.Ops)) → Legal M.kit M.valid st h → SettledIsTruth M.kit (replay M.kit st h) }
     // The record is the rows of the runs.
@@ -51,6 +59,48 @@ pub fn tickets_of_histories<M: Machine>()
     // The number of the next ticket is new to the history.
     ensures next_is_new { (st : Settings) (h : List (Event M M.Row M.Ops)) → Legal M.kit M.valid st h → (n : ℕ)
         → n ≡ tickets_drawn (replay M.kit st h) + 1 → (is_drawn n h ≡ false) × (is_used n h ≡ false) }
+    // The ticket of a claim is new at its place.
+    ensures claims_new { (st : Settings) (xs ys : List (Event M M.Row M.Ops)) (n a b : ℕ) (by : Who)
+        → Legal M.kit M.valid st (xs ++ Claims n a b by ∷ ys) → (is_drawn n xs ≡ false) × (is_used n xs ≡ false) }
+{}
+
+/// The session's own entries alone decide the outline of a history's book, which is its version, machine, record and the
+/// cycles of its marks; and what other entries leave of the book.
+#[tactic(none)]
+pub fn outlines_of_histories<M: Machine>()
+    ensures owned { (st : Settings) (h : List (Event M M.Row M.Ops)) → Legal M.kit M.valid st h → outline_in (replay M.kit st h) ≡ outline_from st blank (owned h) }
+    // More entries lead from outline to outline.
+    ensures more { (st : Settings) (h es : List (Event M M.Row M.Ops)) → Legal M.kit M.valid st (h ++ es)
+        → outline_in (replay M.kit st (h ++ es)) ≡ outline_from st (outline_in (replay M.kit st h)) es }
+    // A book has a version from 1 on, and no more versions than the session has entries.
+    ensures versions { (st : Settings) (h : List (Event M M.Row M.Ops)) → Legal M.kit M.valid st h → VersionIs (replay M.kit st h) (count_all no_entry h).session }
+    // The session's own entries are those that are counted against its room, and at most one close.
+    ensures counts { (st : Settings) (h : List (Event M M.Row M.Ops)) → Legal M.kit M.valid st h
+        → (count_all no_entry h).session + one_if (count_all no_entry h).closed ≡ length (owned h) }
+    // They alone decide how many these are, and whether there is a close.
+    ensures owned_counts { (h : List (Event M M.Row M.Ops)) → ((count_all no_entry h).session ≡ (count_all no_entry (owned h)).session) × ((count_all no_entry h).closed ≡ (count_all no_entry (owned h)).closed) }
+    // Entries of others are neither a run nor a reload, leave the number of links, and make no fewer links lead.
+    ensures others_calm { (zs : List (Event M M.Row M.Ops)) → owned zs ≡ [] → AreCalm zs }
+    ensures others_links { (st : Settings) (h zs : List (Event M M.Row M.Ops)) → owned zs ≡ [] → Legal M.kit M.valid st (h ++ zs)
+        → links_in (replay M.kit st (h ++ zs)) ≡ links_in (replay M.kit st h) }
+    ensures others_lead { (st : Settings) (h zs : List (Event M M.Row M.Ops)) → owned zs ≡ [] → Legal M.kit M.valid st (h ++ zs)
+        → lead_in (replay M.kit st h) ≤ lead_in (replay M.kit st (h ++ zs)) }
+{}
+
+/// How a history that goes on is read, and how the marks of a book are.
+#[tactic(none)]
+pub fn places_of_histories<M: Machine>()
+    ensures replays { (st : Settings) (b : Option (Book M M.State M.Row)) (xs ys : List (Event M M.Row M.Ops))
+        → replay_from M.kit st b (xs ++ ys) ≡ replay_from M.kit st (replay_from M.kit st b xs) ys }
+    ensures moments { (st : Settings) (b : Option (Book M M.State M.Row)) (xs ys : List (Event M M.Row M.Ops))
+        → moments_from M.kit st b (xs ++ ys) ≡ moments_from M.kit st b xs ++ moments_from M.kit st (replay_from M.kit st b xs) ys }
+    // A book that was opened stays so.
+    ensures opened { (st : Settings) (b : Option (Book M M.State M.Row)) (es : List (Event M M.Row M.Ops)) → IsOpened b → IsOpened (replay_from M.kit st b es) }
+    // Where as many links lead as there are, all are joined.
+    ensures all_lead { (xs : List (Segment M.State)) → length xs ≤ lead xs → all_joined xs ≡ true }
+    // The cycle that a reload chooses is one of the marks' cycles, of which there are as many as links.
+    ensures chosen { (limit a : ℕ) (xs : List (Segment M.State)) → chosen limit a xs ≡ last_until limit a (cycles xs) }
+    ensures marks { (xs : List (Segment M.State)) → length (cycles xs) ≡ length xs }
 {}
 
 /// What the definitions make of histories that were worked by hand.

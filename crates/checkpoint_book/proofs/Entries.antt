@@ -13,16 +13,16 @@ use Rattle.book_history.specs.declared.version.Version.{Version}
 use Rattle.book_history.specs.Book.{Book, DrawnTicket, Settings, Event, Opens, Runs, Reloads, Claims, Installs, Releases, Shows, Closes, slice, drawn, takes, first_link, mark_out, claim_found, with_segs, last_cycle, last_state, shown, chosen, reloaded, extend, grid, opened, step, apply, replay_from}
 use Rattle.book_history.specs.Journal.{Journal}
 use Rattle.book_history.specs.Law.{record_in, record_of}
-use Rattle.book_history.specs.Legal.{MayFollow, MayCome, Legal, LegalFrom, IsNotIn}
+use Rattle.book_history.specs.Legal.{MayFollow, MayCome, Legal, LegalFrom}
 use Rattle.book_history.specs.Outs.{IsOutFor, tickets_drawn}
 use Rattle.book_history.specs.Rooms.{count, counted, out_of}
+use Rattle.book_history.specs.Tickets.{is_among}
 use Rattle.book_history.specs.Truth.{Chain}
-use Rattle.book_history.proofs.Kept.{Kept, Inv}
+use Rattle.book_history.proofs.Kept.{Kept, Inv, chain_head, chain_last}
 use Rattle.book_history.proofs.KeptInstall.{find_found, drawn_newest}
 use Rattle.book_history.proofs.Law.{InvOf, replay_kept}
 use Rattle.book_history.proofs.Prefixes.{replay_record}
 use Rattle.book_history.proofs.InRooms.{UsedAreDrawn, step_drawn, fresh}
-use Rattle.book_history.proofs.Outs.{not_among}
 use Rattle.checkpoint_book.specs.declared.counters.Counters.{Counters}
 use Rattle.checkpoint_book.specs.declared.opened.Opened.{Opened}
 use Rattle.checkpoint_book.specs.Counts.{counts, drew_by}
@@ -36,14 +36,6 @@ use Rattle.checkpoint_book.proofs.Renewals.{chain-rises}
 
 -- what the law says of the fields
 
-pub chain_last : {S : Type 0} (F : S → Type 0) (J : Link → ℕ → S → ℕ → S → Type 0) (a : ℕ) (s : S) (segs : List (Segment S)) → Chain F J a s segs → F (last_state s segs)
-chain_last F J a s [] h = h
-chain_last F J a s (g ∷ gs) h = chain_last F J g.to g.state gs h.3
-
-pub chain_head' : {S : Type 0} (F : S → Type 0) (J : Link → ℕ → S → ℕ → S → Type 0) (a : ℕ) (s : S) (segs : List (Segment S)) → Chain F J a s segs → F s
-chain_head' F J a s [] h = h
-chain_head' F J a s (g ∷ gs) h = h.0
-
 pub record Facts {S R : Type 0} (fits : S → Type 0) (first : S) (segs : List (Segment S)) (rows : List R) : Type 0 where
   pub last_fits : fits (last_state first segs)
   pub all_fit : AllFit fits segs
@@ -53,7 +45,7 @@ pub record Facts {S R : Type 0} (fits : S → Type 0) (first : S) (segs : List (
 
 pub chain_fits : {S : Type 0} (F : S → Type 0) (J : Link → ℕ → S → ℕ → S → Type 0) (a : ℕ) (s : S) (segs : List (Segment S)) → Chain F J a s segs → AllFit F segs
 chain_fits F J a s [] h = tt
-chain_fits F J a s (g ∷ gs) h = (chain_head' F J g.to g.state gs h.3, chain_fits F J g.to g.state gs h.3)
+chain_fits F J a s (g ∷ gs) h = (chain_head F J g.to g.state gs h.3, chain_fits F J g.to g.state gs h.3)
 
 module _ {D S R O : Type 0} (k : Kit D S R O) where
   pub facts_at : (fits : D → S → Type 0) (b : Option (Book D S R)) (o : Opened D S) (drawn out : ℕ) → InvOf k fits b → Stands b (Some o) drawn out
@@ -213,10 +205,10 @@ pub drew_drawn : (by : Who) (n : Counters) → (drew_by by n).drawn ≡ n.drawn 
 drew_drawn Session n = refl
 drew_drawn (Worker w) n = refl
 
-pub drew_out : {D S R : Type 0} (ts : List (DrawnTicket D S R)) (us : List ℕ) (new : DrawnTicket D S R) (by : Who) (n : Counters) → new.by ≡ by → IsNotIn (length ts + 1) us → n.out ≡ out_of ts us
+pub drew_out : {D S R : Type 0} (ts : List (DrawnTicket D S R)) (us : List ℕ) (new : DrawnTicket D S R) (by : Who) (n : Counters) → new.by ≡ by → is_among (length ts + 1) us ≡ false → n.out ≡ out_of ts us
     → (drew_by by n).out ≡ out_of (new ∷ ts) us
 drew_out ts us new Session n is fresh out = rw is (omega (arith, out))
-drew_out ts us new (Worker w) n is fresh out = rw (is, not_among (length ts + 1) us fresh) (omega (arith, out))
+drew_out ts us new (Worker w) n is fresh out = rw (is, fresh) (omega (arith, out))
 
 pub claim_next : {D S R O : Type 0} (k : Kit D S R O) (valid : D → D → O → Type 0) (st : Settings) (b : Option (Book D S R)) (o o' : Opened D S) (n : Counters) (by : Who) (t : ℕ × DrawnTicket D S R)
     → UsedAreDrawn b → Stands b (Some o) n.drawn n.out → IsDrawnAs k by (n.drawn + 1) (core_of o (record_in b) [] []) (core_of o' (record_in b) [] []) t → vec_capacity o'.segs ≡ vec_capacity o.segs
@@ -237,7 +229,7 @@ claim_next {D} {S} {R} {O} k valid st (Some c) o o' n by t u s d cap =
     d.book ∙ ap (λ (i : ℕ). with_segs (core_of o c.rows [] []) (mark_out (takes by) i x.segs)) number in
     let core : claim_found x by (Some f) ≡ core_of o' c.rows (new ∷ ts) us =
     ap (λ (y : Book D S R). record { version = y.version; machine = y.machine; rows = y.rows; first = y.first; segs = y.segs; tickets = new ∷ ts; used = us }) (sym marked) in
-    let not_used : IsNotIn (length ts + 1) us = fresh (length ts) us u in
+    let not_used : is_among (length ts + 1) us ≡ false = fresh (length ts) us u in
     let newest : drawn t.0 (new ∷ ts) ≡ Some t.1 =
     ap (λ (i : ℕ). drawn i (new ∷ ts)) (d.number_is ∙ number) ∙ drawn_newest new ts ∙ ap (λ (y : DrawnTicket D S R). Some y) (sym d.ticket) in
     let after : StandsFor (claim_found x by (Some f)) o' (drew_by by n).drawn (drew_by by n).out =
@@ -250,7 +242,7 @@ claim_next {D} {S} {R} {O} k valid st (Some c) o o' n by t u s d cap =
     } in
     let here : Q (Some f) = (
       after,
-      (newest, ap (λ (y : DrawnTicket D S R). y.by) d.ticket, subst (λ (i : ℕ). IsNotIn i us) (sym (d.number_is ∙ number)) not_used),
+      (newest, ap (λ (y : DrawnTicket D S R). y.by) d.ticket, subst (λ (i : ℕ). is_among i us ≡ false) (sym (d.number_is ∙ number)) not_used),
     ) in
     let all : Q (first_link (takes by) 0 x.first x.segs) = subst Q (sym d.found) here in
     let place : first_link (takes by) 0 x.first x.segs ≡ Some (t.1.a, t.1.b, f.2) = d.found ∙ ap (λ (y : DrawnTicket D S R). Some (y.a, y.b, f.2)) (sym d.ticket) in

@@ -5,7 +5,7 @@ use Rattle.machine.specs.Kit.{Kit}
 use Rattle.book_history.specs.declared.link.Link.{Link}
 use Rattle.book_history.specs.declared.link.Link.TheVariants.{Joined, Out}
 use Rattle.book_history.specs.declared.segment.Segment.{Segment}
-use Rattle.book_history.specs.Book.{slice, DrawnTicket, matches, joined, reopen, mark_out, simulated, cycles}
+use Rattle.book_history.specs.Book.{slice, DrawnTicket, matches, joined, reopen, mark_out, simulated}
 
 pub length-reopen : {S : Type 0} (xs : List (Segment S)) → length (reopen xs) ≡ length xs
 length-reopen [] = refl
@@ -31,7 +31,3 @@ length-marked {S} p n (g ∷ gs) =
 pub length-simulated : {D S R O : Type 0} (k : Kit D S R O) (m : D) (rows : List R) (a : ℕ) (s : S) (cs : List ℕ) → length (simulated k m rows a s cs) ≡ length cs
 length-simulated k m rows a s [] = refl
 length-simulated k m rows a s (c ∷ cs) = omega (arith, length-simulated k m rows c (k.seg m (slice rows a c) s) cs)
-
-pub length-cycles : {S : Type 0} (xs : List (Segment S)) → length (cycles xs) ≡ length xs
-length-cycles [] = refl
-length-cycles (x ∷ xs) = omega (arith, length-cycles xs)

@@ -4,7 +4,8 @@ use Rattle.std.specs.Prelude.{All}
 use Rattle.std.proofs.lemmas.Bool.{cond_both, cases_lt}
 use Rattle.std.proofs.lemmas.List.{drop-take}
 use Rattle.std.proofs.Common.{inl, inr, drop-drop, length-drop, length-take-le}
-use Rattle.checkpoint_book.proofs.Lengths.{length-simulated, length-cycles}
+use Rattle.book_history.proofs.Outlines.{length-cycles}
+use Rattle.checkpoint_book.proofs.Lengths.{length-simulated}
 use Rattle.std.proofs.lemmas.Grind.{take_at_read}
 use Rattle.machine.specs.Kit.{Kit, Laws}
 use Rattle.machine.specs.Rows.{between}
@@ -15,7 +16,7 @@ use Rattle.book_history.specs.Book.{slice, last_cycle, last_state, cycles, simul
 use Rattle.book_history.specs.Truth.{Chain}
 use Rattle.checkpoint_book.specs.Grid.{AgreeFrom}
 use Rattle.checkpoint_book.specs.Renew.{kept_count, carried_over, Rises, AllFit}
-use Rattle.checkpoint_book.proofs.Thins.{last_state-snoc'}
+use Rattle.book_history.proofs.Kept.{last_state-snoc}
 
 pub carried-snoc : {D S R O : Type 0} (k : Kit D S R O) (old new : D) (ops : O) (xs : List (Segment S)) (g : Segment S)
     → carried_over k old new ops (xs ++ g ∷ []) ≡ carried_over k old new ops xs ++ record { link = Open; to = g.to; state = k.carried old new ops g.state } ∷ []
@@ -122,7 +123,7 @@ pub simulated_more : {D S R O : Type 0} (k : Kit D S R O) (fits : S → Type 0) 
 simulated_more {D} {S} {R} k fits m rows first segs before now i from at w steps steps' steps'' g s lt is h fit state taken =
     let seg : Segment S = record { link = Joined; to = g.to; state = s } in
     let a = ahead segs i from at g lt is h.rises h.ends in
-    let last : last_state first (now ++ seg ∷ []) ≡ s = last_state-snoc' first now seg in
+    let last : last_state first (now ++ seg ∷ []) ≡ s = last_state-snoc first now seg in
     let e : (at - from) + (g.to - at) ≡ g.to - from = omega (arith, h.after, a.rises) in
     let product : ((at - from) + (g.to - at)) * w ≡ (g.to - from) * w = ap (λ (x : ℕ). x * w) e in
     record {

@@ -7,6 +7,7 @@ use Rattle.book_history.specs.declared.segment.Segment.{Segment}
 use Rattle.book_history.specs.declared.link.Link.TheVariants.{Joined}
 use Rattle.machine.specs.Kit.{Kit}
 use Rattle.book_history.specs.Book.{thin, last_state, add_mark, extend, grid, slice}
+use Rattle.book_history.proofs.Kept.{last_state-snoc, last_state-thin}
 use Rattle.checkpoint_book.specs.Grid.{next_mark, AgreeFrom}
 use Rattle.checkpoint_book.proofs.Grids.{grid_step}
 
@@ -40,20 +41,11 @@ length-thin [] = omega arith
 length-thin (x ∷ []) = omega arith
 length-thin (x ∷ y ∷ zs) = omega (arith, length-thin zs)
 
-pub last_state-thin' : {S : Type 0} (s : S) (segs : List (Segment S)) → last_state s (thin segs) ≡ last_state s segs
-last_state-thin' s [] = refl
-last_state-thin' s (g ∷ []) = refl
-last_state-thin' s (g ∷ h ∷ gs) = last_state-thin' h.state gs
-
-pub last_state-snoc' : {S : Type 0} (s : S) (segs : List (Segment S)) (g : Segment S) → last_state s (segs ++ g ∷ []) ≡ g.state
-last_state-snoc' s [] g = refl
-last_state-snoc' s (h ∷ hs) g = last_state-snoc' h.state hs g
-
 pub last_state-add : {S : Type 0} (s : S) (segs : List (Segment S)) (g : Segment S) → last_state s (add_mark segs g) ≡ g.state
 last_state-add s segs g =
     cond_both (eqb (length segs + 2) 1025) (thin (segs ++ g ∷ [])) (segs ++ g ∷ []) (λ x. last_state s x ≡ g.state)
-    (λ _. last_state-thin' s (segs ++ g ∷ []) ∙ last_state-snoc' s segs g)
-    (λ _. last_state-snoc' s segs g)
+    (λ _. last_state-thin s (segs ++ g ∷ []) ∙ last_state-snoc s segs g)
+    (λ _. last_state-snoc s segs g)
 
 pub length-add : {S : Type 0} (segs : List (Segment S)) (g : Segment S) → length segs < 1024 → length (add_mark segs g) < 1024
 length-add {S} segs g few =

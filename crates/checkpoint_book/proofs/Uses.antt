@@ -11,8 +11,9 @@ use Rattle.book_history.specs.declared.who.Who.TheVariants.{Session, Worker}
 use Rattle.book_history.specs.declared.segment.Segment.{Segment}
 use Rattle.book_history.specs.Book.{Book, DrawnTicket, Settings, Installs, Releases, drawn, is_current, joined, result_of, with_segs, with_used, install_found, freed, step, apply}
 use Rattle.book_history.specs.Journal.{Journal}
-use Rattle.book_history.specs.Legal.{MayFollow, MayCome, IsNotIn}
+use Rattle.book_history.specs.Legal.{MayFollow, MayCome}
 use Rattle.book_history.specs.Outs.{IsOutFor}
+use Rattle.book_history.specs.Tickets.{is_among}
 use Rattle.book_history.specs.Rooms.{Counts, counted, FitsRooms, HasRoom, is_worker, out_of, count_all, no_entry}
 use Rattle.book_history.proofs.Outs.{out_of-used, out_of-beyond}
 use Rattle.checkpoint_book.specs.declared.counters.Counters.{Counters}
@@ -44,7 +45,7 @@ out_of-session {D} {S} {R} (u ∷ ts) n us t e w = go (eqb n (length ts + 1)) re
         rw (ne_eqb (length ts + 1) n ne) (omega (arith, ih x))
 
 pub outs_after : {D S R : Type 0} (ts : List (DrawnTicket D S R)) (us : List ℕ) (num : ℕ) (t : DrawnTicket D S R) (by : Who) (n : Counters)
-    → drawn num ts ≡ Some t → t.by ≡ by → IsNotIn num us → n.out ≡ out_of ts us → (used_by by n).out ≡ out_of ts (num ∷ us)
+    → drawn num ts ≡ Some t → t.by ≡ by → is_among num us ≡ false → n.out ≡ out_of ts us → (used_by by n).out ≡ out_of ts (num ∷ us)
 outs_after ts us num t Session n d by fresh out = out ∙ sym (out_of-session ts num us t d (ap is_worker by))
 outs_after ts us num t (Worker w) n d by fresh out = omega (arith, out, out_of-used ts num us t d (ap is_worker by) fresh)
 

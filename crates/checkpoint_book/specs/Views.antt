@@ -5,6 +5,7 @@ use Rattle.book_history.specs.declared.who.Who.{Who}
 use Rattle.book_history.specs.declared.who.Who.TheVariants.{Session, Worker}
 use Rattle.book_history.specs.Book.{Book, DrawnTicket, Settings, replay, last_state, chosen, shown, first_link, takes}
 use Rattle.book_history.specs.Journal.{Journal}
+pub use Rattle.book_history.specs.Readers.{IsOpened, version_in, cycle_in, links_in, marks_in}
 use Rattle.book_history.specs.Rooms.{Counts, count_all, no_entry, out_in}
 use Rattle.checkpoint_book.specs.declared.installed.Installed.{Installed}
 use Rattle.checkpoint_book.specs.declared.installed.Installed.TheVariants.{Joined}
@@ -23,26 +24,6 @@ abbrev pub counts_of : {D R O : Type 0} → Journal D R O → Counts
 counts_of j = count_all no_entry j.events
 
 module _ {D S R : Type 0} where
-  abbrev pub IsOpened : Option (Book D S R) → Type 0
-  IsOpened None = ⊥
-  IsOpened (Some c) = Unit {0}
-
-  abbrev pub version_in : Option (Book D S R) → ℕ
-  version_in None = 0
-  version_in (Some c) = c.version
-
-  abbrev pub cycle_in : Option (Book D S R) → ℕ
-  cycle_in None = 0
-  cycle_in (Some c) = length c.rows
-
-  abbrev pub links_in : Option (Book D S R) → ℕ
-  links_in None = 0
-  links_in (Some c) = length c.segs
-
-  abbrev pub marks_in : Option (Book D S R) → ℕ
-  marks_in None = 0
-  marks_in (Some c) = length c.segs + 1
-
   -- the steps of one cycle of the current machine
   abbrev pub work_in : (D → ℕ) → Option (Book D S R) → ℕ
   work_in work None = 0
@@ -52,6 +33,11 @@ module _ {D S R : Type 0} where
   abbrev pub IsLast : Option (Book D S R) → S → Type 0
   IsLast None s = ⊥
   IsLast (Some c) s = s ≡ last_state c.first c.segs
+
+  -- it is one of the current machine's own
+  abbrev pub FitsMachine : (D → S → Type 0) → Option (Book D S R) → S → Type 0
+  FitsMachine fits None s = ⊥
+  FitsMachine fits (Some c) s = fits c.machine s
 
   -- the operations lead from the current machine to this one
   abbrev pub LeadTo : {O : Type 0} → (D → D → O → Type 0) → Option (Book D S R) → D → O → Type 0
@@ -79,6 +65,11 @@ module _ {D S R : Type 0} where
 -- the workers' room is full
 abbrev pub is_full : {D S R : Type 0} → Settings → Counts → Option (Book D S R) → Bool
 is_full st n b = leb (suc st.rooms.workers) (n.workers + out_in b + 2)
+
+-- a full room keeps this asker from claiming: the session's claim asks for its room
+abbrev pub is_full_for : {D S R : Type 0} → Who → Settings → Counts → Option (Book D S R) → Bool
+is_full_for Session st n b = false
+is_full_for (Worker w) st n b = is_full st n b
 
 -- the session has room for so many entries
 abbrev pub HasSessionRoom : {D R O : Type 0} → Journal D R O → ℕ → Type 0

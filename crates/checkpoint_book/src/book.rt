@@ -7,8 +7,8 @@ ghost use Rattle.book_history.specs.Rooms.{HasRoom, out_in};
 ghost use Rattle.book_history.specs.Truth.{True};
 ghost use Rattle.checkpoint_book.specs.Answers.{is_joined_answer, shown_to};
 ghost use Rattle.book_history.specs.declared.who.Who.TheVariants.{Session, Worker};
-ghost use Rattle.checkpoint_book.specs.Claims.{IsDrawn, ClaimIs, claims_nothing};
-ghost use Rattle.checkpoint_book.specs.Views.{book_of, counts_of, IsOpened, version_in, cycle_in, links_in, marks_in, work_in, IsLast, LeadTo, chosen_in, shown_in, answer_in, is_none, none_free, is_full, HasSessionRoom, HasRoomFor};
+ghost use Rattle.checkpoint_book.specs.Claims.{IsDrawn, ClaimIs, CausesAre, ticket_in, claims_nothing};
+ghost use Rattle.checkpoint_book.specs.Views.{book_of, counts_of, IsOpened, version_in, cycle_in, links_in, marks_in, work_in, IsLast, FitsMachine, LeadTo, chosen_in, shown_in, answer_in, is_none, none_free, is_full, HasSessionRoom, HasRoomFor};
 
 use crate::begin::begun;
 use crate::claimed::Claimed;
@@ -263,6 +263,7 @@ impl<M: Machine> Book<M> {
         let Some(opened) = &self.opened else {
             unreachable!()
         };
+        let ops = Arc::new(self.alloc, ops)?;
         let limit = self.history.cycle().saturating_sub(self.history.lookback());
         let (next, from) = renewed(
             self.alloc,
@@ -313,7 +314,8 @@ impl<M: Machine> Book<M> {
     /// the book is closed. Only a ticket takes memory.
     pub fn claim(&mut self, alloc: Global, by: u16) -> Result<Claimed<M>, NoMemory>
         ensures settings { self.new.settings ≡ self.old.settings }
-        ensures answer { IfOk result (λ r. ClaimIs M.kit (Worker by) self.old self.new r) }
+        ensures answer { IfOk result (λ r. ClaimIs M.kit (Worker by) self.old self.new (ticket_in r)) }
+        ensures causes { IfOk result (λ r. CausesAre M.kit self.old r) }
         ensures err { OnErr result ((self.new.events ≡ self.old.events) × (claims_nothing M.kit (Worker by) self.old ≡ false)) }
     {
         let full = self.is_full();
@@ -335,13 +337,11 @@ impl<M: Machine> Book<M> {
         requires open { (counts_of self.old).closed ≡ false }
         requires room { HasSessionRoom self.old 2 }
         ensures settings { self.new.settings ≡ self.old.settings }
-        ensures none { IfOk result (λ r. IfNone r ((self.new.events ≡ self.old.events) × (none_free Session (book_of M.kit self.old) ≡ true))) }
-        ensures some { IfOk result (λ r. IfSome r (λ t. IsDrawn M.kit Session self.old self.new t)) }
-        ensures free { IfOk result (λ r. IfSome r (λ t. none_free Session (book_of M.kit self.old) ≡ false)) }
+        ensures answer { IfOk result (λ r. ClaimIs M.kit Session self.old self.new r) }
 
         // It is None exactly where a show would answer Settled.
         ensures settled { IfOk result (λ r. is_none r ≡ is_none (shown_in (book_of M.kit self.old))) }
-        ensures err { OnErr result ((self.new.events ≡ self.old.events) × (none_free Session (book_of M.kit self.old) ≡ false)) }
+        ensures err { OnErr result ((self.new.events ≡ self.old.events) × (claims_nothing M.kit Session self.old ≡ false)) }
     {
         self.take(alloc, Who::Session)
     }
@@ -355,11 +355,13 @@ impl<M: Machine> Book<M> {
         self.counters.workers + self.counters.out + 2 > u64::from(rooms.workers)
     }
 
-    /// The state of the last mark.
+    /// The state of the last mark, which is one of the current machine's own.
     pub fn current(&self) -> &M::State
         requires opened { IsOpened (book_of M.kit self.now) }
-        ensures { IsLast (book_of M.kit self.now) result.now }
+        ensures last { IsLast (book_of M.kit self.now) result.now }
+        ensures fits { FitsMachine M.fits (book_of M.kit self.now) result.now }
     {
+        self.history.legal();
         let Some(opened) = &self.opened else {
             unreachable!()
         };

@@ -36,7 +36,7 @@ fn is_taken(link: Link, by: Who) -> bool
 }
 
 /// The first link that a claim takes, with its first cycle and state.
-pub fn find_free<'a, S>(
+pub fn find_first<'a, S>(
     first: &'a S,
     segs: &'a [Segment<S>],
     by: Who,
@@ -72,7 +72,7 @@ pub fn draw<M: Machine>(
     ensures capacity { vec_capacity o.new.segs ≡ vec_capacity o.old.segs }
     ensures err { OnErr result ((o.new ≡ o.old) × ((f : ℕ × ℕ × M.State) × (first_link (takes by) 0 o.old.first o.old.segs.items ≡ Some f))) }
 {
-    let Some((i, a, start)) = find_free(&o.first, &o.segs, by) else {
+    let Some((i, a, start)) = find_first(&o.first, &o.segs, by) else {
         return Ok(None);
     };
     let b = o.segs[i].to;

@@ -2,6 +2,7 @@ use Rattle.std.specs.Prelude.{None}
 use Rattle.book_history.proofs.Law.{legal_true, legal_outs}
 use Rattle.book_history.proofs.Currents.{legal_installs}
 use Rattle.book_history.proofs.Lead.{legal_falls_not}
+use Rattle.book_history.proofs.Leading.{legal_leading, legal_ends}
 use Rattle.book_history.proofs.Settled.{legal_settled}
 use Rattle.book_history.proofs.Settle.{legal_settles}
 use Rattle.book_history.proofs.Prefixes.{legal_first, legal_rooms, replay_record}
@@ -12,6 +13,12 @@ returns-clause-prefixes g c = let m = g.M.Machine in λ st xs ys l. legal_first 
 
 pub returns-clause-is_true : goal.returns-clause-is_true
 returns-clause-is_true g c = let m = g.M.Machine in λ st h l. legal_true m.kit m.fits m.valid (g.met.M.Machine g.world.𝓛 g.world.𝓜 g.world.𝓡 ((λ s x. x), (λ x. x), (λ x. x), λ x. x)).laws st h l.follows
+
+pub returns-clause-ends : goal.returns-clause-ends
+returns-clause-ends g c = let m = g.M.Machine in λ st h l. legal_ends m.kit m.fits m.valid (g.met.M.Machine g.world.𝓛 g.world.𝓜 g.world.𝓡 ((λ s x. x), (λ x. x), (λ x. x), λ x. x)).laws st h l.follows
+
+pub returns-clause-leading : goal.returns-clause-leading
+returns-clause-leading g c = let m = g.M.Machine in λ st h l. legal_leading m.kit m.fits m.valid (g.met.M.Machine g.world.𝓛 g.world.𝓜 g.world.𝓡 ((λ s x. x), (λ x. x), (λ x. x), λ x. x)).laws st h l.follows
 
 pub returns-clause-settled : goal.returns-clause-settled
 returns-clause-settled g c = let m = g.M.Machine in λ st h l. legal_settled m.kit m.fits m.valid (g.met.M.Machine g.world.𝓛 g.world.𝓜 g.world.𝓡 ((λ s x. x), (λ x. x), (λ x. x), λ x. x)).laws st h l.follows

@@ -1,6 +1,6 @@
 use Rattle.std.proofs.Common.{◌≡◌, ℕ, ◌++◌, take, drop}
 use Rattle.book_history.specs.Book.{first_link, mark_out, takes}
-use Rattle.checkpoint_book.proofs.draw.find_free.Given as goal
+use Rattle.checkpoint_book.proofs.draw.find_first.Given as goal
 
 abbrev pub invariant-loop-i : goal.invariant-loop-i
 invariant-loop-i g l =

@@ -1,7 +1,7 @@
 use Rattle.std.proofs.Common.{◌∙◌, sym, arith}
 use Rattle.book_history.specs.Book.{takes}
 use Rattle.checkpoint_book.proofs.Draws.{place_free}
-use Rattle.checkpoint_book.proofs.draw.find_free.Goals as goal
+use Rattle.checkpoint_book.proofs.draw.find_first.Goals as goal
 
 pub returns-then-is_taken-clause-some : goal.returns-then-is_taken-clause-some
 returns-then-is_taken-clause-some g c =
