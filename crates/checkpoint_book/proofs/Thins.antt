@@ -55,6 +55,13 @@ length-add {S} segs g few =
     (λ is. omega (arith, more, half, few))
     (λ is. let ne : length segs + 2 ≡ 1025 → ⊥ = eqb-false (length segs + 2) 1025 is in omega (arith, more, few))
 
+pub extend_few : {D S R O : Type 0} (k : Kit D S R O) (m : D) (rows : List R) (segs : List (Segment S)) (a : ℕ) (s : S) (cs : List ℕ) → length segs < 1024 → length (extend k m rows segs a s cs) < 1024
+extend_few k m rows segs a s [] few = few
+extend_few {D} {S} k m rows segs a s (c ∷ cs) few =
+    let e : S = k.seg m (slice rows a c) s in
+    let g : Segment S = record { link = Joined; to = c; state = e } in
+    extend_few k m rows (add_mark segs g) c e cs (length-add segs g few)
+
 -- the last one, read by its index
 pub last_at : {S : Type 0} (s : S) (segs : List (Segment S)) (n : ℕ) (g : Segment S) → length segs ≡ suc n → g ≡ get_or segs n g → g.state ≡ last_state s segs
 last_at s [] n g len is = absurd (omega arith)
