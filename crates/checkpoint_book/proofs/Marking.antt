@@ -1,5 +1,5 @@
 -- The marks of a run that come behind those of the book, one by one.
-use Rattle.std.proofs.Common.{◌≡◌, ℕ, suc, ◌+◌, ◌-◌, ◌*◌, ◌<◌, ◌≤◌, List, [], ◌∷◌, ◌++◌, length, refl, sym, ◌∙◌, ap, subst, arith, append_assoc, append-nil}
+use Rattle.std.proofs.Common.{◌≡◌, ℕ, suc, ◌+◌, ◌-◌, ◌*◌, ◌<◌, ◌≤◌, List, [], ◌∷◌, ◌++◌, length, sym, ◌∙◌, ap, subst, arith, append_assoc, append-nil}
 use Rattle.machine.specs.Kit.{Kit}
 use Rattle.machine.specs.Rows.{between}
 use Rattle.book_history.specs.declared.segment.Segment.{Segment}
@@ -8,7 +8,6 @@ use Rattle.book_history.specs.Book.{slice, last_state, simulated, extend, grid}
 use Rattle.book_history.proofs.Kept.{last_state-snoc}
 use Rattle.book_history.proofs.Lead.{extend_plain}
 use Rattle.checkpoint_book.specs.Grid.{next_mark, AgreeFrom}
-use Rattle.checkpoint_book.specs.Growth.{grown_to}
 use Rattle.checkpoint_book.proofs.Grids.{grid_step}
 use Rattle.checkpoint_book.proofs.Thins.{taken_more}
 

@@ -1,5 +1,5 @@
 -- What the type of a book keeps.
-use Rattle.std.specs.Prelude.{◌≡◌, ℕ, ◌+◌, ◌<◌, ◌≤◌, ◌^◌, length, Option, Some, None, vec_capacity}
+use Rattle.std.specs.Prelude.{◌≡◌, ℕ, ◌+◌, ◌<◌, ◌≤◌, ◌^◌, length, Option, Some, None}
 use Rattle.machine.specs.Kit.{Kit}
 use Rattle.book_history.specs.Book.{Book}
 use Rattle.book_history.specs.Journal.{Journal}

@@ -1,5 +1,5 @@
 -- The two parts of a reload's marks.
-use Rattle.std.specs.Prelude.{◌≡◌, ℕ, suc, ◌<◌, ◌≤◌, List, [], ◌∷◌, length, if◌then◌else◌, leb, vec_capacity}
+use Rattle.std.specs.Prelude.{◌≡◌, ℕ, suc, ◌<◌, List, [], ◌∷◌, length, if◌then◌else◌, leb}
 use Rattle.book_history.specs.declared.version.Version.{Version}
 use Rattle.book_history.specs.Book.{reloaded}
 use Rattle.checkpoint_book.specs.declared.opened.Opened.{Opened}

@@ -1,7 +1,7 @@
-use Rattle.std.proofs.Common.{◌≡◌, ◌-◌, ◌++◌, ◌<◌, ◌+◌, List, length, ◌∙◌, ap, arith}
+use Rattle.std.proofs.Common.{◌≡◌, ◌-◌, ◌<◌, ◌+◌, List, length, ◌∙◌, ap, arith}
 use Rattle.book_history.specs.declared.segment.Segment.{Segment}
 use Rattle.book_history.specs.declared.version.Version.{Version}
-use Rattle.book_history.specs.Book.{extend, simulated, last_state, grid}
+use Rattle.book_history.specs.Book.{simulated, last_state, grid}
 use Rattle.checkpoint_book.proofs.Marking.{more_plain}
 use Rattle.checkpoint_book.proofs.grow.grown.Goals as goal
 
