@@ -1,8 +1,7 @@
 -- The other entries: what the fields become is what the replayed book does.
 use Rattle.std.proofs.Common.{◌≡◌, ℕ, ◌+◌, ◌-◌, ◌<◌, ◌≤◌, List, [], ◌∷◌, ◌++◌, length, refl, sym, ◌∙◌, ap, subst, arith, Bool, false, ◌||◌}
-use Rattle.std.specs.Prelude.{Option, Some, None, vec_capacity}
+use Rattle.std.specs.Prelude.{Option, Some, None}
 use Rattle.std.proofs.Common.{Global}
-use Rattle.std.specs.Global.{Vec}
 use Rattle.std.specs.declared.sync.Arc.{Arc}
 use Rattle.machine.specs.Kit.{Kit, Laws}
 use Rattle.book_history.specs.declared.who.Who.{Who}
@@ -27,11 +26,13 @@ use Rattle.checkpoint_book.specs.declared.counters.Counters.{Counters}
 use Rattle.checkpoint_book.specs.declared.opened.Opened.{Opened}
 use Rattle.checkpoint_book.specs.Counts.{counts, drew_by}
 use Rattle.checkpoint_book.specs.Draw.{IsDrawable, IsDrawnAs}
+use Rattle.checkpoint_book.specs.Idle.{any_open}
 use Rattle.checkpoint_book.specs.Kept.{Stands, StandsFor}
 use Rattle.checkpoint_book.specs.Opened.{core_of}
 use Rattle.checkpoint_book.specs.Renew.{Rises, AllFit}
-use Rattle.checkpoint_book.specs.Views.{book_of, version_in, cycle_in, LeadTo, chosen_in, shown_in, work_in, none_free, is_none}
+use Rattle.checkpoint_book.specs.Views.{book_of, version_in, cycle_in, FitsMachine, LeadTo, chosen_in, shown_in, work_in, none_free, is_none}
 use Rattle.checkpoint_book.proofs.Lengths.{length-marked}
+use Rattle.checkpoint_book.proofs.Thins.{extend_few}
 use Rattle.checkpoint_book.proofs.Renewals.{chain-rises}
 
 -- what the law says of the fields
@@ -88,6 +89,10 @@ module _ {D S R O : Type 0} (k : Kit D S R O) where
   lead_is valid None o drawn out m ops s h = absurd s
   lead_is valid (Some c) o drawn out m ops s h = subst (λ (x : Book D S R). valid x.machine m ops) s.core h
 
+  pub fits_is : (fits : D → S → Type 0) (b : Option (Book D S R)) (o : Opened D S) (drawn out : ℕ) {x : S} → Stands b (Some o) drawn out → fits o.version.value.machine.value x → FitsMachine fits b x
+  fits_is fits None o drawn out s f = absurd s
+  fits_is fits (Some c) o drawn out {x} s f = subst (λ (y : Book D S R). fits y.machine x) (sym s.core) f
+
   pub chosen_is_in : (st : Settings) (b : Option (Book D S R)) (o : Opened D S) (drawn out : ℕ) → Stands b (Some o) drawn out → chosen_in st b ≡ chosen (length (record_in b) - st.lookback) 0 o.segs.items
   chosen_is_in st None o drawn out s = absurd s
   chosen_is_in st (Some c) o drawn out s = ap (λ (x : Book D S R). chosen (length c.rows - st.lookback) 0 x.segs) s.core
@@ -109,9 +114,9 @@ module _ {D S R O : Type 0} (k : Kit D S R O) where
   close_next valid st (Some c) o drawn out s = (tt, s)
 
   pub open_next : (valid : D → D → O → Type 0) (st : Settings) (b : Option (Book D S R)) (o : Option (Opened D S)) (o' : Opened D S) (v : Version D) (drawn out : ℕ)
-      → b ≡ None → Stands b o drawn out → v.number ≡ 1 → o'.version.value ≡ v → o'.first ≡ k.start v.machine.value → o'.segs.items ≡ [] → 1024 ≤ vec_capacity o'.segs
+      → b ≡ None → Stands b o drawn out → v.number ≡ 1 → o'.version.value ≡ v → o'.first ≡ k.start v.machine.value → o'.segs.items ≡ [] → o'.has_open ≡ any_open o'.segs.items
       → MayCome k valid st b (Opens v.number v.machine.value) × Stands (apply k st b (Opens v.number v.machine.value)) (Some o') drawn out
-  open_next valid st b o o' v drawn out none s one version first segs room =
+  open_next valid st b o o' v drawn out none s one version first segs opens =
       let P : Option (Book D S R) → Type 0 = λ x. Stands x o drawn out → MayCome k valid st x (Opens v.number v.machine.value) × Stands (apply k st x (Opens v.number v.machine.value)) (Some o') drawn out in
       let F : ℕ → D → S → List (Segment S) → Book D S R = λ n m a gs. record { version = n; machine = m; rows = []; first = a; segs = gs; tickets = []; used = [] } in
       let core : opened k v.machine.value ≡ core_of o' [] [] [] =
@@ -121,21 +126,26 @@ module _ {D S R O : Type 0} (k : Kit D S R O) where
       ∙ ap (λ (gs : List (Segment S)). F o'.version.value.number o'.version.value.machine.value o'.first gs) (sym segs) in
       let here : P None = λ t.
       let z = zeroes o drawn out t in
-      (one, record { core = core; tickets = z.0; outs = z.1; few = omega (arith, ap (λ (gs : List (Segment S)). length gs) segs); room = room }) in
+      (one, record { core = core; tickets = z.0; outs = z.1; few = omega (arith, ap (λ (gs : List (Segment S)). length gs) segs); opens = opens }) in
       subst P (sym none) here s
     where
       zeroes : (o : Option (Opened D S)) (drawn out : ℕ) → Stands {R = R} None o drawn out → (drawn ≡ 0) × (out ≡ 0)
       zeroes None drawn out t = t
       zeroes (Some o) drawn out t = absurd t
 
+  pub run_may : (valid : D → D → O → Type 0) (st : Settings) (b : Option (Book D S R)) (o : Opened D S) (drawn out : ℕ) (rows : List R) (n : ℕ) → Stands b (Some o) drawn out → length rows ≡ n → 1 ≤ n
+      → MayCome k valid st b (Runs n rows)
+  run_may valid st None o drawn out rows n s count some = absurd s
+  run_may valid st (Some c) o drawn out rows n s count some = (sym count, omega (arith, some))
+
   pub run_next : (valid : D → D → O → Type 0) (st : Settings) (b : Option (Book D S R)) (o o' : Opened D S) (drawn out : ℕ) (rows : ℕ × List R) (n : ℕ)
       → Stands b (Some o) drawn out → rows.0 ≡ cycle_in b → length rows.1 ≡ n → 1 ≤ n
       → o'.version ≡ o.version → o'.first ≡ o.first
       → ((before : List R) → length before ≡ rows.0 → o'.segs.items ≡ extend k o.version.value.machine.value (before ++ rows.1) o.segs.items rows.0 (last_state o.first o.segs.items) (grid st.interval rows.0 n))
-      → length o'.segs.items < 1024 → 1024 ≤ vec_capacity o'.segs
+      → o'.has_open ≡ any_open o'.segs.items
       → MayCome k valid st b (Runs n rows.1) × Stands (apply k st b (Runs n rows.1)) (Some o') drawn out
-  run_next valid st None o o' drawn out rows n s starts count some version first items few room = absurd s
-  run_next valid st (Some c) o o' drawn out rows n s starts count some version first items few room =
+  run_next valid st None o o' drawn out rows n s starts count some version first items opens = absurd s
+  run_next valid st (Some c) o o' drawn out rows n s starts count some version first items opens =
       let x : Book D S R = core_of o c.rows c.tickets c.used in
       let m = o.version.value.machine.value in
       let P : Book D S R → Type 0 = λ y. MayFollow k valid st y (Runs n rows.1) × Stands (Some (step k st y (Runs n rows.1))) (Some o') drawn out in
@@ -148,7 +158,8 @@ module _ {D S R O : Type 0} (k : Kit D S R O) where
       ap (λ (gs : List (Segment S)). G o o.first gs) segs
       ∙ ap (λ (a : S). G o a o'.segs.items) (sym first)
       ∙ ap (λ (v : Arc (Version D) Global). record { version = v.value.number; machine = v.value.machine.value; rows = c.rows ++ rows.1; first = o'.first; segs = o'.segs.items; tickets = c.tickets; used = c.used }) (sym version) in
-      let after : StandsFor (step k st x (Runs n rows.1)) o' drawn out = record { core = core; tickets = s.tickets; outs = s.outs; few = few; room = room } in
+      let few : length o'.segs.items < 1024 = subst (λ (l : List (Segment S)). length l < 1024) segs (extend_few k m (c.rows ++ rows.1) o.segs.items (length c.rows) (last_state o.first o.segs.items) (grid st.interval (length c.rows) (length rows.1)) s.few) in
+      let after : StandsFor (step k st x (Runs n rows.1)) o' drawn out = record { core = core; tickets = s.tickets; outs = s.outs; few = few; opens = opens } in
       let here : P x = ((sym count, omega (arith, some)), after) in
       subst P (sym s.core) here
 
@@ -157,10 +168,10 @@ module _ {D S R O : Type 0} (k : Kit D S R O) where
       → from ≡ chosen (length (record_in b) - st.lookback) 0 o.segs.items
       → o'.version.value ≡ v → o'.first ≡ k.start v.machine.value
       → o'.segs.items ≡ reloaded k o.version.value.machine.value v.machine.value ops (record_in b) (length (record_in b) - st.lookback) 0 (k.start v.machine.value) o.segs.items
-      → length o'.segs.items < 1024 → 1024 ≤ vec_capacity o'.segs
+      → length o'.segs.items < 1024 → o'.has_open ≡ any_open o'.segs.items
       → MayCome k valid st b (Reloads v.number v.machine.value ops from) × Stands (apply k st b (Reloads v.number v.machine.value ops from)) (Some o') drawn out
-  reload_next valid st None o o' drawn out v ops from s number lead choice version first items few room = absurd s
-  reload_next valid st (Some c) o o' drawn out v ops from s number lead choice version first items few room =
+  reload_next valid st None o o' drawn out v ops from s number lead choice version first items few opens = absurd s
+  reload_next valid st (Some c) o o' drawn out v ops from s number lead choice version first items few opens =
       let x : Book D S R = core_of o c.rows c.tickets c.used in
       let e : Event D R O = Reloads v.number v.machine.value ops from in
       let P : Book D S R → Type 0 = λ y. MayFollow k valid st y e × Stands (Some (step k st y e)) (Some o') drawn out in
@@ -171,7 +182,7 @@ module _ {D S R O : Type 0} (k : Kit D S R O) where
       ∙ ap (λ (gs : List (Segment S)). F v.number v.machine.value (k.start v.machine.value) gs) (sym items)
       ∙ ap (λ (y : Version D). F y.number y.machine.value (k.start v.machine.value) o'.segs.items) (sym version)
       ∙ ap (λ (a : S). F o'.version.value.number o'.version.value.machine.value a o'.segs.items) (sym first) in
-      let after : StandsFor (step k st x e) o' drawn out = record { core = core; tickets = s.tickets; outs = s.outs; few = few; room = room } in
+      let after : StandsFor (step k st x e) o' drawn out = record { core = core; tickets = s.tickets; outs = s.outs; few = few; opens = opens } in
       let here : P x = ((sym next, subst (λ (y : Book D S R). valid y.machine v.machine.value ops) s.core lead, choice), after) in
       subst P (sym s.core) here
 
@@ -211,11 +222,11 @@ drew_out ts us new Session n is fresh out = rw is (omega (arith, out))
 drew_out ts us new (Worker w) n is fresh out = rw (is, fresh) (omega (arith, out))
 
 pub claim_next : {D S R O : Type 0} (k : Kit D S R O) (valid : D → D → O → Type 0) (st : Settings) (b : Option (Book D S R)) (o o' : Opened D S) (n : Counters) (by : Who) (t : ℕ × DrawnTicket D S R)
-    → UsedAreDrawn b → Stands b (Some o) n.drawn n.out → IsDrawnAs k by (n.drawn + 1) (core_of o (record_in b) [] []) (core_of o' (record_in b) [] []) t → vec_capacity o'.segs ≡ vec_capacity o.segs
+    → UsedAreDrawn b → Stands b (Some o) n.drawn n.out → IsDrawnAs k by (n.drawn + 1) (core_of o (record_in b) [] []) (core_of o' (record_in b) [] []) t → o'.has_open ≡ any_open o'.segs.items
     → MayCome k valid st b (Claims t.0 t.1.a t.1.b by) × Stands (apply k st b (Claims t.0 t.1.a t.1.b by)) (Some o') (drew_by by n).drawn (drew_by by n).out
     × IsOutFor (apply k st b (Claims t.0 t.1.a t.1.b by)) t.0 t.1 by
-claim_next k valid st None o o' n by t u s d cap = absurd s
-claim_next {D} {S} {R} {O} k valid st (Some c) o o' n by t u s d cap =
+claim_next k valid st None o o' n by t u s d opens = absurd s
+claim_next {D} {S} {R} {O} k valid st (Some c) o o' n by t u s d opens =
     let ts = c.tickets in
     let us = c.used in
     let f = d.place in
@@ -238,7 +249,7 @@ claim_next {D} {S} {R} {O} k valid st (Some c) o o' n by t u s d cap =
       tickets = drew_drawn by n ∙ omega (arith, number);
       outs = drew_out ts us new by n refl not_used s.outs;
       few = omega (arith, s.few, ap (λ (y : Book D S R). length y.segs) marked, length-marked (takes by) (length ts + 1) x.segs);
-      room = omega (arith, s.room, cap);
+      opens = opens;
     } in
     let here : Q (Some f) = (
       after,
@@ -258,13 +269,6 @@ tickets_are None None drawn out s = s.0
 tickets_are None (Some o) drawn out s = absurd s
 tickets_are (Some c) None drawn out s = absurd s
 tickets_are (Some c) (Some o) drawn out s = s.tickets
-
-pub replaced : {D S : Type 0} (o o' : Opened D S) (segs : Vec (Segment S)) → o'.version ≡ o.version → o'.first ≡ o.first → o'.segs ≡ segs
-    → record { version = o.version; first = o.first; segs = segs } ≡ o'
-replaced {D} {S} o o' segs version first same =
-    ap (λ (v : Arc (Version D) Global). record { version = v; first = o.first; segs = segs }) (sym version)
-    ∙ ap (λ (a : S). record { version = o'.version; first = a; segs = segs }) (sym first)
-    ∙ ap (λ (l : Vec (Segment S)). record { version = o'.version; first = o'.first; segs = l }) (sym same)
 
 pub all_false : {a b c : Bool} → a ≡ false → b ≡ false → c ≡ false → a || b || c ≡ false
 all_false {a} {b} {c} x y z = rw (x, y, z) refl

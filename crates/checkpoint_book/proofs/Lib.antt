@@ -1,5 +1,7 @@
 pub mod Places
 pub mod Grids
+pub mod Idles
+pub mod Marking
 pub mod Thins
 pub mod Draws
 pub mod Frees

@@ -1,4 +1,4 @@
-use Rattle.std.proofs.Common.{◌≡◌, ℕ, zero, suc, ◌+◌, ◌-◌, ◌*◌, ◌<◌, ◌≤◌, List, [], ◌∷◌, ◌++◌, length, take, drop, set, get_or, refl, sym, ◌∙◌, ap, arith, eqb, length-append}
+use Rattle.std.proofs.Common.{◌≡◌, ℕ, zero, suc, ◌+◌, ◌-◌, ◌*◌, ◌<◌, ◌≤◌, List, [], ◌∷◌, ◌++◌, length, take, drop, set, get_or, sym, ◌∙◌, ap, arith, eqb, length-append}
 use Rattle.std.proofs.Math.Seq.{drop-append-add, drop-cons, take-suc}
 use Rattle.std.proofs.lemmas.List.{append-nil, drop_all, take_all, take-set-le}
 use Rattle.std.specs.List.{SwappedAt}
@@ -54,6 +54,13 @@ length-add {S} segs g few =
     cond_both (eqb (length segs + 2) 1025) (thin (segs ++ g ∷ [])) (segs ++ g ∷ []) (λ x. length x < 1024)
     (λ is. omega (arith, more, half, few))
     (λ is. let ne : length segs + 2 ≡ 1025 → ⊥ = eqb-false (length segs + 2) 1025 is in omega (arith, more, few))
+
+pub extend_few : {D S R O : Type 0} (k : Kit D S R O) (m : D) (rows : List R) (segs : List (Segment S)) (a : ℕ) (s : S) (cs : List ℕ) → length segs < 1024 → length (extend k m rows segs a s cs) < 1024
+extend_few k m rows segs a s [] few = few
+extend_few {D} {S} k m rows segs a s (c ∷ cs) few =
+    let e : S = k.seg m (slice rows a c) s in
+    let g : Segment S = record { link = Joined; to = c; state = e } in
+    extend_few k m rows (add_mark segs g) c e cs (length-add segs g few)
 
 -- the last one, read by its index
 pub last_at : {S : Type 0} (s : S) (segs : List (Segment S)) (n : ℕ) (g : Segment S) → length segs ≡ suc n → g ≡ get_or segs n g → g.state ≡ last_state s segs

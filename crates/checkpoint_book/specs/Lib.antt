@@ -1,4 +1,6 @@
 pub mod Answers
+pub mod Idle
+pub mod Growth
 pub mod Opened
 pub mod Tickets
 pub mod Place

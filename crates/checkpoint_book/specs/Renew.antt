@@ -1,8 +1,9 @@
 -- The two parts of a reload's marks.
-use Rattle.std.specs.Prelude.{◌≡◌, ℕ, suc, ◌<◌, ◌≤◌, List, [], ◌∷◌, length, if◌then◌else◌, leb, vec_capacity}
+use Rattle.std.specs.Prelude.{◌≡◌, ℕ, suc, ◌<◌, List, [], ◌∷◌, length, if◌then◌else◌, leb}
 use Rattle.book_history.specs.declared.version.Version.{Version}
 use Rattle.book_history.specs.Book.{reloaded}
 use Rattle.checkpoint_book.specs.declared.opened.Opened.{Opened}
+use Rattle.checkpoint_book.specs.Idle.{any_open}
 use Rattle.machine.specs.Kit.{Kit}
 use Rattle.book_history.specs.declared.segment.Segment.{Segment}
 use Rattle.book_history.specs.declared.link.Link.TheVariants.{Open}
@@ -30,5 +31,5 @@ pub record IsReloaded {D S R O : Type 0} (k : Kit D S R O) (old : D) (v : Versio
   pub version : o.version.value ≡ v
   pub first : o.first ≡ k.start v.machine.value
   pub items : o.segs.items ≡ reloaded k old v.machine.value ops rows limit 0 (k.start v.machine.value) segs
-  pub room : 1024 ≤ vec_capacity o.segs
+  pub opens : o.has_open ≡ any_open o.segs.items
   pub few : length o.segs.items < 1024

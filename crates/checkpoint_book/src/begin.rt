@@ -1,7 +1,6 @@
 // The book of a first version.
-ghost use Rattle.std.specs.Prelude.{◌≡◌, ◌≤◌, [], IfOk, vec_capacity};
-ghost use Rattle.book_history.specs.Book.{opened};
-ghost use Rattle.checkpoint_book.specs.Opened.{core_of};
+ghost use Rattle.std.specs.Prelude.{◌≡◌, [], IfOk};
+ghost use Rattle.checkpoint_book.specs.Idle.{any_open};
 
 use crate::opened::Opened;
 use book_history::version::Version;
@@ -10,7 +9,7 @@ use no_memory::NoMemory;
 use std::alloc::Global;
 use std::sync::Arc;
 
-/// One mark, the machine's reset at cycle 0, and places for 1,024 links.
+/// One mark, the machine's reset at cycle 0, and no link.
 pub fn begun<M: Machine>(
     alloc: Global,
     version: Arc<Version<M>, Global>,
@@ -18,13 +17,13 @@ pub fn begun<M: Machine>(
     ensures version { IfOk result (λ o. o.version.value ≡ version.value) }
     ensures first { IfOk result (λ o. o.first ≡ M.kit.start version.value.machine.value) }
     ensures segs { IfOk result (λ o. o.segs.items ≡ []) }
-    ensures room { IfOk result (λ o. 1024 ≤ vec_capacity o.segs) }
+    ensures open { IfOk result (λ o. o.has_open ≡ any_open o.segs.items) }
 {
     let first = (*version.machine).reset(alloc)?;
-    let segs = Vec::with_capacity(alloc, 1024)?;
     Ok(Opened {
         version,
         first,
-        segs,
+        segs: Vec::new(alloc),
+        has_open: false,
     })
 }

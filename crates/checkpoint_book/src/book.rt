@@ -15,7 +15,8 @@ use crate::claimed::Claimed;
 use crate::counters::{Counters, drew, one_of_session, used};
 use crate::draw::draw;
 use crate::free::release_in;
-use crate::grow::{grown, last, replace_segs};
+use crate::grow::{grown, last};
+use crate::growth::{grow, make_room};
 use crate::install::install_in;
 use crate::installed::Installed;
 use crate::opened::Opened;
@@ -231,9 +232,12 @@ impl<M: Machine> Book<M> {
         let Some(opened) = &mut self.opened else {
             unreachable!()
         };
-        let segs = grown(self.alloc, opened, &rows, self.history.interval(), n, steps)?;
+        let (c, end) = (rows.start(), rows.end());
+        let interval = self.history.interval();
+        let growth = grown(self.alloc, opened, &rows, interval, c, end, steps)?;
+        make_room(opened, &growth)?;
         self.history.push_run(&rows)?;
-        replace_segs(opened, segs);
+        grow(opened, growth);
         self.counters = one_of_session(self.counters);
         Ok(())
     }

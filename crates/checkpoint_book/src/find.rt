@@ -1,5 +1,5 @@
 // Where a ticket's link is.
-ghost use Rattle.std.specs.Prelude.{◌≡◌, ℕ, ◌<◌, length, true, false, IfSome, IfNone, vec_capacity};
+ghost use Rattle.std.specs.Prelude.{◌≡◌, ℕ, ◌<◌, length, true, false, IfSome, IfNone};
 ghost use Rattle.book_history.specs.Book.{matches, has_link, joined};
 ghost use Rattle.checkpoint_book.specs.Place.{joined_at};
 ghost use Rattle.checkpoint_book.specs.Answers.{has_cycles};
@@ -69,8 +69,7 @@ pub fn join_at<M: Machine>(
     outcome: M::State,
 )
     requires { i < length segs.old.items }
-    ensures items { segs.new.items ≡ joined_at M.kit machine.now outcome i segs.old.items }
-    ensures capacity { vec_capacity segs.new ≡ vec_capacity segs.old }
+    ensures { segs.new.items ≡ joined_at M.kit machine.now outcome i segs.old.items }
 {
     let same = machine.same(&outcome, &segs[i].state);
     let seg = &mut segs[i];

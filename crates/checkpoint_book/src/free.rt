@@ -1,7 +1,9 @@
 // A ticket is given up.
-ghost use Rattle.std.specs.Prelude.{◌≡◌, ℕ, vec_capacity};
+ghost use Rattle.std.specs.Prelude.{◌≡◌, ℕ};
 ghost use Rattle.book_history.specs.Book.{free_link, freed};
+ghost use Rattle.checkpoint_book.specs.Idle.{any_open};
 
+use crate::idle::any_open;
 use crate::opened::Opened;
 use book_history::link::Link;
 use book_history::segment::Segment;
@@ -26,7 +28,6 @@ fn freed_link(link: Link, ticket: u64) -> Link
 /// Opens the links that are out with this ticket.
 fn free<S>(segs: &mut Vec<Segment<S>>, ticket: u64)
     ensures items { segs.new.items ≡ freed ticket segs.old.items }
-    ensures capacity { vec_capacity segs.new ≡ vec_capacity segs.old }
 {
     for i in 0..segs.len() {
         let seg = &mut segs[i];
@@ -39,7 +40,8 @@ pub fn release_in<D, S>(o: &mut Opened<D, S>, ticket: u64)
     ensures version { o.new.version ≡ o.old.version }
     ensures first { o.new.first ≡ o.old.first }
     ensures items { o.new.segs.items ≡ freed ticket o.old.segs.items }
-    ensures capacity { vec_capacity o.new.segs ≡ vec_capacity o.old.segs }
+    ensures open { o.new.has_open ≡ any_open o.new.segs.items }
 {
     free(&mut o.segs, ticket);
+    o.has_open = any_open(&o.segs);
 }

@@ -3,7 +3,10 @@ ghost use Rattle.std.specs.Prelude.{◌≡◌, ℕ, ◌<◌, ◌≤◌, ◌+◌,
 ghost use Rattle.machine.specs.Rows.{Covers};
 ghost use Rattle.book_history.specs.Book.{both, thin as thinned, add_mark, last_state, extend as extended, grid};
 ghost use Rattle.checkpoint_book.specs.Grid.{next_mark, AgreeFrom};
+ghost use Rattle.checkpoint_book.specs.Growth.{grown_to};
 
+use crate::growth::Growth;
+use crate::marks::{more_marks, stay_few};
 use crate::opened::Opened;
 use book_history::link::Link;
 use book_history::segment::Segment;
@@ -153,48 +156,63 @@ fn share_segs<M: Machine>(
     Ok(shared)
 }
 
-/// The links and marks after a run over these rows, which begin at the last mark.
+/// The links and marks after a run from cycle `c`, where the last mark stands, to cycle `end`: those of the book shared, the
+/// new ones behind them, and thinned where there are 1,025.
+fn thinned_marks<M: Machine, L: Ledger>(
+    alloc: Global,
+    o: &Opened<M, M::State>,
+    rows: &RowRuns<M::Row>,
+    interval: u64,
+    c: u64,
+    end: u64,
+    steps: &mut Steps<L>,
+) -> Result<Vec<Segment<M::State>>, NoMemory>
+    requires interval { 1 ≤ interval }
+    requires covers { Covers rows.now c end }
+    requires fit { M.fits o.now.version.value.machine.value (last_state o.now.first o.now.segs.items) }
+    requires few { length o.now.segs.items < 1024 }
+    ensures taken { OnOk result (steps.new ≡ steps.old + (end - c) * M.work o.now.version.value.machine.value) }
+    ensures rises { steps.old ≤ steps.new }
+    ensures most { steps.new ≤ steps.old + (end - c) * M.work o.now.version.value.machine.value }
+    ensures few { IfOk result (λ v. length v.items < 1024) }
+    ensures items { IfOk result (λ v. (all : List M.Row) → AgreeFrom c end rows.now all
+        → v.items ≡ extended M.kit o.now.version.value.machine.value all o.now.segs.items c (last_state o.now.first o.now.segs.items) (grid interval c (end - c))) }
+{
+    let machine: &M = &*o.version.machine;
+    let mut segs = share_segs(alloc, machine, &o.segs)?;
+    extend(
+        alloc, machine, rows, interval, &o.first, &mut segs, c, end, steps,
+    )?;
+    Ok(segs)
+}
+
+/// What a run from cycle `c`, where the last mark stands, to cycle `end` makes of the links and marks. Marks are shared only
+/// where some are thinned.
 pub fn grown<M: Machine, L: Ledger>(
     alloc: Global,
     o: &Opened<M, M::State>,
     rows: &RowRuns<M::Row>,
     interval: u64,
-    n: u64,
+    c: u64,
+    end: u64,
     steps: &mut Steps<L>,
-) -> Result<Vec<Segment<M::State>>, NoMemory>
+) -> Result<Growth<M::State>, NoMemory>
     requires interval { 1 ≤ interval }
-    requires count { length rows.now.1 ≡ n }
+    requires covers { Covers rows.now c end }
     requires fit { M.fits o.now.version.value.machine.value (last_state o.now.first o.now.segs.items) }
     requires few { length o.now.segs.items < 1024 }
-    ensures taken { OnOk result (steps.new ≡ steps.old + n * M.work o.now.version.value.machine.value) }
+    ensures taken { OnOk result (steps.new ≡ steps.old + (end - c) * M.work o.now.version.value.machine.value) }
     ensures rises { steps.old ≤ steps.new }
-    ensures most { steps.new ≤ steps.old + n * M.work o.now.version.value.machine.value }
-    ensures few { IfOk result (λ v. length v.items < 1024) }
-    ensures room { IfOk result (λ v. 1024 ≤ vec_capacity v) }
-    ensures items { IfOk result (λ v. (before : List M.Row) → length before ≡ rows.now.0
-        → v.items ≡ extended M.kit o.now.version.value.machine.value (before ++ rows.now.1) o.now.segs.items rows.now.0 (last_state o.now.first o.now.segs.items) (grid interval rows.now.0 n)) }
+    ensures most { steps.new ≤ steps.old + (end - c) * M.work o.now.version.value.machine.value }
+    ensures items { IfOk result (λ v. (all : List M.Row) → AgreeFrom c end rows.now all
+        → grown_to v o.now.segs.items ≡ extended M.kit o.now.version.value.machine.value all o.now.segs.items c (last_state o.now.first o.now.segs.items) (grid interval c (end - c))) }
 {
+    if !stay_few(o.segs.len(), interval, c, end) {
+        let all = thinned_marks(alloc, o, rows, interval, c, end, steps)?;
+        return Ok(Growth::All(all));
+    }
     let machine: &M = &*o.version.machine;
-    let mut segs = share_segs(alloc, machine, &o.segs)?;
-    extend(
-        alloc,
-        machine,
-        rows,
-        interval,
-        &o.first,
-        &mut segs,
-        rows.start(),
-        rows.end(),
-        steps,
-    )?;
-    Ok(segs)
-}
-
-/// The book with these links and marks.
-pub fn replace_segs<D, S: Drop>(o: &mut Opened<D, S>, segs: Vec<Segment<S>>)
-    ensures version { o.new.version ≡ o.old.version }
-    ensures first { o.new.first ≡ o.old.first }
-    ensures segs { o.new.segs ≡ segs }
-{
-    o.segs = segs;
+    let from = last(&o.first, &o.segs);
+    let more = more_marks(alloc, machine, rows, interval, from, c, end, steps)?;
+    Ok(Growth::More(more))
 }

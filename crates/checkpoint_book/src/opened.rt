@@ -4,10 +4,11 @@ use book_history::version::Version;
 use std::alloc::Global;
 use std::sync::Arc;
 
-/// The current version, the state of mark 0, and the links with the marks at their ends.
+/// The current version, the state of mark 0, the links with the marks at their ends, and whether some link is open.
 #[derive(Drop)]
 pub struct Opened<D, S> {
     pub(crate) version: Arc<Version<D>, Global>,
     pub(crate) first: S,
     pub(crate) segs: Vec<Segment<S>>,
+    pub(crate) has_open: bool,
 }

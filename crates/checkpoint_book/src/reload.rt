@@ -1,9 +1,10 @@
 // The book under its next version.
-ghost use Rattle.std.specs.Prelude.{◌≡◌, ℕ, ◌<◌, ◌≤◌, ◌+◌, ◌-◌, ◌*◌, List, length, vec_capacity, IfOk, OnOk};
+ghost use Rattle.std.specs.Prelude.{◌≡◌, ℕ, ◌<◌, ◌≤◌, ◌+◌, ◌-◌, ◌*◌, List, length, IfOk, OnOk};
 ghost use Rattle.book_history.specs.Book.{last_cycle, chosen};
 ghost use Rattle.book_history.specs.Law.{record_of};
 ghost use Rattle.checkpoint_book.specs.Renew.{AllFit, Rises, IsReloaded};
 
+use crate::idle::any_open;
 use crate::opened::Opened;
 use crate::renew::{choose, renew_segs};
 use book_history::history_writer::HistoryWriter;
@@ -45,10 +46,12 @@ pub fn renewed<M: Machine, L: Ledger>(
     let segs = renew_segs(
         alloc, old, machine, ops, &first, kept, later, &rows, from, steps,
     )?;
+    let has_open = any_open(&segs);
     let next = Opened {
         version,
         first,
         segs,
+        has_open,
     };
     Ok((next, from))
 }

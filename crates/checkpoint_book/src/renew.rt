@@ -94,7 +94,8 @@ pub fn simulate<M: Machine, L: Ledger>(
     Ok(())
 }
 
-/// The marks under the new machine: the first `count` carried over, the others simulated from the last of these.
+/// The marks under the new machine: the kept ones carried over, the later ones simulated from the last of these. It takes
+/// room for just these.
 pub fn renew_segs<M: Machine, L: Ledger>(
     alloc: Global,
     old: &M,
@@ -113,14 +114,13 @@ pub fn renew_segs<M: Machine, L: Ledger>(
     requires rises { Rises from later.now }
     requires covers { Covers rows.now from (last_cycle from later.now) }
     requires few { length kept.now + length later.now < 1024 }
-    ensures room { IfOk result (λ v. 1024 ≤ vec_capacity v) }
     ensures items { IfOk result (λ v. (all : List M.Row) → AgreeFrom from (last_cycle from later.now) rows.now all
         → v.items ≡ carried_over M.kit old.now new.now ops.now kept.now ++ simulated M.kit new.now all from (last_state first.now (carried_over M.kit old.now new.now ops.now kept.now)) (cycles later.now)) }
     ensures taken { OnOk result (steps.new ≡ steps.old + (last_cycle from later.now - from) * M.work new.now) }
     ensures rises { steps.old ≤ steps.new }
     ensures most { steps.new ≤ steps.old + (last_cycle from later.now - from) * M.work new.now }
 {
-    let mut segs = Vec::with_capacity(alloc, 1024)?;
+    let mut segs = Vec::with_capacity(alloc, kept.len() + later.len())?;
     carry_over(alloc, old, new, ops, kept, &mut segs)?;
     simulate(alloc, new, rows, first, later, &mut segs, from, steps)?;
     Ok(segs)

@@ -220,16 +220,20 @@ push_reload-requires-clause-legal g c κs within =
     let same_v : v ≡ c.args.version.value = c.in_ok-version.ensures ∙ is.version in
     let N : Journal g.row.M.Denot g.row.M-Row.Denot g.row.M-Ops.Denot → Type 0 = λ x. c.args.version.value.number ≡ version_in (book_of m.kit x) + 1 in
     let number : v.number ≡ version_in b + 1 = ap (λ (x : Version g.row.M.Denot). x.number) same_v ∙ subst N (sym c.self.view_is) c.requires.number in
+    let ops = c.in_ok-ops.ops.value in
+    let given : ops ≡ c.args.ops = c.in_ok-ops.ensures.ok in
     let L : Journal g.row.M.Denot g.row.M-Row.Denot g.row.M-Ops.Denot → Type 0 = λ x. LeadTo m.valid (book_of m.kit x) c.args.version.value.machine.value c.args.ops in
     let lead0 : L j = subst L (sym c.self.view_is) c.requires.valid in
-    let lead : LeadTo m.valid b v.machine.value c.args.ops = subst (λ (x : Version g.row.M.Denot). LeadTo m.valid b x.machine.value c.args.ops) (sym same_v) lead0 in
-    let R : Version g.row.M.Denot → List g.row.M-Row.Denot → ℕ → List (Segment g.row.M-State.Denot) = λ x l i. reloaded m.kit old x.machine.value c.args.ops l i 0 (m.kit.start x.machine.value) segs in
+    let lead1 : LeadTo m.valid b v.machine.value c.args.ops = subst (λ (x : Version g.row.M.Denot). LeadTo m.valid b x.machine.value c.args.ops) (sym same_v) lead0 in
+    let lead : LeadTo m.valid b v.machine.value ops = subst (λ (x : g.row.M-Ops.Denot). LeadTo m.valid b v.machine.value x) (sym given) lead1 in
+    let P : g.row.M-Ops.Denot → Version g.row.M.Denot → List g.row.M-Row.Denot → ℕ → List (Segment g.row.M-State.Denot) = λ y x l i. reloaded m.kit old x.machine.value y l i 0 (m.kit.start x.machine.value) segs in
+    let R : Version g.row.M.Denot → List g.row.M-Row.Denot → ℕ → List (Segment g.row.M-State.Denot) = λ x l i. P ops x l i in
     let items : o'.segs.items ≡ R v (record_in b) (length (record_in b) - j.settings.lookback) =
-    is.items ∙ ap (λ (x : Version g.row.M.Denot). R x (record_of j.events) limit) (sym same_v) ∙ ap (λ (l : List g.row.M-Row.Denot). R v l limit) rows ∙ ap (λ (i : ℕ). R v (record_in b) i) limit_is in
+    is.items ∙ ap (λ (y : g.row.M-Ops.Denot). P y c.args.version.value (record_of j.events) limit) c.deref.ensures ∙ ap (λ (x : Version g.row.M.Denot). R x (record_of j.events) limit) (sym same_v) ∙ ap (λ (l : List g.row.M-Row.Denot). R v l limit) rows ∙ ap (λ (i : ℕ). R v (record_in b) i) limit_is in
     let first : o'.first ≡ m.kit.start v.machine.value = is.first ∙ ap (λ (x : Version g.row.M.Denot). m.kit.start x.machine.value) (sym same_v) in
     let from_is : c.in_ok-next.from ≡ chosen (length (record_in b) - j.settings.lookback) 0 segs = c.in_ok-next.ensures.cycle ∙ ap (λ (x : ℕ). chosen x 0 segs) limit_is in
-    let next = reload_next m.kit m.valid j.settings b o o' n.drawn n.out v c.args.ops c.in_ok-next.from kept.stands number lead from_is (sym c.in_ok-version.ensures) first items is.few is.room in
-    let event = Reloads v.number v.machine.value c.args.ops c.in_ok-next.from in
+    let next = reload_next m.kit m.valid j.settings b o o' n.drawn n.out v ops c.in_ok-next.from kept.stands number lead from_is (sym c.in_ok-version.ensures) first items is.few is.opens in
+    let event = Reloads v.number v.machine.value ops c.in_ok-next.from in
     legal_next m.kit m.valid j event (Some o) n kept c.legal.ensures next.0 fits
 
 pub one_of_session-self-inside-requires : goal.one_of_session-self-inside-requires
@@ -267,15 +271,19 @@ invariant_of-self-2 g c =
     let same_v : v ≡ c.args.version.value = c.in_ok-version.ensures ∙ is.version in
     let N : Journal g.row.M.Denot g.row.M-Row.Denot g.row.M-Ops.Denot → Type 0 = λ x. c.args.version.value.number ≡ version_in (book_of m.kit x) + 1 in
     let number : v.number ≡ version_in b + 1 = ap (λ (x : Version g.row.M.Denot). x.number) same_v ∙ subst N (sym c.self.view_is) c.requires.number in
+    let ops = c.in_ok-ops.ops.value in
+    let given : ops ≡ c.args.ops = c.in_ok-ops.ensures.ok in
     let L : Journal g.row.M.Denot g.row.M-Row.Denot g.row.M-Ops.Denot → Type 0 = λ x. LeadTo m.valid (book_of m.kit x) c.args.version.value.machine.value c.args.ops in
     let lead0 : L j = subst L (sym c.self.view_is) c.requires.valid in
-    let lead : LeadTo m.valid b v.machine.value c.args.ops = subst (λ (x : Version g.row.M.Denot). LeadTo m.valid b x.machine.value c.args.ops) (sym same_v) lead0 in
-    let R : Version g.row.M.Denot → List g.row.M-Row.Denot → ℕ → List (Segment g.row.M-State.Denot) = λ x l i. reloaded m.kit old x.machine.value c.args.ops l i 0 (m.kit.start x.machine.value) segs in
+    let lead1 : LeadTo m.valid b v.machine.value c.args.ops = subst (λ (x : Version g.row.M.Denot). LeadTo m.valid b x.machine.value c.args.ops) (sym same_v) lead0 in
+    let lead : LeadTo m.valid b v.machine.value ops = subst (λ (x : g.row.M-Ops.Denot). LeadTo m.valid b v.machine.value x) (sym given) lead1 in
+    let P : g.row.M-Ops.Denot → Version g.row.M.Denot → List g.row.M-Row.Denot → ℕ → List (Segment g.row.M-State.Denot) = λ y x l i. reloaded m.kit old x.machine.value y l i 0 (m.kit.start x.machine.value) segs in
+    let R : Version g.row.M.Denot → List g.row.M-Row.Denot → ℕ → List (Segment g.row.M-State.Denot) = λ x l i. P ops x l i in
     let items : o'.segs.items ≡ R v (record_in b) (length (record_in b) - j.settings.lookback) =
-    is.items ∙ ap (λ (x : Version g.row.M.Denot). R x (record_of j.events) limit) (sym same_v) ∙ ap (λ (l : List g.row.M-Row.Denot). R v l limit) rows ∙ ap (λ (i : ℕ). R v (record_in b) i) limit_is in
+    is.items ∙ ap (λ (y : g.row.M-Ops.Denot). P y c.args.version.value (record_of j.events) limit) c.deref.ensures ∙ ap (λ (x : Version g.row.M.Denot). R x (record_of j.events) limit) (sym same_v) ∙ ap (λ (l : List g.row.M-Row.Denot). R v l limit) rows ∙ ap (λ (i : ℕ). R v (record_in b) i) limit_is in
     let first : o'.first ≡ m.kit.start v.machine.value = is.first ∙ ap (λ (x : Version g.row.M.Denot). m.kit.start x.machine.value) (sym same_v) in
     let from_is : c.in_ok-next.from ≡ chosen (length (record_in b) - j.settings.lookback) 0 segs = c.in_ok-next.ensures.cycle ∙ ap (λ (x : ℕ). chosen x 0 segs) limit_is in
-    let next = reload_next m.kit m.valid j.settings b o o' n.drawn n.out v c.args.ops c.in_ok-next.from kept.stands number lead from_is (sym c.in_ok-version.ensures) first items is.few is.room in
-    let event = Reloads v.number v.machine.value c.args.ops c.in_ok-next.from in
+    let next = reload_next m.kit m.valid j.settings b o o' n.drawn n.out v ops c.in_ok-next.from kept.stands number lead from_is (sym c.in_ok-version.ensures) first items is.few is.opens in
+    let event = Reloads v.number v.machine.value ops c.in_ok-next.from in
     let after = kept_more m.kit j c.push_reload.new.self event (Some o) (Some o') n (one_more n) kept c.push_reload.ensures.settings c.in_ok-push_reload.ensures.ok next.1 refl (omega (arith, kept.fewer)) in
     subst (λ (x : Counters). IsKept m.kit c.push_reload.new.self (Some o') x) (sym c.one_of_session-self-inside.ensures) after
