@@ -5,7 +5,7 @@ use Rattle.book_history.specs.Owned.{IsPrefix}
 use Rattle.book_turn.specs.Known.{Known, joined}
 use Rattle.book_turn.proofs.Histories.{prefix_refl, prefix_trans}
 use Rattle.segment_verify.specs.Entries.{AreTurns}
-use Rattle.worker_scope.specs.Scope.{AreNumbered, AreOfWorkers, HasJoined}
+use Rattle.worker_scope.specs.Scope.{AreNumbered, AreOfWorkers, HasJoinedOne, HasJoined}
 use Rattle.worker_scope.proofs.Numbers.{one_list_more}
 
 module _ {D R O : Type 0} where
@@ -34,6 +34,9 @@ module _ {D R O : Type 0} where
     begins = prefix_trans v.seen w.seen x.seen h.begins begins;
   }
 
+  pub joined_one : (n : ℕ) (v w u : Known D R O) → w ≡ joined v u → IsPrefix v.seen w.seen → AreTurns (Worker n) u.own → HasJoinedOne n v w
+  joined_one n v w u is begins turns = record { worker = u; turns = turns; is = is; begins = begins }
+
   -- some were joined in, and so many are left of all
   pub record IsJoining {A : Type 0} (number : A → ℕ) (total : ℕ) (v w : Known D R O) (left : ℕ) (rest : List A) : Type 0 where
     pub count : ℕ
@@ -50,12 +53,12 @@ module _ {D R O : Type 0} where
       numbered = subst (λ l. AreNumbered number 0 l) (sym are) numbered;
     }
 
-    pub joining_more : (total : ℕ) (v w x u : Known D R O) (left more : ℕ) (y : A) (xs rest : List A) → IsJoining number total v w left rest → rest ≡ y ∷ xs → more + 1 ≡ left
-        → x ≡ joined w u → IsPrefix w.seen x.seen → AreTurns (Worker (number y)) u.own → IsJoining number total v x more xs
-    joining_more total v w x u left more y xs rest j next fewer is begins turns =
+    pub joining_more : (total : ℕ) (v w x : Known D R O) (left more : ℕ) (y : A) (xs rest : List A) → IsJoining number total v w left rest → rest ≡ y ∷ xs → more + 1 ≡ left
+        → HasJoinedOne (number y) w x → IsJoining number total v x more xs
+    joining_more total v w x left more y xs rest j next fewer one =
         let here : AreNumbered number j.count (y ∷ xs) = subst (λ l. AreNumbered number j.count l) next j.numbered in record {
           count = j.count + 1;
-          joined_in = joined_more j.count v w x u j.joined_in is begins (subst (λ (m : ℕ). AreTurns (Worker m) u.own) here.0 turns);
+          joined_in = joined_more j.count v w x one.worker j.joined_in one.is one.begins (subst (λ (m : ℕ). AreTurns (Worker m) one.worker.own) here.0 one.turns);
           are_left = omega (arith, j.are_left, fewer);
           numbered = here.1;
         }

@@ -3,7 +3,7 @@ use Rattle.std.specs.Prelude.{◌≡◌, ◌+◌, ℕ, List, [], ◌∷◌, ◌+
 use Rattle.book_history.specs.declared.who.Who.TheVariants.{Worker}
 use Rattle.book_history.specs.Book.{Event, Closed}
 use Rattle.book_history.specs.Owned.{IsPrefix}
-use Rattle.book_turn.specs.Known.{Known, not_alone}
+use Rattle.book_turn.specs.Known.{Known, joined, not_alone}
 use Rattle.book_turn.specs.Turns.{HasAdded, GoesOn}
 use Rattle.segment_verify.specs.Entries.{AreTurns}
 
@@ -17,6 +17,13 @@ module _ {D R O : Type 0} where
   abbrev pub AreOfWorkers : ℕ → List (List (Event D R O)) → Type 0
   AreOfWorkers n [] = Unit {0}
   AreOfWorkers n (es ∷ ess) = AreTurns (Worker n) es × AreOfWorkers (n + 1) ess
+
+  -- the pass of worker n, which added turns of its own alone, was joined in
+  pub record HasJoinedOne (n : ℕ) (v w : Known D R O) : Type 0 where
+    pub worker : Known D R O
+    pub turns : AreTurns (Worker n) worker.own
+    pub is : w ≡ joined v worker
+    pub begins : IsPrefix v.seen w.seen
 
   -- the passes of workers 0, 1 and so on, so many of them, were joined in: their own lists are in the crew's, and more may be seen
   pub record HasJoined (count : ℕ) (v w : Known D R O) : Type 0 where
@@ -43,4 +50,4 @@ module _ {D R O : Type 0} where
     pub started : not_alone before ≡ not_alone v
     pub behind : Known D R O
     pub worked : HasWorkedAlone does before behind a
-    pub joined : HasJoined count behind w
+    pub all_joined : HasJoined count behind w

@@ -7,7 +7,7 @@ ghost use Rattle.book_turn.specs.Passes.{IsOf, known};
 ghost use Rattle.book_turn.specs.Turns.{HasAdded};
 ghost use Rattle.segment_verify.specs.Entries.{AreTurns};
 ghost use Rattle.segment_verify.specs.Workers.{is_closed, IsFree, HasEnded};
-ghost use Rattle.worker_scope.specs.Scope.{AreNumbered, HasJoined, HasWorked, HasWorkedAlone};
+ghost use Rattle.worker_scope.specs.Scope.{AreNumbered, HasJoined, HasJoinedOne, HasWorked, HasWorkedAlone};
 
 use crate::ends::Ends;
 use crate::session_work::SessionWork;
@@ -210,9 +210,27 @@ fn join_all<M: Machine, R: Threads>(
     ensures joined { HasJoined (vec_len children) (known pass.old) (known pass.new) }
 {
     for child in children {
-        let worker = child.join(rt);
-        turn.join(pass, worker);
+        join_one(rt, turn, pass, child);
     }
+}
+
+/// Waits for one worker, and takes in what it has seen and added.
+#[tactic(auto, using(crate::proofs::Joins::joined_one, crate::proofs::Sessions::free_join))]
+fn join_one<M: Machine, R: Threads>(
+    rt: &R,
+    turn: &Turn<Book<M>>,
+    pass: &mut SessionPass<Book<M>>,
+    child: Child<M>,
+)
+    requires turn { IsOf turn.now pass.old true }
+    requires free { IsFree (known pass.old) }
+    requires child { child.promise.turn.value ≡ turn.now }
+    ensures turn { IsOf turn.now pass.new true }
+    ensures free { IsFree (known pass.new) }
+    ensures joined { HasJoinedOne child.promise.number (known pass.old) (known pass.new) }
+{
+    let worker = child.join(rt);
+    turn.join(pass, worker);
 }
 
 /// Closes the book in one turn.

@@ -21,5 +21,5 @@ returns-clause-worked g c = record {
     goes = c.work-answer.ensures.goes;
     closed = c.close.ensures.closed;
   };
-  joined = subst (λ n. HasJoined n (known c.close.new.pass) (known c.join_all.new.pass)) (sym c.len-started.ensures) c.join_all.ensures.joined;
+  all_joined = subst (λ n. HasJoined n (known c.close.new.pass) (known c.join_all.new.pass)) (sym c.len-started.ensures) c.join_all.ensures.joined;
 }

@@ -1,6 +1,5 @@
 use Rattle.std.proofs.Common.{◌≡◌, rules, ◌+◌, sym, subst, All}
 use Rattle.book_turn.specs.Passes.{known}
-use Rattle.worker_scope.proofs.Sessions.{free_join}
 use Rattle.worker_scope.proofs.Joins.{joining_none, joining_more, joining_all}
 use Rattle.worker_scope.proofs.scope.join_all.Goals as goal
 
@@ -13,14 +12,16 @@ loop-child-init g c =
       joining_none (λ h. h.promise.number) (known c.args.pass.now) c.args.children.len _ _ _ begun.1 begun.0 c.requires.numbers,
     )
 
+pub join_one-requires-clause-child : goal.join_one-requires-clause-child
+join_one-requires-clause-child g c κs within = let h = c.loop-child.invariant.2 0 c.in-Some.child in let step = c.in-Some.ensures.steps in grind rules
+
 pub loop-child-preserved : goal.loop-child-preserved
 loop-child-preserved g c =
     let step = c.in-Some.ensures.steps in (
-      c.join.ensures.turn,
-      free_join (known c.loop-child.pass) _ (known c.join-worker.result) c.join.ensures.known c.loop-child.invariant.1,
+      c.join_one.ensures.turn,
+      c.join_one.ensures.free,
       λ k d below. let h = c.loop-child.invariant.2 (k + 1) d in grind rules,
-      joining_more (λ h. h.promise.number) c.args.children.len (known c.args.pass.now) (known c.loop-child.pass) _ (known c.join-worker.result) _ _ c.in-Some.child _ _ c.loop-child.invariant.3 step.0 step.1 c.join.ensures.known c.join.ensures.seen
-          c.join-worker.ensures.2,
+      joining_more (λ h. h.promise.number) c.args.children.len (known c.args.pass.now) (known c.loop-child.pass) _ _ _ c.in-Some.child _ _ c.loop-child.invariant.3 step.0 step.1 c.join_one.ensures.joined,
     )
 
 pub returns-clause-joined : goal.returns-clause-joined

@@ -12,5 +12,5 @@ returns-clause-worked g c = record {
   started = refl;
   behind = known c.close.new.pass;
   worked = record { after = known c.work-answer.new.pass; did = c.work-answer.ensures.does; goes = c.work-answer.ensures.goes; closed = c.close.ensures.closed };
-  joined = joined_none _;
+  all_joined = joined_none _;
 }
