@@ -1,6 +1,6 @@
 -- What a history says of its tickets, and what the replayed book does.
 use Rattle.std.proofs.Common.{◌≡◌, ℕ, suc, ◌+◌, ◌<◌, ◌≤◌, Bool, true, false, true≢false, List, [], ◌∷◌, ◌++◌, ◌||◌, length, Option, Some, None, eqb, refl, sym, ap, ◌∙◌, subst, arith}
-use Rattle.std.proofs.lemmas.Bool.{cond_both, cond-false, eqb-true}
+use Rattle.std.proofs.lemmas.Bool.{cond_both, cond-false, eqb-true, or_from}
 use Rattle.machine.specs.Kit.{Kit}
 use Rattle.book_history.specs.declared.who.Who.{Who}
 use Rattle.book_history.specs.Book.{DrawnTicket, Book, Settings, Event, Opens, Runs, Reloads, Claims, Installs, Releases, Shows, Closes, drawn, takes, first_link, claim_found, install_found, with_segs, with_used, is_current, joined, result_of, step, apply, replay_from, replay}
@@ -17,10 +17,6 @@ left_false false b e = refl
 right_false : (a b : Bool) → a || b ≡ false → b ≡ false
 right_false true b e = absurd (true≢false e)
 right_false false b e = e
-
-both_false : (a b : Bool) → a ≡ false → b ≡ false → a || b ≡ false
-both_false true b e f = absurd (true≢false e)
-both_false false b e f = f
 
 differs : (n m : ℕ) → (n ≡ m → ⊥) → eqb n m ≡ false
 differs n m h = go (eqb n m) refl
@@ -40,7 +36,7 @@ module _ {D S R O : Type 0} (k : Kit D S R O) (st : Settings) where
   install_is : (c : Book D S R) (m : ℕ) (o : Option (DrawnTicket D S R)) (n : ℕ) (t : DrawnTicket D S R) → eqb n m ≡ false → Is c n t → Is (install_found k c m o) n t
   install_is c m None n t u h = h
   install_is c m (Some s) n t u h =
-      cond_both (is_current k c s) (with_segs c (joined k c.machine s (result_of k s) 0 c.first c.segs)) c (λ x. Is (with_used x m) n t) (λ _. (h.0, both_false (eqb n m) (is_among n c.used) u h.1)) (λ _. (h.0, both_false (eqb n m) (is_among n c.used) u h.1))
+      cond_both (is_current k c s) (with_segs c (joined k c.machine s (result_of k s) 0 c.first c.segs)) c (λ x. Is (with_used x m) n t) (λ _. (h.0, or_from (eqb n m) (is_among n c.used) u h.1)) (λ _. (h.0, or_from (eqb n m) (is_among n c.used) u h.1))
 
   step_is : (c : Book D S R) (e : Event D R O) (n : ℕ) (t : DrawnTicket D S R) → uses n e ≡ false → Is c n t → Is (step k st c e) n t
   step_is c (Opens v m) n t u h = h
@@ -48,7 +44,7 @@ module _ {D S R O : Type 0} (k : Kit D S R O) (st : Settings) where
   step_is c (Reloads v m ops from) n t u h = h
   step_is c (Claims i a b by) n t u h = claim_is c by (first_link (takes by) 0 c.first c.segs) n t h
   step_is c (Installs i j by) n t u h = install_is c i (drawn i c.tickets) n t u h
-  step_is c (Releases i by) n t u h = (h.0, both_false (eqb n i) (is_among n c.used) u h.1)
+  step_is c (Releases i by) n t u h = (h.0, or_from (eqb n i) (is_among n c.used) u h.1)
   step_is c (Shows s) n t u h = h
   step_is c Closes n t u h = h
 
@@ -114,7 +110,7 @@ module _ {D S R O : Type 0} (k : Kit D S R O) (st : Settings) where
     fresh_from b (e ∷ es) l n lt =
         let r = fresh_from (apply k st b e) es l.1 n lt in
         let h = names b e l.0 n (omega (arith, all_grow (apply k st b e) es)) in
-        (both_false (draws n e) (is_drawn n es) h.0 r.0, both_false (uses n e) (is_used n es) h.1 r.1)
+        (or_from (draws n e) (is_drawn n es) h.0 r.0, or_from (uses n e) (is_used n es) h.1 r.1)
 
     -- the number of the next ticket is new to a legal history
     pub next_is_new : (h : List (Event D R O)) → Follows k valid st h → (n : ℕ) → n ≡ tickets_drawn (replay k st h) + 1 → (is_drawn n h ≡ false) × (is_used n h ≡ false)

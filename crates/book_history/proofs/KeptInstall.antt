@@ -1,7 +1,7 @@
 -- claims, installs and releases keep the invariant
 use Rattle.std.proofs.Common.{◌≡◌, ℕ, ◌+◌, ◌≤◌, ◌<◌, ◌≢◌, List, [], ◌∷◌, length, refl, sym, ◌∙◌, ap, subst, arith, Bool, true, false, cond, ◌&&◌, eqb, if◌then◌else◌, eqb-true, eq-eqb}
 use Rattle.std.specs.Prelude.{Option, Some, None}
-use Rattle.std.proofs.lemmas.Bool.{cond_both, cond-false, ne_eqb}
+use Rattle.std.proofs.lemmas.Bool.{cond_both, cond-false, ne_eqb, and_parts}
 use Rattle.machine.specs.Kit.{Kit, Laws}
 use Rattle.book_history.specs.declared.who.Who.{Who}
 use Rattle.book_history.specs.declared.link.Link.{Link}
@@ -179,11 +179,6 @@ pub record Same {D S R : Type 0} (t : DrawnTicket D S R) (a : ℕ) (s : S) (b : 
   pub b_is : b ≡ t.b
   pub s_is : s ≡ t.start
 
-pub both_true : (x y : Bool) → (x && y) ≡ true → (x ≡ true) × (y ≡ true)
-both_true true true e = (refl, refl)
-both_true true false e = (refl, e)
-both_true false y e = absurd cc
-
 pub if_true : (b x : Bool) → cond b x false ≡ true → (b ≡ true) × (x ≡ true)
 if_true true x e = (refl, e)
 if_true false x e = absurd cc
@@ -191,8 +186,8 @@ if_true false x e = absurd cc
 pub matches_same : {D S R O : Type 0} (k : Kit D S R O) (fits : D → S → Type 0) (valid : D → D → O → Type 0) → Laws k fits valid
     → (m : D) (t : DrawnTicket D S R) (a : ℕ) (s : S) (g : Segment S) → fits m s → fits m t.start → matches k m t a s g ≡ true → Same t a s g.to
 matches_same k fits valid laws m t a s g f ft e =
-    let p = both_true (eqb a t.a) (eqb g.to t.b && k.alike m s t.start) e in
-    let q = both_true (eqb g.to t.b) (k.alike m s t.start) p.1 in
+    let p = and_parts (eqb a t.a) (eqb g.to t.b && k.alike m s t.start) e in
+    let q = and_parts (eqb g.to t.b) (k.alike m s t.start) p.1 in
     record {
       a_is = eqb-true a t.a p.0;
       b_is = eqb-true g.to t.b q.0;

@@ -1,5 +1,6 @@
 -- A worker's claim takes nothing exactly where no link is open.
 use Rattle.std.proofs.Common.{◌≡◌, ℕ, List, [], ◌∷◌, ◌++◌, refl, Bool, true, false, cond, not, ◌||◌}
+use Rattle.std.proofs.lemmas.Bool.{not-true}
 use Rattle.std.specs.Prelude.{Some, None}
 use Rattle.book_history.specs.declared.link.Link.{Link}
 use Rattle.book_history.specs.declared.link.Link.TheVariants.{Open, Out, Joined}
@@ -26,6 +27,3 @@ any-append (x ∷ xs) ys = go (is_open x.link) (any-append xs ys)
     go true h = refl
     go false h = h
 
-pub not_true : (b : Bool) → not b ≡ true → b ≡ false
-not_true true h = absurd cc
-not_true false h = refl

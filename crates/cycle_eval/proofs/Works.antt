@@ -12,11 +12,11 @@ use Rattle.typed_ir.specs.Statements.{stmt_of}
 use Rattle.cycle_eval.specs.Designs.{work_of}
 use Rattle.cycle_eval.specs.declared.design.Design.{Design}
 
-pub work_is : (d : Design) (l : Linked) (f : Flat') (p : Parts) → d.linked ≡ l → l.design ≡ f
+pub work_is : (d : Design) (l : Linked) (f : Flat') (p : Parts) → work_of d ≡ length l.design.nodes.items + length l.design.clocked.items → l.design ≡ f
     → flat f ≡ flat_from p.signals.items p.registers.items p.inputs.items p.nodes.items p.clocked.items
     → work_of d ≡ length p.nodes.items + length p.clocked.items
-work_is d l f p dl lf e =
-    ap (λ (z : Linked). length z.design.nodes.items + length z.design.clocked.items) dl
+work_is d l f p work lf e =
+    work
     ∙ ap (λ (z : Flat'). length z.nodes.items + length z.clocked.items) lf
     ∙ ap₂ (λ m n. m + n)
     (sym (length-map f.nodes.items node_of) ∙ ap (λ (z : Flat). length z.nodes) e ∙ length-map p.nodes.items node_of)

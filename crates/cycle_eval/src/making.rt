@@ -1,9 +1,9 @@
 // From a linked design to one that can be run.
-ghost use Rattle.std.specs.Prelude.{◌≡◌, ◌≤◌, ◌<◌, ◌-◌, ◌^◌, min, IsTrue, IfOk, IfErr, nat_lt, map, length, vec_capacity};
+ghost use Rattle.std.specs.Prelude.{◌≡◌, ◌≤◌, ◌<◌, ◌+◌, ◌-◌, ◌^◌, min, IsTrue, IfOk, IfErr, nat_lt, map, length, vec_capacity};
 ghost use Rattle.typed_ir.specs.Flats.{are_below};
 ghost use Rattle.typed_ir.specs.Linkeds.{flat};
 ghost use Rattle.typed_ir.specs.Statements.{stmt_of};
-ghost use Rattle.cycle_eval.specs.Designs.{flat_of};
+ghost use Rattle.cycle_eval.specs.Designs.{flat_of, work_of};
 ghost use Rattle.cycle_eval.specs.Kits.{register_widths};
 ghost use Rattle.cycle_eval.specs.Paths.{width_in};
 ghost use Rattle.cycle_eval.specs.Updates.{all_updates};
@@ -50,7 +50,8 @@ fn all_updates(blocks: &[Stmt]) -> usize
 impl Design {
     /// The design, ready to run. Refused with 40 where its registers take more than 65,536 words of 64 bits. It takes no memory.
     pub fn make(alloc: Global, linked: Linked) -> Result<Design, Refusal>
-        ensures made { IfOk result (λ design. design.linked ≡ linked) }
+        ensures made { IfOk result (λ design. flat_of design ≡ flat linked.design) }
+        ensures work { IfOk result (λ design. work_of design ≡ length linked.design.nodes.items + length linked.design.clocked.items) }
         ensures few { IfOk result (λ _. words_of (register_widths (flat linked.design)) ≤ 65536) }
         ensures refused { IfErr result (λ refusal. IsTooMany refusal × (65536 < words_of (register_widths (flat linked.design)))) }
     {

@@ -96,7 +96,7 @@ kid_from first (One name u within after) (suc c) p h = omega (arith, kid_from (f
 
 kid_to : (first : ℕ) (tree : Instances) (c p : ℕ) → AreSound tree → is_kid_input tree c p → kid_at first tree c + p < first + signals_in tree
 kid_to first Nothing c p sound h = absurd h
-kid_to first (One name u within after) zero p sound h = omega (arith, sound.0.inputs_there p h)
+kid_to first (One name u within after) zero p sound h = omega (arith, sound.0.unit.inputs_there p h)
 kid_to first (One name u within after) (suc c) p sound h = omega (arith, kid_to (first + length u.signals + signals_in within) after c p sound.2 h)
 
 kid_same : (first : ℕ) (tree : Instances) (c p d q : ℕ) → AreSound tree → is_kid_input tree c p → is_kid_input tree d q
@@ -104,9 +104,9 @@ kid_same : (first : ℕ) (tree : Instances) (c p d q : ℕ) → AreSound tree �
 kid_same first Nothing c p d q sound h k e = absurd h
 kid_same first (One name u within after) zero p zero q sound h k e = (refl, omega (arith, e))
 kid_same first (One name u within after) zero p (suc d) q sound h k e =
-    absurd (omega (arith, e, sound.0.inputs_there p h, kid_from (first + length u.signals + signals_in within) after d q k))
+    absurd (omega (arith, e, sound.0.unit.inputs_there p h, kid_from (first + length u.signals + signals_in within) after d q k))
 kid_same first (One name u within after) (suc c) p zero q sound h k e =
-    absurd (omega (arith, e, sound.0.inputs_there q k, kid_from (first + length u.signals + signals_in within) after c p h))
+    absurd (omega (arith, e, sound.0.unit.inputs_there q k, kid_from (first + length u.signals + signals_in within) after c p h))
 kid_same first (One name u within after) (suc c) p (suc d) q sound h k e =
     let same = kid_same (first + length u.signals + signals_in within) after c p d q sound.2 h k e in
     (ap suc same.0, same.1)
@@ -230,7 +230,7 @@ range_parts : (first s : ℕ) (u : SizedUnit) (within after : Instances) (inner 
     → (Member s later → InRange (first + length u.signals + signals_in within) (first + length u.signals + signals_in within + signals_in after) s)
     → Where first s u inner later → InRange first (first + (length u.signals + signals_in within + signals_in after)) s
 range_parts first s u within after inner later sound f g (mine t e m) =
-    record { from = omega (arith, e); to = omega (arith, e, sound.registers_there t m) }
+    record { from = omega (arith, e); to = omega (arith, e, sound.unit.registers_there t m) }
 range_parts first s u within after inner later sound f g (inside k) = record { from = omega (arith, (f k).from); to = omega (arith, (f k).to) }
 range_parts first s u within after inner later sound f g (behind k) = record { from = omega (arith, (g k).from); to = omega (arith, (g k).to) }
 
@@ -250,13 +250,13 @@ clash : (first s : ℕ) (name : ℕ) (u : SizedUnit) (within after : Instances) 
     → (Member s later → Hit (first + length u.signals + signals_in within) after s → ⊥)
     → Where first s u inner later → (c p : ℕ) → is_kid_input (One name u within after) c p → kid_at first (One name u within after) c + p ≡ s → ⊥
 clash first s name u within after inner later sound f g other (mine t e m) zero p is there =
-    let same : t ≡ p = omega (arith, e, there) in sound.apart p (subst (λ z. Member z u.registers) same m) is
+    let same : t ≡ p = omega (arith, e, there) in sound.unit.apart p (subst (λ z. Member z u.registers) same m) is
 clash first s name u within after inner later sound f g other (mine t e m) (suc c) p is there =
-    omega (arith, e, there, sound.registers_there t m, kid_from (first + length u.signals + signals_in within) after c p is)
-clash first s name u within after inner later sound f g other (inside k) zero p is there = omega (arith, there, sound.inputs_there p is, (f k).from)
+    omega (arith, e, there, sound.unit.registers_there t m, kid_from (first + length u.signals + signals_in within) after c p is)
+clash first s name u within after inner later sound f g other (inside k) zero p is there = omega (arith, there, sound.unit.inputs_there p is, (f k).from)
 clash first s name u within after inner later sound f g other (inside k) (suc c) p is there =
     omega (arith, there, (f k).to, kid_from (first + length u.signals + signals_in within) after c p is)
-clash first s name u within after inner later sound f g other (behind k) zero p is there = omega (arith, there, sound.inputs_there p is, (g k).from)
+clash first s name u within after inner later sound f g other (behind k) zero p is there = omega (arith, there, sound.unit.inputs_there p is, (g k).from)
 clash first s name u within after inner later sound f g other (behind k) (suc c) p is there =
     other k (record { c = c; p = p; is = is; there = there })
 
@@ -318,7 +318,7 @@ few_parts path here first u within after own inner later sound parts s i =
         omega (
           arith,
           subst (λ z. count (λ k. node_drives k z i) own ≤ count (own_drives (s - first) i) u.pieces) back (parts.own_few (s - first) i (omega (arith, h, j))),
-          sound.own (s - first) i,
+          sound.unit.own (s - first) i,
           parts.within_driven.none s i (inl j),
           parts.after_driven.none s i (inl (omega (arith, j))),
         )
@@ -337,11 +337,11 @@ inputs_parts : (path here : List ℕ) (first name : ℕ) (u : SizedUnit) (within
     → Parts path here first u within after own inner later → (c p i : ℕ) → is_kid_input (One name u within after) c p
     → total (kid_at first (One name u within after) c + p) i own inner later ≡ 0
 inputs_parts path here first name u within after own inner later sound parts zero p i h =
-    let small = sound.inputs_there p h in
+    let small = sound.unit.inputs_there p h in
     omega (
       arith,
       parts.own_few p i small,
-      sound.inputs_held p i h,
+      sound.unit.inputs_held p i h,
       parts.within_driven.none (first + p) i (inl (omega (arith, small))),
       parts.after_driven.none (first + p) i (inl (omega (arith, small))),
     )
@@ -356,12 +356,12 @@ registers_parts : (path here : List ℕ) (first : ℕ) (u : SizedUnit) (within a
     → Where first s u (registers_of here (first + length u.signals) within) (registers_of path (first + length u.signals + signals_in within) after)
     → total s i own inner later ≡ 0
 registers_parts path here first u within after own inner later sound w a parts s i (mine t e m) =
-    let small = sound.registers_there t m in
+    let small = sound.unit.registers_there t m in
     subst (λ z. total z i own inner later ≡ 0) e
     (omega (
       arith,
       parts.own_few t i small,
-      sound.registers_held t i m,
+      sound.unit.registers_held t i m,
       parts.within_driven.none (first + t) i (inl (omega (arith, small))),
       parts.after_driven.none (first + t) i (inl (omega (arith, small))),
     ))
@@ -402,7 +402,7 @@ driven path first (One name u within after) sound =
           (count_found (IsFit n within) (Hit (first + n) within s) (placed_drives first (first + n) within s i) u.pieces fit (found_case first n s i within h));
       own_port = λ c p i h. subst (λ z. z ≤ 1) (sym (moved (kid_at (first + n) within c + p) i)) (omega (
         arith,
-        sound.0.ports c p i,
+        sound.0.unit.ports c p i,
         count_le (IsFit n within) (placed_drives first (first + n) within (kid_at (first + n) within c + p) i) (port_drives c p i) u.pieces fit
             (port_case first n c p i within sound.1 h),
       ));

@@ -59,35 +59,39 @@ tree_sound : AreSound tree
 unfolding tree top follower all_of wire
 tree_sound = (
   record {
-    own = λ s i. omega arith;
-    ports = λ c s i. at_most _;
-    inputs_held = λ s i h. refl;
-    registers_held = λ s i h. absurd h;
-    inputs_there = λ s h. zero_there 0 s h;
-    registers_there = λ s h. absurd h;
+    unit = record {
+      own = λ s i. omega arith;
+      ports = λ c s i. at_most _;
+      inputs_held = λ s i h. refl;
+      registers_held = λ s i h. absurd h;
+      inputs_there = λ s h. zero_there 0 s h;
+      registers_there = λ s h. absurd h;
+      pieces = (tt, tt);
+      writers = λ s i. omega arith;
+      registers_only = tt;
+      registers_once = tt;
+      inputs_once = ((λ m. m), tt);
+      apart = λ s m k. m;
+    };
     fit = ((λ s i h. inl (eqb-true s 0 (first_of_or s i h))), tt);
-    pieces = (tt, tt);
-    writers = λ s i. omega arith;
-    registers_only = tt;
-    registers_once = tt;
-    inputs_once = ((λ m. m), tt);
-    apart = λ s m k. m;
   },
   (
     record {
-      own = λ s i. omega arith;
-      ports = λ c s i. omega arith;
-      inputs_held = λ s i h. refl;
-      registers_held = λ s i h. refl;
-      inputs_there = λ s h. zero_there 1 s h;
-      registers_there = λ s h. one_there s h;
+      unit = record {
+        own = λ s i. omega arith;
+        ports = λ c s i. omega arith;
+        inputs_held = λ s i h. refl;
+        registers_held = λ s i h. refl;
+        inputs_there = λ s h. zero_there 1 s h;
+        registers_there = λ s h. one_there s h;
+        pieces = tt;
+        writers = λ s i. at_most _;
+        registers_only = ((inl refl, tt), tt);
+        registers_once = ((λ m. m), tt);
+        inputs_once = ((λ m. m), tt);
+        apart = differ;
+      };
       fit = tt;
-      pieces = tt;
-      writers = λ s i. at_most _;
-      registers_only = ((inl refl, tt), tt);
-      registers_once = ((λ m. m), tt);
-      inputs_once = ((λ m. m), tt);
-      apart = differ;
     },
     tt,
     tt,

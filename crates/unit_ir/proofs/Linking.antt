@@ -69,10 +69,10 @@ registers_distinct path first (One name u within after) sound =
     let third = first + length u.signals + signals_in within in
     let inner = registers_of here second within in
     let later = registers_of path third after in
-    distinct_append (map (λ r. first + r) u.registers) (inner ++ later) (distinct_map first u.registers sound.0.registers_once)
+    distinct_append (map (λ r. first + r) u.registers) (inner ++ later) (distinct_map first u.registers sound.0.unit.registers_once)
     (distinct_append inner later (registers_distinct here second within sound.1) (registers_distinct path third after sound.2)
     (λ s m k. past s (registers_range here second s within sound.1 m) (registers_range path third s after sound.2 k)))
-    (λ s m k. let b = member_back first s u.registers m in own s b.t b.there (sound.0.registers_there b.t b.is) (member_append s inner later k))
+    (λ s m k. let b = member_back first s u.registers m in own s b.t b.there (sound.0.unit.registers_there b.t b.is) (member_append s inner later k))
   where
     past : (s : ℕ) → InRange (first + length u.signals) (first + length u.signals + signals_in within) s
         → InRange (first + length u.signals + signals_in within) (first + length u.signals + signals_in within + signals_in after) s → ⊥
@@ -121,7 +121,7 @@ registers_written path first (One name u within after) sound =
     let inner = registers_of here second within in
     let later = registers_of path third after in
     writes_append (own ++ (inner ++ later)) _ _
-    (writes_more own (own ++ (inner ++ later)) _ (λ s m. member_left s own (inner ++ later) m) (writes_shifted first u.registers u.clocked sound.0.registers_only))
+    (writes_more own (own ++ (inner ++ later)) _ (λ s m. member_left s own (inner ++ later) m) (writes_shifted first u.registers u.clocked sound.0.unit.registers_only))
     (writes_append (own ++ (inner ++ later)) _ _
     (writes_more inner (own ++ (inner ++ later)) _ (λ s m. member_right s own (inner ++ later) (member_left s inner later m)) (registers_written here second within sound.1))
     (writes_more later (own ++ (inner ++ later)) _ (λ s m. member_right s own (inner ++ later) (member_right s inner later m)) (registers_written path third after sound.2)))
@@ -212,8 +212,8 @@ writers_few path first (One name u within after) sound =
     let inner = blocks_given here (first + n) within in
     let later = blocks_given path (first + n + signals_in within) after in
     let mine : (s i : ℕ) → (s < first) ⊎ (first + n ≤ s) → count (writes s i) own ≡ 0 =
-    own_none first n u.registers u.clocked (each_writes u.registers u.clocked sound.0.registers_only) sound.0.registers_there in
-    let one : (s i : ℕ) → count (writes s i) own ≤ 1 = own_few first u.clocked sound.0.writers in
+    own_none first n u.registers u.clocked (each_writes u.registers u.clocked sound.0.unit.registers_only) sound.0.unit.registers_there in
+    let one : (s i : ℕ) → count (writes s i) own ≤ 1 = own_few first u.clocked sound.0.unit.writers in
     let two : Wrote (first + n) (signals_in within) inner = writers_few here (first + n) within sound.1 in
     let three : Wrote (first + n + signals_in within) (signals_in after) later = writers_few path (first + n + signals_in within) after sound.2 in
     let sum : (s i : ℕ) → count (writes s i) (own ++ (inner ++ later)) ≡ count (writes s i) own + (count (writes s i) inner + count (writes s i) later) =
@@ -265,10 +265,10 @@ flat_sound tree sound =
       sound = record {
         one_driver = one_each node_drives (nodes_given [] 0 tree) d.few;
         complete = each_copied IsComplete nodes_at (λ at u within s. each_map IsComplete IsPieceSound (piece_there at.first (slice_index at.kids)) u.pieces
-            (piece_complete at.first (slice_index at.kids)) s.pieces) [] 0 tree sound;
+            (piece_complete at.first (slice_index at.kids)) s.unit.pieces) [] 0 tree sound;
       };
       first = each_copied NodeWritesFirst nodes_at (λ at u within s. each_map NodeWritesFirst IsPieceSound (piece_there at.first (slice_index at.kids)) u.pieces
-          (piece_first at.first (slice_index at.kids)) s.pieces) [] 0 tree sound;
+          (piece_first at.first (slice_index at.kids)) s.unit.pieces) [] 0 tree sound;
       one_writer = one_each block_writes (blocks_given [] 0 tree) (writers_few [] 0 tree sound).few;
       registers_only = registers_written [] 0 tree sound;
       registers_once = registers_distinct [] 0 tree sound;
@@ -279,7 +279,7 @@ flat_sound tree sound =
   where
     once : (tree : Instances) → AreSound tree → Distinct (top_inputs tree)
     once Nothing sound = tt
-    once (One name u within after) sound = sound.0.inputs_once
+    once (One name u within after) sound = sound.0.unit.inputs_once
 
     top_hit : (tree : Instances) (s : ℕ) → Member s (top_inputs tree) → Hit 0 tree s
     top_hit Nothing s k = absurd k

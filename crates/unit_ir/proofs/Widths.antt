@@ -180,4 +180,4 @@ flat_inputs tree sound = all_members (λ s. s < length (flat_of tree).signals) (
   where
     there : (tree : Instances) → AreSound tree → (s : ℕ) → Member s (top_inputs tree) → s < signals_in tree
     there Nothing sound s m = absurd m
-    there (One name u within after) sound s m = omega (arith, sound.0.inputs_there s m)
+    there (One name u within after) sound s m = omega (arith, sound.0.unit.inputs_there s m)

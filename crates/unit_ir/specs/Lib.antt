@@ -1,2 +1,4 @@
 pub mod Shifts
 pub mod Trees
+pub mod Units
+pub mod Instances

@@ -130,7 +130,7 @@ IsPieceSound (Own node) = IsComplete node × NodeWritesFirst node
 IsPieceSound (Into c form lanes e) = Unit {0}
 IsPieceSound (From c form lanes e) = Unit {0}
 
-pub record IsSoundUnit (u : SizedUnit) (within : Instances) : Type 0 where
+pub record IsUnit (u : SizedUnit) : Type 0 where
   pub own : (s i : ℕ) → count (own_drives s i) u.pieces ≤ 1
   pub ports : (c s i : ℕ) → count (port_drives c s i) u.pieces ≤ 1
   -- nothing in the module drives an input or a register
@@ -138,7 +138,6 @@ pub record IsSoundUnit (u : SizedUnit) (within : Instances) : Type 0 where
   pub registers_held : (s i : ℕ) → Member s u.registers → count (own_drives s i) u.pieces ≡ 0
   pub inputs_there : (s : ℕ) → Member s u.inputs → s < length u.signals
   pub registers_there : (s : ℕ) → Member s u.registers → s < length u.signals
-  pub fit : Each (IsFit (length u.signals) within) u.pieces
   pub pieces : Each IsPieceSound u.pieces
   -- two blocks write no bit together
   pub writers : (s i : ℕ) → count (λ st. block_writes st s i) u.clocked ≤ 1
@@ -146,6 +145,11 @@ pub record IsSoundUnit (u : SizedUnit) (within : Instances) : Type 0 where
   pub registers_once : Distinct u.registers
   pub inputs_once : Distinct u.inputs
   pub apart : (s : ℕ) → Member s u.registers → Member s u.inputs → ⊥
+
+-- the same where these instances stand in it
+pub record IsSoundUnit (u : SizedUnit) (within : Instances) : Type 0 where
+  pub unit : IsUnit u
+  pub fit : Each (IsFit (length u.signals) within) u.pieces
 
 abbrev pub AreSound : Instances → Type 0
 AreSound Nothing = Unit {0}

@@ -1,0 +1,38 @@
+-- What the parts of a unit mean.
+use Rattle.std.specs.Prelude.{List, [], ◌∷◌, map}
+use Rattle.ls_text.specs.declared.name_id.NameId.{NameId}
+use Rattle.typed_ir.specs.Cycles.{Signal}
+use Rattle.typed_ir.specs.Forms.{sized}
+use Rattle.typed_ir.specs.FlatNodes.{node_of}
+use Rattle.typed_ir.specs.Statements.{stmt_of}
+use Rattle.unit_ir.specs.Trees.{SizedUnit, Own, Into, From}
+use Rattle.unit_ir.specs.Trees.{Piece as SizedPiece}
+use Rattle.unit_ir.specs.declared.piece.Piece.{Piece}
+use Rattle.unit_ir.specs.declared.piece.Piece.TheVariants.{Own as Own', Into as Into', From as From'}
+use Rattle.unit_ir.specs.declared.unit_signal.UnitSignal.{UnitSignal}
+use Rattle.unit_ir.specs.declared.unit_parts.UnitParts.{UnitParts}
+
+-- a signal of a module; its path there is its name
+abbrev pub signal_within : UnitSignal → Signal
+signal_within x = record {
+  in_module = x.in_module.0;
+  path = x.name.0 ∷ [];
+  lsb = x.lsb;
+  signed = x.signed;
+  width = x.width;
+  initial = x.initial;
+}
+
+abbrev pub piece_of : Piece → SizedPiece
+piece_of (Own' node) = Own (node_of node)
+piece_of (Into' child form lanes e) = Into child form lanes.items (sized e.form)
+piece_of (From' child form lanes e) = From child form lanes.items (sized e.form)
+
+abbrev pub sized_unit : UnitParts → SizedUnit
+sized_unit p = record {
+  signals = map signal_within p.signals.items;
+  registers = p.registers.items;
+  inputs = p.inputs.items;
+  pieces = map piece_of p.pieces.items;
+  clocked = map stmt_of p.clocked.items;
+}

@@ -1,0 +1,21 @@
+// What a unit is made of.
+use crate::piece::Piece;
+use crate::shape_list::ShapeList;
+use crate::unit_signal::UnitSignal;
+use typed_ir::{SignalId, Stmt};
+
+/// The parts of a module by its own numbers of signals, its ports first, in header order.
+#[derive(Drop)]
+pub struct UnitParts {
+    pub signals: Vec<UnitSignal>,
+    /// The signals that are registers, in order.
+    pub registers: Vec<SignalId>,
+    /// The data inputs.
+    pub inputs: Vec<SignalId>,
+    /// The nodes, in item order.
+    pub pieces: Vec<Piece>,
+    /// The clocked blocks.
+    pub clocked: Vec<Stmt>,
+    /// The instances, in item order.
+    pub shapes: ShapeList,
+}
