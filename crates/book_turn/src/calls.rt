@@ -2,8 +2,9 @@
 ghost use Rattle.std.specs.Prelude.{◌≡◌, Bool, true, false, [], IfOk, IfErr};
 ghost use Rattle.book_history.specs.Owned.{IsPrefix};
 ghost use Rattle.book_turn.specs.Known.{begun, entered, left, not_alone, worker_of, joined};
-ghost use Rattle.book_turn.specs.Rule.{Learned, MayLeave};
+ghost use Rattle.book_turn.specs.Rule.{EachBegins, Learned, MayLeave};
 ghost use Rattle.book_turn.specs.Passes.{IsOf, known};
+ghost use Rattle.book_turn.specs.Turns.{GoesOn};
 
 use crate::rule::{Begins, Enters, Hears, Leaves, OneBook, Sight, Workers};
 use crate::turn::{Holder, SessionPass, Turn, WorkerPass};
@@ -42,6 +43,7 @@ impl<B: Historied> Turn<B> {
     }
 
     /// Waits for the book.
+    #[tactic(auto, using(crate::proofs::Turns::goes_in))]
     pub fn enter<R: Wait, const SESSION: bool>(
         &self,
         rt: &R,
@@ -52,6 +54,7 @@ impl<B: Historied> Turn<B> {
         ensures turn { IsOf self.now pass.new SESSION }
         ensures known { known pass.new ≡ entered (known pass.old) (B.history result.value) }
         ensures learned { Learned (known pass.old) (B.history result.value) }
+        ensures goes { GoesOn (known pass.old) (known pass.new) }
     {
         let backoff = Backoff::new();
         for _ in rt.forever() {
@@ -64,12 +67,24 @@ impl<B: Historied> Turn<B> {
     }
 
     /// Puts the book back.
+    #[tactic(auto, using(crate::proofs::Turns::goes_out))]
     pub fn leave<R: Wait, const SESSION: bool>(
         &self,
         rt: &R,
         pass: &mut Holder<B, SESSION>,
         book: Box<B>,
     )
+        requires turn { IsOf self.now pass.old SESSION }
+        requires may { MayLeave (known pass.old) (B.history book.value) }
+        ensures turn { IsOf self.now pass.new SESSION }
+        ensures known { known pass.new ≡ left (known pass.old) (B.history book.value) }
+        ensures goes { GoesOn (known pass.old) (known pass.new) }
+    {
+        self.put(rt, pass, book);
+    }
+
+    /// The book is in the queue, which has a place for it since the holder has the book.
+    fn put<R: Wait, const SESSION: bool>(&self, rt: &R, pass: &mut Holder<B, SESSION>, book: Box<B>)
         requires turn { IsOf self.now pass.old SESSION }
         requires may { MayLeave (known pass.old) (B.history book.value) }
         ensures turn { IsOf self.now pass.new SESSION }
@@ -92,7 +107,28 @@ impl<B: Historied> Turn<B> {
         ensures seen { IsPrefix (known pass.old).seen (known pass.new).seen }
         ensures heard { IsPrefix (known worker).seen (known pass.new).seen }
     {
+        self.absorb(pass, worker);
+        self.compare(pass);
+    }
+
+    /// The worker's pass is spent.
+    fn absorb(&self, pass: &mut SessionPass<B>, worker: WorkerPass<B>)
+        requires session { IsOf self.now pass.old true }
+        requires worker { IsOf self.now worker false }
+        requires outside { (known worker).holds ≡ false }
+        ensures turn { IsOf self.now pass.new true }
+        ensures known { known pass.new ≡ joined (known pass.old) (known worker) }
+    {
         self.queue.absorb::<Workers>(&mut pass.seat, worker.seat);
+    }
+
+    /// What was seen at the last join are beginnings of what is seen now.
+    fn compare(&self, pass: &mut SessionPass<B>)
+        requires turn { IsOf self.now pass.old true }
+        ensures turn { IsOf self.now pass.new true }
+        ensures known { known pass.new ≡ known pass.old }
+        ensures begins { EachBegins (known pass.old).heard (known pass.old).seen }
+    {
         self.queue.learn_as::<Hears>(&mut pass.seat);
     }
 
@@ -101,6 +137,7 @@ impl<B: Historied> Turn<B> {
         requires turn { IsOf self pass true }
         requires outside { (known pass).holds ≡ false }
         ensures learned { Learned (known pass) (B.history result.value) }
+        ensures alone { (known pass).alone ≡ true → (B.history result.value).events ≡ (known pass).seen }
     {
         self.enter(rt, &mut pass)
     }

@@ -1,4 +1,3 @@
 pub mod Entries
 pub mod Outcome
-pub mod Outs
 pub mod Workers

@@ -5,10 +5,6 @@
 ghost use Rattle.std.specs.Prelude.{◌≡◌, ◌+◌, ◌-◌, ◌*◌, ◌≤◌};
 ghost use Rattle.segment_verify.specs.Outcome.{IsOf, IsDone};
 
-#[cfg(test)]
-mod held;
-#[cfg(test)]
-mod tests;
 pub mod verification;
 pub mod worker;
 

@@ -29,8 +29,8 @@ use std::sync::ledger::{Blank, Ledger};
 /// and has seen the Close; what it added are, for each ticket that it drew, its claim and its install or release, all by
 /// `number`.
 ///
-/// The gate is asked before each verification and before each install, while others may have the book. A ticket whose
-/// verification wants memory is given up. Where no link is open, or a claim wants memory, it backs off and tries again.
+/// The gate is asked before each verification, and before each install or release, while others may have the book. A ticket
+/// whose verification wants memory is given up. Where no link is open, or a claim wants memory, it backs off and tries again.
 #[tactic(auto, using(crate::proofs::Turns::turned_none, crate::proofs::Turns::turned_same))]
 pub fn worker_loop<M: Machine, G: Gate, R: Wait>(
     rt: &R,
@@ -79,11 +79,10 @@ fn work_on<M: Machine, G: Gate, R: Wait>(
 {
     let drawn = ticket.number();
     gate.before(drawn, GateStep::Verify);
-    match uncounted::<M, Brand>(alloc, ticket, Blank::new(1)) {
-        Verification::Done(verified) => {
-            gate.before(drawn, GateStep::Install);
-            install(rt, turn, pass, number, verified);
-        }
+    let verification = uncounted::<M, Brand>(alloc, ticket, Blank::new(1));
+    gate.before(drawn, GateStep::Install);
+    match verification {
+        Verification::Done(verified) => install(rt, turn, pass, number, verified),
         Verification::NoMemory(ticket) => release(rt, turn, pass, number, ticket),
     }
 }

@@ -4,16 +4,14 @@ use Rattle.book_history.specs.declared.who.Who.{Who}
 use Rattle.book_history.specs.declared.who.Who.TheVariants.{Session, Worker}
 use Rattle.book_history.specs.Book.{Event, Opened, Ran, Reloaded, Claimed, Installed, Released, Shown, Closed}
 use Rattle.book_history.specs.Journal.{Journal}
-use Rattle.book_history.specs.Owned.{is_owned, owned, added, IsPrefix}
+use Rattle.book_history.specs.Owned.{is_owned, owned}
 use Rattle.book_history.specs.Rooms.{Counts, counted, count_all, no_entry}
 use Rattle.book_history.specs.Tickets.{kept, MayAdd}
 use Rattle.book_turn.specs.Known.{Known, begun, entered, left, not_alone, joined}
 use Rattle.book_turn.specs.Rule.{MayLeave, Learned}
 use Rattle.book_turn.proofs.Callers.{may_leave_one, tickets_one}
-use Rattle.book_turn.proofs.Histories.{added_append, prefix_refl, prefix_trans}
 use Rattle.checkpoint_book.specs.Views.{counts_of}
 use Rattle.segment_verify.specs.Workers.{is_closed, IsFree}
-use Rattle.worker_scope.specs.Scope.{HasHeard, HasClosed}
 
 counted_same : (n m : Counts) (by : Who) → n.closed ≡ m.closed → (counted n by).closed ≡ m.closed
 counted_same n m Session e = e
@@ -69,38 +67,10 @@ module _ {D R O : Type 0} where
       left_here : x ≡ left (entered v i) l
       left_here = leaves ∙ ap (λ (y : Known D R O). left y l) known_here
 
-      pub own_more : x.own ≡ v.own ++ e ∷ []
-      own_more =
-          ap (λ (y : Known D R O). y.own) left_here
-          ∙ ap (λ (h : List (Event D R O)). v.own ++ added i.events h) events
-          ∙ ap (λ (h : List (Event D R O)). v.own ++ h) (added_append i.events (e ∷ []))
-
-      pub seen_more : IsPrefix v.seen x.seen
-      seen_more =
-          subst (λ (y : Known D R O). IsPrefix v.seen y.seen) (sym left_here)
-          (prefix_trans v.seen i.events l.events learned_here.begins (e ∷ [], events))
-
       pub free_after : IsFree v → kept v.tickets e ≡ v.tickets → IsFree x
       free_after free keeps =
           subst (λ (y : Known D R O). IsFree y) (sym left_here)
           (record { outside = refl; no_ticket = tickets_one (entered v i) l e events ∙ keeps ∙ free.no_ticket })
-
-      pub same_settings : x.settings ≡ v.settings
-      same_settings = ap (λ (y : Known D R O). y.settings) left_here
-
-      pub same_alone : x.alone ≡ v.alone
-      same_alone = ap (λ (y : Known D R O). y.alone) left_here
-
-  pub heard_none : (v : Known D R O) → HasHeard v v
-  heard_none v = record { own = refl; settings = refl; alone = refl; begins = prefix_refl v.seen }
-
-  pub heard_join : (v w x u : Known D R O) → HasHeard v w → x ≡ joined w u → IsPrefix w.seen x.seen → HasHeard v x
-  heard_join v w x u h is begins = record {
-    own = ap (λ (y : Known D R O). y.own) is ∙ h.own;
-    settings = ap (λ (y : Known D R O). y.settings) is ∙ h.settings;
-    alone = ap (λ (y : Known D R O). y.alone) is ∙ h.alone;
-    begins = prefix_trans v.seen w.seen x.seen h.begins begins;
-  }
 
   pub free_join : (w x u : Known D R O) → x ≡ joined w u → IsFree w → IsFree x
   free_join w x u is free = subst (λ (y : Known D R O). IsFree y) (sym is) (record { outside = free.outside; no_ticket = free.no_ticket })
@@ -113,7 +83,3 @@ module _ {D R O : Type 0} where
 
   pub own_started : (v w : Known D R O) → not_alone w ≡ not_alone v → is_closed v.own ≡ false → is_closed w.own ≡ false
   own_started v w same open' = ap (λ (y : Known D R O). is_closed y.own) same ∙ open'
-
-  pub closed_heard : (v w x : Known D R O) → HasClosed v w → HasHeard w x → HasClosed v x
-  closed_heard v w x c h =
-      record { own = h.own ∙ c.own; settings = h.settings ∙ c.settings; alone = h.alone ∙ c.alone; begins = prefix_trans v.seen w.seen x.seen c.begins h.begins }

@@ -1,6 +1,7 @@
 // The session asks in turns until all links are joined.
 ghost use Rattle.std.specs.Prelude.{◌≡◌, true, false};
 ghost use Rattle.book_turn.specs.Passes.{IsOf, known};
+ghost use Rattle.book_turn.specs.Turns.{GoesOn};
 ghost use Rattle.segment_verify.specs.Workers.{is_closed, IsFree};
 ghost use Rattle.worker_scope.specs.Plain.{AddsPlain};
 
@@ -55,6 +56,7 @@ impl SessionWork<WatchedMachine> for Asking {
 }
 
 /// Asks so often at most, and yields the processor between two turns.
+#[tactic(auto, using(book_turn::proofs::Turns::goes_none, book_turn::proofs::Turns::goes_more))]
 pub fn ask_often<M: Machine, R: Wait>(
     rt: &R,
     turn: &Turn<Book<M>>,
@@ -67,6 +69,7 @@ pub fn ask_often<M: Machine, R: Wait>(
     ensures turn { IsOf turn.now pass.new true }
     ensures free { IsFree (known pass.new) }
     ensures open { is_closed (known pass.new).own ≡ false }
+    ensures goes { GoesOn (known pass.old) (known pass.new) }
 {
     for _ in 0..times {
         if ask(rt, turn, pass) {
@@ -92,6 +95,7 @@ fn ask<M: Machine, R: Wait>(rt: &R, turn: &Turn<Book<M>>, pass: &mut SessionPass
     ensures turn { IsOf turn.now pass.new true }
     ensures free { IsFree (known pass.new) }
     ensures open { is_closed (known pass.new).own ≡ false }
+    ensures goes { GoesOn (known pass.old) (known pass.new) }
 {
     let mut boxed = turn.enter(rt, pass);
     let book: &mut Book<M> = &mut boxed;

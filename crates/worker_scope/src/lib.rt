@@ -16,10 +16,14 @@ mod reloading;
 mod replay;
 mod scope;
 mod session_work;
+mod start_refusal;
 #[cfg(test)]
 mod tests;
 #[cfg(test)]
 mod watched;
+mod worked;
 
 pub use scope::with_workers;
 pub use session_work::SessionWork;
+pub use start_refusal::StartRefusal;
+pub use worked::Worked;

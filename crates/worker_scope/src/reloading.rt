@@ -1,6 +1,7 @@
 // The session reloads in turns, and then asks until all links are joined.
 ghost use Rattle.std.specs.Prelude.{◌≡◌, ◌<◌, true, false, IfOk};
 ghost use Rattle.book_turn.specs.Passes.{IsOf, known};
+ghost use Rattle.book_turn.specs.Turns.{GoesOn};
 ghost use Rattle.segment_verify.specs.Workers.{is_closed, IsFree};
 ghost use Rattle.worker_scope.specs.Plain.{AddsPlain};
 
@@ -39,9 +40,28 @@ impl SessionWork<TallyMachine> for Reloading {
         turn: &Turn<Book<TallyMachine>>,
         pass: &mut SessionPass<Book<TallyMachine>>,
     ) -> (u32, bool) {
-        let made = reload_uncounted(rt, self.alloc, turn, pass, self.reloads);
-        (made, ask_often(rt, turn, pass, self.times))
+        reload_and_ask(rt, self, turn, pass)
     }
+}
+
+/// The reloads, and then the asks.
+#[tactic(auto, using(book_turn::proofs::Turns::goes_more))]
+fn reload_and_ask<R: Wait>(
+    rt: &R,
+    reloading: Reloading,
+    turn: &Turn<Book<TallyMachine>>,
+    pass: &mut SessionPass<Book<TallyMachine>>,
+) -> (u32, bool)
+    requires turn { IsOf turn.now pass.old true }
+    requires free { IsFree (known pass.old) }
+    requires open { is_closed (known pass.old).own ≡ false }
+    ensures turn { IsOf turn.now pass.new true }
+    ensures free { IsFree (known pass.new) }
+    ensures open { is_closed (known pass.new).own ≡ false }
+    ensures goes { GoesOn (known pass.old) (known pass.new) }
+{
+    let made = reload_uncounted(rt, reloading.alloc, turn, pass, reloading.reloads);
+    (made, ask_often(rt, turn, pass, reloading.times))
 }
 
 /// Reloads with a counter of its own, which nobody reads.
@@ -58,11 +78,13 @@ fn reload_uncounted<R: Wait>(
     ensures turn { IsOf turn.now pass.new true }
     ensures free { IsFree (known pass.new) }
     ensures open { is_closed (known pass.new).own ≡ false }
+    ensures goes { GoesOn (known pass.old) (known pass.new) }
 {
     reload_often::<Brand, R>(rt, alloc, turn, pass, reloads, Blank::new(1))
 }
 
 /// Makes so many reloads, each in one turn, up to the first that can't be made. The answer is how many were made.
+#[tactic(auto, using(book_turn::proofs::Turns::goes_none, book_turn::proofs::Turns::goes_more))]
 fn reload_often<L: Ledger, R: Wait>(
     rt: &R,
     alloc: Global,
@@ -80,6 +102,7 @@ fn reload_often<L: Ledger, R: Wait>(
     ensures turn { IsOf turn.now pass.new true }
     ensures free { IsFree (known pass.new) }
     ensures open { is_closed (known pass.new).own ≡ false }
+    ensures goes { GoesOn (known pass.old) (known pass.new) }
 {
     let mut steps = Steps::<L>::start(blank);
     for made in 0..reloads {
@@ -104,6 +127,7 @@ fn reload<L: Ledger, R: Wait>(
     ensures turn { IsOf turn.now pass.new true }
     ensures free { IsFree (known pass.new) }
     ensures open { is_closed (known pass.new).own ≡ false }
+    ensures goes { GoesOn (known pass.old) (known pass.new) }
 {
     let mut boxed = turn.enter(rt, pass);
     let book: &mut Book<TallyMachine> = &mut boxed;

@@ -1,14 +1,18 @@
 // The scope: workers start, the session does its work and closes the book, and all workers' passes are joined in.
-ghost use Rattle.std.specs.Prelude.{◌≡◌, [], true, false, All};
+ghost use Rattle.std.specs.Prelude.{◌≡◌, ◌≤◌, [], ◌∷◌, vec_len, true, false, All, IfOk, IfNone};
+ghost use Rattle.book_history.specs.Book.{Closed};
 ghost use Rattle.book_history.specs.declared.who.Who.TheVariants.{Worker};
 ghost use Rattle.book_turn.specs.Known.{Known, not_alone};
 ghost use Rattle.book_turn.specs.Passes.{IsOf, known};
+ghost use Rattle.book_turn.specs.Turns.{HasAdded};
 ghost use Rattle.segment_verify.specs.Entries.{AreTurns};
 ghost use Rattle.segment_verify.specs.Workers.{is_closed, IsFree, HasEnded};
-ghost use Rattle.worker_scope.specs.Scope.{HasHeard, HasClosed, HasWorked, HasWorkedAlone, Rise};
+ghost use Rattle.worker_scope.specs.Scope.{AreNumbered, HasJoined, HasJoinedOne, HasWorked, HasWorkedAlone};
 
 use crate::ends::Ends;
 use crate::session_work::SessionWork;
+use crate::start_refusal::StartRefusal;
+use crate::worked::Worked;
 use book_turn::{SessionPass, Turn, WorkerPass};
 use checkpoint_book::book::Book;
 use ls_port::Gate;
@@ -20,11 +24,13 @@ use std::sync::Wait;
 use std::thread;
 use std::thread::{PromisedHandle, Scope, Threads};
 
-/// Has so many workers, numbered from 0, run beside the session's work, and closes the book behind it. The answer is the
-/// session's pass and that of the work.
+/// A worker's thread, whose pass comes back as it promises.
+type Child<M> = PromisedHandle<WorkerPass<Book<M>>, Ends<Book<M>>>;
+
+/// Has so many workers, numbered from 0, run beside the session's work, and closes the book behind it.
 ///
-/// A worker that can't be started is left out. All that were started have ended, and each one's pass is joined into the
-/// session's.
+/// The first worker that can't be started is left out with those behind it, and the answer says how many were started and
+/// why no more. All that were started have ended, and each one's pass is joined into the session's.
 pub fn with_workers<'s, M: Machine, G: Gate, W: SessionWork<M>, R: Threads + Wait + Sync>(
     rt: &'s R,
     alloc: Global,
@@ -33,15 +39,17 @@ pub fn with_workers<'s, M: Machine, G: Gate, W: SessionWork<M>, R: Threads + Wai
     workers: u16,
     gate: &'s G,
     session: W,
-) -> (SessionPass<Book<M>>, W::Answer)
+) -> Worked<M, W::Answer>
     requires turn { IsOf turn.now pass true }
     requires free { IsFree (known pass) }
     requires open { is_closed (known pass).own ≡ false }
     requires ready { (u : Known M M.Row M.Ops) → not_alone u ≡ not_alone (known pass) → W.ready session u }
-    ensures turn { IsOf turn.now result.0 true }
-    ensures free { IsFree (known result.0) }
-    ensures worked { HasWorked (W.does session) (known pass) (known result.0) result.1 }
-    ensures none { workers ≡ 0 → HasWorkedAlone (W.does session) (known pass) (known result.0) result.1 }
+    ensures turn { IsOf turn.now result.pass true }
+    ensures free { IsFree (known result.pass) }
+    ensures worked { HasWorked (W.does session) result.started (known pass) (known result.pass) result.answer }
+    ensures none { workers ≡ 0 → HasWorkedAlone (W.does session) (known pass) (known result.pass) result.answer }
+    ensures most { result.started ≤ workers }
+    ensures all { IfNone result.refusal (result.started ≡ workers) }
 {
     if workers == 0 {
         return without_workers(rt, turn, pass, session);
@@ -49,9 +57,9 @@ pub fn with_workers<'s, M: Machine, G: Gate, W: SessionWork<M>, R: Threads + Wai
     thread::scope(
         thread::scope_env(),
         rt,
-        |scope| -> (SessionPass<Book<M>>, W::Answer)
+        |scope| -> Worked<M, W::Answer>
             requires { IsOf turn.now pass true × IsFree (known pass) × (is_closed (known pass).own ≡ false) × ((u : Known M M.Row M.Ops) → not_alone u ≡ not_alone (known pass) → W.ready session u) }
-            ensures { IsOf turn.entry.now result.0 true × IsFree (known result.0) × HasWorked (W.does session) (known pass) (known result.0) result.1 }
+            ensures { IsOf turn.entry.now result.pass true × IsFree (known result.pass) × HasWorked (W.does session) result.started (known pass) (known result.pass) result.answer × (result.started ≤ workers) × IfNone result.refusal (result.started ≡ workers) }
         { beside(scope, rt, alloc, turn, pass, workers, gate, session) },
     )
 }
@@ -62,18 +70,25 @@ fn without_workers<M: Machine, W: SessionWork<M>, R: Threads + Wait + Sync>(
     turn: &Turn<Book<M>>,
     mut pass: SessionPass<Book<M>>,
     session: W,
-) -> (SessionPass<Book<M>>, W::Answer)
+) -> Worked<M, W::Answer>
     requires turn { IsOf turn.now pass true }
     requires free { IsFree (known pass) }
     requires open { is_closed (known pass).own ≡ false }
     requires ready { W.ready session (known pass) }
-    ensures turn { IsOf turn.now result.0 true }
-    ensures free { IsFree (known result.0) }
-    ensures alone { HasWorkedAlone (W.does session) (known pass) (known result.0) result.1 }
+    ensures turn { IsOf turn.now result.pass true }
+    ensures free { IsFree (known result.pass) }
+    ensures alone { HasWorkedAlone (W.does session) (known pass) (known result.pass) result.answer }
+    ensures worked { HasWorked (W.does session) result.started (known pass) (known result.pass) result.answer }
+    ensures none { result.started ≡ 0 }
 {
     let answer = session.work(rt, turn, &mut pass);
     close(rt, turn, &mut pass);
-    (pass, answer)
+    Worked {
+        pass,
+        answer,
+        started: 0,
+        refusal: None,
+    }
 }
 
 /// The same, in the scope. Nothing between the start and the joining returns early.
@@ -86,24 +101,31 @@ fn beside<'s, E, M: Machine + 's, G: Gate + 's, W: SessionWork<M>, R: Threads + 
     workers: u16,
     gate: &'s G,
     session: W,
-) -> (SessionPass<Book<M>>, W::Answer)
+) -> Worked<M, W::Answer>
     requires turn { IsOf turn.now pass true }
     requires free { IsFree (known pass) }
     requires open { is_closed (known pass).own ≡ false }
     requires ready { (u : Known M M.Row M.Ops) → not_alone u ≡ not_alone (known pass) → W.ready session u }
-    ensures turn { IsOf turn.now result.0 true }
-    ensures free { IsFree (known result.0) }
-    ensures worked { HasWorked (W.does session) (known pass) (known result.0) result.1 }
+    ensures turn { IsOf turn.now result.pass true }
+    ensures free { IsFree (known result.pass) }
+    ensures worked { HasWorked (W.does session) result.started (known pass) (known result.pass) result.answer }
+    ensures most { result.started ≤ workers }
+    ensures all { IfNone result.refusal (result.started ≡ workers) }
 {
-    let children = start(scope, rt, alloc, turn, &mut pass, workers, gate);
+    let (children, refusal) = start(scope, rt, alloc, turn, &mut pass, workers, gate);
     let answer = session.work(rt, turn, &mut pass);
     close(rt, turn, &mut pass);
+    let started = children.len() as u16;
     join_all(rt, turn, &mut pass, children);
-    (pass, answer)
+    Worked {
+        pass,
+        answer,
+        started,
+        refusal,
+    }
 }
 
-/// Starts workers, as many as can be.
-#[tactic(auto, using(crate::proofs::Sessions::started_more, crate::proofs::Sessions::free_started, crate::proofs::Numbers::turned_alone, crate::proofs::Numbers::one_more, crate::proofs::Numbers::none_more))]
+/// Starts workers up to the first that can't be started, whose refusal is handed out beside them.
 fn start<'s, E, M: Machine + 's, G: Gate + 's, R: Threads + Wait + Sync>(
     scope: &Scope<'s, E>,
     rt: &'s R,
@@ -112,59 +134,103 @@ fn start<'s, E, M: Machine + 's, G: Gate + 's, R: Threads + Wait + Sync>(
     pass: &mut SessionPass<Book<M>>,
     workers: u16,
     gate: &'s G,
-) -> Vec<PromisedHandle<WorkerPass<Book<M>>, Ends<Book<M>>>>
+) -> (Vec<Child<M>>, Option<StartRefusal>)
     requires turn { IsOf turn.now pass.old true }
     requires free { IsFree (known pass.old) }
     ensures turn { IsOf turn.now pass.new true }
     ensures free { IsFree (known pass.new) }
     ensures started { not_alone (known pass.new) ≡ not_alone (known pass.old) }
-    ensures children { All (λ h. h.promise.turn.value ≡ turn.now) result.items }
-
-    // No two have one number.
-    ensures numbers { Rise (λ h. h.promise.number) 0 workers result.items }
+    ensures children { All (λ h. h.promise.turn.value ≡ turn.now) result.0.items }
+    ensures numbers { AreNumbered (λ h. h.promise.number) 0 result.0.items }
+    ensures most { vec_len result.0 ≤ workers }
+    ensures all { IfNone result.1 (vec_len result.0 ≡ workers) }
 {
     let mut children = Vec::new(alloc);
     for number in 0..workers {
         if children.reserve(1).is_err() {
-            break;
+            return (children, Some(StartRefusal::NoMemory));
         }
-        let Ok(worker) = turn.worker_pass(pass) else {
-            break;
-        };
-        let promise = Ends {
-            turn: Snapshot::of(turn),
-            number,
-        };
-        let work = move ||
-            requires { IsOf turn.now worker false × IsFree (known worker) × ((known worker).own ≡ []) }
-            ensures { IsOf turn.entry.now result false × HasEnded (known result) × AreTurns (Worker number) (known result).own }
-        { worker_loop(rt, alloc, turn, worker, number, gate) };
-        match scope.spawn_with(promise, work) {
+        match start_one(scope, rt, alloc, turn, pass, number, gate) {
             Ok(child) => children.push_reserved(child),
-            Err(_) => continue,
+            Err(refusal) => return (children, Some(refusal)),
         }
     }
-    children
+    (children, None)
 }
 
-/// Waits for the workers, and takes in what they have seen.
+/// Starts the worker of this number.
+#[tactic(auto, using(crate::proofs::Sessions::free_started, crate::proofs::Numbers::turned_alone))]
+fn start_one<'s, E, M: Machine + 's, G: Gate + 's, R: Threads + Wait + Sync>(
+    scope: &Scope<'s, E>,
+    rt: &'s R,
+    alloc: Global,
+    turn: &'s Turn<Book<M>>,
+    pass: &mut SessionPass<Book<M>>,
+    number: u16,
+    gate: &'s G,
+) -> Result<Child<M>, StartRefusal>
+    requires turn { IsOf turn.now pass.old true }
+    requires free { IsFree (known pass.old) }
+    ensures turn { IsOf turn.now pass.new true }
+    ensures free { IsFree (known pass.new) }
+    ensures started { not_alone (known pass.new) ≡ not_alone (known pass.old) }
+    ensures child { IfOk result (λ h. h.promise.turn.value ≡ turn.now) }
+    ensures number { IfOk result (λ h. h.promise.number ≡ number) }
+{
+    let Ok(worker) = turn.worker_pass(pass) else {
+        return Err(StartRefusal::NoMemory);
+    };
+    let promise = Ends {
+        turn: Snapshot::of(turn),
+        number,
+    };
+    let work = move ||
+        requires { IsOf turn.now worker false × IsFree (known worker) × ((known worker).own ≡ []) }
+        ensures { IsOf turn.entry.now result false × HasEnded (known result) × AreTurns (Worker number) (known result).own }
+    { worker_loop(rt, alloc, turn, worker, number, gate) };
+    match scope.spawn_with(promise, work) {
+        Ok(child) => Ok(child),
+        Err(_) => Err(StartRefusal::NoThread),
+    }
+}
+
+/// Waits for the workers, and takes in what they have seen and added.
 fn join_all<M: Machine, R: Threads>(
     rt: &R,
     turn: &Turn<Book<M>>,
     pass: &mut SessionPass<Book<M>>,
-    children: Vec<PromisedHandle<WorkerPass<Book<M>>, Ends<Book<M>>>>,
+    children: Vec<Child<M>>,
 )
     requires turn { IsOf turn.now pass.old true }
     requires free { IsFree (known pass.old) }
     requires children { All (λ h. h.promise.turn.value ≡ turn.now) children.items }
+    requires numbers { AreNumbered (λ h. h.promise.number) 0 children.items }
     ensures turn { IsOf turn.now pass.new true }
     ensures free { IsFree (known pass.new) }
-    ensures heard { HasHeard (known pass.old) (known pass.new) }
+    ensures joined { HasJoined (vec_len children) (known pass.old) (known pass.new) }
 {
     for child in children {
-        let worker = child.join(rt);
-        turn.join(pass, worker);
+        join_one(rt, turn, pass, child);
     }
+}
+
+/// Waits for one worker, and takes in what it has seen and added.
+#[tactic(auto, using(crate::proofs::Joins::joined_one, crate::proofs::Sessions::free_join))]
+fn join_one<M: Machine, R: Threads>(
+    rt: &R,
+    turn: &Turn<Book<M>>,
+    pass: &mut SessionPass<Book<M>>,
+    child: Child<M>,
+)
+    requires turn { IsOf turn.now pass.old true }
+    requires free { IsFree (known pass.old) }
+    requires child { child.promise.turn.value ≡ turn.now }
+    ensures turn { IsOf turn.now pass.new true }
+    ensures free { IsFree (known pass.new) }
+    ensures joined { HasJoinedOne child.promise.number (known pass.old) (known pass.new) }
+{
+    let worker = child.join(rt);
+    turn.join(pass, worker);
 }
 
 /// Closes the book in one turn.
@@ -174,7 +240,7 @@ fn close<M: Machine, R: Wait>(rt: &R, turn: &Turn<Book<M>>, pass: &mut SessionPa
     requires open { is_closed (known pass.old).own ≡ false }
     ensures turn { IsOf turn.now pass.new true }
     ensures free { IsFree (known pass.new) }
-    ensures closed { HasClosed (known pass.old) (known pass.new) }
+    ensures closed { HasAdded (Closed ∷ []) (known pass.old) (known pass.new) }
 {
     let mut boxed = turn.enter(rt, pass);
     let book: &mut Book<M> = &mut boxed;

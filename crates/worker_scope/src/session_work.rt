@@ -2,6 +2,7 @@
 ghost use Rattle.std.specs.Prelude.{◌≡◌, true, false};
 ghost use Rattle.book_turn.specs.Known.{Known};
 ghost use Rattle.book_turn.specs.Passes.{IsOf, known};
+ghost use Rattle.book_turn.specs.Turns.{GoesOn};
 ghost use Rattle.segment_verify.specs.Workers.{is_closed, IsFree};
 
 use book_turn::{SessionPass, Turn};
@@ -20,7 +21,7 @@ pub trait SessionWork<M: Machine>: Drop {
     /// What it makes of the pass, with this answer.
     ghost does: { Self → Known M M.Row M.Ops → Known M M.Row M.Ops → Self.Answer → Type 0 };
 
-    /// Does it. The pass comes back free, and the session hasn't closed the book.
+    /// Does it in turns of the session's own. The pass comes back free, and the session hasn't closed the book.
     fn work<R: Threads + Wait + Sync>(
         self,
         rt: &R,
@@ -34,5 +35,6 @@ pub trait SessionWork<M: Machine>: Drop {
         ensures turn { IsOf turn.now pass.new true }
         ensures free { IsFree (known pass.new) }
         ensures open { is_closed (known pass.new).own ≡ false }
+        ensures goes { GoesOn (known pass.old) (known pass.new) }
         ensures does { does self (known pass.old) (known pass.new) result };
 }

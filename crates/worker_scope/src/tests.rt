@@ -12,6 +12,7 @@ use crate::replay::Replay;
 use crate::session_work::SessionWork;
 use crate::watched::WatchedMachine;
 use crate::with_workers;
+use crate::worked::Worked;
 use book_history::entry::Entry;
 use book_history::history::History;
 use book_history::rooms::Rooms;
@@ -111,12 +112,23 @@ fn beside<M: Machine, G: Gate, W: SessionWork<M>, R: Threads + Wait + Sync>(
     gate: &G,
     session: W,
 ) -> Result<(Box<Book<M>>, W::Answer), Fail>
+where
+    W::Answer: Drop,
     requires open { (counts_of book.value).closed ≡ false }
     requires ready { (u : Known M M.Row M.Ops) → W.ready session u }
 {
     let (turn, pass) = Turn::make(rt, alloc, book)?;
-    let (pass, answer) = with_workers(rt, alloc, &turn, pass, workers, gate, session);
-    Ok((turn.finish(rt, pass), answer))
+    let Worked {
+        pass,
+        answer,
+        started,
+        refusal: _,
+    } = with_workers(rt, alloc, &turn, pass, workers, gate, session);
+    let book = turn.finish(rt, pass);
+    if started != workers {
+        return Err("a worker was not started")?;
+    }
+    Ok((book, answer))
 }
 
 /// The last mark's state.

@@ -1,5 +1,6 @@
 use Rattle.std.proofs.Common.{lit<}
 use Rattle.book_turn.specs.Passes.{known}
+use Rattle.book_turn.proofs.Turns.{goes_more}
 use Rattle.worker_scope.proofs.Plains.{plain_leaves, plain_free, plain_still_open}
 use Rattle.worker_scope.proofs.asking.ask.Goals as goal
 
@@ -17,3 +18,6 @@ returns-clause-free g c = plain_free _ (known c.enter-boxed.new.pass) _ _ _ c.en
 
 pub returns-clause-open : goal.returns-clause-open
 returns-clause-open g c = plain_still_open (known c.args.pass.now) (known c.enter-boxed.new.pass) _ _ _ c.enter-boxed.ensures.known c.deref_mut-book.ensures.value c.is_settled-answer.ensures (known c.leave.new.pass) c.leave.ensures.known c.requires.open
+
+pub returns-clause-goes : goal.returns-clause-goes
+returns-clause-goes g c = goes_more _ _ _ c.enter-boxed.ensures.goes c.leave.ensures.goes

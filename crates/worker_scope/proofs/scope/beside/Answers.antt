@@ -1,5 +1,7 @@
+use Rattle.std.proofs.Common.{sym, subst}
 use Rattle.book_turn.specs.Passes.{known}
-use Rattle.worker_scope.proofs.Sessions.{own_started, closed_heard}
+use Rattle.worker_scope.specs.Scope.{HasJoined}
+use Rattle.worker_scope.proofs.Sessions.{own_started}
 use Rattle.worker_scope.proofs.scope.beside.Goals as goal
 
 pub work-answer-requires-clause-open : goal.work-answer-requires-clause-open
@@ -12,9 +14,12 @@ pub returns-clause-worked : goal.returns-clause-worked
 returns-clause-worked g c = record {
   before = known c.start-children.new.pass;
   started = c.start-children.ensures.started;
+  behind = known c.close.new.pass;
   worked = record {
     after = known c.work-answer.new.pass;
     did = c.work-answer.ensures.does;
-    closed = closed_heard _ _ _ c.close.ensures.closed c.join_all.ensures.heard;
+    goes = c.work-answer.ensures.goes;
+    closed = c.close.ensures.closed;
   };
+  all_joined = subst (λ n. HasJoined n (known c.close.new.pass) (known c.join_all.new.pass)) (sym c.len-started.ensures) c.join_all.ensures.joined;
 }

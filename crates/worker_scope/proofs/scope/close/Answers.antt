@@ -1,6 +1,7 @@
 use Rattle.std.proofs.Common.{lit<, refl}
 use Rattle.book_turn.specs.Passes.{known}
-use Rattle.worker_scope.proofs.Sessions.{open_now, may_add, own_more, seen_more, free_after, same_settings, same_alone}
+use Rattle.book_turn.proofs.Turns.{one_turn}
+use Rattle.worker_scope.proofs.Sessions.{open_now, may_add, free_after}
 use Rattle.worker_scope.proofs.scope.close.Goals as goal
 
 pub close-requires-clause-open : goal.close-requires-clause-open
@@ -21,9 +22,5 @@ returns-clause-free g c =
     free_after _ _ _ _ _ _ _ c.enter-boxed.ensures.known c.deref_mut-book.ensures.value c.enter-boxed.ensures.learned c.close.ensures.settings c.close.ensures.events c.leave.ensures.known c.requires.free refl
 
 pub returns-clause-closed : goal.returns-clause-closed
-returns-clause-closed g c = record {
-  own = own_more _ _ _ _ _ _ _ c.enter-boxed.ensures.known c.deref_mut-book.ensures.value c.enter-boxed.ensures.learned c.close.ensures.settings c.close.ensures.events c.leave.ensures.known;
-  settings = same_settings _ _ _ _ _ _ _ c.enter-boxed.ensures.known c.deref_mut-book.ensures.value c.enter-boxed.ensures.learned c.close.ensures.settings c.close.ensures.events c.leave.ensures.known;
-  alone = same_alone _ _ _ _ _ _ _ c.enter-boxed.ensures.known c.deref_mut-book.ensures.value c.enter-boxed.ensures.learned c.close.ensures.settings c.close.ensures.events c.leave.ensures.known;
-  begins = seen_more _ _ _ _ _ _ _ c.enter-boxed.ensures.known c.deref_mut-book.ensures.value c.enter-boxed.ensures.learned c.close.ensures.settings c.close.ensures.events c.leave.ensures.known;
-}
+returns-clause-closed g c =
+    one_turn _ _ _ _ _ _ c.close.new.self c.enter-boxed.ensures.known c.deref_mut-book.ensures.value c.enter-boxed.ensures.learned c.close.ensures.events c.leave.ensures.known

@@ -1,0 +1,58 @@
+// The cases are played, and one book is tried whose rooms are as small as they can be.
+use crate::book_answer::BookAnswer;
+use crate::calls::{adds, begin};
+use crate::case_rows::CASES;
+use crate::history_rows::HISTORIES;
+use crate::playing::play;
+use crate::ticket_calls::take_open;
+use book_history::rooms::Rooms;
+use checkpoint_book::book::Book;
+use machine::tally::TallyMachine;
+use std::test::Fail;
+
+#[test]
+fn books_answer_as_worked_by_hand(rt: HostRuntime) -> Result<(), Fail> {
+    for case in CASES {
+        play(&rt, rt.alloc(), *case)?;
+    }
+    Ok(())
+}
+
+#[test]
+fn histories_are_as_worked_by_hand(rt: HostRuntime) -> Result<(), Fail> {
+    for (case, entries) in HISTORIES {
+        let history = play(&rt, rt.alloc(), *case)?;
+        assert_eq!(rt; history.entries(), *entries, "{}", case.name);
+    }
+    Ok(())
+}
+
+/// The session's room of one entry is full after the open, and a close still has its place: two places are all that
+/// these rooms reserve. Without a room for workers no claim is answered.
+#[test]
+fn a_room_of_one_entry(rt: HostRuntime) -> Result<(), Fail> {
+    let alloc = rt.alloc();
+    let rooms = Rooms {
+        session: 1,
+        workers: 0,
+    };
+    let mut boxed = Book::<TallyMachine>::new(alloc, 2, 1, rooms)?;
+    let book: &mut Book<TallyMachine> = &mut boxed;
+    assert_eq!(rt;
+        (book.session_room(), book.version(), book.marks()),
+        (1, 0, 0)
+    );
+    begin(book, adds(alloc, 1, 3)?)?;
+    assert_eq!(rt;
+        (book.session_room(), book.version(), book.marks()),
+        (0, 1, 1)
+    );
+    let Err(answer) = take_open(book, alloc, 7)? else {
+        return Err("a claim without room")?;
+    };
+    assert_eq!(rt; answer, BookAnswer::Nothing(true, false));
+    book.close();
+    let history = Book::into_history(boxed);
+    assert_eq!(rt; history.entries().len(), 2);
+    Ok(())
+}

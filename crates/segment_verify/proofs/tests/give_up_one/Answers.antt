@@ -1,8 +1,0 @@
-use Rattle.std.proofs.Common.{refl}
-use Rattle.segment_verify.proofs.Tries.{open_after}
-use Rattle.segment_verify.proofs.tests.give_up_one.Goals as goal
-
-pub returns : goal.returns
-returns c =
-    let drawn = rw c.in-Ticket.is at c.in_ok-ticket.ensures.answer in
-    open_after c.claim.new.self c.release.new.self _ c.release.ensures.events refl (open_after c.args.book.now c.claim.new.self _ drawn.0.events refl c.requires)

@@ -1,6 +1,0 @@
-use Rattle.std.proofs.Common.{refl}
-use Rattle.segment_verify.proofs.Tries.{open_after}
-use Rattle.segment_verify.proofs.tests.run_changing.Goals as goal
-
-pub returns : goal.returns
-returns g c = open_after c.args.book.now c.run.new.self _ c.in_ok-run.ensures.ok refl c.requires
