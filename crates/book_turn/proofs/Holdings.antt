@@ -1,7 +1,7 @@
 -- What the entries of one holder do to its tickets, and to the others'.
 use Rattle.std.proofs.Common.{◌≡◌, ◌≢◌, ℕ, Bool, true, false, true≢false, List, [], ◌∷◌, ◌++◌, ◌||◌, eqb, if◌then◌else◌, refl, sym, ap, ◌∙◌, subst, append_assoc, append-nil}
 use Rattle.std.proofs.lemmas.Bool.{eqb-true, eq-eqb}
-use Rattle.book_history.specs.Event.{Event, Opened, Ran, Reloaded, Claimed, Installed, Released, Shown, Closed}
+use Rattle.book_history.specs.Event.{Event, Opens, Runs, Reloads, Claims, Installs, Releases, Shows, Closes}
 use Rattle.book_history.specs.Tickets.{is_among, without, draws, uses, is_drawn, is_used, IsOut, AreOut, kept, kept_all, MayAdd, MayAddAll}
 use Rattle.book_turn.specs.Rule.{AreOnce}
 
@@ -73,51 +73,51 @@ module _ {D R O : Type 0} where
 
   -- so it is with the holder's tickets, and with one of another holder
   mine : (h : List (Event D R O)) (ts : List ℕ) (e : Event D R O) → MayAdd h ts e → AreOut ts h → AreOut (kept ts e) (h ++ e ∷ [])
-  mine h ts (Opened v m) may o n a = stays_out n h _ refl (o n a)
-  mine h ts (Ran k rows) may o n a = stays_out n h _ refl (o n a)
-  mine h ts (Reloaded v m ops from) may o n a = stays_out n h _ refl (o n a)
-  mine h ts (Claimed k x y by) may o n a = go (eqb n k) refl a
+  mine h ts (Opens v m) may o n a = stays_out n h _ refl (o n a)
+  mine h ts (Runs k rows) may o n a = stays_out n h _ refl (o n a)
+  mine h ts (Reloads v m ops from) may o n a = stays_out n h _ refl (o n a)
+  mine h ts (Claims k x y by) may o n a = go (eqb n k) refl a
     where
-      go : (b : Bool) → eqb n k ≡ b → b || is_among n ts ≡ true → IsOut n (h ++ Claimed k x y by ∷ [])
+      go : (b : Bool) → eqb n k ≡ b → b || is_among n ts ≡ true → IsOut n (h ++ Claims k x y by ∷ [])
       go true t a = record {
-        drawn = drawn_append n h (Claimed k x y by ∷ []) ∙ or_right (is_drawn n h) (eqb n k || false) (or_true (eqb n k) false t);
-        unused = used_append n h (Claimed k x y by ∷ []) ∙ or_false (is_used n h) false (ap (λ i. is_used i h) (eqb-true n k t) ∙ may.1) refl;
+        drawn = drawn_append n h (Claims k x y by ∷ []) ∙ or_right (is_drawn n h) (eqb n k || false) (or_true (eqb n k) false t);
+        unused = used_append n h (Claims k x y by ∷ []) ∙ or_false (is_used n h) false (ap (λ i. is_used i h) (eqb-true n k t) ∙ may.1) refl;
       }
       go false t a = stays_out n h _ refl (o n a)
-  mine h ts (Installed k j by) may o n a = let r = among_without n k ts a in stays_out n h _ (apart_or n k r.1) (o n r.0)
-  mine h ts (Released k by) may o n a = let r = among_without n k ts a in stays_out n h _ (apart_or n k r.1) (o n r.0)
-  mine h ts (Shown s) may o n a = stays_out n h _ refl (o n a)
-  mine h ts Closed may o n a = stays_out n h _ refl (o n a)
+  mine h ts (Installs k j by) may o n a = let r = among_without n k ts a in stays_out n h _ (apart_or n k r.1) (o n r.0)
+  mine h ts (Releases k by) may o n a = let r = among_without n k ts a in stays_out n h _ (apart_or n k r.1) (o n r.0)
+  mine h ts (Shows s) may o n a = stays_out n h _ refl (o n a)
+  mine h ts Closes may o n a = stays_out n h _ refl (o n a)
 
   theirs : (h : List (Event D R O)) (ts : List ℕ) (e : Event D R O) → MayAdd h ts e → (n : ℕ) → IsOut n h → is_among n ts ≢ true → IsOut n (h ++ e ∷ []) × (is_among n (kept ts e) ≢ true)
-  theirs h ts (Opened v m) may n o a = (stays_out n h _ refl o, a)
-  theirs h ts (Ran k rows) may n o a = (stays_out n h _ refl o, a)
-  theirs h ts (Reloaded v m ops from) may n o a = (stays_out n h _ refl o, a)
-  theirs h ts (Claimed k x y by) may n o a = (
+  theirs h ts (Opens v m) may n o a = (stays_out n h _ refl o, a)
+  theirs h ts (Runs k rows) may n o a = (stays_out n h _ refl o, a)
+  theirs h ts (Reloads v m ops from) may n o a = (stays_out n h _ refl o, a)
+  theirs h ts (Claims k x y by) may n o a = (
     stays_out n h _ refl o,
     λ s. a (sym (or_false_left (eqb n k) (is_among n ts) (apart_or n k (λ (e : n ≡ k). true≢false (sym o.drawn ∙ ap (λ i. is_drawn i h) e ∙ may.0)))) ∙ s),
   )
-  theirs h ts (Installed k j by) may n o a = (
+  theirs h ts (Installs k j by) may n o a = (
     stays_out n h _ (apart_or n k (λ (e : n ≡ k). a (ap (λ i. is_among i ts) e ∙ may))) o,
     λ s. a (among_without n k ts s).0,
   )
-  theirs h ts (Released k by) may n o a = (
+  theirs h ts (Releases k by) may n o a = (
     stays_out n h _ (apart_or n k (λ (e : n ≡ k). a (ap (λ i. is_among i ts) e ∙ may))) o,
     λ s. a (among_without n k ts s).0,
   )
-  theirs h ts (Shown s) may n o a = (stays_out n h _ refl o, a)
-  theirs h ts Closed may n o a = (stays_out n h _ refl o, a)
+  theirs h ts (Shows s) may n o a = (stays_out n h _ refl o, a)
+  theirs h ts Closes may n o a = (stays_out n h _ refl o, a)
 
   -- a ticket that is drawn is new, so the holder has none twice
   once_kept : (h : List (Event D R O)) (ts : List ℕ) (e : Event D R O) → MayAdd h ts e → AreOut ts h → AreOnce ts → AreOnce (kept ts e)
-  once_kept h ts (Opened v m) may o once = once
-  once_kept h ts (Ran k rows) may o once = once
-  once_kept h ts (Reloaded v m ops from) may o once = once
-  once_kept h ts (Claimed k x y by) may o once = (not_true (is_among k ts) (λ t. true≢false (sym (o k t).drawn ∙ may.0)), once)
-  once_kept h ts (Installed k j by) may o once = without_once k ts once
-  once_kept h ts (Released k by) may o once = without_once k ts once
-  once_kept h ts (Shown s) may o once = once
-  once_kept h ts Closed may o once = once
+  once_kept h ts (Opens v m) may o once = once
+  once_kept h ts (Runs k rows) may o once = once
+  once_kept h ts (Reloads v m ops from) may o once = once
+  once_kept h ts (Claims k x y by) may o once = (not_true (is_among k ts) (λ t. true≢false (sym (o k t).drawn ∙ may.0)), once)
+  once_kept h ts (Installs k j by) may o once = without_once k ts once
+  once_kept h ts (Releases k by) may o once = without_once k ts once
+  once_kept h ts (Shows s) may o once = once
+  once_kept h ts Closes may o once = once
 
   pub all_mine : (h : List (Event D R O)) (ts : List ℕ) (es : List (Event D R O)) → MayAddAll h ts es → AreOut ts h → AreOut (kept_all ts es) (h ++ es)
   all_mine h ts [] may o = subst (λ l. AreOut ts l) (sym (append-nil h)) o

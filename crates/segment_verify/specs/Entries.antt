@@ -1,20 +1,18 @@
--- The entries that a worker adds to the history by its turns.
-use Rattle.std.specs.Prelude.{◌≡◌, ℕ, List, [], ◌∷◌, ◌++◌, Bool, Result, Ok, Err}
+-- The entries that a holder, a worker or the session, adds to the history by turns with tickets.
+use Rattle.std.specs.Prelude.{◌≡◌, ℕ, List, [], ◌∷◌, ◌++◌, Bool, Option, Some, None}
 use Rattle.book_history.specs.declared.who.Who.{Who}
-use Rattle.book_history.specs.Book.{Event, Claimed, Installed, Released}
+use Rattle.book_history.specs.Book.{DrawnTicket, Event, Claims, Installs, Releases}
 use Rattle.book_turn.specs.Known.{Known}
-use Rattle.checkpoint_book.specs.declared.claimed.Claimed.{Claimed as Answer}
-use Rattle.checkpoint_book.specs.declared.claimed.Claimed.TheVariants.{Ticket, Nothing}
 
 -- ticket n, which is this asker's, comes back verified or is given up
 pub data IsEnd {D R O : Type 0} (by : Who) (n : ℕ) : Event D R O → Type 0 where
-  comes_back : {joined : Bool} → IsEnd by n (Installed n joined by)
-  is_given_up : IsEnd by n (Released n by)
+  comes_back : {joined : Bool} → IsEnd by n (Installs n joined by)
+  is_given_up : IsEnd by n (Releases n by)
 
 -- for each ticket its claim, and right behind it its end; all are this asker's
 pub data AreTurns {D R O : Type 0} (by : Who) : List (Event D R O) → Type 0 where
   no_turn : AreTurns by []
-  one_more : (es : List (Event D R O)) (n a b : ℕ) (e : Event D R O) → AreTurns by es → IsEnd by n e → AreTurns by (es ++ Claimed n a b by ∷ e ∷ [])
+  one_more : (es : List (Event D R O)) (n a b : ℕ) (e : Event D R O) → AreTurns by es → IsEnd by n e → AreTurns by (es ++ Claims n a b by ∷ e ∷ [])
 
 module _ {D R O : Type 0} where
   -- the holder has added the end of this ticket
@@ -29,8 +27,7 @@ module _ {D R O : Type 0} where
     pub turns : AreTurns by entries
     pub own : w.own ≡ v.own ++ entries
 
-  -- by the answer of a claim: the holder has added its claim, or nothing
-  abbrev pub HasAsked : {S E : Type 0} → Who → Result (Answer D S R O) E → Known D R O → Known D R O → Type 0
-  HasAsked by (Ok (Ticket t)) v w = w.own ≡ v.own ++ Claimed t.0 t.1.a t.1.b by ∷ []
-  HasAsked by (Ok (Nothing full closed)) v w = w.own ≡ v.own
-  HasAsked by (Err e) v w = w.own ≡ v.own
+  -- the holder has added the claim of its ticket, if one was drawn, and nothing else
+  abbrev pub HasAsked : {S : Type 0} → Who → Option (ℕ × DrawnTicket D S R) → Known D R O → Known D R O → Type 0
+  HasAsked by None v w = w.own ≡ v.own
+  HasAsked by (Some t) v w = w.own ≡ v.own ++ Claims t.0 t.1.a t.1.b by ∷ []

@@ -1,11 +1,11 @@
 -- What a verification answers.
 use Rattle.std.specs.Prelude.{◌≡◌, ℕ}
-use Rattle.book_history.specs.Book.{Ticket}
+use Rattle.book_history.specs.Book.{DrawnTicket}
 use Rattle.segment_verify.specs.declared.verification.Verification.{Verification}
 use Rattle.segment_verify.specs.declared.verification.Verification.TheVariants.{Done, NoMemory}
 
 -- the ticket comes back, verified or as it was
-abbrev pub IsOf : {D S R O : Type 0} → ℕ × Ticket D S R → Verification D S R O → Type 0
+abbrev pub IsOf : {D S R O : Type 0} → ℕ × DrawnTicket D S R → Verification D S R O → Type 0
 IsOf t (Done v) = v ≡ t
 IsOf t (NoMemory u) = u ≡ t
 

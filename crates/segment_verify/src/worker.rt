@@ -1,11 +1,11 @@
 // What a worker does: it claims in one turn of the book, verifies outside of it, and installs in another, until the book
 // is closed.
-ghost use Rattle.std.specs.Prelude.{◌≡◌, ◌<◌, false};
+ghost use Rattle.std.specs.Prelude.{◌≡◌, ◌<◌, false, IfOk};
 ghost use Rattle.book_history.specs.declared.who.Who.TheVariants.{Worker};
 ghost use Rattle.book_turn.specs.Passes.{IsOf, known};
 ghost use Rattle.segment_verify.specs.Outcome.{IsOf as IsTicketOf};
 ghost use Rattle.segment_verify.specs.Entries.{HasHandedIn, HasTurned, HasAsked};
-ghost use Rattle.segment_verify.specs.Workers.{IsFree, HasEnded, HasTicket, HasDrawn};
+ghost use Rattle.segment_verify.specs.Workers.{IsFree, HasEnded, HasTicket, HasDrawn, TellsClosed, drawn_in};
 
 use crate::verification::Verification;
 use crate::verify;
@@ -113,8 +113,9 @@ fn claim<M: Machine, R: Wait>(
     requires turn { IsOf turn.now pass.old false }
     requires free { IsFree (known pass.old) }
     ensures turn { IsOf turn.now pass.new false }
-    ensures drawn { HasDrawn M.kit (Worker number) result (known pass.new) }
-    ensures entries { HasAsked (Worker number) result (known pass.old) (known pass.new) }
+    ensures drawn { HasDrawn M.kit (Worker number) (drawn_in result) (known pass.new) }
+    ensures told { IfOk result (λ r. TellsClosed (known pass.new).seen r) }
+    ensures entries { HasAsked (Worker number) (drawn_in result) (known pass.old) (known pass.new) }
 {
     let mut boxed = turn.enter(rt, pass);
     let book: &mut Book<M> = &mut boxed;

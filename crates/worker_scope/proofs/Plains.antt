@@ -1,6 +1,6 @@
 -- One turn of the session in which it adds plain entries alone.
 use Rattle.std.proofs.Common.{◌≡◌, ℕ, true, false, List, [], ◌∷◌, ◌++◌, Some, refl, sym, ap, ◌∙◌, subst, append-nil}
-use Rattle.book_history.specs.Book.{Event, Opened, Ran, Reloaded, Claimed, Installed, Released, Shown, Closed}
+use Rattle.book_history.specs.Book.{Event, Opens, Runs, Reloads, Claims, Installs, Releases, Shows, Closes}
 use Rattle.book_history.specs.Journal.{Journal}
 use Rattle.book_history.specs.Owned.{is_owned, AllOwned, added}
 use Rattle.book_history.specs.Rooms.{Counts, count, count_all, no_entry}
@@ -20,44 +20,44 @@ module _ {D R O : Type 0} where
   one_added j l e settings events plain = record { entries = e ∷ []; plain = (plain, tt); settings = settings; events = events }
 
   plain_owned : (e : Event D R O) → is_plain e ≡ true → is_owned e ≡ true
-  plain_owned (Opened v m) p = refl
-  plain_owned (Ran n rows) p = refl
-  plain_owned (Reloaded v m ops from) p = refl
-  plain_owned (Claimed n a b by) p = absurd cc
-  plain_owned (Installed n j by) p = absurd cc
-  plain_owned (Released n by) p = absurd cc
-  plain_owned (Shown s) p = refl
-  plain_owned Closed p = absurd cc
+  plain_owned (Opens v m) p = refl
+  plain_owned (Runs n rows) p = refl
+  plain_owned (Reloads v m ops from) p = refl
+  plain_owned (Claims n a b by) p = absurd cc
+  plain_owned (Installs n j by) p = absurd cc
+  plain_owned (Releases n by) p = absurd cc
+  plain_owned (Shows s) p = refl
+  plain_owned Closes p = absurd cc
 
   plain_kept : (e : Event D R O) (ts : List ℕ) → is_plain e ≡ true → kept ts e ≡ ts
-  plain_kept (Opened v m) ts p = refl
-  plain_kept (Ran n rows) ts p = refl
-  plain_kept (Reloaded v m ops from) ts p = refl
-  plain_kept (Claimed n a b by) ts p = absurd cc
-  plain_kept (Installed n j by) ts p = absurd cc
-  plain_kept (Released n by) ts p = absurd cc
-  plain_kept (Shown s) ts p = refl
-  plain_kept Closed ts p = refl
+  plain_kept (Opens v m) ts p = refl
+  plain_kept (Runs n rows) ts p = refl
+  plain_kept (Reloads v m ops from) ts p = refl
+  plain_kept (Claims n a b by) ts p = absurd cc
+  plain_kept (Installs n j by) ts p = absurd cc
+  plain_kept (Releases n by) ts p = absurd cc
+  plain_kept (Shows s) ts p = refl
+  plain_kept Closes ts p = refl
 
   plain_may : (e : Event D R O) (h : List (Event D R O)) (ts : List ℕ) → is_plain e ≡ true → MayAdd h ts e
-  plain_may (Opened v m) h ts p = tt
-  plain_may (Ran n rows) h ts p = tt
-  plain_may (Reloaded v m ops from) h ts p = tt
-  plain_may (Claimed n a b by) h ts p = absurd cc
-  plain_may (Installed n j by) h ts p = absurd cc
-  plain_may (Released n by) h ts p = absurd cc
-  plain_may (Shown s) h ts p = tt
-  plain_may Closed h ts p = tt
+  plain_may (Opens v m) h ts p = tt
+  plain_may (Runs n rows) h ts p = tt
+  plain_may (Reloads v m ops from) h ts p = tt
+  plain_may (Claims n a b by) h ts p = absurd cc
+  plain_may (Installs n j by) h ts p = absurd cc
+  plain_may (Releases n by) h ts p = absurd cc
+  plain_may (Shows s) h ts p = tt
+  plain_may Closes h ts p = tt
 
   plain_open : (e : Event D R O) (n : Counts) → is_plain e ≡ true → (count n e).closed ≡ n.closed
-  plain_open (Opened v m) n p = refl
-  plain_open (Ran x rows) n p = refl
-  plain_open (Reloaded v m ops from) n p = refl
-  plain_open (Claimed i a b by) n p = absurd cc
-  plain_open (Installed i j by) n p = absurd cc
-  plain_open (Released i by) n p = absurd cc
-  plain_open (Shown s) n p = refl
-  plain_open Closed n p = absurd cc
+  plain_open (Opens v m) n p = refl
+  plain_open (Runs x rows) n p = refl
+  plain_open (Reloads v m ops from) n p = refl
+  plain_open (Claims i a b by) n p = absurd cc
+  plain_open (Installs i j by) n p = absurd cc
+  plain_open (Releases i by) n p = absurd cc
+  plain_open (Shows s) n p = refl
+  plain_open Closes n p = absurd cc
 
   all_owned : (es : List (Event D R O)) → AllPlain es → AllOwned true es
   all_owned [] p = tt

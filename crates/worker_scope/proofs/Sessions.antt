@@ -2,7 +2,7 @@
 use Rattle.std.proofs.Common.{◌≡◌, true, false, List, [], ◌∷◌, ◌++◌, Some, refl, sym, ap, ◌∙◌, subst}
 use Rattle.book_history.specs.declared.who.Who.{Who}
 use Rattle.book_history.specs.declared.who.Who.TheVariants.{Session, Worker}
-use Rattle.book_history.specs.Book.{Event, Opened, Ran, Reloaded, Claimed, Installed, Released, Shown, Closed}
+use Rattle.book_history.specs.Book.{Event, Opens, Runs, Reloads, Claims, Installs, Releases, Shows, Closes}
 use Rattle.book_history.specs.Journal.{Journal}
 use Rattle.book_history.specs.Owned.{is_owned, owned}
 use Rattle.book_history.specs.Rooms.{Counts, counted, count_all, no_entry}
@@ -21,17 +21,17 @@ module _ {D R O : Type 0} where
   -- a Close is the session's own
   closed_owned : (n m : Counts) (h : List (Event D R O)) → n.closed ≡ m.closed → (count_all n (owned h)).closed ≡ (count_all m h).closed
   closed_owned n m [] e = e
-  closed_owned n m (Opened v d ∷ es) e = closed_owned (counted n Session) (counted m Session) es e
-  closed_owned n m (Ran x rows ∷ es) e = closed_owned (counted n Session) (counted m Session) es e
-  closed_owned n m (Reloaded v d ops from ∷ es) e = closed_owned (counted n Session) (counted m Session) es e
-  closed_owned n m (Claimed i a b Session ∷ es) e = closed_owned (counted n Session) (counted m Session) es e
-  closed_owned n m (Claimed i a b (Worker w) ∷ es) e = closed_owned n (counted m (Worker w)) es e
-  closed_owned n m (Installed i j Session ∷ es) e = closed_owned (counted n Session) (counted m Session) es e
-  closed_owned n m (Installed i j (Worker w) ∷ es) e = closed_owned n (counted m (Worker w)) es e
-  closed_owned n m (Released i Session ∷ es) e = closed_owned (counted n Session) (counted m Session) es e
-  closed_owned n m (Released i (Worker w) ∷ es) e = closed_owned n (counted m (Worker w)) es e
-  closed_owned n m (Shown s ∷ es) e = closed_owned (counted n Session) (counted m Session) es e
-  closed_owned n m (Closed ∷ es) e =
+  closed_owned n m (Opens v d ∷ es) e = closed_owned (counted n Session) (counted m Session) es e
+  closed_owned n m (Runs x rows ∷ es) e = closed_owned (counted n Session) (counted m Session) es e
+  closed_owned n m (Reloads v d ops from ∷ es) e = closed_owned (counted n Session) (counted m Session) es e
+  closed_owned n m (Claims i a b Session ∷ es) e = closed_owned (counted n Session) (counted m Session) es e
+  closed_owned n m (Claims i a b (Worker w) ∷ es) e = closed_owned n (counted m (Worker w)) es e
+  closed_owned n m (Installs i j Session ∷ es) e = closed_owned (counted n Session) (counted m Session) es e
+  closed_owned n m (Installs i j (Worker w) ∷ es) e = closed_owned n (counted m (Worker w)) es e
+  closed_owned n m (Releases i Session ∷ es) e = closed_owned (counted n Session) (counted m Session) es e
+  closed_owned n m (Releases i (Worker w) ∷ es) e = closed_owned n (counted m (Worker w)) es e
+  closed_owned n m (Shows s ∷ es) e = closed_owned (counted n Session) (counted m Session) es e
+  closed_owned n m (Closes ∷ es) e =
       closed_owned (record { session = n.session; workers = n.workers; closed = true }) (record { session = m.session; workers = m.workers; closed = true }) es refl
 
   -- the book is closed exactly where the session has closed it

@@ -1,7 +1,7 @@
 -- What the session's pass knows before, while and after workers run beside it.
 use Rattle.std.specs.Prelude.{◌≡◌, ◌+◌, ℕ, List, [], ◌∷◌, ◌++◌, length}
 use Rattle.book_history.specs.declared.who.Who.TheVariants.{Worker}
-use Rattle.book_history.specs.Book.{Event, Closed}
+use Rattle.book_history.specs.Book.{Event, Closes}
 use Rattle.book_history.specs.Owned.{IsPrefix}
 use Rattle.book_turn.specs.Known.{Known, joined, not_alone}
 use Rattle.book_turn.specs.Turns.{HasAdded, GoesOn}
@@ -41,7 +41,7 @@ module _ {D R O : Type 0} where
     pub after : Known D R O
     pub did : does v after a
     pub goes : GoesOn v after
-    pub closed : HasAdded (Closed ∷ []) after w
+    pub closed : HasAdded (Closes ∷ []) after w
 
   -- workers were started, of which the pass keeps only that it may be no longer alone; then the session did its work and closed the book,
   -- and the passes of so many workers, which are all that were started, were joined in

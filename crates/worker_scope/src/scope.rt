@@ -1,6 +1,6 @@
 // The scope: workers start, the session does its work and closes the book, and all workers' passes are joined in.
 ghost use Rattle.std.specs.Prelude.{◌≡◌, ◌≤◌, [], ◌∷◌, vec_len, true, false, All, IfOk, IfNone};
-ghost use Rattle.book_history.specs.Book.{Closed};
+ghost use Rattle.book_history.specs.Book.{Closes};
 ghost use Rattle.book_history.specs.declared.who.Who.TheVariants.{Worker};
 ghost use Rattle.book_turn.specs.Known.{Known, not_alone};
 ghost use Rattle.book_turn.specs.Passes.{IsOf, known};
@@ -240,7 +240,7 @@ fn close<M: Machine, R: Wait>(rt: &R, turn: &Turn<Book<M>>, pass: &mut SessionPa
     requires open { is_closed (known pass.old).own ≡ false }
     ensures turn { IsOf turn.now pass.new true }
     ensures free { IsFree (known pass.new) }
-    ensures closed { HasAdded (Closed ∷ []) (known pass.old) (known pass.new) }
+    ensures closed { HasAdded (Closes ∷ []) (known pass.old) (known pass.new) }
 {
     let mut boxed = turn.enter(rt, pass);
     let book: &mut Book<M> = &mut boxed;

@@ -7,10 +7,10 @@ returns-in_err-ticket-clause-keeps c = keeps_none c.args.book.now c.claim_first.
 
 pub returns-in-Some-clause-keeps : goal.returns-in-Some-clause-keeps
 returns-in-Some-clause-keeps c =
-    let drawn = rw c.in-Some.is at c.in_ok-ticket.ensures.some in
-    keeps_one c.args.book.now c.claim_first.new.self _ c.claim_first.ensures.settings drawn.events refl (λ n. refl)
+    let drawn = rw c.in-Some.is at c.in_ok-ticket.ensures.answer in
+    keeps_one c.args.book.now c.claim_first.new.self _ c.claim_first.ensures.settings drawn.0.events refl (λ n. refl)
 
 pub returns-in-Some-clause-drawn : goal.returns-in-Some-clause-drawn
 returns-in-Some-clause-drawn c =
-    let drawn = rw c.in-Some.is at c.in_ok-ticket.ensures.some in
-    drawn.is_out
+    let drawn = rw c.in-Some.is at c.in_ok-ticket.ensures.answer in
+    drawn.0.is_out

@@ -1,4 +1,4 @@
-use Rattle.std.proofs.Common.{lit<, refl}
+use Rattle.std.proofs.Common.{lit<, refl, sym}
 use Rattle.segment_verify.specs.Entries.{comes_back}
 use Rattle.segment_verify.proofs.Turns.{out_now, may_use, is_free, has_handed_in}
 use Rattle.segment_verify.proofs.worker.install.Goals as goal
@@ -11,8 +11,8 @@ leave-requires-after_bounds g c κs within = (
   lit< tt,
   (
     c.enter-boxed.ensures.turn,
-    may_use g.M.Machine.kit _ _ _ _ _ c.args.verified _ _ c.enter-boxed.ensures.known c.deref_mut-book.ensures.value c.enter-boxed.ensures.learned c.requires.turn.kind c.requires.ticket
-        c.install.ensures.settings c.install.ensures.events refl (λ m. m),
+    may_use g.M.Machine.kit _ _ _ _ _ c.args.verified _ _ c.enter-boxed.ensures.known c.deref_mut-book.ensures.value c.enter-boxed.ensures.learned c.requires.ticket
+        c.install.ensures.settings c.install.ensures.events (sym c.requires.turn.kind) (λ m. m),
   ),
 )
 

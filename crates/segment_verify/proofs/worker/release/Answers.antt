@@ -1,4 +1,4 @@
-use Rattle.std.proofs.Common.{lit<, refl}
+use Rattle.std.proofs.Common.{lit<, refl, sym}
 use Rattle.segment_verify.specs.Entries.{is_given_up}
 use Rattle.segment_verify.proofs.Turns.{out_now, may_use, is_free, has_handed_in}
 use Rattle.segment_verify.proofs.worker.release.Goals as goal
@@ -11,8 +11,8 @@ leave-requires-after_bounds g c κs within = (
   lit< tt,
   (
     c.enter-boxed.ensures.turn,
-    may_use g.M.Machine.kit _ _ _ _ _ c.args.ticket _ _ c.enter-boxed.ensures.known c.deref_mut-book.ensures.value c.enter-boxed.ensures.learned c.requires.turn.kind c.requires.ticket
-        c.release.ensures.settings c.release.ensures.events refl (λ m. m),
+    may_use g.M.Machine.kit _ _ _ _ _ c.args.ticket _ _ c.enter-boxed.ensures.known c.deref_mut-book.ensures.value c.enter-boxed.ensures.learned c.requires.ticket
+        c.release.ensures.settings c.release.ensures.events (sym c.requires.turn.kind) (λ m. m),
   ),
 )
 
