@@ -1,13 +1,10 @@
 -- What the entries of one holder do to its tickets, and to the others'.
 use Rattle.std.proofs.Common.{◌≡◌, ◌≢◌, ℕ, Bool, true, false, true≢false, List, [], ◌∷◌, ◌++◌, ◌||◌, eqb, if◌then◌else◌, refl, sym, ap, ◌∙◌, subst, append_assoc, append-nil}
-use Rattle.std.proofs.lemmas.Bool.{eqb-true, eq-eqb}
+use Rattle.std.proofs.Math.Bool.{or_assoc}
+use Rattle.std.proofs.lemmas.Bool.{eqb-true, eq-eqb, false_from_ne_true, or_from}
 use Rattle.book_history.specs.Event.{Event, Opens, Runs, Reloads, Claims, Installs, Releases, Shows, Closes}
 use Rattle.book_history.specs.Tickets.{is_among, without, draws, uses, is_drawn, is_used, IsOut, AreOut, kept, kept_all, MayAdd, MayAddAll}
 use Rattle.book_turn.specs.Rule.{AreOnce}
-
-or_assoc : (a b c : Bool) → (a || b) || c ≡ a || (b || c)
-or_assoc true b c = refl
-or_assoc false b c = refl
 
 pub or_true : (a b : Bool) → a ≡ true → a || b ≡ true
 or_true true b e = refl
@@ -21,17 +18,9 @@ or_false_left : (a b : Bool) → a ≡ false → a || b ≡ b
 or_false_left true b e = absurd (true≢false e)
 or_false_left false b e = refl
 
-pub or_false : (a b : Bool) → a ≡ false → b ≡ false → a || b ≡ false
-or_false true b e f = absurd (true≢false e)
-or_false false b e f = f
-
-pub not_true : (a : Bool) → a ≢ true → a ≡ false
-not_true true h = absurd (h refl)
-not_true false h = refl
-
 -- n is k, or it is not
 pub apart_or : (n k : ℕ) → n ≢ k → eqb n k ≡ false
-apart_or n k h = not_true (eqb n k) (λ e. h (eqb-true n k e))
+apart_or n k h = false_from_ne_true (eqb n k) (λ e. h (eqb-true n k e))
 
 -- what is left without k was there, and is not k
 pub among_without : (n k : ℕ) (ts : List ℕ) → is_among n (without k ts) ≡ true → (is_among n ts ≡ true) × (n ≢ k)
@@ -53,7 +42,7 @@ without_once k (m ∷ ms) o = go (eqb m k) (without_once k ms o.1)
   where
     go : (b : Bool) → AreOnce (without k ms) → AreOnce (if b then without k ms else m ∷ without k ms)
     go true r = r
-    go false r = (not_true (is_among m (without k ms)) (λ s. true≢false (sym (among_without m k ms s).0 ∙ o.0)), r)
+    go false r = (false_from_ne_true (is_among m (without k ms)) (λ s. true≢false (sym (among_without m k ms s).0 ∙ o.0)), r)
 
 module _ {D R O : Type 0} where
   pub drawn_append : (n : ℕ) (xs ys : List (Event D R O)) → is_drawn n (xs ++ ys) ≡ is_drawn n xs || is_drawn n ys
@@ -68,7 +57,7 @@ module _ {D R O : Type 0} where
   stays_out : (n : ℕ) (h : List (Event D R O)) (e : Event D R O) → uses n e ≡ false → IsOut n h → IsOut n (h ++ e ∷ [])
   stays_out n h e u o = record {
     drawn = drawn_append n h (e ∷ []) ∙ or_true (is_drawn n h) (draws n e || false) o.drawn;
-    unused = used_append n h (e ∷ []) ∙ or_false (is_used n h) (uses n e || false) o.unused (or_false (uses n e) false u refl);
+    unused = used_append n h (e ∷ []) ∙ or_from (is_used n h) (uses n e || false) o.unused (or_from (uses n e) false u refl);
   }
 
   -- so it is with the holder's tickets, and with one of another holder
@@ -81,7 +70,7 @@ module _ {D R O : Type 0} where
       go : (b : Bool) → eqb n k ≡ b → b || is_among n ts ≡ true → IsOut n (h ++ Claims k x y by ∷ [])
       go true t a = record {
         drawn = drawn_append n h (Claims k x y by ∷ []) ∙ or_right (is_drawn n h) (eqb n k || false) (or_true (eqb n k) false t);
-        unused = used_append n h (Claims k x y by ∷ []) ∙ or_false (is_used n h) false (ap (λ i. is_used i h) (eqb-true n k t) ∙ may.1) refl;
+        unused = used_append n h (Claims k x y by ∷ []) ∙ or_from (is_used n h) false (ap (λ i. is_used i h) (eqb-true n k t) ∙ may.1) refl;
       }
       go false t a = stays_out n h _ refl (o n a)
   mine h ts (Installs k j by) may o n a = let r = among_without n k ts a in stays_out n h _ (apart_or n k r.1) (o n r.0)
@@ -113,7 +102,7 @@ module _ {D R O : Type 0} where
   once_kept h ts (Opens v m) may o once = once
   once_kept h ts (Runs k rows) may o once = once
   once_kept h ts (Reloads v m ops from) may o once = once
-  once_kept h ts (Claims k x y by) may o once = (not_true (is_among k ts) (λ t. true≢false (sym (o k t).drawn ∙ may.0)), once)
+  once_kept h ts (Claims k x y by) may o once = (false_from_ne_true (is_among k ts) (λ t. true≢false (sym (o k t).drawn ∙ may.0)), once)
   once_kept h ts (Installs k j by) may o once = without_once k ts once
   once_kept h ts (Releases k by) may o once = without_once k ts once
   once_kept h ts (Shows s) may o once = once
