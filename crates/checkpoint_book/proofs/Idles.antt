@@ -26,4 +26,3 @@ any-append (x ∷ xs) ys = go (is_open x.link) (any-append xs ys)
     go : (b : Bool) → any_open (xs ++ ys) ≡ any_open xs || any_open ys → b || any_open (xs ++ ys) ≡ (b || any_open xs) || any_open ys
     go true h = refl
     go false h = h
-
