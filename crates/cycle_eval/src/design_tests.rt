@@ -292,6 +292,36 @@ fn a_case_with_dont_cares(rt: HostRuntime) -> Result<(), Fail> {
     Ok(())
 }
 
+// reg [3:0] q; reg [1:0] y; always @(posedge clk) begin
+//   100,000 assignments q <= 0, q <= 1, .. by the lowest four bits of their numbers, of which the last wins: 99,999 = 6,249 * 16 + 15;
+//   case (q) with 100,000 arms 1: y <= 1; default: y <= 3; endcase end
+#[test]
+fn a_long_block(rt: HostRuntime) -> Result<(), Fail> {
+    let alloc = rt.alloc();
+    let mut body = Vec::new(alloc);
+    let mut arms = Vec::new(alloc);
+    for k in 0..100_000u32 {
+        body.push(later(alloc, 0, 4, number((k % 16) as u8, 4))?)?;
+        arms.push(arm(alloc, 0, 1, 1)?)?;
+    }
+    let otherwise = Box::new(alloc, later(alloc, 1, 2, number(3, 2))?)?;
+    body.push(Stmt::Case {
+        subject: Typed::name(SignalId(0), 4),
+        arms,
+        otherwise,
+    })?;
+    let parts = Parts {
+        signals: signals(&rt, alloc, &[(4, 0), (2, 0)])?,
+        registers: vec![in alloc; SignalId(0), SignalId(1)]?,
+        inputs: Vec::new(alloc),
+        nodes: Vec::new(alloc),
+        clocked: vec![in alloc; Stmt::Sequence(body)]?,
+    };
+    let design = design_of(&rt, alloc, parts)?;
+    assert_eq!(rt; after(alloc, &design, 1)?.as_slice(), [15, 3].as_slice());
+    Ok(())
+}
+
 // reg [1:0] h; reg [3:0] l = 9; reg n; always @(posedge clk) begin n <= n + 1; if (n) {h, l} <= 45; else ; end
 #[test]
 fn a_condition_and_two_parts(rt: HostRuntime) -> Result<(), Fail> {

@@ -7,6 +7,7 @@ use crate::{
 };
 use bits::Bits;
 use no_memory::NoMemory;
+use std::alloc::Global;
 use std::process::Abort;
 use std::test::Fail;
 
@@ -20,6 +21,69 @@ fn number(rt: &impl Abort, width: u8, n: u128) -> Typed
 fn value_in(rt: &impl Abort, e: &Typed, env: &Env) -> u128 {
     assert!(rt; fits(e, env));
     value(e, env).value()
+}
+
+// What an operator gives of two numbers of these widths, with the width of the result.
+fn binary_gives(
+    rt: &impl Abort,
+    alloc: Global,
+    op: BinaryOperator,
+    x: (u8, u128),
+    y: (u8, u128),
+) -> Result<(u8, u128), NoMemory> {
+    let env = two_signals(alloc)?;
+    let a = number(rt, x.0, x.1);
+    let b = number(rt, y.0, y.1);
+    assert!(rt; op.takes(a.width, b.width));
+    let e = Typed::binary(alloc, op, a, b)?;
+    Ok((e.width, value_in(rt, &e, &env)))
+}
+
+// The bits of a signal from a place that is known at run time.
+fn pick_gives(
+    rt: &impl Abort,
+    alloc: Global,
+    signal: u32,
+    width: u8,
+    below: u32,
+    signed: bool,
+    index: (u8, u128),
+) -> Result<u128, NoMemory> {
+    let env = two_signals(alloc)?;
+    assert!(rt; width >= 1 && width <= 128);
+    let place = number(rt, index.0, index.1);
+    let e = Typed::pick(alloc, SignalId(signal), width, below, signed, place)?;
+    Ok(value_in(rt, &e, &env))
+}
+
+// A number at another width.
+fn resized_gives(
+    rt: &impl Abort,
+    alloc: Global,
+    x: (u8, u128),
+    to: u8,
+    signed: bool,
+) -> Result<(u8, u128), NoMemory> {
+    let env = two_signals(alloc)?;
+    assert!(rt; to >= 1 && to <= 128);
+    let e = Typed::resized(alloc, number(rt, x.0, x.1), to, signed)?;
+    Ok((e.width, value_in(rt, &e, &env)))
+}
+
+// One number above another.
+fn concat_gives(
+    rt: &impl Abort,
+    alloc: Global,
+    x: (u8, u128),
+    y: (u8, u128),
+) -> Result<u128, NoMemory> {
+    let env = two_signals(alloc)?;
+    let upper = number(rt, x.0, x.1);
+    let lower = number(rt, y.0, y.1);
+    assert!(rt; upper.width <= 128 - lower.width);
+    let e = Typed::concat(alloc, upper, lower)?;
+    assert_eq!(rt; e.width, x.0 + y.0);
+    Ok(value_in(rt, &e, &env))
 }
 
 const ONES_63: u128 = 0x7fff_ffff_ffff_ffff;
@@ -43,7 +107,7 @@ const ONES: u128 = 0xffff_ffff_ffff_ffff_ffff_ffff_ffff_ffff;
 const TOP: u128 = 0x8000_0000_0000_0000_0000_0000_0000_0000;
 
 // Signal 0 has the eight bits 1010_0101, and signal 1 the highest and the lowest of 128 bits.
-fn two_signals(alloc: std::alloc::Global) -> Result<Env, NoMemory> {
+fn two_signals(alloc: Global) -> Result<Env, NoMemory> {
     let mut values = Vec::new(alloc);
     values.push(Bits::new(8, 0xa5))?;
     values.push(Bits::new(128, TOP + 1))?;
@@ -52,7 +116,6 @@ fn two_signals(alloc: std::alloc::Global) -> Result<Env, NoMemory> {
 
 #[test]
 fn arithmetic_operators(rt: HostRuntime) -> Result<(), Fail> {
-    let env = two_signals(rt.alloc())?;
     // the operator, the width, two values, and what it gives
     let table = [
         (ArithmeticOperator::Sum, 8, 200, 100, 44),
@@ -84,19 +147,14 @@ fn arithmetic_operators(rt: HostRuntime) -> Result<(), Fail> {
     ];
     for (op, width, x, y, wanted) in table {
         let op = BinaryOperator::Arithmetic(op);
-        let a = number(&rt, width, x);
-        let b = number(&rt, width, y);
-        assert!(rt; op.takes(a.width, b.width));
-        let e = Typed::binary(rt.alloc(), op, a, b)?;
-        assert_eq!(rt; e.width, width);
-        assert_eq!(rt; value_in(&rt, &e, &env), wanted, "{op:?} of {x} and {y}");
+        let got = binary_gives(&rt, rt.alloc(), op, (width, x), (width, y))?;
+        assert_eq!(rt; got, (width, wanted), "{op:?} of {x} and {y}");
     }
     Ok(())
 }
 
 #[test]
 fn comparisons(rt: HostRuntime) -> Result<(), Fail> {
-    let env = two_signals(rt.alloc())?;
     // the operator, the width, two values, and what it gives
     let table = [
         (Comparison::Equal, 8, 5, 5, 1),
@@ -132,19 +190,14 @@ fn comparisons(rt: HostRuntime) -> Result<(), Fail> {
     ];
     for (op, width, x, y, wanted) in table {
         let op = BinaryOperator::Compare(op);
-        let a = number(&rt, width, x);
-        let b = number(&rt, width, y);
-        assert!(rt; op.takes(a.width, b.width));
-        let e = Typed::binary(rt.alloc(), op, a, b)?;
-        assert_eq!(rt; e.width, 1);
-        assert_eq!(rt; value_in(&rt, &e, &env), wanted, "{op:?} of {x} and {y}");
+        let got = binary_gives(&rt, rt.alloc(), op, (width, x), (width, y))?;
+        assert_eq!(rt; got, (1, wanted), "{op:?} of {x} and {y}");
     }
     Ok(())
 }
 
 #[test]
 fn logical_operators(rt: HostRuntime) -> Result<(), Fail> {
-    let env = two_signals(rt.alloc())?;
     // the operator, the width and the value of both operands, and what it gives
     let table = [
         (LogicalOperator::Both, 1, 1, 1, 1, 1),
@@ -162,19 +215,14 @@ fn logical_operators(rt: HostRuntime) -> Result<(), Fail> {
     ];
     for (op, width, x, other, y, wanted) in table {
         let op = BinaryOperator::Logical(op);
-        let a = number(&rt, width, x);
-        let b = number(&rt, other, y);
-        assert!(rt; op.takes(a.width, b.width));
-        let e = Typed::binary(rt.alloc(), op, a, b)?;
-        assert_eq!(rt; e.width, 1);
-        assert_eq!(rt; value_in(&rt, &e, &env), wanted, "{op:?} of {x} and {y}");
+        let got = binary_gives(&rt, rt.alloc(), op, (width, x), (other, y))?;
+        assert_eq!(rt; got, (1, wanted), "{op:?} of {x} and {y}");
     }
     Ok(())
 }
 
 #[test]
 fn shifts(rt: HostRuntime) -> Result<(), Fail> {
-    let env = two_signals(rt.alloc())?;
     // the operator, the width and the value of both operands, and what it gives
     let table = [
         (ShiftOperator::Left, 1, 1, 1, 1, 0),
@@ -205,12 +253,8 @@ fn shifts(rt: HostRuntime) -> Result<(), Fail> {
     ];
     for (op, width, x, other, y, wanted) in table {
         let op = BinaryOperator::Shift(op);
-        let a = number(&rt, width, x);
-        let b = number(&rt, other, y);
-        assert!(rt; op.takes(a.width, b.width));
-        let e = Typed::binary(rt.alloc(), op, a, b)?;
-        assert_eq!(rt; e.width, width);
-        assert_eq!(rt; value_in(&rt, &e, &env), wanted, "{op:?} of {x} and {y}");
+        let got = binary_gives(&rt, rt.alloc(), op, (width, x), (other, y))?;
+        assert_eq!(rt; got, (width, wanted), "{op:?} of {x} and {y}");
     }
     Ok(())
 }
@@ -283,21 +327,14 @@ fn selects(rt: HostRuntime) -> Result<(), Fail> {
         (1, 128, 0, false, 0x80, 0),
     ];
     for (signal, width, below, signed, index, wanted) in table {
-        assert!(rt; width >= 1 && width <= 128);
-        let place = number(&rt, 8, index);
-        let e = Typed::pick(rt.alloc(), SignalId(signal), width, below, signed, place)?;
-        assert_eq!(rt;
-            value_in(&rt, &e, &env),
-            wanted,
-            "{width} bits from {index} less {below}"
-        );
+        let got = pick_gives(&rt, rt.alloc(), signal, width, below, signed, (8, index))?;
+        assert_eq!(rt; got, wanted, "{width} bits from {index} less {below}");
     }
     Ok(())
 }
 
 #[test]
 fn wide_indices(rt: HostRuntime) -> Result<(), Fail> {
-    let env = two_signals(rt.alloc())?;
     // whether the index is signed, the index of 128 bits, four bits of signal 0 from there: -2^127, 2^127, -1, 2^128 - 1, 2
     let table = [
         (true, TOP, 0),
@@ -307,9 +344,8 @@ fn wide_indices(rt: HostRuntime) -> Result<(), Fail> {
         (true, 2, 9),
     ];
     for (signed, index, wanted) in table {
-        let place = number(&rt, 128, index);
-        let e = Typed::pick(rt.alloc(), SignalId(0), 4, 0, signed, place)?;
-        assert_eq!(rt; value_in(&rt, &e, &env), wanted, "from {index}");
+        let got = pick_gives(&rt, rt.alloc(), 0, 4, 0, signed, (128, index))?;
+        assert_eq!(rt; got, wanted, "from {index}");
     }
     Ok(())
 }
@@ -332,7 +368,6 @@ fn signals_that_are_not_there(rt: HostRuntime) -> Result<(), Fail> {
 
 #[test]
 fn parts_put_together(rt: HostRuntime) -> Result<(), Fail> {
-    let env = two_signals(rt.alloc())?;
     // the width and the value of the upper part, of the lower part, and both
     let table = [
         (1, 1, 1, 0, 2),
@@ -344,12 +379,8 @@ fn parts_put_together(rt: HostRuntime) -> Result<(), Fail> {
         (65, TWO_64, 63, 3, TOP + 3),
     ];
     for (width, x, low, y, wanted) in table {
-        let upper = number(&rt, width, x);
-        let lower = number(&rt, low, y);
-        assert!(rt; upper.width <= 128 - lower.width);
-        let e = Typed::concat(rt.alloc(), upper, lower)?;
-        assert_eq!(rt; e.width, width + low);
-        assert_eq!(rt; value_in(&rt, &e, &env), wanted, "{x} above {y}");
+        let got = concat_gives(&rt, rt.alloc(), (width, x), (low, y))?;
+        assert_eq!(rt; got, wanted, "{x} above {y}");
     }
     Ok(())
 }
@@ -411,7 +442,6 @@ fn choices(rt: HostRuntime) -> Result<(), Fail> {
 
 #[test]
 fn other_widths(rt: HostRuntime) -> Result<(), Fail> {
-    let env = two_signals(rt.alloc())?;
     // the width, the value, another width, the value at it unsigned and signed
     let table = [
         (1, 1, 8, 1, 0xff),
@@ -427,16 +457,10 @@ fn other_widths(rt: HostRuntime) -> Result<(), Fail> {
         (128, TOP + 5, 127, 5, 5),
     ];
     for (width, x, to, plain, extended) in table {
-        assert!(rt; to >= 1 && to <= 128);
-        let unsigned = Typed::resized(rt.alloc(), number(&rt, width, x), to, false)?;
-        assert_eq!(rt; unsigned.width, to);
-        assert_eq!(rt; value_in(&rt, &unsigned, &env), plain, "{x} at {to} bits");
-        let signed = Typed::resized(rt.alloc(), number(&rt, width, x), to, true)?;
-        assert_eq!(rt;
-            value_in(&rt, &signed, &env),
-            extended,
-            "{x} at {to} bits, signed"
-        );
+        let unsigned = resized_gives(&rt, rt.alloc(), (width, x), to, false)?;
+        assert_eq!(rt; unsigned, (to, plain), "{x} at {to} bits");
+        let signed = resized_gives(&rt, rt.alloc(), (width, x), to, true)?;
+        assert_eq!(rt; signed, (to, extended), "{x} at {to} bits, signed");
     }
     Ok(())
 }
