@@ -111,10 +111,10 @@ module _ {D S R O : Type 0} (k : Kit D S R O) where
   told by j l (Ticket t) is causes = tt
   told by j l (Nothing full closed) is causes = causes.1 ∙ ap (λ (h : List (Event D R O)). is_closed h) (sym is.0)
 
-  pub has_told : {E : Type 0} (w x : Known D R O) (i l : Journal D R O) (by : Who) (r : Result (Claimed D S R O) E) → x ≡ left w l → IfOk r (λ a. ClaimIs k by i l (ticket_in a)) → IfOk r (λ a. CausesAre k i a)
+  pub has_told : {E : Type 0} (w x : Known D R O) (i j l : Journal D R O) (by : Who) (r : Result (Claimed D S R O) E) → x ≡ left w l → i ≡ j → IfOk r (λ a. ClaimIs k by i l (ticket_in a)) → IfOk r (λ a. CausesAre k i a)
       → IfOk r (λ a. TellsClosed x.seen a)
-  has_told w x i l by (Ok a) leaves ok causes = subst (λ (h : List (Event D R O)). TellsClosed h a) (sym (ap (λ (y : Known D R O). y.seen) leaves)) (told by i l a ok causes)
-  has_told w x i l by (Err e) leaves ok causes = tt
+  has_told w x i j l by (Ok a) leaves same ok causes = subst (λ (h : List (Event D R O)). TellsClosed h a) (sym (ap (λ (y : Known D R O). y.seen) leaves)) (told by i l a ok causes)
+  has_told w x i j l by (Err e) leaves same ok causes = tt
 
   -- the ticket n of the pass was used up by the entry e
   pub may_use : (v w : Known D R O) (i j l : Journal D R O) (t : ℕ × DrawnTicket D S R) (by : Who) (e : Event D R O) → w ≡ entered v j → i ≡ j → Learned v j → HasTicket k by t v
