@@ -1,16 +1,17 @@
 -- What a run took and wrote, by how its reading ended.
-use Rattle.std.proofs.Common.{◌≡◌, ◌≢◌, ◌⊎◌, inl, inr, ℕ, ◌<◌, ◌≤◌, Bool, true, false, eqb, if◌then◌else◌, List, [], length, ◌++◌, Option, Some, None, Result, Ok, Err, refl, sym, ap, ◌∙◌, append_assoc, true≢false, arith}
+use Rattle.std.proofs.Common.{◌≡◌, ◌≢◌, ◌⊎◌, inl, inr, ℕ, ◌<◌, ◌≤◌, Bool, true, false, eqb, if◌then◌else◌, List, [], ◌∷◌, length, ◌++◌, Option, Some, None, Result, Ok, Err, refl, sym, ap, ◌∙◌, append_assoc, true≢false, arith}
 use Rattle.std.proofs.lemmas.Bool.Decides.{nat_tests}
 use Rattle.std.specs.Io.KnownBytes.{Consumes, IsAtEnd}
 use Rattle.std.specs.Int.{from_bool}
 use Rattle.ls_port.specs.declared.sink_refusal.SinkRefusal.{SinkRefusal}
 use Rattle.livesim.specs.Endings.{Carries, Finishes, has_ended, status_of}
-use Rattle.livesim.specs.Runs.{Begins, Lived, LeavesToWrite, IsComplete, TellsTruth}
+use Rattle.livesim.specs.Runs.{Begins, Lived, LeavesToWrite, IsComplete, true_display}
 use Rattle.livesim.specs.Commands.{Command, Display, commands}
-use Rattle.livesim.specs.Worlds.{Told, fresh, world_after, any_refused, display_verdict}
-use Rattle.livesim.specs.Replies.{answer_text}
+use Rattle.livesim.specs.Worlds.{Told, fresh, after, world_after, any_refused, command_verdict, display_verdict}
+use Rattle.livesim.specs.Replies.{answer_text, lines, reply}
 use Rattle.typed_ir.specs.Cycles.{Flat}
 use Rattle.livesim.proofs.Begins.{commands_begin}
+use Rattle.livesim.proofs.Turns.{lines-append}
 use Rattle.livesim.specs.declared.ending.Ending.{Ending}
 use Rattle.livesim.specs.declared.ending.Ending.TheVariants.{Whole, Failed, TooMuch}
 
@@ -31,10 +32,20 @@ one_of : {P : Type 0} (s a b : ℕ) → (s ≡ a) ⊎ (s ≡ b) → (s ≡ a →
 one_of s a b (inl e) f g = f e
 one_of s a b (inr e) f g = g e
 
--- a display tells the truth
-pub displays_truth : (before : List Told) (line : ℕ) (design : Flat) → (world_after before fresh).design ≡ Some design → TellsTruth before line design
-displays_truth before line design is =
-    ap (λ d. answer_text (Display line) (display_verdict line (world_after before fresh).cycle d)) is
+-- a display of a design tells its truth
+pub displays_truth : (before : List Told) (line : ℕ) (t : Told) (design : Flat) → t.command ≡ Display line → (world_after before fresh).design ≡ Some design
+    → reply t (world_after before fresh) ≡ true_display (world_after before fresh).cycle design
+displays_truth before line t design command is =
+    ap (λ c. answer_text c (command_verdict c t.answer (world_after before fresh))) command
+    ∙ ap (λ d. answer_text (Display line) (display_verdict line (world_after before fresh).cycle d)) is
+
+-- and so do the lines of commands among which it stands
+shown_truth : (told before rest : List Told) (line : ℕ) (t : Told) (design : Flat) → before ++ t ∷ rest ≡ told → t.command ≡ Display line
+    → (world_after before fresh).design ≡ Some design
+    → lines told fresh ≡ lines before fresh ++ (true_display (world_after before fresh).cycle design ++ lines rest (after t (world_after before fresh)))
+shown_truth told before rest line t design at command is =
+    ap (λ ts. lines ts fresh) (sym at) ∙ lines-append before (t ∷ rest) fresh
+    ∙ ap (λ shown. lines before fresh ++ (shown ++ lines rest (after t (world_after before fresh)))) (displays_truth before line t design command is)
 
 -- memory ran out while it was read
 pub cut_short : (left_old left_new written : Option (List ℕ)) (bytes : List ℕ) → Consumes left_old left_new bytes → Lived left_old left_new written written bytes false 5
@@ -51,7 +62,7 @@ cut_short left_old left_new written bytes consumed = record {
   cut = λ h. refl;
   written = λ four five. absurd (five refl);
   front = ([], nothing written);
-  settled = λ before rest line design at is. displays_truth before line design is;
+  settled = shown_truth [];
   too_much = λ e. absurd (omega (arith, e));
   not_too_much = λ big four five. absurd (five refl);
 }
@@ -87,7 +98,7 @@ module _ (left_old left_new written_old written_new : Option (List ℕ)) (bytes 
             (λ z. let e = status_is Whole f 6 z (λ e. omega (arith, e)) (λ e. omega (arith, e)) in omega (arith, e, below)));
         written = f.written;
         front = f.front;
-        settled = λ before rest line design at is. displays_truth before line design is;
+        settled = shown_truth f.told;
         too_much = λ z. absurd (let e = status_is Whole f 6 z (λ e. omega (arith, e)) (λ e. omega (arith, e)) in omega (arith, e, below));
         not_too_much = λ big four five. absurd (few big);
       }
@@ -107,7 +118,7 @@ module _ (left_old left_new written_old written_new : Option (List ℕ)) (bytes 
     cut = λ h. unended;
     written = f.written;
     front = f.front;
-    settled = λ before rest line design at is. displays_truth before line design is;
+    settled = shown_truth f.told;
     too_much = λ z. six (sym (status_is ending f 6 z (λ e. omega (arith, e)) (λ e. omega (arith, e)) ∙ is (any_refused f.told fresh)));
     not_too_much = λ many four five. f.says four five ∙ is (any_refused f.told fresh) ∙ big many;
   }

@@ -24,7 +24,7 @@ right-append : (xs ys : List Told) (w : World) → AreRight w xs → AreRight (w
 right-append [] ys w front back = back
 right-append (x ∷ xs) ys w front back = (front.0, right-append xs ys (after x w) front.1 back)
 
-lines-append : (xs ys : List Told) (w : World) → lines (xs ++ ys) w ≡ lines xs w ++ lines ys (world_after xs w)
+pub lines-append : (xs ys : List Told) (w : World) → lines (xs ++ ys) w ≡ lines xs w ++ lines ys (world_after xs w)
 lines-append [] ys w = refl
 lines-append (x ∷ xs) ys w =
     ap (λ more. reply x w ++ more) (lines-append xs ys (after x w))

@@ -4,8 +4,8 @@ use Rattle.std.specs.Io.KnownBytes.{Consumes, Appends, IsAtEnd}
 use Rattle.typed_ir.specs.Cycles.{Flat, truth}
 use Rattle.livesim.specs.Designs.{no_rows}
 use Rattle.livesim.specs.Commands.{Command, Display, commands}
-use Rattle.livesim.specs.Worlds.{Told, plain, fresh, commands_of, world_after, any_refused, AreRight}
-use Rattle.livesim.specs.Replies.{lines, reply, table_lines}
+use Rattle.livesim.specs.Worlds.{Told, fresh, commands_of, after, world_after, any_refused, AreRight}
+use Rattle.livesim.specs.Replies.{lines, table_lines}
 
 -- the first commands, and then the rest, are all
 abbrev pub Begins : List Command → List Command → Type 0
@@ -21,12 +21,11 @@ LeavesToWrite (Some xs) (Some ys) rest all = ys ++ rest ≡ xs ++ all
 abbrev pub WritesFront : Option (List ℕ) → Option (List ℕ) → List ℕ → Type 0
 WritesFront old new all = (rest : List ℕ) × LeavesToWrite old new rest all
 
--- A display behind these commands shows the registers of a run of the design from reset, and says that it is settled.
-abbrev pub TellsTruth : List Told → ℕ → Flat → Type 0
-TellsTruth before line design =
-    reply (plain (Display line)) (world_after before fresh)
-    ≡ codes "show cycle=" ++ decimal (world_after before fresh).cycle ++ codes " settled v=1" ++ (10 ∷ [])
-    ++ table_lines design design.registers (truth design no_rows (world_after before fresh).cycle)
+-- the lines that tell the truth of a design at a cycle: the registers of a run from reset, and that they are settled
+abbrev pub true_display : ℕ → Flat → List ℕ
+true_display cycle design =
+    codes "show cycle=" ++ decimal cycle ++ codes " settled v=1" ++ (10 ∷ [])
+    ++ table_lines design design.registers (truth design no_rows cycle)
 
 -- These bytes were taken, and the input ended with them or not. The lines of their commands were written, but at
 -- 4 and 5 perhaps only a front of these.
@@ -50,9 +49,10 @@ pub record Lived (left_old left_new written_old written_new : Option (List ℕ))
   pub cut : (status ≡ 3) ⊎ (status ≡ 6) → ended ≡ false
   pub written : status ≢ 4 → status ≢ 5 → Appends written_old written_new (lines told fresh)
   pub front : WritesFront written_old written_new (lines told fresh)
-  -- and each display among them, where there is a design, tells the truth
-  pub settled : (before rest : List Told) (line : ℕ) (design : Flat) → before ++ plain (Display line) ∷ rest ≡ told
-      → (world_after before fresh).design ≡ Some design → TellsTruth before line design
+  -- where a display of a design stands among the commands, the lines tell its truth
+  pub settled : (before rest : List Told) (line : ℕ) (t : Told) (design : Flat) → before ++ t ∷ rest ≡ told → t.command ≡ Display line
+      → (world_after before fresh).design ≡ Some design
+      → lines told fresh ≡ lines before fresh ++ true_display (world_after before fresh).cycle design ++ lines rest (after t (world_after before fresh))
   -- 6 comes exactly where too much was taken, but where the sink failed or memory ran out
   pub too_much : status ≡ 6 → 67108864 < length bytes
   pub not_too_much : 67108864 < length bytes → status ≢ 4 → status ≢ 5 → status ≡ 6

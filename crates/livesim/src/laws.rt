@@ -3,8 +3,9 @@ ghost use Rattle.std.specs.Prelude.{◌≡◌, ℕ, List, Some};
 ghost use Rattle.livesim.specs.Script.{BlockText};
 ghost use Rattle.livesim.specs.Designs.{Answer};
 ghost use Rattle.livesim.specs.Readings.{TextReads};
-ghost use Rattle.livesim.specs.Replies.{lines};
-ghost use Rattle.livesim.specs.Runs.{TellsTruth};
+ghost use Rattle.livesim.specs.Commands.{Display};
+ghost use Rattle.livesim.specs.Replies.{lines, reply};
+ghost use Rattle.livesim.specs.Runs.{true_display};
 ghost use Rattle.livesim.specs.Worlds.{World, Told, commands_of, any_refused, fresh, world_after, AreRight};
 ghost use Rattle.typed_ir.specs.Cycles.{Flat};
 
@@ -25,9 +26,10 @@ pub fn commands_have_one_output()
         → world_after ts w ≡ world_after us w }
 {}
 
-/// Whatever commands came before it, a display of a design shows the registers of a run from reset to its cycle.
+/// Whatever commands came before it, and whatever is told of it, a display of a design shows the registers of a run from reset to its
+/// cycle, and says that they are settled.
 #[tactic(none)]
 pub fn displays_tell_the_truth()
-    ensures { (before : List Told) (line : ℕ) (design : Flat) → (world_after before fresh).design ≡ Some design
-        → TellsTruth before line design }
+    ensures { (before : List Told) (line : ℕ) (t : Told) (design : Flat) → t.command ≡ Display line → (world_after before fresh).design ≡ Some design
+        → reply t (world_after before fresh) ≡ true_display (world_after before fresh).cycle design }
 {}

@@ -288,7 +288,7 @@ pub fn live_run<R: Threads + Sync, S: Source, K: Sink>(
     ensures lived { result.status ≢ 2 → (bytes : List ℕ) × (ended : Bool) × (length bytes ≡ result.taken)
         × Lived (S.left source.old) (S.left source.new) (K.written sink.old) (K.written sink.new) bytes ended result.status }
 
-    // The causes of 3 and 4: the count rose by one, so the call that failed was the last.
+    // The causes of 3 and 4: the count rose, and by one.
     ensures read_fault { result.status ≡ 3 → Rose (S.faults source.old) (S.faults source.new) }
     ensures write_fault { result.status ≡ 4 → Rose (K.faults sink.old) (K.faults sink.new) }
     ensures known { result.status ≤ 6 }
