@@ -23,3 +23,4 @@ pub mod RenamedFlat
 pub mod ShownFault
 pub mod OneAnswer
 pub mod OneOutput
+pub mod ReadTexts

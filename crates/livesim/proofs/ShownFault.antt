@@ -16,7 +16,7 @@ use Rattle.verilog_lex.specs.Views.{said}
 use Rattle.verilog_expr.specs.declared.fault.ParseFault.{ParseFault}
 use Rattle.verilog_expr.specs.declared.fault.ParseFault.TheVariants.{Stuck, Heavy}
 use Rattle.verilog_expr.specs.Shown.{code_of, left_at, token_at, place_of, names_of, IsShownAs}
-use Rattle.verilog_parse.proofs.OneToken.{ap₃}
+use Rattle.verilog_ast.proofs.Equal.{ap₃}
 
 -- ---- by what the tokens say
 

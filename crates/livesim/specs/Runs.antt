@@ -52,7 +52,7 @@ pub record Lived (left_old left_new written_old written_new : Option (List ℕ))
   -- where a display of a design stands among the commands, the lines tell its truth
   pub settled : (before rest : List Told) (line : ℕ) (t : Told) (design : Flat) → before ++ t ∷ rest ≡ told → t.command ≡ Display line
       → (world_after before fresh).design ≡ Some design
-      → lines told fresh ≡ lines before fresh ++ true_display (world_after before fresh).cycle design ++ lines rest (after t (world_after before fresh))
+      → lines told fresh ≡ lines before fresh ++ (true_display (world_after before fresh).cycle design ++ lines rest (after t (world_after before fresh)))
   -- 6 comes exactly where too much was taken, but where the sink failed or memory ran out
   pub too_much : status ≡ 6 → 67108864 < length bytes
   pub not_too_much : 67108864 < length bytes → status ≢ 4 → status ≢ 5 → status ≡ 6

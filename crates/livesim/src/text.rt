@@ -13,7 +13,7 @@ use verilog_lex::{Token, lex};
 use verilog_pre::preprocess;
 
 /// The tokens of files, or the first fault: of the preprocessor, and then of the lexer.
-#[tactic(auto, unfolding(crate::specs::Texts::file_tokens), using(verilog_pre::proofs::FileReadings::related_pieces, verilog_lex::proofs::Readings::related_tokens))]
+#[tactic(auto, using(crate::proofs::ReadTexts::no_tokens))]
 pub fn file_tokens(
     alloc: Global,
     names: &mut Names,
