@@ -78,9 +78,9 @@ fn concat_gives(
     y: (u8, u128),
 ) -> Result<u128, NoMemory> {
     let env = two_signals(alloc)?;
+    assert!(rt; y.0 <= 128 && x.0 <= 128 - y.0);
     let upper = number(rt, x.0, x.1);
     let lower = number(rt, y.0, y.1);
-    assert!(rt; upper.width <= 128 - lower.width);
     let e = Typed::concat(alloc, upper, lower)?;
     assert_eq!(rt; e.width, x.0 + y.0);
     Ok(value_in(rt, &e, &env))
