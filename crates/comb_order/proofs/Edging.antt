@@ -14,7 +14,7 @@ use Rattle.typed_ir.specs.Nodes.{FlatNode, node_drives, drives_at, reads_at, are
 use Rattle.typed_ir.specs.Orders.{Each, at_or, Precedes}
 use Rattle.typed_ir.specs.Flats.{NodeWritesFirst}
 use Rattle.typed_ir.specs.Touches.{has_bit, touched, mentions}
-use Rattle.typed_ir.proofs.Cases.{by_cases, left_or, right_or, and_left, and_right}
+use Rattle.typed_ir.proofs.Cases.{by_cases, left_or, right_or, and_left, and_right, only_right}
 use Rattle.typed_ir.proofs.Mentions.{reads_foreign, reads_mentioned, drive_reads, block_apart, drives_small}
 use Rattle.comb_order.specs.declared.drivers.Driver.{Driver}
 use Rattle.comb_order.specs.Graphs.{times, row_at, HasEdge}
@@ -71,10 +71,6 @@ common_of m n i h p q =
     omega (arith, both, none, one, other)))
 
 -- ---- the drivers of a bit
-
-only_right : (a b : Bool) → a ≡ false → (a || b) ≡ true → b ≡ true
-only_right true b out h = absurd (true≢false out)
-only_right false b out h = h
 
 some_true : (ds : List Driver) (mask a : ℕ) → drives_some ds mask a ≡ true → (i : ℕ) × (i < 128) × (drives_in ds a i ≡ true) × (has_bit mask i ≡ true)
 some_true [] mask a h = absurd (true≢false (sym h))

@@ -12,7 +12,7 @@ use Rattle.typed_ir.specs.Orders.{Member, Each, Distinct, any_drives}
 use Rattle.typed_ir.specs.Cycles.{Flat, WritesRegisters, OneWriter}
 use Rattle.typed_ir.specs.Flats.{NodeWritesFirst, IsFlat}
 use Rattle.typed_ir.specs.Touches.{has_bit, is_block}
-use Rattle.typed_ir.proofs.Cases.{by_cases, left_or, right_or, and_left, and_right, or_left, or_right}
+use Rattle.typed_ir.proofs.Cases.{by_cases, left_or, right_or, and_left, and_right, or_left, or_right, only_right}
 use Rattle.typed_ir.proofs.Numbered.{driver_index}
 use Rattle.comb_order.specs.declared.drivers.Driver.{Driver}
 use Rattle.comb_order.specs.Driving.{row_in, drives_in, common, IsTableOf, IsTable}
@@ -26,10 +26,6 @@ use Rattle.comb_order.proofs.Idle.{idle_drives}
 pub member_of : (x : ℕ) (xs : List ℕ) → is_member x xs ≡ true → Member x xs
 member_of x [] h = true≢false (sym h)
 member_of x (y ∷ ys) h = by_cases (x == y) (λ same. inl (eqb-true x y same)) (λ out. inr (member_of x ys (only_right (x == y) (is_member x ys) out h)))
-  where
-    only_right : (a b : Bool) → a ≡ false → (a || b) ≡ true → b ≡ true
-    only_right true b out h = absurd (true≢false out)
-    only_right false b out h = h
 
 pub is_of : (x : ℕ) (xs : List ℕ) → Member x xs → is_member x xs ≡ true
 is_of x [] m = absurd m
@@ -95,10 +91,6 @@ taken_free taken (x ∷ ds) a i low h d =
     (λ there. or_left (has_bit taken i) (has_bit x.mask i) (sym (has_either taken x.mask i)
     ∙ taken_free (bit_or taken x.mask) ds a i low (and_right (not (common taken x.mask)) (are_apart (bit_or taken x.mask) ds) h)
     (only_right ((a == x.node) && has_bit x.mask i) (drives_in ds a i) there d)))
-  where
-    only_right : (a b : Bool) → a ≡ false → (a || b) ≡ true → b ≡ true
-    only_right true b out h = absurd (true≢false out)
-    only_right false b out h = h
 
 one_of : (taken : ℕ) (ds : List Driver) (a b i : ℕ) → i < 128 → are_apart taken ds ≡ true → drives_in ds a i ≡ true → drives_in ds b i ≡ true → a ≡ b
 one_of taken [] a b i low h d e = absurd (true≢false (sym d))
@@ -115,10 +107,6 @@ one_of taken (x ∷ ds) a b i low h d e =
     (λ past. one_of (bit_or taken x.mask) ds a b i low rest (only_right ((a == x.node) && has_bit x.mask i) (drives_in ds a i) out d)
     (only_right ((b == x.node) && has_bit x.mask i) (drives_in ds b i) past e)))
   where
-    only_right : (a b : Bool) → a ≡ false → (a || b) ≡ true → b ≡ true
-    only_right true b out h = absurd (true≢false out)
-    only_right false b out h = h
-
     clash : (i : ℕ) → has_bit x.mask i ≡ true → has_bit (bit_or taken x.mask) i ≡ false → ⊥
     clash i bit none = true≢false (sym bit ∙ or_right (has_bit taken i) (has_bit x.mask i) (sym (has_either taken x.mask i) ∙ none))
 

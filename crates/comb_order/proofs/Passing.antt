@@ -13,7 +13,7 @@ use Rattle.typed_ir.specs.Orders.{Member, Each, Distinct, any_drives}
 use Rattle.typed_ir.specs.Cycles.{Flat, WritesRegisters}
 use Rattle.typed_ir.specs.Flats.{IsFlat, signal_widths, are_clocked, are_below}
 use Rattle.typed_ir.specs.Touches.{has_bit}
-use Rattle.typed_ir.proofs.Cases.{by_cases, left_or, right_or}
+use Rattle.typed_ir.proofs.Cases.{by_cases, left_or, right_or, only_right}
 use Rattle.comb_order.specs.declared.drivers.Driver.{Driver}
 use Rattle.comb_order.specs.declared.parts.Parts.{Parts}
 use Rattle.comb_order.specs.Driving.{row_in, drives_in, common, Rises, AllRise, IsTableOf, IsTable}
@@ -29,10 +29,6 @@ use Rattle.comb_order.proofs.Rising.{from_low}
 false_of : (b : Bool) → (b ≡ true → ⊥) → b ≡ false
 false_of true h = absurd (h refl)
 false_of false h = refl
-
-only_right : (a b : Bool) → a ≡ false → (a || b) ≡ true → b ≡ true
-only_right true b out h = absurd (true≢false out)
-only_right false b out h = h
 
 all_pass : (a b c d : Bool) → a ≡ true → b ≡ true → c ≡ true → d ≡ true → (a && (b && (c && d))) ≡ true
 all_pass a b c d h k l m = and_from a (b && (c && d)) h (and_from b (c && d) k (and_from c d l m))

@@ -4,7 +4,7 @@ use Rattle.std.specs.declared.vec.Vec.{Vec}
 use Rattle.std.specs.Global.{Global}
 use Rattle.std.proofs.lemmas.Bool.{eqb-true, eqb-false}
 use Rattle.typed_ir.specs.Touches.{has_bit}
-use Rattle.typed_ir.proofs.Cases.{by_cases, and_left}
+use Rattle.typed_ir.proofs.Cases.{by_cases, and_left, only_right}
 use Rattle.comb_order.specs.declared.drivers.Driver.{Driver}
 use Rattle.comb_order.specs.Driving.{row_in, drives_in, Rises, AllRise}
 use Rattle.comb_order.proofs.Tables.{row_same, row_other}
@@ -51,10 +51,6 @@ from_low low (x ∷ ds) high a i r d =
     (λ here. let e : a ≡ x.node = eqb-true a x.node (and_left (a == x.node) (has_bit x.mask i) here) in omega (arith, from, e))
     (λ out. let later : x.node + 1 ≤ a = from_low (x.node + 1) ds high a i r.1 (only_right ((a == x.node) && has_bit x.mask i) (drives_in ds a i) out d) in
     omega (arith, from, later))
-  where
-    only_right : (a b : Bool) → a ≡ false → (a || b) ≡ true → b ≡ true
-    only_right true b out h = absurd (true≢false out)
-    only_right false b out h = h
 
 -- ---- a table
 

@@ -1,11 +1,10 @@
 -- States that are put into an environment, and read from it.
-use Rattle.std.proofs.Common.{◌≡◌, ℕ, zero, suc, ◌+◌, ◌<◌, ◌≤◌, take, nat_lt, List, [], ◌∷◌, ◌++◌, length, map, get_or, set, drop, append_assoc, IsTrue, refl, sym, ◌∙◌, ap, ap₂, arith}
+use Rattle.std.proofs.Common.{◌≡◌, ℕ, zero, suc, ◌+◌, ◌<◌, nat_lt, List, [], ◌∷◌, ◌++◌, length, map, get_or, set, drop, append_assoc, IsTrue, refl, sym, ◌∙◌, ap, ap₂, arith}
 use Rattle.std.specs.Prelude.{slice_index, slice_get, Some}
 use Rattle.bits.specs.declared.Bits.{Bits}
 use Rattle.typed_ir.specs.States.{sized_value}
 use Rattle.typed_ir.specs.Views.{widths, env_of}
 use Rattle.typed_ir.proofs.Views.{map_set, set_same, widths-read, env_of-read}
-use Rattle.std.proofs.lemmas.List.{append-nil, drop_all, take_all}
 use Rattle.std.proofs.lemmas.Bool.{ltb-true}
 use Rattle.typed_ir.specs.Valuations.{Valuation, put}
 use Rattle.typed_ir.specs.Cycles.{fill}
@@ -77,13 +76,6 @@ store_step env rs i old new b h k is e =
     map_more : (xs : List Bits) (b : Bits) → map sized_value (xs ++ b ∷ []) ≡ map sized_value xs ++ sized_value b ∷ []
     map_more [] b = refl
     map_more (x ∷ xs) b = ap (λ zs. sized_value x ∷ zs) (map_more xs b)
-
--- a vector that was handed to a call as a slice
-pub written_back : {A : Type 0} (n : ℕ) (new old : List A) → length new ≡ length old → length new ≡ n → take n (new ++ drop (length new) old) ≡ new
-written_back n new old same is =
-    let few : length old ≤ length new = omega (arith, same) in
-    let all : length new ≤ n = omega (arith, is) in
-    ap (λ zs. take n (new ++ zs)) (drop_all (length new) old few) ∙ ap (take n) (append-nil new) ∙ take_all n new all
 
 -- where no input is given, all of them are 0
 pub no_inputs : (ss : List ℕ) (env : Valuation) → ((s : ℕ) → env s ≡ 0) → env ≡ fill ss [] (λ s. 0)

@@ -2,6 +2,8 @@
 #![tactic(auto)]
 
 #[cfg(test)]
+mod both_readers;
+#[cfg(test)]
 mod fault_rows;
 #[cfg(test)]
 mod reading;

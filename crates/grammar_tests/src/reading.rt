@@ -5,14 +5,13 @@ ghost use Rattle.verilog_lex.specs.Ends.{EndsOnce};
 use crate::written::{expression, name};
 use crate::written_items::module;
 use ls_text::{
-    At, Fault, NameId, Names, NoMemory, Place, Refusal, SourceFile, TextBytes, push_decimal,
+    At, Fault, NameId, Names, NoMemory, Piece, Place, Refusal, SourceFile, TextBytes, push_decimal,
 };
 use std::alloc::Global;
 use verilog_ast::{GenerateItem, Item, PlainItem};
 use verilog_expr::parse_expr;
 use verilog_lex::{Token, lex};
 use verilog_parse::parse;
-use verilog_pre::Piece;
 
 // The tokens of a text that is one piece of one file; none where it is refused.
 fn tokens_of(alloc: Global, names: &mut Names, text: &[u8]) -> Result<Option<Vec<Token>>, NoMemory>

@@ -4,7 +4,7 @@ use Rattle.ls_text.specs.declared.refusal.Refusal.{Refusal}
 use Rattle.ls_text.specs.declared.source_file.SourceFile.{SourceFile}
 use Rattle.ls_text.specs.Readings.{TextFault, Gives, Refuses, ◌>>=◌}
 use Rattle.ls_text.proofs.Refused.{refused_on}
-use Rattle.verilog_pre.specs.declared.piece.Piece.{Piece}
+use Rattle.ls_text.specs.declared.piece.Piece.{Piece}
 use Rattle.verilog_pre.specs.FileReadings.{HavePieces}
 use Rattle.verilog_pre.specs.Reading.{pieces}
 use Rattle.verilog_pre.proofs.FileReadings.{only_pieces}

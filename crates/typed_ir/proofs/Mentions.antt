@@ -10,7 +10,7 @@ use Rattle.typed_ir.specs.Stmts.{SizedTarget, Fixed, Moving, SizedStmt, SizedArm
 use Rattle.typed_ir.specs.Nodes.{FlatNode, Drive, Block, lane_spans, node_drives, node_reads, are_lanes, is_legal_node}
 use Rattle.typed_ir.specs.Flats.{NodeWritesFirst}
 use Rattle.typed_ir.specs.Touches.{all_reads, all_arm_reads, mentions, is_block}
-use Rattle.typed_ir.proofs.Cases.{by_cases, or_left, or_right, left_or, right_or, and_left, and_right}
+use Rattle.typed_ir.proofs.Cases.{by_cases, or_left, or_right, left_or, right_or, and_left, and_right, only_right}
 use Rattle.typed_ir.proofs.Masks.{both_spans}
 
 -- ---- reads
@@ -177,10 +177,6 @@ span_small p widths s i most legal h =
     (and_right (nat_le 1 p.width) (nat_le (p.low + p.width) (slice_index widths p.signal)) (and_right there width legal)) in
     let top : slice_index widths p.signal ≤ 128 = most p.signal in
     (omega (arith, signal, known), omega (arith, below, fits, top))
-
-only_right : (a b : Bool) → a ≡ false → (a || b) ≡ true → b ≡ true
-only_right true b out h = absurd (true≢false out)
-only_right false b out h = h
 
 either_small : {P : Type 0} (ps qs : List Span) (s i : ℕ) → any_within (ps ++ qs) s i ≡ true → (any_within ps s i ≡ true → P) → (any_within qs s i ≡ true → P) → P
 either_small ps qs s i h f g = by_cases (any_within ps s i) f

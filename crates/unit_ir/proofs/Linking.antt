@@ -3,7 +3,7 @@ use Rattle.std.proofs.Common.{◌≡◌, ℕ, ◌+◌, ◌-◌, ◌<◌, ◌≤�
 use Rattle.typed_ir.specs.Stmts.{SizedStmt, later_targets}
 use Rattle.typed_ir.specs.declared.span.Span.{Span}
 use Rattle.typed_ir.specs.Valuations.{within, any_within}
-use Rattle.typed_ir.proofs.Cases.{by_cases, and_left}
+use Rattle.typed_ir.proofs.Cases.{by_cases, and_left, only_right}
 use Rattle.typed_ir.specs.Nodes.{FlatNode, Drive, Block, node_drives, IsComplete}
 use Rattle.typed_ir.specs.Orders.{Each, Member, Distinct, any_drives}
 use Rattle.typed_ir.specs.Cycles.{WritesRegisters, block_writes}
@@ -145,10 +145,6 @@ span_member rs [] s i all h = absurd (true≢false (sym h))
 span_member rs (p ∷ ps) s i all h = by_cases (within p s i)
     (λ here. subst (λ z. Member z rs) (sym (eqb-true s p.signal (and_left (s == p.signal) (nat_le p.low i && nat_lt i (p.low + p.width)) here))) all.0)
     (λ out. span_member rs ps s i all.1 (only_right (within p s i) (any_within ps s i) out h))
-  where
-    only_right : (a b : Bool) → a ≡ false → (a || b) ≡ true → b ≡ true
-    only_right true b out h = absurd (true≢false out)
-    only_right false b out h = h
 
 -- a block that writes registers alone
 abbrev WritesIn : List ℕ → SizedStmt → Type 0

@@ -4,7 +4,7 @@ use Rattle.ls_text.specs.declared.source_file.SourceFile.{SourceFile}
 use Rattle.ls_text.specs.Files.{text_between}
 use Rattle.ls_text.specs.declared.refusal.Refusal.{Refusal}
 use Rattle.ls_text.specs.Readings.{TextFault, Gives, ◌>>=◌}
-use Rattle.verilog_pre.specs.declared.piece.Piece.{Piece}
+use Rattle.ls_text.specs.declared.piece.Piece.{Piece}
 use Rattle.verilog_lex.specs.declared.kind.Kind.TheVariants as kind
 use Rattle.verilog_lex.specs.Lexemes.{Lexeme, pieces_lexemes}
 use Rattle.verilog_lex.specs.Stretches.{Stretch, Stretches, placed}

@@ -6,7 +6,7 @@ use Rattle.ls_text.specs.declared.place.Place.{Place}
 use Rattle.ls_text.specs.declared.source_file.SourceFile.{SourceFile}
 use Rattle.ls_text.specs.Places.{step, place_after}
 use Rattle.ls_text.specs.Files.{text_between}
-use Rattle.verilog_pre.specs.declared.piece.Piece.{Piece}
+use Rattle.ls_text.specs.declared.piece.Piece.{Piece}
 use Rattle.verilog_lex.specs.Forms.{Form, is_gap}
 use Rattle.verilog_lex.specs.Cuts.{cut_at}
 

@@ -4,7 +4,7 @@ use Rattle.std.specs.Prelude.{◌≡◌, List, [], ◌∷◌, ◌++◌, codes, R
 use Rattle.ls_text.specs.declared.source_file.SourceFile.{SourceFile}
 use Rattle.ls_text.specs.Files.{text_between}
 use Rattle.ls_text.specs.Readings.{TextFault, ◌>>=◌}
-use Rattle.verilog_pre.specs.declared.piece.Piece.{Piece}
+use Rattle.ls_text.specs.declared.piece.Piece.{Piece}
 use Rattle.verilog_lex.specs.declared.kind.Kind.TheVariants as kind
 use Rattle.verilog_lex.specs.Lexemes.{Lexeme}
 use Rattle.verilog_lex.specs.Stretches.{Stretch, Stretches, placed}

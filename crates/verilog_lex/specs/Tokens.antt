@@ -5,7 +5,7 @@ use Rattle.ls_text.specs.declared.source_file.SourceFile.{SourceFile}
 use Rattle.ls_text.specs.Places.{place_after, file_start}
 use Rattle.ls_text.specs.Files.{text_of}
 use Rattle.ls_text.specs.Readings.{TextFault, fault_at, ◌>>=◌}
-use Rattle.verilog_pre.specs.declared.piece.Piece.{Piece}
+use Rattle.ls_text.specs.declared.piece.Piece.{Piece}
 use Rattle.verilog_lex.specs.declared.kind.Kind.{Kind}
 use Rattle.verilog_lex.specs.declared.kind.Kind.TheVariants as kind
 use Rattle.verilog_lex.specs.declared.literal.Literal.{Literal}

@@ -1,6 +1,5 @@
 // What is left to read.
-use ls_text::{Place, SourceFile};
-use verilog_pre::Piece;
+use ls_text::{Piece, Place, SourceFile};
 
 /// What is left to read: the rest of a piece, and the pieces from `next` on.
 #[derive(Clone, Copy)]

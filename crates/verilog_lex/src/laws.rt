@@ -3,7 +3,7 @@ ghost use Rattle.std.specs.Prelude.{◌≡◌, ℕ, Bool, List, Result};
 ghost use Rattle.ls_text.specs.declared.place.Place.{Place};
 ghost use Rattle.ls_text.specs.declared.source_file.SourceFile.{SourceFile};
 ghost use Rattle.ls_text.specs.Readings.{TextFault};
-ghost use Rattle.verilog_pre.specs.declared.piece.Piece.{Piece};
+ghost use Rattle.ls_text.specs.declared.piece.Piece.{Piece};
 ghost use Rattle.verilog_lex.specs.Lexemes.{Lexeme, text_lexemes};
 ghost use Rattle.verilog_lex.specs.Stretches.{Stretch, Stretches, placed};
 ghost use Rattle.verilog_lex.specs.Tokens.{Said, lexeme_tokens, tokens};

@@ -19,10 +19,10 @@ use crate::read::next_lexeme;
 use crate::shape::Shape;
 use crate::{Kind, Literal, Token};
 use ls_text::{
-    Names, NoMemory, Place, Refusal, SourceFile, file_start, place_after, text_fault, text_of,
+    Names, NoMemory, Piece, Place, Refusal, SourceFile, file_start, place_after, text_fault,
+    text_of,
 };
 use std::alloc::Global;
-use verilog_pre::Piece;
 
 const NO_LITERAL: Literal = Literal {
     size: 0,

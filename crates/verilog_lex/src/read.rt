@@ -8,8 +8,7 @@ use crate::cursor::Cursor;
 use crate::cut::cut;
 use crate::lexeme::Lexeme;
 use crate::shape::Shape;
-use ls_text::{Place, place_after, text_between};
-use verilog_pre::Piece;
+use ls_text::{Piece, Place, place_after, text_between};
 
 // The place after some bytes; those of a fixed piece all have its place.
 fn moved(fixed: bool, at: Place, bytes: &[u8]) -> Place

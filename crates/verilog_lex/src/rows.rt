@@ -163,36 +163,6 @@ pub const SIGNS: &[(&[u8], &[Kind])] = &[(
     ],
 )];
 
-/// Texts, and the lines that show their faults.
-pub const FAULTS: &[(&[u8], &[u8])] = &[
-    (
-        b"module top(input clk); reg a = 1'bx;\n",
-        b"refused 14 BadNumber a.v:1:32 -\n",
-    ),
-    (
-        b"module top(input clk); wire \"s\";\n",
-        b"refused 13 BadToken a.v:1:29 -\n",
-    ),
-    (
-        b"`include \"b.v\" \n",
-        b"refused 12 BadDirective a.v:1:1 include\n",
-    ),
-    (b"a /* ` */ ` b", b"refused 13 BadToken a.v:1:11 -\n"),
-    (b"`define D F\n8'h`D", b"refused 13 BadToken a.v:2:2 -\n"),
-    (
-        b"`define D 9\n 4'b0 `D 4'b`D",
-        b"refused 13 BadToken a.v:2:11 -\n",
-    ),
-    (b"`define N 4'b2\n\t`N", b"refused 14 BadNumber a.v:2:2 -\n"),
-    (
-        b"`define W 8\n`define H 'h\\\n1\n`W`H",
-        b"refused 13 BadToken a.v:4:3 -\n",
-    ),
-    (b"a (* x // *)\n *)", b"refused 13 BadToken a.v:1:3 -\n"),
-    (b"\"\n`B", b"refused 12 BadDirective a.v:2:1 B\n"),
-    (b"module // \" \\ $\n;", b""),
-];
-
 /// A text that is one number: its size in bits, its sign, its value, and the bits that wildcard digits cover.
 pub type NumberRow = (&'static [u8], u8, bool, u128, u128);
 

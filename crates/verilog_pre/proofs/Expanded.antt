@@ -3,7 +3,7 @@ use Rattle.std.proofs.Common.{◌≡◌, ℕ, zero, suc, ◌+◌, ◌-◌, ◌<�
 use Rattle.std.proofs.lemmas.List.{length-append}
 use Rattle.ls_text.specs.Readings.{TextFault, fault_at, ◌>>=◌}
 use Rattle.ls_text.specs.declared.place.Place.{Place}
-use Rattle.verilog_pre.specs.declared.piece.Piece.{Piece}
+use Rattle.ls_text.specs.declared.piece.Piece.{Piece}
 use Rattle.verilog_pre.specs.declared.stretch.Stretch.{Stretch}
 use Rattle.verilog_pre.specs.declared.macro_body.Macro.{Macro}
 use Rattle.verilog_pre.specs.Conditionals.{but_last}

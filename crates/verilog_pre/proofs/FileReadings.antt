@@ -6,7 +6,7 @@ use Rattle.ls_text.specs.declared.refusal.Refusal.{Refusal}
 use Rattle.ls_text.specs.Readings.{TextFault, Gives, ◌>>=◌}
 use Rattle.ls_text.specs.Places.{file_start}
 use Rattle.verilog_pre.specs.declared.conditional.Conditional.{Conditional}
-use Rattle.verilog_pre.specs.declared.piece.Piece.{Piece}
+use Rattle.ls_text.specs.declared.piece.Piece.{Piece}
 use Rattle.verilog_pre.specs.Reading.{text_read, ended, file_read, files_from, at_first, pieces}
 use Rattle.verilog_pre.specs.States.{State}
 use Rattle.verilog_pre.specs.Stretches.{Reads}

@@ -8,7 +8,7 @@ use Rattle.ls_text.specs.Readings.{TextFault, fault_at, ◌>>=◌}
 use Rattle.ls_text.specs.Places.{step, place_after}
 use Rattle.verilog_pre.specs.declared.conditional.Conditional.{Conditional}
 use Rattle.verilog_pre.specs.declared.head.Head.{Head}
-use Rattle.verilog_pre.specs.declared.piece.Piece.{Piece}
+use Rattle.ls_text.specs.declared.piece.Piece.{Piece}
 use Rattle.verilog_pre.specs.Conditionals.{is_read}
 use Rattle.verilog_pre.specs.Expansions.{Output, emitted}
 use Rattle.verilog_pre.specs.Heads.{head_of, stays_open}

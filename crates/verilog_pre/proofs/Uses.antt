@@ -5,7 +5,7 @@ use Rattle.ls_text.specs.declared.refusal.Refusal.{Refusal}
 use Rattle.ls_text.specs.Readings.{TextFault, Refuses, ◌>>=◌}
 use Rattle.ls_text.proofs.Refused.{refused_on}
 use Rattle.ls_text.specs.Places.{step, place_after}
-use Rattle.verilog_pre.specs.declared.piece.Piece.{Piece}
+use Rattle.ls_text.specs.declared.piece.Piece.{Piece}
 use Rattle.verilog_pre.specs.Conditionals.{is_read}
 use Rattle.verilog_pre.specs.Expansions.{Output, emitted}
 use Rattle.verilog_pre.specs.Reading.{Read, behind_word, with_out, full_place, run_read, turn, text_from, text_read}

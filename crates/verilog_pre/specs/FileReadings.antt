@@ -5,7 +5,7 @@ use Rattle.ls_text.specs.declared.source_file.SourceFile.{SourceFile}
 use Rattle.ls_text.specs.Readings.{TextFault, ◌>>=◌}
 use Rattle.ls_text.specs.Places.{file_start}
 use Rattle.verilog_pre.specs.declared.conditional.Conditional.{Conditional}
-use Rattle.verilog_pre.specs.declared.piece.Piece.{Piece}
+use Rattle.ls_text.specs.declared.piece.Piece.{Piece}
 use Rattle.verilog_pre.specs.Reading.{left_open, at_first}
 use Rattle.verilog_pre.specs.States.{State}
 use Rattle.verilog_pre.specs.Stretches.{Reads}

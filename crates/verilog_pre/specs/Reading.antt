@@ -9,7 +9,7 @@ use Rattle.verilog_pre.specs.declared.directive.Directive.{Directive}
 use Rattle.verilog_pre.specs.declared.directive.Directive.TheVariants as directive
 use Rattle.verilog_pre.specs.declared.conditional.Conditional.{Conditional}
 use Rattle.verilog_pre.specs.Parts.{Part}
-use Rattle.verilog_pre.specs.declared.piece.Piece.{Piece}
+use Rattle.ls_text.specs.declared.piece.Piece.{Piece}
 use Rattle.verilog_pre.specs.Bodies.{body_parts, body_len}
 use Rattle.verilog_pre.specs.Conditionals.{is_read, opened, continued, closed}
 use Rattle.verilog_pre.specs.Directives.{directive_of, is_conditional, is_use, name_at}

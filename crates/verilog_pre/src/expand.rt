@@ -10,7 +10,6 @@ ghost use Rattle.verilog_pre.specs.Views.{part_of, item_of, parts_of, work_of, b
 ghost use Rattle.verilog_pre.specs.Expansions.{output, emitted, is_open, body_items, work_on, used, expanded, stretch_piece, context, Leads, Placed, Keeps};
 ghost use Rattle.verilog_pre.specs.Conditionals.{but_last};
 
-use crate::Piece;
 use crate::item::Item;
 use crate::macro_body::Macro;
 use crate::macros::Macros;
@@ -19,7 +18,7 @@ use crate::output::Output;
 use crate::part::Part;
 use crate::stretch::Stretch;
 use crate::table::{named, number_of};
-use ls_text::{At, Fault, NameId, NameList, Names, NoMemory, Place, Refusal, text_fault};
+use ls_text::{At, Fault, NameId, NameList, Names, NoMemory, Piece, Place, Refusal, text_fault};
 use std::alloc::Global;
 use std::collections::VecDeque;
 

@@ -3,19 +3,18 @@ ghost use Rattle.std.specs.Prelude.{◌≡◌, ◌<◌, ◌≤◌, ◌+◌, List
 ghost use Rattle.std.specs.List.{All};
 ghost use Rattle.ls_text.specs.Texts.{Grows};
 ghost use Rattle.ls_text.specs.Readings.{TextFault, Gives, CanShow};
-ghost use Rattle.verilog_pre.specs.declared.piece.Piece.{Piece};
+ghost use Rattle.ls_text.specs.declared.piece.Piece.{Piece};
 ghost use Rattle.verilog_pre.specs.FileReadings.{HavePieces};
 ghost use Rattle.verilog_pre.specs.Reading.{text_read, ended, file_read, files_from, pieces};
 ghost use Rattle.verilog_pre.specs.States.{state};
 ghost use Rattle.verilog_pre.specs.Tables.{Sound};
 
-use crate::Piece;
 use crate::left_open::left_open;
 use crate::output::Output;
 use crate::reader::Reader;
 use crate::reading::read_turn;
 use crate::table::no_macros;
-use ls_text::{Names, Place, Refusal, SourceFile, file_start, place_after};
+use ls_text::{Names, Piece, Place, Refusal, SourceFile, file_start, place_after};
 use std::alloc::Global;
 
 // Reads a text that begins a file.

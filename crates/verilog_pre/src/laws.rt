@@ -3,7 +3,7 @@ ghost use Rattle.std.specs.Prelude.{◌≡◌, ℕ, Bool, not, ◌&&◌, ◌||�
 ghost use Rattle.ls_text.specs.declared.place.Place.{Place};
 ghost use Rattle.ls_text.specs.declared.source_file.SourceFile.{SourceFile};
 ghost use Rattle.ls_text.specs.Readings.{TextFault};
-ghost use Rattle.verilog_pre.specs.declared.piece.Piece.{Piece};
+ghost use Rattle.ls_text.specs.declared.piece.Piece.{Piece};
 ghost use Rattle.verilog_pre.specs.Parts.{Part, Use};
 ghost use Rattle.verilog_pre.specs.declared.conditional.Conditional.{Conditional};
 ghost use Rattle.verilog_pre.specs.declared.directive.Directive.TheVariants as directive;

@@ -27,7 +27,6 @@ mod macros;
 mod nest;
 mod output;
 mod part;
-mod piece;
 mod reader;
 mod reading;
 mod stretch;
@@ -38,7 +37,6 @@ pub use laws::{
     bodies_are_stretches, branches_are_chosen, directives_are_obeyed, files_have_pieces,
     texts_are_stretches, uses_are_expansions,
 };
-pub use piece::Piece;
 
 #[cfg(test)]
 mod rows;

@@ -1,5 +1,5 @@
 // The pieces so far.
-use crate::Piece;
+use ls_text::Piece;
 
 /// The pieces so far, and how many uses and bytes the limits leave.
 #[derive(Drop)]

@@ -8,7 +8,6 @@ ghost use Rattle.verilog_pre.specs.Directives.{directive_of};
 ghost use Rattle.verilog_pre.specs.States.{state};
 ghost use Rattle.verilog_pre.specs.Tables.{Sound};
 
-use crate::Piece;
 use crate::branches::{elsif, endif, ifdef, otherwise};
 use crate::conditionals::is_read;
 use crate::define::{define, undef};
@@ -19,7 +18,7 @@ use crate::head::Head;
 use crate::heads::head_of;
 use crate::left_open::earlier;
 use crate::reader::Reader;
-use ls_text::{Names, Place, Refusal, behind, front, line_len, place_after, text_fault};
+use ls_text::{Names, Piece, Place, Refusal, behind, front, line_len, place_after, text_fault};
 use std::alloc::Global;
 
 // Carries out the use of a macro.

@@ -5,7 +5,8 @@ use Rattle.typed_ir.specs.Cycles.{block_writes}
 use Rattle.typed_ir.specs.Touches.{touched}
 use Rattle.comb_order.specs.declared.drivers.Driver.{Driver}
 use Rattle.comb_order.specs.Driving.{row_in, drives_in, AllRise}
-use Rattle.comb_order.proofs.Tables.{written_back, at_more}
+use Rattle.typed_ir.proofs.Lists.{written_back}
+use Rattle.comb_order.proofs.Tables.{at_more}
 use Rattle.comb_order.proofs.Rising.{none_rise, all_wider}
 use Rattle.comb_order.proofs.drivers.writers_of.Goals as goal
 

@@ -7,7 +7,7 @@ use Rattle.typed_ir.proofs.Views.{at_read}
 use Rattle.comb_order.specs.Graphs.{rows_of}
 use Rattle.comb_order.specs.Driving.{drives_any, edge, block_at, AreRows}
 use Rattle.comb_order.proofs.Counts.{length_rows}
-use Rattle.comb_order.proofs.Tables.{written_back}
+use Rattle.typed_ir.proofs.Lists.{written_back}
 use Rattle.comb_order.proofs.Rows.{rows_next, rows_empty}
 use Rattle.comb_order.proofs.Edging.{AreEdges, edges_step, no_edges, all_edges}
 use Rattle.comb_order.proofs.edges.edges_of.Goals as goal

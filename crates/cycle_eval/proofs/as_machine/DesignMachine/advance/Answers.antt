@@ -9,7 +9,7 @@ use Rattle.typed_ir.specs.Views.{env_of}
 use Rattle.cycle_eval.specs.Designs.{flat_of}
 use Rattle.cycle_eval.specs.Kits.{run_of, register_widths}
 use Rattle.cycle_eval.specs.States.{paired, state_values}
-use Rattle.cycle_eval.proofs.Loads.{written_back}
+use Rattle.typed_ir.proofs.Lists.{written_back}
 use Rattle.cycle_eval.proofs.Laws.{run_is, fill_back, between_length}
 use Rattle.machine.specs.Rows.{between}
 use Rattle.cycle_eval.proofs.as_machine.DesignMachine.advance.Goals as goal

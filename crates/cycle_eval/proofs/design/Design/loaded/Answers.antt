@@ -7,7 +7,8 @@ use Rattle.typed_ir.specs.Valuations.{Valuation}
 use Rattle.cycle_eval.specs.Designs.{flat_of}
 use Rattle.cycle_eval.specs.States.{state_values}
 use Rattle.cycle_eval.proofs.Passes.{flat_widths}
-use Rattle.cycle_eval.proofs.Loads.{written_back, no_inputs}
+use Rattle.typed_ir.proofs.Lists.{written_back}
+use Rattle.cycle_eval.proofs.Loads.{no_inputs}
 use Rattle.cycle_eval.proofs.design.Design.loaded.Goals as goal
 
 pub load-requires-clause-fits : goal.load-requires-clause-fits

@@ -1,6 +1,6 @@
-use Rattle.std.proofs.Common.{◌≡◌, ◌∙◌, ℕ, List, map, ap, subst, sym, Result, Ok, Err}
-use Rattle.std.specs.Prelude.{IfOk}
+use Rattle.std.proofs.Common.{◌≡◌, ◌∙◌, ℕ, List, map, ap, subst, sym}
 use Rattle.typed_ir.specs.declared.signal.Signal.{Signal}
+use Rattle.typed_ir.proofs.Listed.{if_ok}
 use Rattle.cycle_eval.specs.Designs.{flat_of}
 use Rattle.cycle_eval.specs.Kits.{Fits, reset_of}
 use Rattle.cycle_eval.specs.DesignLaws.{reset_fits}
@@ -10,10 +10,6 @@ use Rattle.cycle_eval.proofs.design.Design.reset_state.Goals as goal
 
 abbrev begun : List Signal → List ℕ → List (ℕ × ℕ)
 begun signals rs = paired (map (width_in signals) rs) (map (initial_in signals) rs)
-
-if_ok : {A E : Type 0} (r : Result A E) (P Q : A → Type 0) → ((x : A) → P x → Q x) → IfOk r P → IfOk r Q
-if_ok (Ok x) P Q f h = f x h
-if_ok (Err e) P Q f h = tt
 
 pub returns-clause-fits : goal.returns-clause-fits
 returns-clause-fits c =

@@ -1,5 +1,5 @@
 // A piece of a source file.
-use ls_text::Place;
+use crate::Place;
 
 /// A stretch of a file that is read for tokens; no token crosses its end.
 #[derive(Clone, Copy, Debug, PartialEq, Eq)]
