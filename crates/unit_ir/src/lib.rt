@@ -3,8 +3,6 @@
 #![tactic(auto)]
 
 mod child_shape;
-mod const_list;
-mod constant;
 mod instance;
 mod instance_name;
 mod instance_tree;
@@ -28,8 +26,6 @@ mod unit_parts;
 mod unit_signal;
 
 pub use child_shape::ChildShape;
-pub use const_list::ConstList;
-pub use constant::Const;
 pub use instance::Instance;
 pub use instance_name::InstanceName;
 pub use instance_tree::InstanceTree;

@@ -1,8 +1,8 @@
 // A node that is moved, and lists that give back what they were made from.
-use crate::{Const, ConstList, moved_node};
+use crate::moved_node;
 use bits::Bits;
 use std::test::Fail;
-use typed_ir::{Form, Lane, Node, SignalId, Span, TargetForm, Typed};
+use typed_ir::{Const, ConstList, Form, Lane, Node, SignalId, Span, TargetForm, Typed};
 
 // Whether a node drives bit 3 of signal 6 with signal 7, as a bit.
 fn drives_from_seven(node: &Node) -> bool {

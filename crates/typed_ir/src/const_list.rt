@@ -12,7 +12,7 @@ pub struct ConstList {
 
 impl Model for ConstList {
     ghost use Rattle.std.specs.Prelude.{List};
-    ghost use Rattle.unit_ir.specs.declared.constant.Const.{Const};
+    ghost use Rattle.typed_ir.specs.declared.constant.Const.{Const};
 
     ghost Value = { List Const };
 
