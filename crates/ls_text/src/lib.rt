@@ -35,6 +35,3 @@ pub use refusal::Refusal;
 pub use source_file::SourceFile;
 pub use stretch::{behind, byte_at, front};
 pub use text_bytes::TextBytes;
-
-#[cfg(test)]
-mod tests;

@@ -25,8 +25,3 @@ pub use laws::{groups_of_lexemes, readings_of_pieces, stretches_of_texts};
 pub use lexer::lex;
 pub use literal::Literal;
 pub use token::Token;
-
-#[cfg(test)]
-mod rows;
-#[cfg(test)]
-mod tests;

@@ -37,8 +37,3 @@ pub use laws::{
     bodies_are_stretches, branches_are_chosen, directives_are_obeyed, files_have_pieces,
     texts_are_stretches, uses_are_expansions,
 };
-
-#[cfg(test)]
-mod rows;
-#[cfg(test)]
-mod tests;

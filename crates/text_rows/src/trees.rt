@@ -1,11 +1,12 @@
-// What a text is read as, in one line of text: its trees, or its fault; and the spelling of its modules.
+// What the grammar makes of a text, as a text: its trees or its fault, the spelling of its modules, the places of its parts.
 ghost use Rattle.std.specs.Prelude.{◌<◌, length, All, IfOk, IfSome};
 ghost use Rattle.verilog_lex.specs.Ends.{EndsOnce};
 
 use crate::written::{expression, name};
 use crate::written_items::module;
 use ls_text::{
-    At, Fault, NameId, Names, NoMemory, Piece, Place, Refusal, SourceFile, TextBytes, push_decimal,
+    At, Fault, NameId, Names, NoMemory, Piece, Place, Refusal, SourceFile, TextBytes, behind,
+    push_decimal,
 };
 use std::alloc::Global;
 use verilog_ast::{GenerateItem, Item, PlainItem};
@@ -70,8 +71,13 @@ fn fault_text(out: &mut Vec<u8>, texts: &[Vec<u8>], fault: &Fault) -> Result<(),
     Ok(())
 }
 
-/// What `parse` makes of a text: each module's tree, or ` CODE LINE COL NAMES`.
-pub fn read(alloc: Global, text: &[u8]) -> Result<Vec<u8>, NoMemory> {
+// What follows the first byte of a text, which is the space before its first word.
+fn behind_space(alloc: Global, text: &[u8]) -> Result<Vec<u8>, NoMemory> {
+    Ok(Vec::from_slice(alloc, behind(text, 1))?)
+}
+
+/// What `parse` makes of a text: each module's tree, or `CODE LINE COL NAMES`.
+pub fn tree(alloc: Global, text: &[u8]) -> Result<Vec<u8>, NoMemory> {
     let mut names = Names::new(alloc);
     let mut out = Vec::new(alloc);
     let Some(tokens) = tokens_of(alloc, &mut names, text)? else {
@@ -88,10 +94,10 @@ pub fn read(alloc: Global, text: &[u8]) -> Result<Vec<u8>, NoMemory> {
         Err(Refusal::NoMemory) => return Err(NoMemory),
         Err(Refusal::Fault(fault)) => fault_text(&mut out, &texts, &fault)?,
     }
-    Ok(out)
+    behind_space(alloc, &out)
 }
 
-/// The spellings of a text's modules, each behind a space; nothing where it is refused.
+/// The spellings of a text's modules, with spaces between them; nothing where it is refused.
 pub fn spelled(alloc: Global, text: &[u8]) -> Result<Vec<u8>, NoMemory> {
     let mut names = Names::new(alloc);
     let mut out = Vec::new(alloc);
@@ -108,17 +114,12 @@ pub fn spelled(alloc: Global, text: &[u8]) -> Result<Vec<u8>, NoMemory> {
         Err(Refusal::NoMemory) => return Err(NoMemory),
         Err(Refusal::Fault(_fault)) => {}
     }
-    Ok(out)
+    behind_space(alloc, &out)
 }
 
-/// What `parse_expr` makes of a text from one of its tokens on: the tree and ` @` with the number of the next token,
-/// or ` CODE LINE COL NAMES`.
-pub fn read_from(
-    alloc: Global,
-    text: &[u8],
-    from: usize,
-    weight: u32,
-) -> Result<Vec<u8>, NoMemory> {
+// What `parse_expr` makes of a text from one of its tokens on: the tree and ` @` with the number of the next token,
+// or ` CODE LINE COL NAMES`.
+fn read_from(alloc: Global, text: &[u8], from: usize, weight: u32) -> Result<Vec<u8>, NoMemory> {
     let mut names = Names::new(alloc);
     let mut out = Vec::new(alloc);
     let Some(tokens) = tokens_of(alloc, &mut names, text)? else {
@@ -138,6 +139,33 @@ pub fn read_from(
         Err(Refusal::NoMemory) => return Err(NoMemory),
         Err(Refusal::Fault(fault)) => fault_text(&mut out, &texts, &fault)?,
     }
+    Ok(out)
+}
+
+// The first two numbers of a text, which a space parts and a space ends.
+fn two_numbers(text: &[u8]) -> (u64, u64) {
+    let mut numbers = (0u64, 0u64);
+    let mut spaces = 0u32;
+    for byte in text {
+        let digit = u64::from(*byte & 15);
+        match (*byte, spaces) {
+            (b' ', _) => spaces = spaces.saturating_add(1),
+            (_, 0) => numbers.0 = numbers.0.saturating_mul(10).saturating_add(digit),
+            (_, 1) => numbers.1 = numbers.1.saturating_mul(10).saturating_add(digit),
+            _ => {}
+        }
+    }
+    numbers
+}
+
+/// What `parse_expr` makes of a text from the token and with the weight that the want begins with; behind these two.
+pub fn part(alloc: Global, text: &[u8], want: &[u8]) -> Result<Vec<u8>, NoMemory> {
+    let (from, weight) = two_numbers(want);
+    let mut out = Vec::new(alloc);
+    push_decimal(&mut out, from)?;
+    out.push(b' ')?;
+    push_decimal(&mut out, weight)?;
+    out.extend_from_slice(&read_from(alloc, text, from as usize, weight as u32)?)?;
     Ok(out)
 }
 
@@ -189,5 +217,5 @@ pub fn places(alloc: Global, text: &[u8]) -> Result<Vec<u8>, NoMemory> {
         Err(Refusal::NoMemory) => return Err(NoMemory),
         Err(Refusal::Fault(_fault)) => {}
     }
-    Ok(out)
+    behind_space(alloc, &out)
 }
