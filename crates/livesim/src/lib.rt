@@ -35,6 +35,3 @@ mod turn;
 pub use laws::{commands_have_one_output, displays_tell_the_truth, texts_have_one_answer};
 pub use live::live_run;
 pub use outcome::Outcome;
-
-#[cfg(test)]
-mod tests;

@@ -4,6 +4,9 @@
 // ends. What differs is named.
 #![tactic(auto)]
 
+#[cfg(test)]
+mod tests;
+
 use livesim::live_run;
 use ls_port::{SolidSink, SolidSource};
 use std::alloc::Global;

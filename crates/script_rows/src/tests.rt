@@ -1,8 +1,7 @@
 // What no script can reach: reads and writes that fail, scripts that are cut, and limits.
-use crate::live::live_run;
-use crate::outcome::Outcome;
+use livesim::{Outcome, live_run};
 use ls_port::{MemSink, MemSource};
-use ls_text::NoMemory;
+use no_memory::NoMemory;
 use std::alloc::Global;
 use std::test::Fail;
 use std::thread::Threads;
