@@ -1,24 +1,21 @@
 // Reads the texts of its folder of data, and compares what is read of them with what has to be read.
 //
-// `tables.txt` has a line `READER NAME` for each table; NAME.txt are its rows (`table`), in which some bytes are written by escapes
-// (`escapes`). A reader (`reader`) takes one row: `trees` has those of the grammar, with `written` and `written_items` for the
-// trees, `tokens` those of the preprocessor and the lexer. `properties` has what is said of a whole table. What differs is named.
+// `tables.txt` has a line `READER NAME` for each table; NAME.txt are its rows (crate `row_tables`). A reader (`reader`) takes one
+// row: `trees` has those of the grammar, with `written` and `written_items` for the trees, `tokens` those of the preprocessor and
+// the lexer. `properties` has what is said of a whole table. What differs is named.
 #![tactic(auto)]
 
-mod escapes;
 mod properties;
 mod reader;
-mod row;
-mod table;
 mod tokens;
 mod trees;
 mod written;
 mod written_items;
 
 use crate::properties::{first_uncut, first_unlike};
-use crate::reader::first_other;
-use crate::table::Table;
-use ls_text::NoMemory;
+use crate::reader::TextReader;
+use no_memory::NoMemory;
+use row_tables::{Table, first_other};
 use std::alloc::Global;
 use std::{fs, io};
 
@@ -28,7 +25,7 @@ fn tried(alloc: Global, reader: &str, file: &str) -> Result<(usize, Option<Vec<u
     let wrong = match reader {
         "pairs" => first_unlike(alloc, &table)?,
         "cut_short" => first_uncut(alloc, &table)?,
-        _ => first_other(alloc, reader, &table)?,
+        _ => first_other(alloc, &TextReader, reader, &table)?,
     };
     Ok((table.rows.len(), wrong))
 }

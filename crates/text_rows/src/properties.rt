@@ -1,9 +1,8 @@
 // What is said of a whole table.
-use crate::reader::joined;
-use crate::row::Row;
-use crate::table::Table;
 use crate::trees::tree;
-use ls_text::{NoMemory, push_decimal};
+use ls_text::push_decimal;
+use no_memory::NoMemory;
+use row_tables::{Row, Table, joined};
 use std::alloc::Global;
 
 // The level of an operator, in one or two digits, and its name in a tree.

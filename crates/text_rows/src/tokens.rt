@@ -6,11 +6,11 @@ ghost use Rattle.std.specs.List.{All};
 ghost use Rattle.ls_text.specs.Texts.{Grows};
 ghost use Rattle.ls_text.specs.Readings.{CanShow};
 
-use crate::escapes::FILE_END;
 use ls_text::{
     Names, NoMemory, Piece, Place, Refusal, SourceFile, TextBytes, behind, fault_line, front,
     push_decimal,
 };
+use row_tables::FILE_END;
 use std::alloc::Global;
 use verilog_lex::{Token, lex};
 use verilog_pre::preprocess;
