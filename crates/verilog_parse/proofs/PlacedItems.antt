@@ -1,5 +1,5 @@
--- An item, a connection and a port stand where their first token does.
-use Rattle.std.proofs.Common.{◌≡◌, ◌∙◌, List, [], ◌∷◌, map, refl, sym, ap}
+-- An item and a port stand where their first token does.
+use Rattle.std.proofs.Common.{◌≡◌, ◌∙◌, List, map, refl, ap}
 use Rattle.verilog_lex.specs.declared.token.Token.{Token}
 use Rattle.verilog_ast.specs.Places.{target_place, port_place, item_place}
 use Rattle.verilog_ast.specs.Views.{target_of, port_of, plain_item_of, items_of, generate_item_of, branch_of, item_of}
@@ -9,17 +9,12 @@ use Rattle.verilog_expr.proofs.Placed.{token_place}
 use Rattle.verilog_parse.specs.Items as i
 use Rattle.verilog_parse.specs.Generates as g
 use Rattle.verilog_parse.specs.Modules as m
-use Rattle.verilog_parse.proofs.PlacedStatements as statements
+use Rattle.verilog_decl.proofs.PlacedDeclarations.{declaration_placed}
+use Rattle.verilog_stmt.proofs.PlacedStatements as statements
 
--- ---- declarations, connections and plain items
+-- ---- plain items
 
 abbrev pub IsPlacedItem : i.Phrase → List Token → Type 0
-IsPlacedItem (i.AVariable x) s = x.name.at ≡ place_at s
-IsPlacedItem (i.ARegVariable x) s = x.name.at ≡ place_at s
-IsPlacedItem (i.AParameter x) s = x.name.at ≡ place_at s
-IsPlacedItem (i.AnInstance x) s = x.name.at ≡ place_at s
-IsPlacedItem (i.ANamedConnection x) s = x.at ≡ place_at s
-IsPlacedItem (i.AnOrdered x) s = x.at ≡ place_at s
 IsPlacedItem (i.APlainItem x) s = item_place (plain_item_of x) ≡ place_at s
 IsPlacedItem (i.AnEvent at x) s = item_place (plain_item_of x) ≡ at
 IsPlacedItem (i.Trigger at x) s = item_place (plain_item_of x) ≡ at
@@ -27,12 +22,6 @@ IsPlacedItem (i.AContinuous x) s = target_place (target_of x.target) ≡ place_a
 IsPlacedItem phrase s = Unit {0}
 
 pub item_placed : {phrase : i.Phrase} {s r : List Token} → i.Spells phrase s r → IsPlacedItem phrase s
-item_placed (i.variable h x) = token_place h
-item_placed (i.reg_variable h) = item_placed h
-item_placed (i.parameter h t x) = token_place h
-item_placed (i.instance_ h t x u) = token_place h
-item_placed (i.named h t u x v) = token_place h
-item_placed (i.ordered h) = refl
 item_placed (i.wire_item h x y t) = token_place h
 item_placed (i.reg_item h x y t) = token_place h
 item_placed (i.local_item h x y t) = token_place h
@@ -80,7 +69,7 @@ IsPlacedModule phrase s = Unit {0}
 pub module_placed : {phrase : m.Phrase} {s r : List Token} → m.Spells phrase s r → IsPlacedModule phrase s
 module_placed (m.input_port h x y t) = token_place h
 module_placed (m.output_port h x y z) = token_place h
-module_placed (m.next_name is h) = item_placed h
+module_placed (m.next_name is h) = declaration_placed h
 module_placed (m.next_port free h) = module_placed h
 module_placed (m.input_item h x y z t) = token_place h
 module_placed (m.output_item h x y z t) = token_place h
