@@ -1,15 +1,21 @@
 // What the definition of a text's modules comes to, and where their parts stand.
-ghost use Rattle.std.specs.Prelude.{◌≡◌, ℕ, List, map, Err};
+ghost use Rattle.std.specs.Prelude.{◌≡◌, ℕ, List, drop, map, Err};
 ghost use Rattle.ls_text.specs.declared.fault.Fault.{Fault};
 ghost use Rattle.ls_text.specs.declared.name_id.NameId.{NameId};
+ghost use Rattle.ls_text.specs.declared.place.Place.{Place};
 ghost use Rattle.ls_text.specs.declared.refusal.Refusal.TheVariants as refusal;
 ghost use Rattle.verilog_lex.specs.declared.token.Token.{Token};
 ghost use Rattle.verilog_ast.specs.declared.continuous.Continuous.{Continuous};
 ghost use Rattle.verilog_ast.specs.declared.generate_item.Branch.{Branch};
 ghost use Rattle.verilog_ast.specs.declared.generate_item.GenerateItem.{GenerateItem};
 ghost use Rattle.verilog_ast.specs.declared.header_port.HeaderPort.{HeaderPort};
+ghost use Rattle.verilog_ast.specs.declared.identifier.Identifier.{Identifier};
 ghost use Rattle.verilog_ast.specs.declared.item.Item.{Item};
 ghost use Rattle.verilog_ast.specs.declared.module.Module.{Module};
+ghost use Rattle.verilog_ast.specs.declared.module_body.ModuleBody.{ModuleBody};
+ghost use Rattle.verilog_ast.specs.declared.plain_item.PlainItem.TheVariants as plain;
+ghost use Rattle.verilog_ast.specs.declared.ports.Ports.TheVariants as ports;
+ghost use Rattle.verilog_ast.specs.declared.statement.Stmt.{Stmt};
 ghost use Rattle.verilog_ast.specs.Places.{target_place, port_place, item_place};
 ghost use Rattle.verilog_ast.specs.Views.{target_of, port_of, generate_item_of, item_of, declarations_of};
 ghost use Rattle.verilog_ast.specs.Renaming.{declaration_as};
@@ -18,6 +24,7 @@ ghost use Rattle.verilog_expr.specs.Machine.{Run};
 ghost use Rattle.verilog_expr.specs.Renamed.{retokens};
 ghost use Rattle.verilog_expr.specs.Shown.{Refuses};
 ghost use Rattle.verilog_expr.specs.Tokens.{place_at};
+ghost use Rattle.verilog_decl.specs.Apart.{StandApart};
 ghost use Rattle.verilog_parse.specs.Files.{file, IsSpelled, Stands};
 ghost use Rattle.verilog_parse.specs.Generates as generates;
 ghost use Rattle.verilog_parse.specs.Items as items;
@@ -63,4 +70,18 @@ pub fn items_have_places()
         → item_place (generate_item_of x) ≡ place_at s }
     ensures branches { (x : Branch) (s r : List Token) → generates.Spells (generates.ABranch x) s r → x.at ≡ place_at s }
     ensures otherwise { (x : Branch) (s r : List Token) → generates.Spells (generates.AnOtherwise x) s r → x.at ≡ place_at s }
+{}
+
+/// Each name has the place of its own token: that of a module the one behind `module`, the names of a header's list and of `genvar`
+/// every second one, the clock the one behind `always @ ( posedge`, and the label of a generate block the one behind `begin :`.
+#[tactic(none)]
+pub fn names_have_places()
+    ensures modules { (x : ModuleBody) (s r : List Token) → modules.Spells (modules.AModule x) s r → x.name.at ≡ place_at (drop 1 s) }
+    ensures ports { (xs : List Identifier) (s r : List Token) → modules.Spells (modules.PortList (ports.Names xs)) s r → StandApart xs s }
+    ensures genvars { (at : Place) (xs : List Identifier) (s r : List Token) → items.Spells (items.APlainItem (plain.Genvar at xs)) s r
+        → StandApart xs (drop 1 s) }
+    ensures clocks { (at : Place) (clock : Identifier) (x : Stmt) (s r : List Token)
+        → items.Spells (items.APlainItem (plain.Clocked at clock x)) s r → clock.at ≡ place_at (drop 4 s) }
+    ensures blocks { (at : Place) (label : Identifier) (xs : List GenerateItem) (s r : List Token)
+        → generates.Spells (generates.ABlock at label xs) s r → label.at ≡ place_at (drop 2 s) }
 {}

@@ -13,6 +13,7 @@ mod parsing;
 mod plain_item;
 
 pub use laws::{
-    items_have_places, names_may_change, parts_of_items_have_places, texts_are_read_in_one_way,
+    items_have_places, names_have_places, names_may_change, parts_of_items_have_places,
+    texts_are_read_in_one_way,
 };
 pub use parsing::parse;

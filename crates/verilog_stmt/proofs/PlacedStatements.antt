@@ -1,11 +1,11 @@
 -- A target, a statement and an item of a `case` stand where their first token does.
-use Rattle.std.proofs.Common.{◌≡◌, ◌∙◌, List, [], ◌∷◌, map, refl, sym, ap}
+use Rattle.std.proofs.Common.{◌≡◌, ◌∙◌, List, Some, None, drop, map, refl, sym, ap}
 use Rattle.verilog_lex.specs.declared.token.Token.{Token}
 use Rattle.verilog_ast.specs.declared.label.Label.TheVariants as label
 use Rattle.verilog_ast.specs.Places.{expression_place, target_place, label_place, labels_place, statement_place}
 use Rattle.verilog_ast.specs.Views.{target_of, label_of, statement_of, arm_of}
 use Rattle.verilog_ast.proofs.Seen as seen
-use Rattle.verilog_expr.specs.Tokens.{place_at, identifier_of}
+use Rattle.verilog_expr.specs.Tokens.{taken, place_at, identifier_of}
 use Rattle.verilog_expr.proofs.Placed.{token_place, expression_placed, select_placed}
 use Rattle.verilog_stmt.specs.Statements as p
 use Rattle.verilog_stmt.specs.Statements.{Phrase, Spells}
@@ -28,7 +28,8 @@ IsPlaced p.OptionalColon s = Unit {0}
 IsPlaced (p.ALabel which x) s = label_place (label_of x) ≡ place_at s
 IsPlaced (p.LabelsBehind which x xs) s = labels_place (map label_of xs) ≡ label_place (label_of x)
 IsPlaced (p.OtherLabels which xs) s = Unit {0}
-IsPlaced (p.OptionalLabel l) s = Unit {0}
+IsPlaced (p.OptionalLabel None) s = Unit {0}
+IsPlaced (p.OptionalLabel (Some l)) s = l.at ≡ place_at (drop 1 s)
 IsPlaced (p.AnAssignment g x y) s = statement_place (statement_of y) ≡ target_place (target_of x)
 IsPlaced (p.ASign g) s = Unit {0}
 
@@ -68,7 +69,7 @@ placed (p.labels_behind h) = refl
 placed (p.no_other_label free) = tt
 placed (p.another_label t h i) = tt
 placed (p.no_label free) = tt
-placed (p.a_label t u) = tt
+placed (p.a_label (taken cut is) u) = token_place u ∙ sym (ap (λ l. place_at (drop 1 l)) cut)
 placed (p.assigns {x = x} {y = y} h i t) = ap statement_place (seen.assign_seen x y)
 placed (p.blocking t) = tt
 placed (p.nonblocking t) = tt

@@ -12,3 +12,6 @@ returns-clause-arms c g which x s r h = placed h
 
 pub returns-clause-labels : goal.returns-clause-labels
 returns-clause-labels c which x s r h = placed h
+
+pub returns-clause-blocks : goal.returns-clause-blocks
+returns-clause-blocks c l s r h = placed h
