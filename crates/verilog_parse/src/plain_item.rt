@@ -11,9 +11,7 @@ ghost use Rattle.verilog_parse.specs.Items.{Spells};
 
 use ls_text::Place;
 use verilog_ast::{Child, Children, Continuous, PlainItem, Sign};
-use verilog_decl::{
-    instances, names, overrides, parameters, reg_variables, shape, variables,
-};
+use verilog_decl::{instances, names, overrides, parameters, reg_variables, shape, variables};
 use verilog_expr::{ParseError, Parser, identifier};
 use verilog_lex::Kind;
 use verilog_stmt::{statement, target};
