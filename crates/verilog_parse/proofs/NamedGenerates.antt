@@ -7,6 +7,7 @@ use Rattle.verilog_ast.proofs.Named as n
 use Rattle.verilog_expr.proofs.Named.{AreWithin, took}
 use Rattle.verilog_expr.proofs.Named as expressions
 use Rattle.verilog_parse.specs.Generates as p
+use Rattle.verilog_decl.proofs.NamedDeclarations.{declaration}
 use Rattle.verilog_parse.proofs.NamedItems.{item}
 
 -- The names of a phrase are below the bound, where those of what stands before it are.
@@ -31,7 +32,7 @@ generate (p.generate_loop {x = x} {y = y} {ys = ys} {t = t} h u i v j) w =
     let a = took h w in let b = took u a.1 in let c = generate i b.1 in let d = took v c.1 in let e = generate j d.1 in
     (are (n.for_names t.at x y ys) (c.0 ⊕ e.0), e.1)
 generate (p.loop_head h t i u j) w =
-    let a = item h w in let b = took t a.1 in let c = expressions.named i b.1 in let d = took u c.1 in let e = item j d.1 in (a.0 ⊕ c.0 ⊕ e.0, e.1)
+    let a = declaration h w in let b = took t a.1 in let c = expressions.named i b.1 in let d = took u c.1 in let e = declaration j d.1 in (a.0 ⊕ c.0 ⊕ e.0, e.1)
 generate (p.block t u v h z) w =
     let a = took t w in let b = took u a.1 in let c = took v b.1 in let d = generate h c.1 in let e = took z d.1 in (one_more c.0 d.0, e.1)
 generate (p.branch {x = x} {y = y} {ys = ys} {t = t} h u i v j) w =

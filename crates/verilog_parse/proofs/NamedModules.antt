@@ -8,7 +8,7 @@ use Rattle.verilog_ast.proofs.Within.{IsWithin, no_name, one_more, one_name, ◌
 use Rattle.verilog_expr.proofs.Named.{AreWithin, took}
 use Rattle.verilog_parse.specs.Modules as p
 use Rattle.verilog_parse.specs.Files.{SpellsAll, no_module, another_module, Stands}
-use Rattle.verilog_parse.proofs.NamedItems.{item}
+use Rattle.verilog_decl.proofs.NamedDeclarations.{declaration}
 use Rattle.verilog_parse.proofs.NamedGenerates.{generate}
 
 -- The names of a phrase are below the bound, where those of what stands before it are.
@@ -38,33 +38,33 @@ body (p.header h i t) w = let a = body h w in let b = body i a.1 in let c = took
 body (p.no_parameters free) w = (no_name, w)
 body (p.some_parameters t u h i v) w =
     let a = took t w in let b = took u a.1 in let c = body h b.1 in let d = body i c.1 in let e = took v d.1 in (d.0 c.0, e.1)
-body (p.shaped t h i) w = let a = took t w in let b = item h a.1 in let c = item i b.1 in (b.0 ⊕ c.0, c.1)
+body (p.shaped t h i) w = let a = took t w in let b = declaration h a.1 in let c = declaration i b.1 in (b.0 ⊕ c.0, c.1)
 body (p.with_shape is h) w = let a = body h w in (a.0, a.1)
-body (p.without_shape free h) w = let a = item h w in (a.0, a.1)
+body (p.without_shape free h) w = let a = declaration h w in (a.0, a.1)
 body (p.header_parameters_behind h) w = let a = body h w in (λ x. x ⊕ a.0, a.1)
 body (p.no_header_parameter free) w = (no_name, w)
 body (p.another_header_parameter t h i) w = let a = took t w in let b = body h a.1 in let c = body i b.1 in (b.0 ⊕ c.0, c.1)
 body (p.no_ports free) w = (no_name, w)
 body (p.some_ports t h u) w = let a = took t w in let b = body h a.1 in let c = took u b.1 in (b.0, c.1)
 body (p.empty_list free clear bare) w = (no_name, w)
-body (p.name_list is h) w = let a = item h w in (a.0, a.1)
+body (p.name_list is h) w = let a = declaration h w in (a.0, a.1)
 body (p.input_list is h) w = let a = body h w in (a.0, a.1)
 body (p.output_list is h) w = let a = body h w in (a.0, a.1)
 body (p.declared h i) w = let a = body h w in let b = body i a.1 in (b.0 a.0, b.1)
 body (p.header_ports_behind h) w = let a = body h w in (λ x. x ⊕ a.0, a.1)
 body (p.no_header_port free) w = (no_name, w)
 body (p.another_header_port t h i) w = let a = took t w in let b = body h a.1 in let c = body i b.1 in (b.0 ⊕ c.0, c.1)
-body (p.input_port t h i u) w = let a = took t w in let b = item h a.1 in let c = item i b.1 in let d = took u c.1 in (c.0 ⊕ one_name d.0, d.1)
-body (p.output_port t h i j) w = let a = took t w in let b = item h a.1 in let c = item i b.1 in let d = item j c.1 in (c.0 ⊕ d.0, d.1)
-body (p.next_name is h) w = let a = item h w in (a.0, a.1)
+body (p.input_port t h i u) w = let a = took t w in let b = declaration h a.1 in let c = declaration i b.1 in let d = took u c.1 in (c.0 ⊕ one_name d.0, d.1)
+body (p.output_port t h i j) w = let a = took t w in let b = declaration h a.1 in let c = declaration i b.1 in let d = declaration j c.1 in (c.0 ⊕ d.0, d.1)
+body (p.next_name is h) w = let a = declaration h w in (a.0, a.1)
 body (p.next_port free h) w = let a = body h w in (a.0, a.1)
 body (p.no_item free) w = (no_name, w)
 body (p.another_item go h i) w = let a = body h w in let b = body i a.1 in (a.0 ⊕ b.0, b.1)
 body (p.input_item t h i j u) w =
-    let a = took t w in let b = item h a.1 in let c = item i b.1 in let d = item j c.1 in let e = took u d.1 in (c.0 ⊕ d.0, e.1)
+    let a = took t w in let b = declaration h a.1 in let c = declaration i b.1 in let d = declaration j c.1 in let e = took u d.1 in (c.0 ⊕ d.0, e.1)
 body (p.output_item t h i j u) w =
-    let a = took t w in let b = item h a.1 in let c = item i b.1 in let d = item j c.1 in let e = took u d.1 in (c.0 ⊕ d.0, e.1)
-body (p.parameter_item t h i u) w = let a = took t w in let b = item h a.1 in let c = item i b.1 in let d = took u c.1 in (b.0 ⊕ c.0, d.1)
+    let a = took t w in let b = declaration h a.1 in let c = declaration i b.1 in let d = declaration j c.1 in let e = took u d.1 in (c.0 ⊕ d.0, e.1)
+body (p.parameter_item t h i u) w = let a = took t w in let b = declaration h a.1 in let c = declaration i b.1 in let d = took u c.1 in (b.0 ⊕ c.0, d.1)
 body (p.region t h u) w = let a = took t w in let b = generate h a.1 in let c = took u b.1 in (b.0, c.1)
 body (p.other_item free clear bare plain h) w = let a = generate h w in (a.0, a.1)
 

@@ -13,6 +13,7 @@ use Rattle.verilog_expr.proofs.RenamedTokens.{at_next, takes_so}
 use Rattle.verilog_expr.proofs.RenamedSpells.{spells_so}
 use Rattle.verilog_parse.specs.Generates.{Phrase, Spells, GenerateItems, AGenerateItem, ALoop, ALoopHead, ABlock, ABranch, AnOtherwise, BranchesBehind, OtherBranches, no_item, another_item, loop_item, if_item, plain_item, generate_loop, loop_head, block, branch, otherwise, branches_behind, no_branch, another_branch, last_branch}
 use Rattle.verilog_parse.proofs.RenamedTrees.{plain_so, loop_so, branches_so, branch_so}
+use Rattle.verilog_decl.proofs.RenamedDeclaration.{declaration_so}
 use Rattle.verilog_parse.proofs.RenamedItem.{item_so}
 
 abbrev pub renamed_phrase : (NameId → NameId) → Phrase → Phrase
@@ -41,7 +42,7 @@ generate_so f (plain_item {x = x} {s = s} {r = r} h i j) =
 generate_so f (generate_loop {x = x} {y = y} {ys = ys} {at = at} {s = s} {r = r} {t = t} h i j o q) =
     subst (λ (z : GenerateItem). Spells (ALoop z) (retokens f s) (retokens f r)) (sym (loop_so f t.at x y ys))
     (generate_loop (takes_so f h) (takes_so f i) (generate_so f j) (takes_so f o) (generate_so f q))
-generate_so f (loop_head h i j o q) = loop_head (item_so f h) (takes_so f i) (spells_so f j) (takes_so f o) (item_so f q)
+generate_so f (loop_head h i j o q) = loop_head (declaration_so f h) (takes_so f i) (spells_so f j) (takes_so f o) (declaration_so f q)
 generate_so f (block h i j o q) = block (takes_so f h) (takes_so f i) (takes_so f j) (generate_so f o) (takes_so f q)
 generate_so f (branch {x = x} {y = y} {ys = ys} {at = at} {s = s} {r = r} {t = t} h i j o q) =
     subst (λ (z : Branch). Spells (ABranch z) (retokens f s) (retokens f r))

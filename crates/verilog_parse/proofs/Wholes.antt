@@ -20,7 +20,8 @@ use Rattle.verilog_expr.proofs.Suffixes.{suffix, ends_last, taken_part}
 use Rattle.verilog_parse.specs.Modules as m
 use Rattle.verilog_spelling.specs.Spellings.{spelling}
 use Rattle.verilog_parse.specs.Files.{file, IsSpelledAs, SpellsAll, no_module, another_module, Stands, IsSpelled}
-use Rattle.verilog_parse.proofs.Complete.{seen, module_}
+use Rattle.verilog_decl.proofs.Complete.{seen}
+use Rattle.verilog_parse.proofs.Complete.{module_}
 
 -- ---- one module
 

@@ -14,6 +14,7 @@ use Rattle.verilog_ast.specs.declared.generate_item.GenerateItem.TheVariants as 
 use Rattle.verilog_expr.specs.Tokens.{next, Takes, identifier_of}
 use Rattle.verilog_expr.specs.Grammar.{begins_generate_item}
 use Rattle.verilog_expr.specs.Spells as expressions
+use Rattle.verilog_decl.specs.Declarations as declarations
 use Rattle.verilog_parse.specs.Items as items
 
 pub data Phrase : Type 0 where
@@ -62,11 +63,11 @@ pub data Spells : Phrase → List Token → List Token → Type 0 where
       → Spells (ABlock at y ys) d r
       → Spells (ALoop (item.For t.at x y ys)) s r
   loop_head : {x z : Parameter} {y : Expr} {s a b c d r : List Token} {t u : Token}
-      → items.Spells (items.AParameter x) s a
+      → declarations.Spells (declarations.AParameter x) s a
       → Takes k.Semicolon a b t
       → expressions.Spells (expressions.AnExpression y) b c
       → Takes k.Semicolon c d u
-      → items.Spells (items.AParameter z) d r
+      → declarations.Spells (declarations.AParameter z) d r
       → Spells (ALoopHead (record { start = x; condition = y; step = z })) s r
   block : {xs : List GenerateItem} {s a b c d r : List Token} {t u v z : Token}
       → Takes k.Begin s a t

@@ -18,7 +18,7 @@ use Rattle.verilog_ast.specs.declared.item.Item.TheVariants as item
 use Rattle.verilog_ast.specs.declared.module_body.ModuleBody.{ModuleBody}
 use Rattle.verilog_expr.specs.Tokens.{next, Takes, identifier_of}
 use Rattle.verilog_expr.specs.Grammar.{begins_item}
-use Rattle.verilog_parse.specs.Items as items
+use Rattle.verilog_decl.specs.Declarations as declarations
 use Rattle.verilog_parse.specs.Generates as generates
 
 pub data Phrase : Type 0 where
@@ -68,8 +68,8 @@ pub data Spells : Phrase → List Token → List Token → Type 0 where
       → Spells (ParameterHeader xs) s r
   shaped : {x : Shape} {y : Parameter} {s a b r : List Token} {t : Token}
       → Takes k.Parameter s a t
-      → items.Spells (items.AShape x) a b
-      → items.Spells (items.AParameter y) b r
+      → declarations.Spells (declarations.AShape x) a b
+      → declarations.Spells (declarations.AParameter y) b r
       → Spells (AShapedParameter (record { shape = Some x; parameter = y })) s r
   with_shape : {x : HeaderParameter} {s r : List Token}
       → k.Parameter ≡ next s
@@ -77,7 +77,7 @@ pub data Spells : Phrase → List Token → List Token → Type 0 where
       → Spells (AHeaderParameter x) s r
   without_shape : {y : Parameter} {s r : List Token}
       → next s ≢ k.Parameter
-      → items.Spells (items.AParameter y) s r
+      → declarations.Spells (declarations.AParameter y) s r
       → Spells (AHeaderParameter (record { shape = None; parameter = y })) s r
   header_parameters_behind : {x : HeaderParameter} {xs : List HeaderParameter} {s r : List Token}
       → Spells (OtherHeaderParameters xs) s r
@@ -105,7 +105,7 @@ pub data Spells : Phrase → List Token → List Token → Type 0 where
       → Spells (PortList ports.Nothing) s s
   name_list : {xs : List Identifier} {s r : List Token}
       → k.Word ≡ next s
-      → items.Spells (items.Names xs) s r
+      → declarations.Spells (declarations.Names xs) s r
       → Spells (PortList (ports.Names xs)) s r
   input_list : {xs : List HeaderPort} {s r : List Token}
       → k.Input ≡ next s
@@ -132,19 +132,19 @@ pub data Spells : Phrase → List Token → List Token → Type 0 where
       → Spells (OtherHeaderPorts (x ∷ xs)) s r
   input_port : {x : PortNet} {y : Shape} {s a b c r : List Token} {t u : Token}
       → Takes k.Input s a t
-      → items.Spells (items.OptionalWire x) a b
-      → items.Spells (items.AShape y) b c
+      → declarations.Spells (declarations.OptionalWire x) a b
+      → declarations.Spells (declarations.AShape y) b c
       → Takes k.Word c r u
       → Spells (AHeaderPort (port.Input t.at x y (identifier_of u))) s r
   output_port : {x : PortNet} {y : Shape} {z : Variable} {s a b c r : List Token} {t : Token}
       → Takes k.Output s a t
-      → items.Spells (items.OptionalNet x) a b
-      → items.Spells (items.AShape y) b c
-      → items.Spells (items.AVariable z) c r
+      → declarations.Spells (declarations.OptionalNet x) a b
+      → declarations.Spells (declarations.AShape y) b c
+      → declarations.Spells (declarations.AVariable z) c r
       → Spells (AHeaderPort (port.Output t.at x y z)) s r
   next_name : {x : Variable} {s r : List Token}
       → k.Word ≡ next s
-      → items.Spells (items.AVariable x) s r
+      → declarations.Spells (declarations.AVariable x) s r
       → Spells (NextHeaderPort (port.Next x)) s r
   next_port : {x : HeaderPort} {s r : List Token}
       → next s ≢ k.Word
@@ -160,22 +160,22 @@ pub data Spells : Phrase → List Token → List Token → Type 0 where
       → Spells (Items (x ∷ xs)) s r
   input_item : {x : PortNet} {y : Shape} {zs : List Identifier} {s a b c d r : List Token} {t u : Token}
       → Takes k.Input s a t
-      → items.Spells (items.OptionalWire x) a b
-      → items.Spells (items.AShape y) b c
-      → items.Spells (items.Names zs) c d
+      → declarations.Spells (declarations.OptionalWire x) a b
+      → declarations.Spells (declarations.AShape y) b c
+      → declarations.Spells (declarations.Names zs) c d
       → Takes k.Semicolon d r u
       → Spells (AnItem (item.Input t.at x y zs)) s r
   output_item : {x : PortNet} {y : Shape} {zs : List Variable} {s a b c d r : List Token} {t u : Token}
       → Takes k.Output s a t
-      → items.Spells (items.OptionalNet x) a b
-      → items.Spells (items.AShape y) b c
-      → items.Spells (items.Variables zs) c d
+      → declarations.Spells (declarations.OptionalNet x) a b
+      → declarations.Spells (declarations.AShape y) b c
+      → declarations.Spells (declarations.Variables zs) c d
       → Takes k.Semicolon d r u
       → Spells (AnItem (item.Output t.at x y zs)) s r
   parameter_item : {y : Shape} {zs : List Parameter} {s a b c r : List Token} {t u : Token}
       → Takes k.Parameter s a t
-      → items.Spells (items.AShape y) a b
-      → items.Spells (items.Parameters zs) b c
+      → declarations.Spells (declarations.AShape y) a b
+      → declarations.Spells (declarations.Parameters zs) b c
       → Takes k.Semicolon c r u
       → Spells (AnItem (item.Parameter t.at y zs)) s r
   region : {xs : List GenerateItem} {s a b r : List Token} {t u : Token}

@@ -8,8 +8,8 @@ ghost use Rattle.verilog_expr.specs.Reads.{Reads};
 ghost use Rattle.verilog_parse.specs.Modules as spells;
 ghost use Rattle.verilog_parse.specs.Modules.{Spells};
 
-use crate::declaration::{names, optional_net, optional_wire, parameter, shape, variable};
 use verilog_ast::{Children, HeaderParameter, HeaderPort, Ports};
+use verilog_decl::{names, optional_net, optional_wire, parameter, shape, variable};
 use verilog_expr::{ParseError, Parser, identifier};
 use verilog_lex::Kind;
 

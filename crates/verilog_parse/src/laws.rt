@@ -1,40 +1,34 @@
 // What the definition of a text's modules comes to, and where their parts stand.
-ghost use Rattle.std.specs.Prelude.{◌≡◌, ℕ, List, map, Err};
+ghost use Rattle.std.specs.Prelude.{◌≡◌, ℕ, List, drop, map, Err};
 ghost use Rattle.ls_text.specs.declared.fault.Fault.{Fault};
 ghost use Rattle.ls_text.specs.declared.name_id.NameId.{NameId};
+ghost use Rattle.ls_text.specs.declared.place.Place.{Place};
 ghost use Rattle.ls_text.specs.declared.refusal.Refusal.TheVariants as refusal;
 ghost use Rattle.verilog_lex.specs.declared.token.Token.{Token};
-ghost use Rattle.verilog_ast.specs.declared.case_kind.CaseKind.{CaseKind};
 ghost use Rattle.verilog_ast.specs.declared.continuous.Continuous.{Continuous};
 ghost use Rattle.verilog_ast.specs.declared.generate_item.Branch.{Branch};
 ghost use Rattle.verilog_ast.specs.declared.generate_item.GenerateItem.{GenerateItem};
 ghost use Rattle.verilog_ast.specs.declared.header_port.HeaderPort.{HeaderPort};
-ghost use Rattle.verilog_ast.specs.declared.instance.Instance.{Instance};
+ghost use Rattle.verilog_ast.specs.declared.identifier.Identifier.{Identifier};
 ghost use Rattle.verilog_ast.specs.declared.item.Item.{Item};
-ghost use Rattle.verilog_ast.specs.declared.label.Label.{Label};
 ghost use Rattle.verilog_ast.specs.declared.module.Module.{Module};
-ghost use Rattle.verilog_ast.specs.declared.named_connection.NamedConnection.{NamedConnection};
-ghost use Rattle.verilog_ast.specs.declared.ordered_connection.OrderedConnection.{OrderedConnection};
-ghost use Rattle.verilog_ast.specs.declared.parameter.Parameter.{Parameter};
-ghost use Rattle.verilog_ast.specs.declared.reg_variable.RegVariable.{RegVariable};
-ghost use Rattle.verilog_ast.specs.declared.sign.Sign.{Sign};
-ghost use Rattle.verilog_ast.specs.declared.statement.Arm.{Arm};
+ghost use Rattle.verilog_ast.specs.declared.module_body.ModuleBody.{ModuleBody};
+ghost use Rattle.verilog_ast.specs.declared.plain_item.PlainItem.TheVariants as plain;
+ghost use Rattle.verilog_ast.specs.declared.ports.Ports.TheVariants as ports;
 ghost use Rattle.verilog_ast.specs.declared.statement.Stmt.{Stmt};
-ghost use Rattle.verilog_ast.specs.declared.target.Lhs.{Lhs};
-ghost use Rattle.verilog_ast.specs.declared.variable.Variable.{Variable};
-ghost use Rattle.verilog_ast.specs.Places.{target_place, label_place, statement_place, port_place, item_place};
-ghost use Rattle.verilog_ast.specs.Views.{target_of, label_of, statement_of, arm_of, port_of, generate_item_of, item_of, declarations_of};
+ghost use Rattle.verilog_ast.specs.Places.{target_place, port_place, item_place};
+ghost use Rattle.verilog_ast.specs.Views.{target_of, port_of, generate_item_of, item_of, declarations_of};
 ghost use Rattle.verilog_ast.specs.Renaming.{declaration_as};
 ghost use Rattle.verilog_expr.specs.declared.fault.ParseFault.{ParseFault};
 ghost use Rattle.verilog_expr.specs.Machine.{Run};
 ghost use Rattle.verilog_expr.specs.Renamed.{retokens};
 ghost use Rattle.verilog_expr.specs.Shown.{Refuses};
 ghost use Rattle.verilog_expr.specs.Tokens.{place_at};
+ghost use Rattle.verilog_decl.specs.Apart.{StandApart};
 ghost use Rattle.verilog_parse.specs.Files.{file, IsSpelled, Stands};
 ghost use Rattle.verilog_parse.specs.Generates as generates;
 ghost use Rattle.verilog_parse.specs.Items as items;
 ghost use Rattle.verilog_parse.specs.Modules as modules;
-ghost use Rattle.verilog_parse.specs.Statements as statements;
 
 /// A text has at most one list of modules and at most one fault, and not both. What modules spell has no fault but 16: the
 /// machine is never stuck there.
@@ -59,28 +53,9 @@ pub fn names_may_change()
         → retokens f s ≡ retokens g q → Stands names xs s → Run file q (Err x) → ⊥ }
 {}
 
-/// A target, a statement and an item of a `case` have the place of the first token that they stand for.
-#[tactic(none)]
-pub fn statements_have_places()
-    ensures targets { (x : Lhs) (s r : List Token) → statements.Spells (statements.ATarget x) s r → target_place (target_of x) ≡ place_at s }
-    ensures statements { (g : Sign) (x : Stmt) (s r : List Token) → statements.Spells (statements.AStatement g x) s r
-        → statement_place (statement_of x) ≡ place_at s }
-    ensures arms { (g : Sign) (which : CaseKind) (x : Arm) (s r : List Token) → statements.Spells (statements.AnArm g which x) s r
-        → statement_place (arm_of x) ≡ place_at s }
-    ensures labels { (which : CaseKind) (x : Label) (s r : List Token) → statements.Spells (statements.ALabel which x) s r
-        → label_place (label_of x) ≡ place_at s }
-{}
-
-/// A declared name, an instance and a connection have the place of the first token that they stand for: its name, its name, and its dot
-/// or its expression. An empty connection by order has that of the token after it.
+/// An assignment has the place of its target's first token, and a port that a header declares that of its own first token.
 #[tactic(none)]
 pub fn parts_of_items_have_places()
-    ensures variables { (x : Variable) (s r : List Token) → items.Spells (items.AVariable x) s r → x.name.at ≡ place_at s }
-    ensures regs { (x : RegVariable) (s r : List Token) → items.Spells (items.ARegVariable x) s r → x.name.at ≡ place_at s }
-    ensures parameters { (x : Parameter) (s r : List Token) → items.Spells (items.AParameter x) s r → x.name.at ≡ place_at s }
-    ensures instances { (x : Instance) (s r : List Token) → items.Spells (items.AnInstance x) s r → x.name.at ≡ place_at s }
-    ensures by_name { (x : NamedConnection) (s r : List Token) → items.Spells (items.ANamedConnection x) s r → x.at ≡ place_at s }
-    ensures by_order { (x : OrderedConnection) (s r : List Token) → items.Spells (items.AnOrdered x) s r → x.at ≡ place_at s }
     ensures assignments { (x : Continuous) (s r : List Token) → items.Spells (items.AContinuous x) s r
         → target_place (target_of x.target) ≡ place_at s }
     ensures ports { (x : HeaderPort) (s r : List Token) → modules.Spells (modules.NextHeaderPort x) s r → port_place (port_of x) ≡ place_at s }
@@ -95,4 +70,18 @@ pub fn items_have_places()
         → item_place (generate_item_of x) ≡ place_at s }
     ensures branches { (x : Branch) (s r : List Token) → generates.Spells (generates.ABranch x) s r → x.at ≡ place_at s }
     ensures otherwise { (x : Branch) (s r : List Token) → generates.Spells (generates.AnOtherwise x) s r → x.at ≡ place_at s }
+{}
+
+/// Each name has the place of its own token: that of a module the one behind `module`, the names of a header's list and of `genvar`
+/// every second one, the clock the one behind `always @ ( posedge`, and the label of a generate block the one behind `begin :`.
+#[tactic(none)]
+pub fn names_have_places()
+    ensures modules { (x : ModuleBody) (s r : List Token) → modules.Spells (modules.AModule x) s r → x.name.at ≡ place_at (drop 1 s) }
+    ensures ports { (xs : List Identifier) (s r : List Token) → modules.Spells (modules.PortList (ports.Names xs)) s r → StandApart xs s }
+    ensures genvars { (at : Place) (xs : List Identifier) (s r : List Token) → items.Spells (items.APlainItem (plain.Genvar at xs)) s r
+        → StandApart xs (drop 1 s) }
+    ensures clocks { (at : Place) (clock : Identifier) (x : Stmt) (s r : List Token)
+        → items.Spells (items.APlainItem (plain.Clocked at clock x)) s r → clock.at ≡ place_at (drop 4 s) }
+    ensures blocks { (at : Place) (label : Identifier) (xs : List GenerateItem) (s r : List Token)
+        → generates.Spells (generates.ABlock at label xs) s r → label.at ≡ place_at (drop 2 s) }
 {}

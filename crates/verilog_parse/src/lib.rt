@@ -1,11 +1,9 @@
 // Verilog texts, read exactly as the grammar says.
 //
-// `parsing` and `file` read a whole text into `modules`: a `header`, then items, each by a function of its nonterminal (`plain_item`,
-// `generate`, `declaration`, `connection`, `statement`, `target`). Each ensures one phrase of the relation `Spells`.
+// `parsing` and `file` read a whole text into `modules`: a `header`, then items, each by a function of its nonterminal (`generate`,
+// `plain_item`, and below these the crates `verilog_decl` and `verilog_stmt`). Each ensures one phrase of the relation `Spells`.
 #![tactic(auto)]
 
-mod connection;
-mod declaration;
 mod file;
 mod generate;
 mod header;
@@ -13,11 +11,9 @@ mod laws;
 mod modules;
 mod parsing;
 mod plain_item;
-mod statement;
-mod target;
 
 pub use laws::{
-    items_have_places, names_may_change, parts_of_items_have_places, statements_have_places,
+    items_have_places, names_have_places, names_may_change, parts_of_items_have_places,
     texts_are_read_in_one_way,
 };
 pub use parsing::parse;

@@ -9,10 +9,10 @@ ghost use Rattle.verilog_expr.specs.Reads.{Reads};
 ghost use Rattle.verilog_parse.specs.Modules as spells;
 ghost use Rattle.verilog_parse.specs.Modules.{Spells};
 
-use crate::declaration::{names, optional_net, optional_wire, parameters, shape, variables};
 use crate::generate::{generate_item, generate_items};
 use crate::header::header;
 use verilog_ast::{Children, Item, ModuleBody};
+use verilog_decl::{names, optional_net, optional_wire, parameters, shape, variables};
 use verilog_expr::{ParseError, Parser, identifier};
 use verilog_lex::Kind;
 

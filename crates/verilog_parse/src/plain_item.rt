@@ -9,14 +9,12 @@ ghost use Rattle.verilog_expr.specs.Reads.{Reads};
 ghost use Rattle.verilog_parse.specs.Items as spells;
 ghost use Rattle.verilog_parse.specs.Items.{Spells};
 
-use crate::connection::{instances, overrides};
-use crate::declaration::{names, parameters, reg_variables, shape, variables};
-use crate::statement::statement;
-use crate::target::target;
 use ls_text::Place;
 use verilog_ast::{Child, Children, Continuous, PlainItem, Sign};
+use verilog_decl::{instances, names, overrides, parameters, reg_variables, shape, variables};
 use verilog_expr::{ParseError, Parser, identifier};
 use verilog_lex::Kind;
+use verilog_stmt::{statement, target};
 
 /// An item without a generate construct.
 pub fn plain_item(p: &mut Parser<'_>, weight: u32) -> Result<PlainItem, ParseError>

@@ -1,0 +1,5 @@
+pub mod DeclarationTrees
+pub mod Complete
+pub mod NamedDeclarations
+pub mod RenamedDeclaration
+pub mod PlacedDeclarations

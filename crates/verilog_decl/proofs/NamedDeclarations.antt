@@ -1,0 +1,98 @@
+-- The names of a declaration or connection are names of its tokens.
+use Rattle.std.proofs.Common.{◌<◌, ℕ, List, flat_map}
+use Rattle.verilog_lex.specs.declared.token.Token.{Token}
+use Rattle.verilog_ast.specs.Names.{names_of_option, names_of_identifiers, names_of_expression, names_of_range, names_of_shape, names_of_variable, names_of_reg_variable, names_of_parameter, names_of_named, names_of_ordered, names_of_connections, names_of_instance}
+use Rattle.verilog_ast.proofs.Within.{IsWithin, no_name, one_more, ◌⊕◌}
+use Rattle.verilog_expr.proofs.Named.{AreWithin, took}
+use Rattle.verilog_expr.proofs.Named as expressions
+use Rattle.verilog_decl.specs.Declarations as p
+
+-- The names of a phrase are below the bound, where those of what stands before it are.
+abbrev pub IsNamed : ℕ → p.Phrase → Type 0
+IsNamed n (p.AShape x) = IsWithin n (names_of_shape x)
+IsNamed n (p.OptionalSigned x) = Unit {0}
+IsNamed n (p.OptionalRange x) = IsWithin n (names_of_option names_of_range x)
+IsNamed n (p.OptionalWire x) = Unit {0}
+IsNamed n (p.OptionalNet x) = Unit {0}
+IsNamed n (p.Names xs) = IsWithin n (names_of_identifiers xs)
+IsNamed n (p.NamesBehind x xs) = x.name.0 < n → IsWithin n (names_of_identifiers xs)
+IsNamed n (p.OtherNames xs) = IsWithin n (names_of_identifiers xs)
+IsNamed n (p.OptionalValue x) = IsWithin n (names_of_option names_of_expression x)
+IsNamed n (p.AVariable x) = IsWithin n (names_of_variable x)
+IsNamed n (p.Variables xs) = IsWithin n (flat_map names_of_variable xs)
+IsNamed n (p.VariablesBehind x xs) = IsWithin n (names_of_variable x) → IsWithin n (flat_map names_of_variable xs)
+IsNamed n (p.OtherVariables xs) = IsWithin n (flat_map names_of_variable xs)
+IsNamed n (p.ARegVariable x) = IsWithin n (names_of_reg_variable x)
+IsNamed n (p.RegVariables xs) = IsWithin n (flat_map names_of_reg_variable xs)
+IsNamed n (p.RegVariablesBehind x xs) = IsWithin n (names_of_reg_variable x) → IsWithin n (flat_map names_of_reg_variable xs)
+IsNamed n (p.OtherRegVariables xs) = IsWithin n (flat_map names_of_reg_variable xs)
+IsNamed n (p.AParameter x) = IsWithin n (names_of_parameter x)
+IsNamed n (p.Parameters xs) = IsWithin n (flat_map names_of_parameter xs)
+IsNamed n (p.ParametersBehind x xs) = IsWithin n (names_of_parameter x) → IsWithin n (flat_map names_of_parameter xs)
+IsNamed n (p.OtherParameters xs) = IsWithin n (flat_map names_of_parameter xs)
+IsNamed n (p.Overrides x) = IsWithin n (names_of_option names_of_connections x)
+IsNamed n (p.AnInstance x) = IsWithin n (names_of_instance x)
+IsNamed n (p.Instances xs) = IsWithin n (flat_map names_of_instance xs)
+IsNamed n (p.InstancesBehind x xs) = IsWithin n (names_of_instance x) → IsWithin n (flat_map names_of_instance xs)
+IsNamed n (p.OtherInstances xs) = IsWithin n (flat_map names_of_instance xs)
+IsNamed n (p.AConnections x) = IsWithin n (names_of_connections x)
+IsNamed n (p.ANamedConnection x) = IsWithin n (names_of_named x)
+IsNamed n (p.NamedBehind x xs) = IsWithin n (names_of_named x) → IsWithin n (flat_map names_of_named xs)
+IsNamed n (p.OtherNamed xs) = IsWithin n (flat_map names_of_named xs)
+IsNamed n (p.AnOrdered x) = IsWithin n (names_of_ordered x)
+IsNamed n (p.OrderedBehind x xs) = IsWithin n (names_of_ordered x) → IsWithin n (flat_map names_of_ordered xs)
+IsNamed n (p.OtherOrdered xs) = IsWithin n (flat_map names_of_ordered xs)
+IsNamed n (p.OptionalExpression x) = IsWithin n (names_of_option names_of_expression x)
+
+pub declaration : {n : ℕ} {q : p.Phrase} {s r : List Token} → p.Spells q s r → AreWithin n s → IsNamed n q × AreWithin n r
+declaration (p.shape h i) w = let a = declaration h w in let b = declaration i a.1 in (b.0, b.1)
+declaration (p.not_signed free) w = (tt, w)
+declaration (p.is_signed t) w = let a = took t w in (tt, a.1)
+declaration (p.no_range free) w = (no_name, w)
+declaration (p.a_range is h) w = let a = expressions.named h w in (a.0, a.1)
+declaration (p.no_wire free) w = (tt, w)
+declaration (p.a_wire t) w = let a = took t w in (tt, a.1)
+declaration (p.no_net free clear) w = (tt, w)
+declaration (p.net_wire t) w = let a = took t w in (tt, a.1)
+declaration (p.net_reg t) w = let a = took t w in (tt, a.1)
+declaration (p.names t h) w = let a = took t w in let b = declaration h a.1 in (b.0 a.0, b.1)
+declaration (p.names_behind h) w = let a = declaration h w in (λ x. one_more x a.0, a.1)
+declaration (p.no_name free) w = (no_name, w)
+declaration (p.another_name t u h) w = let a = took t w in let b = took u a.1 in let c = declaration h b.1 in (one_more b.0 c.0, c.1)
+declaration (p.variable t h) w = let a = took t w in let b = declaration h a.1 in (one_more a.0 b.0, b.1)
+declaration (p.no_value free) w = (no_name, w)
+declaration (p.a_value t h) w = let a = took t w in let b = expressions.named h a.1 in (b.0, b.1)
+declaration (p.variables h i) w = let a = declaration h w in let b = declaration i a.1 in (b.0 a.0, b.1)
+declaration (p.variables_behind h) w = let a = declaration h w in (λ x. x ⊕ a.0, a.1)
+declaration (p.no_variable free) w = (no_name, w)
+declaration (p.another_variable t h i) w = let a = took t w in let b = declaration h a.1 in let c = declaration i b.1 in (b.0 ⊕ c.0, c.1)
+declaration (p.reg_variable h) w = declaration h w
+declaration (p.reg_variables h i) w = let a = declaration h w in let b = declaration i a.1 in (b.0 a.0, b.1)
+declaration (p.reg_variables_behind h) w = let a = declaration h w in (λ x. x ⊕ a.0, a.1)
+declaration (p.no_reg_variable free) w = (no_name, w)
+declaration (p.another_reg_variable t h i) w = let a = took t w in let b = declaration h a.1 in let c = declaration i b.1 in (b.0 ⊕ c.0, c.1)
+declaration (p.parameter t u h) w = let a = took t w in let b = took u a.1 in let c = expressions.named h b.1 in (one_more a.0 c.0, c.1)
+declaration (p.parameters h i) w = let a = declaration h w in let b = declaration i a.1 in (b.0 a.0, b.1)
+declaration (p.parameters_behind h) w = let a = declaration h w in (λ x. x ⊕ a.0, a.1)
+declaration (p.no_parameter free) w = (no_name, w)
+declaration (p.another_parameter t h i) w = let a = took t w in let b = declaration h a.1 in let c = declaration i b.1 in (b.0 ⊕ c.0, c.1)
+declaration (p.no_override free) w = (no_name, w)
+declaration (p.an_override t u h v) w = let a = took t w in let b = took u a.1 in let c = declaration h b.1 in let d = took v c.1 in (c.0, d.1)
+declaration (p.instances h i) w = let a = declaration h w in let b = declaration i a.1 in (b.0 a.0, b.1)
+declaration (p.instances_behind h) w = let a = declaration h w in (λ x. x ⊕ a.0, a.1)
+declaration (p.no_instance free) w = (no_name, w)
+declaration (p.another_instance t h i) w = let a = took t w in let b = declaration h a.1 in let c = declaration i b.1 in (b.0 ⊕ c.0, c.1)
+declaration (p.instance_ t u h v) w = let a = took t w in let b = took u a.1 in let c = declaration h b.1 in let d = took v c.1 in (one_more a.0 c.0, d.1)
+declaration (p.by_name is h i) w = let a = declaration h w in let b = declaration i a.1 in (b.0 a.0, b.1)
+declaration (p.by_order free h i) w = let a = declaration h w in let b = declaration i a.1 in (b.0 a.0, b.1)
+declaration (p.named t u v h z) w =
+    let a = took t w in let b = took u a.1 in let c = took v b.1 in let d = declaration h c.1 in let e = took z d.1 in (one_more b.0 d.0, e.1)
+declaration (p.named_behind h) w = let a = declaration h w in (λ x. x ⊕ a.0, a.1)
+declaration (p.no_named free) w = (no_name, w)
+declaration (p.another_named t h i) w = let a = took t w in let b = declaration h a.1 in let c = declaration i b.1 in (b.0 ⊕ c.0, c.1)
+declaration (p.ordered h) w = let a = declaration h w in (a.0, a.1)
+declaration (p.ordered_behind h) w = let a = declaration h w in (λ x. x ⊕ a.0, a.1)
+declaration (p.no_ordered free) w = (no_name, w)
+declaration (p.another_ordered t h i) w = let a = took t w in let b = declaration h a.1 in let c = declaration i b.1 in (b.0 ⊕ c.0, c.1)
+declaration (p.no_expression free) w = (no_name, w)
+declaration (p.an_expression go h) w = let a = expressions.named h w in (a.0, a.1)

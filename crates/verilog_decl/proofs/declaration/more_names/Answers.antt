@@ -1,0 +1,23 @@
+use Rattle.std.proofs.Common.{◌≡◌, [], ◌∷◌, ◌++◌, subst, sym, rules, arith}
+use Rattle.verilog_expr.proofs.Lists.{grows_more, grows_end}
+use Rattle.verilog_expr.proofs.Runs.{then, expand_at}
+use Rattle.verilog_decl.specs.Declarations as spells
+use Rattle.verilog_decl.specs.Declarations.{Spells, names_behind, another_name, no_name}
+use Rattle.verilog_decl.proofs.declaration.more_names.Goals as goal
+
+pub items-init : goal.items-init
+items-init c = let first : c.push.new.self ≡ c.args.first ∷ [] = search rules in record {
+  machine = record { go = λ k out r. r };
+  tree = λ xs r h. subst (λ all. Spells (spells.NamesBehind c.args.first (all ++ xs)) c.args.p.now r) (sym first) (names_behind h);
+  shorter = omega arith;
+}
+
+pub items-preserved : goal.items-preserved
+items-preserved c = record {
+  machine = record { go = λ k out r. c.items.invariant.machine.go k out (expand_at c.items-test.ensures (then c.in_ok-expect.ensures.machine (then c.in_ok-expect-2.ensures.machine r))) };
+  tree = grows_more (λ xs s r. Spells (spells.OtherNames xs) s r) (λ xs r. Spells (spells.NamesBehind c.args.first xs) c.args.p.now r) _ _ _ _ _ c.items.invariant.tree c.in_ok-push-2.ensures.ok (λ xs r h. subst (λ x. Spells (spells.OtherNames (x ∷ xs)) c.items.p r) (sym c.identifier-name.ensures) (another_name c.in_ok-expect.ensures.takes c.in_ok-expect-2.ensures.takes h));
+  shorter = omega (arith, c.in_ok-expect-2.ensures.shorter, c.in_ok-expect.ensures.shorter);
+}
+
+pub returns-clause-tree : goal.returns-clause-tree
+returns-clause-tree c = grows_end (λ xs s r. Spells (spells.OtherNames xs) s r) (λ xs r. Spells (spells.NamesBehind c.args.first xs) c.args.p.now r) _ _ c.items.invariant.tree (no_name c.items-test.ensures)

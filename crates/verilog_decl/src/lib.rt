@@ -1,0 +1,17 @@
+// Declarations and connections of a Verilog text, read exactly as the grammar says.
+//
+// `declaration` reads signs, ranges, names with their values and parameters from a cursor's tokens, `connection` overrides,
+// instances and what they are connected to. Each ensures what the grammar machine does, and one phrase of the relation `Spells`;
+// `laws` says where their parts stand.
+#![tactic(auto)]
+
+mod connection;
+mod declaration;
+mod laws;
+
+pub use connection::{instances, overrides};
+pub use declaration::{
+    names, optional_net, optional_wire, parameter, parameters, reg_variables, shape, variable,
+    variables,
+};
+pub use laws::declarations_have_places;

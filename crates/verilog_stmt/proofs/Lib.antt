@@ -1,0 +1,8 @@
+pub mod StatementTrees
+pub mod Complete
+pub mod OneToken
+pub mod OneStatement
+pub mod NamedStatements
+pub mod RenamedTrees
+pub mod RenamedStatement
+pub mod PlacedStatements
