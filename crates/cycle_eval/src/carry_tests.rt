@@ -8,7 +8,7 @@ use no_memory::NoMemory;
 use std::alloc::Global;
 use std::process::Abort;
 use std::test::Fail;
-use typed_ir::{Signal, SignalId};
+use typed_ir::{RegisterId, Signal, SignalId};
 
 // A register: the number of its module, that of its name, its width, and what it has at the beginning.
 type Register = (u64, u64, u8, u128);
@@ -52,7 +52,7 @@ fn carried(
     let state = after.carried(alloc, &before, &start)?;
     let mut values = Vec::new(alloc);
     for i in 0..state.len() {
-        values.push(state.get(i).value())?;
+        values.push(state.get(RegisterId(i)).value())?;
     }
     Ok(values)
 }

@@ -15,7 +15,7 @@ ghost use Rattle.cycle_eval.specs.Temporary.{all_of, temporary};
 
 use crate::Design;
 use bits::Bits;
-use comb_order::{Parts, flat_of, linked, no_block};
+use comb_order::{Parts, checked_flat, linked, no_block};
 use ls_text::NameId;
 use machine::steps::Steps;
 use no_memory::NoMemory;
@@ -25,8 +25,8 @@ use std::process::Abort;
 use std::sync::ledger::{Blank, Ledger};
 use std::test::Fail;
 use typed_ir::{
-    ArithmeticOperator, Arm, BinaryOperator, Item, Lane, Node, Reach, RegState, Signal, SignalId,
-    Span, Stmt, Target, TargetForm, Typed,
+    ArithmeticOperator, Arm, BinaryOperator, Item, Lane, Node, Reach, RegState, RegisterId, Signal,
+    SignalId, Span, Stmt, Target, TargetForm, Typed,
 };
 
 // Signals of these widths and values at the beginning.
@@ -67,7 +67,7 @@ fn design_with(rt: &impl Abort, alloc: Global, parts: Parts) -> Result<Design, N
     ensures { IfOk result (λ design. work_of design ≡ length parts.nodes.items + length parts.clocked.items) }
 {
     assert!(rt; parts.nodes.len() < 1_000_000);
-    let design = flat_of(alloc, parts)?.expect(rt, "a design");
+    let design = checked_flat(alloc, parts)?.expect(rt, "a design");
     match linked(alloc, design) {
         Ok(linked) => Ok(Design::make(alloc, linked).expect(rt, "few words")),
         Err(_) => Err(NoMemory),
@@ -78,7 +78,7 @@ fn design_with(rt: &impl Abort, alloc: Global, parts: Parts) -> Result<Design, N
 pub fn values_of(alloc: Global, state: &RegState) -> Result<Vec<u128>, NoMemory> {
     let mut values = Vec::new(alloc);
     for i in 0..state.len() {
-        values.push(state.get(i).value())?;
+        values.push(state.get(RegisterId(i)).value())?;
     }
     Ok(values)
 }

@@ -17,6 +17,7 @@ mod design_tests;
 mod input_tests;
 mod inputs;
 mod making;
+mod no_ops;
 mod no_row;
 mod numbers;
 mod places;
@@ -26,4 +27,5 @@ mod state;
 mod tests;
 
 pub use design::Design;
-pub use no_row::{NoOps, NoRow};
+pub use no_ops::NoOps;
+pub use no_row::NoRow;

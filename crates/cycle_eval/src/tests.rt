@@ -17,8 +17,8 @@ use std::sync::Arc;
 use std::sync::ledger::{Blank, Ledger};
 use std::test::Fail;
 use typed_ir::{
-    ArithmeticOperator, BinaryOperator, Flat, Lane, Linked, RegState, Signal, SignalId, Span, Stmt,
-    Target, Typed,
+    ArithmeticOperator, BinaryOperator, Flat, Lane, Linked, RegState, RegisterId, Signal, SignalId,
+    Span, Stmt, Target, Typed,
 };
 
 // reg [3:0] q = 14; always @(posedge clk) q <= q + 4'd3;
@@ -83,7 +83,7 @@ fn first(state: &RegState) -> u128 {
     if state.is_empty() {
         return 99;
     }
-    state.get(0).value
+    state.get(RegisterId(0)).value
 }
 
 // What the register has after so many cycles from the beginning.

@@ -2,3 +2,4 @@ pub mod Shifts
 pub mod Trees
 pub mod Units
 pub mod Instances
+pub mod Registers

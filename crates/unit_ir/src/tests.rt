@@ -1,5 +1,5 @@
 // A node that is moved, and lists that give back what they were made from.
-use crate::moved_node;
+use crate::shifted_node;
 use bits::Bits;
 use std::test::Fail;
 use typed_ir::{Const, ConstList, Form, Lane, Node, SignalId, Span, TargetForm, Typed};
@@ -39,7 +39,7 @@ fn an_assignment_five_signals_on(rt: HostRuntime) -> Result<(), Fail> {
         lanes,
         value: Typed::name(SignalId(2), 1),
     };
-    let Ok(moved) = moved_node(alloc, &node, 5) else {
+    let Ok(moved) = shifted_node(alloc, &node, 5) else {
         assert!(rt; false);
         return Ok(());
     };
