@@ -73,3 +73,20 @@ fn registers_are_found_by_path_and_module(rt: HostRuntime) -> Result<(), Fail> {
     assert_eq!(rt; values.as_slice(), [1, 9, 6, 0x77, 0x5a].as_slice());
     Ok(())
 }
+
+// 90 registers, each carried into one that stands at the other end.
+#[test]
+fn many_registers_in_the_opposite_order(rt: HostRuntime) -> Result<(), Fail> {
+    let alloc = rt.alloc();
+    let mut old = Vec::new(alloc);
+    let mut new = Vec::new(alloc);
+    let mut wanted = Vec::new(alloc);
+    for k in 0..90u64 {
+        old.push((1, k, 8, u128::from(k)))?;
+        new.push((1, 89 - k, 8, 255))?;
+        wanted.push(u128::from(89 - k))?;
+    }
+    let values = carried(&rt, alloc, &old, &new)?;
+    assert_eq!(rt; values.as_slice(), wanted.as_slice());
+    Ok(())
+}

@@ -1,4 +1,4 @@
-// Cycles of small designs, worked out by hand.
+// Cycles of small designs, worked out by hand, and one cycle of a long chain.
 ghost use Rattle.std.specs.Prelude.{◌≡◌, ◌<◌, ◌+◌, ◌*◌, map, length, IfOk};
 ghost use Rattle.typed_ir.specs.FlatNodes.{node_of};
 ghost use Rattle.typed_ir.specs.Flats.{NodeWritesFirst};
@@ -84,7 +84,7 @@ pub fn values_of(alloc: Global, state: &RegState) -> Result<Vec<u128>, NoMemory>
 }
 
 // What the registers have after so many cycles from the beginning.
-fn values_after<L: Ledger>(
+pub fn values_after<L: Ledger>(
     alloc: Global,
     design: &Design,
     cycles: u64,
@@ -319,6 +319,29 @@ fn a_long_block(rt: HostRuntime) -> Result<(), Fail> {
     };
     let design = design_of(&rt, alloc, parts)?;
     assert_eq!(rt; after(alloc, &design, 1)?.as_slice(), [15, 3].as_slice());
+    Ok(())
+}
+
+// 100,000 wires, each the next one plus 1; the last is a register of 8 bits at 7, which takes the first: 7 + 100,000 = 390 * 256 + 167
+#[test]
+fn a_long_chain(rt: HostRuntime) -> Result<(), Fail> {
+    let alloc = rt.alloc();
+    let mut nodes = Vec::new(alloc);
+    let mut all = Vec::new(alloc);
+    for k in 0..100_000u32 {
+        nodes.push(assign(alloc, k, 8, plus(alloc, k + 1, 8, 1)?)?)?;
+        all.push((8, 0))?;
+    }
+    all.push((8, 7))?;
+    let parts = Parts {
+        signals: signals(&rt, alloc, &all)?,
+        registers: vec![in alloc; SignalId(100_000)]?,
+        inputs: Vec::new(alloc),
+        nodes,
+        clocked: vec![in alloc; later(alloc, 100_000, 8, Typed::name(SignalId(0), 8))?]?,
+    };
+    let design = design_of(&rt, alloc, parts)?;
+    assert_eq!(rt; after(alloc, &design, 1)?.as_slice(), [167].as_slice());
     Ok(())
 }
 

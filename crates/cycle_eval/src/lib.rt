@@ -24,6 +24,8 @@ mod places;
 mod run;
 mod state;
 #[cfg(test)]
+mod step_tests;
+#[cfg(test)]
 mod tests;
 
 pub use design::Design;

@@ -8,6 +8,7 @@ mod instance;
 mod instance_tree;
 mod item_places;
 mod laws;
+mod making;
 mod port_list;
 mod port_shape;
 mod reg_op;
