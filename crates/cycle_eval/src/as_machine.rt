@@ -103,8 +103,8 @@ impl Machine for Design {
 
     // All rows are the same, so that a record keeps one.
     fn same_row(_one: &NoRow, _other: &NoRow) -> bool
-        ensures { result ≡ true → _one.now ≡ _other.now }
-        ensures { result ≡ true }
+        ensures same { result ≡ true → _one.now ≡ _other.now }
+        ensures always { result ≡ true }
     {
         true
     }
