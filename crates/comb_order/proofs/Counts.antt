@@ -9,6 +9,12 @@ use Rattle.typed_ir.proofs.Cases.{by_cases}
 use Rattle.comb_order.specs.Graphs.{times, row_at, rows_of, waiting, lowered, released, count_of, zeros}
 use Rattle.comb_order.proofs.Released.{times-same, times-other, put-same, put-other, enough_left}
 
+-- an element of a list, whatever stands for none
+pub read_any : (row : List ℕ) (j d e : ℕ) → j < length row → get_or row j d ≡ get_or row j e
+read_any [] j d e h = absurd (omega (arith, h))
+read_any (x ∷ xs) zero d e h = refl
+read_any (x ∷ xs) (suc j) d e h = read_any xs j d e (omega (arith, h))
+
 -- a place past the end has 0
 pub small_place : (xs : List ℕ) (t : ℕ) → 0 < slice_index xs t → t < length xs
 small_place [] t h = absurd (omega (arith, h))

@@ -9,12 +9,12 @@ ghost use Rattle.comb_order.specs.Driving.{row_in, drives_in, Rises, AllRise};
 
 use no_memory::NoMemory;
 use std::alloc::Global;
-use typed_ir::{Node, Stmt, Touch, drives_of, later_spans, touches_of};
+use typed_ir::{Node, NodeId, Stmt, Touch, drives_of, later_spans, touches_of};
 
 /// A node or a clocked block, and the bits of a signal that it drives or may write.
 #[derive(Clone, Copy, Debug, PartialEq, Eq)]
 pub struct Driver {
-    pub node: u32,
+    pub node: NodeId,
     pub mask: u128,
 }
 
@@ -27,7 +27,7 @@ fn add_driver(row: &mut Vec<Driver>, driver: Driver) -> Result<(), NoMemory>
 {
     match row.pop() {
         Some(last) => {
-            if last.node == driver.node {
+            if last.node.number() == driver.node.number() {
                 let mask = last.mask | driver.mask;
                 row.push(Driver {
                     node: driver.node,
@@ -44,7 +44,7 @@ fn add_driver(row: &mut Vec<Driver>, driver: Driver) -> Result<(), NoMemory>
 }
 
 // A node drives these bits of a signal too.
-fn add_touch(table: &mut [Vec<Driver>], node: u32, touch: Touch) -> Result<(), NoMemory>
+fn add_touch(table: &mut [Vec<Driver>], node: NodeId, touch: Touch) -> Result<(), NoMemory>
     requires { AllRise table.old (node + 1) }
     ensures drives { IfOk result (λ _. (a s i : ℕ) → s < length table.old → drives_in (row_in table.new s) a i
         ≡ (drives_in (row_in table.old s) a i || ((a == node) && ((s == touch.signal) && has_bit touch.mask i)))) }
@@ -60,7 +60,7 @@ fn add_touch(table: &mut [Vec<Driver>], node: u32, touch: Touch) -> Result<(), N
 }
 
 // A node drives these bits too.
-fn add_touches(table: &mut [Vec<Driver>], node: u32, touches: &[Touch]) -> Result<(), NoMemory>
+fn add_touches(table: &mut [Vec<Driver>], node: NodeId, touches: &[Touch]) -> Result<(), NoMemory>
     requires { AllRise table.old (node + 1) }
     ensures drives { IfOk result (λ _. (a s i : ℕ) → s < length table.old → drives_in (row_in table.new s) a i
         ≡ (drives_in (row_in table.old s) a i || ((a == node) && touched touches.now s i))) }
@@ -99,7 +99,7 @@ pub fn drivers_of(
     let mut table = empty_table(alloc, signals)?;
     for k in 0..nodes.len() {
         let touches = drives_of(alloc, &nodes[k])?;
-        add_touches(&mut table, k as u32, &touches)?;
+        add_touches(&mut table, NodeId(k as u32), &touches)?;
     }
     Ok(table)
 }
@@ -127,7 +127,7 @@ pub fn writers_of(
     let mut table = empty_table(alloc, signals)?;
     for k in 0..blocks.len() {
         let touches = writes_of(alloc, &blocks[k])?;
-        add_touches(&mut table, k as u32, &touches)?;
+        add_touches(&mut table, NodeId(k as u32), &touches)?;
     }
     Ok(table)
 }

@@ -8,7 +8,7 @@ ghost use Rattle.comb_order.specs.Driving.{row_in, common, drives_some, drives_a
 use crate::drivers::Driver;
 use no_memory::NoMemory;
 use std::alloc::Global;
-use typed_ir::{Node, SignalId, Touch, reads_of};
+use typed_ir::{Node, NodeId, SignalId, Touch, reads_of};
 
 /// Whether two masks have a bit in common.
 pub fn meet(a: u128, b: u128) -> bool
@@ -28,14 +28,14 @@ fn is_block(node: &Node) -> bool
 }
 
 // Whether a row ends with a node.
-fn ends_with(row: &[u32], b: u32) -> bool
+fn ends_with(row: &[NodeId], b: NodeId) -> bool
     ensures { result ≡ ends_with row.now b }
 {
-    !row.is_empty() && row[row.len() - 1] == b
+    !row.is_empty() && row[row.len() - 1].number() == b.number()
 }
 
 // An edge to the node that is being looked at, once.
-fn add_edge(row: &mut Vec<u32>, b: u32) -> Result<(), NoMemory>
+fn add_edge(row: &mut Vec<NodeId>, b: NodeId) -> Result<(), NoMemory>
     requires { IsRow b row.old.items }
     ensures row { IfOk result (λ _. IsRow b row.new.items) }
     ensures edges { IfOk result (λ _. (t : ℕ) → nat_lt 0 (times t row.new.items) ≡ (nat_lt 0 (times t row.old.items) || (t == b))) }
@@ -48,8 +48,8 @@ fn add_edge(row: &mut Vec<u32>, b: u32) -> Result<(), NoMemory>
 
 // An edge to node b from the driver of a signal, where it drives a bit of the mask; a block has none from itself.
 fn connect_driver(
-    rows: &mut [Vec<u32>],
-    b: u32,
+    rows: &mut [Vec<NodeId>],
+    b: NodeId,
     block: bool,
     mask: u128,
     driver: Driver,
@@ -59,11 +59,13 @@ fn connect_driver(
     ensures edges { IfOk result (λ _. (a t : ℕ) → a < length rows.old → edge (rows_of rows.new) a t
         ≡ (edge (rows_of rows.old) a t || ((t == b) && (((a == driver.node) && common driver.mask mask) && not (block && (a == b)))))) }
 {
-    let a = driver.node as usize;
+    let a = driver.node.index();
     if !meet(driver.mask, mask) || a >= rows.len() {
         return Ok(());
     }
-    if block && driver.node == b {
+    let from = driver.node.number();
+    let to = b.number();
+    if block && from == to {
         return Ok(());
     }
     add_edge(&mut rows[a], b)?;
@@ -72,8 +74,8 @@ fn connect_driver(
 
 // Edges to node b from the drivers of a signal that drive bits of the mask.
 fn connect_signal(
-    rows: &mut [Vec<u32>],
-    b: u32,
+    rows: &mut [Vec<NodeId>],
+    b: NodeId,
     block: bool,
     mask: u128,
     drivers: &[Driver],
@@ -103,8 +105,8 @@ pub fn drivers_at(table: &[Vec<Driver>], signal: SignalId) -> &[Driver]
 
 // Edges to node b, whose text reads these bits.
 fn connect(
-    rows: &mut [Vec<u32>],
-    b: u32,
+    rows: &mut [Vec<NodeId>],
+    b: NodeId,
     block: bool,
     touches: &[Touch],
     table: &[Vec<Driver>],
@@ -121,7 +123,7 @@ fn connect(
 }
 
 // So many empty rows.
-fn empty_rows(alloc: Global, count: usize) -> Result<Vec<Vec<u32>>, NoMemory>
+fn empty_rows(alloc: Global, count: usize) -> Result<Vec<Vec<NodeId>>, NoMemory>
     ensures length { IfOk result (λ rows. length rows.items ≡ count) }
     ensures empty { IfOk result (λ rows. (a : ℕ) → row_at (rows_of rows.items) a ≡ []) }
 {
@@ -137,7 +139,7 @@ pub fn edges_of(
     alloc: Global,
     nodes: &[Node],
     table: &[Vec<Driver>],
-) -> Result<Vec<Vec<u32>>, NoMemory>
+) -> Result<Vec<Vec<NodeId>>, NoMemory>
     requires few { length nodes.now < 2 ^ 32 }
     requires plain { IsPlain (map node_of nodes.now) }
     requires table { IsTable (map node_of nodes.now) table.now }
@@ -148,7 +150,7 @@ pub fn edges_of(
     for b in 0..nodes.len() {
         let node = &nodes[b];
         let touches = reads_of(alloc, node)?;
-        connect(&mut rows, b as u32, is_block(node), &touches, table)?;
+        connect(&mut rows, NodeId(b as u32), is_block(node), &touches, table)?;
     }
     Ok(rows)
 }

@@ -59,8 +59,9 @@ fn are_items(items: &[Item], env: &[Bits]) -> bool
     true
 }
 
+/// Whether a statement's widths agree with those of the signals.
 #[cycle(legal)]
-fn is_legal(st: &Stmt, env: &[Bits]) -> bool
+pub fn is_legal(st: &Stmt, env: &[Bits]) -> bool
     ensures { result ≡ is_legal (stmt_of st.now) (widths env.now) }
 {
     match st {

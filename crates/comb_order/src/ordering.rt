@@ -12,10 +12,10 @@ use crate::edges::edges_of;
 use crate::refusing::{OrderRefusal, ordered};
 use no_memory::NoMemory;
 use std::alloc::Global;
-use typed_ir::{Flat, Linked};
+use typed_ir::{Flat, Linked, NodeId};
 
 // The graph of a design's nodes.
-fn graph_of(alloc: Global, design: &Flat) -> Result<Vec<Vec<u32>>, NoMemory>
+fn graph_of(alloc: Global, design: &Flat) -> Result<Vec<Vec<NodeId>>, NoMemory>
     ensures rows { IfOk result (λ rows. AreRows (length (flat design.now).nodes) (rows_of rows.items)) }
     ensures graph { IfOk result (λ rows. IsGraph (flat design.now).nodes (rows_of rows.items)) }
 {
@@ -27,7 +27,7 @@ fn graph_of(alloc: Global, design: &Flat) -> Result<Vec<Vec<u32>>, NoMemory>
 /// An order of the nodes of a design, each once, after those that drive a bit that it reads: just where there is no loop. Where
 /// there is one it is answered, listed along predecessors from its least node, and then there is no order. Want of memory is
 /// `NoMemory`.
-pub fn order(alloc: Global, design: &Flat) -> Result<Vec<u32>, OrderRefusal>
+pub fn order(alloc: Global, design: &Flat) -> Result<Vec<NodeId>, OrderRefusal>
     ensures order { IfOk result (λ order. IsOrder (flat design.now).nodes order.items) }
     ensures exactly { MatchResult result (λ _. HasNoLoop (NodeBefore (flat design.now).nodes) (length (flat design.now).nodes))
         (λ refusal. IsRefusal (NodeBefore (flat design.now).nodes) (length (flat design.now).nodes) refusal) }

@@ -107,7 +107,7 @@ fn are_written_once(alloc: Global, parts: &Parts) -> Result<bool, NoMemory>
 /// The flat design of these parts; None just where they make none. So it is where widths don't agree, a number names no signal, a bit
 /// has two drivers or two clocked blocks that may write it, a clocked block has a blocking assignment or writes what isn't a
 /// register, a register or data input is driven or stands twice, or a signal is both of them.
-pub fn flat_of(alloc: Global, parts: Parts) -> Result<Option<Flat>, NoMemory>
+pub fn checked_flat(alloc: Global, parts: Parts) -> Result<Option<Flat>, NoMemory>
     requires complete { Each IsComplete (map node_of parts.nodes.items) }
     requires first { Each NodeWritesFirst (map node_of parts.nodes.items) }
     requires few { length parts.nodes.items < 2 ^ 32 }

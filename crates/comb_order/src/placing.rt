@@ -8,15 +8,17 @@ ghost use Rattle.comb_order.specs.Kahn.{IsClosed, IsPlacing};
 
 use crate::counting::{free_nodes, in_degrees};
 use std::alloc::{AllocError, Global};
+use typed_ir::NodeId;
 
 // A node loses one predecessor, and is free where that was its last.
-fn lower(t: u32, counts: &mut [u32], order: &mut Vec<u32>) -> Result<(), AllocError>
+fn lower(t: NodeId, counts: &mut [u32], order: &mut Vec<NodeId>) -> Result<(), AllocError>
     requires { 0 < slice_index counts.old t }
     ensures counts { count_of counts.new ≡ put (count_of counts.old) t (slice_index counts.old t - 1) }
     ensures order { IfOk result (λ _. order.new.items ≡ order.old.items ++ (if slice_index counts.old t == 1 then t ∷ [] else [])) }
 {
-    let count = counts[t as usize];
-    counts[t as usize] = count - 1;
+    let place = t.index();
+    let count = counts[place];
+    counts[place] = count - 1;
     if count == 1 {
         order.push(t)?;
     }
@@ -24,7 +26,11 @@ fn lower(t: u32, counts: &mut [u32], order: &mut Vec<u32>) -> Result<(), AllocEr
 }
 
 /// The nodes of a row lose one predecessor each; those that are free now join the order.
-pub fn release(row: &[u32], counts: &mut [u32], order: &mut Vec<u32>) -> Result<(), AllocError>
+pub fn release(
+    row: &[NodeId],
+    counts: &mut [u32],
+    order: &mut Vec<NodeId>,
+) -> Result<(), AllocError>
     requires { (x : ℕ) → times x row.now ≤ slice_index counts.old x }
     ensures counts { IfOk result (λ _. count_of counts.new ≡ lowered row.now (count_of counts.old)) }
     ensures order { IfOk result (λ _. order.new.items ≡ order.old.items ++ released row.now (count_of counts.old)) }
@@ -37,10 +43,10 @@ pub fn release(row: &[u32], counts: &mut [u32], order: &mut Vec<u32>) -> Result<
 
 // Places the free nodes, and those that become free, until none is left.
 fn place_free(
-    graph: &[Vec<u32>],
+    graph: &[Vec<NodeId>],
     counts: &mut [u32],
     placed: &mut [bool],
-    order: &mut Vec<u32>,
+    order: &mut Vec<NodeId>,
 ) -> Result<(), AllocError>
     requires closed { IsClosed (rows_of graph.now) }
     requires start { IsPlacing (rows_of graph.now) placed.old (count_of counts.old) [] order.old.items }
@@ -48,9 +54,10 @@ fn place_free(
 {
     let mut head: usize = 0;
     while head < order.len() {
-        let k = order[head];
-        placed[k as usize] = true;
-        release(&graph[k as usize], counts, order)?;
+        let node = order[head];
+        let k = node.index();
+        placed[k] = true;
+        release(&graph[k], counts, order)?;
         head += 1;
     }
     Ok(())
@@ -59,12 +66,12 @@ fn place_free(
 /// The nodes that can be placed, in an order, and which these are.
 #[derive(Drop)]
 pub struct Placing {
-    pub order: Vec<u32>,
+    pub order: Vec<NodeId>,
     pub placed: Vec<bool>,
 }
 
 /// Places all that can be placed.
-pub fn place_nodes(alloc: Global, graph: &[Vec<u32>]) -> Result<Placing, AllocError>
+pub fn place_nodes(alloc: Global, graph: &[Vec<NodeId>]) -> Result<Placing, AllocError>
     requires closed { IsClosed (rows_of graph.now) }
     requires few { (t : ℕ) → waiting (rows_of graph.now) [] t < 2 ^ 32 }
     requires nodes { length graph.now < 2 ^ 32 }

@@ -1,14 +1,17 @@
 // Orders and loops of small designs, worked out by hand, and of a long chain.
 ghost use Rattle.std.specs.Prelude.{◌≡◌};
 
-use crate::{OrderRefusal, Parts, flat_of, no_block, order};
+use crate::legal::is_legal;
+use crate::{OrderRefusal, Parts, checked_flat, no_block, order};
+use bits::Bits;
 use ls_text::NameId;
 use no_memory::NoMemory;
 use std::alloc::Global;
 use std::process::Abort;
 use std::test::Fail;
 use typed_ir::{
-    ArithmeticOperator, BinaryOperator, Lane, Node, Signal, SignalId, Span, TargetForm, Typed,
+    ArithmeticOperator, BinaryOperator, Lane, Node, NodeId, Reach, Signal, SignalId, Span, Stmt,
+    Target, TargetForm, Typed,
 };
 
 fn bit(number: u32, low: u8) -> Span
@@ -56,6 +59,15 @@ fn bit_copies(
     Ok(nodes)
 }
 
+// The numbers of these nodes.
+fn numbers(alloc: Global, nodes: &[NodeId]) -> Result<Vec<u32>, NoMemory> {
+    let mut all = Vec::new(alloc);
+    for node in nodes {
+        all.push(node.number())?;
+    }
+    Ok(all)
+}
+
 // What the order of a design with signals of these widths and these nodes is: true and an order, or false and the loop.
 #[tactic(auto, using(crate::proofs::Flatten::complete_of, crate::proofs::Flatten::first_of))]
 fn answer(
@@ -85,10 +97,10 @@ fn answer(
         nodes,
         clocked: Vec::new(alloc),
     };
-    let design = flat_of(alloc, parts)?.expect(rt, "a design");
+    let design = checked_flat(alloc, parts)?.expect(rt, "a design");
     match order(alloc, &design) {
-        Ok(order) => Ok((true, order)),
-        Err(OrderRefusal::Loop(circle)) => Ok((false, circle.into_nodes())),
+        Ok(order) => Ok((true, numbers(alloc, &order)?)),
+        Err(OrderRefusal::Loop(circle)) => Ok((false, numbers(alloc, circle.nodes())?)),
         Err(OrderRefusal::NoMemory) => Err(NoMemory),
     }
 }
@@ -199,6 +211,41 @@ fn three_in_a_circle(rt: HostRuntime) -> Result<(), Fail> {
         let nodes = copies(rt.alloc(), &pairs)?;
         expect_loop(&rt, rt.alloc(), &[1; 5], nodes, &wanted)?;
     }
+    Ok(())
+}
+
+// reg [1:0] i; reg [3:0] a; {i, a[i]} = 5; the index is read after i was written. 5 is 10 1 in binary.
+#[test]
+fn an_index_is_read_after_the_part_left_of_it(rt: HostRuntime) -> Result<(), Fail> {
+    let alloc = rt.alloc();
+    let whole = Span {
+        signal: SignalId(0),
+        low: 0,
+        width: 2,
+    };
+    let first = Lane {
+        shift: 1,
+        span: whole,
+    };
+    let reach = Reach {
+        shift: 0,
+        signal: SignalId(1),
+        total: 4,
+        width: 1,
+        below: 0,
+        signed: false,
+    };
+    let index = Typed::name(SignalId(0), 2);
+    let assignment = Stmt::Assign {
+        targets: vec![in alloc; Target::Fixed(first), Target::Moving { reach, index }]?,
+        value: Typed::constant(Bits::new(3, 5)),
+    };
+    let mut env = vec![in alloc; Bits::new(2, 0), Bits::new(4, 0)]?;
+    assert!(rt; is_legal(&assignment, &env));
+    assignment.run(&mut env);
+    assert!(rt; env.len() == 2);
+    assert_eq!(rt; env[0].value(), 2);
+    assert_eq!(rt; env[1].value(), 4);
     Ok(())
 }
 

@@ -4,8 +4,8 @@ use Rattle.typed_ir.specs.Cycles.{Flat}
 use Rattle.typed_ir.specs.Linkeds.{flat}
 use Rattle.cycle_eval.specs.declared.design.Design.{Design}
 
-abbrev pub flat_of : Design → Flat
-flat_of d = flat d.linked.design
+abbrev pub design_flat : Design → Flat
+design_flat d = flat d.linked.design
 
 -- each node and each clocked block is one step of a cycle
 abbrev pub work_of : Design → ℕ

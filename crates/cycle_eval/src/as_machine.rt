@@ -1,12 +1,13 @@
 // A design as a machine without rows and without operations.
-ghost use Rattle.std.specs.Prelude.{◌≡◌, ◌==◌, ◌&&◌, ℕ, refl};
-ghost use Rattle.cycle_eval.specs.Designs.{flat_of, work_of};
+ghost use Rattle.std.specs.Prelude.{◌≡◌, ◌==◌, ◌&&◌, ℕ, refl, true};
+ghost use Rattle.cycle_eval.specs.Designs.{design_flat, work_of};
 ghost use Rattle.cycle_eval.specs.Kits.{Fits, reset_of, run_of, carried_of};
 ghost use Rattle.cycle_eval.specs.States.{are_alike};
 ghost use Rattle.cycle_eval.specs.DesignLaws.{run_more, run_fits, reset_fits, carried_fits, alike_is};
 
 use crate::design::Design;
-use crate::no_row::{NoOps, NoRow};
+use crate::no_ops::NoOps;
+use crate::no_row::NoRow;
 use bits::Bits;
 use machine::Machine;
 use machine::row_runs::RowRuns;
@@ -14,7 +15,7 @@ use machine::steps::Steps;
 use no_memory::NoMemory;
 use std::alloc::Global;
 use std::sync::ledger::Ledger;
-use typed_ir::RegState;
+use typed_ir::{RegState, RegisterId};
 
 // Whether two values have the same width and number.
 fn same_bits(p: Bits, q: Bits) -> bool
@@ -31,8 +32,8 @@ fn alike(x: &RegState, y: &RegState) -> bool
         return false;
     }
     for i in 0..x.len() {
-        let p = x.get(i);
-        let q = y.get(i);
+        let p = x.get(RegisterId(i));
+        let q = y.get(RegisterId(i));
         if !same_bits(p, q) {
             return false;
         }
@@ -48,15 +49,15 @@ impl Machine for Design {
     type Ops = NoOps;
 
     ghost kit = { record {
-      start = λ m. reset_of (flat_of m);
-      seg = λ m rows s. run_of (flat_of m) rows s;
-      carried = λ old m ops s. carried_of (flat_of old) (flat_of m) s;
+      start = λ m. reset_of (design_flat m);
+      seg = λ m rows s. run_of (design_flat m) rows s;
+      carried = λ old m ops s. carried_of (design_flat old) (design_flat m) s;
       alike = λ m x y. are_alike x y;
     } };
 
     ghost work = { λ m. work_of m };
 
-    ghost fits = { λ m s. Fits (flat_of m) s };
+    ghost fits = { λ m s. Fits (design_flat m) s };
 
     ghost valid = { λ old m ops. Unit {0} };
 
@@ -100,12 +101,20 @@ impl Machine for Design {
         x.share()
     }
 
+    // All rows are the same, so that a record keeps one.
+    fn same_row(_one: &NoRow, _other: &NoRow) -> bool
+        ensures same { result ≡ true → _one.now ≡ _other.now }
+        ensures always { result ≡ true }
+    {
+        true
+    }
+
     ghost laws = { record {
       seg_none = λ m s. refl;
-      seg_more = λ m xs ys s. run_more (flat_of m) xs ys s;
-      start_fits = λ m. reset_fits (flat_of m);
-      seg_fits = λ m xs s h. run_fits (flat_of m) xs s h;
-      carried_fits = λ m n ops s v h. carried_fits (flat_of m) (flat_of n) s;
+      seg_more = λ m xs ys s. run_more (design_flat m) xs ys s;
+      start_fits = λ m. reset_fits (design_flat m);
+      seg_fits = λ m xs s h. run_fits (design_flat m) xs s h;
+      carried_fits = λ m n ops s v h. carried_fits (design_flat m) (design_flat n) s;
       alike_is = λ m x y p q. alike_is x y;
     } };
 }

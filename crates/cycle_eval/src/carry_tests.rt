@@ -8,7 +8,7 @@ use no_memory::NoMemory;
 use std::alloc::Global;
 use std::process::Abort;
 use std::test::Fail;
-use typed_ir::{Signal, SignalId};
+use typed_ir::{RegisterId, Signal, SignalId};
 
 // A register: the number of its module, that of its name, its width, and what it has at the beginning.
 type Register = (u64, u64, u8, u128);
@@ -52,7 +52,7 @@ fn carried(
     let state = after.carried(alloc, &before, &start)?;
     let mut values = Vec::new(alloc);
     for i in 0..state.len() {
-        values.push(state.get(i).value())?;
+        values.push(state.get(RegisterId(i)).value())?;
     }
     Ok(values)
 }
@@ -71,5 +71,22 @@ fn registers_are_found_by_path_and_module(rt: HostRuntime) -> Result<(), Fail> {
     ];
     let values = carried(&rt, alloc, &old, &new)?;
     assert_eq!(rt; values.as_slice(), [1, 9, 6, 0x77, 0x5a].as_slice());
+    Ok(())
+}
+
+// 90 registers, each carried into one that stands at the other end.
+#[test]
+fn many_registers_in_the_opposite_order(rt: HostRuntime) -> Result<(), Fail> {
+    let alloc = rt.alloc();
+    let mut old = Vec::new(alloc);
+    let mut new = Vec::new(alloc);
+    let mut wanted = Vec::new(alloc);
+    for k in 0..90u64 {
+        old.push((1, k, 8, u128::from(k)))?;
+        new.push((1, 89 - k, 8, 255))?;
+        wanted.push(u128::from(89 - k))?;
+    }
+    let values = carried(&rt, alloc, &old, &new)?;
+    assert_eq!(rt; values.as_slice(), wanted.as_slice());
     Ok(())
 }

@@ -1,7 +1,7 @@
 // The beginning state of a design, and the state that an edit leaves it.
 ghost use Rattle.std.specs.Prelude.{◌≡◌, ℕ, List, IsTrue, IfOk, map, length};
 ghost use Rattle.typed_ir.specs.Flats.{are_below, signal_of};
-ghost use Rattle.cycle_eval.specs.Designs.{flat_of};
+ghost use Rattle.cycle_eval.specs.Designs.{design_flat};
 ghost use Rattle.cycle_eval.specs.Kits.{Fits, reset_of, carried_of, carried_value, register_of};
 ghost use Rattle.cycle_eval.specs.Paths.{path_in, register_in, width_in, initial_in, carried_in};
 ghost use Rattle.cycle_eval.specs.Places.{place_from};
@@ -14,7 +14,7 @@ use crate::places::{Places, places_of};
 use bits::Bits;
 use no_memory::NoMemory;
 use std::alloc::Global;
-use typed_ir::{RegState, Signal, SignalId};
+use typed_ir::{RegState, RegisterId, Signal, SignalId};
 
 // What a register takes from the state of older ones, of which these are the places.
 fn value_at(
@@ -35,7 +35,7 @@ fn value_at(
     let register = index_at(old_registers, place);
     let old = &old_signals[register];
     if old.in_module.0 == signal.in_module.0 {
-        state.get(place).value
+        state.get(RegisterId(place)).value
     } else {
         signal.initial
     }
@@ -88,8 +88,8 @@ fn carried_into(
 impl Design {
     /// The registers at their beginning values.
     pub(crate) fn reset_state(&self, alloc: Global) -> Result<RegState, NoMemory>
-        ensures value { IfOk result (λ s. s ≡ reset_of (flat_of self.now)) }
-        ensures fits { IfOk result (λ s. Fits (flat_of self.now) s) }
+        ensures value { IfOk result (λ s. s ≡ reset_of (design_flat self.now)) }
+        ensures fits { IfOk result (λ s. Fits (design_flat self.now) s) }
     {
         let design = &self.linked.design;
         beginnings(alloc, &design.signals, &design.registers)
@@ -103,8 +103,8 @@ impl Design {
         old: &Design,
         state: &RegState,
     ) -> Result<RegState, NoMemory>
-        requires { Fits (flat_of old.now) state.now }
-        ensures { IfOk result (λ s. s ≡ carried_of (flat_of old.now) (flat_of self.now) state.now) }
+        requires { Fits (design_flat old.now) state.now }
+        ensures { IfOk result (λ s. s ≡ carried_of (design_flat old.now) (design_flat self.now) state.now) }
     {
         let design = &self.linked.design;
         let before = &old.linked.design;

@@ -8,28 +8,29 @@ ghost use Rattle.typed_ir.specs.FlatNodes.{node_of};
 ghost use Rattle.typed_ir.specs.Statements.{stmt_of};
 ghost use Rattle.typed_ir.specs.Stmts.{all_applied};
 ghost use Rattle.typed_ir.specs.Views.{widths, env_of};
-ghost use Rattle.cycle_eval.specs.Designs.{flat_of, work_of};
+ghost use Rattle.cycle_eval.specs.Designs.{design_flat, work_of};
 ghost use Rattle.cycle_eval.specs.Updates.{all_updates};
 
 use crate::design::Design;
 use bits::Bits;
 use machine::steps::Steps;
 use std::sync::ledger::Ledger;
-use typed_ir::{Node, Stmt, Update, apply_all};
+use typed_ir::{Node, NodeId, Stmt, Update, apply_all};
 
 // Evaluates the node of a number in place.
 #[tactic(auto, using(typed_ir::proofs::Views::legal_read))]
-fn evaluate(nodes: &[Node], k: u32, env: &mut [Bits])
+fn evaluate(nodes: &[Node], k: NodeId, env: &mut [Bits])
     requires legal { IsTrue (are_legal (map node_of nodes.now) (widths env.old)) }
     requires there { k < length nodes.now }
     ensures widths { widths env.new ≡ widths env.old }
     ensures value { env_of env.new ≡ drive_at (map node_of nodes.now) k (env_of env.old) (env_of env.old) }
 {
-    nodes[k as usize].settle(env)
+    let place = k.index();
+    nodes[place].settle(env)
 }
 
 // The same, counted as one step.
-fn settle_node<L: Ledger>(nodes: &[Node], k: u32, env: &mut [Bits], steps: &mut Steps<L>)
+fn settle_node<L: Ledger>(nodes: &[Node], k: NodeId, env: &mut [Bits], steps: &mut Steps<L>)
     requires legal { IsTrue (are_legal (map node_of nodes.now) (widths env.old)) }
     requires there { k < length nodes.now }
     ensures widths { widths env.new ≡ widths env.old }
@@ -41,7 +42,7 @@ fn settle_node<L: Ledger>(nodes: &[Node], k: u32, env: &mut [Bits], steps: &mut 
 }
 
 // One pass over the nodes in the order. Each node is one step.
-fn pass_over<L: Ledger>(nodes: &[Node], order: &[u32], env: &mut [Bits], steps: &mut Steps<L>)
+fn pass_over<L: Ledger>(nodes: &[Node], order: &[NodeId], env: &mut [Bits], steps: &mut Steps<L>)
     requires legal { IsTrue (are_legal (map node_of nodes.now) (widths env.old)) }
     requires in_range { All (λ k. k < length nodes.now) order.now }
     ensures widths { widths env.new ≡ widths env.old }
@@ -112,8 +113,8 @@ impl Design {
     pub(crate) fn settle<L: Ledger>(&self, env: &mut [Bits], steps: &mut Steps<L>)
         requires { widths env.old ≡ signal_widths self.now.linked.design.signals.items }
         ensures widths { widths env.new ≡ widths env.old }
-        ensures value { (state inputs : List ℕ) → IsReady (flat_of self.now) state inputs (env_of env.old)
-            → env_of env.new ≡ wires (flat_of self.now) state inputs }
+        ensures value { (state inputs : List ℕ) → IsReady (design_flat self.now) state inputs (env_of env.old)
+            → env_of env.new ≡ wires (design_flat self.now) state inputs }
         ensures taken { steps.new ≡ steps.old + length self.now.linked.design.nodes.items }
     {
         pass_over(&self.linked.design.nodes, &self.linked.order, env, steps)
@@ -128,14 +129,14 @@ impl Design {
         steps: &mut Steps<L>,
     )
         requires widths { widths env.old ≡ signal_widths self.now.linked.design.signals.items }
-        requires room { all_updates (flat_of self.now).clocked ≤ vec_capacity updates.old }
+        requires room { all_updates (design_flat self.now).clocked ≤ vec_capacity updates.old }
         ensures widths { widths env.new ≡ widths env.old }
-        ensures value { (state inputs : List ℕ) → IsReady (flat_of self.now) state inputs (env_of env.old)
-            → map (env_of env.new) self.now.linked.design.registers.items ≡ step (flat_of self.now) state inputs }
+        ensures value { (state inputs : List ℕ) → IsReady (design_flat self.now) state inputs (env_of env.old)
+            → map (env_of env.new) self.now.linked.design.registers.items ≡ step (design_flat self.now) state inputs }
 
         // It is ready for the next cycle under the same inputs.
-        ensures ready { (state inputs : List ℕ) → IsReady (flat_of self.now) state inputs (env_of env.old)
-            → IsReady (flat_of self.now) (step (flat_of self.now) state inputs) inputs (env_of env.new) }
+        ensures ready { (state inputs : List ℕ) → IsReady (design_flat self.now) state inputs (env_of env.old)
+            → IsReady (design_flat self.now) (step (design_flat self.now) state inputs) inputs (env_of env.new) }
         ensures capacity { vec_capacity updates.new ≡ vec_capacity updates.old }
         ensures taken { steps.new ≡ steps.old + work_of self.now }
     {

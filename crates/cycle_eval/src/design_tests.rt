@@ -1,4 +1,4 @@
-// Cycles of small designs, worked out by hand.
+// Cycles of small designs, worked out by hand, and one cycle of a long chain.
 ghost use Rattle.std.specs.Prelude.{◌≡◌, ◌<◌, ◌+◌, ◌*◌, map, length, IfOk};
 ghost use Rattle.typed_ir.specs.FlatNodes.{node_of};
 ghost use Rattle.typed_ir.specs.Flats.{NodeWritesFirst};
@@ -15,7 +15,7 @@ ghost use Rattle.cycle_eval.specs.Temporary.{all_of, temporary};
 
 use crate::Design;
 use bits::Bits;
-use comb_order::{Parts, flat_of, linked, no_block};
+use comb_order::{Parts, checked_flat, linked, no_block};
 use ls_text::NameId;
 use machine::steps::Steps;
 use no_memory::NoMemory;
@@ -25,8 +25,8 @@ use std::process::Abort;
 use std::sync::ledger::{Blank, Ledger};
 use std::test::Fail;
 use typed_ir::{
-    ArithmeticOperator, Arm, BinaryOperator, Item, Lane, Node, Reach, RegState, Signal, SignalId,
-    Span, Stmt, Target, TargetForm, Typed,
+    ArithmeticOperator, Arm, BinaryOperator, Item, Lane, Node, Reach, RegState, RegisterId, Signal,
+    SignalId, Span, Stmt, Target, TargetForm, Typed,
 };
 
 // Signals of these widths and values at the beginning.
@@ -67,7 +67,7 @@ fn design_with(rt: &impl Abort, alloc: Global, parts: Parts) -> Result<Design, N
     ensures { IfOk result (λ design. work_of design ≡ length parts.nodes.items + length parts.clocked.items) }
 {
     assert!(rt; parts.nodes.len() < 1_000_000);
-    let design = flat_of(alloc, parts)?.expect(rt, "a design");
+    let design = checked_flat(alloc, parts)?.expect(rt, "a design");
     match linked(alloc, design) {
         Ok(linked) => Ok(Design::make(alloc, linked).expect(rt, "few words")),
         Err(_) => Err(NoMemory),
@@ -78,13 +78,13 @@ fn design_with(rt: &impl Abort, alloc: Global, parts: Parts) -> Result<Design, N
 pub fn values_of(alloc: Global, state: &RegState) -> Result<Vec<u128>, NoMemory> {
     let mut values = Vec::new(alloc);
     for i in 0..state.len() {
-        values.push(state.get(i).value())?;
+        values.push(state.get(RegisterId(i)).value())?;
     }
     Ok(values)
 }
 
 // What the registers have after so many cycles from the beginning.
-fn values_after<L: Ledger>(
+pub fn values_after<L: Ledger>(
     alloc: Global,
     design: &Design,
     cycles: u64,
@@ -319,6 +319,29 @@ fn a_long_block(rt: HostRuntime) -> Result<(), Fail> {
     };
     let design = design_of(&rt, alloc, parts)?;
     assert_eq!(rt; after(alloc, &design, 1)?.as_slice(), [15, 3].as_slice());
+    Ok(())
+}
+
+// 100,000 wires, each the next one plus 1; the last is a register of 8 bits at 7, which takes the first: 7 + 100,000 = 390 * 256 + 167
+#[test]
+fn a_long_chain(rt: HostRuntime) -> Result<(), Fail> {
+    let alloc = rt.alloc();
+    let mut nodes = Vec::new(alloc);
+    let mut all = Vec::new(alloc);
+    for k in 0..100_000u32 {
+        nodes.push(assign(alloc, k, 8, plus(alloc, k + 1, 8, 1)?)?)?;
+        all.push((8, 0))?;
+    }
+    all.push((8, 7))?;
+    let parts = Parts {
+        signals: signals(&rt, alloc, &all)?,
+        registers: vec![in alloc; SignalId(100_000)]?,
+        inputs: Vec::new(alloc),
+        nodes,
+        clocked: vec![in alloc; later(alloc, 100_000, 8, Typed::name(SignalId(0), 8))?]?,
+    };
+    let design = design_of(&rt, alloc, parts)?;
+    assert_eq!(rt; after(alloc, &design, 1)?.as_slice(), [167].as_slice());
     Ok(())
 }
 

@@ -2,7 +2,7 @@
 ghost use Rattle.std.specs.Prelude.{◌≡◌, ◌≤◌, ◌<◌, vec_capacity};
 ghost use Rattle.typed_ir.specs.Flats.{signal_widths};
 ghost use Rattle.typed_ir.specs.Views.{widths};
-ghost use Rattle.cycle_eval.specs.Designs.{flat_of};
+ghost use Rattle.cycle_eval.specs.Designs.{design_flat};
 ghost use Rattle.cycle_eval.specs.Updates.{all_updates};
 
 use crate::Design;
@@ -27,7 +27,7 @@ fn two_cycles<L: Ledger>(
     steps: &mut Steps<L>,
 )
     requires widths { widths env.old ≡ signal_widths design.now.linked.design.signals.items }
-    requires room { all_updates (flat_of design.now).clocked ≤ vec_capacity updates.old }
+    requires room { all_updates (design_flat design.now).clocked ≤ vec_capacity updates.old }
     ensures { widths env.new ≡ widths env.old }
 {
     design.write_inputs(env, one);

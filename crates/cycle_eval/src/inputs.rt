@@ -3,7 +3,7 @@ ghost use Rattle.std.specs.Prelude.{◌≡◌, ◌<◌, ℕ, List, IsTrue, map, 
 ghost use Rattle.typed_ir.specs.Cycles.{fill, cut_to, input, IsReady};
 ghost use Rattle.typed_ir.specs.Flats.{signal_widths, are_below};
 ghost use Rattle.typed_ir.specs.Views.{widths, env_of};
-ghost use Rattle.cycle_eval.specs.Designs.{flat_of};
+ghost use Rattle.cycle_eval.specs.Designs.{design_flat};
 
 use crate::design::Design;
 use crate::numbers::index_at;
@@ -37,12 +37,12 @@ impl Design {
     pub(crate) fn write_inputs(&self, env: &mut [Bits], row: &[u128])
         requires { widths env.old ≡ signal_widths self.now.linked.design.signals.items }
         ensures widths { widths env.new ≡ widths env.old }
-        ensures value { env_of env.new ≡ fill (flat_of self.now).inputs (input (flat_of self.now) row.now) (env_of env.old) }
+        ensures value { env_of env.new ≡ fill (design_flat self.now).inputs (input (design_flat self.now) row.now) (env_of env.old) }
         ensures registers { map (env_of env.new) self.now.linked.design.registers.items ≡ map (env_of env.old) self.now.linked.design.registers.items }
 
         // Whatever the inputs were, it is ready for those of the row.
-        ensures ready { (state inputs : List ℕ) → IsReady (flat_of self.now) state inputs (env_of env.old)
-            → IsReady (flat_of self.now) state (input (flat_of self.now) row.now) (env_of env.new) }
+        ensures ready { (state inputs : List ℕ) → IsReady (design_flat self.now) state inputs (env_of env.old)
+            → IsReady (design_flat self.now) state (input (design_flat self.now) row.now) (env_of env.new) }
     {
         put_row(&self.linked.design.inputs, env, row)
     }

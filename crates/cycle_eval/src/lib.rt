@@ -17,13 +17,17 @@ mod design_tests;
 mod input_tests;
 mod inputs;
 mod making;
+mod no_ops;
 mod no_row;
 mod numbers;
 mod places;
 mod run;
 mod state;
 #[cfg(test)]
+mod step_tests;
+#[cfg(test)]
 mod tests;
 
 pub use design::Design;
-pub use no_row::{NoOps, NoRow};
+pub use no_ops::NoOps;
+pub use no_row::NoRow;

@@ -3,7 +3,7 @@ ghost use Rattle.std.specs.Prelude.{◌≡◌, ◌≤◌, ◌<◌, ◌+◌, ◌-
 ghost use Rattle.typed_ir.specs.Flats.{are_below};
 ghost use Rattle.typed_ir.specs.Linkeds.{flat};
 ghost use Rattle.typed_ir.specs.Statements.{stmt_of};
-ghost use Rattle.cycle_eval.specs.Designs.{flat_of, work_of};
+ghost use Rattle.cycle_eval.specs.Designs.{design_flat, work_of};
 ghost use Rattle.cycle_eval.specs.Kits.{register_widths};
 ghost use Rattle.cycle_eval.specs.Paths.{width_in};
 ghost use Rattle.cycle_eval.specs.Updates.{all_updates};
@@ -50,7 +50,7 @@ fn all_updates(blocks: &[Stmt]) -> usize
 impl Design {
     /// The design, ready to run. Refused with 40 where its registers take more than 65,536 words of 64 bits. It takes no memory.
     pub fn make(alloc: Global, linked: Linked) -> Result<Design, Refusal>
-        ensures made { IfOk result (λ design. flat_of design ≡ flat linked.design) }
+        ensures made { IfOk result (λ design. design_flat design ≡ flat linked.design) }
         ensures work { IfOk result (λ design. work_of design ≡ length linked.design.nodes.items + length linked.design.clocked.items) }
         ensures few { IfOk result (λ _. words_of (register_widths (flat linked.design)) ≤ 65536) }
         ensures refused { IfErr result (λ refusal. IsTooMany refusal × (65536 < words_of (register_widths (flat linked.design)))) }
@@ -68,7 +68,7 @@ impl Design {
 
     /// Room for all updates of one cycle.
     pub(crate) fn room(&self, alloc: Global) -> Result<Vec<Update>, NoMemory>
-        ensures { IfOk result (λ room. all_updates (flat_of self.now).clocked ≤ vec_capacity room) }
+        ensures { IfOk result (λ room. all_updates (design_flat self.now).clocked ≤ vec_capacity room) }
     {
         // No memory has room for more than the largest number counts.
         if self.updates == usize::MAX {

@@ -3,7 +3,3 @@
 /// A row that sets nothing: all data inputs read 0.
 #[derive(Clone, Copy, Debug, PartialEq, Eq)]
 pub struct NoRow;
-
-/// No operations on registers.
-#[derive(Clone, Copy, Debug, PartialEq, Eq)]
-pub struct NoOps;

@@ -3,7 +3,7 @@ ghost use Rattle.std.specs.Prelude.{◌≡◌, ◌≤◌, ◌+◌, ◌*◌, ℕ,
 ghost use Rattle.typed_ir.specs.Cycles.{base, seg, IsReady};
 ghost use Rattle.typed_ir.specs.Flats.{signal_widths};
 ghost use Rattle.typed_ir.specs.Views.{widths, env_of};
-ghost use Rattle.cycle_eval.specs.Designs.{flat_of, work_of};
+ghost use Rattle.cycle_eval.specs.Designs.{design_flat, work_of};
 ghost use Rattle.cycle_eval.specs.Kits.{Fits, register_widths};
 ghost use Rattle.cycle_eval.specs.States.{paired, state_values};
 ghost use Rattle.cycle_eval.specs.Updates.{all_updates};
@@ -20,9 +20,9 @@ use typed_ir::{RegState, Update};
 impl Design {
     /// An environment with the registers of a state; all else is 0.
     pub(crate) fn loaded(&self, alloc: Global, from: &RegState) -> Result<Vec<Bits>, NoMemory>
-        requires { Fits (flat_of self.now) from.now }
+        requires { Fits (design_flat self.now) from.now }
         ensures widths { IfOk result (λ env. widths env.items ≡ signal_widths self.now.linked.design.signals.items) }
-        ensures value { IfOk result (λ env. env_of env.items ≡ base (flat_of self.now) (state_values from.now) []) }
+        ensures value { IfOk result (λ env. env_of env.items ≡ base (design_flat self.now) (state_values from.now) []) }
     {
         let mut env = zeros(alloc, &self.linked.design.signals)?;
         load(&self.linked.design.registers, from, &mut env);
@@ -39,12 +39,12 @@ impl Design {
         steps: &mut Steps<L>,
     )
         requires widths { widths env.old ≡ signal_widths self.now.linked.design.signals.items }
-        requires room { all_updates (flat_of self.now).clocked ≤ vec_capacity updates.old }
+        requires room { all_updates (design_flat self.now).clocked ≤ vec_capacity updates.old }
         ensures widths { widths env.new ≡ widths env.old }
         ensures value { (state inputs : List ℕ)
-            → IsReady (flat_of self.now) state inputs (env_of env.old)
+            → IsReady (design_flat self.now) state inputs (env_of env.old)
             → map (env_of env.old) self.now.linked.design.registers.items ≡ state
-            → map (env_of env.new) self.now.linked.design.registers.items ≡ seg (flat_of self.now) (λ t. []) 0 cycles state }
+            → map (env_of env.new) self.now.linked.design.registers.items ≡ seg (design_flat self.now) (λ t. []) 0 cycles state }
         ensures taken { steps.new ≡ steps.old + cycles * work_of self.now }
     {
         self.write_inputs(env, &[]);
@@ -56,7 +56,7 @@ impl Design {
     /// The registers of an environment, as a state.
     pub(crate) fn state_of(&self, alloc: Global, env: &[Bits]) -> Result<RegState, NoMemory>
         requires { widths env.now ≡ signal_widths self.now.linked.design.signals.items }
-        ensures { IfOk result (λ s. s ≡ paired (register_widths (flat_of self.now)) (map (env_of env.now) self.now.linked.design.registers.items)) }
+        ensures { IfOk result (λ s. s ≡ paired (register_widths (design_flat self.now)) (map (env_of env.now) self.now.linked.design.registers.items)) }
     {
         stored(alloc, &self.linked.design.registers, env)
     }

@@ -3,7 +3,7 @@ ghost use Rattle.std.specs.Prelude.{◌≡◌, ◌<◌, ℕ, [], IsTrue, IfOk, m
 ghost use Rattle.typed_ir.specs.Cycles.{base, input, fill};
 ghost use Rattle.typed_ir.specs.Flats.{signal_widths, are_below};
 ghost use Rattle.typed_ir.specs.Views.{widths, env_of};
-ghost use Rattle.cycle_eval.specs.Designs.{flat_of};
+ghost use Rattle.cycle_eval.specs.Designs.{design_flat};
 ghost use Rattle.cycle_eval.specs.Kits.{register_widths, Fits};
 ghost use Rattle.cycle_eval.specs.States.{paired, state_widths, state_values};
 
@@ -12,7 +12,7 @@ use crate::numbers::index_at;
 use bits::Bits;
 use no_memory::NoMemory;
 use std::alloc::Global;
-use typed_ir::{RegState, Signal, SignalId};
+use typed_ir::{RegState, RegisterId, Signal, SignalId};
 
 // 0 for each signal.
 pub fn zeros(alloc: Global, signals: &[Signal]) -> Result<Vec<Bits>, NoMemory>
@@ -37,7 +37,7 @@ pub fn load(registers: &[SignalId], from: &RegState, env: &mut [Bits])
     while left > 0 {
         left -= 1;
         let register = index_at(registers, left);
-        env[register] = from.get(left);
+        env[register] = from.get(RegisterId(left));
     }
 }
 

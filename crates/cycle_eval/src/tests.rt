@@ -7,6 +7,7 @@ use crate::{Design, NoOps, NoRow};
 use bits::Bits;
 use ls_text::{NameId, Refusal};
 use machine::Machine;
+use machine::merge::merge_at;
 use machine::row_run::RowRun;
 use machine::row_runs::RowRuns;
 use machine::steps::Steps;
@@ -17,8 +18,8 @@ use std::sync::Arc;
 use std::sync::ledger::{Blank, Ledger};
 use std::test::Fail;
 use typed_ir::{
-    ArithmeticOperator, BinaryOperator, Flat, Lane, Linked, RegState, Signal, SignalId, Span, Stmt,
-    Target, Typed,
+    ArithmeticOperator, BinaryOperator, Flat, Lane, Linked, RegState, RegisterId, Signal, SignalId,
+    Span, Stmt, Target, Typed,
 };
 
 // reg [3:0] q = 14; always @(posedge clk) q <= q + 4'd3;
@@ -83,7 +84,7 @@ fn first(state: &RegState) -> u128 {
     if state.is_empty() {
         return 99;
     }
-    state.get(0).value
+    state.get(RegisterId(0)).value
 }
 
 // What the register has after so many cycles from the beginning.
@@ -142,5 +143,25 @@ fn figures<L: Ledger>(alloc: Global, blank: Blank) -> Result<Vec<u128>, Refusal>
 fn counts_by_three(rt: HostRuntime) -> Result<(), Fail> {
     let all = figures::<Brand>(rt.alloc(), Blank::new(1)).expect(&rt, "a design");
     assert_eq!(rt; all.as_slice(), [14, 1, 4, 7, 7, 14, 1].as_slice());
+    Ok(())
+}
+
+// Two runs without rows are one run.
+#[test]
+fn equal_rows_are_one_run(rt: HostRuntime) -> Result<(), Fail> {
+    let alloc = rt.alloc();
+    let mut runs = Vec::new(alloc);
+    runs.push(RowRun {
+        start: 0,
+        end: 2,
+        row: Arc::new(alloc, NoRow)?,
+    })?;
+    runs.push(RowRun {
+        start: 2,
+        end: 3,
+        row: Arc::new(alloc, NoRow)?,
+    })?;
+    merge_at::<Design>(&mut runs, 1);
+    assert_eq!(rt; runs.len(), 1);
     Ok(())
 }

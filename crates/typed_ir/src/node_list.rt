@@ -1,12 +1,13 @@
 // A list of nodes by their numbers.
 ghost use Rattle.std.specs.Prelude.{◌≡◌};
 
+use crate::node_id::NodeId;
 use std::marker::Model;
 
 /// A list of nodes by their numbers. Contracts see it as the list of these.
 #[derive(Debug, Drop)]
 pub struct NodeList {
-    nodes: Vec<u32>,
+    nodes: Vec<NodeId>,
 }
 
 impl Model for NodeList {
@@ -19,21 +20,21 @@ impl Model for NodeList {
 
 impl NodeList {
     /// The list of these nodes. It takes no memory.
-    pub fn new(nodes: Vec<u32>) -> Self
+    pub fn new(nodes: Vec<NodeId>) -> Self
         ensures { result ≡ nodes.items }
     {
         NodeList { nodes }
     }
 
     /// The numbers of the nodes.
-    pub fn nodes(&self) -> &[u32]
+    pub fn nodes(&self) -> &[NodeId]
         ensures { result.now ≡ self.now }
     {
         &self.nodes
     }
 
     /// Gives the numbers back. It takes no memory.
-    pub fn into_nodes(self) -> Vec<u32>
+    pub fn into_nodes(self) -> Vec<NodeId>
         ensures { result.items ≡ self }
     {
         self.nodes

@@ -2,6 +2,7 @@
 ghost use Rattle.std.specs.Prelude.{◌≡◌, ◌<◌, length, map, IfOk, slice_get, Some, ◌==◌};
 ghost use Rattle.typed_ir.specs.States.{sized_value};
 
+use crate::register_id::RegisterId;
 use bits::Bits;
 use no_memory::NoMemory;
 use std::alloc::Global;
@@ -49,11 +50,11 @@ impl RegState {
     }
 
     /// The value of a register.
-    pub fn get(&self, register: usize) -> Bits
+    pub fn get(&self, register: RegisterId) -> Bits
         requires { register < length self.now }
         ensures { slice_get self.now register ≡ Some (result.width, result.value) }
     {
-        self.values[register]
+        self.values[register.index()]
     }
 
     /// The same state, shared.

@@ -5,7 +5,7 @@ use Rattle.typed_ir.specs.Valuations.{any_within}
 use Rattle.typed_ir.specs.Nodes.{FlatNode, lane_spans, node_drives}
 use Rattle.typed_ir.specs.Orders.{Each, Member}
 use Rattle.unit_ir.specs.Shifts.{shifted_lane, shifted_span, shifted_node}
-use Rattle.unit_ir.specs.Trees.{Piece, Own, Into, From, SizedUnit, Instances, Nothing, One, signals_in, firsts, copied_out, piece_there, nodes_at, registers_at, count, own_drives, port_drives, is_kid_input, IsFit, IsSoundUnit, AreSound}
+use Rattle.unit_ir.specs.Trees.{UnitNode, Own, Into, From, SizedUnit, Instances, Nothing, One, signals_in, firsts, copied_out, node_there, nodes_at, registers_at, count, own_drives, port_drives, is_kid_input, IsFit, IsSoundUnit, AreSound}
 use Rattle.unit_ir.proofs.Pulled.{spans_shifted, spans_below, drives_shifted, drives_below, lanes_shifted}
 
 -- ---- counts
@@ -51,7 +51,7 @@ below a b = split (nat_lt a b) refl
     split true e = inl (ltb-true a b e)
     split false e = inr (ltb-false a b e)
 
--- ---- what a moved piece drives, by the numbers that it had
+-- ---- what a shifted node drives, by the numbers that it had
 
 pub record Back (first s : ℕ) (P : ℕ → Type 0) : Type 0 where
   pub t : ℕ
@@ -62,17 +62,17 @@ lanes_back : (first : ℕ) (lanes : List Lane) (s i : ℕ) → any_within (lane_
     → Back first s (λ t. any_within (lane_spans lanes) t i ≡ true)
 lanes_back first lanes s i h = at (below s first)
   where
-    moved : any_within (map (shifted_span first) (lane_spans lanes)) s i ≡ true
-    moved = sym (ap (λ ps. any_within ps s i) (lanes_shifted first lanes)) ∙ h
+    shifted_is : any_within (map (shifted_span first) (lane_spans lanes)) s i ≡ true
+    shifted_is = sym (ap (λ ps. any_within ps s i) (lanes_shifted first lanes)) ∙ h
 
     at : (s < first) ⊎ (first ≤ s) → Back first s (λ t. any_within (lane_spans lanes) t i ≡ true)
-    at (inl low) = absurd (true≢false (sym moved ∙ spans_below first (lane_spans lanes) s i low))
+    at (inl low) = absurd (true≢false (sym shifted_is ∙ spans_below first (lane_spans lanes) s i low))
     at (inr far) =
         let e : first + (s - first) ≡ s = omega arith in
         record {
           t = s - first;
           there = e;
-          is = sym (spans_shifted first (lane_spans lanes) (s - first) i) ∙ ap (λ n. any_within (map (shifted_span first) (lane_spans lanes)) n i) e ∙ moved;
+          is = sym (spans_shifted first (lane_spans lanes) (s - first) i) ∙ ap (λ n. any_within (map (shifted_span first) (lane_spans lanes)) n i) e ∙ shifted_is;
         }
 
 node_back : (first : ℕ) (n : FlatNode) (s i : ℕ) → node_drives (shifted_node first n) s i ≡ true → Back first s (λ t. node_drives n t i ≡ true)
@@ -119,11 +119,11 @@ pub record Hit (first : ℕ) (tree : Instances) (s : ℕ) : Type 0 where
 
 -- ---- what one instance drives
 
-abbrev placed_drives : ℕ → ℕ → Instances → ℕ → ℕ → Piece → Bool
-placed_drives first second within s i x = node_drives (piece_there first (kid_at second within) x) s i
+abbrev placed_drives : ℕ → ℕ → Instances → ℕ → ℕ → UnitNode → Bool
+placed_drives first second within s i x = node_drives (node_there first (kid_at second within) x) s i
 
 own_case : (first n t i : ℕ) (within : Instances) → t < n
-    → (x : Piece) → IsFit n within x → placed_drives first (first + n) within (first + t) i x ≡ true → own_drives t i x ≡ true
+    → (x : UnitNode) → IsFit n within x → placed_drives first (first + n) within (first + t) i x ≡ true → own_drives t i x ≡ true
 unfolding node_drives
 own_case first n t i within h (Own node) fit is = sym (drives_shifted first node t i) ∙ is
 own_case first n t i within h (From c form lanes e) fit is =
@@ -134,7 +134,7 @@ own_case first n t i within h (Into c form lanes e) fit is =
     absurd (omega (arith, b.there, h, kid_from (first + n) within c b.t (fit b.t i b.is)))
 
 found_case : (first n s i : ℕ) (within : Instances) → first + n ≤ s
-    → (x : Piece) → IsFit n within x → placed_drives first (first + n) within s i x ≡ true → Hit (first + n) within s
+    → (x : UnitNode) → IsFit n within x → placed_drives first (first + n) within s i x ≡ true → Hit (first + n) within s
 unfolding node_drives
 found_case first n s i within h (Own node) fit is =
     absurd (let b = node_back first node s i is in omega (arith, b.there, fit b.t i b.is, h))
@@ -145,7 +145,7 @@ found_case first n s i within h (Into c form lanes e) fit is =
     record { c = c; p = b.t; is = fit b.t i b.is; there = b.there }
 
 out_case : (first n s i : ℕ) (within : Instances) → AreSound within → (s < first) ⊎ (first + n + signals_in within ≤ s)
-    → (x : Piece) → IsFit n within x → placed_drives first (first + n) within s i x ≡ true → ⊥
+    → (x : UnitNode) → IsFit n within x → placed_drives first (first + n) within s i x ≡ true → ⊥
 unfolding node_drives
 out_case first n s i within sound (inl h) (Own node) fit is = let b = node_back first node s i is in omega (arith, b.there, h)
 out_case first n s i within sound (inl h) (From c form lanes e) fit is = let b = lanes_back first lanes s i is in omega (arith, b.there, h)
@@ -157,7 +157,7 @@ out_case first n s i within sound (inr h) (Into c form lanes e) fit is =
     let b = lanes_back (kid_at (first + n) within c) lanes s i is in omega (arith, b.there, h, kid_to (first + n) within c b.t sound (fit b.t i b.is))
 
 port_case : (first n c p i : ℕ) (within : Instances) → AreSound within → is_kid_input within c p
-    → (x : Piece) → IsFit n within x → placed_drives first (first + n) within (kid_at (first + n) within c + p) i x ≡ true → port_drives c p i x ≡ true
+    → (x : UnitNode) → IsFit n within x → placed_drives first (first + n) within (kid_at (first + n) within c + p) i x ≡ true → port_drives c p i x ≡ true
 unfolding node_drives
 port_case first n c p i within sound h (Own node) fit is =
     absurd (let b = node_back first node _ i is in omega (arith, b.there, fit b.t i b.is, kid_from (first + n) within c p h))
@@ -283,7 +283,7 @@ pub record Driven (path : List ℕ) (first : ℕ) (tree : Instances) (nodes : Li
 
 record Parts (path here : List ℕ) (first : ℕ) (u : SizedUnit) (within after : Instances) (own inner later : List FlatNode) : Type 0 where
   own_out : (s i : ℕ) → (s < first) ⊎ (first + length u.signals + signals_in within ≤ s) → count (λ k. node_drives k s i) own ≡ 0
-  own_few : (t i : ℕ) → t < length u.signals → count (λ k. node_drives k (first + t) i) own ≤ count (own_drives t i) u.pieces
+  own_few : (t i : ℕ) → t < length u.signals → count (λ k. node_drives k (first + t) i) own ≤ count (own_drives t i) u.nodes
   own_found : (s i : ℕ) → first + length u.signals ≤ s → (count (λ k. node_drives k s i) own ≡ 0) ⊎ Hit (first + length u.signals) within s
   own_port : (c p i : ℕ) → is_kid_input within c p → count (λ k. node_drives k (kid_at (first + length u.signals) within c + p) i) own ≤ 1
   within_driven : Driven here (first + length u.signals) within inner
@@ -317,7 +317,7 @@ few_parts path here first u within after own inner later sound parts s i =
         let back : first + (s - first) ≡ s = omega arith in
         omega (
           arith,
-          subst (λ z. count (λ k. node_drives k z i) own ≤ count (own_drives (s - first) i) u.pieces) back (parts.own_few (s - first) i (omega (arith, h, j))),
+          subst (λ z. count (λ k. node_drives k z i) own ≤ count (own_drives (s - first) i) u.nodes) back (parts.own_few (s - first) i (omega (arith, h, j))),
           sound.unit.own (s - first) i,
           parts.within_driven.none s i (inl j),
           parts.after_driven.none s i (inl (omega (arith, j))),
@@ -392,18 +392,18 @@ driven path first (One name u within after) sound =
     let inner = nodes_given here (first + n) within in
     let later = nodes_given path (first + n + signals_in within) after in
     let fit = sound.0.fit in
-    let moved : (s i : ℕ) → count (λ k. node_drives k s i) own ≡ count (placed_drives first (first + n) within s i) u.pieces =
-    (λ (s i : ℕ). count_map (λ k. node_drives k s i) (piece_there first (slice_index kids)) u.pieces) in
+    let shifted_is : (s i : ℕ) → count (λ k. node_drives k s i) own ≡ count (placed_drives first (first + n) within s i) u.nodes =
+    (λ (s i : ℕ). count_map (λ k. node_drives k s i) (node_there first (slice_index kids)) u.nodes) in
     let parts : Parts path here first u within after own inner later = record {
-      own_out = λ s i h. moved s i ∙ count_none (IsFit n within) (placed_drives first (first + n) within s i) u.pieces fit (out_case first n s i within sound.1 h);
-      own_few = λ t i h. subst (λ z. z ≤ count (own_drives t i) u.pieces) (sym (moved (first + t) i))
-          (count_le (IsFit n within) (placed_drives first (first + n) within (first + t) i) (own_drives t i) u.pieces fit (own_case first n t i within h));
-      own_found = λ s i h. subst (λ z. (z ≡ 0) ⊎ Hit (first + n) within s) (sym (moved s i))
-          (count_found (IsFit n within) (Hit (first + n) within s) (placed_drives first (first + n) within s i) u.pieces fit (found_case first n s i within h));
-      own_port = λ c p i h. subst (λ z. z ≤ 1) (sym (moved (kid_at (first + n) within c + p) i)) (omega (
+      own_out = λ s i h. shifted_is s i ∙ count_none (IsFit n within) (placed_drives first (first + n) within s i) u.nodes fit (out_case first n s i within sound.1 h);
+      own_few = λ t i h. subst (λ z. z ≤ count (own_drives t i) u.nodes) (sym (shifted_is (first + t) i))
+          (count_le (IsFit n within) (placed_drives first (first + n) within (first + t) i) (own_drives t i) u.nodes fit (own_case first n t i within h));
+      own_found = λ s i h. subst (λ z. (z ≡ 0) ⊎ Hit (first + n) within s) (sym (shifted_is s i))
+          (count_found (IsFit n within) (Hit (first + n) within s) (placed_drives first (first + n) within s i) u.nodes fit (found_case first n s i within h));
+      own_port = λ c p i h. subst (λ z. z ≤ 1) (sym (shifted_is (kid_at (first + n) within c + p) i)) (omega (
         arith,
         sound.0.unit.ports c p i,
-        count_le (IsFit n within) (placed_drives first (first + n) within (kid_at (first + n) within c + p) i) (port_drives c p i) u.pieces fit
+        count_le (IsFit n within) (placed_drives first (first + n) within (kid_at (first + n) within c + p) i) (port_drives c p i) u.nodes fit
             (port_case first n c p i within sound.1 h),
       ));
       within_driven = driven here (first + n) within sound.1;

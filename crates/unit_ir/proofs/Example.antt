@@ -22,7 +22,7 @@ follower = record {
   signals = wire 1 ∷ wire 2 ∷ [];
   registers = 1 ∷ [];
   inputs = 0 ∷ [];
-  pieces = [];
+  nodes = [];
   clocked = Later (Fixed (all_of 1) ∷ []) (Name 0 8) ∷ [];
 }
 
@@ -31,7 +31,7 @@ top = record {
   signals = wire 3 ∷ [];
   registers = [];
   inputs = 0 ∷ [];
-  pieces = Into 0 Shown (all_of 0 ∷ []) (Name 0 8) ∷ [];
+  nodes = Into 0 Shown (all_of 0 ∷ []) (Name 0 8) ∷ [];
   clocked = [];
 }
 
@@ -66,7 +66,7 @@ tree_sound = (
       registers_held = λ s i h. absurd h;
       inputs_there = λ s h. zero_there 0 s h;
       registers_there = λ s h. absurd h;
-      pieces = (tt, tt);
+      nodes = (tt, tt);
       writers = λ s i. omega arith;
       registers_only = tt;
       registers_once = tt;
@@ -84,7 +84,7 @@ tree_sound = (
         registers_held = λ s i h. refl;
         inputs_there = λ s h. zero_there 1 s h;
         registers_there = λ s h. one_there s h;
-        pieces = tt;
+        nodes = tt;
         writers = λ s i. at_most _;
         registers_only = ((inl refl, tt), tt);
         registers_once = ((λ m. m), tt);
@@ -107,4 +107,4 @@ tree_sound = (
 
 tree_legal : AreLegal tree
 unfolding tree top follower all_of wire
-tree_legal = (record { pieces = (refl, tt); blocks = tt }, (record { pieces = tt; blocks = (refl, tt) }, tt, tt), tt)
+tree_legal = (record { nodes = (refl, tt); blocks = tt }, (record { nodes = tt; blocks = (refl, tt) }, tt, tt), tt)

@@ -1,4 +1,4 @@
--- Widths: where a list of widths holds another from `first` on, what is legal over the one is legal, moved up, over the other.
+-- Widths: where a list of widths holds another from `first` on, what is legal over the one is legal, shifted, over the other.
 use Rattle.std.proofs.Common.{◌≡◌, ℕ, zero, suc, ◌+◌, ◌<◌, ◌≤◌, ◌==◌, ◌&&◌, ◌⊎◌, inl, inr, Bool, true, false, List, [], ◌∷◌, ◌++◌, map, length, slice_index, nat_le, nat_lt, cond, refl, sym, ◌∙◌, ap, ap₂, subst, ltb-true, lt-ltb, true≢false, arith}
 use Rattle.std.proofs.lemmas.Bool.{and_from}
 use Rattle.std.proofs.lemmas.List.{map-append}

@@ -9,7 +9,7 @@ use Rattle.typed_ir.specs.Orders.{Each, Member, Distinct, any_drives}
 use Rattle.typed_ir.specs.Cycles.{WritesRegisters, block_writes}
 use Rattle.typed_ir.specs.Flats.{NodeWritesFirst, IsFlat}
 use Rattle.unit_ir.specs.Shifts.{shifted_span, shifted_stmt}
-use Rattle.unit_ir.specs.Trees.{Piece, Own, Into, From, SizedUnit, Instances, Nothing, One, Standing, signals_in, firsts, copied_out, piece_there, nodes_at, blocks_at, top_inputs, flat_of, count, IsPieceSound, IsSoundUnit, AreSound}
+use Rattle.unit_ir.specs.Trees.{UnitNode, Own, Into, From, SizedUnit, Instances, Nothing, One, Standing, signals_in, firsts, copied_out, node_there, nodes_at, blocks_at, top_inputs, flat_of_tree, count, IsNodeSound, IsSoundUnit, AreSound}
 use Rattle.unit_ir.proofs.Pulled.{complete_shifted, first_shifted, spans_below, spans_shifted}
 use Rattle.unit_ir.proofs.Fitting.{later_shifted, one_each}
 use Rattle.unit_ir.proofs.Counted.{count_append, count_map, count_none, below, driven, nodes_given, registers_of, registers_range, InRange, no_register, Hit, member_left, member_right, member_append, member_there, member_back}
@@ -31,17 +31,17 @@ each_copied P own each path first (One name u within after) sound =
     (each_append P _ _ (each_copied P own each (path ++ name ∷ []) (first + length u.signals) within sound.1)
     (each_copied P own each path (first + length u.signals + signals_in within) after sound.2))
 
-piece_complete : (first : ℕ) (kid : ℕ → ℕ) (x : Piece) → IsPieceSound x → IsComplete (piece_there first kid x)
+node_complete : (first : ℕ) (kid : ℕ → ℕ) (x : UnitNode) → IsNodeSound x → IsComplete (node_there first kid x)
 unfolding IsComplete
-piece_complete first kid (Own node) h = complete_shifted first node h.0
-piece_complete first kid (Into c form lanes e) h = tt
-piece_complete first kid (From c form lanes e) h = tt
+node_complete first kid (Own node) h = complete_shifted first node h.0
+node_complete first kid (Into c form lanes e) h = tt
+node_complete first kid (From c form lanes e) h = tt
 
-piece_first : (first : ℕ) (kid : ℕ → ℕ) (x : Piece) → IsPieceSound x → NodeWritesFirst (piece_there first kid x)
-piece_first first kid (Own (Drive form lanes e)) h = tt
-piece_first first kid (Own (Block form body)) h = first_shifted first body h.1
-piece_first first kid (Into c form lanes e) h = tt
-piece_first first kid (From c form lanes e) h = tt
+node_first : (first : ℕ) (kid : ℕ → ℕ) (x : UnitNode) → IsNodeSound x → NodeWritesFirst (node_there first kid x)
+node_first first kid (Own (Drive form lanes e)) h = tt
+node_first first kid (Own (Block form body)) h = first_shifted first body h.1
+node_first first kid (Into c form lanes e) h = tt
+node_first first kid (From c form lanes e) h = tt
 
 -- ---- registers
 
@@ -103,12 +103,12 @@ writes_append rs (x ∷ xs) ys h k = (h.0, writes_append rs xs ys h.1 k)
 writes_shifted : (first : ℕ) (rs : List ℕ) (sts : List SizedStmt) → WritesRegisters rs sts → WritesRegisters (map (λ r. first + r) rs) (map (shifted_stmt first) sts)
 writes_shifted first rs [] h = tt
 writes_shifted first rs (st ∷ sts) h =
-    (subst (Each (λ (p : Span). Member p.signal (map (λ r. first + r) rs))) (sym (later_shifted first st)) (moved (later_targets st) h.0), writes_shifted first rs sts h.1)
+    (subst (Each (λ (p : Span). Member p.signal (map (λ r. first + r) rs))) (sym (later_shifted first st)) (shifted_each (later_targets st) h.0), writes_shifted first rs sts h.1)
   where
-    moved : (ps : List Span) → Each (λ (p : Span). Member p.signal rs) ps
+    shifted_each : (ps : List Span) → Each (λ (p : Span). Member p.signal rs) ps
         → Each (λ (p : Span). Member p.signal (map (λ r. first + r) rs)) (map (shifted_span first) ps)
-    moved [] all = tt
-    moved (p ∷ ps) all = (member_there first p.signal rs all.0, moved ps all.1)
+    shifted_each [] all = tt
+    shifted_each (p ∷ ps) all = (member_there first p.signal rs all.0, shifted_each ps all.1)
 
 registers_written : (path : List ℕ) (first : ℕ) (tree : Instances) → AreSound tree
     → WritesRegisters (registers_of path first tree) (copied_out blocks_at path first tree)
@@ -154,14 +154,14 @@ each_writes : (rs : List ℕ) (sts : List SizedStmt) → WritesRegisters rs sts 
 each_writes rs [] h = tt
 each_writes rs (st ∷ sts) h = (h.0, each_writes rs sts h.1)
 
-moved_writes : (first s i : ℕ) (st : SizedStmt) → block_writes (shifted_stmt first st) s i ≡ any_within (map (shifted_span first) (later_targets st)) s i
-moved_writes first s i st = ap (λ ps. any_within ps s i) (later_shifted first st)
+shifted_writes : (first s i : ℕ) (st : SizedStmt) → block_writes (shifted_stmt first st) s i ≡ any_within (map (shifted_span first) (later_targets st)) s i
+shifted_writes first s i st = ap (λ ps. any_within ps s i) (later_shifted first st)
 
 own_none : (first n : ℕ) (rs : List ℕ) (sts : List SizedStmt) → Each (WritesIn rs) sts → ((t : ℕ) → Member t rs → t < n)
     → (s i : ℕ) → (s < first) ⊎ (first + n ≤ s) → count (writes s i) (map (shifted_stmt first) sts) ≡ 0
 own_none first n rs sts all there s i out =
     count_map (writes s i) (shifted_stmt first) sts
-    ∙ count_none (WritesIn rs) (λ st. block_writes (shifted_stmt first st) s i) sts all (λ st only h. case out st only (sym (moved_writes first s i st) ∙ h))
+    ∙ count_none (WritesIn rs) (λ st. block_writes (shifted_stmt first st) s i) sts all (λ st only h. case out st only (sym (shifted_writes first s i st) ∙ h))
   where
     case : (s < first) ⊎ (first + n ≤ s) → (st : SizedStmt) → WritesIn rs st → any_within (map (shifted_span first) (later_targets st)) s i ≡ true → ⊥
     case (inl low) st only h = true≢false (sym h ∙ spans_below first (later_targets st) s i low)
@@ -181,7 +181,7 @@ own_few first sts few s i =
     none_low low [] = refl
     none_low low (x ∷ xs) =
         ap (λ b. cond b 1 0 + count (λ st. block_writes (shifted_stmt first st) s i) xs)
-        (moved_writes first s i x ∙ spans_below first (later_targets x) s i low)
+        (shifted_writes first s i x ∙ spans_below first (later_targets x) s i low)
         ∙ ap (λ n. 0 + n) (none_low low xs)
 
     same_far : first + (s - first) ≡ s → (xs : List SizedStmt)
@@ -189,7 +189,7 @@ own_few first sts few s i =
     same_far e [] = refl
     same_far e (x ∷ xs) =
         ap₂ (λ b n. cond b 1 0 + n)
-        (moved_writes first s i x ∙ ap (λ z. any_within (map (shifted_span first) (later_targets x)) z i) (sym e)
+        (shifted_writes first s i x ∙ ap (λ z. any_within (map (shifted_span first) (later_targets x)) z i) (sym e)
         ∙ spans_shifted first (later_targets x) (s - first) i)
         (same_far e xs)
 
@@ -254,17 +254,17 @@ undriven (n ∷ ns) s i h =
     ap₂ (λ x y. x || y) (one_none (node_drives n s i) (count (λ k. node_drives k s i) ns) h)
     (undriven ns s i (rest_none (node_drives n s i) (count (λ k. node_drives k s i) ns) h))
 
-pub flat_sound : (tree : Instances) → AreSound tree → IsFlat (flat_of tree)
+pub flat_sound : (tree : Instances) → AreSound tree → IsFlat (flat_of_tree tree)
 flat_sound tree sound =
     let d = driven [] 0 tree sound in
     record {
       sound = record {
         one_driver = one_each node_drives (nodes_given [] 0 tree) d.few;
-        complete = each_copied IsComplete nodes_at (λ at u within s. each_map IsComplete IsPieceSound (piece_there at.first (slice_index at.kids)) u.pieces
-            (piece_complete at.first (slice_index at.kids)) s.unit.pieces) [] 0 tree sound;
+        complete = each_copied IsComplete nodes_at (λ at u within s. each_map IsComplete IsNodeSound (node_there at.first (slice_index at.kids)) u.nodes
+            (node_complete at.first (slice_index at.kids)) s.unit.nodes) [] 0 tree sound;
       };
-      first = each_copied NodeWritesFirst nodes_at (λ at u within s. each_map NodeWritesFirst IsPieceSound (piece_there at.first (slice_index at.kids)) u.pieces
-          (piece_first at.first (slice_index at.kids)) s.unit.pieces) [] 0 tree sound;
+      first = each_copied NodeWritesFirst nodes_at (λ at u within s. each_map NodeWritesFirst IsNodeSound (node_there at.first (slice_index at.kids)) u.nodes
+          (node_first at.first (slice_index at.kids)) s.unit.nodes) [] 0 tree sound;
       one_writer = one_each block_writes (blocks_given [] 0 tree) (writers_few [] 0 tree sound).few;
       registers_only = registers_written [] 0 tree sound;
       registers_once = registers_distinct [] 0 tree sound;

@@ -1,4 +1,4 @@
--- What is driven and read by other numbers: where all numbers are moved up by `first`, bit i of signal first + s is what bit i of signal s
+-- What is driven and read by other numbers: where all numbers are shifted by `first`, bit i of signal first + s is what bit i of signal s
 -- was, and below `first` there is nothing.
 use Rattle.std.proofs.Common.{◌≡◌, ℕ, ◌+◌, ◌<◌, ◌≤◌, ◌==◌, ◌||◌, ◌&&◌, not, true, false, List, [], ◌∷◌, ◌++◌, map, nat_le, nat_lt, refl, sym, ◌∙◌, ap, ap₂, ◌-◌, subst, ltb-true, ltb-false, ne_eqb, eqb-true, eq-eqb, true≢false, arith}
 use Rattle.std.proofs.lemmas.Bool.{eqb-false}
@@ -141,7 +141,7 @@ mutual
       (ap₂ (λ x y. x || y) (opens_shifted first body there here h s i) (open_arms_shifted first rest there here h s i))
   open_arms_shifted first (Default otherwise) there here h s i = opens_shifted first otherwise there here h s i
 
--- each bit is below `first` or moved up
+-- each bit is below `first` or shifted
 by_number : (P : ℕ → Type 0) (first s : ℕ) → (s < first → P s) → ((t : ℕ) → P (first + t)) → P s
 by_number P first s f g = by_cases (nat_lt s first)
     (λ yes. f (ltb-true s first yes))

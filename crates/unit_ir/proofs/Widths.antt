@@ -7,7 +7,7 @@ use Rattle.typed_ir.specs.Nodes.{FlatNode, are_lanes, is_legal_node, are_legal}
 use Rattle.typed_ir.specs.Orders.{Each, Member}
 use Rattle.typed_ir.specs.Cycles.{Signal}
 use Rattle.unit_ir.specs.Shifts.{shifted_stmt}
-use Rattle.unit_ir.specs.Trees.{Piece, Own, Into, From, SizedUnit, Instances, Nothing, One, signals_in, firsts, copied_out, piece_there, signal_there, signals_at, nodes_at, flat_of, unit_widths, kid_widths, is_legal_piece, AreLegal, blocks_at, is_legal_block, top_inputs, AreSound}
+use Rattle.unit_ir.specs.Trees.{UnitNode, Own, Into, From, SizedUnit, Instances, Nothing, One, signals_in, firsts, copied_out, node_there, signal_there, signals_at, nodes_at, flat_of_tree, unit_widths, kid_widths, is_legal_unit_node, AreLegal, blocks_at, is_legal_block, top_inputs, AreSound}
 use Rattle.typed_ir.proofs.Cases.{and_left, and_right}
 use Rattle.unit_ir.proofs.Fitting.{Holds, node_fits, joint_fits, stmt_fits, clocked_shifted}
 use Rattle.unit_ir.proofs.Counted.{nodes_given, kid_at, registers_range}
@@ -81,13 +81,13 @@ kid_holds whole before rest first (One name u within after) (suc c) long is =
     kid_holds whole ((before ++ unit_widths u) ++ widths_in within) rest (first + length u.signals + signals_in within) after c
     (third_long before u within first long) (after_all whole before (unit_widths u) (widths_in within) (widths_in after) rest is)
 
-piece_legal : (first : ℕ) (kid : ℕ → ℕ) (whole own : List ℕ) (kids : ℕ → List ℕ) → Holds first whole own → ((c : ℕ) → Holds (kid c) whole (kids c))
-    → (x : Piece) → is_legal_piece own kids x ≡ true → is_legal_node (piece_there first kid x) whole ≡ true
-piece_legal first kid whole own kids here there (Own node) h = node_fits first whole own here node h
-piece_legal first kid whole own kids here there (Into c form lanes e) h =
+unit_node_legal : (first : ℕ) (kid : ℕ → ℕ) (whole own : List ℕ) (kids : ℕ → List ℕ) → Holds first whole own → ((c : ℕ) → Holds (kid c) whole (kids c))
+    → (x : UnitNode) → is_legal_unit_node own kids x ≡ true → is_legal_node (node_there first kid x) whole ≡ true
+unit_node_legal first kid whole own kids here there (Own node) h = node_fits first whole own here node h
+unit_node_legal first kid whole own kids here there (Into c form lanes e) h =
     joint_fits form (kid c) first whole (kids c) own (there c) here lanes e (and_left (are_lanes lanes (kids c)) (is_sized e own) h)
     (and_right (are_lanes lanes (kids c)) (is_sized e own) h)
-piece_legal first kid whole own kids here there (From c form lanes e) h =
+unit_node_legal first kid whole own kids here there (From c form lanes e) h =
     joint_fits form first (kid c) whole own (kids c) here (there c) lanes e (and_left (are_lanes lanes own) (is_sized e (kids c)) h)
     (and_right (are_lanes lanes own) (is_sized e (kids c)) h)
 
@@ -97,9 +97,9 @@ legal_append whole (x ∷ xs) ys h k =
     and_from (is_legal_node x whole) (are_legal (xs ++ ys) whole) (and_left (is_legal_node x whole) (are_legal xs whole) h)
     (legal_append whole xs ys (and_right (is_legal_node x whole) (are_legal xs whole) h) k)
 
-legal_map : (whole own : List ℕ) (kids : ℕ → List ℕ) (f : Piece → FlatNode) (xs : List Piece)
-    → ((x : Piece) → is_legal_piece own kids x ≡ true → is_legal_node (f x) whole ≡ true)
-    → Each (λ x. is_legal_piece own kids x ≡ true) xs → are_legal (map f xs) whole ≡ true
+legal_map : (whole own : List ℕ) (kids : ℕ → List ℕ) (f : UnitNode → FlatNode) (xs : List UnitNode)
+    → ((x : UnitNode) → is_legal_unit_node own kids x ≡ true → is_legal_node (f x) whole ≡ true)
+    → Each (λ x. is_legal_unit_node own kids x ≡ true) xs → are_legal (map f xs) whole ≡ true
 legal_map whole own kids f [] h all = refl
 legal_map whole own kids f (x ∷ xs) h all =
     and_from (is_legal_node (f x) whole) (are_legal (map f xs) whole) (h x all.0) (legal_map whole own kids f xs h all.1)
@@ -115,17 +115,17 @@ legal_given whole before rest path first (One name u within after) long is legal
     let one = after_within whole before (unit_widths u) (widths_in within) (widths_in after) rest is in
     let two = after_all whole before (unit_widths u) (widths_in within) (widths_in after) rest is in
     legal_append whole (nodes_at (record { path = here; first = first; kids = firsts second within }) u) _
-    (legal_map whole (unit_widths u) (kid_widths within) (piece_there first (slice_index (firsts second within))) u.pieces
-    (piece_legal first (slice_index (firsts second within)) whole (unit_widths u) (kid_widths within)
+    (legal_map whole (unit_widths u) (kid_widths within) (node_there first (slice_index (firsts second within))) u.nodes
+    (unit_node_legal first (slice_index (firsts second within)) whole (unit_widths u) (kid_widths within)
     (holds_at whole before (unit_widths u) ((widths_in within ++ widths_in after) ++ rest) first long
     (after_own whole before (unit_widths u) (widths_in within) (widths_in after) rest is))
     (λ c. kid_holds whole (before ++ unit_widths u) (widths_in after ++ rest) second within c (second_long before u first long) one))
-    legal.0.pieces)
+    legal.0.nodes)
     (legal_append whole (nodes_given here second within) _
     (legal_given whole (before ++ unit_widths u) (widths_in after ++ rest) here second within (second_long before u first long) one legal.1)
     (legal_given whole ((before ++ unit_widths u) ++ widths_in within) rest path third after (third_long before u within first long) two legal.2))
 
-pub flat_legal : (tree : Instances) → AreLegal tree → are_legal (flat_of tree).nodes (map (λ (x : Signal). x.width) (flat_of tree).signals) ≡ true
+pub flat_legal : (tree : Instances) → AreLegal tree → are_legal (flat_of_tree tree).nodes (map (λ (x : Signal). x.width) (flat_of_tree tree).signals) ≡ true
 flat_legal tree legal =
     ap (are_legal (nodes_given [] 0 tree)) (widths_given [] 0 tree)
     ∙ legal_given (widths_in tree) [] [] [] 0 tree refl (sym (append-nil (widths_in tree))) legal
@@ -158,7 +158,7 @@ blocks_given whole before rest path first (One name u within after) long is lega
     (after_all whole before (unit_widths u) (widths_in within) (widths_in after) rest is) legal.2))
 
 pub flat_clocked : (tree : Instances) → AreLegal tree
-    → Each (λ st. is_legal_block (map (λ (x : Signal). x.width) (flat_of tree).signals) st ≡ true) (flat_of tree).clocked
+    → Each (λ st. is_legal_block (map (λ (x : Signal). x.width) (flat_of_tree tree).signals) st ≡ true) (flat_of_tree tree).clocked
 flat_clocked tree legal =
     subst (λ ws. Each (λ st. is_legal_block ws st ≡ true) (copied_out blocks_at [] 0 tree)) (sym (widths_given [] 0 tree))
     (blocks_given (widths_in tree) [] [] [] 0 tree refl (sym (append-nil (widths_in tree))) legal)
@@ -167,16 +167,16 @@ all_members : (P : ℕ → Type 0) (xs : List ℕ) → ((s : ℕ) → Member s x
 all_members P [] h = tt
 all_members P (x ∷ xs) h = (h x (inl refl), all_members P xs (λ s m. h s (inr m)))
 
-signals_long : (tree : Instances) → length (flat_of tree).signals ≡ signals_in tree
+signals_long : (tree : Instances) → length (flat_of_tree tree).signals ≡ signals_in tree
 signals_long tree =
-    sym (length-map (flat_of tree).signals (λ (x : Signal). x.width)) ∙ ap (λ (ws : List ℕ). length ws) (widths_given [] 0 tree) ∙ widths_long tree
+    sym (length-map (flat_of_tree tree).signals (λ (x : Signal). x.width)) ∙ ap (λ (ws : List ℕ). length ws) (widths_given [] 0 tree) ∙ widths_long tree
 
-pub flat_registers : (tree : Instances) → AreSound tree → Each (λ s. s < length (flat_of tree).signals) (flat_of tree).registers
-flat_registers tree sound = all_members (λ s. s < length (flat_of tree).signals) (flat_of tree).registers
+pub flat_registers : (tree : Instances) → AreSound tree → Each (λ s. s < length (flat_of_tree tree).signals) (flat_of_tree tree).registers
+flat_registers tree sound = all_members (λ s. s < length (flat_of_tree tree).signals) (flat_of_tree tree).registers
     (λ s m. let r = registers_range [] 0 s tree sound m in omega (arith, r.to, signals_long tree))
 
-pub flat_inputs : (tree : Instances) → AreSound tree → Each (λ s. s < length (flat_of tree).signals) (flat_of tree).inputs
-flat_inputs tree sound = all_members (λ s. s < length (flat_of tree).signals) (flat_of tree).inputs (λ s m. omega (arith, there tree sound s m, signals_long tree))
+pub flat_inputs : (tree : Instances) → AreSound tree → Each (λ s. s < length (flat_of_tree tree).signals) (flat_of_tree tree).inputs
+flat_inputs tree sound = all_members (λ s. s < length (flat_of_tree tree).signals) (flat_of_tree tree).inputs (λ s m. omega (arith, there tree sound s m, signals_long tree))
   where
     there : (tree : Instances) → AreSound tree → (s : ℕ) → Member s (top_inputs tree) → s < signals_in tree
     there Nothing sound s m = absurd m

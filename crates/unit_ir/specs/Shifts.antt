@@ -1,4 +1,4 @@
--- Expressions, statements and nodes with all numbers of signals moved up.
+-- Expressions, statements and nodes with all numbers of signals shifted by the number of the first.
 use Rattle.std.specs.Prelude.{ℕ, ◌+◌, map}
 use Rattle.typed_ir.specs.declared.span.Span.{Span}
 use Rattle.typed_ir.specs.declared.lane.Lane.{Lane}

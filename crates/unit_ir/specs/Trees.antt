@@ -12,19 +12,19 @@ use Rattle.typed_ir.specs.Flats.{NodeWritesFirst}
 use Rattle.unit_ir.specs.Shifts.{shifted, shifted_lane, shifted_stmt, shifted_node}
 
 -- a node of a module; the children of a module are numbered in item order, and the ports of a child are its first signals
-pub data Piece : Type 0 where
-  Own : (node : FlatNode) → Piece
+pub data UnitNode : Type 0 where
+  Own : (node : FlatNode) → UnitNode
   -- an input connection: lanes by the numbers of the child, the expression by those of the module
-  Into : (child : ℕ) (form : TargetForm) (lanes : List Lane) (e : Sized) → Piece
+  Into : (child : ℕ) (form : TargetForm) (lanes : List Lane) (e : Sized) → UnitNode
   -- an output connection: the other way round
-  From : (child : ℕ) (form : TargetForm) (lanes : List Lane) (e : Sized) → Piece
+  From : (child : ℕ) (form : TargetForm) (lanes : List Lane) (e : Sized) → UnitNode
 
 pub record SizedUnit : Type 0 where
   pub signals : List Signal
   pub registers : List ℕ
   -- the data inputs
   pub inputs : List ℕ
-  pub pieces : List Piece
+  pub nodes : List UnitNode
   pub clocked : List SizedStmt
 
 -- instances side by side in one module, in item order; each with those in it
@@ -55,10 +55,10 @@ copied_out own path first (One name u within after) =
     ++ (copied_out own (path ++ name ∷ []) (first + length u.signals) within
     ++ copied_out own path (first + length u.signals + signals_in within) after)
 
-abbrev pub piece_there : ℕ → (ℕ → ℕ) → Piece → FlatNode
-piece_there first kid (Own node) = shifted_node first node
-piece_there first kid (Into c form lanes e) = Drive form (map (shifted_lane (kid c)) lanes) (shifted first e)
-piece_there first kid (From c form lanes e) = Drive form (map (shifted_lane first) lanes) (shifted (kid c) e)
+abbrev pub node_there : ℕ → (ℕ → ℕ) → UnitNode → FlatNode
+node_there first kid (Own node) = shifted_node first node
+node_there first kid (Into c form lanes e) = Drive form (map (shifted_lane (kid c)) lanes) (shifted first e)
+node_there first kid (From c form lanes e) = Drive form (map (shifted_lane first) lanes) (shifted (kid c) e)
 
 abbrev pub signal_there : List ℕ → Signal → Signal
 signal_there path x = record {
@@ -77,7 +77,7 @@ abbrev pub registers_at : Standing → SizedUnit → List ℕ
 registers_at at u = map (λ s. at.first + s) u.registers
 
 abbrev pub nodes_at : Standing → SizedUnit → List FlatNode
-nodes_at at u = map (piece_there at.first (slice_index at.kids)) u.pieces
+nodes_at at u = map (node_there at.first (slice_index at.kids)) u.nodes
 
 abbrev pub blocks_at : Standing → SizedUnit → List SizedStmt
 blocks_at at u = map (shifted_stmt at.first) u.clocked
@@ -87,8 +87,8 @@ abbrev pub top_inputs : Instances → List ℕ
 top_inputs Nothing = []
 top_inputs (One name u within after) = u.inputs
 
-abbrev pub flat_of : Instances → Flat
-flat_of tree = record {
+abbrev pub flat_of_tree : Instances → Flat
+flat_of_tree tree = record {
   signals = copied_out signals_at [] 0 tree;
   registers = copied_out registers_at [] 0 tree;
   inputs = top_inputs tree;
@@ -102,12 +102,12 @@ abbrev pub count : {A : Type 0} → (A → Bool) → List A → ℕ
 count f [] = 0
 count f (x ∷ xs) = (if f x then 1 else 0) + count f xs
 
-abbrev pub own_drives : ℕ → ℕ → Piece → Bool
+abbrev pub own_drives : ℕ → ℕ → UnitNode → Bool
 own_drives s i (Own node) = node_drives node s i
 own_drives s i (Into c form lanes e) = false
 own_drives s i (From c form lanes e) = any_within (lane_spans lanes) s i
 
-abbrev pub port_drives : ℕ → ℕ → ℕ → Piece → Bool
+abbrev pub port_drives : ℕ → ℕ → ℕ → UnitNode → Bool
 port_drives c s i (Own node) = false
 port_drives c s i (Into d form lanes e) = (d == c) && any_within (lane_spans lanes) s i
 port_drives c s i (From d form lanes e) = false
@@ -118,27 +118,27 @@ is_kid_input Nothing c s = ⊥
 is_kid_input (One name u within after) zero s = Member s u.inputs
 is_kid_input (One name u within after) (suc c) s = is_kid_input after c s
 
--- a piece drives signals of its module, or data inputs of the instances in it
-abbrev pub IsFit : ℕ → Instances → Piece → Type 0
+-- a node drives signals of its module, or data inputs of the instances in it
+abbrev pub IsFit : ℕ → Instances → UnitNode → Type 0
 IsFit n within (Own node) = (s i : ℕ) → node_drives node s i ≡ true → s < n
 IsFit n within (Into c form lanes e) = (s i : ℕ) → any_within (lane_spans lanes) s i ≡ true → is_kid_input within c s
 IsFit n within (From c form lanes e) = (s i : ℕ) → any_within (lane_spans lanes) s i ≡ true → s < n
 
 -- an assignment always; a block has no latch and writes before it reads
-abbrev pub IsPieceSound : Piece → Type 0
-IsPieceSound (Own node) = IsComplete node × NodeWritesFirst node
-IsPieceSound (Into c form lanes e) = Unit {0}
-IsPieceSound (From c form lanes e) = Unit {0}
+abbrev pub IsNodeSound : UnitNode → Type 0
+IsNodeSound (Own node) = IsComplete node × NodeWritesFirst node
+IsNodeSound (Into c form lanes e) = Unit {0}
+IsNodeSound (From c form lanes e) = Unit {0}
 
 pub record IsUnit (u : SizedUnit) : Type 0 where
-  pub own : (s i : ℕ) → count (own_drives s i) u.pieces ≤ 1
-  pub ports : (c s i : ℕ) → count (port_drives c s i) u.pieces ≤ 1
+  pub own : (s i : ℕ) → count (own_drives s i) u.nodes ≤ 1
+  pub ports : (c s i : ℕ) → count (port_drives c s i) u.nodes ≤ 1
   -- nothing in the module drives an input or a register
-  pub inputs_held : (s i : ℕ) → Member s u.inputs → count (own_drives s i) u.pieces ≡ 0
-  pub registers_held : (s i : ℕ) → Member s u.registers → count (own_drives s i) u.pieces ≡ 0
+  pub inputs_held : (s i : ℕ) → Member s u.inputs → count (own_drives s i) u.nodes ≡ 0
+  pub registers_held : (s i : ℕ) → Member s u.registers → count (own_drives s i) u.nodes ≡ 0
   pub inputs_there : (s : ℕ) → Member s u.inputs → s < length u.signals
   pub registers_there : (s : ℕ) → Member s u.registers → s < length u.signals
-  pub pieces : Each IsPieceSound u.pieces
+  pub nodes : Each IsNodeSound u.nodes
   -- two blocks write no bit together
   pub writers : (s i : ℕ) → count (λ st. block_writes st s i) u.clocked ≤ 1
   pub registers_only : WritesRegisters u.registers u.clocked
@@ -149,7 +149,7 @@ pub record IsUnit (u : SizedUnit) : Type 0 where
 -- the same where these instances stand in it
 pub record IsSoundUnit (u : SizedUnit) (within : Instances) : Type 0 where
   pub unit : IsUnit u
-  pub fit : Each (IsFit (length u.signals) within) u.pieces
+  pub fit : Each (IsFit (length u.signals) within) u.nodes
 
 abbrev pub AreSound : Instances → Type 0
 AreSound Nothing = Unit {0}
@@ -166,16 +166,16 @@ kid_widths Nothing c = []
 kid_widths (One name u within after) zero = unit_widths u
 kid_widths (One name u within after) (suc c) = kid_widths after c
 
-abbrev pub is_legal_piece : List ℕ → (ℕ → List ℕ) → Piece → Bool
-is_legal_piece widths kid (Own node) = is_legal_node node widths
-is_legal_piece widths kid (Into c form lanes e) = are_lanes lanes (kid c) && is_sized e widths
-is_legal_piece widths kid (From c form lanes e) = are_lanes lanes widths && is_sized e (kid c)
+abbrev pub is_legal_unit_node : List ℕ → (ℕ → List ℕ) → UnitNode → Bool
+is_legal_unit_node widths kid (Own node) = is_legal_node node widths
+is_legal_unit_node widths kid (Into c form lanes e) = are_lanes lanes (kid c) && is_sized e widths
+is_legal_unit_node widths kid (From c form lanes e) = are_lanes lanes widths && is_sized e (kid c)
 
 abbrev pub is_legal_block : List ℕ → SizedStmt → Bool
 is_legal_block widths st = is_legal st widths && is_clocked st
 
 pub record IsLegalUnit (u : SizedUnit) (within : Instances) : Type 0 where
-  pub pieces : Each (λ x. is_legal_piece (unit_widths u) (kid_widths within) x ≡ true) u.pieces
+  pub nodes : Each (λ x. is_legal_unit_node (unit_widths u) (kid_widths within) x ≡ true) u.nodes
   pub blocks : Each (λ st. is_legal_block (unit_widths u) st ≡ true) u.clocked
 
 abbrev pub AreLegal : Instances → Type 0

@@ -6,9 +6,9 @@ use Rattle.typed_ir.specs.Forms.{sized}
 use Rattle.typed_ir.specs.FlatNodes.{node_of}
 use Rattle.typed_ir.specs.Statements.{stmt_of}
 use Rattle.unit_ir.specs.Trees.{SizedUnit, Own, Into, From}
-use Rattle.unit_ir.specs.Trees.{Piece as SizedPiece}
-use Rattle.unit_ir.specs.declared.piece.Piece.{Piece}
-use Rattle.unit_ir.specs.declared.piece.Piece.TheVariants.{Own as Own', Into as Into', From as From'}
+use Rattle.unit_ir.specs.Trees.{UnitNode as SizedNode}
+use Rattle.unit_ir.specs.declared.unit_node.UnitNode.{UnitNode}
+use Rattle.unit_ir.specs.declared.unit_node.UnitNode.TheVariants.{Own as Own', Into as Into', From as From'}
 use Rattle.unit_ir.specs.declared.unit_signal.UnitSignal.{UnitSignal}
 use Rattle.unit_ir.specs.declared.unit_parts.UnitParts.{UnitParts}
 
@@ -23,16 +23,16 @@ signal_within x = record {
   initial = x.initial;
 }
 
-abbrev pub piece_of : Piece → SizedPiece
-piece_of (Own' node) = Own (node_of node)
-piece_of (Into' child form lanes e) = Into child form lanes.items (sized e.form)
-piece_of (From' child form lanes e) = From child form lanes.items (sized e.form)
+abbrev pub unit_node_of : UnitNode → SizedNode
+unit_node_of (Own' node) = Own (node_of node)
+unit_node_of (Into' child form lanes e) = Into child form lanes.items (sized e.form)
+unit_node_of (From' child form lanes e) = From child form lanes.items (sized e.form)
 
 abbrev pub sized_unit : UnitParts → SizedUnit
 sized_unit p = record {
   signals = map signal_within p.signals.items;
   registers = p.registers.items;
   inputs = p.inputs.items;
-  pieces = map piece_of p.pieces.items;
+  nodes = map unit_node_of p.nodes.items;
   clocked = map stmt_of p.clocked.items;
 }

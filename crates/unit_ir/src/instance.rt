@@ -1,8 +1,7 @@
 // Instances of a design.
-use crate::instance_name::InstanceName;
 use crate::port_list::PortList;
 use ls_text::NameId;
-use typed_ir::ConstList;
+use typed_ir::{ConstList, InstanceName};
 
 /// An instance of a design: where it stands and its name, its module with the values of its parameters, its clock port where it has
 /// one, and its ports in header order.

@@ -2,46 +2,47 @@
 // numbers, and the law that the design of a tree of sound units is sound.
 #![tactic(auto)]
 
+mod child_id;
 mod child_shape;
 mod instance;
-mod instance_name;
 mod instance_tree;
 mod item_places;
 mod laws;
-mod moving;
-mod piece;
+mod making;
 mod port_list;
 mod port_shape;
 mod reg_op;
 mod reg_shape;
 mod regs;
 mod shape_list;
+mod shifting;
 mod signal_kind;
 mod signal_place;
 #[cfg(test)]
 mod tests;
 mod typed_items;
 mod unit;
+mod unit_node;
 mod unit_parts;
 mod unit_signal;
 
+pub use child_id::ChildId;
 pub use child_shape::ChildShape;
 pub use instance::Instance;
-pub use instance_name::InstanceName;
 pub use instance_tree::InstanceTree;
 pub use item_places::ItemPlaces;
 pub use laws::linking_is_sound;
-pub use moving::{moved_form, moved_node, moved_stmt, moved_typed};
-pub use piece::Piece;
 pub use port_list::PortList;
 pub use port_shape::PortShape;
 pub use reg_op::RegOp;
 pub use reg_shape::RegShape;
 pub use regs::Regs;
 pub use shape_list::ShapeList;
+pub use shifting::{shifted_form, shifted_node, shifted_stmt, shifted_typed};
 pub use signal_kind::SignalKind;
 pub use signal_place::SignalPlace;
 pub use typed_items::TypedItems;
 pub use unit::Unit;
+pub use unit_node::UnitNode;
 pub use unit_parts::UnitParts;
 pub use unit_signal::UnitSignal;

@@ -2,11 +2,12 @@
 ghost use Rattle.std.specs.Prelude.{◌≤◌};
 
 use ls_text::NameId;
+use typed_ir::InstanceId;
 
-/// A register: the number of its instance, the module that declares it, its name there, and its number of bits.
+/// A register: its instance, the module that declares it, its name there, and its number of bits.
 #[derive(Clone, Copy, Debug, PartialEq, Eq)]
 pub struct RegShape {
-    pub instance: u32,
+    pub instance: InstanceId,
     pub in_module: NameId,
     pub name: NameId,
     pub width: u8,

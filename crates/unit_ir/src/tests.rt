@@ -1,8 +1,13 @@
-// A node that is moved, and lists that give back what they were made from.
-use crate::moved_node;
+// A node that is shifted, lists that give back what they were made from, and tables that fit.
+use crate::{ItemPlaces, RegShape, Regs, ShapeList, TypedItems, UnitParts, shifted_node};
 use bits::Bits;
+use ls_text::{NameId, file_start};
+use no_memory::NoMemory;
+use std::alloc::Global;
 use std::test::Fail;
-use typed_ir::{Const, ConstList, Form, Lane, Node, SignalId, Span, TargetForm, Typed};
+use typed_ir::{
+    Const, ConstList, Form, InstanceId, InstanceName, Lane, Node, SignalId, Span, TargetForm, Typed,
+};
 
 // Whether a node drives bit 3 of signal 6 with signal 7, as a bit.
 fn drives_from_seven(node: &Node) -> bool {
@@ -39,11 +44,11 @@ fn an_assignment_five_signals_on(rt: HostRuntime) -> Result<(), Fail> {
         lanes,
         value: Typed::name(SignalId(2), 1),
     };
-    let Ok(moved) = moved_node(alloc, &node, 5) else {
+    let Ok(shifted) = shifted_node(alloc, &node, 5) else {
         assert!(rt; false);
         return Ok(());
     };
-    assert!(rt; drives_from_seven(&moved));
+    assert!(rt; drives_from_seven(&shifted));
     Ok(())
 }
 
@@ -59,5 +64,68 @@ fn values_of_parameters(rt: HostRuntime) -> Result<(), Fail> {
     assert_eq!(rt; list.as_slice().len(), 1);
     let values = list.into_vec();
     assert_eq!(rt; values.len(), 1);
+    Ok(())
+}
+
+// Whether instances that stand in these make a table of registers with one of this instance.
+fn is_table(alloc: Global, parents: &[Option<u32>], instance: u32) -> Result<bool, NoMemory> {
+    let mut instances = Vec::new(alloc);
+    for parent in parents {
+        let parent = match parent {
+            Some(number) => Some(InstanceId(*number)),
+            None => None,
+        };
+        instances.push(InstanceName {
+            parent,
+            name: NameId(0),
+        })?;
+    }
+    let mut registers = Vec::new(alloc);
+    registers.push(RegShape {
+        instance: InstanceId(instance),
+        in_module: NameId(0),
+        name: NameId(1),
+        width: 1,
+    })?;
+    Ok(Regs::new(instances, registers).is_some())
+}
+
+#[test]
+fn tables_of_registers(rt: HostRuntime) -> Result<(), Fail> {
+    let alloc = rt.alloc();
+    assert!(rt; is_table(alloc, &[None, Some(0), Some(1), Some(0)], 3)?);
+    // a register of no instance, an instance in one behind it, a first one that stands in itself, and two tops
+    assert!(rt; !is_table(alloc, &[None, Some(0)], 2)?);
+    assert!(rt; !is_table(alloc, &[None, Some(2), Some(0)], 0)?);
+    assert!(rt; !is_table(alloc, &[Some(0)], 0)?);
+    assert!(rt; !is_table(alloc, &[None, None], 0)?);
+    Ok(())
+}
+
+// Whether so many places of nodes stand beside no node.
+fn are_beside_none(alloc: Global, count: u8) -> Result<bool, NoMemory> {
+    let parts = UnitParts {
+        signals: Vec::new(alloc),
+        registers: Vec::new(alloc),
+        inputs: Vec::new(alloc),
+        nodes: Vec::new(alloc),
+        clocked: Vec::new(alloc),
+        shapes: ShapeList::new(Vec::new(alloc)),
+    };
+    let mut nodes = Vec::new(alloc);
+    for _node in 0..count {
+        nodes.push(ItemPlaces {
+            at: file_start(0),
+            targets: Vec::new(alloc),
+            reads: Vec::new(alloc),
+        })?;
+    }
+    Ok(TypedItems::new(parts, Vec::new(alloc), nodes, Vec::new(alloc)).is_some())
+}
+
+#[test]
+fn places_beside_items(rt: HostRuntime) -> Result<(), Fail> {
+    assert!(rt; are_beside_none(rt.alloc(), 0)?);
+    assert!(rt; !are_beside_none(rt.alloc(), 1)?);
     Ok(())
 }

@@ -1,4 +1,6 @@
 // The sized items of a module, with their places.
+ghost use Rattle.std.specs.Prelude.{◌≡◌, length};
+
 use crate::item_places::ItemPlaces;
 use crate::signal_place::SignalPlace;
 use crate::unit_parts::UnitParts;
@@ -8,6 +10,9 @@ use crate::unit_parts::UnitParts;
 pub struct TypedItems {
     pub parts: UnitParts,
     pub signals: Vec<SignalPlace>,
-    pub pieces: Vec<ItemPlaces>,
+    pub nodes: Vec<ItemPlaces>,
     pub clocked: Vec<ItemPlaces>,
+    ghost signals_fit: { length signals.items ≡ length parts.signals.items },
+    ghost nodes_fit: { length nodes.items ≡ length parts.nodes.items },
+    ghost clocked_fit: { length clocked.items ≡ length parts.clocked.items },
 }

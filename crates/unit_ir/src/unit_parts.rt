@@ -1,6 +1,6 @@
 // What a unit is made of.
-use crate::piece::Piece;
 use crate::shape_list::ShapeList;
+use crate::unit_node::UnitNode;
 use crate::unit_signal::UnitSignal;
 use typed_ir::{SignalId, Stmt};
 
@@ -13,7 +13,7 @@ pub struct UnitParts {
     /// The data inputs.
     pub inputs: Vec<SignalId>,
     /// The nodes, in item order.
-    pub pieces: Vec<Piece>,
+    pub nodes: Vec<UnitNode>,
     /// The clocked blocks.
     pub clocked: Vec<Stmt>,
     /// The instances, in item order.

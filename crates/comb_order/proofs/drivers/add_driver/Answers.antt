@@ -15,7 +15,7 @@ returns-in_ok-push-in-Some-clause-drives c = λ a i.
     ap (λ z. drives_in z a i) c.in_ok-push-in-Some.ensures.items
     ∙ drives_merged xs d.node last.mask d.mask a i
     ∙ ap (λ z. drives_in z a i || ((a == d.node) && has_bit d.mask i))
-    (ap (λ n. xs ++ record { node = n; mask = last.mask } ∷ []) (sym c.if-last-driver.true) ∙ sym c.in-Some.ensures.items)
+    (ap (λ n. xs ++ record { node = n; mask = last.mask } ∷ []) (sym (sym c.number.ensures ∙ c.if-number.true ∙ c.number-in-Some.ensures)) ∙ sym c.in-Some.ensures.items)
 
 pub returns-in_ok-push-in-Some-clause-rises : goal.returns-in_ok-push-in-Some-clause-rises
 returns-in_ok-push-in-Some-clause-rises c =
@@ -23,7 +23,7 @@ returns-in_ok-push-in-Some-clause-rises c =
     let last = c.in-Some.last in
     let both : Driver = record { node = d.node; mask = bit_or last.mask d.mask } in
     subst (λ (ds : List Driver). Rises 0 ds (d.node + 1)) (sym c.in_ok-push-in-Some.ensures.items)
-    (rises_again c.pop.new.self.items last both (d.node + 1) c.if-last-driver.true
+    (rises_again c.pop.new.self.items last both (d.node + 1) (sym c.number.ensures ∙ c.if-number.true ∙ c.number-in-Some.ensures)
     (subst (λ (ds : List Driver). Rises 0 ds (d.node + 1)) c.in-Some.ensures.items c.requires))
 
 pub returns-in_ok-push-in-Some-3-clause-drives : goal.returns-in_ok-push-in-Some-3-clause-drives
@@ -38,5 +38,5 @@ returns-in_ok-push-in-Some-3-clause-rises c =
     let d = c.args.driver in
     subst (λ (ds : List Driver). Rises 0 ds (d.node + 1))
     (sym (c.in_ok-push-in-Some-3.ensures.items ∙ ap (λ z. z ++ d ∷ []) c.in_ok-push-in-Some-2.ensures.items))
-    (rises_next c.pop.new.self.items c.in-Some.last d c.if-last-driver.false
+    (rises_next c.pop.new.self.items c.in-Some.last d (λ e. c.if-number.false (c.number.ensures ∙ e ∙ sym c.number-in-Some.ensures))
     (subst (λ (ds : List Driver). Rises 0 ds (d.node + 1)) c.in-Some.ensures.items c.requires))

@@ -1,7 +1,7 @@
 use Rattle.std.proofs.Common.{◌≡◌, false, ◌<◌, ◌+◌, ◌∙◌, ◌||◌, ◌&&◌, ◌==◌, ◌++◌, not, map, take, drop, length, ap, ap₂, sym, subst, arith}
 use Rattle.std.proofs.lemmas.List.{length-map}
 use Rattle.typed_ir.specs.FlatNodes.{node_of}
-use Rattle.typed_ir.specs.Touches.{touched, mentions, is_block}
+use Rattle.typed_ir.specs.Touches.{mentions, is_block}
 use Rattle.typed_ir.specs.Valuations.{nowhere}
 use Rattle.typed_ir.proofs.Views.{at_read}
 use Rattle.comb_order.specs.Graphs.{rows_of}

@@ -6,7 +6,7 @@ use Rattle.std.proofs.lemmas.List.{length-map}
 use Rattle.typed_ir.specs.Valuations.{look}
 use Rattle.typed_ir.specs.Cycles.{base, seg, fill, width_at, IsReady}
 use Rattle.typed_ir.specs.Views.{env_of}
-use Rattle.cycle_eval.specs.Designs.{flat_of}
+use Rattle.cycle_eval.specs.Designs.{design_flat}
 use Rattle.cycle_eval.specs.Kits.{run_of, register_widths}
 use Rattle.cycle_eval.specs.States.{paired, state_values}
 use Rattle.typed_ir.proofs.Lists.{written_back}
@@ -17,7 +17,7 @@ use Rattle.cycle_eval.proofs.as_machine.DesignMachine.advance.Goals as goal
 pub returns-clause-value : goal.returns-clause-value
 returns-clause-value g c =
     let self = c.args.self.now in
-    let flat = flat_of self in
+    let flat = design_flat self in
     let rs = self.linked.design.registers.items in
     let from = c.args.from.now in
     let xs = state_values from in

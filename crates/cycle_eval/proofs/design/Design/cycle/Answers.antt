@@ -7,7 +7,7 @@ use Rattle.typed_ir.specs.Statements.{stmt_of}
 use Rattle.typed_ir.specs.Views.{env_of}
 use Rattle.typed_ir.proofs.Ready.{next_ready}
 use Rattle.typed_ir.proofs.Numbered.{wires_satisfy}
-use Rattle.cycle_eval.specs.Designs.{flat_of}
+use Rattle.cycle_eval.specs.Designs.{design_flat}
 use Rattle.cycle_eval.proofs.design.Design.cycle.Goals as goal
 
 pub returns-clause-value : goal.returns-clause-value
@@ -22,7 +22,7 @@ returns-clause-value g c = λ state inputs ready.
 pub returns-clause-ready : goal.returns-clause-ready
 returns-clause-ready g c = λ state inputs ready.
     let l = c.args.self.now.linked in
-    let flat = flat_of c.args.self.now in
+    let flat = design_flat c.args.self.now in
     let is : env_of c.update_registers.new.env ≡ all_applied (all_pending flat.clocked (wires flat state inputs)) (wires flat state inputs) =
     c.update_registers.ensures.value
     ∙ ap (λ bs. all_applied (all_pending (map stmt_of bs) (env_of c.settle.new.env)) (env_of c.settle.new.env)) c.deref.ensures.value

@@ -4,7 +4,7 @@ use Rattle.typed_ir.specs.Cycles.{fill}
 use Rattle.typed_ir.specs.Flats.{signal_widths}
 use Rattle.typed_ir.specs.Views.{widths, env_of}
 use Rattle.typed_ir.specs.Valuations.{Valuation}
-use Rattle.cycle_eval.specs.Designs.{flat_of}
+use Rattle.cycle_eval.specs.Designs.{design_flat}
 use Rattle.cycle_eval.specs.States.{state_values}
 use Rattle.cycle_eval.proofs.Passes.{flat_widths}
 use Rattle.typed_ir.proofs.Lists.{written_back}
@@ -23,7 +23,7 @@ pub returns-clause-value : goal.returns-clause-value
 returns-clause-value c =
     let self = c.args.self.now in
     let env = c.in_ok-env.env in
-    let flat = flat_of self in
+    let flat = design_flat self in
     let xs = state_values c.args.from.now in
     let whole : take env.len (c.load.new.env ++ drop (length c.load.new.env) env.items) ≡ c.load.new.env =
     written_back env.len c.load.new.env env.items (omega (arith, c.load.auto.env, ap length c.deref_mut.ensures.value)) (omega (arith, c.load.auto.env, c.deref_mut.ensures.len)) in

@@ -2,13 +2,13 @@ use Rattle.std.proofs.Common.{◌≡◌, suc, ◌+◌, ◌*◌, ◌∙◌, [], s
 use Rattle.std.proofs.Math.Nat.{suc-mul}
 use Rattle.typed_ir.specs.Cycles.{input, seg, IsReady}
 use Rattle.typed_ir.specs.Views.{env_of}
-use Rattle.cycle_eval.specs.Designs.{flat_of, work_of}
+use Rattle.cycle_eval.specs.Designs.{design_flat, work_of}
 use Rattle.cycle_eval.proofs.design.Design.run.Goals as goal
 
 pub loop-cycle-preserved : goal.loop-cycle-preserved
 loop-cycle-preserved g c =
     let self = c.args.self.now in
-    let flat = flat_of self in
+    let flat = design_flat self in
     let n = c.loop-cycle._cycle in
     let more : suc n ≡ n + 1 = omega arith in
     let row : (n + 1) * work_of self ≡ n * work_of self + work_of self = ap (λ k. k * work_of self) (omega arith) ∙ suc-mul n (work_of self) in
@@ -24,7 +24,7 @@ loop-cycle-preserved g c =
 
 pub returns-clause-value : goal.returns-clause-value
 returns-clause-value g c = λ state inputs ready start.
-    let flat = flat_of c.args.self.now in
+    let flat = design_flat c.args.self.now in
     let last : c.loop-cycle._cycle ≡ c.args.cycles = omega (arith, c.loop-cycle-test.false, c.loop-cycle.auto._cycle-end) in
     c.loop-cycle.invariant.value state (c.write_inputs.ensures.ready state inputs ready) (c.write_inputs.ensures.registers ∙ start)
     ∙ ap (λ n. seg flat (λ t. []) 0 n state) last

@@ -1,7 +1,7 @@
 use Rattle.std.proofs.Common.{◌≡◌, ◌∙◌, ℕ, List, map, sym, ap, subst}
 use Rattle.std.specs.Prelude.{IfOk, slice_index}
 use Rattle.typed_ir.specs.Views.{widths, env_of}
-use Rattle.cycle_eval.specs.Designs.{flat_of}
+use Rattle.cycle_eval.specs.Designs.{design_flat}
 use Rattle.cycle_eval.specs.Kits.{register_widths}
 use Rattle.cycle_eval.specs.States.{paired}
 use Rattle.cycle_eval.proofs.Passes.{flat_widths}
@@ -13,7 +13,7 @@ returns c =
     let env = c.args.env.now in
     let rs = self.linked.design.registers.items in
     let same : paired (map (λ (s : ℕ). slice_index (widths env) s) c.deref.result.now) (map (env_of env) c.deref.result.now)
-    ≡ paired (register_widths (flat_of self)) (map (env_of env) rs) =
+    ≡ paired (register_widths (design_flat self)) (map (env_of env) rs) =
     ap (λ (ks : List ℕ). paired (map (λ (s : ℕ). slice_index (widths env) s) ks) (map (env_of env) ks)) c.deref.ensures.value
     ∙ ap (λ (ws : List ℕ). paired (map (λ (s : ℕ). slice_index ws s) rs) (map (env_of env) rs)) (c.requires ∙ sym (flat_widths self.linked)) in
     subst (λ z. IfOk c.stored.result (λ s. s ≡ z)) same c.stored.ensures

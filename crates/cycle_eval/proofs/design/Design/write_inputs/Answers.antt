@@ -4,7 +4,7 @@ use Rattle.std.proofs.Math.Logic.{∥∥₁_elim}
 use Rattle.std.proofs.Props.{props}
 use Rattle.typed_ir.specs.Cycles.{input, fill, cut_to, IsReady}
 use Rattle.typed_ir.specs.Views.{env_of}
-use Rattle.cycle_eval.specs.Designs.{flat_of}
+use Rattle.cycle_eval.specs.Designs.{design_flat}
 use Rattle.cycle_eval.proofs.Passes.{flat_widths}
 use Rattle.cycle_eval.proofs.InputRows.{registers_stay, inputs_ready}
 use Rattle.cycle_eval.proofs.design.Design.write_inputs.Goals as goal
@@ -19,14 +19,14 @@ pub returns-clause-registers : goal.returns-clause-registers
 returns-clause-registers c =
     let design = c.args.self.now.linked.design in
     let env = env_of c.args.env.now in
-    let xs = input (flat_of c.args.self.now) c.args.row.now in
+    let xs = input (design_flat c.args.self.now) c.args.row.now in
     ap (λ v. map v design.registers.items) (returns-clause-value c)
     ∙ ∥∥₁_elim design.sound (hlevel props) (λ f. registers_stay design.registers.items design.inputs.items xs env f.apart)
 
 pub returns-clause-ready : goal.returns-clause-ready
 returns-clause-ready c = λ state inputs ready.
     let design = c.args.self.now.linked.design in
-    let flat = flat_of c.args.self.now in
+    let flat = design_flat c.args.self.now in
     let row = c.args.row.now in
     subst (IsReady flat state (input flat row)) (sym (returns-clause-value c))
     (∥∥₁_elim design.sound (hlevel props) (λ f. inputs_ready flat state inputs row (env_of c.args.env.now) f.apart ready))

@@ -11,7 +11,7 @@ use Rattle.comb_order.specs.Parts.{are_distinct, none_in, blocks_in, rows_apart,
 use Rattle.comb_order.proofs.Flatten.{All4, all_four, flat_sound}
 use Rattle.comb_order.proofs.Designs.{parts_table}
 use Rattle.comb_order.proofs.Passing.{sized_passes, held_passes, driven_passes}
-use Rattle.comb_order.proofs.parts.flat_of.Goals as goal
+use Rattle.comb_order.proofs.parts.checked_flat.Goals as goal
 
 pub invariant_of-result : goal.invariant_of-result
 invariant_of-result c =
