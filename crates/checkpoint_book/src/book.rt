@@ -169,7 +169,7 @@ impl<M: Machine> Book<M> {
         let Some(opened) = &self.opened else {
             unreachable!()
         };
-        let answer = shown(settled_to(&opened.segs));
+        let answer = shown(settled_to(opened));
         self.history.push(Entry::Show {
             settled_to: answer.settled_to(),
         });
