@@ -236,7 +236,7 @@ impl<M: Machine> Book<M> {
         let interval = self.history.interval();
         let growth = grown(self.alloc, opened, &rows, interval, c, end, steps)?;
         make_room(opened, &growth)?;
-        self.history.push_run(&rows)?;
+        self.history.push_run(self.alloc, &rows)?;
         grow(opened, growth);
         self.counters = one_of_session(self.counters);
         Ok(())
