@@ -1,6 +1,8 @@
 // The history of a book: its settings, its entries and all that belongs to them.
 ghost use Rattle.std.specs.Prelude.{◌≡◌, [], map};
+ghost use Rattle.machine.specs.Rows.{expanded};
 ghost use Rattle.book_history.specs.Entries.{entry_of};
+ghost use Rattle.book_history.specs.Law.{record_of};
 ghost use Rattle.book_history.specs.Legal.{Legal};
 
 use crate::entry::Entry;
@@ -8,6 +10,7 @@ use crate::historied::Historied;
 use crate::rooms::Rooms;
 use crate::written::Written;
 use machine::Machine;
+use machine::row_run::RowRun;
 use std::alloc::Global;
 use std::marker::Model;
 
@@ -59,6 +62,13 @@ impl<M: Machine> History<M> {
         ensures { result.now ≡ map entry_of self.now.events }
     {
         &self.written.entries
+    }
+
+    /// The rows of all cycles, as they are kept: runs of equal rows, in order.
+    pub fn runs(&self) -> &[RowRun<M::Row>]
+        ensures { expanded result.now ≡ record_of self.now.events }
+    {
+        &self.written.runs
     }
 }
 

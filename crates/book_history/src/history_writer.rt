@@ -15,7 +15,7 @@ use crate::rooms::Rooms;
 use crate::version::Version;
 use crate::written::Written;
 use machine::Machine;
-use machine::merge::merge_at;
+use machine::merge::{merge_at, merged_rows};
 use machine::row_runs::{RowRuns, share_between};
 use no_memory::NoMemory;
 use std::alloc::Global;
@@ -161,9 +161,9 @@ impl<M: Machine> HistoryWriter<M> {
         Ok(())
     }
 
-    /// The entry of a run over these rows, which begin at the current cycle. Where the first of them is the last row of the
-    /// record, the two are one run of rows.
-    pub fn push_run(&mut self, rows: &RowRuns<M::Row>) -> Result<(), NoMemory>
+    /// The entry of a run over these rows, which begin at the current cycle. Rows that follow each other and that the machine
+    /// takes as the same are kept once, whether they come in one run of rows or not.
+    pub fn push_run(&mut self, alloc: Global, rows: &RowRuns<M::Row>) -> Result<(), NoMemory>
         requires next { rows.now.0 ≡ length (record_of self.old.events) }
         requires legal { Legal M.kit M.valid self.old.settings (self.old.events ++ Runs (length rows.now.1) rows.now.1 ∷ []) }
         ensures settings { self.new.settings ≡ self.old.settings }
@@ -172,8 +172,9 @@ impl<M: Machine> HistoryWriter<M> {
     {
         let end = rows.end();
         let n = end - rows.start();
+        let merged = merged_rows::<M>(alloc, rows)?;
         let before = self.written.runs.len();
-        if rows.append_to(&mut self.written.runs).is_err() {
+        if merged.append_to(&mut self.written.runs).is_err() {
             return Err(NoMemory);
         }
         merge_at::<M>(&mut self.written.runs, before);

@@ -1,18 +1,10 @@
 -- What the entries of one holder do to its tickets, and to the others'.
 use Rattle.std.proofs.Common.{◌≡◌, ◌≢◌, ℕ, Bool, true, false, true≢false, List, [], ◌∷◌, ◌++◌, ◌||◌, eqb, if◌then◌else◌, refl, sym, ap, ◌∙◌, subst, append_assoc, append-nil}
 use Rattle.std.proofs.Math.Bool.{or_assoc}
-use Rattle.std.proofs.lemmas.Bool.{eqb-true, eq-eqb, false_from_ne_true, or_from}
+use Rattle.std.proofs.lemmas.Bool.{eqb-true, eq-eqb, false_from_ne_true, or_from, or_left, or_right}
 use Rattle.book_history.specs.Event.{Event, Opens, Runs, Reloads, Claims, Installs, Releases, Shows, Closes}
 use Rattle.book_history.specs.Tickets.{is_among, without, draws, uses, is_drawn, is_used, IsOut, AreOut, kept, kept_all, MayAdd, MayAddAll}
 use Rattle.book_turn.specs.Rule.{AreOnce}
-
-pub or_true : (a b : Bool) → a ≡ true → a || b ≡ true
-or_true true b e = refl
-or_true false b e = absurd (true≢false (sym e))
-
-pub or_right : (a b : Bool) → b ≡ true → a || b ≡ true
-or_right true b e = refl
-or_right false b e = e
 
 or_false_left : (a b : Bool) → a ≡ false → a || b ≡ b
 or_false_left true b e = absurd (true≢false e)
@@ -56,7 +48,7 @@ module _ {D R O : Type 0} where
   -- an entry that does not use the ticket up leaves it out
   stays_out : (n : ℕ) (h : List (Event D R O)) (e : Event D R O) → uses n e ≡ false → IsOut n h → IsOut n (h ++ e ∷ [])
   stays_out n h e u o = record {
-    drawn = drawn_append n h (e ∷ []) ∙ or_true (is_drawn n h) (draws n e || false) o.drawn;
+    drawn = drawn_append n h (e ∷ []) ∙ or_left (is_drawn n h) (draws n e || false) o.drawn;
     unused = used_append n h (e ∷ []) ∙ or_from (is_used n h) (uses n e || false) o.unused (or_from (uses n e) false u refl);
   }
 
@@ -69,7 +61,7 @@ module _ {D R O : Type 0} where
     where
       go : (b : Bool) → eqb n k ≡ b → b || is_among n ts ≡ true → IsOut n (h ++ Claims k x y by ∷ [])
       go true t a = record {
-        drawn = drawn_append n h (Claims k x y by ∷ []) ∙ or_right (is_drawn n h) (eqb n k || false) (or_true (eqb n k) false t);
+        drawn = drawn_append n h (Claims k x y by ∷ []) ∙ or_right (is_drawn n h) (eqb n k || false) (or_left (eqb n k) false t);
         unused = used_append n h (Claims k x y by ∷ []) ∙ or_from (is_used n h) false (ap (λ i. is_used i h) (eqb-true n k t) ∙ may.1) refl;
       }
       go false t a = stays_out n h _ refl (o n a)

@@ -6,8 +6,15 @@ ghost use Rattle.book_turn.specs.Rule.{EachBegins, Learned, MayLeave};
 ghost use Rattle.book_turn.specs.Passes.{IsOf, known};
 ghost use Rattle.book_turn.specs.Turns.{GoesOn};
 
-use crate::rule::{Begins, Enters, Hears, Leaves, OneBook, Sight, Workers};
-use crate::turn::{Holder, SessionPass, Turn, WorkerPass};
+use crate::begins::Begins;
+use crate::enters::Enters;
+use crate::hears::Hears;
+use crate::holder::{Holder, SessionPass, WorkerPass};
+use crate::leaves::Leaves;
+use crate::one_book::OneBook;
+use crate::sight::Sight;
+use crate::turn::Turn;
+use crate::workers::Workers;
 use book_history::historied::Historied;
 use crossbeam_queue::RuledArrayQueue;
 use crossbeam_utils::Backoff;

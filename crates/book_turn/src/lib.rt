@@ -1,11 +1,19 @@
 // The turn of a book among threads: one holder at a time has it, and each knows a beginning of its one history.
 //
-// `rule` says of the one-place queue and the passes what every step keeps, `turn` has the types and the calls, and `calls` the steps on
-// the queue.
+// `one_book` says of the one-place queue and the passes (`sight`) what every step keeps; `begins`, `enters`, `leaves`, `hears` and
+// `workers` say what each kind of step tells; `turn` and `holder` are the types that callers have, and `calls` the steps on the queue.
 #![tactic(auto)]
 
+pub mod begins;
 mod calls;
-pub mod rule;
+pub mod enters;
+pub mod hears;
+mod holder;
+pub mod leaves;
+pub mod one_book;
+pub mod sight;
 mod turn;
+pub mod workers;
 
-pub use turn::{Holder, SessionPass, Turn, WorkerPass};
+pub use holder::{Holder, SessionPass, WorkerPass};
+pub use turn::Turn;

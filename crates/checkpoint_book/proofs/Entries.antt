@@ -26,7 +26,7 @@ use Rattle.checkpoint_book.specs.declared.counters.Counters.{Counters}
 use Rattle.checkpoint_book.specs.declared.opened.Opened.{Opened}
 use Rattle.checkpoint_book.specs.Counts.{counts, drew_by}
 use Rattle.checkpoint_book.specs.Draw.{IsDrawable, IsDrawnAs}
-use Rattle.checkpoint_book.specs.Idle.{any_open}
+use Rattle.checkpoint_book.specs.Idle.{left_of}
 use Rattle.checkpoint_book.specs.Kept.{Stands, StandsFor}
 use Rattle.checkpoint_book.specs.Opened.{core_of}
 use Rattle.checkpoint_book.specs.Renew.{Rises, AllFit}
@@ -114,9 +114,9 @@ module _ {D S R O : Type 0} (k : Kit D S R O) where
   close_next valid st (Some c) o drawn out s = (tt, s)
 
   pub open_next : (valid : D → D → O → Type 0) (st : Settings) (b : Option (Book D S R)) (o : Option (Opened D S)) (o' : Opened D S) (v : Version D) (drawn out : ℕ)
-      → b ≡ None → Stands b o drawn out → v.number ≡ 1 → o'.version.value ≡ v → o'.first ≡ k.start v.machine.value → o'.segs.items ≡ [] → o'.has_open ≡ any_open o'.segs.items
+      → b ≡ None → Stands b o drawn out → v.number ≡ 1 → o'.version.value ≡ v → o'.first ≡ k.start v.machine.value → o'.segs.items ≡ [] → o'.left ≡ left_of o'.segs.items
       → MayCome k valid st b (Opens v.number v.machine.value) × Stands (apply k st b (Opens v.number v.machine.value)) (Some o') drawn out
-  open_next valid st b o o' v drawn out none s one version first segs opens =
+  open_next valid st b o o' v drawn out none s one version first segs left_is =
       let P : Option (Book D S R) → Type 0 = λ x. Stands x o drawn out → MayCome k valid st x (Opens v.number v.machine.value) × Stands (apply k st x (Opens v.number v.machine.value)) (Some o') drawn out in
       let F : ℕ → D → S → List (Segment S) → Book D S R = λ n m a gs. record { version = n; machine = m; rows = []; first = a; segs = gs; tickets = []; used = [] } in
       let core : opened k v.machine.value ≡ core_of o' [] [] [] =
@@ -126,7 +126,7 @@ module _ {D S R O : Type 0} (k : Kit D S R O) where
       ∙ ap (λ (gs : List (Segment S)). F o'.version.value.number o'.version.value.machine.value o'.first gs) (sym segs) in
       let here : P None = λ t.
       let z = zeroes o drawn out t in
-      (one, record { core = core; tickets = z.0; outs = z.1; few = omega (arith, ap (λ (gs : List (Segment S)). length gs) segs); opens = opens }) in
+      (one, record { core = core; tickets = z.0; outs = z.1; few = omega (arith, ap (λ (gs : List (Segment S)). length gs) segs); left_is = left_is }) in
       subst P (sym none) here s
     where
       zeroes : (o : Option (Opened D S)) (drawn out : ℕ) → Stands {R = R} None o drawn out → (drawn ≡ 0) × (out ≡ 0)
@@ -142,10 +142,10 @@ module _ {D S R O : Type 0} (k : Kit D S R O) where
       → Stands b (Some o) drawn out → rows.0 ≡ cycle_in b → length rows.1 ≡ n → 1 ≤ n
       → o'.version ≡ o.version → o'.first ≡ o.first
       → ((before : List R) → length before ≡ rows.0 → o'.segs.items ≡ extend k o.version.value.machine.value (before ++ rows.1) o.segs.items rows.0 (last_state o.first o.segs.items) (grid st.interval rows.0 n))
-      → o'.has_open ≡ any_open o'.segs.items
+      → o'.left ≡ left_of o'.segs.items
       → MayCome k valid st b (Runs n rows.1) × Stands (apply k st b (Runs n rows.1)) (Some o') drawn out
-  run_next valid st None o o' drawn out rows n s starts count some version first items opens = absurd s
-  run_next valid st (Some c) o o' drawn out rows n s starts count some version first items opens =
+  run_next valid st None o o' drawn out rows n s starts count some version first items left_is = absurd s
+  run_next valid st (Some c) o o' drawn out rows n s starts count some version first items left_is =
       let x : Book D S R = core_of o c.rows c.tickets c.used in
       let m = o.version.value.machine.value in
       let P : Book D S R → Type 0 = λ y. MayFollow k valid st y (Runs n rows.1) × Stands (Some (step k st y (Runs n rows.1))) (Some o') drawn out in
@@ -159,7 +159,7 @@ module _ {D S R O : Type 0} (k : Kit D S R O) where
       ∙ ap (λ (a : S). G o a o'.segs.items) (sym first)
       ∙ ap (λ (v : Arc (Version D) Global). record { version = v.value.number; machine = v.value.machine.value; rows = c.rows ++ rows.1; first = o'.first; segs = o'.segs.items; tickets = c.tickets; used = c.used }) (sym version) in
       let few : length o'.segs.items < 1024 = subst (λ (l : List (Segment S)). length l < 1024) segs (extend_few k m (c.rows ++ rows.1) o.segs.items (length c.rows) (last_state o.first o.segs.items) (grid st.interval (length c.rows) (length rows.1)) s.few) in
-      let after : StandsFor (step k st x (Runs n rows.1)) o' drawn out = record { core = core; tickets = s.tickets; outs = s.outs; few = few; opens = opens } in
+      let after : StandsFor (step k st x (Runs n rows.1)) o' drawn out = record { core = core; tickets = s.tickets; outs = s.outs; few = few; left_is = left_is } in
       let here : P x = ((sym count, omega (arith, some)), after) in
       subst P (sym s.core) here
 
@@ -168,10 +168,10 @@ module _ {D S R O : Type 0} (k : Kit D S R O) where
       → from ≡ chosen (length (record_in b) - st.lookback) 0 o.segs.items
       → o'.version.value ≡ v → o'.first ≡ k.start v.machine.value
       → o'.segs.items ≡ reloaded k o.version.value.machine.value v.machine.value ops (record_in b) (length (record_in b) - st.lookback) 0 (k.start v.machine.value) o.segs.items
-      → length o'.segs.items < 1024 → o'.has_open ≡ any_open o'.segs.items
+      → length o'.segs.items < 1024 → o'.left ≡ left_of o'.segs.items
       → MayCome k valid st b (Reloads v.number v.machine.value ops from) × Stands (apply k st b (Reloads v.number v.machine.value ops from)) (Some o') drawn out
-  reload_next valid st None o o' drawn out v ops from s number lead choice version first items few opens = absurd s
-  reload_next valid st (Some c) o o' drawn out v ops from s number lead choice version first items few opens =
+  reload_next valid st None o o' drawn out v ops from s number lead choice version first items few left_is = absurd s
+  reload_next valid st (Some c) o o' drawn out v ops from s number lead choice version first items few left_is =
       let x : Book D S R = core_of o c.rows c.tickets c.used in
       let e : Event D R O = Reloads v.number v.machine.value ops from in
       let P : Book D S R → Type 0 = λ y. MayFollow k valid st y e × Stands (Some (step k st y e)) (Some o') drawn out in
@@ -182,7 +182,7 @@ module _ {D S R O : Type 0} (k : Kit D S R O) where
       ∙ ap (λ (gs : List (Segment S)). F v.number v.machine.value (k.start v.machine.value) gs) (sym items)
       ∙ ap (λ (y : Version D). F y.number y.machine.value (k.start v.machine.value) o'.segs.items) (sym version)
       ∙ ap (λ (a : S). F o'.version.value.number o'.version.value.machine.value a o'.segs.items) (sym first) in
-      let after : StandsFor (step k st x e) o' drawn out = record { core = core; tickets = s.tickets; outs = s.outs; few = few; opens = opens } in
+      let after : StandsFor (step k st x e) o' drawn out = record { core = core; tickets = s.tickets; outs = s.outs; few = few; left_is = left_is } in
       let here : P x = ((sym next, subst (λ (y : Book D S R). valid y.machine v.machine.value ops) s.core lead, choice), after) in
       subst P (sym s.core) here
 
@@ -222,11 +222,11 @@ drew_out ts us new Session n is fresh out = rw is (omega (arith, out))
 drew_out ts us new (Worker w) n is fresh out = rw (is, fresh) (omega (arith, out))
 
 pub claim_next : {D S R O : Type 0} (k : Kit D S R O) (valid : D → D → O → Type 0) (st : Settings) (b : Option (Book D S R)) (o o' : Opened D S) (n : Counters) (by : Who) (t : ℕ × DrawnTicket D S R)
-    → UsedAreDrawn b → Stands b (Some o) n.drawn n.out → IsDrawnAs k by (n.drawn + 1) (core_of o (record_in b) [] []) (core_of o' (record_in b) [] []) t → o'.has_open ≡ any_open o'.segs.items
+    → UsedAreDrawn b → Stands b (Some o) n.drawn n.out → IsDrawnAs k by (n.drawn + 1) (core_of o (record_in b) [] []) (core_of o' (record_in b) [] []) t → o'.left ≡ left_of o'.segs.items
     → MayCome k valid st b (Claims t.0 t.1.a t.1.b by) × Stands (apply k st b (Claims t.0 t.1.a t.1.b by)) (Some o') (drew_by by n).drawn (drew_by by n).out
     × IsOutFor (apply k st b (Claims t.0 t.1.a t.1.b by)) t.0 t.1 by
-claim_next k valid st None o o' n by t u s d opens = absurd s
-claim_next {D} {S} {R} {O} k valid st (Some c) o o' n by t u s d opens =
+claim_next k valid st None o o' n by t u s d left_is = absurd s
+claim_next {D} {S} {R} {O} k valid st (Some c) o o' n by t u s d left_is =
     let ts = c.tickets in
     let us = c.used in
     let f = d.place in
@@ -249,7 +249,7 @@ claim_next {D} {S} {R} {O} k valid st (Some c) o o' n by t u s d opens =
       tickets = drew_drawn by n ∙ omega (arith, number);
       outs = drew_out ts us new by n refl not_used s.outs;
       few = omega (arith, s.few, ap (λ (y : Book D S R). length y.segs) marked, length-marked (takes by) (length ts + 1) x.segs);
-      opens = opens;
+      left_is = left_is;
     } in
     let here : Q (Some f) = (
       after,

@@ -18,7 +18,7 @@ first_free : {A : Type 0} (joined rest : Bool) (x : A) (o : Option A) → is_non
 first_free true rest x o h = h
 first_free false rest x o h = refl
 
-finds_none : {S : Type 0} (a : ℕ) (s : S) (gs : List (Segment S)) → is_none (first_link (takes Session) a s gs) ≡ all_joined gs
+pub finds_none : {S : Type 0} (a : ℕ) (s : S) (gs : List (Segment S)) → is_none (first_link (takes Session) a s gs) ≡ all_joined gs
 finds_none a s [] = refl
 finds_none a s (g ∷ gs) =
     ap (λ b. is_none (cond b (Some (a, g.to, s)) (first_link (takes Session) g.to g.state gs))) (takes_not_joined g.link)

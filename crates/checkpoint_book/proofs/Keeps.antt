@@ -10,7 +10,7 @@ use Rattle.book_history.proofs.Prefixes.{legal-snoc, replay-snoc, count-snoc, le
 use Rattle.checkpoint_book.specs.declared.counters.Counters.{Counters}
 use Rattle.checkpoint_book.specs.declared.opened.Opened.{Opened}
 use Rattle.checkpoint_book.specs.Counts.{counts, IsSmall}
-use Rattle.checkpoint_book.specs.Idle.{any_open}
+use Rattle.checkpoint_book.specs.Idle.{left_of}
 use Rattle.checkpoint_book.specs.Kept.{Stands, IsKept}
 use Rattle.checkpoint_book.specs.Views.{book_of, counts_of}
 
@@ -37,9 +37,9 @@ module _ {D S R O : Type 0} (k : Kit D S R O) where
         small_workers = subst (λ (st : Settings). st.rooms.workers < 2 ^ 32) (sym settings) kept.small_workers;
       }
 
-  pub opens_is : (b : Option (Book D S R)) (o : Opened D S) (drawn out : ℕ) → Stands b (Some o) drawn out → o.has_open ≡ any_open o.segs.items
-  opens_is None o drawn out s = absurd s
-  opens_is (Some c) o drawn out s = s.opens
+  pub left_stands : (b : Option (Book D S R)) (o : Opened D S) (drawn out : ℕ) → Stands b (Some o) drawn out → o.left ≡ left_of o.segs.items
+  left_stands None o drawn out s = absurd s
+  left_stands (Some c) o drawn out s = s.left_is
 
   module _ (valid : D → D → O → Type 0) where
     pub legal_next : (j : Journal D R O) (e : Event D R O) (o : Option (Opened D S)) (n : Counters) → IsKept k j o n → Legal k valid j.settings j.events

@@ -1,5 +1,7 @@
 -- The marks of a run that come behind those of the book, one by one.
-use Rattle.std.proofs.Common.{◌≡◌, ℕ, suc, ◌+◌, ◌-◌, ◌*◌, ◌<◌, ◌≤◌, List, [], ◌∷◌, ◌++◌, length, sym, ◌∙◌, ap, subst, arith, append_assoc, append-nil}
+use Rattle.std.proofs.Common.{◌≡◌, ℕ, suc, ◌+◌, ◌-◌, ◌*◌, ◌<◌, ◌≤◌, List, [], ◌∷◌, ◌++◌, length, sym, ◌∙◌, ap, subst, arith, append_assoc, append-nil, true, false}
+use Rattle.std.specs.Prelude.{leb}
+use Rattle.std.proofs.lemmas.Bool.{le-leb, lt-leb}
 use Rattle.machine.specs.Kit.{Kit}
 use Rattle.machine.specs.Rows.{between}
 use Rattle.book_history.specs.declared.segment.Segment.{Segment}
@@ -24,11 +26,19 @@ counted_more interval links c at end count next pos lt is within few h =
     ap (λ (l : List ℕ). length l) (grid_step interval at end pos lt) ∙ ap (λ (n : ℕ). suc (length (grid interval n (end - n)))) (sym is) in
     record { sum = omega (arith, step, h.sum); few = few; within = within }
 
-pub counted_all : (interval links c at end count : ℕ) → end ≤ at → Counted interval links c at end count → links + 1 + length (grid interval c (end - c)) < 1025
+pub counted_all : (interval links c at end count : ℕ) → end ≤ at → Counted interval links c at end count → true ≡ leb (links + 1 + length (grid interval c (end - c))) 1024
 counted_all interval links c at end count le h =
     let none : end - at ≡ 0 = omega (arith, le) in
     let empty : length (grid interval at (end - at)) ≡ 0 = ap (λ (n : ℕ). length (grid interval at n)) none in
-    omega (arith, h.sum, h.few, empty)
+    sym (le-leb (links + 1 + length (grid interval c (end - c))) 1024 (omega (arith, h.sum, h.few, empty)))
+
+-- one mark more, while there is a next one, is one too many
+pub counted_full : (interval links c at end count : ℕ) → 1 ≤ interval → at < end → count + 1 ≡ 1024 → Counted interval links c at end count
+    → false ≡ leb (links + 1 + length (grid interval c (end - c))) 1024
+counted_full interval links c at end count pos lt full h =
+    let step : length (grid interval at (end - at)) ≡ suc (length (grid interval (next_mark interval at end) (end - next_mark interval at end))) =
+    ap (λ (l : List ℕ). length l) (grid_step interval at end pos lt) in
+    sym (lt-leb (links + 1 + length (grid interval c (end - c))) 1024 (omega (arith, step, h.sum, full)))
 
 -- what each turn of the loop keeps
 pub record Marked {D S R O : Type 0} (k : Kit D S R O) (fits : S → Type 0) (m : D) (rows : ℕ × List R) (from : S) (marks : List (Segment S)) (interval c at end w before after : ℕ) : Type 0 where

@@ -21,7 +21,7 @@ use Rattle.checkpoint_book.specs.declared.opened.Opened.{Opened}
 use Rattle.checkpoint_book.specs.Answers.{is_joined_answer, install_answer, stale_why}
 use Rattle.checkpoint_book.specs.declared.installed.Installed.TheVariants as answers
 use Rattle.checkpoint_book.specs.Counts.{counts, used_by}
-use Rattle.checkpoint_book.specs.Idle.{any_open}
+use Rattle.checkpoint_book.specs.Idle.{left_of}
 use Rattle.checkpoint_book.specs.Kept.{Stands, StandsFor}
 use Rattle.checkpoint_book.specs.Opened.{core_of}
 use Rattle.checkpoint_book.specs.Views.{HasRoomFor}
@@ -95,7 +95,7 @@ module _ {D S R O : Type 0} where
   pub record IsInstalled (k : Kit D S R O) (o o' : Opened D S) (t : DrawnTicket D S R) (j : Bool) : Type 0 where
     pub answer : j ≡ is_current k (core_of {R = R} o [] [] []) t
     pub book : core_of {R = R} o' [] [] [] ≡ cond (is_current k (core_of {R = R} o [] [] []) t) (with_segs (core_of {R = R} o [] [] []) (joined k o.version.value.machine.value t (result_of k t) 0 o.first o.segs.items)) (core_of {R = R} o [] [] [])
-    pub opens : o'.has_open ≡ any_open o'.segs.items
+    pub left_is : o'.left ≡ left_of o'.segs.items
 
   pub installed_length : (k : Kit D S R O) (o o' : Opened D S) (t : DrawnTicket D S R) (j : Bool) → IsInstalled k o o' t j → length o'.segs.items ≡ length o.segs.items
   installed_length k o o' t j h =
@@ -122,7 +122,7 @@ module _ {D S R O : Type 0} where
         tickets = used_drawn by n ∙ s.tickets;
         outs = outs_after c.tickets c.used num t by n out.0 out.1 out.2 s.outs;
         few = omega (arith, s.few, installed_length k o o' t j h);
-        opens = h.opens;
+        left_is = h.left_is;
       } in
       let fields : Q (Some t) = subst (λ (y : Book D S R). StandsFor y o' (used_by by n).drawn (used_by by n).out) (sym core) after in
       let here : P x = ((t, out.0, out.1, out.2, h.answer), subst Q (sym out.0) fields) in
@@ -130,10 +130,10 @@ module _ {D S R O : Type 0} where
 
   pub release_next : (k : Kit D S R O) (valid : D → D → O → Type 0) (st : Settings) (b : Option (Book D S R)) (o o' : Opened D S) (n : Counters) (num : ℕ) (t : DrawnTicket D S R) (by : Who)
       → Stands b (Some o) n.drawn n.out → IsOutFor b num t by
-      → core_of {R = R} o' [] [] [] ≡ with_segs (core_of {R = R} o [] [] []) (freed num o.segs.items) → o'.has_open ≡ any_open o'.segs.items
+      → core_of {R = R} o' [] [] [] ≡ with_segs (core_of {R = R} o [] [] []) (freed num o.segs.items) → o'.left ≡ left_of o'.segs.items
       → MayCome k valid st b (Releases num by) × Stands (apply k st b (Releases num by)) (Some o') (used_by by n).drawn (used_by by n).out
-  release_next k valid st None o o' n num t by s out e opens = absurd s
-  release_next k valid st (Some c) o o' n num t by s out e opens =
+  release_next k valid st None o o' n num t by s out e left_is = absurd s
+  release_next k valid st (Some c) o o' n num t by s out e left_is =
       let x : Book D S R = core_of o c.rows c.tickets c.used in
       let P : Book D S R → Type 0 = λ y. MayFollow k valid st y (Releases num by) × Stands (Some (step k st y (Releases num by))) (Some o') (used_by by n).drawn (used_by by n).out in
       let core : with_used (with_segs x (freed num o.segs.items)) num ≡ core_of o' c.rows c.tickets (num ∷ c.used) =
@@ -144,7 +144,7 @@ module _ {D S R O : Type 0} where
         tickets = used_drawn by n ∙ s.tickets;
         outs = outs_after c.tickets c.used num t by n out.0 out.1 out.2 s.outs;
         few = omega (arith, s.few, ap (λ (y : Book D S R). length y.segs) e, length-freed num o.segs.items);
-        opens = opens;
+        left_is = left_is;
       } in
       let fields : StandsFor (with_used (with_segs x (freed num o.segs.items)) num) o' (used_by by n).drawn (used_by by n).out =
       subst (λ (y : Book D S R). StandsFor y o' (used_by by n).drawn (used_by by n).out) (sym core) after in

@@ -7,7 +7,7 @@ use Rattle.book_history.specs.Rooms.{out_of, count_all, no_entry}
 use Rattle.checkpoint_book.specs.declared.counters.Counters.{Counters}
 use Rattle.checkpoint_book.specs.declared.opened.Opened.{Opened}
 use Rattle.checkpoint_book.specs.Counts.{counts}
-use Rattle.checkpoint_book.specs.Idle.{any_open}
+use Rattle.checkpoint_book.specs.Idle.{left_of}
 use Rattle.checkpoint_book.specs.Opened.{core_of}
 use Rattle.checkpoint_book.specs.Views.{book_of}
 
@@ -17,7 +17,7 @@ pub record StandsFor {D S R : Type 0} (c : Book D S R) (o : Opened D S) (drawn o
   pub tickets : drawn ≡ length c.tickets
   pub outs : out ≡ out_of c.tickets c.used
   pub few : length o.segs.items < 1024
-  pub opens : o.has_open ≡ any_open o.segs.items
+  pub left_is : o.left ≡ left_of o.segs.items
 
 abbrev pub Stands : {D S R : Type 0} → Option (Book D S R) → Option (Opened D S) → ℕ → ℕ → Type 0
 Stands None None drawn out = (drawn ≡ 0) × (out ≡ 0)

@@ -3,7 +3,7 @@ use Rattle.std.specs.Prelude.{◌≡◌, ℕ, suc, ◌<◌, List, [], ◌∷◌,
 use Rattle.book_history.specs.declared.version.Version.{Version}
 use Rattle.book_history.specs.Book.{reloaded}
 use Rattle.checkpoint_book.specs.declared.opened.Opened.{Opened}
-use Rattle.checkpoint_book.specs.Idle.{any_open}
+use Rattle.checkpoint_book.specs.Idle.{left_of}
 use Rattle.machine.specs.Kit.{Kit}
 use Rattle.book_history.specs.declared.segment.Segment.{Segment}
 use Rattle.book_history.specs.declared.link.Link.TheVariants.{Open}
@@ -31,5 +31,5 @@ pub record IsReloaded {D S R O : Type 0} (k : Kit D S R O) (old : D) (v : Versio
   pub version : o.version.value ≡ v
   pub first : o.first ≡ k.start v.machine.value
   pub items : o.segs.items ≡ reloaded k old v.machine.value ops rows limit 0 (k.start v.machine.value) segs
-  pub opens : o.has_open ≡ any_open o.segs.items
+  pub left_is : o.left ≡ left_of o.segs.items
   pub few : length o.segs.items < 1024

@@ -1,7 +1,8 @@
 // The book of a first version.
 ghost use Rattle.std.specs.Prelude.{◌≡◌, [], IfOk};
-ghost use Rattle.checkpoint_book.specs.Idle.{any_open};
+ghost use Rattle.checkpoint_book.specs.Idle.{left_of};
 
+use crate::left::Left;
 use crate::opened::Opened;
 use book_history::version::Version;
 use machine::Machine;
@@ -17,13 +18,13 @@ pub fn begun<M: Machine>(
     ensures version { IfOk result (λ o. o.version.value ≡ version.value) }
     ensures first { IfOk result (λ o. o.first ≡ M.kit.start version.value.machine.value) }
     ensures segs { IfOk result (λ o. o.segs.items ≡ []) }
-    ensures open { IfOk result (λ o. o.has_open ≡ any_open o.segs.items) }
+    ensures left { IfOk result (λ o. o.left ≡ left_of o.segs.items) }
 {
     let first = (*version.machine).reset(alloc)?;
     Ok(Opened {
         version,
         first,
         segs: Vec::new(alloc),
-        has_open: false,
+        left: Left::AllJoined,
     })
 }

@@ -169,7 +169,7 @@ impl<M: Machine> Book<M> {
         let Some(opened) = &self.opened else {
             unreachable!()
         };
-        let answer = shown(settled_to(&opened.segs));
+        let answer = shown(settled_to(opened));
         self.history.push(Entry::Show {
             settled_to: answer.settled_to(),
         });
@@ -236,7 +236,7 @@ impl<M: Machine> Book<M> {
         let interval = self.history.interval();
         let growth = grown(self.alloc, opened, &rows, interval, c, end, steps)?;
         make_room(opened, &growth)?;
-        self.history.push_run(&rows)?;
+        self.history.push_run(self.alloc, &rows)?;
         grow(opened, growth);
         self.counters = one_of_session(self.counters);
         Ok(())

@@ -4,10 +4,10 @@ ghost use Rattle.book_history.specs.declared.link.Link.TheVariants.{Out};
 ghost use Rattle.book_history.specs.Book.{takes, first_link, mark_out};
 ghost use Rattle.book_history.specs.Law.{record_of};
 ghost use Rattle.checkpoint_book.specs.Opened.{core_of};
-ghost use Rattle.checkpoint_book.specs.Idle.{any_open};
+ghost use Rattle.checkpoint_book.specs.Idle.{left_of};
 ghost use Rattle.checkpoint_book.specs.Draw.{IsPlace, IsDrawable, IsDrawnAs};
 
-use crate::idle::{any_open, is_idle};
+use crate::idle::{is_idle, left_of};
 use crate::opened::Opened;
 use crate::ticket::Ticket;
 use book_history::history_writer::HistoryWriter;
@@ -67,26 +67,26 @@ pub fn draw<M: Machine>(
     number: u64,
     by: Who,
 ) -> Result<Option<Ticket<M>>, NoMemory>
-    requires open { o.old.has_open ≡ any_open o.old.segs.items }
+    requires left { o.old.left ≡ left_of o.old.segs.items }
     requires drawable { (f : ℕ × ℕ × M.State) → first_link (takes by) 0 o.old.first o.old.segs.items ≡ Some f
         → IsDrawable (M.fits o.old.version.value.machine.value) (length (record_of history.now.events)) f }
     ensures none { IfOk result (λ r. IfNone r ((o.new ≡ o.old) × (first_link (takes by) 0 o.old.first o.old.segs.items ≡ None))) }
     ensures some { IfOk result (λ r. IfSome r (λ t. IsDrawnAs M.kit by number (core_of o.old (record_of history.now.events) [] []) (core_of o.new (record_of history.now.events) [] []) t)) }
-    ensures open { o.new.has_open ≡ any_open o.new.segs.items }
+    ensures left { o.new.left ≡ left_of o.new.segs.items }
     ensures err { OnErr result ((o.new ≡ o.old) × ((f : ℕ × ℕ × M.State) × (first_link (takes by) 0 o.old.first o.old.segs.items ≡ Some f))) }
 {
     if is_idle(o, by) {
         return Ok(None);
     }
     let Some((i, a, start)) = find_first(&o.first, &o.segs, by) else {
-        return Ok(None);
+        unreachable!()
     };
     let b = o.segs[i].to;
     let start = (*o.version.machine).share(alloc, start)?;
     let rows = history.rows(alloc, a, b)?;
     let version = Arc::try_clone(&o.version)?;
     o.segs[i].link = Link::Out(number);
-    o.has_open = any_open(&o.segs);
+    o.left = left_of(&o.segs);
     Ok(Some(Ticket {
         number,
         by,

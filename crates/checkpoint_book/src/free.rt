@@ -1,9 +1,9 @@
 // A ticket is given up.
 ghost use Rattle.std.specs.Prelude.{◌≡◌, ℕ};
 ghost use Rattle.book_history.specs.Book.{free_link, freed};
-ghost use Rattle.checkpoint_book.specs.Idle.{any_open};
+ghost use Rattle.checkpoint_book.specs.Idle.{left_of};
 
-use crate::idle::any_open;
+use crate::idle::left_of;
 use crate::opened::Opened;
 use book_history::link::Link;
 use book_history::segment::Segment;
@@ -40,8 +40,8 @@ pub fn release_in<D, S>(o: &mut Opened<D, S>, ticket: u64)
     ensures version { o.new.version ≡ o.old.version }
     ensures first { o.new.first ≡ o.old.first }
     ensures items { o.new.segs.items ≡ freed ticket o.old.segs.items }
-    ensures open { o.new.has_open ≡ any_open o.new.segs.items }
+    ensures left { o.new.left ≡ left_of o.new.segs.items }
 {
     free(&mut o.segs, ticket);
-    o.has_open = any_open(&o.segs);
+    o.left = left_of(&o.segs);
 }

@@ -1,9 +1,9 @@
 // The links and marks that a run makes, and how a book takes them in.
-ghost use Rattle.std.specs.Prelude.{◌≡◌, ◌++◌, ◌+◌, ◌≤◌, ◌||◌, length, vec_capacity, OnOk};
+ghost use Rattle.std.specs.Prelude.{◌≡◌, ◌++◌, ◌+◌, ◌≤◌, length, vec_capacity, OnOk};
 ghost use Rattle.checkpoint_book.specs.Growth.{grown_to, HasPlaces};
-ghost use Rattle.checkpoint_book.specs.Idle.{any_open};
+ghost use Rattle.checkpoint_book.specs.Idle.{left_of};
 
-use crate::idle::any_open;
+use crate::idle::{left_of, left_of_both};
 use crate::opened::Opened;
 use book_history::segment::Segment;
 use no_memory::NoMemory;
@@ -20,7 +20,7 @@ pub fn make_room<D, S>(o: &mut Opened<D, S>, growth: &Growth<S>) -> Result<(), N
     ensures version { o.new.version ≡ o.old.version }
     ensures first { o.new.first ≡ o.old.first }
     ensures items { o.new.segs.items ≡ o.old.segs.items }
-    ensures open { o.new.has_open ≡ o.old.has_open }
+    ensures left { o.new.left ≡ o.old.left }
     ensures places { OnOk result (HasPlaces growth.now o.new.segs) }
 {
     match growth {
@@ -42,30 +42,23 @@ fn append<S: Drop>(segs: &mut Vec<Segment<S>>, more: Vec<Segment<S>>)
     }
 }
 
-fn either(a: bool, b: bool) -> bool
-    ensures { result ≡ a || b }
-{
-    a || b
-}
-
 /// Takes the marks in. It takes no memory.
 pub fn grow<D, S: Drop>(o: &mut Opened<D, S>, growth: Growth<S>)
     requires places { HasPlaces growth o.old.segs }
     ensures version { o.new.version ≡ o.old.version }
     ensures first { o.new.first ≡ o.old.first }
     ensures items { o.new.segs.items ≡ grown_to growth o.old.segs.items }
-    ensures open { o.old.has_open ≡ any_open o.old.segs.items → o.new.has_open ≡ any_open o.new.segs.items }
+    ensures left { o.old.left ≡ left_of o.old.segs.items → o.new.left ≡ left_of o.new.segs.items }
 {
     match growth {
         Growth::More(more) => {
-            let opens = any_open(&more);
+            let behind = left_of(&more);
             append(&mut o.segs, more);
-            o.has_open = either(o.has_open, opens);
+            o.left = left_of_both(o.left, behind);
         }
         Growth::All(segs) => {
-            let opens = any_open(&segs);
+            o.left = left_of(&segs);
             o.segs = segs;
-            o.has_open = opens;
         }
     }
 }

@@ -3,10 +3,10 @@ ghost use Rattle.std.specs.Prelude.{◌≡◌, ℕ, [], List, if◌then◌else�
 ghost use Rattle.book_history.specs.Book.{is_current, joined, result_of, with_segs};
 ghost use Rattle.checkpoint_book.specs.Opened.{core_of};
 ghost use Rattle.checkpoint_book.specs.Answers.{install_answer, link_or_start, has_cycles};
-ghost use Rattle.checkpoint_book.specs.Idle.{any_open};
+ghost use Rattle.checkpoint_book.specs.Idle.{left_of};
 
 use crate::find::{find_cycles, find_link, join_at};
-use crate::idle::any_open;
+use crate::idle::left_of;
 use crate::installed::Installed;
 use crate::opened::Opened;
 use crate::ticket::Ticket;
@@ -32,7 +32,7 @@ pub fn install_in<M: Machine>(o: &mut Opened<M, M::State>, v: Verified<M>) -> In
     ensures book { core_of {R = M.Row} o.new [] [] [] ≡ (if is_current M.kit (core_of {R = M.Row} o.old [] [] []) v.1
         then with_segs (core_of {R = M.Row} o.old [] [] []) (joined M.kit o.old.version.value.machine.value v.1 (result_of M.kit v.1) 0 o.old.first o.old.segs.items)
         else core_of {R = M.Row} o.old [] [] []) }
-    ensures open { o.old.has_open ≡ any_open o.old.segs.items → o.new.has_open ≡ any_open o.new.segs.items }
+    ensures left { o.old.left ≡ left_of o.old.segs.items → o.new.left ≡ left_of o.new.segs.items }
 {
     let Verified { ticket, outcome } = v;
     let ticket_version = ticket.version().number;
@@ -46,7 +46,7 @@ pub fn install_in<M: Machine>(o: &mut Opened<M, M::State>, v: Verified<M>) -> In
     }
     if let Some(i) = find_link(&*o.version.machine, &o.first, &o.segs, &ticket) {
         join_at(&*o.version.machine, &mut o.segs, i, outcome);
-        o.has_open = any_open(&o.segs);
+        o.left = left_of(&o.segs);
         return Installed::Joined;
     }
     Installed::Stale {

@@ -17,6 +17,7 @@ mod growth;
 mod idle;
 mod install;
 pub mod installed;
+mod left;
 mod marks;
 mod opened;
 mod reload;

@@ -1,5 +1,5 @@
 // The marks of a run that come behind those of the book.
-ghost use Rattle.std.specs.Prelude.{◌≡◌, ℕ, ◌<◌, ◌≤◌, ◌+◌, ◌-◌, ◌*◌, true, List, length, IfOk, OnOk};
+ghost use Rattle.std.specs.Prelude.{◌≡◌, ℕ, ◌<◌, ◌≤◌, ◌+◌, ◌-◌, ◌*◌, leb, List, length, IfOk, OnOk};
 ghost use Rattle.machine.specs.Rows.{Covers};
 ghost use Rattle.book_history.specs.Book.{last_state, simulated, grid};
 ghost use Rattle.checkpoint_book.specs.Grid.{AgreeFrom};
@@ -19,7 +19,7 @@ pub fn stay_few(links: usize, interval: u64, c: u64, end: u64) -> bool
     requires interval { 1 ≤ interval }
     requires few { links < 1024 }
     requires rises { c ≤ end }
-    ensures { result ≡ true → links + 1 + length (grid interval c (end - c)) < 1025 }
+    ensures { result ≡ leb (links + 1 + length (grid interval c (end - c))) 1024 }
 {
     let mut count = links;
     let mut at = c;

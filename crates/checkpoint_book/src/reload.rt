@@ -4,7 +4,7 @@ ghost use Rattle.book_history.specs.Book.{last_cycle, chosen};
 ghost use Rattle.book_history.specs.Law.{record_of};
 ghost use Rattle.checkpoint_book.specs.Renew.{AllFit, Rises, IsReloaded};
 
-use crate::idle::any_open;
+use crate::idle::left_of;
 use crate::opened::Opened;
 use crate::renew::{choose, renew_segs};
 use book_history::history_writer::HistoryWriter;
@@ -46,12 +46,12 @@ pub fn renewed<M: Machine, L: Ledger>(
     let segs = renew_segs(
         alloc, old, machine, ops, &first, kept, later, &rows, from, steps,
     )?;
-    let has_open = any_open(&segs);
+    let left = left_of(&segs);
     let next = Opened {
         version,
         first,
         segs,
-        has_open,
+        left,
     };
     Ok((next, from))
 }

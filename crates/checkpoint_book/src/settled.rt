@@ -1,30 +1,34 @@
 // How far a book is settled.
 ghost use Rattle.std.specs.Prelude.{◌≡◌, ℕ, None};
-ghost use Rattle.book_history.specs.Book.{is_joined, shown};
+ghost use Rattle.book_history.specs.Book.{settled_to, shown};
+ghost use Rattle.checkpoint_book.specs.Idle.{left_of};
 
-use book_history::link::Link;
+use crate::idle::{is_idle, joins};
+use crate::opened::Opened;
 use book_history::segment::Segment;
+use book_history::who::Who;
 
-fn joins(link: Link) -> bool
-    ensures { result ≡ is_joined link }
-{
-    match link {
-        Link::Open => false,
-        Link::Out(_) => false,
-        Link::Joined => true,
-    }
-}
-
-/// The cycle at the end of the leading joined links, or None where all links are joined.
-pub fn settled_to<S>(segs: &[Segment<S>]) -> Option<u64>
-    ensures { result ≡ shown segs.now }
+/// The cycle at the end of the leading joined links.
+fn leading_end<S>(segs: &[Segment<S>]) -> u64
+    ensures { result ≡ settled_to 0 segs.now }
 {
     let mut cycle = 0;
     for seg in segs {
         if !joins(seg.link) {
-            return Some(cycle);
+            return cycle;
         }
         cycle = seg.to;
     }
-    None
+    cycle
+}
+
+/// The cycle at the end of the leading joined links, or None, by one look, where all links are joined.
+pub fn settled_to<D, S>(o: &Opened<D, S>) -> Option<u64>
+    requires { o.now.left ≡ left_of o.now.segs.items }
+    ensures { result ≡ shown o.now.segs.items }
+{
+    if is_idle(o, Who::Session) {
+        return None;
+    }
+    Some(leading_end(&o.segs))
 }

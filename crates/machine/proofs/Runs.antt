@@ -1,6 +1,6 @@
 -- The rows of a list of runs, and where its runs begin.
 use Rattle.std.proofs.Common.{◌≡◌, ℕ, zero, suc, ◌+◌, ◌-◌, ◌<◌, ◌≤◌, List, [], ◌∷◌, ◌++◌, length, take, drop, get_or, set, replicate, refl, sym, subst, inl, inr, eq-or-lt_of_le, ◌∙◌, ap, arith, length-append, append_assoc, append-nil, drop-drop, take-add, add-one}
-use Rattle.std.proofs.lemmas.List.{length-replicate, drop-replicate, drop-append-le, replicate-append-replicate}
+use Rattle.std.proofs.lemmas.List.{length-replicate, drop-replicate, drop-append-le, replicate-append-replicate, take_all}
 use Rattle.std.proofs.Math.Seq.{drop-append-add, take-append_seam}
 use Rattle.std.specs.List.{remove}
 use Rattle.std.specs.Prelude.{Result, Ok, Err, OnOk, is_err, false}
@@ -128,6 +128,12 @@ module _ {R : Type 0} where
       let at_rs : IsGapless a rs (a + length (expanded rs)) = subst (λ (x : ℕ). IsGapless a rs x) (end_is a rs b h) h in
       subst (λ (x : List (RowRun R)). IsGapless a x (a + length (expanded x))) (sym e) at_rs
 
+  pub gapless_view : (a : ℕ) (rs rs' : List (RowRun R)) (b : ℕ) (rows : ℕ × List R) → rs' ≡ rs → (a, expanded rs) ≡ rows → IsGapless a rs b
+      → IsGapless rows.0 rs' (rows.0 + length rows.1)
+  gapless_view a rs rs' b rows e shown h =
+      let here : (a, expanded rs') ≡ rows = ap (λ (l : List (RowRun R)). (a, expanded l)) e ∙ shown in
+      subst (λ (r : ℕ × List R). IsGapless r.0 rs' (r.0 + length r.1)) here (gapless_whole a rs rs' b e h)
+
   pub begins_within : (a : ℕ) (rs : List (RowRun R)) (b i : ℕ) → IsGapless a rs b → begins_at a rs i ≤ b
   begins_within a [] b i h = omega (arith, h)
   begins_within a (r ∷ rs) b zero h = omega (arith, h.0, h.1, end_is r.end rs b h.2)
@@ -244,6 +250,10 @@ module _ {R : Type 0} where
   pub with_none : (old new : List (RowRun R)) → new ≡ old → IsWithRuns old [] new
   with_none old new e = record { added = []; items = e ∙ sym (append-nil old); rows = refl; gapless = λ a b h. h }
 
+  gapless_split : (a : ℕ) (rs : List (RowRun R)) (b : ℕ) (r : RowRun R) → IsGapless a (rs ++ r ∷ []) b → IsGapless a rs r.start × (r.start ≤ r.end) × (r.end ≡ b)
+  gapless_split a [] b r g = (sym g.0, g.1, g.2)
+  gapless_split a (x ∷ xs) b r g = let s = gapless_split x.end xs b r g.2 in ((g.0, g.1, s.0), s.1, s.2)
+
   pub with_more : (old runs mid new : List (RowRun R)) (r : RowRun R) → IsWithRuns old runs mid → IsWithRun mid r new → IsWithRuns old (runs ++ r ∷ []) new
   with_more old runs mid new r h one =
       record {
@@ -259,10 +269,6 @@ module _ {R : Type 0} where
             subst (λ (x : ℕ). IsGapless a (h.added ++ one.added ∷ []) x) (one.end ∙ s.2)
             (gapless-snoc a h.added r.start one.added (h.gapless a r.start s.0) one.start (omega (arith, one.start, one.end, s.1)));
       }
-    where
-      gapless_split : (a : ℕ) (rs : List (RowRun R)) (b : ℕ) (r : RowRun R) → IsGapless a (rs ++ r ∷ []) b → IsGapless a rs r.start × (r.start ≤ r.end) × (r.end ≡ b)
-      gapless_split a [] b r g = (sym g.0, g.1, g.2)
-      gapless_split a (x ∷ xs) b r g = let s = gapless_split x.end xs b r g.2 in ((g.0, g.1, s.0), s.1, s.2)
 
   pub with_front : (old runs new : List (RowRun R)) → IsWithRuns old runs new → take (length old) new ≡ old
   with_front old runs new h = ap (λ (l : List (RowRun R)). take (length old) l) h.items ∙ take-append_seam old h.added
@@ -340,3 +346,38 @@ module _ {R : Type 0} where
       let same : set (remove rs (suc i)) i (as_one u s) ≡ set mid (suc i - 1) (as_one u s) =
       ap (λ (l : List (RowRun R)). set l i (as_one u s)) (sym middle) ∙ ap (λ (k : ℕ). set mid k (as_one u s)) (sym before) in
       subst P same (merged i a rs b r t s u lt is' other next row left' h)
+
+  -- a list of runs that has the rows of another one, cycle by cycle
+
+  abbrev pub HasRowsOf : List (RowRun R) → List (RowRun R) → Type 0
+  HasRowsOf runs new = (a b : ℕ) → IsGapless a runs b → IsGapless a new b × (expanded new ≡ expanded runs)
+
+  pub rows_of_none : (new : List (RowRun R)) → new ≡ [] → HasRowsOf [] new
+  rows_of_none new e = λ a b h. (subst (λ (l : List (RowRun R)). IsGapless a l b) (sym e) h, ap (λ (l : List (RowRun R)). expanded l) e)
+
+  -- one run more, and then a list with the same rows
+  pub rows_of_more : (runs old mid new : List (RowRun R)) (i : ℕ) (g : RowRun R) → i < length runs → g ≡ get_or runs i g
+      → HasRowsOf (take i runs) old → IsWithRun old g mid
+      → ((a b : ℕ) → IsGapless a mid b → expanded new ≡ expanded mid) → ((a b : ℕ) → IsGapless a mid b → IsGapless a new b)
+      → HasRowsOf (take (i + 1) runs) new
+  rows_of_more runs old mid new i g lt is had one rows gapless =
+      let t : take (i + 1) runs ≡ take i runs ++ g ∷ [] =
+      (take_at_read runs i g lt).1 ∙ ap (λ (x : RowRun R). take i runs ++ x ∷ []) (sym is) in
+      subst (λ (l : List (RowRun R)). HasRowsOf l new) (sym t) (λ a b h.
+      let s = gapless_split a (take i runs) b g h in
+      let before = had a g.start s.0 in
+      let ends : one.added.end ≡ b = one.end ∙ s.2 in
+      let joined : IsGapless a (old ++ one.added ∷ []) one.added.end = gapless-snoc a old g.start one.added before.0 one.start (omega (arith, one.start, one.end, s.1)) in
+      let here : IsGapless a mid b =
+      subst (λ (l : List (RowRun R)). IsGapless a l b) (sym one.items) (subst (λ (x : ℕ). IsGapless a (old ++ one.added ∷ []) x) ends joined) in
+      let count : one.added.end - one.added.start ≡ g.end - g.start = omega (arith, one.start, one.end) in
+      let same : expanded mid ≡ expanded (take i runs ++ g ∷ []) =
+      ap (λ (l : List (RowRun R)). expanded l) one.items ∙ expanded-snoc old one.added
+      ∙ ap (λ (l : List R). l ++ replicate (one.added.end - one.added.start) one.added.row.value) before.1
+      ∙ ap (λ (n : ℕ). expanded (take i runs) ++ replicate n one.added.row.value) count
+      ∙ ap (λ (x : R). expanded (take i runs) ++ replicate (g.end - g.start) x) one.row
+      ∙ sym (expanded-snoc (take i runs) g) in
+      (gapless a b here, rows a b here ∙ same))
+
+  pub rows_of_all : (runs new : List (RowRun R)) (n : ℕ) → length runs ≤ n → HasRowsOf (take n runs) new → HasRowsOf runs new
+  rows_of_all runs new n le h = subst (λ (l : List (RowRun R)). HasRowsOf l new) (take_all n runs le) h

@@ -96,7 +96,10 @@ pub fn share_between<R: Drop>(
 }
 
 /// One run more, its row shared.
-fn append_run<R: Drop>(list: &mut Vec<RowRun<R>>, run: &RowRun<R>) -> Result<(), NoMemory>
+pub(crate) fn append_run<R: Drop>(
+    list: &mut Vec<RowRun<R>>,
+    run: &RowRun<R>,
+) -> Result<(), NoMemory>
     ensures ok { OnOk result (IsWithRun list.old.items run.now list.new.items) }
     ensures kept { OnErr result (list.new.items ≡ list.old.items) }
 {
@@ -158,6 +161,14 @@ impl<R: Drop> RowRuns<R> {
             end: self.end,
             runs: self.runs.clone()?,
         })
+    }
+
+    /// The runs, in order.
+    pub(crate) fn runs(&self) -> &[RowRun<R>]
+        ensures rows { expanded result.now ≡ self.now.1 }
+        ensures gapless { IsGapless self.now.0 result.now (self.now.0 + length self.now.1) }
+    {
+        &self.runs
     }
 
     /// These runs behind the ones of a list. Where memory runs out, the list is as it was.

@@ -2,7 +2,7 @@
 ghost use Rattle.std.specs.Prelude.{◌≡◌, ◌<◌, ◌∷◌, [], IfOk};
 
 use crate::Machine;
-use crate::merge::merge_at;
+use crate::merge::{merge_at, merged_rows};
 use crate::row_run::RowRun;
 use crate::row_runs::RowRuns;
 use crate::steps::Steps;
@@ -30,6 +30,19 @@ fn three_rows(alloc: Global) -> Result<RowRuns<u64>, NoMemory>
         row: Arc::new(alloc, 5)?,
     })?;
     RowRuns::new(0, 3, runs)
+}
+
+/// Row 7 at each of 1,000 cycles, in a run of its own.
+fn equal_rows(alloc: Global) -> Result<RowRuns<u64>, NoMemory> {
+    let mut runs = Vec::new(alloc);
+    for cycle in 0..1000 {
+        runs.push(RowRun {
+            start: cycle,
+            end: cycle + 1,
+            row: Arc::new(alloc, 7)?,
+        })?;
+    }
+    RowRuns::new(0, 1000, runs)
 }
 
 /// The tallies after the three rows from reset, and after the last two of them from 10.
@@ -85,6 +98,23 @@ fn merges_equal_rows(rt: HostRuntime) -> Result<(), Fail> {
     if let Some(run) = list.first() {
         assert_eq!(rt; (run.start, run.end), (0, 2));
     }
+    Ok(())
+}
+
+/// A thousand runs of one cycle with row 7 become one, and runs with other rows stay apart.
+#[test]
+fn merges_runs_that_are_handed_in(rt: HostRuntime) -> Result<(), Fail> {
+    let equal = equal_rows(rt.alloc())?;
+    let mut list = Vec::new(rt.alloc());
+    equal.append_to(&mut list)?;
+    assert_eq!(rt; list.len(), 1000);
+    let merged = merged_rows::<TallyMachine>(rt.alloc(), &equal)?;
+    let mut list = Vec::new(rt.alloc());
+    merged.append_to(&mut list)?;
+    assert_eq!(rt; list.len(), 1);
+    let other = merged_rows::<TallyMachine>(rt.alloc(), &three_rows(rt.alloc())?)?;
+    other.append_to(&mut list)?;
+    assert_eq!(rt; list.len(), 3);
     Ok(())
 }
 

@@ -11,6 +11,8 @@ mod meeting;
 #[cfg(test)]
 mod meeting_gate;
 #[cfg(test)]
+mod noting_gate;
+#[cfg(test)]
 mod reloading;
 #[cfg(test)]
 mod replay;

@@ -7,6 +7,7 @@ ghost use Rattle.checkpoint_book.specs.Views.{counts_of};
 use crate::asking::Asking;
 use crate::meeting::Meeting;
 use crate::meeting_gate::MeetingGate;
+use crate::noting_gate::NotingGate;
 use crate::reloading::{Reloading, numbered, reload_next};
 use crate::replay::Replay;
 use crate::session_work::SessionWork;
@@ -122,10 +123,10 @@ where
         pass,
         answer,
         started,
-        refusal: _,
+        refusal,
     } = with_workers(rt, alloc, &turn, pass, workers, gate, session);
     let book = turn.finish(rt, pass);
-    if started != workers {
+    if started != workers || refusal.is_some() {
         return Err("a worker was not started")?;
     }
     Ok((book, answer))
@@ -358,12 +359,15 @@ fn releases<M: Machine>(history: &History<M>) -> usize {
 fn a_worker_gives_a_ticket_up_at_want_of_memory(rt: HostRuntime) -> Result<(), Fail> {
     let alloc = rt.alloc();
     let book = edited_and_watched::<Brand>(alloc, true, None, Blank::new(1))?;
-    let (book, settled) = beside(&rt, alloc, book, 2, &OpenGate, Asking { times: TIMES })?;
+    let gate = NotingGate::new(1);
+    let (book, settled) = beside(&rt, alloc, book, 2, &gate, Asking { times: TIMES })?;
     assert!(rt; settled);
     assert_eq!(rt; *last(&book)?, 32);
     let history = Book::into_history(book);
     assert!(rt; is_right(alloc, &history));
     // The first ticket is that of the first link, and so of the first run from cycle 0.
     assert_eq!(rt; (releases(&history), installs(&history, 1)), (1, 0));
+    // Its release was asked for at the gate as an install is.
+    assert_eq!(rt; gate.noted(), (true, true));
     Ok(())
 }

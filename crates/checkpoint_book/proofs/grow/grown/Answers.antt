@@ -1,4 +1,5 @@
-use Rattle.std.proofs.Common.{◌≡◌, ◌-◌, ◌<◌, ◌+◌, List, length, ◌∙◌, ap, arith}
+use Rattle.std.proofs.Common.{◌≡◌, ◌-◌, ◌<◌, ◌+◌, List, length, sym, ◌∙◌, ap, arith, ◌≤◌}
+use Rattle.std.proofs.lemmas.Bool.{leb-true}
 use Rattle.book_history.specs.declared.segment.Segment.{Segment}
 use Rattle.book_history.specs.declared.version.Version.{Version}
 use Rattle.book_history.specs.Book.{simulated, last_state, grid}
@@ -16,5 +17,6 @@ returns-clause-items g c = λ all agree.
     let from : c.last-from.result.now ≡ s = c.last-from.ensures ∙ ap (λ (l : List (Segment g.row.M-State.Denot)). last_state o.first l) c.deref-2.ensures.value in
     let marks : c.in_ok-more.more.items ≡ simulated k m all c.args.c s cs =
     c.in_ok-more.ensures.items all agree ∙ ap (λ (x : g.row.M.Denot). simulated k x all c.args.c c.last-from.result.now cs) machine ∙ ap (λ (x : g.row.M-State.Denot). simulated k m all c.args.c x cs) from in
-    let few : length o.segs.items + 1 + length cs < 1025 = omega (arith, c.stay_few.ensures c.if-not-stay_few.false, c.len.ensures) in
+    let counted : c.len.result + 1 + length cs ≤ 1024 = leb-true (c.len.result + 1 + length cs) 1024 (sym c.stay_few.ensures ∙ c.if-not-stay_few.false) in
+    let few : length o.segs.items + 1 + length cs < 1025 = omega (arith, counted, c.len.ensures) in
     more_plain k m all o.segs.items c.in_ok-more.more.items c.args.c s cs few marks

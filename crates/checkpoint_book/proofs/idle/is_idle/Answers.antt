@@ -1,12 +1,10 @@
-use Rattle.std.proofs.Common.{◌∙◌, sym, ap}
-use Rattle.std.proofs.lemmas.Bool.{not-true}
-use Rattle.book_history.specs.declared.who.Who.{Who}
-use Rattle.book_history.specs.Book.{first_link, takes}
-use Rattle.checkpoint_book.proofs.Idles.{idle_none}
+use Rattle.std.proofs.Common.{◌∙◌, ap}
+use Rattle.checkpoint_book.specs.declared.left.Left.{Left}
+use Rattle.checkpoint_book.specs.Idle.{takes_none}
+use Rattle.checkpoint_book.proofs.Idles.{takes_none_is}
 use Rattle.checkpoint_book.proofs.idle.is_idle.Goals as goal
 
-pub returns-in-Worker : goal.returns-in-Worker
-returns-in-Worker g c = λ idle.
+pub returns : goal.returns
+returns g c =
     let o = c.args.o.now in
-    ap (λ (x : Who). first_link (takes x) 0 o.first o.segs.items) c.in-Worker.is
-    ∙ idle_none c.in-Worker.field-0 0 o.first o.segs.items (sym c.requires.open ∙ not-true o.has_open idle)
+    c.takes_none.ensures ∙ ap (λ (l : Left). takes_none c.args.by l) c.requires ∙ takes_none_is c.args.by 0 o.first o.segs.items

@@ -5,7 +5,7 @@ use Rattle.book_history.specs.declared.version.Version.{Version}
 use Rattle.book_history.specs.Book.{chosen, last_cycle, last_state, cycles, simulated, reloaded}
 use Rattle.book_history.specs.Law.{record_of}
 use Rattle.checkpoint_book.specs.Grid.{AgreeFrom}
-use Rattle.checkpoint_book.specs.Idle.{any_open}
+use Rattle.checkpoint_book.specs.Idle.{left_of}
 use Rattle.checkpoint_book.specs.Renew.{kept_count, carried_over}
 use Rattle.checkpoint_book.proofs.Draws.{slice_length, between_zero}
 use Rattle.checkpoint_book.proofs.Renewals.{Parts, parts, parts_are, all_of, carried_last, length-reloaded, agree_part}
@@ -277,6 +277,6 @@ returns-clause-book g c =
       version = refl;
       first = first;
       items = items;
-      opens = c.any_open-has_open.ensures ∙ ap (λ (l : List (Segment g.row.M-State.Denot)). any_open l) c.deref-5.ensures.value;
+      left_is = c.left_of-left.ensures ∙ ap (λ (l : List (Segment g.row.M-State.Denot)). left_of l) c.deref-5.ensures.value;
       few = omega (arith, ap (λ (l : List (Segment g.row.M-State.Denot)). length l) items, length-reloaded k old_m new_m ops rows c.args.limit 0 (k.start new_m) segs, c.requires.few);
     }

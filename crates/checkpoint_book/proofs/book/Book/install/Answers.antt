@@ -10,7 +10,7 @@ use Rattle.checkpoint_book.specs.Counts.{used_by}
 use Rattle.checkpoint_book.specs.Opened.{core_of}
 use Rattle.checkpoint_book.specs.Kept.{IsKept}
 use Rattle.checkpoint_book.specs.Views.{book_of, HasRoomFor}
-use Rattle.checkpoint_book.proofs.Keeps.{kept_more, legal_next, opens_is, small_of}
+use Rattle.checkpoint_book.proofs.Keeps.{kept_more, legal_next, left_stands, small_of}
 use Rattle.checkpoint_book.proofs.Uses.{install_next, install_fits, room_of, joined_answer, used_counts, used_fewer}
 use Rattle.checkpoint_book.proofs.book.Book.install.Goals as goal
 
@@ -27,12 +27,12 @@ push-requires-clause-legal g c κs within =
     let Q : Journal g.row.M.Denot g.row.M-Row.Denot g.row.M-Ops.Denot → Type 0 = λ x. HasRoomFor x c.args.by in
     let room : Q j = subst Q (sym c.self.view_is) c.requires.room in
     let joined = c.is_joined-joined.result in
-    let kept_open = opens_is m.kit (book_of m.kit j) o n.drawn n.out kept.stands in
+    let kept_open = left_stands m.kit (book_of m.kit j) o n.drawn n.out kept.stands in
     let next = install_next m.kit m.valid j.settings (book_of m.kit j) o c.install_in-answer.new.o n c.args.v.0 c.args.v.1 joined c.args.by kept.stands out
     (record {
       answer = c.is_joined-joined.ensures ∙ ap is_joined_answer c.install_in-answer.ensures.answer ∙ joined_answer m.kit (core_of {R = g.row.M-Row.Denot} o [] [] []) c.args.v.1;
       book = c.install_in-answer.ensures.book;
-      opens = c.install_in-answer.ensures.open kept_open;
+      left_is = c.install_in-answer.ensures.left kept_open;
     }) in
     rw num (legal_next m.kit m.valid j (Installs c.args.v.0 joined c.args.by) (Some o) n kept c.legal.ensures next.0 (install_fits g.row.M.Denot g.row.M-Row.Denot g.row.M-Ops.Denot j.settings n c.args.v.0 joined c.args.by (room_of j n c.args.by kept.counted room)))
 
@@ -54,12 +54,12 @@ invariant_of-self g c =
     let Q : Journal g.row.M.Denot g.row.M-Row.Denot g.row.M-Ops.Denot → Type 0 = λ x. HasRoomFor x c.args.by in
     let room : Q j = subst Q (sym c.self.view_is) c.requires.room in
     let joined = c.is_joined-joined.result in
-    let kept_open = opens_is m.kit (book_of m.kit j) o n.drawn n.out kept.stands in
+    let kept_open = left_stands m.kit (book_of m.kit j) o n.drawn n.out kept.stands in
     let next = install_next m.kit m.valid j.settings (book_of m.kit j) o c.install_in-answer.new.o n c.args.v.0 c.args.v.1 joined c.args.by kept.stands out
     (record {
       answer = c.is_joined-joined.ensures ∙ ap is_joined_answer c.install_in-answer.ensures.answer ∙ joined_answer m.kit (core_of {R = g.row.M-Row.Denot} o [] [] []) c.args.v.1;
       book = c.install_in-answer.ensures.book;
-      opens = c.install_in-answer.ensures.open kept_open;
+      left_is = c.install_in-answer.ensures.left kept_open;
     }) in
     let after = kept_more m.kit j c.push.new.self (Installs c.args.v.0 joined c.args.by) (Some o) (Some c.install_in-answer.new.o) n (used_by c.args.by n) kept c.push.ensures.settings (rw num at c.push.ensures.events)
     next.1 (used_counts c.args.by n) (used_fewer c.args.by n kept.fewer) in

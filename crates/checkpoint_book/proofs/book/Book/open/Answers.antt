@@ -29,7 +29,7 @@ push_open-requires-clause-legal g c κs within =
     let same : v ≡ c.args.version.value = c.in_ok-version.ensures ∙ c.in_ok-opened.ensures.version in
     let first : o'.first ≡ m.kit.start v.machine.value = c.in_ok-opened.ensures.first ∙ ap (λ (x : Version g.row.M.Denot). m.kit.start x.machine.value) (sym same) in
     let number : v.number ≡ 1 = ap (λ (x : Version g.row.M.Denot). x.number) same ∙ c.requires.number in
-    let next = open_next m.kit m.valid j.settings (book_of m.kit j) o o' v n.drawn n.out never kept.stands number (sym c.in_ok-version.ensures) first c.in_ok-opened.ensures.segs c.in_ok-opened.ensures.open in
+    let next = open_next m.kit m.valid j.settings (book_of m.kit j) o o' v n.drawn n.out never kept.stands number (sym c.in_ok-version.ensures) first c.in_ok-opened.ensures.segs c.in_ok-opened.ensures.left in
     legal_next m.kit m.valid j (Opens v.number v.machine.value) o n kept c.legal.ensures next.0 fits
 
 pub one_of_session-self-inside-requires : goal.one_of_session-self-inside-requires
@@ -54,6 +54,6 @@ invariant_of-self-2 g c =
     let same : v ≡ c.args.version.value = c.in_ok-version.ensures ∙ c.in_ok-opened.ensures.version in
     let first : o'.first ≡ m.kit.start v.machine.value = c.in_ok-opened.ensures.first ∙ ap (λ (x : Version g.row.M.Denot). m.kit.start x.machine.value) (sym same) in
     let number : v.number ≡ 1 = ap (λ (x : Version g.row.M.Denot). x.number) same ∙ c.requires.number in
-    let next = open_next m.kit m.valid j.settings (book_of m.kit j) o o' v n.drawn n.out never kept.stands number (sym c.in_ok-version.ensures) first c.in_ok-opened.ensures.segs c.in_ok-opened.ensures.open in
+    let next = open_next m.kit m.valid j.settings (book_of m.kit j) o o' v n.drawn n.out never kept.stands number (sym c.in_ok-version.ensures) first c.in_ok-opened.ensures.segs c.in_ok-opened.ensures.left in
     let after = kept_more m.kit j c.push_open.new.self (Opens v.number v.machine.value) o (Some o') n (one_more n) kept c.push_open.ensures.settings c.in_ok-push_open.ensures.ok next.1 refl (omega (arith, kept.fewer)) in
     subst (λ (x : Counters). IsKept m.kit c.push_open.new.self (Some o') x) (sym c.one_of_session-self-inside.ensures) after

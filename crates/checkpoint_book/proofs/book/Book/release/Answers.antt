@@ -26,7 +26,7 @@ push-requires-clause-legal g c κs within =
     let room : Q j = subst Q (sym c.self.view_is) c.requires.room in
     let o' : Opened g.row.M.Denot g.row.M-State.Denot = c.release_in.new.o in
     let next = release_next m.kit m.valid j.settings (book_of m.kit j) o o' n c.args.t.0 c.args.t.1 c.args.by kept.stands out
-    (released_core o o' c.args.t.0 c.release_in.ensures.version c.release_in.ensures.first (rw num at c.release_in.ensures.items)) c.release_in.ensures.open in
+    (released_core o o' c.args.t.0 c.release_in.ensures.version c.release_in.ensures.first (rw num at c.release_in.ensures.items)) c.release_in.ensures.left in
     rw num (legal_next m.kit m.valid j (Releases c.args.t.0 c.args.by) (Some o) n kept c.legal.ensures next.0 (release_fits g.row.M.Denot g.row.M-Row.Denot g.row.M-Ops.Denot j.settings n c.args.t.0 c.args.by (room_of j n c.args.by kept.counted room)))
 
 pub used-self-inside-requires : goal.used-self-inside-requires
@@ -48,7 +48,7 @@ invariant_of-self g c =
     let room : Q j = subst Q (sym c.self.view_is) c.requires.room in
     let o' : Opened g.row.M.Denot g.row.M-State.Denot = c.release_in.new.o in
     let next = release_next m.kit m.valid j.settings (book_of m.kit j) o o' n c.args.t.0 c.args.t.1 c.args.by kept.stands out
-    (released_core o o' c.args.t.0 c.release_in.ensures.version c.release_in.ensures.first (rw num at c.release_in.ensures.items)) c.release_in.ensures.open in
+    (released_core o o' c.args.t.0 c.release_in.ensures.version c.release_in.ensures.first (rw num at c.release_in.ensures.items)) c.release_in.ensures.left in
     let after = kept_more m.kit j c.push.new.self (Releases c.args.t.0 c.args.by) (Some o) (Some o') n (used_by c.args.by n) kept c.push.ensures.settings (rw num at c.push.ensures.events)
     next.1 (used_counts c.args.by n) (used_fewer c.args.by n kept.fewer) in
     subst (λ (x : Counters). IsKept m.kit c.push.new.self (Some o') x) (sym c.used-self-inside.ensures) after

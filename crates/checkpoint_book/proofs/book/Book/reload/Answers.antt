@@ -232,7 +232,7 @@ push_reload-requires-clause-legal g c κs within =
     is.items ∙ ap (λ (y : g.row.M-Ops.Denot). P y c.args.version.value (record_of j.events) limit) c.deref.ensures ∙ ap (λ (x : Version g.row.M.Denot). R x (record_of j.events) limit) (sym same_v) ∙ ap (λ (l : List g.row.M-Row.Denot). R v l limit) rows ∙ ap (λ (i : ℕ). R v (record_in b) i) limit_is in
     let first : o'.first ≡ m.kit.start v.machine.value = is.first ∙ ap (λ (x : Version g.row.M.Denot). m.kit.start x.machine.value) (sym same_v) in
     let from_is : c.in_ok-next.from ≡ chosen (length (record_in b) - j.settings.lookback) 0 segs = c.in_ok-next.ensures.cycle ∙ ap (λ (x : ℕ). chosen x 0 segs) limit_is in
-    let next = reload_next m.kit m.valid j.settings b o o' n.drawn n.out v ops c.in_ok-next.from kept.stands number lead from_is (sym c.in_ok-version.ensures) first items is.few is.opens in
+    let next = reload_next m.kit m.valid j.settings b o o' n.drawn n.out v ops c.in_ok-next.from kept.stands number lead from_is (sym c.in_ok-version.ensures) first items is.few is.left_is in
     let event = Reloads v.number v.machine.value ops c.in_ok-next.from in
     legal_next m.kit m.valid j event (Some o) n kept c.legal.ensures next.0 fits
 
@@ -283,7 +283,7 @@ invariant_of-self-2 g c =
     is.items ∙ ap (λ (y : g.row.M-Ops.Denot). P y c.args.version.value (record_of j.events) limit) c.deref.ensures ∙ ap (λ (x : Version g.row.M.Denot). R x (record_of j.events) limit) (sym same_v) ∙ ap (λ (l : List g.row.M-Row.Denot). R v l limit) rows ∙ ap (λ (i : ℕ). R v (record_in b) i) limit_is in
     let first : o'.first ≡ m.kit.start v.machine.value = is.first ∙ ap (λ (x : Version g.row.M.Denot). m.kit.start x.machine.value) (sym same_v) in
     let from_is : c.in_ok-next.from ≡ chosen (length (record_in b) - j.settings.lookback) 0 segs = c.in_ok-next.ensures.cycle ∙ ap (λ (x : ℕ). chosen x 0 segs) limit_is in
-    let next = reload_next m.kit m.valid j.settings b o o' n.drawn n.out v ops c.in_ok-next.from kept.stands number lead from_is (sym c.in_ok-version.ensures) first items is.few is.opens in
+    let next = reload_next m.kit m.valid j.settings b o o' n.drawn n.out v ops c.in_ok-next.from kept.stands number lead from_is (sym c.in_ok-version.ensures) first items is.few is.left_is in
     let event = Reloads v.number v.machine.value ops c.in_ok-next.from in
     let after = kept_more m.kit j c.push_reload.new.self event (Some o) (Some o') n (one_more n) kept c.push_reload.ensures.settings c.in_ok-push_reload.ensures.ok next.1 refl (omega (arith, kept.fewer)) in
     subst (λ (x : Counters). IsKept m.kit c.push_reload.new.self (Some o') x) (sym c.one_of_session-self-inside.ensures) after

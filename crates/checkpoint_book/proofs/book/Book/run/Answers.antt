@@ -11,10 +11,10 @@ use Rattle.checkpoint_book.specs.declared.counters.Counters.{Counters}
 use Rattle.checkpoint_book.specs.Counts.{one_more}
 use Rattle.checkpoint_book.specs.Grid.{AgreeFrom}
 use Rattle.checkpoint_book.specs.Growth.{grown_to}
-use Rattle.checkpoint_book.specs.Idle.{any_open}
+use Rattle.checkpoint_book.specs.Idle.{left_of}
 use Rattle.checkpoint_book.specs.Kept.{IsKept}
 use Rattle.checkpoint_book.specs.Views.{book_of, HasSessionRoom, cycle_in}
-use Rattle.checkpoint_book.proofs.Keeps.{kept_more, opens_is, legal_next, small_of}
+use Rattle.checkpoint_book.proofs.Keeps.{kept_more, left_stands, legal_next, small_of}
 use Rattle.checkpoint_book.proofs.Entries.{run_may, run_next, facts, cycle_is}
 use Rattle.checkpoint_book.proofs.Thins.{agree_after}
 use Rattle.checkpoint_book.proofs.book.Book.run.Goals as goal
@@ -77,10 +77,10 @@ invariant_of-self-2 g c =
     ∙ ap (λ (i : ℕ). E all i c.start-c.result (c.end-end.result - c.start-c.result)) c.interval-interval.ensures
     ∙ ap (λ (s : ℕ). E all j.settings.interval s (c.end-end.result - s)) c.start-c.ensures
     ∙ ap (λ (z : ℕ). E all j.settings.interval r.0 z) (omega (arith, c.end-end.ensures, c.requires.count)) in
-    let was_open : c.make_room.new.o.has_open ≡ any_open c.make_room.new.o.segs.items =
-    c.make_room.ensures.open ∙ opens_is m.kit (book_of m.kit j) o n.drawn n.out kept.stands ∙ ap (λ (l : List (Segment g.row.M-State.Denot)). any_open l) (sym same) in
+    let was_open : c.make_room.new.o.left ≡ left_of c.make_room.new.o.segs.items =
+    c.make_room.ensures.left ∙ left_stands m.kit (book_of m.kit j) o n.drawn n.out kept.stands ∙ ap (λ (l : List (Segment g.row.M-State.Denot)). left_of l) (sym same) in
     let next = run_next m.kit m.valid j.settings (book_of m.kit j) o o' n.drawn n.out r c.args.n kept.stands starts c.requires.count c.requires.some
-    (c.grow.ensures.version ∙ c.make_room.ensures.version) (c.grow.ensures.first ∙ c.make_room.ensures.first) items (c.grow.ensures.open was_open) in
+    (c.grow.ensures.version ∙ c.make_room.ensures.version) (c.grow.ensures.first ∙ c.make_room.ensures.first) items (c.grow.ensures.left was_open) in
     let events = c.in_ok-push_run.ensures.ok ∙ ap (λ (i : ℕ). j.events ++ Runs i r.1 ∷ []) c.requires.count in
     let after = kept_more m.kit j c.push_run.new.self (Runs c.args.n r.1) (Some o) (Some o') n (one_more n) kept c.push_run.ensures.settings events next.1 refl (omega (arith, kept.fewer)) in
     subst (λ (x : Counters). IsKept m.kit c.push_run.new.self (Some o') x) (sym c.one_of_session-self-inside.ensures) after

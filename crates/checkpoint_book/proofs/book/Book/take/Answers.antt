@@ -15,7 +15,7 @@ use Rattle.checkpoint_book.specs.Draw.{IsDrawnAs}
 use Rattle.checkpoint_book.specs.Kept.{IsKept}
 use Rattle.checkpoint_book.specs.Opened.{core_of}
 use Rattle.checkpoint_book.specs.Views.{book_of, counts_of, none_free, is_none}
-use Rattle.checkpoint_book.proofs.Keeps.{kept_more, legal_next, opens_is, small_of, stands_out}
+use Rattle.checkpoint_book.proofs.Keeps.{kept_more, legal_next, left_stands, small_of, stands_out}
 use Rattle.checkpoint_book.proofs.Entries.{claim_next, replay_drawn, facts, drew_counts, drew_fewer, tickets_are, none_free_is}
 use Rattle.checkpoint_book.proofs.book.Book.take.Goals as goal
 
@@ -24,14 +24,14 @@ overflow_add-number g c =
     let m = g.M.Machine in
     omega (arith, (small_of m.kit m.valid c.self.inside.history c.self.inside.opened c.self.inside.counters c.self.invariant c.legal.ensures).drawn)
 
-pub draw-requires-clause-open : goal.draw-requires-clause-open
-draw-requires-clause-open g c κs within =
+pub draw-requires-clause-left : goal.draw-requires-clause-left
+draw-requires-clause-left g c κs within =
     let m = g.M.Machine in
     let j = c.self.inside.history in
     let n = c.self.inside.counters in
     let o = c.in-Some.opened in
     let kept : IsKept m.kit j (Some o) n = subst (λ (x : Option (Opened g.row.M.Denot g.row.M-State.Denot)). IsKept m.kit j x n) c.in-Some.is c.self.invariant in
-    opens_is m.kit (book_of m.kit j) o n.drawn n.out kept.stands
+    left_stands m.kit (book_of m.kit j) o n.drawn n.out kept.stands
 
 pub draw-requires-clause-drawable : goal.draw-requires-clause-drawable
 draw-requires-clause-drawable g c κs within =
@@ -60,7 +60,7 @@ push-requires-clause-legal g c κs within =
     let drawn0 : IsDrawnAs m.kit c.args.by (n.drawn + 1) (core_of o (record_of j.events) [] []) (core_of c.draw.new.o (record_of j.events) [] []) t = rw c.in-Some-2.is at c.in_ok-ticket.ensures.some in
     let drawn1 : IsDrawnAs m.kit c.args.by (n.drawn + 1) (core_of o (record_in (book_of m.kit j)) [] []) (core_of c.draw.new.o (record_in (book_of m.kit j)) [] []) t =
     subst (λ (l : List g.row.M-Row.Denot). IsDrawnAs m.kit c.args.by (n.drawn + 1) (core_of o l [] []) (core_of c.draw.new.o l [] []) t) rows drawn0 in
-    let next = claim_next m.kit m.valid j.settings (book_of m.kit j) o c.draw.new.o n c.args.by t (replay_drawn m.kit m.valid j.settings None j.events tt c.legal.ensures.follows) kept.stands drawn1 c.draw.ensures.open in
+    let next = claim_next m.kit m.valid j.settings (book_of m.kit j) o c.draw.new.o n c.args.by t (replay_drawn m.kit m.valid j.settings None j.events tt c.legal.ensures.follows) kept.stands drawn1 c.draw.ensures.left in
     let event = Claims t.0 t.1.a t.1.b c.args.by in
     let same : ◌≡◌ {A = Event g.row.M.Denot g.row.M-Row.Denot g.row.M-Ops.Denot} event (Claims (n.drawn + 1) c.a.result c.b.result c.args.by) =
     ap (λ (i : ℕ). Claims i t.1.a t.1.b c.args.by) drawn0.number_is ∙ ap (λ (i : ℕ). Claims (n.drawn + 1) i t.1.b c.args.by) (sym c.a.ensures) ∙ ap (λ (i : ℕ). Claims (n.drawn + 1) c.a.result i c.args.by) (sym c.b.ensures.value) in
@@ -90,7 +90,7 @@ invariant_of-self-2 g c =
     let drawn0 : IsDrawnAs m.kit c.args.by (n.drawn + 1) (core_of o (record_of j.events) [] []) (core_of c.draw.new.o (record_of j.events) [] []) t = rw c.in-Some-2.is at c.in_ok-ticket.ensures.some in
     let drawn1 : IsDrawnAs m.kit c.args.by (n.drawn + 1) (core_of o (record_in (book_of m.kit j)) [] []) (core_of c.draw.new.o (record_in (book_of m.kit j)) [] []) t =
     subst (λ (l : List g.row.M-Row.Denot). IsDrawnAs m.kit c.args.by (n.drawn + 1) (core_of o l [] []) (core_of c.draw.new.o l [] []) t) rows drawn0 in
-    let next = claim_next m.kit m.valid j.settings (book_of m.kit j) o c.draw.new.o n c.args.by t (replay_drawn m.kit m.valid j.settings None j.events tt c.legal.ensures.follows) kept.stands drawn1 c.draw.ensures.open in
+    let next = claim_next m.kit m.valid j.settings (book_of m.kit j) o c.draw.new.o n c.args.by t (replay_drawn m.kit m.valid j.settings None j.events tt c.legal.ensures.follows) kept.stands drawn1 c.draw.ensures.left in
     let event = Claims t.0 t.1.a t.1.b c.args.by in
     let same : ◌≡◌ {A = Event g.row.M.Denot g.row.M-Row.Denot g.row.M-Ops.Denot} event (Claims (n.drawn + 1) c.a.result c.b.result c.args.by) =
     ap (λ (i : ℕ). Claims i t.1.a t.1.b c.args.by) drawn0.number_is ∙ ap (λ (i : ℕ). Claims (n.drawn + 1) i t.1.b c.args.by) (sym c.a.ensures) ∙ ap (λ (i : ℕ). Claims (n.drawn + 1) c.a.result i c.args.by) (sym c.b.ensures.value) in
@@ -116,7 +116,7 @@ returns-clause-some g c =
     let drawn0 : IsDrawnAs m.kit c.args.by (n.drawn + 1) (core_of o (record_of j.events) [] []) (core_of c.draw.new.o (record_of j.events) [] []) t = rw c.in-Some-2.is at c.in_ok-ticket.ensures.some in
     let drawn1 : IsDrawnAs m.kit c.args.by (n.drawn + 1) (core_of o (record_in (book_of m.kit j)) [] []) (core_of c.draw.new.o (record_in (book_of m.kit j)) [] []) t =
     subst (λ (l : List g.row.M-Row.Denot). IsDrawnAs m.kit c.args.by (n.drawn + 1) (core_of o l [] []) (core_of c.draw.new.o l [] []) t) rows drawn0 in
-    let next = claim_next m.kit m.valid j.settings (book_of m.kit j) o c.draw.new.o n c.args.by t (replay_drawn m.kit m.valid j.settings None j.events tt c.legal.ensures.follows) kept.stands drawn1 c.draw.ensures.open in
+    let next = claim_next m.kit m.valid j.settings (book_of m.kit j) o c.draw.new.o n c.args.by t (replay_drawn m.kit m.valid j.settings None j.events tt c.legal.ensures.follows) kept.stands drawn1 c.draw.ensures.left in
     let event = Claims t.0 t.1.a t.1.b c.args.by in
     let same : ◌≡◌ {A = Event g.row.M.Denot g.row.M-Row.Denot g.row.M-Ops.Denot} event (Claims (n.drawn + 1) c.a.result c.b.result c.args.by) =
     ap (λ (i : ℕ). Claims i t.1.a t.1.b c.args.by) drawn0.number_is ∙ ap (λ (i : ℕ). Claims (n.drawn + 1) i t.1.b c.args.by) (sym c.a.ensures) ∙ ap (λ (i : ℕ). Claims (n.drawn + 1) c.a.result i c.args.by) (sym c.b.ensures.value) in

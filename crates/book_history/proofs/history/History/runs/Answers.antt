@@ -1,0 +1,10 @@
+use Rattle.std.proofs.Common.{List, ap, ◌∙◌}
+use Rattle.machine.specs.declared.row_run.RowRun.{RowRun}
+use Rattle.machine.specs.Rows.{expanded}
+use Rattle.book_history.proofs.Writings.{record_kept}
+use Rattle.book_history.proofs.history.History.runs.Goals as goal
+
+pub returns : goal.returns
+returns g c =
+    let m = g.M.Machine in
+    ap (λ (l : List (RowRun g.row.M-Row.Denot)). expanded l) c.deref.ensures.value ∙ record_kept m.kit m.valid c.self.inside.written c.args.self.now c.self.view_is c.self.invariant
