@@ -14,8 +14,6 @@ pub mod link;
 pub mod load;
 pub mod rooms;
 pub mod segment;
-#[cfg(test)]
-mod tests;
 pub mod version;
 pub mod who;
 pub mod written;

@@ -13,6 +13,8 @@ mod calls;
 #[cfg(test)]
 mod case_rows;
 #[cfg(test)]
+mod empty_history;
+#[cfg(test)]
 mod held_ticket;
 #[cfg(test)]
 mod held_tickets;

@@ -32,8 +32,6 @@ mod span;
 mod stmt;
 mod target;
 mod target_form;
-#[cfg(test)]
-mod tests;
 mod touch;
 mod touching;
 mod typed;

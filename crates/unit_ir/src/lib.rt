@@ -18,8 +18,6 @@ mod shape_list;
 mod shifting;
 mod signal_kind;
 mod signal_place;
-#[cfg(test)]
-mod tests;
 mod typed_items;
 mod unit;
 mod unit_node;

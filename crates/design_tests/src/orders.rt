@@ -1,9 +1,8 @@
 // Orders and loops of small designs, worked out by hand, and of a long chain.
 ghost use Rattle.std.specs.Prelude.{◌≡◌};
 
-use crate::legal::is_legal;
-use crate::{OrderRefusal, Parts, checked_flat, no_block, order};
 use bits::Bits;
+use comb_order::{OrderRefusal, Parts, checked_flat, is_legal, no_block, order};
 use ls_text::NameId;
 use no_memory::NoMemory;
 use std::alloc::Global;
@@ -69,7 +68,7 @@ fn numbers(alloc: Global, nodes: &[NodeId]) -> Result<Vec<u32>, NoMemory> {
 }
 
 // What the order of a design with signals of these widths and these nodes is: true and an order, or false and the loop.
-#[tactic(auto, using(crate::proofs::Flatten::complete_of, crate::proofs::Flatten::first_of))]
+#[tactic(auto, using(comb_order::proofs::Flatten::complete_of, comb_order::proofs::Flatten::first_of))]
 fn answer(
     rt: &impl Abort,
     alloc: Global,

@@ -1,5 +1,4 @@
 // A node that is shifted, lists that give back what they were made from, and tables that fit.
-use crate::{ItemPlaces, RegShape, Regs, ShapeList, TypedItems, UnitParts, shifted_node};
 use bits::Bits;
 use ls_text::{NameId, file_start};
 use no_memory::NoMemory;
@@ -8,6 +7,7 @@ use std::test::Fail;
 use typed_ir::{
     Const, ConstList, Form, InstanceId, InstanceName, Lane, Node, SignalId, Span, TargetForm, Typed,
 };
+use unit_ir::{ItemPlaces, RegShape, Regs, ShapeList, TypedItems, UnitParts, shifted_node};
 
 // Whether a node drives bit 3 of signal 6 with signal 7, as a bit.
 fn drives_from_seven(node: &Node) -> bool {

@@ -1,15 +1,15 @@
 // Values of expressions, worked out by hand by the rules of IEEE Std 1364-2005, 5.1 and 5.2.
 ghost use Rattle.std.specs.Prelude.{◌≡◌};
 
-use crate::{
-    ArithmeticOperator, BinaryOperator, Comparison, Env, LogicalOperator, ShiftOperator, SignalId,
-    Span, Typed, UnaryOperator, fits, value,
-};
 use bits::Bits;
 use no_memory::NoMemory;
 use std::alloc::Global;
 use std::process::Abort;
 use std::test::Fail;
+use typed_ir::{
+    ArithmeticOperator, BinaryOperator, Comparison, Env, LogicalOperator, ShiftOperator, SignalId,
+    Span, Typed, UnaryOperator, fits, value,
+};
 
 fn number(rt: &impl Abort, width: u8, n: u128) -> Typed
     ensures { result.width ≡ width }

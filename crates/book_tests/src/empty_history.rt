@@ -1,9 +1,9 @@
 // A history without entries, and histories that cross threads.
 ghost use Rattle.std.specs.Prelude.{◌≡◌, []};
 
-use crate::history::History;
-use crate::rooms::Rooms;
-use crate::who::Who;
+use book_history::history::History;
+use book_history::rooms::Rooms;
+use book_history::who::Who;
 use machine::tally::TallyMachine;
 use std::test::Fail;
 
