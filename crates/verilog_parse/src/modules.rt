@@ -2,9 +2,10 @@
 #![tactic(auto, using(verilog_expr::proofs::Runs::runs, verilog_expr::proofs::Runs::loops, verilog_expr::proofs::Entries::module_entries, crate::proofs::ModuleTrees::module_trees))]
 
 ghost use Rattle.std.specs.Prelude.{◌≡◌, ◌≤◌, ◌<◌, ◌+◌, ◌^◌, [], ◌∷◌, length, OnOk, IfOk, MatchBool, true, false};
+ghost use Rattle.verilog_lex.specs.declared.kind.Kind.TheVariants.{EndGenerate, Generate, Input, Output, Parameter, Semicolon};
 ghost use Rattle.verilog_expr.specs.Tokens.{next};
 ghost use Rattle.verilog_expr.specs.Grammar as grammar;
-ghost use Rattle.verilog_expr.specs.Grammar.{N, begins_item};
+ghost use Rattle.verilog_expr.specs.Grammar.{N, T, begins_item};
 ghost use Rattle.verilog_expr.specs.Reads.{Reads};
 ghost use Rattle.verilog_parse.specs.Modules as spells;
 ghost use Rattle.verilog_parse.specs.Modules.{Spells};
@@ -79,37 +80,81 @@ fn item(p: &mut Parser<'_>, weight: u32) -> Result<Item, ParseError>
 {
     match p.peek() {
         Kind::Input => {
-            let at = p.expect(Kind::Input, weight)?.at;
-            let net = optional_wire(p, weight)?;
-            let shape = shape(p, weight)?;
-            let all = names(p, weight)?;
-            p.expect(Kind::Semicolon, weight)?;
-            Ok(Item::Input(at, net, shape, all))
+            let item = input_item(p, weight)?;
+            Ok(item)
         }
         Kind::Output => {
-            let at = p.expect(Kind::Output, weight)?.at;
-            let net = optional_net(p, weight)?;
-            let shape = shape(p, weight)?;
-            let all = variables(p, weight)?;
-            p.expect(Kind::Semicolon, weight)?;
-            Ok(Item::Output(at, net, shape, all))
+            let item = output_item(p, weight)?;
+            Ok(item)
         }
         Kind::Parameter => {
-            let at = p.expect(Kind::Parameter, weight)?.at;
-            let shape = shape(p, weight)?;
-            let all = parameters(p, weight)?;
-            p.expect(Kind::Semicolon, weight)?;
-            Ok(Item::Parameter(at, shape, all))
+            let item = parameter_item(p, weight)?;
+            Ok(item)
         }
         Kind::Generate => {
-            let at = p.expect(Kind::Generate, weight)?.at;
-            let all = generate_items(p, weight)?;
-            p.expect(Kind::EndGenerate, weight)?;
-            Ok(Item::Region(at, all))
+            let item = region(p, weight)?;
+            Ok(item)
         }
         _ => {
             let item = generate_item(p, weight)?;
             Ok(Item::Item(item))
         }
     }
+}
+
+// `input` and what it declares.
+fn input_item(p: &mut Parser<'_>, weight: u32) -> Result<Item, ParseError>
+    requires { weight < 2 ^ 28 }
+    ensures machine { Reads (T Input weight ∷ N grammar.OptionalWire weight ∷ N grammar.AShape weight ∷ N grammar.Names weight ∷ T Semicolon weight ∷ []) p.old result p.new }
+    ensures tree { IfOk result (λ x. Spells (spells.AnItem x) p.old p.new) }
+    ensures shorter { OnOk result (length p.new < length p.old) }
+{
+    let at = p.expect(Kind::Input, weight)?.at;
+    let net = optional_wire(p, weight)?;
+    let shape = shape(p, weight)?;
+    let all = names(p, weight)?;
+    p.expect(Kind::Semicolon, weight)?;
+    Ok(Item::Input(at, net, shape, all))
+}
+
+// `output` and what it declares.
+fn output_item(p: &mut Parser<'_>, weight: u32) -> Result<Item, ParseError>
+    requires { weight < 2 ^ 28 }
+    ensures machine { Reads (T Output weight ∷ N grammar.OptionalNet weight ∷ N grammar.AShape weight ∷ N grammar.Variables weight ∷ T Semicolon weight ∷ []) p.old result p.new }
+    ensures tree { IfOk result (λ x. Spells (spells.AnItem x) p.old p.new) }
+    ensures shorter { OnOk result (length p.new < length p.old) }
+{
+    let at = p.expect(Kind::Output, weight)?.at;
+    let net = optional_net(p, weight)?;
+    let shape = shape(p, weight)?;
+    let all = variables(p, weight)?;
+    p.expect(Kind::Semicolon, weight)?;
+    Ok(Item::Output(at, net, shape, all))
+}
+
+// `parameter` and what it declares.
+fn parameter_item(p: &mut Parser<'_>, weight: u32) -> Result<Item, ParseError>
+    requires { weight < 2 ^ 28 }
+    ensures machine { Reads (T Parameter weight ∷ N grammar.AShape weight ∷ N grammar.Parameters weight ∷ T Semicolon weight ∷ []) p.old result p.new }
+    ensures tree { IfOk result (λ x. Spells (spells.AnItem x) p.old p.new) }
+    ensures shorter { OnOk result (length p.new < length p.old) }
+{
+    let at = p.expect(Kind::Parameter, weight)?.at;
+    let shape = shape(p, weight)?;
+    let all = parameters(p, weight)?;
+    p.expect(Kind::Semicolon, weight)?;
+    Ok(Item::Parameter(at, shape, all))
+}
+
+// A generate region: `generate` and its items.
+fn region(p: &mut Parser<'_>, weight: u32) -> Result<Item, ParseError>
+    requires { weight < 2 ^ 28 }
+    ensures machine { Reads (T Generate weight ∷ N grammar.GenerateItems weight ∷ T EndGenerate weight ∷ []) p.old result p.new }
+    ensures tree { IfOk result (λ x. Spells (spells.AnItem x) p.old p.new) }
+    ensures shorter { OnOk result (length p.new < length p.old) }
+{
+    let at = p.expect(Kind::Generate, weight)?.at;
+    let all = generate_items(p, weight)?;
+    p.expect(Kind::EndGenerate, weight)?;
+    Ok(Item::Region(at, all))
 }

@@ -2,7 +2,7 @@
 #![tactic(auto, using(verilog_expr::proofs::Runs::runs, verilog_expr::proofs::Runs::loops, verilog_expr::proofs::Entries::plain_entries, crate::proofs::ItemTrees::item_trees))]
 
 ghost use Rattle.std.specs.Prelude.{◌≡◌, ◌≤◌, ◌<◌, ◌+◌, ◌^◌, [], ◌∷◌, length, OnOk, IfOk};
-ghost use Rattle.verilog_lex.specs.declared.kind.Kind.TheVariants.{Wire, Reg, LocalParam, Word, Semicolon};
+ghost use Rattle.verilog_lex.specs.declared.kind.Kind.TheVariants.{Always, Assign, AtSign, Genvar, LocalParam, Reg, Semicolon, Wire, Word};
 ghost use Rattle.verilog_expr.specs.Grammar as grammar;
 ghost use Rattle.verilog_expr.specs.Grammar.{N, T};
 ghost use Rattle.verilog_expr.specs.Reads.{Reads};
@@ -37,21 +37,16 @@ pub fn plain_item(p: &mut Parser<'_>, weight: u32) -> Result<PlainItem, ParseErr
             Ok(item)
         }
         Kind::Genvar => {
-            let at = p.expect(Kind::Genvar, weight)?.at;
-            let all = names(p, weight)?;
-            p.expect(Kind::Semicolon, weight)?;
-            Ok(PlainItem::Genvar(at, all))
+            let item = genvar_item(p, weight)?;
+            Ok(item)
         }
         Kind::Assign => {
-            let at = p.expect(Kind::Assign, weight)?.at;
-            let all = assignments(p, weight)?;
-            p.expect(Kind::Semicolon, weight)?;
-            Ok(PlainItem::Assign(at, all))
+            let item = assign_item(p, weight)?;
+            Ok(item)
         }
         Kind::Always => {
-            let at = p.expect(Kind::Always, weight)?.at;
-            p.expect(Kind::AtSign, weight)?;
-            event(p, at, weight)
+            let item = always_item(p, weight)?;
+            Ok(item)
         }
         Kind::Word => {
             let item = instances_item(p, weight)?;
@@ -101,6 +96,44 @@ fn local_parameter_item(p: &mut Parser<'_>, weight: u32) -> Result<PlainItem, Pa
     let all = parameters(p, weight)?;
     p.expect(Kind::Semicolon, weight)?;
     Ok(PlainItem::LocalParameter(at, shape, all))
+}
+
+// `genvar` and its names.
+fn genvar_item(p: &mut Parser<'_>, weight: u32) -> Result<PlainItem, ParseError>
+    requires { weight < 2 ^ 30 }
+    ensures machine { Reads (T Genvar weight ∷ N grammar.Names weight ∷ T Semicolon weight ∷ []) p.old result p.new }
+    ensures tree { IfOk result (λ x. Spells (spells.APlainItem x) p.old p.new) }
+    ensures shorter { OnOk result (length p.new < length p.old) }
+{
+    let at = p.expect(Kind::Genvar, weight)?.at;
+    let all = names(p, weight)?;
+    p.expect(Kind::Semicolon, weight)?;
+    Ok(PlainItem::Genvar(at, all))
+}
+
+// `assign` and its assignments.
+fn assign_item(p: &mut Parser<'_>, weight: u32) -> Result<PlainItem, ParseError>
+    requires { weight < 2 ^ 30 }
+    ensures machine { Reads (T Assign weight ∷ N grammar.Assignments weight ∷ T Semicolon weight ∷ []) p.old result p.new }
+    ensures tree { IfOk result (λ x. Spells (spells.APlainItem x) p.old p.new) }
+    ensures shorter { OnOk result (length p.new < length p.old) }
+{
+    let at = p.expect(Kind::Assign, weight)?.at;
+    let all = assignments(p, weight)?;
+    p.expect(Kind::Semicolon, weight)?;
+    Ok(PlainItem::Assign(at, all))
+}
+
+// `always` and its event.
+fn always_item(p: &mut Parser<'_>, weight: u32) -> Result<PlainItem, ParseError>
+    requires { weight < 2 ^ 30 }
+    ensures machine { Reads (T Always weight ∷ T AtSign weight ∷ N grammar.AnEvent weight ∷ []) p.old result p.new }
+    ensures tree { IfOk result (λ x. Spells (spells.APlainItem x) p.old p.new) }
+    ensures shorter { OnOk result (length p.new < length p.old) }
+{
+    let at = p.expect(Kind::Always, weight)?.at;
+    p.expect(Kind::AtSign, weight)?;
+    event(p, at, weight)
 }
 
 // The name of a module and its instances.
