@@ -7,7 +7,6 @@ use crate::{Design, NoOps, NoRow};
 use bits::Bits;
 use ls_text::{NameId, Refusal};
 use machine::Machine;
-use machine::merge::merge_at;
 use machine::row_run::RowRun;
 use machine::row_runs::RowRuns;
 use machine::steps::Steps;
@@ -146,22 +145,9 @@ fn counts_by_three(rt: HostRuntime) -> Result<(), Fail> {
     Ok(())
 }
 
-// Two runs without rows are one run.
+// Any two rows are the same, so that a record keeps one run of them.
 #[test]
 fn equal_rows_are_one_run(rt: HostRuntime) -> Result<(), Fail> {
-    let alloc = rt.alloc();
-    let mut runs = Vec::new(alloc);
-    runs.push(RowRun {
-        start: 0,
-        end: 2,
-        row: Arc::new(alloc, NoRow)?,
-    })?;
-    runs.push(RowRun {
-        start: 2,
-        end: 3,
-        row: Arc::new(alloc, NoRow)?,
-    })?;
-    merge_at::<Design>(&mut runs, 1);
-    assert_eq!(rt; runs.len(), 1);
+    assert!(rt; <Design as Machine>::same_row(&NoRow, &NoRow));
     Ok(())
 }
