@@ -27,6 +27,13 @@ fn first_len(text: &[u8]) -> Option<usize> {
     None
 }
 
+// A text of at most 4,194,304 bytes; nothing of a longer one.
+fn if_short(text: &[u8]) -> &[u8]
+    ensures { length result.now ≤ 4194304 }
+{
+    if text.len() <= 4_194_304 { text } else { b"" }
+}
+
 fn source_file(
     alloc: Global,
     names: &mut Names,
@@ -40,7 +47,7 @@ fn source_file(
     let name = names.intern(name)?;
     Ok(SourceFile {
         name,
-        text: TextBytes::new(Vec::from_slice(alloc, front(text, 4_194_304))?),
+        text: TextBytes::new(Vec::from_slice(alloc, if_short(text))?),
     })
 }
 

@@ -143,15 +143,21 @@ fn read_from(alloc: Global, text: &[u8], from: usize, weight: u32) -> Result<Vec
 }
 
 // The first two numbers of a text, which a space parts and a space ends.
-fn two_numbers(text: &[u8]) -> (u64, u64) {
-    let mut numbers = (0u64, 0u64);
+fn two_numbers(text: &[u8]) -> (usize, u32) {
+    let mut numbers = (0usize, 0u32);
     let mut spaces = 0u32;
     for byte in text {
-        let digit = u64::from(*byte & 15);
+        let digit = *byte & 15;
         match (*byte, spaces) {
             (b' ', _) => spaces = spaces.saturating_add(1),
-            (_, 0) => numbers.0 = numbers.0.saturating_mul(10).saturating_add(digit),
-            (_, 1) => numbers.1 = numbers.1.saturating_mul(10).saturating_add(digit),
+            (_, 0) => numbers.0 = numbers
+                .0
+                .saturating_mul(10)
+                .saturating_add(usize::from(digit)),
+            (_, 1) => numbers.1 = numbers
+                .1
+                .saturating_mul(10)
+                .saturating_add(u32::from(digit)),
             _ => {}
         }
     }
@@ -162,10 +168,10 @@ fn two_numbers(text: &[u8]) -> (u64, u64) {
 pub fn part(alloc: Global, text: &[u8], want: &[u8]) -> Result<Vec<u8>, NoMemory> {
     let (from, weight) = two_numbers(want);
     let mut out = Vec::new(alloc);
-    push_decimal(&mut out, from)?;
+    push_decimal(&mut out, from as u64)?;
     out.push(b' ')?;
-    push_decimal(&mut out, weight)?;
-    out.extend_from_slice(&read_from(alloc, text, from as usize, weight as u32)?)?;
+    push_decimal(&mut out, u64::from(weight))?;
+    out.extend_from_slice(&read_from(alloc, text, from, weight)?)?;
     Ok(out)
 }
 
