@@ -14,8 +14,12 @@ use verilog_expr::parse_expr;
 use verilog_lex::{Token, lex};
 use verilog_parse::parse;
 
-// The tokens of a text that is one piece of one file; none where it is refused.
-fn tokens_of(alloc: Global, names: &mut Names, text: &[u8]) -> Result<Option<Vec<Token>>, NoMemory>
+/// The tokens of a text that is one piece of one file; none where it is refused.
+pub fn tokens_of(
+    alloc: Global,
+    names: &mut Names,
+    text: &[u8],
+) -> Result<Option<Vec<Token>>, NoMemory>
     ensures { IfOk result (λ read. IfSome read (λ tokens. EndsOnce tokens.items × All (λ t. t.text.0 < length names.new) tokens.items)) }
 {
     if text.len() > 4_194_304 {
@@ -43,8 +47,8 @@ fn tokens_of(alloc: Global, names: &mut Names, text: &[u8]) -> Result<Option<Vec
     }
 }
 
-// The texts of all names, by their numbers.
-fn texts_of(alloc: Global, names: &mut Names) -> Result<Vec<Vec<u8>>, NoMemory> {
+/// The texts of all names, by their numbers.
+pub fn texts_of(alloc: Global, names: &mut Names) -> Result<Vec<Vec<u8>>, NoMemory> {
     let last = names.intern(b" ")?;
     let mut texts = Vec::new(alloc);
     let mut id = 0;
@@ -55,8 +59,8 @@ fn texts_of(alloc: Global, names: &mut Names) -> Result<Vec<Vec<u8>>, NoMemory> 
     Ok(texts)
 }
 
-// ` CODE LINE COL`, and the names.
-fn fault_text(out: &mut Vec<u8>, texts: &[Vec<u8>], fault: &Fault) -> Result<(), NoMemory> {
+/// ` CODE LINE COL`, and the names.
+pub fn fault_text(out: &mut Vec<u8>, texts: &[Vec<u8>], fault: &Fault) -> Result<(), NoMemory> {
     out.push(b' ')?;
     push_decimal(out, u64::from(fault.code))?;
     if let At::Text(place) = fault.at {

@@ -1,0 +1,9 @@
+pub mod Finding
+pub mod Firsts
+pub mod Opening
+pub mod Reading
+pub mod Lengths
+pub mod Nodes
+pub mod Gathered
+pub mod Stepping
+pub mod Repeating

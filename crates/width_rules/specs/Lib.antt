@@ -1,0 +1,12 @@
+pub mod Scopes
+pub mod Operators
+pub mod Signs
+pub mod Sizes
+pub mod Constants
+pub mod Faults
+pub mod Opened
+pub mod Joins
+pub mod Entries
+pub mod Wholes
+pub mod Targets
+pub mod Statements

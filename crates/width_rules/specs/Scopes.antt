@@ -1,0 +1,24 @@
+-- What names stand for (IEEE Std 1364-2005, 3.11, 4.2, 4.3, 4.8, 4.10, 12.4 and 12.7).
+use Rattle.std.specs.Prelude.{ℕ, Bool, true, false}
+use Rattle.width_rules.specs.declared.writer.Writer.{Writer}
+
+pub data Meaning : Type 0 where
+  -- a net or variable: its number, its bits, the lower bound of its range (0 without one), its sign, and what may write it
+  Signal : (signal width lsb : ℕ) (signed : Bool) (writer : Writer) → Meaning
+  -- a parameter, or a genvar within its loop
+  Constant : (width value : ℕ) (signed : Bool) → Meaning
+  -- a genvar outside of its loop
+  Genvar : Meaning
+  -- nothing that an expression can use: not declared in reach, a label or an instance
+  Unknown : Meaning
+
+-- the names in reach, by their numbers
+abbrev pub Scope : Type 0
+Scope = ℕ → Meaning
+
+-- whether it is a net or variable
+abbrev pub is_signal : Meaning → Bool
+is_signal (Signal signal width lsb signed writer) = true
+is_signal (Constant width value signed) = false
+is_signal Genvar = false
+is_signal Unknown = false

@@ -1,0 +1,16 @@
+// What a name stands for.
+use crate::signal_entry::SignalEntry;
+use typed_ir::Const;
+
+/// What a name that is declared stands for.
+#[derive(Clone, Copy, Debug)]
+pub enum Entry {
+    /// A net or variable.
+    Signal(SignalEntry),
+    /// A parameter, or a genvar within its loop.
+    Constant(Const),
+    /// A genvar outside of its loop.
+    Genvar,
+    /// What no expression can use: a label or an instance, or a name that nothing declares.
+    Unknown,
+}
