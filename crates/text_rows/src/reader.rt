@@ -1,9 +1,9 @@
 // What one text is read as, by the reader that a table names.
-use crate::sizes::{constant_of, sizing, value_at};
+use crate::properties::{first_uncut, first_unlike};
 use crate::tokens::{counts, kinds, lexed, literal, pieces, places_of_tokens, preprocessed, spans};
 use crate::trees::{part, places, spelled, tree};
 use no_memory::NoMemory;
-use row_tables::Reader;
+use row_tables::{Reader, Table, first_other};
 use std::alloc::Global;
 
 /// The readers of the preprocessor, the lexer and the parser.
@@ -30,10 +30,19 @@ impl Reader for TextReader {
             "literal" => literal(alloc, text),
             "at" => places_of_tokens(alloc, text),
             "count" => counts(alloc, text),
-            "value" => value_at(alloc, text),
-            "sizing" => sizing(alloc, text),
-            "constant" => constant_of(alloc, text),
             _ => Ok(Vec::from_slice(alloc, b"no such reader")?),
+        }
+    }
+    fn first_wrong(
+        &self,
+        alloc: Global,
+        name: &str,
+        table: &Table,
+    ) -> Result<Option<Vec<u8>>, NoMemory> {
+        match name {
+            "pairs" => first_unlike(alloc, table),
+            "cut_short" => first_uncut(alloc, table),
+            _ => first_other(alloc, self, name, table),
         }
     }
 }

@@ -2,9 +2,9 @@
 ghost use Rattle.std.specs.Prelude.{◌≤◌};
 
 use crate::operands::operands;
-use crate::trees::{fault_text, texts_of, tokens_of};
 use bits::Bits;
 use ls_text::{Names, NoMemory, Refusal, behind, front, push_decimal};
+use row_tables::{fault_text, texts_of, tokens_of};
 use std::alloc::Global;
 use typed_ir::{fits, value};
 use verilog_ast::Expr;
