@@ -6,8 +6,8 @@ use Rattle.bits.proofs.Modulo.{small as cut_small, gone_below}
 use Rattle.bits.specs.Runs.{replaced}
 use Rattle.typed_ir.specs.Sized.{Sized, value_of}
 use Rattle.typed_ir.specs.Valuations.{Valuation, put}
-use Rattle.typed_ir.specs.Cycles.{step, wires, truth}
-use Rattle.livesim.specs.Designs.{one_register, no_rows}
+use Rattle.typed_ir.specs.Cycles.{step, wires}
+use Rattle.livesim.specs.Designs.{one_register}
 
 -- all bits of a value are replaced
 whole : (n w x : ℕ) → n < 2 ^ w → x < 2 ^ w → replaced n 0 w (x / 2 ^ 0) ≡ x
@@ -32,9 +32,3 @@ unfolding step wires
 one_step path width initial state next small fits =
     ap (λ (v : Valuation). replaced state 0 width (value_of next v / 2 ^ 0) ∷ []) (alone state)
     ∙ ap (λ n. n ∷ []) (whole state width (value_of next (λ s. slice_index (state ∷ []) s)) small fits)
-
--- one cycle more from reset, where there are no inputs
-pub truth_more : (path : List ℕ) (width initial : ℕ) (next : Sized) (cycle : ℕ) → truth (one_register path width initial next) no_rows (cycle + 1) ≡ step (one_register path width initial next) (truth (one_register path width initial next) no_rows cycle) []
-truth_more path width initial next cycle =
-    let same : cycle + 1 ≡ suc cycle = omega arith in
-    ap (truth (one_register path width initial next) no_rows) same

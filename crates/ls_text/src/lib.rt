@@ -1,5 +1,9 @@
-// What all that reads texts stands on: names and the texts that they stand for, files, places, classes of bytes and runs of
-// them, faults, and the lines that show faults.
+// What all that reads texts stands on, from the bytes of a file to the line that shows what is wrong with them.
+//
+// A file is a name and a text (`source_file`, `text_bytes`). Over its bytes, `bytes` has classes and the lengths of runs, `stretch`
+// parts by their lengths, `place` lines and columns. A `piece` is a stretch of a file by its offsets, and `files` gives its bytes
+// again. `names` gives equal texts one number, a `name_id`; `name_list` is a list of them. What is wrong is a `fault` with where it
+// stands (`at`); a call answers it as a `refusal`, and `fault_lines` writes its line.
 #![tactic(auto)]
 
 mod at;

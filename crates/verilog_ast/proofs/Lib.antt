@@ -1,3 +1,6 @@
+pub mod BackExpressions
+pub mod BackItems
+pub mod BackStatements
 pub mod Equal
 pub mod Named
 pub mod RenamedItemViews

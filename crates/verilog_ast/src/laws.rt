@@ -1,4 +1,4 @@
-// What trees are as plain data, under other names, and which names stand in them.
+// What trees are as plain data: all that they are, also under other names, and with their names.
 ghost use Rattle.std.specs.Prelude.{◌≡◌};
 ghost use Rattle.ls_text.specs.declared.name_id.NameId.{NameId};
 ghost use Rattle.verilog_ast.specs.declared.expression.Expr.{Expr};
@@ -27,4 +27,14 @@ pub fn names_stay_in_views()
     ensures targets { (x : Lhs) → names_of_target x ≡ names_in_target (target_of x) }
     ensures statements { (x : Stmt) → names_of_statement x ≡ names_in_statement (statement_of x) }
     ensures modules { (x : ModuleBody) → names_of_body x ≡ names_in_declaration (declaration_of x) }
+{}
+
+/// A tree's plain data keeps all of it: trees that are the same as plain data are the same, with each place, sign, size, value, name
+/// and part.
+#[tactic(none)]
+pub fn views_lose_nothing()
+    ensures expressions { (x y : Expr) → expression_of x ≡ expression_of y → x ≡ y }
+    ensures targets { (x y : Lhs) → target_of x ≡ target_of y → x ≡ y }
+    ensures statements { (x y : Stmt) → statement_of x ≡ statement_of y → x ≡ y }
+    ensures modules { (x y : ModuleBody) → declaration_of x ≡ declaration_of y → x ≡ y }
 {}

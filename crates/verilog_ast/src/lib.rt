@@ -1,7 +1,9 @@
 // The tree of a Verilog text: modules, items, statements, targets and expressions, each with its place.
 //
-// One type a file, from `module` down to `expression`; `nodes` has what holds the parts of a node. All that is defined above the
-// parser speaks of the plain data that `specs/Views` gives of a tree; `laws` says that views keep names and renaming.
+// One type a file, from `module` down to `expression`, but for three pairs of types that hold one another, of which each is one
+// recursion and is walked as one: `Expr` with `Reference`, `Stmt` with `Arm`, `GenerateItem` with `Branch`. `nodes` has what holds the
+// parts of a node. All that is defined above the parser speaks of the plain data that `specs/Views` gives of a tree; `laws` says that
+// this loses nothing, and keeps names and renaming.
 #![tactic(auto)]
 
 mod binary_operator;
@@ -51,7 +53,7 @@ pub use identifier::Identifier;
 pub use instance::Instance;
 pub use item::Item;
 pub use label::Label;
-pub use laws::{names_are_numbers, names_stay_in_views};
+pub use laws::{names_are_numbers, names_stay_in_views, views_lose_nothing};
 pub use module::Module;
 pub use module_body::ModuleBody;
 pub use named_connection::NamedConnection;

@@ -148,9 +148,6 @@ pub leads_one_fails : {x y : Symbol} {k : List Symbol} {s t : List Token} {e : P
 leads_one_fails l no_memory = no_memory
 leads_one_fails l (at_fault r) = at_fault (l.go _ _ r)
 
-pub tail_fails : {w : ℕ} {k : List Symbol} {s : List Token} {e : ParseError} {kind : Kind} {op : BinaryOperator} → kind ≡ next s → Some op ≡ binary_operator (next s) → Fails (T kind w ∷ N Operand (w + 1) ∷ N Tail (w + 1) ∷ k) s e → Fails (N Tail w ∷ k) s e
-tail_fails {w} {k} {s} {e} {kind} is has h = fails_enters (ap (tail_at w (next s)) (sym has)) (subst (λ (x : Kind). Fails (T x w ∷ N Operand (w + 1) ∷ N Tail (w + 1) ∷ k) s e) is h)
-
 pub other_at : {x : Nonterminal} {w : ℕ} {y z : Symbol} {more k : List Symbol} {s : List Token} {out : Outcome} → entry x w (next s) ≡ Some (y ∷ z ∷ more) → Run (y ∷ z ∷ (more ++ k)) s out → Run (N x w ∷ k) s out
 other_at is r = expands is r
 

@@ -2,8 +2,7 @@
 use Rattle.std.proofs.Common.{◌≡◌, ℕ, ◌+◌, length, List, [], ◌∷◌, Result, Ok, Err, refl, sym, ap, subst, ◌∙◌, arith}
 use Rattle.std.specs.Prelude.{slice_get}
 use Rattle.ls_text.specs.declared.source_file.SourceFile.{SourceFile}
-use Rattle.ls_text.specs.declared.refusal.Refusal.{Refusal}
-use Rattle.ls_text.specs.Readings.{TextFault, Gives, ◌>>=◌}
+use Rattle.ls_text.specs.Readings.{TextFault, ◌>>=◌}
 use Rattle.ls_text.specs.Places.{file_start}
 use Rattle.verilog_pre.specs.declared.conditional.Conditional.{Conditional}
 use Rattle.ls_text.specs.declared.piece.Piece.{Piece}
@@ -66,8 +65,3 @@ whole_pieces files = record { read = files_from 0 at_first files; reads = whole_
 pub only_pieces : (files : List SourceFile) (r : Result (List Piece) TextFault) → HavePieces files r → r ≡ pieces files
 unfolding pieces
 only_pieces files r have = have.gives ∙ ap (λ read. read >>= λ st. Ok st.out.pieces) (only_files 0 at_first files have.read have.reads)
-
--- an answer that is related to the files is what the walk over them gives
-pub related_pieces : {A : Type 0} (names : List (List ℕ)) (view : A → List Piece) (answer : Result A Refusal) (files : List SourceFile)
-    → (read : Result (List Piece) TextFault) × HavePieces files read × Gives names view answer read → Gives names view answer (pieces files)
-related_pieces names view answer files (read, have, gives) = subst (Gives names view answer) (only_pieces files read have) gives

@@ -48,13 +48,6 @@ same_context old new at keeps =
 pub keeps_on : (a b c : Macros) → Keeps a b → Keeps b c → Keeps a c
 keeps_on a b c g h = record { table = h.table ∙ g.table; parts = h.parts ∙ g.parts; kept = h.kept ∙ g.kept; count = h.count ∙ g.count }
 
-pub one_on : {A : Type 0} (names : List (List ℕ)) (r : Result (Unit {0}) Refusal) (before after all : Result A TextFault)
-    → Leads names r before after → before ≡ all → Leads names r all after
-one_on names (Ok u) before after all leads same = sym same ∙ leads
-one_on {A} names (Err e) before after all leads same =
-    let R : Result A TextFault → Type 0 = λ r. Refuses names e r in
-    subst R same leads
-
 -- ---- the work by what parts stand for
 
 -- the work that is left, by a table of words that stays
@@ -82,12 +75,6 @@ pub step_refused : (names : List (List ℕ)) (e : Refusal) (m : Macros) (at : Pl
 step_refused names e m at nest out next rest before all is refused so_far =
     let R : Result Output TextFault → Type 0 = λ r. Refuses names e r in
     subst R (ap (λ items. work_on (context m at) nest out (map (item_of m.words) items)) (sym is) ∙ so_far) refused
-
-pub work_over : (m : Macros) (at : Place) (nest : List ℕ) (out : Output) (before : List work.Item) (all : Result Output TextFault)
-    → before ≡ [] → work_on (context m at) nest out (map (item_of m.words) before) ≡ all → all ≡ Ok out
-unfolding work_on
-work_over m at nest out before all none so_far =
-    sym so_far ∙ ap (λ items. work_on (context m at) nest out (map (item_of m.words) items)) none
 
 -- the use of a word by its number
 pub use_is : (old new : Macros) (at : Place) (word text nest : List ℕ) (out : Output) (items : List work.Item)

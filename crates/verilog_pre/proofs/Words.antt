@@ -4,7 +4,6 @@ use Rattle.std.proofs.Math.Path.{fun_ext}
 use Rattle.std.specs.List.{All}
 use Rattle.std.specs.Option.{IfSome}
 use Rattle.std.proofs.lemmas.List.Elements.{All-push}
-use Rattle.std.proofs.lemmas.List.{get_or_past}
 use Rattle.std.specs.Str.{bytes_eq}
 use Rattle.std.specs.Cmp.Lexicographic.{bytes_decides}
 use Rattle.ls_text.specs.Texts.{Grows, IsIdOf, text_at}
@@ -99,10 +98,6 @@ pub looked_up : (old new : List (List ℕ)) (known : List (Option Macro)) (text 
     → Grows old new → length known ≤ length old → IsIdOf new text id → found old known text ≡ get_or known id None
 looked_up old new known text id g h is =
     sym (ap (λ (t : Table). t text) (same_table old new known g h)) ∙ found_at new known text id is
-
-pub unlisted : (old new : List (List ℕ)) (known : List (Option Macro)) (text : List ℕ) (id : ℕ)
-    → Grows old new → length known ≤ length old → IsIdOf new text id → length known ≤ id → found old known text ≡ None
-unlisted old new known text id g h is past = looked_up old new known text id g h is ∙ get_or_past known id None past
 
 pub push_none : (P : Macro → Type 0) (before now : List (Option Macro)) → now ≡ before ++ None ∷ [] → All (λ o. IfSome o P) before → All (λ o. IfSome o P) now
 push_none P before now is all =
