@@ -13,15 +13,6 @@ pub trait Reader {
         text: &[u8],
         want: &[u8],
     ) -> Result<Vec<u8>, NoMemory>;
-
-    /// The first row of a table, as a text, that isn't as the reader of this name has to read it; none where there is none. It is
-    /// `first_other`, but for readers of whole tables.
-    fn first_wrong(
-        &self,
-        alloc: Global,
-        name: &str,
-        table: &Table,
-    ) -> Result<Option<Vec<u8>>, NoMemory>;
 }
 
 /// Three texts, one after another.

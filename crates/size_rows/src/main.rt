@@ -8,9 +8,9 @@ mod reader;
 mod sizes;
 
 use crate::reader::SizeReader;
-use row_tables::compare_all;
+use row_tables::{NoProperty, compare_all};
 use std::io;
 
 fn main(rt: HostRuntime) -> io::Result<()> {
-    compare_all(&rt, &SizeReader)
+    compare_all(&rt, &SizeReader, &NoProperty)
 }

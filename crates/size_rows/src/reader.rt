@@ -1,7 +1,7 @@
 // What one row is, by the reader that its table names.
 use crate::sizes::{constant_of, sizing, value_at};
 use no_memory::NoMemory;
-use row_tables::{Reader, Table, first_other};
+use row_tables::Reader;
 use std::alloc::Global;
 
 /// The readers of sizes.
@@ -21,14 +21,5 @@ impl Reader for SizeReader {
             "constant" => constant_of(alloc, text),
             _ => Ok(Vec::from_slice(alloc, b"no such reader")?),
         }
-    }
-
-    fn first_wrong(
-        &self,
-        alloc: Global,
-        name: &str,
-        table: &Table,
-    ) -> Result<Option<Vec<u8>>, NoMemory> {
-        first_other(alloc, self, name, table)
     }
 }

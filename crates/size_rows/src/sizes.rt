@@ -4,7 +4,7 @@ ghost use Rattle.std.specs.Prelude.{◌≤◌};
 use crate::operands::operands;
 use bits::Bits;
 use ls_text::{Names, NoMemory, Refusal, behind, front, push_decimal};
-use row_tables::{fault_text, texts_of, tokens_of};
+use row_tables::{fault_text, push_hex, texts_of, tokens_of};
 use std::alloc::Global;
 use typed_ir::{fits, value};
 use verilog_ast::Expr;
@@ -28,17 +28,8 @@ fn expression_of(alloc: Global, names: &mut Names, text: &[u8]) -> Result<Option
 }
 
 // A value in hexadecimal, with as many digits as a quarter of the width.
-fn push_hex(out: &mut Vec<u8>, bits: Bits) -> Result<(), NoMemory> {
-    for left in 0..bits.width().div_ceil(4) {
-        let at = u32::from(bits.width().div_ceil(4) - 1 - left) * 4;
-        let digit = ((bits.value() >> at) & 15) as u8;
-        out.push(if digit < 10 {
-            b'0' + digit
-        } else {
-            b'a' + (digit - 10)
-        })?;
-    }
-    Ok(())
+fn push_value(out: &mut Vec<u8>, bits: Bits) -> Result<(), NoMemory> {
+    push_hex(out, bits.value(), bits.width().div_ceil(4))
 }
 
 // The fault of a refusal, behind what is there.
@@ -81,7 +72,7 @@ pub fn value_at(alloc: Global, text: &[u8]) -> Result<Vec<u8>, NoMemory> {
     match size_expr(alloc, &scope, &e, Some(length), false) {
         Ok(typed) => {
             if fits(&typed, &env) {
-                push_hex(&mut out, value(&typed, &env).resize(length, false))?;
+                push_value(&mut out, value(&typed, &env).resize(length, false))?;
             }
         }
         Err(refusal) => push_refusal(alloc, &mut out, &mut names, refusal)?,
@@ -132,7 +123,7 @@ pub fn constant_of(alloc: Global, text: &[u8]) -> Result<Vec<u8>, NoMemory> {
             } else {
                 b" unsigned "
             })?;
-            push_hex(&mut out, found.bits)?;
+            push_value(&mut out, found.bits)?;
         }
         Err(refusal) => push_refusal(alloc, &mut out, &mut names, refusal)?,
     }

@@ -11,10 +11,11 @@ mod trees;
 mod written;
 mod written_items;
 
+use crate::properties::TextProperty;
 use crate::reader::TextReader;
 use row_tables::compare_all;
 use std::io;
 
 fn main(rt: HostRuntime) -> io::Result<()> {
-    compare_all(&rt, &TextReader)
+    compare_all(&rt, &TextReader, &TextProperty)
 }

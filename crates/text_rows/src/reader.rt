@@ -1,9 +1,8 @@
 // What one text is read as, by the reader that a table names.
-use crate::properties::{first_uncut, first_unlike};
 use crate::tokens::{counts, kinds, lexed, literal, pieces, places_of_tokens, preprocessed, spans};
 use crate::trees::{part, places, spelled, tree};
 use no_memory::NoMemory;
-use row_tables::{Reader, Table, first_other};
+use row_tables::Reader;
 use std::alloc::Global;
 
 /// The readers of the preprocessor, the lexer and the parser.
@@ -31,18 +30,6 @@ impl Reader for TextReader {
             "at" => places_of_tokens(alloc, text),
             "count" => counts(alloc, text),
             _ => Ok(Vec::from_slice(alloc, b"no such reader")?),
-        }
-    }
-    fn first_wrong(
-        &self,
-        alloc: Global,
-        name: &str,
-        table: &Table,
-    ) -> Result<Option<Vec<u8>>, NoMemory> {
-        match name {
-            "pairs" => first_unlike(alloc, table),
-            "cut_short" => first_uncut(alloc, table),
-            _ => first_other(alloc, self, name, table),
         }
     }
 }
