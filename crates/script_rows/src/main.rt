@@ -1,12 +1,15 @@
 // Runs the scripts of its folder of data in memory, and compares what they write with what they have to write.
 //
 // `rows.txt` has a line `STATUS NAME` for each row: NAME.live is the script, NAME.out are the lines, and STATUS is how the run
-// ends. What differs is named.
+// ends. `FAULTS.md` is the page of faults (`page`): each of its examples is a row, and shows the fault by the line that the page tells;
+// each fault that a row shows is on the page. What differs is named.
 #![tactic(auto)]
 
+mod page;
 #[cfg(test)]
 mod tests;
 
+use crate::page::{example_of, has, row_of};
 use livesim::live_run;
 use ls_port::{SolidSink, SolidSource};
 use std::alloc::Global;
@@ -29,23 +32,79 @@ fn agrees<R: Threads + Sync>(
     Ok(ended.as_str() == status && sink.bytes() == lines.as_bytes())
 }
 
+// The lines that a row has to write.
+fn lines_of(rt: &HostRuntime, alloc: Global, name: &str) -> io::Result<String> {
+    let file = format!(in alloc; "{name}.out")?;
+    fs::read_to_string(rt, file.as_str())
+}
+
+// Whether a row of this name is there.
+fn is_row(rows: &str, name: &str) -> bool {
+    for row in rows.lines() {
+        if let Some((_status, row)) = row.split_once(' ') {
+            if row == name {
+                return true;
+            }
+        }
+    }
+    false
+}
+
+// How many of a fault's examples are rows that show it as the page says; the others are named.
+fn examples_agree(
+    rt: &HostRuntime,
+    alloc: Global,
+    rows: &str,
+    fault: &str,
+    examples: &str,
+) -> io::Result<u32> {
+    let mut count = 0u32;
+    for part in examples.split("; ") {
+        let Some(example) = example_of(part) else {
+            continue;
+        };
+        let name = example.script;
+        if is_row(rows, name)
+            && page::agrees(lines_of(rt, alloc, name)?.as_str(), fault, &example)
+        {
+            count = count.saturating_add(1);
+        } else {
+            println!(rt; "{name} isn't the example of {fault} that the page tells")?;
+        }
+    }
+    Ok(count)
+}
+
 fn main(rt: HostRuntime) -> io::Result<()> {
     let alloc = rt.alloc();
     let rows = fs::read_to_string(&rt, "rows.txt")?;
+    let page = fs::read_to_string(&rt, "FAULTS.md")?;
     let mut count = 0u32;
     for row in rows.lines() {
         let Some((status, name)) = row.split_once(' ') else {
             continue;
         };
         let script = format!(in alloc; "{name}.live")?;
-        let lines = format!(in alloc; "{name}.out")?;
         let script = fs::read_to_string(&rt, script.as_str())?;
-        let lines = fs::read_to_string(&rt, lines.as_str())?;
+        let lines = lines_of(&rt, alloc, name)?;
         if agrees(&rt, alloc, script.as_str(), lines.as_str(), status)? {
             count = count.saturating_add(1);
         } else {
             println!(rt; "{name} differs")?;
         }
+        for line in lines.as_str().lines() {
+            if line.starts_with("refused ") && !has(page.as_str(), line) {
+                println!(rt; "{name} shows a fault that isn't on the page: {line}")?;
+            }
+        }
     }
-    println!(rt; "{count} rows agree")
+    println!(rt; "{count} rows agree")?;
+    let mut count = 0u32;
+    for line in page.lines() {
+        if let Some(entry) = row_of(line) {
+            let agree = examples_agree(&rt, alloc, rows.as_str(), entry.fault, entry.examples)?;
+            count = count.saturating_add(agree);
+        }
+    }
+    println!(rt; "{count} examples of faults agree")
 }

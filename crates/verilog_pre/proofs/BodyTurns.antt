@@ -6,14 +6,14 @@ use Rattle.std.specs.List.{prefix_len}
 use Rattle.std.proofs.lemmas.Bool.{eqb-true, not-true, and_parts}
 use Rattle.std.proofs.lemmas.List.{take-append-drop, length-append}
 use Rattle.std.proofs.lemmas.List.Folds.{length-prefix_len}
-use Rattle.ls_text.specs.Bytes.{is_letter, is_digit, is_word_byte, is_blank}
+use Rattle.ls_text.specs.Bytes.{is_letter, is_word_byte, is_blank}
 use Rattle.verilog_pre.specs.Parts.{Part, Use}
 use Rattle.verilog_pre.specs.declared.body_cut.BodyCut.{BodyCut}
 use Rattle.verilog_pre.specs.declared.body_cut.BodyCut.TheVariants as cut
 use Rattle.verilog_pre.specs.Bodies.{begins_cut, lines_len, comment_len, run_len, comment_or, body_cut, cut_len, goes_on, run_part, cut_parts, trimmed_parts, trimmed_len, body_parts, body_len}
 use Rattle.verilog_pre.specs.Shapes.{HasNo, AllAre, StopsAt, ends_comment, IsLineComment, IsWord}
 use Rattle.verilog_pre.specs.BodyStretches.{ends_line, begins_stretch, LineEnds, IsBodyRun, Gives, Run, Continued, Comment, Unclosed, Macro, Trimmed, Body, AtEnd, AtNewline, AtComment, Goes}
-use Rattle.verilog_pre.proofs.Stretches.{first_of, front_all, front_stops, front_is, take_seam, drop_seam, longer}
+use Rattle.verilog_pre.proofs.Stretches.{first_of, front_all, front_stops, leading_word, front_is, take_seam, drop_seam, longer}
 use Rattle.verilog_pre.proofs.BodyStretches.{not_newline, line_of, after_line, line_and_after, line_count, line_plain, line_ends, line_is, open_plain, open_is, ClosedOn, closes_on, closed_on_is, run_from, left_from, from_joined, from_count, from_on_line, from_plain, from_ends, from_is}
 use Rattle.verilog_pre.proofs.Cuts.{parts_on, parts_last, len_on, len_last}
 
@@ -70,7 +70,7 @@ macro : (file offset b : ℕ) (bs : List ℕ) → is_letter b ≡ true → Cut f
 macro file offset b bs letter =
     On (96 ∷ take n (b ∷ bs)) (drop n (b ∷ bs)) (cut.Use (1 + n)) (ap (λ xs. 96 ∷ xs) (sym (take-append-drop n (b ∷ bs)))) refl size (omega arith)
     (subst (λ k. Gives file offset (96 ∷ take n (b ∷ bs)) (drop n (b ∷ bs)) (Use (take k (b ∷ bs)) ∷ [])) (let same : n ≡ 1 + n - 1 = omega arith in same)
-    (Macro (take n (b ∷ bs)) refl (record { begins = begins; all = front_all is_word_byte (b ∷ bs); ends = front_stops is_word_byte (b ∷ bs) })))
+    (Macro (take n (b ∷ bs)) refl (leading_word (b ∷ bs) letter)))
   where
     n : ℕ
     n = prefix_len is_word_byte (b ∷ bs)
@@ -80,13 +80,6 @@ macro file offset b bs letter =
 
     size : length (96 ∷ take n (b ∷ bs)) ≡ 1 + n
     size = omega (arith, counted)
-
-    is_letter_byte : (c : ℕ) → is_letter c ≡ true → is_word_byte c ≡ true
-    is_letter_byte c e = ap (λ t. t || (is_digit c || (c == 36))) e
-
-    begins : is_letter (slice_index (take n (b ∷ bs)) 0) ≡ true
-    begins = subst (λ k. is_letter (slice_index (take k (b ∷ bs)) 0) ≡ true) (sym (ap (λ t. cond t (1 + prefix_len is_word_byte bs) 0) (is_letter_byte b letter)))
-        (subst (λ k. is_letter (slice_index (take k (b ∷ bs)) 0) ≡ true) (let same : suc (prefix_len is_word_byte bs) ≡ 1 + prefix_len is_word_byte bs = omega arith in same) letter)
 
 -- no stretch but a run begins with a and what follows it
 abbrev Plain : ℕ → List ℕ → Type 0

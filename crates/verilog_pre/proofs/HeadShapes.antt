@@ -1,18 +1,18 @@
 -- What stands at the head of a text is what its shapes say, and nothing else.
-use Rattle.std.proofs.Common.{◌≡◌, ℕ, suc, ◌+◌, ◌<◌, ◌==◌, ◌&&◌, ◌||◌, not, Bool, true, false, cond, List, [], ◌∷◌, ◌++◌, length, take, drop, Option, Some, None, refl, sym, ap, subst, ◌∙◌, arith, append_assoc, true≢false}
+use Rattle.std.proofs.Common.{◌≡◌, ℕ, ◌+◌, ◌<◌, ◌==◌, ◌&&◌, ◌||◌, not, Bool, true, false, cond, List, [], ◌∷◌, ◌++◌, length, take, drop, Option, Some, None, refl, sym, ap, subst, ◌∙◌, arith, append_assoc, true≢false}
 use Rattle.std.proofs.Math.Bool.{and-false, or-false}
 use Rattle.std.specs.Prelude.{slice_index}
 use Rattle.std.specs.List.{prefix_len}
 use Rattle.std.proofs.lemmas.Bool.{eqb-true, and_parts}
 use Rattle.std.proofs.lemmas.List.{take-append-drop, length-append}
 use Rattle.std.proofs.lemmas.List.Folds.{length-prefix_len}
-use Rattle.ls_text.specs.Bytes.{is_letter, is_digit, is_word_byte, through_pair}
+use Rattle.ls_text.specs.Bytes.{is_letter, is_word_byte, through_pair}
 use Rattle.verilog_pre.specs.Bodies.{begins_cut}
 use Rattle.verilog_pre.specs.declared.head.Head.{Head}
 use Rattle.verilog_pre.specs.declared.head.Head.TheVariants as head
 use Rattle.verilog_pre.specs.Heads.{plain_len, comment_head, head_of}
 use Rattle.verilog_pre.specs.Shapes.{HasNo, AllAre, StopsAt, ends_comment, IsLineComment, IsBlockComment, IsRun, IsWord}
-use Rattle.verilog_pre.proofs.Stretches.{front_all, front_stops, front_is, unclosed, unclosed_is, Closed, closes, closed_is, first_of, run_of, left_of, run_and_left, run_plain, run_ends, run_count, run_is}
+use Rattle.verilog_pre.proofs.Stretches.{front_all, front_stops, leading_word, front_is, unclosed, unclosed_is, Closed, closes, closed_is, first_of, run_of, left_of, run_and_left, run_plain, run_ends, run_count, run_is}
 
 abbrev not_newline : ℕ → Bool
 not_newline b = not (b == 10)
@@ -75,7 +75,7 @@ backquoted : (b : ℕ) (bs : List ℕ) → is_letter b ≡ true → Headed (96 �
 backquoted b bs letter =
     subst (λ k. Headed (96 ∷ b ∷ bs) (head.Word k)) counted
     (Backquoted word (drop n (b ∷ bs)) (ap (λ xs. 96 ∷ xs) (sym (take-append-drop n (b ∷ bs))))
-    (record { begins = begins; all = front_all is_word_byte (b ∷ bs); ends = front_stops is_word_byte (b ∷ bs) }))
+    (leading_word (b ∷ bs) letter))
   where
     n : ℕ
     n = prefix_len is_word_byte (b ∷ bs)
@@ -85,13 +85,6 @@ backquoted b bs letter =
 
     counted : length word ≡ n
     counted = length-prefix_len is_word_byte (b ∷ bs)
-
-    is_letter_byte : (c : ℕ) → is_letter c ≡ true → is_word_byte c ≡ true
-    is_letter_byte c e = ap (λ t. t || (is_digit c || (c == 36))) e
-
-    begins : is_letter (slice_index word 0) ≡ true
-    begins = subst (λ k. is_letter (slice_index (take k (b ∷ bs)) 0) ≡ true) (sym (ap (λ t. cond t (1 + prefix_len is_word_byte bs) 0) (is_letter_byte b letter)))
-        (subst (λ k. is_letter (slice_index (take k (b ∷ bs)) 0) ≡ true) (let same : suc (prefix_len is_word_byte bs) ≡ 1 + prefix_len is_word_byte bs = omega arith in same) letter)
 
 counted_run : (a : ℕ) (bs : List ℕ) → HasNo begins_cut (a ∷ take 1 bs) → plain_len 0 1 bs ≡ length (run_of a bs)
 counted_run a bs has =

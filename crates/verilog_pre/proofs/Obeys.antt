@@ -1,12 +1,12 @@
 -- A directive does what the relation on directives says, and nothing else.
-use Rattle.std.proofs.Common.{◌≡◌, ℕ, suc, ◌+◌, ◌==◌, ◌&&◌, ◌||◌, not, Bool, true, false, cond, List, [], ◌∷◌, ◌++◌, length, take, drop, Option, Some, None, Result, Ok, Err, refl, sym, ap, subst, ◌∙◌, arith, append_assoc, true≢false}
+use Rattle.std.proofs.Common.{◌≡◌, ℕ, ◌+◌, ◌==◌, ◌&&◌, ◌||◌, not, Bool, true, false, cond, List, [], ◌∷◌, ◌++◌, length, take, drop, Option, Some, None, Result, Ok, Err, refl, sym, ap, subst, ◌∙◌, arith, append_assoc, true≢false}
 use Rattle.std.specs.Prelude.{slice_index, is_some}
 use Rattle.std.specs.List.{prefix_len}
 use Rattle.std.proofs.lemmas.Bool.{eqb-true, or_parts}
 use Rattle.std.proofs.lemmas.List.{take-append-drop, length-append}
 use Rattle.std.proofs.lemmas.List.Folds.{length-prefix_len}
 use Rattle.ls_text.specs.declared.place.Place.{Place}
-use Rattle.ls_text.specs.Bytes.{is_letter, is_digit, is_word_byte, is_blank}
+use Rattle.ls_text.specs.Bytes.{is_letter, is_word_byte, is_blank}
 use Rattle.ls_text.specs.Readings.{TextFault, ◌>>=◌}
 use Rattle.verilog_pre.specs.declared.conditional.Conditional.{Conditional}
 use Rattle.verilog_pre.specs.declared.directive.Directive.{Directive}
@@ -22,7 +22,7 @@ use Rattle.verilog_pre.specs.Reading.{Read, bad, with_out, with_body, define_nam
 use Rattle.verilog_pre.specs.States.{State}
 use Rattle.verilog_pre.specs.Shapes.{AllAre, StopsAt, IsWord}
 use Rattle.verilog_pre.specs.Uses.{Expands}
-use Rattle.verilog_pre.proofs.Stretches.{front_all, front_stops, front_is, take_seam, drop_seam}
+use Rattle.verilog_pre.proofs.Stretches.{front_all, front_stops, leading_word, front_is, take_seam, drop_seam}
 use Rattle.verilog_pre.proofs.BodyTurns.{whole_body, only_body}
 use Rattle.verilog_pre.proofs.Expanded.{whole_use, only_use}
 
@@ -50,15 +50,6 @@ not_blank c letter =
     ∙ ap (λ t. t || ((c == 12) || (c == 13))) (other c 9 refl letter)
     ∙ ap (λ t. t || (c == 13)) (other c 12 refl letter)
     ∙ other c 13 refl letter
-
-begins_word : (xs : List ℕ) → is_letter (slice_index xs 0) ≡ true → is_letter (slice_index (take (prefix_len is_word_byte xs) xs) 0) ≡ true
-begins_word [] letter = absurd (true≢false (sym letter))
-begins_word (b ∷ bs) letter =
-    let all : is_word_byte b ≡ true = ap (λ t. t || (is_digit b || (b == 36))) letter in
-    let more : suc (prefix_len is_word_byte bs) ≡ 1 + prefix_len is_word_byte bs = omega arith in
-    let count : suc (prefix_len is_word_byte bs) ≡ prefix_len is_word_byte (b ∷ bs) =
-    more ∙ sym (ap (λ t. cond t (1 + prefix_len is_word_byte bs) 0) all) in
-    subst (λ k. is_letter (slice_index (take k (b ∷ bs)) 0) ≡ true) count letter
 
 begins_none : (xs : List ℕ) → is_letter (slice_index xs 0) ≡ false → StopsAt is_letter xs
 begins_none [] none = tt
@@ -90,7 +81,7 @@ found text = at (is_letter (slice_index left 0)) refl
         (record {
           is = sym joined ∙ ap (λ xs. take (prefix_len is_blank text) text ++ xs) (sym (take-append-drop n left));
           blank = front_all is_blank text;
-          word = record { begins = begins_word left letter; all = front_all is_word_byte left; ends = front_stops is_word_byte left };
+          word = leading_word left letter;
         }))
     at false none =
         NoName (record {

@@ -1,13 +1,14 @@
 -- Stretches of bytes, and what counts them.
-use Rattle.std.proofs.Common.{◌≡◌, ℕ, suc, ◌+◌, ◌-◌, ◌<◌, ◌≤◌, ◌==◌, ◌&&◌, ◌⊎◌, inl, inr, Bool, true, false, cond, List, [], ◌∷◌, ◌++◌, length, take, drop, Option, Some, None, refl, sym, ap, subst, ◌∙◌, arith, true≢false}
+use Rattle.std.proofs.Common.{◌≡◌, ℕ, suc, ◌+◌, ◌-◌, ◌<◌, ◌≤◌, ◌==◌, ◌&&◌, ◌||◌, ◌⊎◌, inl, inr, Bool, true, false, cond, List, [], ◌∷◌, ◌++◌, length, take, drop, Option, Some, None, refl, sym, ap, subst, ◌∙◌, arith, true≢false}
 use Rattle.std.proofs.Math.Bool.{and-false}
+use Rattle.std.specs.Prelude.{slice_index}
 use Rattle.std.specs.List.{prefix_len}
 use Rattle.std.proofs.lemmas.Bool.{eqb-true, and_parts}
 use Rattle.std.proofs.lemmas.Option.{none-some}
-use Rattle.ls_text.specs.Bytes.{through_pair}
+use Rattle.ls_text.specs.Bytes.{is_letter, is_digit, is_word_byte, through_pair}
 use Rattle.verilog_pre.specs.Bodies.{begins_cut}
 use Rattle.verilog_pre.specs.Heads.{plain_len}
-use Rattle.verilog_pre.specs.Shapes.{HasNo, BeginsWith, AllAre, StopsAt, ends_comment}
+use Rattle.verilog_pre.specs.Shapes.{HasNo, BeginsWith, AllAre, StopsAt, ends_comment, IsWord}
 
 -- ---- bytes of a class
 
@@ -26,6 +27,20 @@ front_stops p (x ∷ xs) = at (p x) refl (front_stops p xs)
     at : (t : Bool) → p x ≡ t → StopsAt p (drop (prefix_len p xs) xs) → StopsAt p (drop (cond t (1 + prefix_len p xs) 0) (x ∷ xs))
     at true e more = subst (λ n. StopsAt p (drop n (x ∷ xs))) (let same : suc (prefix_len p xs) ≡ 1 + prefix_len p xs = omega arith in same) more
     at false e more = e
+
+-- the word at the front of a text that begins with a letter
+pub leading_word : (text : List ℕ) → is_letter (slice_index text 0) ≡ true
+    → IsWord (take (prefix_len is_word_byte text) text) (drop (prefix_len is_word_byte text) text)
+leading_word text letter = record { begins = begins text letter; all = front_all is_word_byte text; ends = front_stops is_word_byte text }
+  where
+    begins : (xs : List ℕ) → is_letter (slice_index xs 0) ≡ true → is_letter (slice_index (take (prefix_len is_word_byte xs) xs) 0) ≡ true
+    begins [] letter = absurd (true≢false (sym letter))
+    begins (b ∷ bs) letter =
+        let all : is_word_byte b ≡ true = ap (λ t. t || (is_digit b || (b == 36))) letter in
+        let more : suc (prefix_len is_word_byte bs) ≡ 1 + prefix_len is_word_byte bs = omega arith in
+        let count : suc (prefix_len is_word_byte bs) ≡ prefix_len is_word_byte (b ∷ bs) =
+        more ∙ sym (ap (λ t. cond t (1 + prefix_len is_word_byte bs) 0) all) in
+        subst (λ k. is_letter (slice_index (take k (b ∷ bs)) 0) ≡ true) count letter
 
 pub front_is : (p : ℕ → Bool) (xs ys : List ℕ) → AllAre p xs → StopsAt p ys → prefix_len p (xs ++ ys) ≡ length xs
 front_is p [] [] all stops = refl
