@@ -1,17 +1,24 @@
 -- One turn of the session in which it adds commands' own entries alone.
 use Rattle.std.proofs.Common.{◌≡◌, ℕ, true, false, List, [], ◌∷◌, ◌++◌, Some, refl, sym, ap, ◌∙◌, subst, append-nil}
-use Rattle.book_history.specs.Book.{Event, Opens, Runs, Reloads, Claims, Installs, Releases, Shows, Closes}
+use Rattle.book_history.specs.Event.{Event}
 use Rattle.book_history.specs.Journal.{Journal}
-use Rattle.book_history.specs.Moments.{is_spoken}
-use Rattle.book_history.specs.Owned.{is_owned, AllOwned, added}
-use Rattle.book_history.specs.Rooms.{Counts, count, count_all, no_entry}
-use Rattle.book_history.specs.Tickets.{kept, kept_all, MayAdd, MayAddAll}
+use Rattle.book_history.specs.Kind.{Kind, SessionsOwn, DrawsTicket, UsesTicket, EndsClaims, kind_of}
+use Rattle.book_history.specs.Moments.{is_spoken, is_spoken_kind}
+use Rattle.book_history.specs.Owned.{is_of_session, is_owned, AllOwned, added}
+use Rattle.book_history.specs.Rooms.{Counts, count, count_kind, count_all, no_entry}
+use Rattle.book_history.specs.Tickets.{kept, kept_by, kept_all, MayAdd, MayAddKind, MayAddAll}
 use Rattle.book_turn.specs.Known.{Known, entered, left}
 use Rattle.book_turn.specs.Rule.{MayLeave, Learned}
 use Rattle.book_turn.proofs.Histories.{added_append}
 use Rattle.checkpoint_book.specs.Views.{counts_of}
 use Rattle.segment_verify.specs.Workers.{is_closed, IsFree}
 use Rattle.worker_scope.specs.Spoken.{AllSpoken, AddsSpoken}
+
+one_kind : (k : Kind) → is_spoken_kind k ≡ true → k ≡ SessionsOwn
+one_kind SessionsOwn p = refl
+one_kind (DrawsTicket n by) p = absurd cc
+one_kind (UsesTicket n by) p = absurd cc
+one_kind EndsClaims p = absurd cc
 
 module _ {D R O : Type 0} where
   pub none_added : (j l : Journal D R O) → l.settings ≡ j.settings → l.events ≡ j.events → AddsSpoken j l
@@ -20,45 +27,20 @@ module _ {D R O : Type 0} where
   pub one_added : (j l : Journal D R O) (e : Event D R O) → l.settings ≡ j.settings → l.events ≡ j.events ++ e ∷ [] → is_spoken e ≡ true → AddsSpoken j l
   one_added j l e settings events spoken = record { entries = e ∷ []; spoken = (spoken, tt); settings = settings; events = events }
 
+  spoken_kind : (e : Event D R O) → is_spoken e ≡ true → kind_of e ≡ SessionsOwn
+  spoken_kind e spoken = one_kind (kind_of e) spoken
+
   spoken_owned : (e : Event D R O) → is_spoken e ≡ true → is_owned e ≡ true
-  spoken_owned (Opens v m) p = refl
-  spoken_owned (Runs n rows) p = refl
-  spoken_owned (Reloads v m ops from) p = refl
-  spoken_owned (Claims n a b by) p = absurd cc
-  spoken_owned (Installs n j by) p = absurd cc
-  spoken_owned (Releases n by) p = absurd cc
-  spoken_owned (Shows s) p = refl
-  spoken_owned Closes p = absurd cc
+  spoken_owned e p = ap (λ (k : Kind). is_of_session k) (spoken_kind e p)
 
   spoken_kept : (e : Event D R O) (ts : List ℕ) → is_spoken e ≡ true → kept ts e ≡ ts
-  spoken_kept (Opens v m) ts p = refl
-  spoken_kept (Runs n rows) ts p = refl
-  spoken_kept (Reloads v m ops from) ts p = refl
-  spoken_kept (Claims n a b by) ts p = absurd cc
-  spoken_kept (Installs n j by) ts p = absurd cc
-  spoken_kept (Releases n by) ts p = absurd cc
-  spoken_kept (Shows s) ts p = refl
-  spoken_kept Closes ts p = refl
+  spoken_kept e ts p = ap (λ (k : Kind). kept_by ts k) (spoken_kind e p)
 
   spoken_may : (e : Event D R O) (h : List (Event D R O)) (ts : List ℕ) → is_spoken e ≡ true → MayAdd h ts e
-  spoken_may (Opens v m) h ts p = tt
-  spoken_may (Runs n rows) h ts p = tt
-  spoken_may (Reloads v m ops from) h ts p = tt
-  spoken_may (Claims n a b by) h ts p = absurd cc
-  spoken_may (Installs n j by) h ts p = absurd cc
-  spoken_may (Releases n by) h ts p = absurd cc
-  spoken_may (Shows s) h ts p = tt
-  spoken_may Closes h ts p = tt
+  spoken_may e h ts p = subst (λ (k : Kind). MayAddKind h ts k) (sym (spoken_kind e p)) tt
 
   spoken_open : (e : Event D R O) (n : Counts) → is_spoken e ≡ true → (count n e).closed ≡ n.closed
-  spoken_open (Opens v m) n p = refl
-  spoken_open (Runs x rows) n p = refl
-  spoken_open (Reloads v m ops from) n p = refl
-  spoken_open (Claims i a b by) n p = absurd cc
-  spoken_open (Installs i j by) n p = absurd cc
-  spoken_open (Releases i by) n p = absurd cc
-  spoken_open (Shows s) n p = refl
-  spoken_open Closes n p = absurd cc
+  spoken_open e n p = ap (λ (k : Kind). (count_kind n k).closed) (spoken_kind e p)
 
   all_owned : (es : List (Event D R O)) → AllSpoken es → AllOwned true es
   all_owned [] p = tt

@@ -13,7 +13,7 @@ work-answer-requires-clause-ready g c = c.requires.ready _ c.start-children.ensu
 pub returns-clause-worked : goal.returns-clause-worked
 returns-clause-worked g c = record {
   before = known c.start-children.new.pass;
-  started = subst (λ n. HasSplit (n + lost_in c.start-children.refusal) (known c.args.pass) (known c.start-children.new.pass)) (sym c.len-started.ensures) c.start-children.ensures.split;
+  started = subst (λ n. HasSplit (n + lost_in c.start-children.result.1) (known c.args.pass) (known c.start-children.new.pass)) (sym c.len-started.ensures) c.start-children.ensures.split;
   behind = known c.close.new.pass;
   worked = record {
     after = known c.work-answer.new.pass;
