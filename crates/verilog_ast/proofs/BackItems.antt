@@ -306,7 +306,7 @@ outside (GenerateItem-F.If xs) = refl
 back_outside : (x : GenerateItem) → item_back (generate_item_of x) ≡ item.Item x
 back_outside x =
     let is : generate_item_of x ≡ generate_item_view (map-GenerateItem GenerateItem Branch ModuleItem ModuleItem generate_item_of branch_of (out-GenerateItem x))
-      = fold_out-GenerateItem ModuleItem ModuleItem generate_item_view branch_view x in
+    = fold_out-GenerateItem ModuleItem ModuleItem generate_item_view branch_view x in
     ap item_back is
     ∙ outside (map-GenerateItem GenerateItem Branch ModuleItem ModuleItem generate_item_of branch_of (out-GenerateItem x))
     ∙ ap (λ (m : ModuleItem). item.Item (generate_item_back m)) (sym is)
