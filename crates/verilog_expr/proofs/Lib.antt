@@ -4,13 +4,16 @@ pub mod Entries
 pub mod Trees
 pub mod Complete
 pub mod Suffixes
+pub mod Fronts
 pub mod Weights
 pub mod Endings
 pub mod Placed
 pub mod Refusals
 pub mod OneTree
+pub mod OneToken
 pub mod OneRow
 pub mod OneReading
+pub mod SameReadings
 pub mod OneRun
 pub mod Named
 pub mod RenamedTokens

@@ -13,7 +13,8 @@ use Rattle.verilog_ast.specs.declared.expression.Reference.TheVariants as ref
 use Rattle.verilog_ast.specs.declared.range.Range.{Range}
 use Rattle.verilog_expr.specs.Tokens.{next, Takes, identifier_of, number_of, unary_operator, binary_operator}
 use Rattle.verilog_expr.specs.Spells.{Phrase, Spells, AnExpression, AChain, AnOperand, ASelect, APart, ABraced, Behind, Others, ARange, plain, conditional, one, binary, number, unary, read, bracketed, braced, concatenation, replication, behind, no_other, another, whole, select, bit, part, upward, downward, range}
-use Rattle.verilog_expr.proofs.OneRow.{takes_kind, clash, one_rest, one_token, IsOnlyOperand, Flat, flat_one, flat_binary, one_chain}
+use Rattle.verilog_expr.proofs.OneToken.{kind_of, clash, one_rest, one_token}
+use Rattle.verilog_expr.proofs.OneRow.{IsOnlyOperand, Flat, flat_one, flat_binary, one_chain}
 
 -- ---- that a phrase is the only one of its kind at the front of the tokens, and where it ends
 
@@ -66,15 +67,15 @@ plain_only : {x y : Expr} {s s' r t : List Token} → Flat IsOnlyOperand 0 x s r
     → s ≡ s' → Spells (AnExpression y) s' t → (x ≡ y) × (r ≡ t)
 plain_only f free other q (plain h free' other') = one_chain f q h free free'
 plain_only f free other q (conditional {a = a} h t x c y) =
-    let o = one_chain f q h free (question_operator (next a) (takes_kind t)) in absurd (other (ap next o.1 ∙ takes_kind t))
+    let o = one_chain f q h free (question_operator (next a) (kind_of t)) in absurd (other (ap next o.1 ∙ kind_of t))
 
 conditional_only : {w x y z : Expr} {s s' a b d f r u : List Token} {t v : Token} → Flat IsOnlyOperand 0 w s a → Takes k.Question a b t
     → OneExpression x b d → Takes k.Colon d f v → OneExpression y f r
     → s ≡ s' → Spells (AnExpression z) s' u → (e.Conditional w x y ≡ z) × (r ≡ u)
 conditional_only {a = a} g t x c y q (plain h free other) =
-    let o = one_chain g q h (question_operator (next a) (takes_kind t)) free in absurd (other (sym (ap next o.1) ∙ takes_kind t))
+    let o = one_chain g q h (question_operator (next a) (kind_of t)) free in absurd (other (sym (ap next o.1) ∙ kind_of t))
 conditional_only {a = a} g t x c y q (conditional {a = a'} h t' x' c' y') =
-    let o = one_chain g q h (question_operator (next a) (takes_kind t)) (question_operator (next a') (takes_kind t')) in
+    let o = one_chain g q h (question_operator (next a) (kind_of t)) (question_operator (next a') (kind_of t')) in
     let m = x _ _ _ (one_rest t o.1 t') x' in
     let n = y _ _ _ (one_rest c m.1 c') y' in
     (same_three (λ (u v w : Expr). e.Conditional u v w) _ _ _ _ _ _ o.0 m.0 n.0, n.1)
@@ -102,7 +103,7 @@ unary_only : {op : UnaryOperator} {x y : Expr} {s s' a r u : List Token} {kind :
 unary_only has t h q (number t') = absurd (unary_clash has refl t q t')
 unary_only {op = op} {x = x} {kind = kind} {t = t} has took h q (unary {op = o} {x = z} {kind = other} {t = t'} has' took' h') =
     let i = h _ _ _ (one_rest took q took') h' in
-    let j = same_operator kind other op o has has' (sym (takes_kind took) ∙ ap next q ∙ takes_kind took') in
+    let j = same_operator kind other op o has has' (sym (kind_of took) ∙ ap next q ∙ kind_of took') in
     (same_three (λ (v : Token) (b : UnaryOperator) (w : Expr). e.Unary v.at b w) t t' op o x z (one_token took q took') j i.0, i.1)
 unary_only has t h q (read t' h') = absurd (unary_clash has refl t q t')
 unary_only has t h q (bracketed t' h' v) = absurd (unary_clash has refl t q t')
@@ -143,12 +144,12 @@ concatenation_only : {at at' : Place} {x y w : Expr} {all : List Expr} {s s' a r
     → at ≡ at' → x ≡ y → s ≡ s' → Spells (ABraced at' y w) s' u → (e.Concatenation at all ≡ w) × (r ≡ u)
 concatenation_only free h t i j q (concatenation free' h' t') =
     let o = h _ _ _ _ j q h' in (same_two (λ (v : Place) (l : List Expr). e.Concatenation v l) _ _ _ _ i o.0, one_rest t o.1 t')
-concatenation_only free h t i j q (replication t' x b u v) = absurd (free (ap next q ∙ takes_kind t'))
+concatenation_only free h t i j q (replication t' x b u v) = absurd (free (ap next q ∙ kind_of t'))
 
 replication_only : {at at' : Place} {x y z w : Expr} {all : List Expr} {s s' a b c d r f : List Token} {t u v : Token}
     → Takes k.LeftBrace s a t → OneExpression y a b → OneBehind y all b c → Takes k.RightBrace c d u → Takes k.RightBrace d r v
     → at ≡ at' → x ≡ z → s ≡ s' → Spells (ABraced at' z w) s' f → (e.Replication at x all ≡ w) × (r ≡ f)
-replication_only t y b u v i j q (concatenation free h t') = absurd (free (sym (ap next q) ∙ takes_kind t))
+replication_only t y b u v i j q (concatenation free h t') = absurd (free (sym (ap next q) ∙ kind_of t))
 replication_only t y b u v i j q (replication t' y' b' u' v') =
     let m = y _ _ _ (one_rest t q t') y' in
     let n = b _ _ _ _ m.0 m.1 b' in
@@ -160,11 +161,11 @@ behind_only h i q (behind h') = let o = h _ _ _ q h' in (same_two (λ (z : Expr)
 
 no_other_only : {ys : List Expr} {s s' t : List Token} → next s ≢ k.Comma → s ≡ s' → Spells (Others ys) s' t → ([] ≡ ys) × (s ≡ t)
 no_other_only free q (no_other free') = (refl, q)
-no_other_only free q (another t h r) = absurd (free (ap next q ∙ takes_kind t))
+no_other_only free q (another t h r) = absurd (free (ap next q ∙ kind_of t))
 
 another_only : {x : Expr} {xs ys : List Expr} {s s' a b r u : List Token} {t : Token} → Takes k.Comma s a t → OneExpression x a b
     → OneOthers xs b r → s ≡ s' → Spells (Others ys) s' u → (x ∷ xs ≡ ys) × (r ≡ u)
-another_only t h r q (no_other free) = absurd (free (sym (ap next q) ∙ takes_kind t))
+another_only t h r q (no_other free) = absurd (free (sym (ap next q) ∙ kind_of t))
 another_only t h r q (another t' h' r') =
     let i = h _ _ _ (one_rest t q t') h' in
     let o = r _ _ _ i.1 r' in
@@ -175,12 +176,12 @@ another_only t h r q (another t' h' r') =
 whole_only : {n m : Identifier} {y : Reference} {s s' t : List Token} → next s ≢ k.LeftBracket → n ≡ m → s ≡ s' → Spells (ASelect m y) s' t
     → (ref.Whole n ≡ y) × (s ≡ t)
 whole_only free i q (whole free' dot) = (ap (λ (z : Identifier). ref.Whole z) i, q)
-whole_only free i q (select t h p u dot) = absurd (free (ap next q ∙ takes_kind t))
+whole_only free i q (select t h p u dot) = absurd (free (ap next q ∙ kind_of t))
 
 select_only : {n m : Identifier} {x : Expr} {y z : Reference} {s s' a b c r f : List Token} {t u : Token} → Takes k.LeftBracket s a t
     → OneExpression x a b → OnePart n x y b c → Takes k.RightBracket c r u
     → n ≡ m → s ≡ s' → Spells (ASelect m z) s' f → (y ≡ z) × (r ≡ f)
-select_only t h p u i q (whole free dot) = absurd (free (sym (ap next q) ∙ takes_kind t))
+select_only t h p u i q (whole free dot) = absurd (free (sym (ap next q) ∙ kind_of t))
 select_only t h p u i q (select t' h' p' u' dot) =
     let m = h _ _ _ (one_rest t q t') h' in
     let n = p _ _ _ _ _ i m.0 m.1 p' in
@@ -189,13 +190,13 @@ select_only t h p u i q (select t' h' p' u' dot) =
 bit_only : {n m : Identifier} {x y : Expr} {w : Reference} {s s' t : List Token} → next s ≢ k.Colon → next s ≢ k.PlusColon
     → next s ≢ k.MinusColon → n ≡ m → x ≡ y → s ≡ s' → Spells (APart m y w) s' t → (ref.Bit n x ≡ w) × (s ≡ t)
 bit_only a b c i j q (bit d f g) = (same_two (λ (v : Identifier) (z : Expr). ref.Bit v z) _ _ _ _ i j, q)
-bit_only a b c i j q (part t h) = absurd (a (ap next q ∙ takes_kind t))
-bit_only a b c i j q (upward t h) = absurd (b (ap next q ∙ takes_kind t))
-bit_only a b c i j q (downward t h) = absurd (c (ap next q ∙ takes_kind t))
+bit_only a b c i j q (part t h) = absurd (a (ap next q ∙ kind_of t))
+bit_only a b c i j q (upward t h) = absurd (b (ap next q ∙ kind_of t))
+bit_only a b c i j q (downward t h) = absurd (c (ap next q ∙ kind_of t))
 
 part_only : {n m : Identifier} {x y z : Expr} {w : Reference} {s s' a r u : List Token} {t : Token} → Takes k.Colon s a t
     → OneExpression y a r → n ≡ m → x ≡ z → s ≡ s' → Spells (APart m z w) s' u → (ref.Part n x y ≡ w) × (r ≡ u)
-part_only t h i j q (bit a b c) = absurd (a (sym (ap next q) ∙ takes_kind t))
+part_only t h i j q (bit a b c) = absurd (a (sym (ap next q) ∙ kind_of t))
 part_only t h i j q (part t' h') =
     let o = h _ _ _ (one_rest t q t') h' in (same_three (λ (v : Identifier) (c d : Expr). ref.Part v c d) _ _ _ _ _ _ i j o.0, o.1)
 part_only t h i j q (upward t' h') = absurd (clash (λ is. cc) t q t')
@@ -203,7 +204,7 @@ part_only t h i j q (downward t' h') = absurd (clash (λ is. cc) t q t')
 
 upward_only : {n m : Identifier} {x y z : Expr} {w : Reference} {s s' a r u : List Token} {t : Token} → Takes k.PlusColon s a t
     → OneExpression y a r → n ≡ m → x ≡ z → s ≡ s' → Spells (APart m z w) s' u → (ref.Upward n x y ≡ w) × (r ≡ u)
-upward_only t h i j q (bit a b c) = absurd (b (sym (ap next q) ∙ takes_kind t))
+upward_only t h i j q (bit a b c) = absurd (b (sym (ap next q) ∙ kind_of t))
 upward_only t h i j q (part t' h') = absurd (clash (λ is. cc) t q t')
 upward_only t h i j q (upward t' h') =
     let o = h _ _ _ (one_rest t q t') h' in (same_three (λ (v : Identifier) (c d : Expr). ref.Upward v c d) _ _ _ _ _ _ i j o.0, o.1)
@@ -212,7 +213,7 @@ upward_only t h i j q (downward t' h') = absurd (clash (λ is. cc) t q t')
 downward_only : {n m : Identifier} {x y z : Expr} {w : Reference} {s s' a r u : List Token} {t : Token} → Takes k.MinusColon s a t
     → OneExpression y a r → n ≡ m → x ≡ z → s ≡ s' → Spells (APart m z w) s' u
     → (ref.Downward n x y ≡ w) × (r ≡ u)
-downward_only t h i j q (bit a b c) = absurd (c (sym (ap next q) ∙ takes_kind t))
+downward_only t h i j q (bit a b c) = absurd (c (sym (ap next q) ∙ kind_of t))
 downward_only t h i j q (part t' h') = absurd (clash (λ is. cc) t q t')
 downward_only t h i j q (upward t' h') = absurd (clash (λ is. cc) t q t')
 downward_only t h i j q (downward t' h') =

@@ -1,33 +1,14 @@
 -- From the same tokens there is one row of operands and operators up to where no operator follows, so one chain.
-use Rattle.std.proofs.Common.{◌≡◌, ◌≢◌, ◌≤◌, ◌+◌, ℕ, List, [], ◌∷◌, ◌++◌, Some, None, refl, sym, ap, ◌∙◌}
+use Rattle.std.proofs.Common.{◌≡◌, ◌≤◌, ◌+◌, ℕ, List, [], ◌∷◌, ◌++◌, Some, None, refl, sym, ap, ◌∙◌}
 use Rattle.verilog_lex.specs.declared.token.Token.{Token}
 use Rattle.verilog_lex.specs.declared.kind.Kind.{Kind}
 use Rattle.verilog_ast.specs.declared.binary_operator.BinaryOperator.{BinaryOperator}
 use Rattle.verilog_ast.specs.declared.expression.Expr.{Expr}
 use Rattle.verilog_ast.specs.declared.expression.Expr.TheVariants as e
-use Rattle.verilog_expr.specs.Tokens.{next, Takes, taken, binary_operator, level}
+use Rattle.verilog_expr.specs.Tokens.{next, Takes, binary_operator, level}
 use Rattle.verilog_expr.specs.Spells.{Spells, AChain, AnOperand, one, binary}
+use Rattle.verilog_expr.proofs.OneToken.{kind_of, one_rest}
 use Rattle.verilog_expr.proofs.OneTree.{Further, TreeOf, leaf, node, one_tree}
-
--- ---- one token
-
--- At the front of the same tokens, a token of one kind alone is taken: the same token, and the same are left.
-
-pub takes_kind : {kind : Kind} {s r : List Token} {t : Token} → Takes kind s r t → next s ≡ kind
-takes_kind (taken cut is) = ap next cut ∙ is
-
-pub clash : {kind other : Kind} {s s' r r' : List Token} {t t' : Token} → kind ≢ other → Takes kind s r t → s ≡ s' → Takes other s' r' t' → ⊥
-clash differs t q t' = differs (sym (takes_kind t) ∙ ap next q ∙ takes_kind t')
-
--- the first token and the rest are the same
-same_cut : (s s' r r' : List Token) (t t' : Token) → s ≡ t ∷ r → s ≡ s' → s' ≡ t' ∷ r' → t ∷ r ≡ t' ∷ r'
-same_cut s s' r r' t t' a q b = cc
-
-pub one_rest : {kind other : Kind} {s s' r r' : List Token} {t t' : Token} → Takes kind s r t → s ≡ s' → Takes other s' r' t' → r ≡ r'
-one_rest {s = s} {s' = s'} {r = r} {r' = r'} {t = t} {t' = t'} (taken a is) q (taken b is') = let h = same_cut s s' r r' t t' a q b in cc
-
-pub one_token : {kind other : Kind} {s s' r r' : List Token} {t t' : Token} → Takes kind s r t → s ≡ s' → Takes other s' r' t' → t ≡ t'
-one_token {s = s} {s' = s'} {r = r} {r' = r'} {t = t} {t' = t'} (taken a is) q (taken b is') = let h = same_cut s s' r r' t t' a q b in cc
 
 -- ---- rows
 
@@ -94,13 +75,13 @@ one_row : {x y : Expr} {ms ns : List Further} {s s' r t : List Token} → Row Is
     → (x ≡ y) × (ms ≡ ns) × (r ≡ t)
 one_row (last h) (last h') q free free' = let o = h _ _ _ q h' in (o.0, refl, o.1)
 one_row (last {r = r} h) (more {op = op} {kind = kind} h' has t l) q free free' =
-    let o = h _ _ _ q h' in absurd (none_some (next r) kind op free has (ap next o.1 ∙ takes_kind t))
+    let o = h _ _ _ q h' in absurd (none_some (next r) kind op free has (ap next o.1 ∙ kind_of t))
 one_row (more {op = op} {kind = kind} h has t l) (last {r = r} h') q free free' =
-    let o = h _ _ _ q h' in absurd (none_some (next r) kind op free' has (sym (ap next o.1) ∙ takes_kind t))
+    let o = h _ _ _ q h' in absurd (none_some (next r) kind op free' has (sym (ap next o.1) ∙ kind_of t))
 one_row (more {y = x} {op = op} {ms = ms} {kind = kind} h has t l) (more {y = y} {op = o} {ms = ns} {kind = other} h' has' t' l') q free free' =
     let f = h _ _ _ q h' in
     let i = one_row l l' (one_rest t f.1 t') free free' in
-    (f.0, same_rows op o x y ms ns (same_operator kind other op o has has' (sym (takes_kind t) ∙ ap next f.1 ∙ takes_kind t')) i.0 i.1, i.2)
+    (f.0, same_rows op o x y ms ns (same_operator kind other op o has has' (sym (kind_of t) ∙ ap next f.1 ∙ kind_of t')) i.0 i.1, i.2)
 
 -- a chain with no operator behind it is one expression with one end
 pub one_chain : {p q : ℕ} {x y : Expr} {s s' r t : List Token} → Flat IsOnlyOperand p x s r → s ≡ s' → Spells (AChain q y) s' t

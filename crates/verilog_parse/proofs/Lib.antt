@@ -2,7 +2,6 @@ pub mod ItemTrees
 pub mod ModuleTrees
 pub mod Complete
 pub mod Wholes
-pub mod OneDeclaration
 pub mod OneItem
 pub mod OneGenerate
 pub mod OneModule
@@ -16,3 +15,4 @@ pub mod RenamedGenerate
 pub mod RenamedModule
 pub mod RenamedText
 pub mod PlacedItems
+pub mod PlacedPorts

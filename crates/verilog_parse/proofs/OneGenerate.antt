@@ -14,8 +14,9 @@ use Rattle.verilog_expr.specs.Tokens.{identifier_of}
 use Rattle.verilog_expr.specs.Grammar.{begins_generate_item}
 use Rattle.verilog_parse.specs.Generates.{Spells, GenerateItems, AGenerateItem, ALoop, ALoopHead, ABlock, ABranch, AnOtherwise, BranchesBehind, OtherBranches}
 use Rattle.verilog_parse.specs.Generates.{no_item, another_item, loop_item, if_item, plain_item, generate_loop, loop_head, block, branch, otherwise, branches_behind, no_branch, another_branch, last_branch}
-use Rattle.verilog_stmt.proofs.OneToken.{kind_of, same_token, two_kinds, no_kind, no_beginning, same_expression}
-use Rattle.verilog_parse.proofs.OneDeclaration.{one_parameter}
+use Rattle.verilog_expr.proofs.OneToken.{kind_of, same_token, two_kinds, no_kind, no_beginning}
+use Rattle.verilog_expr.proofs.SameReadings.{same_expression}
+use Rattle.verilog_decl.proofs.OneDeclaration.{one_parameter}
 use Rattle.verilog_parse.proofs.OneItem.{one_plain_item}
 
 one_loop_head : {x y : Loop} {s q r p : List Token} → Spells (ALoopHead x) s r → Spells (ALoopHead y) q p → s ≡ q → (x ≡ y) × (r ≡ p)

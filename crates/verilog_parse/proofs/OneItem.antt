@@ -21,9 +21,10 @@ use Rattle.verilog_ast.proofs.Equal.{ap₃}
 use Rattle.verilog_expr.specs.Tokens.{next, identifier_of}
 use Rattle.verilog_parse.specs.Items.{Spells, APlainItem, AnEvent, Trigger, EdgeEnd, Assignments, AssignmentsBehind, OtherAssignments, AContinuous}
 use Rattle.verilog_parse.specs.Items.{wire_item, reg_item, local_item, genvar_item, assign_item, always_item, instances_item, at_all, at_bracket, at_inputs, at_edge, edge_end, assignments, assignments_behind, no_assignment, another_assignment, continuous}
-use Rattle.verilog_stmt.proofs.OneToken.{kind_of, same_token, two_kinds, no_kind, same_expression}
+use Rattle.verilog_expr.proofs.OneToken.{kind_of, same_token, two_kinds, no_kind}
+use Rattle.verilog_expr.proofs.SameReadings.{same_expression}
 use Rattle.verilog_stmt.proofs.OneStatement.{one_target, one_statement}
-use Rattle.verilog_parse.proofs.OneDeclaration.{one_shape, one_names, one_variables, one_reg_variables, one_parameters, one_overrides, one_instances}
+use Rattle.verilog_decl.proofs.OneDeclaration.{one_shape, one_names, one_variables, one_reg_variables, one_parameters, one_overrides, one_instances}
 
 one_continuous : {x y : Continuous} {s q r p : List Token} → Spells (AContinuous x) s r → Spells (AContinuous y) q p → s ≡ q → (x ≡ y) × (r ≡ p)
 one_continuous (continuous x t y) (continuous x' t' y') same =

@@ -16,7 +16,7 @@ use Rattle.verilog_expr.specs.Shown.{code_of, left_at, token_at, place_of, names
 use Rattle.verilog_expr.proofs.Complete.{one_end}
 use Rattle.verilog_spelling.specs.Spellings.{spelling}
 use Rattle.verilog_parse.specs.Files.{file, IsSpelledAs, SpellsAll, no_module, another_module, Stands}
-use Rattle.verilog_stmt.proofs.OneToken.{no_kind}
+use Rattle.verilog_expr.proofs.OneToken.{no_kind}
 use Rattle.verilog_parse.proofs.OneModule.{one_module}
 
 -- ---- modules

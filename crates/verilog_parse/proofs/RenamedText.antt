@@ -19,7 +19,7 @@ use Rattle.verilog_expr.proofs.RenamedTokens.{at_next}
 use Rattle.verilog_expr.proofs.RenamedRun.{run_so}
 use Rattle.verilog_parse.specs.Modules.{Spells, AModule}
 use Rattle.verilog_parse.specs.Files.{file, SpellsAll, no_module, another_module, Stands}
-use Rattle.verilog_stmt.proofs.OneToken.{no_kind}
+use Rattle.verilog_expr.proofs.OneToken.{no_kind}
 use Rattle.verilog_parse.proofs.OneModule.{one_module}
 use Rattle.verilog_parse.proofs.RenamedModule.{module_so}
 

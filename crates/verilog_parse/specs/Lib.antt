@@ -1,4 +1,5 @@
 pub mod Items
 pub mod Generates
 pub mod Modules
+pub mod Lasts
 pub mod Files

@@ -9,12 +9,15 @@ ghost use Rattle.verilog_ast.specs.declared.continuous.Continuous.{Continuous};
 ghost use Rattle.verilog_ast.specs.declared.generate_item.Branch.{Branch};
 ghost use Rattle.verilog_ast.specs.declared.generate_item.GenerateItem.{GenerateItem};
 ghost use Rattle.verilog_ast.specs.declared.header_port.HeaderPort.{HeaderPort};
+ghost use Rattle.verilog_ast.specs.declared.header_port.HeaderPort.TheVariants as port;
 ghost use Rattle.verilog_ast.specs.declared.identifier.Identifier.{Identifier};
 ghost use Rattle.verilog_ast.specs.declared.item.Item.{Item};
 ghost use Rattle.verilog_ast.specs.declared.module.Module.{Module};
 ghost use Rattle.verilog_ast.specs.declared.module_body.ModuleBody.{ModuleBody};
 ghost use Rattle.verilog_ast.specs.declared.plain_item.PlainItem.TheVariants as plain;
+ghost use Rattle.verilog_ast.specs.declared.port_net.PortNet.{PortNet};
 ghost use Rattle.verilog_ast.specs.declared.ports.Ports.TheVariants as ports;
+ghost use Rattle.verilog_ast.specs.declared.shape.Shape.{Shape};
 ghost use Rattle.verilog_ast.specs.declared.statement.Stmt.{Stmt};
 ghost use Rattle.verilog_ast.specs.Places.{target_place, port_place, item_place};
 ghost use Rattle.verilog_ast.specs.Views.{target_of, port_of, generate_item_of, item_of, declarations_of};
@@ -28,6 +31,7 @@ ghost use Rattle.verilog_decl.specs.Apart.{StandApart};
 ghost use Rattle.verilog_parse.specs.Files.{file, IsSpelled, Stands};
 ghost use Rattle.verilog_parse.specs.Generates as generates;
 ghost use Rattle.verilog_parse.specs.Items as items;
+ghost use Rattle.verilog_parse.specs.Lasts.{StandsLast};
 ghost use Rattle.verilog_parse.specs.Modules as modules;
 
 /// A text has at most one list of modules and at most one fault, and not both. What modules spell has no fault but 16: the
@@ -73,11 +77,14 @@ pub fn items_have_places()
 {}
 
 /// Each name has the place of its own token: that of a module the one behind `module`, the names of a header's list and of `genvar`
-/// every second one, the clock the one behind `always @ ( posedge`, and the label of a generate block the one behind `begin :`.
+/// every second one, that of an `input` of a header the last of the port, the clock the one behind `always @ ( posedge`, and the label
+/// of a generate block the one behind `begin :`.
 #[tactic(none)]
 pub fn names_have_places()
     ensures modules { (x : ModuleBody) (s r : List Token) → modules.Spells (modules.AModule x) s r → x.name.at ≡ place_at (drop 1 s) }
     ensures ports { (xs : List Identifier) (s r : List Token) → modules.Spells (modules.PortList (ports.Names xs)) s r → StandApart xs s }
+    ensures inputs { (at : Place) (net : PortNet) (x : Shape) (name : Identifier) (s r : List Token)
+        → modules.Spells (modules.AHeaderPort (port.Input at net x name)) s r → StandsLast name s r }
     ensures genvars { (at : Place) (xs : List Identifier) (s r : List Token) → items.Spells (items.APlainItem (plain.Genvar at xs)) s r
         → StandApart xs (drop 1 s) }
     ensures clocks { (at : Place) (clock : Identifier) (x : Stmt) (s r : List Token)

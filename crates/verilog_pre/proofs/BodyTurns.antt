@@ -134,13 +134,6 @@ run file offset a bs line plain =
 
 -- ---- the front of any body
 
-abbrev cut_of_two : ℕ → ℕ → List ℕ → BodyCut
-cut_of_two a b bs =
-    cond (a == 10) (cut.Last 0) (cond ((a == 92) && (b == 10)) (cut.Gap 2)
-    (cond ((a == 47) && (b == 47)) (cut.Last (prefix_len not_newline (a ∷ b ∷ bs)))
-    (cond ((a == 47) && (b == 42)) (comment_or bs (comment_len 0 0 bs))
-    (cond ((a == 96) && is_letter b) (cut.Use (1 + prefix_len is_word_byte (b ∷ bs))) (cut.Run (run_len 0 1 (b ∷ bs)))))))
-
 first_cut : (file offset : ℕ) (text : List ℕ) → 0 < length text → Cut file offset text (body_cut text)
 unfolding body_cut
 first_cut file offset [] some = absurd (omega arith)

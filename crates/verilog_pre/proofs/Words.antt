@@ -8,7 +8,7 @@ use Rattle.std.specs.Str.{bytes_eq}
 use Rattle.std.specs.Cmp.Lexicographic.{bytes_decides}
 use Rattle.ls_text.specs.Texts.{Grows, IsIdOf, text_at}
 use Rattle.verilog_pre.specs.declared.macro_body.Macro.{Macro}
-use Rattle.verilog_pre.specs.Tables.{Table, found, with_macro}
+use Rattle.verilog_pre.specs.Tables.{found, with_macro}
 
 -- words behind those that are listed say nothing
 found_more : (words more : List (List ℕ)) (known : List (Option Macro)) (word : List ℕ) → length known ≤ length words → found (words ++ more) known word ≡ found words known word
@@ -92,12 +92,6 @@ found_set (w ∷ ws) (k ∷ ks) text (suc id) m word within listed is only =
 pub table_set : (words : List (List ℕ)) (known : List (Option Macro)) (text : List ℕ) (id : ℕ) (m : Option Macro)
     → IsIdOf words text id → id < length known → found words (set known id m) ≡ with_macro text m (found words known)
 table_set words known text id m is listed = fun_ext (λ word. found_set words known text id m word is.within listed is.same is.only)
-
--- what a word names, by its number
-pub looked_up : (old new : List (List ℕ)) (known : List (Option Macro)) (text : List ℕ) (id : ℕ)
-    → Grows old new → length known ≤ length old → IsIdOf new text id → found old known text ≡ get_or known id None
-looked_up old new known text id g h is =
-    sym (ap (λ (t : Table). t text) (same_table old new known g h)) ∙ found_at new known text id is
 
 pub push_none : (P : Macro → Type 0) (before now : List (Option Macro)) → now ≡ before ++ None ∷ [] → All (λ o. IfSome o P) before → All (λ o. IfSome o P) now
 push_none P before now is all =

@@ -1,6 +1,5 @@
 pub mod StatementTrees
 pub mod Complete
-pub mod OneToken
 pub mod OneStatement
 pub mod NamedStatements
 pub mod RenamedTrees

@@ -21,7 +21,8 @@ use Rattle.verilog_expr.specs.Tokens.{next, identifier_of, pattern_of}
 use Rattle.verilog_expr.specs.Grammar.{begins_statement, begins_arm}
 use Rattle.verilog_stmt.specs.Statements.{Spells, ATarget, Braces, TargetsBehind, OtherTargets, AStatement, Statements, AnIf, Alternative, ACase, AnArm, ArmsBehind, OtherArms, OptionalColon, ALabel, LabelsBehind, OtherLabels, OptionalLabel, AnAssignment, ASign}
 use Rattle.verilog_stmt.specs.Statements.{target_name, target_braces, braces, targets_behind, no_target, another_target, empty, block, if_, case_, casez_, assign_name, assign_braces, no_statement, another_statement, branch, if_alone, if_else, choice, arms_behind, no_arm, another_arm, default, matching, colon, no_colon, case_label, casez_value, casez_pattern, labels_behind, no_other_label, another_label, no_label, a_label, assigns, blocking, nonblocking}
-use Rattle.verilog_stmt.proofs.OneToken.{kind_of, same_token, two_kinds, no_kind, no_beginning, same_expression, same_select}
+use Rattle.verilog_expr.proofs.OneToken.{kind_of, same_token, two_kinds, no_kind, no_beginning}
+use Rattle.verilog_expr.proofs.SameReadings.{same_expression, same_select}
 
 -- ---- targets
 
