@@ -2,15 +2,18 @@
 //
 // `tables.txt` has a line `READER NAME` for each table; NAME.txt are its rows (crate `row_tables`). A reader (`reader`) takes one
 // row: `trees` has those of the grammar, with `written` and `written_items` for the trees, `tokens` those of the preprocessor and
-// the lexer, `sizes` those of sizes, over the names of `operands`. `properties` has what is said of a whole table. What differs is named.
+// the lexer, `sizes` those of
+// expressions, over the names of `operands`, `blocks` those of statements, with the names of `variables`. `properties` has what is said of a whole table. What differs is named.
 #![tactic(auto)]
 
+mod blocks;
 mod operands;
 mod properties;
 mod reader;
 mod sizes;
 mod tokens;
 mod trees;
+mod variables;
 mod written;
 mod written_items;
 

@@ -1,4 +1,5 @@
 // What one text is read as, by the reader that a table names.
+use crate::blocks::after_item;
 use crate::sizes::{constant_of, sizing, value_at};
 use crate::tokens::{counts, kinds, lexed, literal, pieces, places_of_tokens, preprocessed, spans};
 use crate::trees::{part, places, spelled, tree};
@@ -32,6 +33,7 @@ impl Reader for TextReader {
             "count" => counts(alloc, text),
             "value" => value_at(alloc, text),
             "sizing" => sizing(alloc, text),
+            "item" => after_item(alloc, text),
             "constant" => constant_of(alloc, text),
             _ => Ok(Vec::from_slice(alloc, b"no such reader")?),
         }

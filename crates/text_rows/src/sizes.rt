@@ -27,8 +27,8 @@ fn expression_of(alloc: Global, names: &mut Names, text: &[u8]) -> Result<Option
     }
 }
 
-// A value in hexadecimal, with as many digits as a quarter of the width.
-fn push_hex(out: &mut Vec<u8>, bits: Bits) -> Result<(), NoMemory> {
+/// A value in hexadecimal, with as many digits as a quarter of the width.
+pub fn push_hex(out: &mut Vec<u8>, bits: Bits) -> Result<(), NoMemory> {
     for left in 0..bits.width().div_ceil(4) {
         let at = u32::from(bits.width().div_ceil(4) - 1 - left) * 4;
         let digit = ((bits.value() >> at) & 15) as u8;
@@ -41,8 +41,8 @@ fn push_hex(out: &mut Vec<u8>, bits: Bits) -> Result<(), NoMemory> {
     Ok(())
 }
 
-// The fault of a refusal, behind what is there.
-fn push_refusal(
+/// The fault of a refusal, behind what is there.
+pub fn push_refusal(
     alloc: Global,
     out: &mut Vec<u8>,
     names: &mut Names,

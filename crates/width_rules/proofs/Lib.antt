@@ -7,3 +7,8 @@ pub mod Nodes
 pub mod Gathered
 pub mod Stepping
 pub mod Repeating
+pub mod Walks
+pub mod Listing
+pub mod Laying
+pub mod Placing
+pub mod Gathering

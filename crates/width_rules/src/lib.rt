@@ -5,6 +5,13 @@
 // widths and indices. `sizing` closes what is open in a context, or takes its value.
 #![tactic(auto, using(crate::proofs::Firsts::earlier, crate::proofs::Firsts::later, crate::proofs::Firsts::neither))]
 
+mod assigning;
+mod blocks;
+mod checking;
+mod closing;
+mod covered;
+mod direction;
+mod drive;
 mod entry;
 mod faults;
 mod joined;
@@ -12,18 +19,33 @@ mod joined_bits;
 mod joined_parts;
 mod joining;
 mod kinds;
+mod labelling;
 mod measured;
 mod measuring;
+mod naming;
+mod open_arm;
+mod open_case;
+mod open_label;
+mod open_labels;
 mod opened;
 mod operators;
+mod referring;
 mod scope;
 mod selecting;
 mod self_determined;
 mod signal_entry;
+mod sized_target;
 mod sizing;
+mod statements;
+mod target_kinds;
+mod target_part;
+mod targeting;
 mod whole;
 mod writer;
 
+pub use assigning::size_assign;
+pub use blocks::size_stmt;
+pub use drive::Drive;
 pub use entry::Entry;
 pub use scope::Scope;
 pub use signal_entry::SignalEntry;
