@@ -12,3 +12,4 @@ pub mod Listing
 pub mod Laying
 pub mod Placing
 pub mod Gathering
+pub mod Building

@@ -1,5 +1,5 @@
 -- One more target, statement, item, label or assignment of a list, for the walks over them.
-use Rattle.std.proofs.Common.{◌≡◌, ◌<◌, ℕ, ◌+◌, Bool, List, [], ◌∷◌, ◌++◌, map, drop, length, get_or, refl, sym, ◌∙◌, ap, subst}
+use Rattle.std.proofs.Common.{◌≡◌, ◌<◌, ℕ, ◌+◌, Bool, List, [], ◌∷◌, ◌++◌, map, drop, length, get_or, refl, sym, ◌∙◌, ap, subst, append_assoc}
 use Rattle.ls_text.specs.declared.fault.Fault.{Fault}
 use Rattle.ls_text.specs.declared.refusal.Refusal.{Refusal}
 use Rattle.verilog_ast.specs.declared.continuous.Continuous.{Continuous}
@@ -7,15 +7,17 @@ use Rattle.verilog_ast.specs.declared.label.Label.{Label}
 use Rattle.verilog_ast.specs.declared.statement.Arm.{Arm}
 use Rattle.verilog_ast.specs.declared.statement.Stmt.{Stmt}
 use Rattle.verilog_ast.specs.declared.target.Lhs.{Lhs}
+use Rattle.verilog_ast.specs.Statements.{Statement}
 use Rattle.verilog_ast.specs.Views.{assignment_of, label_of, arm_of, statement_of, statements_of, target_of, targets_of}
 use Rattle.width_rules.specs.declared.writer.Writer.{Writer}
 use Rattle.width_rules.specs.declared.writer.Writer.TheVariants as writer
 use Rattle.width_rules.specs.Scopes.{Scope}
 use Rattle.width_rules.specs.Faults.{IsFirst}
 use Rattle.width_rules.specs.Targets.{target_faults, kind_faults}
-use Rattle.width_rules.specs.Statements.{label_faults, labels_faults, expression_faults, item_faults}
+use Rattle.width_rules.specs.Statements.{label_faults, labels_faults, expression_faults, item_faults, arm_faults, second_default, is_default_or}
 use Rattle.width_rules.specs.Drives.{drive_faults, all_drive_faults, all_kind_faults}
-use Rattle.width_rules.proofs.Walks.{ahead, refused_here}
+use Rattle.width_rules.proofs.Firsts.{earlier}
+use Rattle.width_rules.proofs.Walks.{head_is, ahead, refused_here}
 
 pub target_ahead : (scope : Scope) (due : Bool) (xs : List Lhs) (k : ℕ) (x : Lhs) → k < length xs → x ≡ get_or xs k x → target_faults scope due (target_of x) ≡ []
     → target_faults scope due (targets_of (map target_of (drop (k + 1) xs))) ≡ target_faults scope due (targets_of (map target_of (drop k xs)))
@@ -81,3 +83,13 @@ driven_ahead scope xs k x = ahead assignment_of (all_kind_faults scope) (λ y. k
 pub driven_fault : (scope : Scope) (xs : List Continuous) (k : ℕ) (x : Continuous) (r : Refusal) → k < length xs → x ≡ get_or xs k x
     → IsFirst (kind_faults scope writer.Continuous (target_of x.target)) r → IsFirst (all_kind_faults scope (map assignment_of (drop k xs))) r
 driven_fault scope xs k x r = refused_here assignment_of (all_kind_faults scope) (λ y. kind_faults scope writer.Continuous y.target) (λ y ys. refl) xs k x r
+
+-- of the items of a case, where a default stood before them or not
+pub checked_fault : (scope : Scope) (by : Writer) (xs : List Arm) (k : ℕ) (x : Arm) (before : Bool) (r : Refusal) → k < length xs → x ≡ get_or xs k x
+    → IsFirst (second_default before (arm_of x) ++ item_faults scope by (arm_of x)) r → IsFirst (arm_faults scope by before (statements_of (map arm_of (drop k xs)))) r
+checked_fault scope by xs k x before r h is first =
+    let rest = arm_faults scope by (is_default_or before (arm_of x)) (statements_of (map arm_of (drop (k + 1) xs))) in
+    let one = second_default before (arm_of x) in
+    subst (λ (ys : List Statement). IsFirst (arm_faults scope by before (statements_of ys)) r) (sym (head_is arm_of xs k x h is))
+    (subst (λ (fs : List Fault). IsFirst fs r) (append_assoc one (item_faults scope by (arm_of x)) rest)
+    (earlier (one ++ item_faults scope by (arm_of x)) rest r first))

@@ -1,5 +1,6 @@
 -- One more element of a list that is walked from its head.
-use Rattle.std.proofs.Common.{◌≡◌, ◌<◌, ℕ, ◌+◌, List, [], ◌∷◌, ◌++◌, map, drop, length, get_or, refl, sym, ◌∙◌, ap, subst}
+use Rattle.std.proofs.Common.{◌≡◌, ◌<◌, ◌≤◌, ℕ, ◌+◌, List, [], ◌∷◌, ◌++◌, map, drop, length, get_or, append-nil, refl, sym, ◌∙◌, ap, subst}
+use Rattle.std.proofs.lemmas.List.{at_drop_all}
 use Rattle.typed_ir.proofs.Lists.{drop_read}
 use Rattle.ls_text.specs.declared.fault.Fault.{Fault}
 use Rattle.ls_text.specs.declared.refusal.Refusal.{Refusal}
@@ -59,3 +60,10 @@ made_from view make see old new y x left rest is pushed made =
     ∙ made_before view old y (map make (map see rest))
     ∙ ap (λ z. map view old ++ (z ∷ map make (map see rest))) made
     ∙ ap (λ zs. map view old ++ map make (map see zs)) (sym is)
+
+-- all are made
+pub made_all : {A B C D : Type 0} (view : B → D) (make : C → D) (see : A → C) (done : List B) (xs : List A) (k : ℕ) → length xs ≤ k
+    → map view done ++ map make (map see (drop k xs)) ≡ map make (map see xs) → map view done ≡ map make (map see xs)
+made_all {A} view make see done xs k h kept =
+    sym (append-nil (map view done))
+    ∙ sym (at_drop_all (λ (ys : List A). map view done ++ map make (map see ys)) xs k h) ∙ kept

@@ -1,5 +1,6 @@
 -- The items of a case before its length and its sign are known: what the walk of the code keeps until it has seen all labels.
-use Rattle.std.specs.Prelude.{ℕ, ◌%◌, ◌^◌, max, Bool, true, false, ◌&&◌, List, [], ◌∷◌, ◌++◌, Option, Some, None, Box, Global, map}
+use Rattle.std.specs.Prelude.{ℕ, ◌%◌, ◌^◌, max, Bool, true, false, ◌&&◌, List, [], ◌∷◌, ◌++◌, Option, Some, None, Box, map}
+use Rattle.std.specs.Global.{Global}
 use Rattle.std.specs.Option.{option_map}
 use Rattle.typed_ir.specs.declared.arm.Arm.{Arm as SizedArm}
 use Rattle.typed_ir.specs.declared.stmt.Stmt.{Stmt}

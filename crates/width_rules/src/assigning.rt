@@ -65,6 +65,7 @@ fn size_drive(alloc: Global, scope: &Scope, assignment: &Continuous) -> Result<D
 }
 
 // All of an item, with the first fault of their expressions.
+#[tactic(auto, using(crate::proofs::Firsts::earlier, crate::proofs::Firsts::later, crate::proofs::Firsts::neither, crate::proofs::Listing::drive_ahead, crate::proofs::Listing::drive_fault))]
 fn size_drives(alloc: Global, scope: &Scope, list: &[Continuous]) -> Result<Vec<Drive>, Refusal>
     ensures faultless { IfOk result (λ _. all_drive_faults (scope_of scope.now) (map assignment_of list.now) ≡ []) }
     ensures drives { IfOk result (λ xs. map drive_of xs.items ≡ map (sized_drive (scope_of scope.now)) (map assignment_of list.now)) }
@@ -79,6 +80,7 @@ fn size_drives(alloc: Global, scope: &Scope, list: &[Continuous]) -> Result<Vec<
 }
 
 // The first target of an item that no continuous assignment may write (33), or want of memory.
+#[tactic(auto, using(crate::proofs::Firsts::earlier, crate::proofs::Firsts::later, crate::proofs::Firsts::neither, crate::proofs::Listing::driven_ahead, crate::proofs::Listing::driven_fault))]
 fn check_drives(alloc: Global, scope: &Scope, list: &[Continuous]) -> Result<(), Refusal>
     ensures faultless { OnOk result (all_kind_faults (scope_of scope.now) (map assignment_of list.now) ≡ []) }
     ensures fault { IfErr result (IsFirst (all_kind_faults (scope_of scope.now) (map assignment_of list.now))) }

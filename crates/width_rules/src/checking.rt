@@ -47,6 +47,7 @@ fn check_both(
 }
 
 // Of statements one after another.
+#[tactic(auto, using(crate::proofs::Firsts::earlier, crate::proofs::Firsts::later, crate::proofs::Firsts::neither, crate::proofs::Listing::item_ahead, crate::proofs::Listing::item_fault))]
 #[cycle(check)]
 fn check_all(alloc: Global, scope: &Scope, by: Writer, list: &[Stmt]) -> Result<(), Refusal>
     ensures faultless { OnOk result (item_faults (scope_of scope.now) by (statements_of (map statement_of list.now)) ≡ []) }
@@ -59,6 +60,7 @@ fn check_all(alloc: Global, scope: &Scope, by: Writer, list: &[Stmt]) -> Result<
 }
 
 // Of the items of a case.
+#[tactic(auto, using(crate::proofs::Firsts::earlier, crate::proofs::Firsts::later, crate::proofs::Firsts::neither, crate::proofs::Listing::checked_fault))]
 #[cycle(check)]
 fn check_arms(alloc: Global, scope: &Scope, by: Writer, arms: &[Arm]) -> Result<(), Refusal>
     ensures faultless { OnOk result (arm_faults (scope_of scope.now) by false (statements_of (map arm_of arms.now)) ≡ []) }

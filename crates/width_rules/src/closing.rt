@@ -9,8 +9,9 @@ use crate::labelling::close_labels;
 use crate::measured::Measured;
 use crate::open_arm::OpenArm;
 use crate::open_case::OpenCase;
-use crate::opened::close;
+use crate::opened::{Open, close};
 use no_memory::NoMemory;
+use sqlite_items::Boxed;
 use std::alloc::Global;
 use typed_ir::{Arm, Stmt};
 
@@ -53,21 +54,34 @@ fn otherwise_of(alloc: Global, found: Option<Box<Stmt>>) -> Result<Box<Stmt>, No
     }
 }
 
-/// A case: its expression and its labels as long as the longest of them, signed where all are (IEEE Std 1364-2005, 9.5).
-pub fn close_case(alloc: Global, subject: Measured, items: OpenCase) -> Result<Stmt, NoMemory>
-    ensures { IfOk result (λ x. stmt_of x ≡
-        s.Case (closed (opened subject.form) (max subject.length items.length) (subject.signed && items.signed))
-        (arms_from (map (closed_arm (max subject.length items.length) (subject.signed && items.signed)) (map arm_form items.arms.items)) (otherwise_or (default_form items.otherwise) s.Skip))) }
+// A case at its length and its sign.
+#[tactic(auto, using(crate::proofs::Firsts::earlier, crate::proofs::Firsts::later, crate::proofs::Firsts::neither, crate::proofs::Building::case_made))]
+fn close_at(
+    alloc: Global,
+    subject: Boxed<Open>,
+    items: OpenCase,
+    length: u8,
+    signed: bool,
+) -> Result<Stmt, NoMemory>
+    requires at_least_one { 1 ≤ length }
+    requires at_most_128 { length ≤ 128 }
+    ensures { IfOk result (λ x. stmt_of x ≡ s.Case (closed (opened subject) length signed) (arms_from (map (closed_arm length signed) (map arm_form items.arms.items)) (otherwise_or (default_form items.otherwise) s.Skip))) }
 {
-    let OpenCase { arms, length, signed, otherwise } = items;
-    let length = subject.length.max(length);
-    let signed = subject.signed && signed;
-    let subject = close(alloc, subject.form, length, signed)?;
-    let arms = close_arms(alloc, arms, length, signed)?;
-    let otherwise = otherwise_of(alloc, otherwise)?;
+    let subject = close(alloc, subject, length, signed)?;
+    let arms = close_arms(alloc, items.arms, length, signed)?;
+    let otherwise = otherwise_of(alloc, items.otherwise)?;
     Ok(Stmt::Case {
         subject,
         arms,
         otherwise,
     })
+}
+
+/// A case: its expression and its labels as long as the longest of them, signed where all are (IEEE Std 1364-2005, 9.5).
+pub fn close_case(alloc: Global, subject: Measured, items: OpenCase) -> Result<Stmt, NoMemory>
+    ensures { IfOk result (λ x. stmt_of x ≡ s.Case (closed (opened subject.form) (max subject.length items.length) (subject.signed && items.signed)) (arms_from (map (closed_arm (max subject.length items.length) (subject.signed && items.signed)) (map arm_form items.arms.items)) (otherwise_or (default_form items.otherwise) s.Skip))) }
+{
+    let length = subject.length.max(items.length);
+    let signed = subject.signed && items.signed;
+    close_at(alloc, subject.form, items, length, signed)
 }

@@ -82,6 +82,7 @@ fn is_signed(label: &OpenLabel) -> bool
 }
 
 /// The labels of an item of a case; or the first fault from left to right, or want of memory.
+#[tactic(auto, using(crate::proofs::Firsts::earlier, crate::proofs::Firsts::later, crate::proofs::Firsts::neither, crate::proofs::Listing::label_ahead, crate::proofs::Listing::label_fault, crate::proofs::Gathering::label_longest, crate::proofs::Gathering::label_signs))]
 pub fn measure_labels(
     alloc: Global,
     scope: &Scope,

@@ -1,14 +1,20 @@
-// Sizes, signs and constants of expressions.
+// Sizes, signs and constants of expressions, and statements and continuous assignments with their expressions sized.
 //
-// `measuring` walks an expression once, by the names of a `scope`: its first fault, or what is left open until its context's length and
-// sign are known (`opened`), with selects in `selecting` and parts put together in `joining`; `whole` has the whole numbers of counts,
-// widths and indices. `sizing` closes what is open in a context, or takes its value.
+// `naming` has the names in reach of a `scope`, with its blocks. `measuring` walks an expression once: its first fault, or what is left
+// open until its context's length and sign are known (`opened`), with operators in `combining`, selects in `selecting` and parts put
+// together in `joining`; `whole` has the whole numbers of counts, widths and indices. `sizing` closes what is open in a context, or
+// takes its value.
+//
+// `targeting` walks a target, with its names and selects in `referring`; `assigning` has continuous assignments. `statements` walks a
+// statement once for its expressions, with labels of cases in `labelling`, which `closing` closes when all are known; `checking` walks
+// it for its targets (`target_kinds`) and defaults, and `blocks` does both in turn.
 #![tactic(auto, using(crate::proofs::Firsts::earlier, crate::proofs::Firsts::later, crate::proofs::Firsts::neither))]
 
 mod assigning;
 mod blocks;
 mod checking;
 mod closing;
+mod combining;
 mod covered;
 mod direction;
 mod drive;

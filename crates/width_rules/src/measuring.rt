@@ -15,6 +15,7 @@ ghost use Rattle.width_rules.specs.Joins.{joined_of, joins, Nothing};
 ghost use Rattle.width_rules.specs.Faults.{name_faults};
 ghost use Rattle.width_rules.specs.Runs.{run_select_faults, run_bits, is_constant_run};
 
+use crate::combining::{calculated, chosen, compared, one_bit, shifted, tested};
 use crate::direction::{Direction, down_of};
 use crate::faults::{refused, refused_of};
 use crate::joined::Joined;
@@ -23,7 +24,7 @@ use crate::joining::beside;
 use crate::kinds::UnaryKind;
 use crate::measured::Measured;
 use crate::opened::{Open, close};
-use crate::operators::{comparison_with, operator_of, unary_kind};
+use crate::operators::{operator_of, unary_kind};
 use crate::scope::Scope;
 use crate::selecting::{known, part_of, select, selected, whole, width_of};
 use crate::self_determined::Own;
@@ -183,22 +184,6 @@ fn unary(
     }
 }
 
-// What gives one bit.
-fn one_bit(alloc: Global, typed: Typed, constant: bool) -> Result<Measured, NoMemory>
-    ensures length { IfOk result (λ m. m.length ≡ 1) }
-    ensures signed { IfOk result (λ m. m.signed ≡ false) }
-    ensures constant { IfOk result (λ m. m.constant ≡ constant) }
-    ensures form { IfOk result (λ m. opened m.form ≡ Simple (sized typed.form)) }
-{
-    let typed = Boxed::new(alloc, typed)?;
-    Ok(Measured {
-        length: 1,
-        signed: false,
-        constant,
-        form: Boxed::new(alloc, Open::Simple(typed))?,
-    })
-}
-
 // An operator between its operands.
 #[tactic(auto, using(crate::proofs::Firsts::earlier, crate::proofs::Firsts::later, crate::proofs::Firsts::neither, crate::proofs::Lengths::binary_is))]
 #[cycle(measure)]
@@ -219,44 +204,24 @@ fn binary(
 {
     match operator_of(op) {
         BinaryOperator::Arithmetic(op) => {
-            let a = measure(alloc, scope, due, a)?;
-            let b = measure(alloc, scope, due, b)?;
-            Ok(Measured {
-                length: a.length.max(b.length),
-                signed: a.signed && b.signed,
-                constant: a.constant && b.constant,
-                form: Boxed::new(alloc, Open::Calculation(op, a.form, b.form))?,
-            })
+            let left = measure(alloc, scope, due, a)?;
+            let right = measure(alloc, scope, due, b)?;
+            Ok(calculated(alloc, op, left, right)?)
         }
         BinaryOperator::Shift(op) => {
-            let a = measure(alloc, scope, due, a)?;
-            let b = own(alloc, scope, due, b)?;
-            Ok(Measured {
-                length: a.length,
-                signed: a.signed,
-                constant: a.constant && b.constant,
-                form: Boxed::new(alloc, Open::Shifted(op, a.form, b.typed))?,
-            })
+            let operand = measure(alloc, scope, due, a)?;
+            let by = own(alloc, scope, due, b)?;
+            Ok(shifted(alloc, op, operand, by)?)
         }
         BinaryOperator::Compare(op) => {
             let a = measure(alloc, scope, due, a)?;
             let b = measure(alloc, scope, due, b)?;
-            let both = a.length.max(b.length);
-            let signed = a.signed && b.signed;
-            let constant = a.constant && b.constant;
-            let left = close(alloc, a.form, both, signed)?;
-            let right = close(alloc, b.form, both, signed)?;
-            let op = BinaryOperator::Compare(comparison_with(op, signed));
-            let typed = Typed::binary(alloc, op, left, right)?;
-            Ok(one_bit(alloc, typed, constant)?)
+            Ok(compared(alloc, op, a, b)?)
         }
         BinaryOperator::Logical(op) => {
             let a = own(alloc, scope, due, a)?;
             let b = own(alloc, scope, due, b)?;
-            let constant = a.constant && b.constant;
-            let op = BinaryOperator::Logical(op);
-            let typed = Typed::binary(alloc, op, a.typed.into_inner(), b.typed.into_inner())?;
-            Ok(one_bit(alloc, typed, constant)?)
+            Ok(tested(alloc, op, a, b)?)
         }
     }
 }
@@ -280,14 +245,9 @@ fn conditional(
     ensures fault { IfErr result (IsFirst (faults (scope_of scope.now) due (e.Conditional (expression_of c.now) (expression_of a.now) (expression_of b.now)))) }
 {
     let c = own(alloc, scope, due, c)?;
-    let a = measure(alloc, scope, due, a)?;
-    let b = measure(alloc, scope, due, b)?;
-    Ok(Measured {
-        length: a.length.max(b.length),
-        signed: a.signed && b.signed,
-        constant: c.constant && (a.constant && b.constant),
-        form: Boxed::new(alloc, Open::Choice(c.typed, a.form, b.form))?,
-    })
+    let yes = measure(alloc, scope, due, a)?;
+    let no = measure(alloc, scope, due, b)?;
+    Ok(chosen(alloc, c, yes, no)?)
 }
 
 // A name with its select or without; or the first fault, or want of memory.
@@ -469,7 +429,8 @@ fn replication(
     if times == 0 {
         return Err(refused_of(alloc, 26, count));
     }
-    let JoinedParts { joined, constant } = all_parts(alloc, scope, due, parts)?;
+    let copied = all_parts(alloc, scope, due, parts)?;
+    let JoinedParts { joined, constant } = copied;
     match joined {
         Joined::Nothing => Err(refused(alloc, 26, at, None)),
         Joined::TooWide => Err(refused(alloc, 31, at, None)),

@@ -48,6 +48,7 @@ pub fn sized(alloc: Global, scope: &Scope, by: Writer, st: &Statement) -> Result
 }
 
 // Statements one after another.
+#[tactic(auto, using(crate::proofs::Firsts::earlier, crate::proofs::Firsts::later, crate::proofs::Firsts::neither, crate::proofs::Building::block_made, crate::proofs::Listing::statement_ahead, crate::proofs::Listing::statement_fault))]
 #[cycle(statement)]
 fn block(alloc: Global, scope: &Scope, by: Writer, list: &[Statement]) -> Result<Stmt, Refusal>
     ensures faultless { IfOk result (λ _. expression_faults (scope_of scope.now) (statements_of (map statement_of list.now)) ≡ []) }
@@ -62,6 +63,7 @@ fn block(alloc: Global, scope: &Scope, by: Writer, list: &[Statement]) -> Result
 }
 
 // `if (c) x`
+#[tactic(auto, using(crate::proofs::Firsts::earlier, crate::proofs::Firsts::later, crate::proofs::Firsts::neither, crate::proofs::Building::if_made))]
 #[cycle(statement)]
 fn only_if(
     alloc: Global,
@@ -85,6 +87,7 @@ fn only_if(
 }
 
 // `if (c) x else y`
+#[tactic(auto, using(crate::proofs::Firsts::earlier, crate::proofs::Firsts::later, crate::proofs::Firsts::neither, crate::proofs::Building::if_made))]
 #[cycle(statement)]
 fn if_else(
     alloc: Global,
@@ -109,6 +112,7 @@ fn if_else(
 }
 
 // An assignment: nonblocking in a clocked block, else blocking.
+#[tactic(auto, using(crate::proofs::Firsts::earlier, crate::proofs::Firsts::later, crate::proofs::Firsts::neither, crate::proofs::Building::assign_made, crate::proofs::Building::later_made))]
 fn assignment(
     alloc: Global,
     scope: &Scope,
@@ -135,6 +139,7 @@ fn assignment(
 }
 
 // A case.
+#[tactic(auto, using(crate::proofs::Firsts::earlier, crate::proofs::Firsts::later, crate::proofs::Firsts::neither, crate::proofs::Gathering::case_closes))]
 #[cycle(statement)]
 fn case(
     alloc: Global,
@@ -153,6 +158,7 @@ fn case(
 }
 
 // The items of a case, from the first on.
+#[tactic(auto, using(crate::proofs::Firsts::earlier, crate::proofs::Firsts::later, crate::proofs::Firsts::neither, crate::proofs::Listing::arm_ahead, crate::proofs::Listing::arm_fault, crate::proofs::Gathering::arm_kept, crate::proofs::Gathering::arm_longest, crate::proofs::Gathering::arm_signs, crate::proofs::Gathering::arm_default))]
 #[cycle(statement)]
 fn all_items(alloc: Global, scope: &Scope, by: Writer, arms: &[Arm]) -> Result<OpenCase, Refusal>
     ensures faultless { IfOk result (λ _. expression_faults (scope_of scope.now) (statements_of (map arm_of arms.now)) ≡ []) }

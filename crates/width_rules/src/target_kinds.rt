@@ -80,6 +80,7 @@ pub fn check_target(alloc: Global, scope: &Scope, by: Writer, target: &Lhs) -> R
 }
 
 // The same of targets one after another.
+#[tactic(auto, using(crate::proofs::Firsts::earlier, crate::proofs::Firsts::later, crate::proofs::Firsts::neither, crate::proofs::Listing::kind_ahead, crate::proofs::Listing::kind_fault))]
 #[cycle(check)]
 fn check_targets(alloc: Global, scope: &Scope, by: Writer, list: &[Lhs]) -> Result<(), Refusal>
     ensures faultless { OnOk result (kind_faults (scope_of scope.now) by (targets_of (map target_of list.now)) ≡ []) }

@@ -74,6 +74,7 @@ fn collect(
 }
 
 // Adds the parts of targets one after another, and answers how many bits they take; 255 stands for all from 255 on.
+#[tactic(auto, using(crate::proofs::Firsts::earlier, crate::proofs::Firsts::later, crate::proofs::Firsts::neither, crate::proofs::Listing::target_ahead, crate::proofs::Listing::target_fault))]
 #[cycle(collect)]
 fn collect_all(
     alloc: Global,

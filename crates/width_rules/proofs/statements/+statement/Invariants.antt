@@ -1,5 +1,5 @@
 -- The walk goes down the nesting; lists of statements and items stand between a statement and those in it.
-use Rattle.std.proofs.Common.{◌≡◌, ◌+◌, ◌*◌, ◌++◌, ◌&&◌, max, map, drop}
+use Rattle.std.proofs.Common.{◌≡◌, ◌≤◌, ◌+◌, ◌*◌, ◌++◌, ◌&&◌, max, map, drop}
 use Rattle.typed_ir.specs.Statements.{stmt_of}
 use Rattle.verilog_ast.proofs.statement.Stmt.TheLaws.{the_size}
 use Rattle.verilog_ast.specs.Views.{statement_of, arm_of, statements_of}
@@ -39,12 +39,13 @@ invariant-block-loop-st l = record {
 abbrev pub invariant-all_items-loop-arm : goal.invariant-all_items-loop-arm
 invariant-all_items-loop-arm l = record {
   ahead : expression_faults (scope_of l.scope) (statements_of (map arm_of (drop l.arm-index l.arms))) ≡ expression_faults (scope_of l.scope) (statements_of (map arm_of l.arms));
-  kept : map arm_form l.items.arms.items ++ open_items (scope_of l.scope) l.by (statements_of (map arm_of (drop l.arm-index l.arms)))
+  kept : map arm_form l.items.0.items ++ open_items (scope_of l.scope) l.by (statements_of (map arm_of (drop l.arm-index l.arms)))
       ≡ open_items (scope_of l.scope) l.by (statements_of (map arm_of l.arms));
-  longest : max l.items.length (items_length (scope_of l.scope) (statements_of (map arm_of (drop l.arm-index l.arms))))
+  few : l.items.1.0 ≤ 128;
+  longest : max l.items.1.0 (items_length (scope_of l.scope) (statements_of (map arm_of (drop l.arm-index l.arms))))
       ≡ items_length (scope_of l.scope) (statements_of (map arm_of l.arms));
-  signs : (l.items.signed && items_signed (scope_of l.scope) (statements_of (map arm_of (drop l.arm-index l.arms))))
+  signs : (l.items.1.1.0 && items_signed (scope_of l.scope) (statements_of (map arm_of (drop l.arm-index l.arms))))
       ≡ items_signed (scope_of l.scope) (statements_of (map arm_of l.arms));
-  default : otherwise_or (default_form l.items.otherwise) (sized_default (scope_of l.scope) l.by (statements_of (map arm_of (drop l.arm-index l.arms))))
+  default : otherwise_or (default_form l.items.1.1.1.0) (sized_default (scope_of l.scope) l.by (statements_of (map arm_of (drop l.arm-index l.arms))))
       ≡ sized_default (scope_of l.scope) l.by (statements_of (map arm_of l.arms));
 }
