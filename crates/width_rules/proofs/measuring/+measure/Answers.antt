@@ -99,7 +99,7 @@ pub replication-returns-in_ok-new-in-Bits-2-clause-constant : goal.replication-r
 replication-returns-in_ok-new-in-Bits-2-clause-constant t c =
     let scope = scope_of c.args.scope.now in
     let count = expression_of c.args.count.now in
-    c.in_ok-joined.ensures.constant
+    c.in_ok-copied.ensures.constant
     ∙ sym (ap (λ b. b && is_constant scope (parts_of (map expression_of c.args.parts.now))) (due_constant scope count c.in_ok-found.ensures.faultless))
 
 pub replication-returns-in_ok-new-in-Bits-2-clause-faultless : goal.replication-returns-in_ok-new-in-Bits-2-clause-faultless
@@ -115,7 +115,7 @@ replication-returns-in_ok-new-in-Bits-2-clause-faultless t c =
     let is = bits_are scope parts typed.width (sized typed.form) link in
     let one : 1 ≤ c.count_of-times.result = search rules in
     let few : c.count_of-times.result * typed.width ≤ 128 = search rules in
-    replication_fine scope c.args.due c.args.at count (parts_of parts) c.count_of-times.result typed.width found.ensures.faultless c.in_ok-joined.ensures.faultless
+    replication_fine scope c.args.due c.args.at count (parts_of parts) c.count_of-times.result typed.width found.ensures.faultless c.in_ok-copied.ensures.faultless
     times one c.in-Bits.bits.at_least_one few is.long
 
 pub replication-returns-then-from-gt128-clause-fault : goal.replication-returns-then-from-gt128-clause-fault
@@ -131,7 +131,7 @@ replication-returns-then-from-gt128-clause-fault t c =
     let is = bits_are scope parts typed.width (sized typed.form) link in
     let one : 1 ≤ c.count_of-times.result = search rules in
     let wide : 128 < c.count_of-times.result * typed.width = search rules in
-    replication_wide scope c.args.due c.args.at count (parts_of parts) c.count_of-times.result typed.width _ found.ensures.faultless c.in_ok-joined.ensures.faultless
+    replication_wide scope c.args.due c.args.at count (parts_of parts) c.count_of-times.result typed.width _ found.ensures.faultless c.in_ok-copied.ensures.faultless
     times one wide is.long c.refused-then-from-gt128.ensures
 
 pub replication-returns-in_ok-new-in-Bits-2-clause-form : goal.replication-returns-in_ok-new-in-Bits-2-clause-form
