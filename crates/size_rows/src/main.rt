@@ -1,11 +1,14 @@
-// Sizes the expressions of its folder of data, and compares values, constants and first faults with what they have to be.
+// Sizes the expressions and statements of its folder of data, and compares values, constants and first faults with what they have to be.
 //
-// `sizes` takes one row, over the names of `operands`.
+// A reader (`reader`) takes one row: `sizes` has those of expressions, over the names of `operands`, `blocks` those of statements and
+// continuous assignments, which write the names of `variables`.
 #![tactic(auto)]
 
+mod blocks;
 mod operands;
 mod reader;
 mod sizes;
+mod variables;
 
 use crate::reader::SizeReader;
 use row_tables::{NoProperty, compare_all};

@@ -27,13 +27,13 @@ fn expression_of(alloc: Global, names: &mut Names, text: &[u8]) -> Result<Option
     }
 }
 
-// A value in hexadecimal, with as many digits as a quarter of the width.
-fn push_value(out: &mut Vec<u8>, bits: Bits) -> Result<(), NoMemory> {
+/// A value in hexadecimal, with as many digits as a quarter of the width.
+pub fn push_value(out: &mut Vec<u8>, bits: Bits) -> Result<(), NoMemory> {
     push_hex(out, bits.value(), bits.width().div_ceil(4))
 }
 
-// The fault of a refusal, behind what is there.
-fn push_refusal(
+/// The fault of a refusal, behind what is there.
+pub fn push_refusal(
     alloc: Global,
     out: &mut Vec<u8>,
     names: &mut Names,

@@ -6,7 +6,13 @@ pub mod Constants
 pub mod Faults
 pub mod Opened
 pub mod Joins
+pub mod Found
 pub mod Entries
 pub mod Wholes
+pub mod Directions
 pub mod Targets
 pub mod Statements
+pub mod Runs
+pub mod Leaves
+pub mod Cases
+pub mod Drives

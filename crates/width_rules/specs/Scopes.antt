@@ -1,5 +1,5 @@
 -- What names stand for (IEEE Std 1364-2005, 3.11, 4.2, 4.3, 4.8, 4.10, 12.4 and 12.7).
-use Rattle.std.specs.Prelude.{ℕ, Bool, true, false}
+use Rattle.std.specs.Prelude.{ℕ, Bool, true, false, ◌==◌, if◌then◌else◌}
 use Rattle.width_rules.specs.declared.writer.Writer.{Writer}
 
 pub data Meaning : Type 0 where
@@ -17,6 +17,10 @@ pub data Meaning : Type 0 where
 -- the names in reach, by their numbers
 abbrev pub Scope : Type 0
 Scope = ℕ → Meaning
+
+-- and one more declaration
+abbrev pub with_name : ℕ → Meaning → Scope → Scope
+with_name name meaning scope other = if name == other then meaning else scope other
 
 -- whether it is a net or variable
 abbrev pub is_signal : Meaning → Bool

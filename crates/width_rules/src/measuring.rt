@@ -4,14 +4,19 @@ ghost use Rattle.std.specs.Prelude.{◌≡◌, ◌≤◌, ◌++◌, ◌==◌, tr
 ghost use Rattle.typed_ir.specs.Forms.{sized};
 ghost use Rattle.verilog_ast.specs.Expressions as e;
 ghost use Rattle.verilog_ast.specs.Views.{expression_of, reference_of, parts_of};
-ghost use Rattle.width_rules.specs.Entries.{scope_of, meaning_of};
+ghost use Rattle.width_rules.specs.Entries.{scope_of};
+ghost use Rattle.width_rules.specs.Found.{meaning_of};
 ghost use Rattle.width_rules.specs.Signs.{is_signed};
 ghost use Rattle.width_rules.specs.Sizes.{length, is_constant, count_of};
 ghost use Rattle.width_rules.specs.Constants.{constant, integer};
 ghost use Rattle.width_rules.specs.Faults.{IsFirst, faults, fault_if, fault_of};
 ghost use Rattle.width_rules.specs.Opened.{opened, open_of, own, Simple};
 ghost use Rattle.width_rules.specs.Joins.{joined_of, joins, Nothing};
+ghost use Rattle.width_rules.specs.Faults.{name_faults};
+ghost use Rattle.width_rules.specs.Runs.{run_select_faults, run_bits, is_constant_run};
 
+use crate::combining::{calculated, chosen, compared, one_bit, shifted, tested};
+use crate::direction::{Direction, down_of};
 use crate::faults::{refused, refused_of};
 use crate::joined::Joined;
 use crate::joined_parts::JoinedParts;
@@ -19,7 +24,7 @@ use crate::joining::beside;
 use crate::kinds::UnaryKind;
 use crate::measured::Measured;
 use crate::opened::{Open, close};
-use crate::operators::{comparison_with, operator_of, unary_kind};
+use crate::operators::{operator_of, unary_kind};
 use crate::scope::Scope;
 use crate::selecting::{known, part_of, select, selected, whole, width_of};
 use crate::self_determined::Own;
@@ -179,22 +184,6 @@ fn unary(
     }
 }
 
-// What gives one bit.
-fn one_bit(alloc: Global, typed: Typed, constant: bool) -> Result<Measured, NoMemory>
-    ensures length { IfOk result (λ m. m.length ≡ 1) }
-    ensures signed { IfOk result (λ m. m.signed ≡ false) }
-    ensures constant { IfOk result (λ m. m.constant ≡ constant) }
-    ensures form { IfOk result (λ m. opened m.form ≡ Simple (sized typed.form)) }
-{
-    let typed = Boxed::new(alloc, typed)?;
-    Ok(Measured {
-        length: 1,
-        signed: false,
-        constant,
-        form: Boxed::new(alloc, Open::Simple(typed))?,
-    })
-}
-
 // An operator between its operands.
 #[tactic(auto, using(crate::proofs::Firsts::earlier, crate::proofs::Firsts::later, crate::proofs::Firsts::neither, crate::proofs::Lengths::binary_is))]
 #[cycle(measure)]
@@ -215,44 +204,24 @@ fn binary(
 {
     match operator_of(op) {
         BinaryOperator::Arithmetic(op) => {
-            let a = measure(alloc, scope, due, a)?;
-            let b = measure(alloc, scope, due, b)?;
-            Ok(Measured {
-                length: a.length.max(b.length),
-                signed: a.signed && b.signed,
-                constant: a.constant && b.constant,
-                form: Boxed::new(alloc, Open::Calculation(op, a.form, b.form))?,
-            })
+            let left = measure(alloc, scope, due, a)?;
+            let right = measure(alloc, scope, due, b)?;
+            Ok(calculated(alloc, op, left, right)?)
         }
         BinaryOperator::Shift(op) => {
-            let a = measure(alloc, scope, due, a)?;
-            let b = own(alloc, scope, due, b)?;
-            Ok(Measured {
-                length: a.length,
-                signed: a.signed,
-                constant: a.constant && b.constant,
-                form: Boxed::new(alloc, Open::Shifted(op, a.form, b.typed))?,
-            })
+            let operand = measure(alloc, scope, due, a)?;
+            let by = own(alloc, scope, due, b)?;
+            Ok(shifted(alloc, op, operand, by)?)
         }
         BinaryOperator::Compare(op) => {
             let a = measure(alloc, scope, due, a)?;
             let b = measure(alloc, scope, due, b)?;
-            let both = a.length.max(b.length);
-            let signed = a.signed && b.signed;
-            let constant = a.constant && b.constant;
-            let left = close(alloc, a.form, both, signed)?;
-            let right = close(alloc, b.form, both, signed)?;
-            let op = BinaryOperator::Compare(comparison_with(op, signed));
-            let typed = Typed::binary(alloc, op, left, right)?;
-            Ok(one_bit(alloc, typed, constant)?)
+            Ok(compared(alloc, op, a, b)?)
         }
         BinaryOperator::Logical(op) => {
             let a = own(alloc, scope, due, a)?;
             let b = own(alloc, scope, due, b)?;
-            let constant = a.constant && b.constant;
-            let op = BinaryOperator::Logical(op);
-            let typed = Typed::binary(alloc, op, a.typed.into_inner(), b.typed.into_inner())?;
-            Ok(one_bit(alloc, typed, constant)?)
+            Ok(tested(alloc, op, a, b)?)
         }
     }
 }
@@ -276,17 +245,13 @@ fn conditional(
     ensures fault { IfErr result (IsFirst (faults (scope_of scope.now) due (e.Conditional (expression_of c.now) (expression_of a.now) (expression_of b.now)))) }
 {
     let c = own(alloc, scope, due, c)?;
-    let a = measure(alloc, scope, due, a)?;
-    let b = measure(alloc, scope, due, b)?;
-    Ok(Measured {
-        length: a.length.max(b.length),
-        signed: a.signed && b.signed,
-        constant: c.constant && (a.constant && b.constant),
-        form: Boxed::new(alloc, Open::Choice(c.typed, a.form, b.form))?,
-    })
+    let yes = measure(alloc, scope, due, a)?;
+    let no = measure(alloc, scope, due, b)?;
+    Ok(chosen(alloc, c, yes, no)?)
 }
 
 // A name with its select or without; or the first fault, or want of memory.
+#[tactic(auto, using(crate::proofs::Firsts::earlier, crate::proofs::Firsts::later, crate::proofs::Firsts::neither, crate::proofs::Lengths::upward_is, crate::proofs::Lengths::downward_is))]
 #[cycle(measure)]
 fn read(alloc: Global, scope: &Scope, due: bool, reference: &Reference) -> Result<Measured, Refusal>
     ensures faultless { IfOk result (λ m. faults (scope_of scope.now) due (reference_of reference.now) ≡ []) }
@@ -301,10 +266,12 @@ fn read(alloc: Global, scope: &Scope, due: bool, reference: &Reference) -> Resul
         Reference::Bit(name, index) => bit(alloc, scope, due, *name, index.get()),
         Reference::Part(name, high, low) => part(alloc, scope, due, *name, high.get(), low.get()),
         Reference::Upward(name, base, width) => {
-            upward(alloc, scope, due, *name, base.get(), width.get())
+            let direction = Direction::Upward;
+            run(alloc, scope, due, direction, *name, base.get(), width.get())
         }
         Reference::Downward(name, base, width) => {
-            downward(alloc, scope, due, *name, base.get(), width.get())
+            let direction = Direction::Downward;
+            run(alloc, scope, due, direction, *name, base.get(), width.get())
         }
     }
 }
@@ -332,55 +299,29 @@ fn bit(
     Ok(selected(alloc, typed)?)
 }
 
-// `x[base +: width]`
-#[tactic(auto, using(crate::proofs::Firsts::earlier, crate::proofs::Firsts::later, crate::proofs::Firsts::neither, crate::proofs::Lengths::upward_is))]
+// `x[base +: width]` or `x[base -: width]`
 #[cycle(measure)]
-fn upward(
+fn run(
     alloc: Global,
     scope: &Scope,
     due: bool,
+    direction: Direction,
     name: Identifier,
     a: &Expr,
     b: &Expr,
 ) -> Result<Measured, Refusal>
-    ensures faultless { IfOk result (λ m. faults (scope_of scope.now) due (e.UpwardSelect name (expression_of a.now) (expression_of b.now)) ≡ []) }
-    ensures length { IfOk result (λ m. m.length ≡ length (scope_of scope.now) (e.UpwardSelect name (expression_of a.now) (expression_of b.now))) }
-    ensures signed { IfOk result (λ m. m.signed ≡ is_signed (scope_of scope.now) (e.UpwardSelect name (expression_of a.now) (expression_of b.now))) }
-    ensures constant { IfOk result (λ m. m.constant ≡ is_constant (scope_of scope.now) (e.UpwardSelect name (expression_of a.now) (expression_of b.now))) }
-    ensures form { IfOk result (λ m. opened m.form ≡ open_of (scope_of scope.now) (e.UpwardSelect name (expression_of a.now) (expression_of b.now))) }
-    ensures fault { IfErr result (IsFirst (faults (scope_of scope.now) due (e.UpwardSelect name (expression_of a.now) (expression_of b.now)))) }
+    ensures faultless { IfOk result (λ m. run_select_faults (name_faults (scope_of scope.now name.name.0) due name) (scope_of scope.now) due direction name (expression_of a.now) (expression_of b.now) ≡ []) }
+    ensures length { IfOk result (λ m. m.length ≡ count_of (integer (scope_of scope.now) (expression_of b.now))) }
+    ensures signed { IfOk result (λ m. m.signed ≡ false) }
+    ensures constant { IfOk result (λ m. m.constant ≡ is_constant_run (scope_of scope.now) name (expression_of a.now) (expression_of b.now)) }
+    ensures form { IfOk result (λ m. opened m.form ≡ Simple (run_bits (scope_of scope.now) direction name (expression_of a.now) (expression_of b.now))) }
+    ensures fault { IfErr result (IsFirst (run_select_faults (name_faults (scope_of scope.now name.name.0) due name) (scope_of scope.now) due direction name (expression_of a.now) (expression_of b.now))) }
 {
     let entry = known(alloc, scope, due, name)?;
     let base = own(alloc, scope, due, a)?;
-    let width = number(alloc, scope, b)?;
-    let width = width_of(alloc, name, b, width)?;
-    let typed = select(alloc, entry, name, width, 0, base)?;
-    Ok(selected(alloc, typed)?)
-}
-
-// `x[base -: width]`
-#[tactic(auto, using(crate::proofs::Firsts::earlier, crate::proofs::Firsts::later, crate::proofs::Firsts::neither, crate::proofs::Lengths::downward_is))]
-#[cycle(measure)]
-fn downward(
-    alloc: Global,
-    scope: &Scope,
-    due: bool,
-    name: Identifier,
-    a: &Expr,
-    b: &Expr,
-) -> Result<Measured, Refusal>
-    ensures faultless { IfOk result (λ m. faults (scope_of scope.now) due (e.DownwardSelect name (expression_of a.now) (expression_of b.now)) ≡ []) }
-    ensures length { IfOk result (λ m. m.length ≡ length (scope_of scope.now) (e.DownwardSelect name (expression_of a.now) (expression_of b.now))) }
-    ensures signed { IfOk result (λ m. m.signed ≡ is_signed (scope_of scope.now) (e.DownwardSelect name (expression_of a.now) (expression_of b.now))) }
-    ensures constant { IfOk result (λ m. m.constant ≡ is_constant (scope_of scope.now) (e.DownwardSelect name (expression_of a.now) (expression_of b.now))) }
-    ensures form { IfOk result (λ m. opened m.form ≡ open_of (scope_of scope.now) (e.DownwardSelect name (expression_of a.now) (expression_of b.now))) }
-    ensures fault { IfErr result (IsFirst (faults (scope_of scope.now) due (e.DownwardSelect name (expression_of a.now) (expression_of b.now)))) }
-{
-    let entry = known(alloc, scope, due, name)?;
-    let base = own(alloc, scope, due, a)?;
-    let width = number(alloc, scope, b)?;
-    let width = width_of(alloc, name, b, width)?;
-    let typed = select(alloc, entry, name, width, width - 1, base)?;
+    let found = number(alloc, scope, b)?;
+    let width = width_of(alloc, name, b, found)?;
+    let typed = select(alloc, entry, name, width, down_of(direction, width), base)?;
     Ok(selected(alloc, typed)?)
 }
 
@@ -488,7 +429,8 @@ fn replication(
     if times == 0 {
         return Err(refused_of(alloc, 26, count));
     }
-    let JoinedParts { joined, constant } = all_parts(alloc, scope, due, parts)?;
+    let copied = all_parts(alloc, scope, due, parts)?;
+    let JoinedParts { joined, constant } = copied;
     match joined {
         Joined::Nothing => Err(refused(alloc, 26, at, None)),
         Joined::TooWide => Err(refused(alloc, 31, at, None)),

@@ -1,45 +1,19 @@
 // The names in reach.
-ghost use Rattle.std.specs.Prelude.{◌≡◌, ◌==◌, ℕ, IfOk, if◌then◌else◌};
-ghost use Rattle.width_rules.specs.Entries.{meaning_of, scope_of};
-ghost use Rattle.width_rules.specs.Scopes.{Unknown};
+ghost use Rattle.std.specs.Prelude.{◌≡◌, true};
+ghost use Rattle.width_rules.specs.Found.{are_held};
 
+use crate::covered::Covered;
 use crate::entry::Entry;
 use indexmap::IndexMap;
 use ls_text::NameId;
-use no_memory::NoMemory;
-use std::alloc::Global;
+use std::collections::VecDeque;
 
-/// The names in reach, each with what it stands for. A name is found by its hash.
+/// The names in reach, each with what it stands for: those of the innermost block hide those of the blocks around it. A name is found
+/// by its hash, however many blocks are open. What declarations in the open blocks cover stands apart, the last one first, and comes
+/// back where their block ends.
 #[derive(Drop)]
 pub struct Scope {
-    names: IndexMap<NameId, Entry>,
-}
-
-impl Scope {
-    /// No name in reach.
-    pub fn new(alloc: Global) -> Scope
-        ensures { (name : ℕ) → scope_of result name ≡ Unknown }
-    {
-        Scope {
-            names: IndexMap::new(alloc),
-        }
-    }
-
-    /// What a name stands for; `Unknown` where nothing declares it.
-    pub fn find(&self, name: NameId) -> Entry
-        ensures { meaning_of result ≡ scope_of self.now name.0 }
-    {
-        match self.names.get(&name) {
-            Some(entry) => *entry,
-            None => Entry::Unknown,
-        }
-    }
-
-    /// Declares a name; an earlier meaning is covered. Want of memory is `NoMemory`.
-    pub fn declare(&mut self, name: NameId, entry: Entry) -> Result<(), NoMemory>
-        ensures { IfOk result (λ _. (other : ℕ) → scope_of self.new other ≡ (if name.0 == other then meaning_of entry else scope_of self.old other)) }
-    {
-        self.names.insert(name, entry)?;
-        Ok(())
-    }
+    pub(crate) names: IndexMap<NameId, Entry>,
+    pub(crate) covered: VecDeque<Covered>,
+    ghost held: { are_held names.entries covered.items ≡ true },
 }

@@ -3,7 +3,8 @@ ghost use Rattle.std.specs.Prelude.{◌≡◌, ◌≤◌, ◌++◌, ◌==◌, tr
 ghost use Rattle.typed_ir.specs.Forms.{sized};
 ghost use Rattle.verilog_ast.specs.Expressions as e;
 ghost use Rattle.verilog_ast.specs.Views.{expression_of, reference_of};
-ghost use Rattle.width_rules.specs.Entries.{scope_of, meaning_of};
+ghost use Rattle.width_rules.specs.Entries.{scope_of};
+ghost use Rattle.width_rules.specs.Found.{meaning_of};
 ghost use Rattle.width_rules.specs.Signs.{is_signed};
 ghost use Rattle.width_rules.specs.Sizes.{length, is_constant, count_of};
 ghost use Rattle.width_rules.specs.Constants.{constant, integer};

@@ -1,7 +1,7 @@
 use Rattle.std.proofs.Common.{rules, ◌≡◌, ◌<◌, ◌≤◌, ◌*◌, ◌&&◌, ◌∙◌, ℕ, IfOk, map, min, subst, sym, ap, ap₂}
 use Rattle.verilog_ast.specs.Expressions as e
 use Rattle.verilog_ast.specs.Expressions.{Expression}
-use Rattle.verilog_ast.specs.Views.{expression_of, parts_of}
+use Rattle.verilog_ast.specs.Views.{expression_of, reference_of, parts_of}
 use Rattle.width_rules.specs.Entries.{scope_of}
 use Rattle.typed_ir.specs.Forms.{sized}
 use Rattle.width_rules.specs.Sizes.{length, joined, count_of, is_constant}
@@ -41,23 +41,33 @@ measure-returns-in-Conditional-clause-length t c =
     ∙ sym (ap expression_of c.in-Conditional.is) in
     subst (λ (x : Expression). IfOk c.conditional.result (λ m. m.length ≡ length (scope_of c.args.scope.now) x)) same c.conditional.ensures.length
 
-pub upward-returns-clause-length : goal.upward-returns-clause-length
-upward-returns-clause-length t c =
+pub read-returns-in-Upward-clause-length : goal.read-returns-in-Upward-clause-length
+read-returns-in-Upward-clause-length t c =
     let scope = scope_of c.args.scope.now in
-    let b = expression_of c.args.b.now in
-    let found = c.in_ok-width in
-    c.in_ok-selected.ensures.length ∙ c.in_ok-typed.ensures.width ∙ c.in_ok-width-2.ensures.value
-    ∙ ap count_of (row.read_same scope b found.width.signed found.width.bits.width found.width.bits.value found.ensures.signed found.ensures.width found.ensures.value)
-    ∙ sym (row.upward_is scope c.args.name (expression_of c.args.a.now) b)
+    let x = expression_of c.get-in-Upward.result.now in
+    let y = expression_of c.get-in-Upward-2.result.now in
+    let same : e.UpwardSelect c.in-Upward.name x y ≡ reference_of c.args.reference.now =
+    ap₂ (e.UpwardSelect c.in-Upward.name) (ap expression_of c.get-in-Upward.ensures) (ap expression_of c.get-in-Upward-2.ensures)
+    ∙ sym (ap reference_of c.in-Upward.is ∙ node.upward_is c.in-Upward.name _ _) in
+    subst (λ (n : ℕ). IfOk c.run.result (λ m. m.length ≡ n)) (sym (row.upward_is scope c.in-Upward.name x y) ∙ ap (length scope) same) c.run.ensures.length
 
-pub downward-returns-clause-length : goal.downward-returns-clause-length
-downward-returns-clause-length t c =
+pub read-returns-in-Downward-clause-length : goal.read-returns-in-Downward-clause-length
+read-returns-in-Downward-clause-length t c =
+    let scope = scope_of c.args.scope.now in
+    let x = expression_of c.get-in-Downward.result.now in
+    let y = expression_of c.get-in-Downward-2.result.now in
+    let same : e.DownwardSelect c.in-Downward.name x y ≡ reference_of c.args.reference.now =
+    ap₂ (e.DownwardSelect c.in-Downward.name) (ap expression_of c.get-in-Downward.ensures) (ap expression_of c.get-in-Downward-2.ensures)
+    ∙ sym (ap reference_of c.in-Downward.is ∙ node.downward_is c.in-Downward.name _ _) in
+    subst (λ (n : ℕ). IfOk c.run-in-Downward.result (λ m. m.length ≡ n)) (sym (row.downward_is scope c.in-Downward.name x y) ∙ ap (length scope) same) c.run-in-Downward.ensures.length
+
+pub run-returns-clause-length : goal.run-returns-clause-length
+run-returns-clause-length t c =
     let scope = scope_of c.args.scope.now in
     let b = expression_of c.args.b.now in
-    let found = c.in_ok-width in
-    c.in_ok-selected.ensures.length ∙ c.in_ok-typed.ensures.width ∙ c.in_ok-width-2.ensures.value
-    ∙ ap count_of (row.read_same scope b found.width.signed found.width.bits.width found.width.bits.value found.ensures.signed found.ensures.width found.ensures.value)
-    ∙ sym (row.downward_is scope c.args.name (expression_of c.args.a.now) b)
+    let found = c.in_ok-found in
+    c.in_ok-selected.ensures.length ∙ c.in_ok-typed.ensures.width ∙ c.in_ok-width.ensures.value
+    ∙ ap count_of (row.read_same scope b found.found.signed found.found.bits.width found.found.bits.value found.ensures.signed found.ensures.width found.ensures.value)
 
 pub concatenation-returns-in_ok-new-in-Bits-clause-form : goal.concatenation-returns-in_ok-new-in-Bits-clause-form
 concatenation-returns-in_ok-new-in-Bits-clause-form t c =
@@ -89,7 +99,7 @@ pub replication-returns-in_ok-new-in-Bits-2-clause-constant : goal.replication-r
 replication-returns-in_ok-new-in-Bits-2-clause-constant t c =
     let scope = scope_of c.args.scope.now in
     let count = expression_of c.args.count.now in
-    c.in_ok-joined.ensures.constant
+    c.in_ok-copied.ensures.constant
     ∙ sym (ap (λ b. b && is_constant scope (parts_of (map expression_of c.args.parts.now))) (due_constant scope count c.in_ok-found.ensures.faultless))
 
 pub replication-returns-in_ok-new-in-Bits-2-clause-faultless : goal.replication-returns-in_ok-new-in-Bits-2-clause-faultless
@@ -105,7 +115,7 @@ replication-returns-in_ok-new-in-Bits-2-clause-faultless t c =
     let is = bits_are scope parts typed.width (sized typed.form) link in
     let one : 1 ≤ c.count_of-times.result = search rules in
     let few : c.count_of-times.result * typed.width ≤ 128 = search rules in
-    replication_fine scope c.args.due c.args.at count (parts_of parts) c.count_of-times.result typed.width found.ensures.faultless c.in_ok-joined.ensures.faultless
+    replication_fine scope c.args.due c.args.at count (parts_of parts) c.count_of-times.result typed.width found.ensures.faultless c.in_ok-copied.ensures.faultless
     times one c.in-Bits.bits.at_least_one few is.long
 
 pub replication-returns-then-from-gt128-clause-fault : goal.replication-returns-then-from-gt128-clause-fault
@@ -121,7 +131,7 @@ replication-returns-then-from-gt128-clause-fault t c =
     let is = bits_are scope parts typed.width (sized typed.form) link in
     let one : 1 ≤ c.count_of-times.result = search rules in
     let wide : 128 < c.count_of-times.result * typed.width = search rules in
-    replication_wide scope c.args.due c.args.at count (parts_of parts) c.count_of-times.result typed.width _ found.ensures.faultless c.in_ok-joined.ensures.faultless
+    replication_wide scope c.args.due c.args.at count (parts_of parts) c.count_of-times.result typed.width _ found.ensures.faultless c.in_ok-copied.ensures.faultless
     times one wide is.long c.refused-then-from-gt128.ensures
 
 pub replication-returns-in_ok-new-in-Bits-2-clause-form : goal.replication-returns-in_ok-new-in-Bits-2-clause-form

@@ -32,11 +32,8 @@ decreases-binary l = 8 * max (the_size l.a.now) (the_size l.b.now) + 3
 abbrev pub decreases-part : goal.decreases-part
 decreases-part l = 8 * max (the_size l.a.now) (the_size l.b.now) + 3
 
-abbrev pub decreases-upward : goal.decreases-upward
-decreases-upward l = 8 * max (the_size l.a.now) (the_size l.b.now) + 3
-
-abbrev pub decreases-downward : goal.decreases-downward
-decreases-downward l = 8 * max (the_size l.a.now) (the_size l.b.now) + 3
+abbrev pub decreases-run : goal.decreases-run
+decreases-run l = 8 * max (the_size l.a.now) (the_size l.b.now) + 3
 
 abbrev pub decreases-conditional : goal.decreases-conditional
 decreases-conditional l = 8 * max (the_size l.c.now) (max (the_size l.a.now) (the_size l.b.now)) + 3
