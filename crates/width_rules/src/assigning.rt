@@ -97,11 +97,7 @@ fn check_drives(alloc: Global, scope: &Scope, list: &[Continuous]) -> Result<(),
 /// Faults: first those of all expressions from left to right, as of `size_expr`, with 25 NotConstant at a net or variable in an index
 /// of a target, and 26 BadRange or 31 TooWide at a target that is a concatenation; and only then 33 BadTarget at a name that a
 /// continuous assignment may not write. Else want of memory.
-pub fn size_assign(
-    alloc: Global,
-    scope: &Scope,
-    list: &[Continuous],
-) -> Result<Vec<Drive>, Refusal>
+pub fn size_assign(alloc: Global, scope: &Scope, list: &[Continuous]) -> Result<Vec<Drive>, Refusal>
     ensures faultless { IfOk result (λ _. assign_faults (scope_of scope.now) (map assignment_of list.now) ≡ []) }
     ensures drives { IfOk result (λ xs. map drive_of xs.items ≡ map (sized_drive (scope_of scope.now)) (map assignment_of list.now)) }
     ensures fault { IfErr result (IsFirst (assign_faults (scope_of scope.now) (map assignment_of list.now))) }

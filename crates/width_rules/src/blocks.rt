@@ -23,12 +23,7 @@ use verilog_ast::Stmt as Statement;
 /// BadRange or 31 TooWide at a target that is a concatenation, and 31 at a literal with don't-care digits; and only then, in the order
 /// of the text, 33 BadTarget at a name that such a block may not write, and 30 NameTwice at a second default of a case. Else want of
 /// memory.
-pub fn size_stmt(
-    alloc: Global,
-    scope: &Scope,
-    by: Writer,
-    st: &Statement,
-) -> Result<Stmt, Refusal>
+pub fn size_stmt(alloc: Global, scope: &Scope, by: Writer, st: &Statement) -> Result<Stmt, Refusal>
     ensures faultless { IfOk result (λ _. statement_faults (scope_of scope.now) by (statement_of st.now) ≡ []) }
     ensures form { IfOk result (λ x. stmt_of x ≡ sized_statement (scope_of scope.now) by (statement_of st.now)) }
     ensures fault { IfErr result (IsFirst (statement_faults (scope_of scope.now) by (statement_of st.now))) }

@@ -32,13 +32,7 @@ pub fn check(alloc: Global, scope: &Scope, by: Writer, st: &Stmt) -> Result<(), 
 
 // Of two statements.
 #[cycle(check)]
-fn check_both(
-    alloc: Global,
-    scope: &Scope,
-    by: Writer,
-    x: &Stmt,
-    y: &Stmt,
-) -> Result<(), Refusal>
+fn check_both(alloc: Global, scope: &Scope, by: Writer, x: &Stmt, y: &Stmt) -> Result<(), Refusal>
     ensures faultless { OnOk result (item_faults (scope_of scope.now) by (statement_of x.now) ++ item_faults (scope_of scope.now) by (statement_of y.now) ≡ []) }
     ensures fault { IfErr result (IsFirst (item_faults (scope_of scope.now) by (statement_of x.now) ++ item_faults (scope_of scope.now) by (statement_of y.now))) }
 {

@@ -55,12 +55,7 @@ pub fn calculated(
 }
 
 /// A shift: its length and its sign are the left operand's.
-pub fn shifted(
-    alloc: Global,
-    op: ShiftOperator,
-    a: Measured,
-    by: Own,
-) -> Result<Measured, NoMemory>
+pub fn shifted(alloc: Global, op: ShiftOperator, a: Measured, by: Own) -> Result<Measured, NoMemory>
     ensures length { IfOk result (λ m. m.length ≡ a.length) }
     ensures signed { IfOk result (λ m. m.signed ≡ a.signed) }
     ensures constant { IfOk result (λ m. m.constant ≡ (a.constant && by.constant)) }
@@ -97,12 +92,7 @@ pub fn compared(
 }
 
 /// `&&` or `||`: each operand by itself.
-pub fn tested(
-    alloc: Global,
-    op: LogicalOperator,
-    a: Own,
-    b: Own,
-) -> Result<Measured, NoMemory>
+pub fn tested(alloc: Global, op: LogicalOperator, a: Own, b: Own) -> Result<Measured, NoMemory>
     ensures length { IfOk result (λ m. m.length ≡ 1) }
     ensures signed { IfOk result (λ m. m.signed ≡ false) }
     ensures constant { IfOk result (λ m. m.constant ≡ (a.constant && b.constant)) }
@@ -115,12 +105,7 @@ pub fn tested(
 }
 
 /// `c ? a : b`: as long as the longer of both, signed where both are; the condition by itself.
-pub fn chosen(
-    alloc: Global,
-    c: Own,
-    a: Measured,
-    b: Measured,
-) -> Result<Measured, NoMemory>
+pub fn chosen(alloc: Global, c: Own, a: Measured, b: Measured) -> Result<Measured, NoMemory>
     ensures length { IfOk result (λ m. m.length ≡ max a.length b.length) }
     ensures signed { IfOk result (λ m. m.signed ≡ (a.signed && b.signed)) }
     ensures constant { IfOk result (λ m. m.constant ≡ (c.constant && (a.constant && b.constant))) }

@@ -48,10 +48,7 @@ fn measure_label(alloc: Global, scope: &Scope, label: &Label) -> Result<OpenLabe
         Label::Pattern(at, pattern) => {
             let length = pattern_length(alloc, *at, *pattern)?;
             let ignored = Bits::new(length, pattern.mask).value;
-            Ok(OpenLabel::DontCare(
-                Bits::new(length, pattern.value),
-                ignored,
-            ))
+            Ok(OpenLabel::DontCare(Bits::new(length, pattern.value), ignored))
         }
         Label::Expr(value) => {
             let m = measure(alloc, scope, false, value.get())?;
@@ -83,11 +80,7 @@ fn is_signed(label: &OpenLabel) -> bool
 
 /// The labels of an item of a case; or the first fault from left to right, or want of memory.
 #[tactic(auto, using(crate::proofs::Firsts::earlier, crate::proofs::Firsts::later, crate::proofs::Firsts::neither, crate::proofs::Listing::label_ahead, crate::proofs::Listing::label_fault, crate::proofs::Gathering::label_longest, crate::proofs::Gathering::label_signs))]
-pub fn measure_labels(
-    alloc: Global,
-    scope: &Scope,
-    labels: &[Label],
-) -> Result<OpenLabels, Refusal>
+pub fn measure_labels(alloc: Global, scope: &Scope, labels: &[Label]) -> Result<OpenLabels, Refusal>
     ensures faultless { IfOk result (λ _. labels_faults (scope_of scope.now) (map label_of labels.now) ≡ []) }
     ensures form { IfOk result (λ x. map label_form x.labels.items ≡ map (open_label (scope_of scope.now)) (map label_of labels.now)) }
     ensures length { IfOk result (λ x. x.length ≡ labels_length (scope_of scope.now) (map label_of labels.now)) }
@@ -111,12 +104,7 @@ pub fn measure_labels(
 }
 
 // A label at the length and the sign of its case.
-fn close_label(
-    alloc: Global,
-    label: OpenLabel,
-    length: u8,
-    signed: bool,
-) -> Result<Item, NoMemory>
+fn close_label(alloc: Global, label: OpenLabel, length: u8, signed: bool) -> Result<Item, NoMemory>
     requires at_least_one { 1 ≤ length }
     requires at_most_128 { length ≤ 128 }
     ensures { IfOk result (λ x. item_of x ≡ closed_label length signed (label_form label)) }
