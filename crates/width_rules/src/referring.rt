@@ -65,7 +65,7 @@ fn named(alloc: Global, scope: &Scope, name: Identifier) -> Result<Entry, Refusa
 {
     let entry = scope.find(name.name);
     match entry {
-        Entry::Signal(_) | Entry::Constant(_) | Entry::Genvar => Ok(entry),
+        Entry::Signal(_) | Entry::Constant(_) | Entry::Turn(_) | Entry::Genvar => Ok(entry),
         Entry::Unknown => Err(refused_at(alloc, 29, name)),
     }
 }
@@ -94,7 +94,7 @@ fn whole(alloc: Global, scope: &Scope, name: Identifier) -> Result<TargetPart, R
 {
     match scope.find(name.name) {
         Entry::Signal(x) => Ok(known(x.signal, 0, x.width)),
-        Entry::Constant(x) => Ok(known(SignalId(0), 0, x.bits.width)),
+        Entry::Constant(x) | Entry::Turn(x) => Ok(known(SignalId(0), 0, x.bits.width)),
         Entry::Genvar => Ok(known(SignalId(0), 0, 1)),
         Entry::Unknown => Err(refused_at(alloc, 29, name)),
     }
@@ -139,7 +139,9 @@ fn reach(
                 None => Err(refused_at(alloc, 32, name)),
             }
         }
-        Entry::Constant(_) | Entry::Genvar | Entry::Unknown => Err(refused_at(alloc, 32, name)),
+        Entry::Constant(_) | Entry::Turn(_) | Entry::Genvar | Entry::Unknown => Err(refused_at(
+            alloc, 32, name,
+        )),
     }
 }
 
@@ -168,7 +170,9 @@ fn range(
             Some(low) => Ok(known(x.signal, low, width)),
             None => Err(refused_at(alloc, 32, name)),
         },
-        Entry::Constant(_) | Entry::Genvar | Entry::Unknown => Err(refused_at(alloc, 32, name)),
+        Entry::Constant(_) | Entry::Turn(_) | Entry::Genvar | Entry::Unknown => Err(refused_at(
+            alloc, 32, name,
+        )),
     }
 }
 

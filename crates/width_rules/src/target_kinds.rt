@@ -32,7 +32,7 @@ fn may_write(by: Writer, entry: Entry) -> bool
 {
     match entry {
         Entry::Signal(x) => is_writer(by, x.writer),
-        Entry::Constant(_) | Entry::Genvar | Entry::Unknown => false,
+        Entry::Constant(_) | Entry::Turn(_) | Entry::Genvar | Entry::Unknown => false,
     }
 }
 
