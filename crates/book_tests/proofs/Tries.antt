@@ -6,7 +6,6 @@ use Rattle.machine.specs.declared.tally.TallyMachine.{TallyMachine}
 use Rattle.book_history.specs.declared.who.Who.{Who}
 use Rattle.book_history.specs.declared.who.Who.TheVariants.{Session, Worker}
 use Rattle.book_history.specs.Book.{DrawnTicket, Settings, Event, Opens, Runs, Reloads, Claims, Installs, Releases, Shows, Closes, replay}
-use Rattle.book_history.specs.Journal.{Journal}
 use Rattle.book_history.specs.Rooms.{Counts, count, counted, count_all, no_entry}
 use Rattle.book_history.specs.Outs.{IsOutFor}
 use Rattle.book_history.specs.Tickets.{is_used}

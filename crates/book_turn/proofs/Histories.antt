@@ -19,14 +19,6 @@ module _ {E : Type 0} where
   prefix_longer (x ∷ xs) (y ∷ ys) [] p q l = let e = p.1 in absurd (cc)
   prefix_longer (x ∷ xs) (y ∷ ys) (z ∷ h) p q l = let e = p.1 in let f = q.1 in let r = prefix_longer xs ys h (p.0, cc) (q.0, cc) (omega arith) in let g = r.1 in (r.0, cc)
 
-  nil_of : (xs : List E) → length xs ≡ 0 → xs ≡ []
-  nil_of [] e = refl
-  nil_of (x ∷ xs) e = absurd (omega arith)
-
-  -- a beginning that is as long is the whole
-  pub prefix_whole : (xs h : List E) → IsPrefix xs h → length h ≤ length xs → h ≡ xs
-  prefix_whole xs h p l = p.1 ∙ ap (λ r. xs ++ r) (nil_of p.0 (omega (arith, ap length p.1, length-append xs p.0))) ∙ append-nil xs
-
   drop_length : (xs zs : List E) → drop (length xs) (xs ++ zs) ≡ zs
   drop_length [] zs = refl
   drop_length (x ∷ xs) zs = drop_length xs zs

@@ -9,7 +9,7 @@ use Rattle.book_history.specs.Event.{Settings, Event}
 use Rattle.book_history.specs.Journal.{Journal}
 use Rattle.book_history.specs.Owned.{owned, AllOwned, IsPrefix, added}
 use Rattle.book_history.specs.Tickets.{is_among, IsOut, AreOut}
-use Rattle.book_turn.specs.Known.{Known, opening, begun, entered, left, not_alone, worker_of, joined, spent}
+use Rattle.book_turn.specs.Known.{Known, opening, begun, entered, left, after_split, worker_of, joined, spent}
 use Rattle.book_turn.specs.Rule.{IsAt, Fits, Apart, EachFits, EachApart, EachBegins, HasBook, HasSession, MayLeave, Learned, Ruled}
 use Rattle.book_turn.proofs.Histories.{prefix_refl, prefix_trans, added_is, longer_prefix, longer_whole, longer_begins, owned_append, all_owned, none_owned}
 use Rattle.book_turn.proofs.Holdings.{all_mine, all_theirs, all_once}
@@ -294,10 +294,10 @@ module _ {T D R O : Type 0} (journal : T → Journal D R O) where
   }
 
   -- split
-  pub worker_forks : (p : ℕ) (v : Known D R O) → v.live ≡ true → Forks (Ruled journal) p v (not_alone v) (worker_of v)
+  pub worker_forks : (p : ℕ) (v : Known D R O) → v.live ≡ true → Forks (Ruled journal) p v (after_split v) (worker_of v)
   unfolding after
   worker_forks p v live items views r at =
-      let w : Known D R O = not_alone v in
+      let w : Known D R O = after_split v in
       let f = r.each p v at live in
       let fits : Fits r.out r.holder r.session r.settings r.history p w = record {
         begins = f.begins;

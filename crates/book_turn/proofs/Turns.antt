@@ -1,5 +1,5 @@
 -- One turn, and turns behind each other.
-use Rattle.std.proofs.Common.{◌≡◌, true, List, [], ◌++◌, refl, sym, ap, ◌∙◌, subst, append_assoc, append-nil}
+use Rattle.std.proofs.Common.{◌≡◌, List, [], ◌++◌, refl, sym, ap, ◌∙◌, subst, append_assoc, append-nil}
 use Rattle.book_history.specs.Event.{Event}
 use Rattle.book_history.specs.Journal.{Journal}
 use Rattle.book_history.specs.Owned.{added}
@@ -14,6 +14,7 @@ module _ {D R O : Type 0} where
     own = sym (append-nil v.own);
     begins = prefix_refl v.seen;
     settings = refl;
+    splits = refl;
     crew = refl;
     alone = refl;
     whole = λ a. sym (append-nil v.seen);
@@ -24,6 +25,7 @@ module _ {D R O : Type 0} where
     own = h.own ∙ ap (λ l. l ++ fs) g.own ∙ append_assoc u.own es fs;
     begins = prefix_trans u.seen v.seen w.seen g.begins h.begins;
     settings = h.settings ∙ g.settings;
+    splits = h.splits ∙ g.splits;
     crew = h.crew ∙ g.crew;
     alone = h.alone ∙ g.alone;
     whole = λ a. h.whole (g.alone ∙ a) ∙ ap (λ l. l ++ fs) (g.whole a) ∙ append_assoc u.seen es fs;
@@ -43,6 +45,7 @@ module _ {D R O : Type 0} where
       own = sym (append-nil v.own);
       begins = learned.begins;
       settings = refl;
+      splits = refl;
       crew = refl;
       alone = refl;
       whole = λ a. learned.whole a ∙ sym (append-nil v.seen);
@@ -57,6 +60,7 @@ module _ {D R O : Type 0} where
       own = refl;
       begins = may.extends;
       settings = refl;
+      splits = refl;
       crew = refl;
       alone = refl;
       whole = λ a. sym (added_is v.seen j.events may.extends);
@@ -74,6 +78,7 @@ module _ {D R O : Type 0} where
         own = ap (λ (h : List (Event D R O)). v.own ++ h) new;
         begins = prefix_trans v.seen i.events l.events learned_here.begins (es, events);
         settings = refl;
+        splits = refl;
         crew = refl;
         alone = refl;
         whole = λ a. events ∙ ap (λ (h : List (Event D R O)). h ++ es) (learned_here.whole a);

@@ -1,7 +1,7 @@
 // The calls of a turn.
 ghost use Rattle.std.specs.Prelude.{◌≡◌, Bool, true, false, [], IfOk, IfErr};
 ghost use Rattle.book_history.specs.Owned.{IsPrefix};
-ghost use Rattle.book_turn.specs.Known.{begun, entered, left, not_alone, worker_of, joined};
+ghost use Rattle.book_turn.specs.Known.{begun, entered, left, after_split, worker_of, joined};
 ghost use Rattle.book_turn.specs.Rule.{EachBegins, Learned, MayLeave};
 ghost use Rattle.book_turn.specs.Passes.{IsOf, known};
 ghost use Rattle.book_turn.specs.Turns.{GoesOn};
@@ -43,7 +43,7 @@ impl<B: Historied> Turn<B> {
         requires { IsOf self.now pass.old true }
         ensures session { IsOf self.now pass.new true }
         ensures old { IfErr result (λ _. known pass.new ≡ known pass.old) }
-        ensures known { IfOk result (λ w. IsOf self.now w false × (known w ≡ worker_of (known pass.old)) × (known pass.new ≡ not_alone (known pass.old))) }
+        ensures known { IfOk result (λ w. IsOf self.now w false × (known w ≡ worker_of (known pass.old)) × (known pass.new ≡ after_split (known pass.old))) }
     {
         let seat = self.queue.another::<Workers>(&mut pass.seat);
         Ok(Holder { seat })

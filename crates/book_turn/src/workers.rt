@@ -1,5 +1,5 @@
 // What becomes of passes when a worker comes and goes. The type is for the proofs alone.
-ghost use Rattle.book_turn.specs.Known.{not_alone, worker_of, joined, spent};
+ghost use Rattle.book_turn.specs.Known.{after_split, worker_of, joined, spent};
 
 use crate::sight::Sight;
 use book_history::historied::Historied;
@@ -9,7 +9,7 @@ use crossbeam_queue::protocol::{Join, Split};
 pub struct Workers;
 
 impl<B: Historied> Split<Sight<B>> for Workers {
-    ghost left = { not_alone };
+    ghost left = { after_split };
 
     ghost right = { worker_of };
 }

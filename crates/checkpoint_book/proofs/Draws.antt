@@ -1,7 +1,6 @@
-use Rattle.std.proofs.Common.{◌≡◌, ℕ, zero, suc, ◌-◌, ◌<◌, List, [], ◌∷◌, ◌++◌, length, take, drop, set, get_or, map, refl, sym, ◌∙◌, ap, subst, arith, Bool, true, drop-cons, length-take-le, length-drop, ◌≤◌}
+use Rattle.std.proofs.Common.{◌≡◌, ℕ, zero, suc, ◌-◌, ◌<◌, List, [], ◌∷◌, ◌++◌, length, take, drop, set, get_or, refl, sym, ◌∙◌, ap, subst, arith, Bool, true, drop-cons, length-take-le, length-drop, ◌≤◌}
 use Rattle.std.specs.Prelude.{Some}
 use Rattle.std.proofs.lemmas.Bool.{cond-true}
-use Rattle.std.proofs.lemmas.List.{take-map, drop-map}
 use Rattle.std.specs.Prelude.{Result, Ok, Err, OnErr}
 use Rattle.machine.specs.Rows.{between}
 use Rattle.book_history.specs.declared.segment.Segment.{Segment}
@@ -33,9 +32,6 @@ place_free {S} p first segs i a s g lt is free found marks =
           ∙ ap (λ (x : List (Segment S)). take i segs ++ x) (cond-true (p g.link) _ _ free)
           ∙ set_splits i segs (record { link = Out n; to = g.to; state = g.state }) lt;
     }
-
-pub map-slice : {A B : Type 0} (f : A → B) (xs : List A) (a b : ℕ) → map f (slice xs a b) ≡ slice (map f xs) a b
-map-slice f xs a b = sym (take-map f (b - a) (drop a xs)) ∙ ap (λ l. take (b - a) l) (sym (drop-map f a xs))
 
 -- the link that was read at i, and written
 pub record At {S : Type 0} (p : Link → Bool) (first : S) (segs : List (Segment S)) (i a : ℕ) (s : S) (g : Segment S) : Type 0 where

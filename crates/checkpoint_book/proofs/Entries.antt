@@ -30,7 +30,7 @@ use Rattle.checkpoint_book.specs.Idle.{left_of}
 use Rattle.checkpoint_book.specs.Kept.{Stands, StandsFor}
 use Rattle.checkpoint_book.specs.Opened.{core_of}
 use Rattle.checkpoint_book.specs.Renew.{Rises, AllFit}
-use Rattle.checkpoint_book.specs.Views.{book_of, version_in, cycle_in, FitsMachine, LeadTo, chosen_in, shown_in, work_in, none_free, is_none}
+use Rattle.checkpoint_book.specs.Views.{book_of, version_in, cycle_in, FitsMachine, LeadTo, chosen_in, work_in, none_free, is_none}
 use Rattle.checkpoint_book.proofs.Lengths.{length-marked}
 use Rattle.checkpoint_book.proofs.Thins.{extend_few}
 use Rattle.checkpoint_book.proofs.Renewals.{chain-rises}
@@ -85,10 +85,6 @@ module _ {D S R O : Type 0} (k : Kit D S R O) where
   work_is w None o drawn out s = absurd s
   work_is w (Some c) o drawn out s = ap (λ (x : Book D S R). w x.machine) s.core
 
-  pub lead_is : (valid : D → D → O → Type 0) (b : Option (Book D S R)) (o : Opened D S) (drawn out : ℕ) (m : D) (ops : O) → Stands b (Some o) drawn out → LeadTo valid b m ops → valid o.version.value.machine.value m ops
-  lead_is valid None o drawn out m ops s h = absurd s
-  lead_is valid (Some c) o drawn out m ops s h = subst (λ (x : Book D S R). valid x.machine m ops) s.core h
-
   pub fits_is : (fits : D → S → Type 0) (b : Option (Book D S R)) (o : Opened D S) (drawn out : ℕ) {x : S} → Stands b (Some o) drawn out → fits o.version.value.machine.value x → FitsMachine fits b x
   fits_is fits None o drawn out s f = absurd s
   fits_is fits (Some c) o drawn out {x} s f = subst (λ (y : Book D S R). fits y.machine x) (sym s.core) f
@@ -96,10 +92,6 @@ module _ {D S R O : Type 0} (k : Kit D S R O) where
   pub chosen_is_in : (st : Settings) (b : Option (Book D S R)) (o : Opened D S) (drawn out : ℕ) → Stands b (Some o) drawn out → chosen_in st b ≡ chosen (length (record_in b) - st.lookback) 0 o.segs.items
   chosen_is_in st None o drawn out s = absurd s
   chosen_is_in st (Some c) o drawn out s = ap (λ (x : Book D S R). chosen (length c.rows - st.lookback) 0 x.segs) s.core
-
-  pub shown_is : (b : Option (Book D S R)) (o : Opened D S) (drawn out : ℕ) → Stands b (Some o) drawn out → shown_in b ≡ shown o.segs.items
-  shown_is None o drawn out s = absurd s
-  shown_is (Some c) o drawn out s = ap (λ (x : Book D S R). shown x.segs) s.core
 
   -- entries
 

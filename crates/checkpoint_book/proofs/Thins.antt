@@ -100,13 +100,6 @@ taken_more w c at next before steps steps' from le so_far taken =
     let product : ((at - c) + (next - at)) * w ≡ (next - c) * w = ap (λ (x : ℕ). x * w) e in
     omega (arith, product, so_far, taken)
 
--- the steps of a part are no more than those of the whole
-pub taken_within : (w c at end before steps : ℕ) → c ≤ at → at ≤ end → steps ≡ before + (at - c) * w → steps ≤ before + (end - c) * w
-taken_within w c at end before steps from le taken =
-    let e : (at - c) + (end - at) ≡ end - c = omega arith in
-    let product : ((at - c) + (end - at)) * w ≡ (end - c) * w = ap (λ (x : ℕ). x * w) e in
-    omega (arith, product, taken)
-
 pub most_within : (w c at next end before steps steps' : ℕ) → c ≤ at → at ≤ next → next ≤ end → steps ≡ before + (at - c) * w → steps' ≤ steps + (next - at) * w
     → steps' ≤ before + (end - c) * w
 most_within w c at next end before steps steps' from le within taken most =

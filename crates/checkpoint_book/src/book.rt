@@ -21,7 +21,7 @@ use crate::install::install_in;
 use crate::installed::Installed;
 use crate::opened::Opened;
 use crate::reload::renewed;
-use crate::settled::settled_to;
+use crate::settled::shown;
 use crate::shown::Shown;
 use crate::ticket::Ticket;
 use crate::verified::Verified;
@@ -169,7 +169,7 @@ impl<M: Machine> Book<M> {
         let Some(opened) = &self.opened else {
             unreachable!()
         };
-        let answer = shown(settled_to(opened));
+        let answer = answer_of(shown(opened));
         self.history.push(Entry::Show {
             settled_to: answer.settled_to(),
         });
@@ -436,10 +436,10 @@ impl<M: Machine> Book<M> {
 }
 
 /// The show's answer.
-fn shown(settled_to: Option<u64>) -> Shown
-    ensures { shown_to result ≡ settled_to }
+fn answer_of(shown: Option<u64>) -> Shown
+    ensures { shown_to result ≡ shown }
 {
-    match settled_to {
+    match shown {
         None => Shown::Settled,
         Some(settled_to) => Shown::Estimate { settled_to },
     }

@@ -1,9 +1,9 @@
 // New marks of a run, thinned where they make 1,025.
-ghost use Rattle.std.specs.Prelude.{◌≡◌, ℕ, ◌<◌, ◌≤◌, ◌+◌, ◌-◌, ◌*◌, ◌++◌, List, length, take, vec_capacity, IfOk, OnOk};
+ghost use Rattle.std.specs.Prelude.{◌≡◌, ℕ, ◌<◌, ◌≤◌, ◌+◌, ◌-◌, ◌*◌, ◌++◌, List, length, take, vec_capacity, leb, not, IfOk, OnOk};
 ghost use Rattle.machine.specs.Rows.{Covers};
 ghost use Rattle.book_history.specs.Book.{both, thin as thinned, add_mark, last_state, extend as extended, grid};
 ghost use Rattle.checkpoint_book.specs.Grid.{next_mark, AgreeFrom};
-ghost use Rattle.checkpoint_book.specs.Growth.{grown_to};
+ghost use Rattle.checkpoint_book.specs.Growth.{grown_to, is_all};
 
 use crate::growth::Growth;
 use crate::marks::{more_marks, stay_few};
@@ -186,8 +186,8 @@ fn thinned_marks<M: Machine, L: Ledger>(
     Ok(segs)
 }
 
-/// What a run from cycle `c`, where the last mark stands, to cycle `end` makes of the links and marks. Marks are shared only
-/// where some are thinned.
+/// What a run from cycle `c`, where the last mark stands, to cycle `end` makes of the links and marks. The marks of the book are
+/// shared just where its marks, one more than its links, and those of the run are more than 1,024, so that some are thinned.
 pub fn grown<M: Machine, L: Ledger>(
     alloc: Global,
     o: &Opened<M, M::State>,
@@ -206,6 +206,7 @@ pub fn grown<M: Machine, L: Ledger>(
     ensures most { steps.new ≤ steps.old + (end - c) * M.work o.now.version.value.machine.value }
     ensures items { IfOk result (λ v. (all : List M.Row) → AgreeFrom c end rows.now all
         → grown_to v o.now.segs.items ≡ extended M.kit o.now.version.value.machine.value all o.now.segs.items c (last_state o.now.first o.now.segs.items) (grid interval c (end - c))) }
+    ensures thins { IfOk result (λ v. is_all v ≡ not (leb (length o.now.segs.items + 1 + length (grid interval c (end - c))) 1024)) }
 {
     if !stay_few(o.segs.len(), interval, c, end) {
         let all = thinned_marks(alloc, o, rows, interval, c, end, steps)?;

@@ -9,7 +9,7 @@ use book_history::segment::Segment;
 use book_history::who::Who;
 
 /// The cycle at the end of the leading joined links.
-fn leading_end<S>(segs: &[Segment<S>]) -> u64
+fn settled_to<S>(segs: &[Segment<S>]) -> u64
     ensures { result ≡ settled_to 0 segs.now }
 {
     let mut cycle = 0;
@@ -22,13 +22,13 @@ fn leading_end<S>(segs: &[Segment<S>]) -> u64
     cycle
 }
 
-/// The cycle at the end of the leading joined links, or None, by one look, where all links are joined.
-pub fn settled_to<D, S>(o: &Opened<D, S>) -> Option<u64>
+/// What a show tells: the cycle up to which the book is settled, or None, by one look, where all links are joined.
+pub fn shown<D, S>(o: &Opened<D, S>) -> Option<u64>
     requires { o.now.left ≡ left_of o.now.segs.items }
     ensures { result ≡ shown o.now.segs.items }
 {
     if is_idle(o, Who::Session) {
         return None;
     }
-    Some(leading_end(&o.segs))
+    Some(settled_to(&o.segs))
 }

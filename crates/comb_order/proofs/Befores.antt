@@ -82,12 +82,7 @@ pub nearest-drop : (graph : List (Vec ℕ Global)) (fs : List Bool) (j : ℕ) (r
     ≡ cond (not (get_or fs j false) && nat_lt 0 (times t r.items)) j (nearest (j + 1) (rows_of (drop (j + 1) graph)) (drop (j + 1) fs) t)
 nearest-drop graph fs j r t h k is = ap₂ (λ rs gs. nearest j rs gs t) (rows-drop graph j r h is) (flags-drop fs j k)
 
--- a placed node changes nothing, one that isn't writes its row
-pub nearest_placed : (graph : List (Vec ℕ Global)) (fs : List Bool) (j : ℕ) (r : Vec ℕ Global) (t : ℕ) → j < length graph → j < length fs → r ≡ get_or graph j r
-    → get_or fs j false ≡ true → nearest j (rows_of (drop j graph)) (drop j fs) t ≡ nearest (j + 1) (rows_of (drop (j + 1) graph)) (drop (j + 1) fs) t
-nearest_placed graph fs j r t h k is f = nearest-drop graph fs j r t h k is
-    ∙ cond-false (not (get_or fs j false) && nat_lt 0 (times t r.items)) j _ (ap (λ b. not b && nat_lt 0 (times t r.items)) f)
-
+-- a node that isn't placed writes its row
 pub nearest_open : (graph : List (Vec ℕ Global)) (fs : List Bool) (j : ℕ) (r : Vec ℕ Global) (t : ℕ) (g : ℕ → ℕ) → j < length graph → j < length fs → r ≡ get_or graph j r
     → get_or fs j false ≡ false → g t ≡ nearest (j + 1) (rows_of (drop (j + 1) graph)) (drop (j + 1) fs) t
     → overwritten r.items j g t ≡ nearest j (rows_of (drop j graph)) (drop j fs) t

@@ -1,25 +1,18 @@
 -- Counting, one node or one row at a time.
 use Rattle.std.proofs.Common.{◌≡◌, ℕ, zero, suc, ◌+◌, ◌-◌, ◌<◌, ◌≤◌, ◌==◌, if◌then◌else◌, List, [], ◌∷◌, ◌++◌, length, drop, get_or, set, refl, sym, ◌∙◌, ap, ap₂, arith, drop-cons, get_or-set_same, get_or-set_other, append_assoc}
-use Rattle.std.specs.Prelude.{slice_index}
 use Rattle.std.specs.declared.vec.Vec.{Vec}
 use Rattle.std.specs.Global.{Global}
 use Rattle.std.proofs.lemmas.Bool.{eqb-true, eqb-false, eq-eqb}
 use Rattle.typed_ir.specs.Valuations.{put}
 use Rattle.typed_ir.proofs.Cases.{by_cases}
-use Rattle.comb_order.specs.Graphs.{times, row_at, rows_of, waiting, lowered, released, count_of, zeros}
-use Rattle.comb_order.proofs.Released.{times-same, times-other, put-same, put-other, enough_left}
+use Rattle.comb_order.specs.Graphs.{times, row_at, rows_of, lowered, released, count_of}
+use Rattle.comb_order.proofs.Released.{times-same, put-same, put-other, enough_left}
 
 -- an element of a list, whatever stands for none
 pub read_any : (row : List ℕ) (j d e : ℕ) → j < length row → get_or row j d ≡ get_or row j e
 read_any [] j d e h = absurd (omega (arith, h))
 read_any (x ∷ xs) zero d e h = refl
 read_any (x ∷ xs) (suc j) d e h = read_any xs j d e (omega (arith, h))
-
--- a place past the end has 0
-pub small_place : (xs : List ℕ) (t : ℕ) → 0 < slice_index xs t → t < length xs
-small_place [] t h = absurd (omega (arith, h))
-small_place (x ∷ xs) zero h = omega arith
-small_place (x ∷ xs) (suc t) h = let i : t < length xs = small_place xs t h in omega (arith, i)
 
 pub row-drop : (row : List ℕ) (j t : ℕ) → j < length row → t ≡ get_or row j 0 → drop j row ≡ t ∷ drop (j + 1) row
 row-drop row j t h is =
@@ -46,45 +39,14 @@ count-set counts t v h = λ j x. at x j
         (λ yes. ap (count_of (set counts t v)) (eqb-true x t yes) ∙ get_or-set_same counts t v 0 h ∙ sym (put-same (count_of counts) t v x yes))
         (λ no. get_or-set_other counts t x v 0 (eqb-false x t no) ∙ sym (put-other (count_of counts) t v x no))
 
-pub raise_step : (row counts : List ℕ) (j t : ℕ) (total : ℕ → ℕ) → j < length row → t ≡ get_or row j 0 → t < length counts
-    → ((x : ℕ) → slice_index counts x + times x (drop j row) ≡ total x)
-    → (x : ℕ) → slice_index (set counts t (slice_index counts t + 1)) x + times x (drop (j + 1) row) ≡ total x
-raise_step row counts j t total h is small inv x =
-    let a : slice_index counts x + times x (drop j row) ≡ total x = inv x in
-    let b : times x (drop j row) ≡ times x (t ∷ drop (j + 1) row) = ap (times x) (row-drop row j t h is) in
-    let c : slice_index (set counts t (slice_index counts t + 1)) x ≡ put (count_of counts) t (slice_index counts t + 1) x =
-    ap (λ f. f x) (count-set counts t (slice_index counts t + 1) small) in
-    by_cases (x == t)
-    (λ yes. let d : times x (t ∷ drop (j + 1) row) ≡ 1 + times x (drop (j + 1) row) = times-same x t (drop (j + 1) row) yes in
-    let e : put (count_of counts) t (slice_index counts t + 1) x ≡ slice_index counts t + 1 = put-same (count_of counts) t (slice_index counts t + 1) x yes in
-    let f : slice_index counts x ≡ slice_index counts t = ap (slice_index counts) (eqb-true x t yes) in
-    omega (arith, a, b, c, d, e, f))
-    (λ no. let d : times x (t ∷ drop (j + 1) row) ≡ times x (drop (j + 1) row) = times-other x t (drop (j + 1) row) no in
-    let e : put (count_of counts) t (slice_index counts t + 1) x ≡ slice_index counts x = put-other (count_of counts) t (slice_index counts t + 1) x no in
-    omega (arith, a, b, c, d, e))
-
 pub row_here : (graph : List (Vec ℕ Global)) (i : ℕ) (r : Vec ℕ Global) → i < length graph → r ≡ get_or graph i r → row_at (rows_of graph) i ≡ r.items
 row_here [] i r h is = absurd (omega (arith, h))
 row_here (x ∷ xs) zero r h is = ap (λ (z : Vec ℕ Global). z.items) (sym is)
 row_here (x ∷ xs) (suc i) r h is = row_here xs i r (omega (arith, h)) is
 
-pub waiting-drop : (graph : List (Vec ℕ Global)) (i : ℕ) (r : Vec ℕ Global) (x : ℕ) → i < length graph → r ≡ get_or graph i r
-    → waiting (rows_of (drop i graph)) [] x ≡ times x r.items + waiting (rows_of (drop (i + 1) graph)) [] x
-waiting-drop graph i r x h is =
-    let more : suc i ≡ i + 1 = omega arith in
-    ap (λ g. waiting (rows_of g) [] x) (drop-cons graph i r h ∙ ap (λ z. z ∷ drop (suc i) graph) (sym is))
-    ∙ ap (λ n. times x r.items + waiting (rows_of (drop n graph)) [] x) more
-
 pub length_rows : (graph : List (Vec ℕ Global)) → length (rows_of graph) ≡ length graph
 length_rows [] = refl
 length_rows (x ∷ xs) = ap suc (length_rows xs)
-
-pub zeros-drop : (counts : List ℕ) (t : ℕ) → t < length counts
-    → zeros t (drop t counts) ≡ (if slice_index counts t == 0 then t ∷ [] else []) ++ zeros (t + 1) (drop (t + 1) counts)
-zeros-drop counts t h =
-    let more : suc t ≡ t + 1 = omega arith in
-    ap (zeros t) (drop-cons counts t 0 h)
-    ∙ ap (λ n. (if slice_index counts t == 0 then t ∷ [] else []) ++ zeros (t + 1) (drop n counts)) more
 
 -- one node of the row is lowered
 pub lowered-drop : (row : List ℕ) (j t : ℕ) (c : ℕ → ℕ) → j < length row → t ≡ get_or row j 0

@@ -75,29 +75,29 @@ common_of m n i h p q =
 some_true : (ds : List Driver) (mask a : ℕ) → drives_some ds mask a ≡ true → (i : ℕ) × (i < 128) × (drives_in ds a i ≡ true) × (has_bit mask i ≡ true)
 some_true [] mask a h = absurd (true≢false (sym h))
 some_true (d ∷ ds) mask a h =
-    let here = (a == d.node) && common d.mask mask in
+    let here = (a == d.item) && common d.mask mask in
     by_cases here
     (λ yes. let c : (i : ℕ) × (i < 128) × (has_bit d.mask i ≡ true) × (has_bit mask i ≡ true) =
-    common_bit d.mask mask (and_right (a == d.node) (common d.mask mask) yes) in (
+    common_bit d.mask mask (and_right (a == d.item) (common d.mask mask) yes) in (
       c.0,
       c.1,
-      left_or ((a == d.node) && has_bit d.mask c.0) (drives_in ds a c.0)
-          (and_from (a == d.node) (has_bit d.mask c.0) (and_left (a == d.node) (common d.mask mask) yes) c.2),
+      left_or ((a == d.item) && has_bit d.mask c.0) (drives_in ds a c.0)
+          (and_from (a == d.item) (has_bit d.mask c.0) (and_left (a == d.item) (common d.mask mask) yes) c.2),
       c.3,
     ))
     (λ out. let r : (i : ℕ) × (i < 128) × (drives_in ds a i ≡ true) × (has_bit mask i ≡ true) =
     some_true ds mask a (only_right here (drives_some ds mask a) out h) in
-    (r.0, r.1, right_or ((a == d.node) && has_bit d.mask r.0) (drives_in ds a r.0) r.2, r.3))
+    (r.0, r.1, right_or ((a == d.item) && has_bit d.mask r.0) (drives_in ds a r.0) r.2, r.3))
 
 some_whole : (ds : List Driver) (mask a i : ℕ) → i < 128 → drives_in ds a i ≡ true → has_bit mask i ≡ true → drives_some ds mask a ≡ true
 some_whole [] mask a i small d h = absurd (true≢false (sym d))
 some_whole (x ∷ ds) mask a i small d h =
-    let here = (a == x.node) && has_bit x.mask i in
+    let here = (a == x.item) && has_bit x.mask i in
     by_cases here
-    (λ yes. left_or ((a == x.node) && common x.mask mask) (drives_some ds mask a)
-    (and_from (a == x.node) (common x.mask mask) (and_left (a == x.node) (has_bit x.mask i) yes)
-    (common_of x.mask mask i small (and_right (a == x.node) (has_bit x.mask i) yes) h)))
-    (λ out. right_or ((a == x.node) && common x.mask mask) (drives_some ds mask a)
+    (λ yes. left_or ((a == x.item) && common x.mask mask) (drives_some ds mask a)
+    (and_from (a == x.item) (common x.mask mask) (and_left (a == x.item) (has_bit x.mask i) yes)
+    (common_of x.mask mask i small (and_right (a == x.item) (has_bit x.mask i) yes) h)))
+    (λ out. right_or ((a == x.item) && common x.mask mask) (drives_some ds mask a)
     (some_whole ds mask a i small (only_right here (drives_in ds a i) out d) h))
 
 abbrev Shared : List (Vec Driver Global) → List Touch → ℕ → Type 0

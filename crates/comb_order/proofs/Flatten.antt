@@ -84,28 +84,28 @@ taken_free : (taken : ℕ) (ds : List Driver) (a i : ℕ) → i < 128 → are_ap
 taken_free taken [] a i low h d = absurd (true≢false (sym d))
 taken_free taken (x ∷ ds) a i low h d =
     let apart : common taken x.mask ≡ false = not-true (common taken x.mask) (and_left (not (common taken x.mask)) (are_apart (bit_or taken x.mask) ds) h) in
-    by_cases ((a == x.node) && has_bit x.mask i)
+    by_cases ((a == x.item) && has_bit x.mask i)
     (λ here. by_cases (has_bit taken i)
-    (λ bit. absurd (true≢false (sym (common_of taken x.mask i low bit (and_right (a == x.node) (has_bit x.mask i) here)) ∙ apart)))
+    (λ bit. absurd (true≢false (sym (common_of taken x.mask i low bit (and_right (a == x.item) (has_bit x.mask i) here)) ∙ apart)))
     (λ out. out))
     (λ there. or_left (has_bit taken i) (has_bit x.mask i) (sym (has_either taken x.mask i)
     ∙ taken_free (bit_or taken x.mask) ds a i low (and_right (not (common taken x.mask)) (are_apart (bit_or taken x.mask) ds) h)
-    (only_right ((a == x.node) && has_bit x.mask i) (drives_in ds a i) there d)))
+    (only_right ((a == x.item) && has_bit x.mask i) (drives_in ds a i) there d)))
 
 one_of : (taken : ℕ) (ds : List Driver) (a b i : ℕ) → i < 128 → are_apart taken ds ≡ true → drives_in ds a i ≡ true → drives_in ds b i ≡ true → a ≡ b
 one_of taken [] a b i low h d e = absurd (true≢false (sym d))
 one_of taken (x ∷ ds) a b i low h d e =
     let rest : are_apart (bit_or taken x.mask) ds ≡ true = and_right (not (common taken x.mask)) (are_apart (bit_or taken x.mask) ds) h in
-    by_cases ((a == x.node) && has_bit x.mask i)
-    (λ left. by_cases ((b == x.node) && has_bit x.mask i)
-    (λ right. eqb-true a x.node (and_left (a == x.node) (has_bit x.mask i) left) ∙ sym (eqb-true b x.node (and_left (b == x.node) (has_bit x.mask i) right)))
-    (λ out. absurd (clash i (and_right (a == x.node) (has_bit x.mask i) left)
-    (taken_free (bit_or taken x.mask) ds b i low rest (only_right ((b == x.node) && has_bit x.mask i) (drives_in ds b i) out e)))))
-    (λ out. by_cases ((b == x.node) && has_bit x.mask i)
-    (λ right. absurd (clash i (and_right (b == x.node) (has_bit x.mask i) right)
-    (taken_free (bit_or taken x.mask) ds a i low rest (only_right ((a == x.node) && has_bit x.mask i) (drives_in ds a i) out d))))
-    (λ past. one_of (bit_or taken x.mask) ds a b i low rest (only_right ((a == x.node) && has_bit x.mask i) (drives_in ds a i) out d)
-    (only_right ((b == x.node) && has_bit x.mask i) (drives_in ds b i) past e)))
+    by_cases ((a == x.item) && has_bit x.mask i)
+    (λ left. by_cases ((b == x.item) && has_bit x.mask i)
+    (λ right. eqb-true a x.item (and_left (a == x.item) (has_bit x.mask i) left) ∙ sym (eqb-true b x.item (and_left (b == x.item) (has_bit x.mask i) right)))
+    (λ out. absurd (clash i (and_right (a == x.item) (has_bit x.mask i) left)
+    (taken_free (bit_or taken x.mask) ds b i low rest (only_right ((b == x.item) && has_bit x.mask i) (drives_in ds b i) out e)))))
+    (λ out. by_cases ((b == x.item) && has_bit x.mask i)
+    (λ right. absurd (clash i (and_right (b == x.item) (has_bit x.mask i) right)
+    (taken_free (bit_or taken x.mask) ds a i low rest (only_right ((a == x.item) && has_bit x.mask i) (drives_in ds a i) out d))))
+    (λ past. one_of (bit_or taken x.mask) ds a b i low rest (only_right ((a == x.item) && has_bit x.mask i) (drives_in ds a i) out d)
+    (only_right ((b == x.item) && has_bit x.mask i) (drives_in ds b i) past e)))
   where
     clash : (i : ℕ) → has_bit x.mask i ≡ true → has_bit (bit_or taken x.mask) i ≡ false → ⊥
     clash i bit none = true≢false (sym bit ∙ or_right (has_bit taken i) (has_bit x.mask i) (sym (has_either taken x.mask i) ∙ none))

@@ -41,8 +41,8 @@ and_none false b h = refl
 pub idle_drives : (ds : List Driver) (a i : ℕ) → i < 128 → are_idle ds ≡ true → drives_in ds a i ≡ false
 idle_drives [] a i small h = refl
 idle_drives (d ∷ ds) a i small h =
-    or_from ((a == d.node) && has_bit d.mask i) (drives_in ds a i)
-    (and_none (a == d.node) (has_bit d.mask i) (idle_bit d.mask i small (and_left (is_idle d) (are_idle ds) h)))
+    or_from ((a == d.item) && has_bit d.mask i) (drives_in ds a i)
+    (and_none (a == d.item) (has_bit d.mask i) (idle_bit d.mask i small (and_left (is_idle d) (are_idle ds) h)))
     (idle_drives ds a i small (and_right (is_idle d) (are_idle ds) h))
 
 -- where no node drives a bit, all are idle
@@ -52,6 +52,6 @@ all_idle (d ∷ ds) h =
     and_from (is_idle d) (are_idle ds)
     (by_cases (is_idle d) (λ yes. yes)
     (λ busy. let f : (i : ℕ) × (i < 128) × (has_bit d.mask i ≡ true) = some_bit d.mask busy in
-    absurd (true≢false (sym (left_or ((d.node == d.node) && has_bit d.mask f.0) (drives_in ds d.node f.0)
-    (and_from (d.node == d.node) (has_bit d.mask f.0) (eq-eqb d.node d.node refl) f.2)) ∙ h d.node f.0 f.1))))
-    (all_idle ds (λ a i small. or_right ((a == d.node) && has_bit d.mask i) (drives_in ds a i) (h a i small)))
+    absurd (true≢false (sym (left_or ((d.item == d.item) && has_bit d.mask f.0) (drives_in ds d.item f.0)
+    (and_from (d.item == d.item) (has_bit d.mask f.0) (eq-eqb d.item d.item refl) f.2)) ∙ h d.item f.0 f.1))))
+    (all_idle ds (λ a i small. or_right ((a == d.item) && has_bit d.mask i) (drives_in ds a i) (h a i small)))

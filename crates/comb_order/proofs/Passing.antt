@@ -67,25 +67,25 @@ apart_passes taken low (x ∷ ds) high r free one =
     and_from (not (common taken x.mask)) (are_apart (bit_or taken x.mask) ds)
     (ap not (false_of (common taken x.mask) (λ c.
     let f : (i : ℕ) × (i < 128) × (has_bit taken i ≡ true) × (has_bit x.mask i ≡ true) = common_bit taken x.mask c in
-    free x.node f.0 f.1 f.2 (own f.0 f.3))))
-    (apart_passes (bit_or taken x.mask) (x.node + 1) ds high r.1
+    free x.item f.0 f.1 f.2 (own f.0 f.3))))
+    (apart_passes (bit_or taken x.mask) (x.item + 1) ds high r.1
     (λ a i small bit d. by_cases (has_bit taken i)
     (λ yes. free a i small yes (more a i d))
     (λ out. clash a i small (only_right (has_bit taken i) (has_bit x.mask i) out (sym (has_either taken x.mask i) ∙ bit)) d))
     (λ a b i small d e. one a b i small (more a i d) (more b i e)))
   where
-    own : (i : ℕ) → has_bit x.mask i ≡ true → drives_in (x ∷ ds) x.node i ≡ true
-    own i bit = left_or ((x.node == x.node) && has_bit x.mask i) (drives_in ds x.node i)
-        (and_from (x.node == x.node) (has_bit x.mask i) (eq-eqb x.node x.node refl) bit)
+    own : (i : ℕ) → has_bit x.mask i ≡ true → drives_in (x ∷ ds) x.item i ≡ true
+    own i bit = left_or ((x.item == x.item) && has_bit x.mask i) (drives_in ds x.item i)
+        (and_from (x.item == x.item) (has_bit x.mask i) (eq-eqb x.item x.item refl) bit)
 
     more : (a i : ℕ) → drives_in ds a i ≡ true → drives_in (x ∷ ds) a i ≡ true
-    more a i d = right_or ((a == x.node) && has_bit x.mask i) (drives_in ds a i) d
+    more a i d = right_or ((a == x.item) && has_bit x.mask i) (drives_in ds a i) d
 
     -- another driver of its bit would be of the same node
     clash : (a i : ℕ) → i < 128 → has_bit x.mask i ≡ true → drives_in ds a i ≡ true → ⊥
     clash a i small bit d =
-        let same : a ≡ x.node = one a x.node i small (more a i d) (own i bit) in
-        let later : x.node + 1 ≤ a = from_low (x.node + 1) ds high a i r.1 d in
+        let same : a ≡ x.item = one a x.item i small (more a i d) (own i bit) in
+        let later : x.item + 1 ≤ a = from_low (x.item + 1) ds high a i r.1 d in
         omega (arith, same, later)
 
 each_apart : (table : List (Vec Driver Global)) → ((s : ℕ) → s < length table → are_apart 0 (row_in table s) ≡ true) → rows_apart table ≡ true

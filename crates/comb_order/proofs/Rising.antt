@@ -13,43 +13,43 @@ use Rattle.comb_order.proofs.Tables.{row_same, row_other}
 
 pub rises_wider : (low : ℕ) (ds : List Driver) (m n : ℕ) → m ≤ n → Rises low ds m → Rises low ds n
 rises_wider low [] m n h r = omega (arith, h, r)
-rises_wider low (d ∷ ds) m n h r = (r.0, rises_wider (d.node + 1) ds m n h r.1)
+rises_wider low (d ∷ ds) m n h r = (r.0, rises_wider (d.item + 1) ds m n h r.1)
 
 -- one more at the end
-pub rises_more : (low : ℕ) (ds : List Driver) (d : Driver) (high : ℕ) → d.node < high → Rises low ds d.node → Rises low (ds ++ d ∷ []) high
+pub rises_more : (low : ℕ) (ds : List Driver) (d : Driver) (high : ℕ) → d.item < high → Rises low ds d.item → Rises low (ds ++ d ∷ []) high
 rises_more low [] d high h r = (r, omega (arith, h))
-rises_more low (x ∷ ds) d high h r = (r.0, rises_more (x.node + 1) ds d high h r.1)
+rises_more low (x ∷ ds) d high h r = (r.0, rises_more (x.item + 1) ds d high h r.1)
 
 -- one less at the end
-pub rises_less : (low : ℕ) (ds : List Driver) (d : Driver) (high : ℕ) → Rises low (ds ++ d ∷ []) high → Rises low ds d.node × (d.node < high)
-rises_less low [] d high r = let top : d.node + 1 ≤ high = r.1 in (r.0, omega (arith, top))
+pub rises_less : (low : ℕ) (ds : List Driver) (d : Driver) (high : ℕ) → Rises low (ds ++ d ∷ []) high → Rises low ds d.item × (d.item < high)
+rises_less low [] d high r = let top : d.item + 1 ≤ high = r.1 in (r.0, omega (arith, top))
 rises_less low (x ∷ ds) d high r =
-    let rest : Rises (x.node + 1) ds d.node × (d.node < high) = rises_less (x.node + 1) ds d high r.1 in
+    let rest : Rises (x.item + 1) ds d.item × (d.item < high) = rises_less (x.item + 1) ds d high r.1 in
     ((r.0, rest.0), rest.1)
 
 -- the last driver's node again
-pub rises_again : (ds : List Driver) (last d : Driver) (high : ℕ) → last.node ≡ d.node → Rises 0 (ds ++ last ∷ []) high → Rises 0 (ds ++ d ∷ []) high
+pub rises_again : (ds : List Driver) (last d : Driver) (high : ℕ) → last.item ≡ d.item → Rises 0 (ds ++ last ∷ []) high → Rises 0 (ds ++ d ∷ []) high
 rises_again ds last d high e r =
-    let rest : Rises 0 ds last.node × (last.node < high) = rises_less 0 ds last high r in
-    let top : last.node < high = rest.1 in
+    let rest : Rises 0 ds last.item × (last.item < high) = rises_less 0 ds last high r in
+    let top : last.item < high = rest.1 in
     rises_more 0 ds d high (omega (arith, top, e)) (subst (λ n. Rises 0 ds n) e rest.0)
 
 -- another node behind the last
-pub rises_next : (ds : List Driver) (last d : Driver) → (last.node ≡ d.node → ⊥) → Rises 0 (ds ++ last ∷ []) (d.node + 1)
-    → Rises 0 ((ds ++ last ∷ []) ++ d ∷ []) (d.node + 1)
+pub rises_next : (ds : List Driver) (last d : Driver) → (last.item ≡ d.item → ⊥) → Rises 0 (ds ++ last ∷ []) (d.item + 1)
+    → Rises 0 ((ds ++ last ∷ []) ++ d ∷ []) (d.item + 1)
 rises_next ds last d other r =
-    let rest : Rises 0 ds last.node × (last.node < d.node + 1) = rises_less 0 ds last (d.node + 1) r in
-    let top : last.node < d.node + 1 = rest.1 in
-    rises_more 0 (ds ++ last ∷ []) d (d.node + 1) (omega arith) (rises_more 0 ds last d.node (omega (arith, top, other)) rest.0)
+    let rest : Rises 0 ds last.item × (last.item < d.item + 1) = rises_less 0 ds last (d.item + 1) r in
+    let top : last.item < d.item + 1 = rest.1 in
+    rises_more 0 (ds ++ last ∷ []) d (d.item + 1) (omega arith) (rises_more 0 ds last d.item (omega (arith, top, other)) rest.0)
 
 -- whoever drives stands from low on
 pub from_low : (low : ℕ) (ds : List Driver) (high a i : ℕ) → Rises low ds high → drives_in ds a i ≡ true → low ≤ a
 from_low low [] high a i r d = absurd (true≢false (sym d))
 from_low low (x ∷ ds) high a i r d =
-    let from : low ≤ x.node = r.0 in
-    by_cases ((a == x.node) && has_bit x.mask i)
-    (λ here. let e : a ≡ x.node = eqb-true a x.node (and_left (a == x.node) (has_bit x.mask i) here) in omega (arith, from, e))
-    (λ out. let later : x.node + 1 ≤ a = from_low (x.node + 1) ds high a i r.1 (only_right ((a == x.node) && has_bit x.mask i) (drives_in ds a i) out d) in
+    let from : low ≤ x.item = r.0 in
+    by_cases ((a == x.item) && has_bit x.mask i)
+    (λ here. let e : a ≡ x.item = eqb-true a x.item (and_left (a == x.item) (has_bit x.mask i) here) in omega (arith, from, e))
+    (λ out. let later : x.item + 1 ≤ a = from_low (x.item + 1) ds high a i r.1 (only_right ((a == x.item) && has_bit x.mask i) (drives_in ds a i) out d) in
     omega (arith, from, later))
 
 -- ---- a table

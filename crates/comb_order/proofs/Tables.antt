@@ -61,11 +61,11 @@ and_or false b c = refl
 pub drives_both : (xs ys : List Driver) (a i : ℕ) → drives_in (xs ++ ys) a i ≡ (drives_in xs a i || drives_in ys a i)
 drives_both [] ys a i = refl
 drives_both (x ∷ xs) ys a i =
-    ap (λ t. ((a == x.node) && has_bit x.mask i) || t) (drives_both xs ys a i)
-    ∙ sym (or_assoc ((a == x.node) && has_bit x.mask i) (drives_in xs a i) (drives_in ys a i))
+    ap (λ t. ((a == x.item) && has_bit x.mask i) || t) (drives_both xs ys a i)
+    ∙ sym (or_assoc ((a == x.item) && has_bit x.mask i) (drives_in xs a i) (drives_in ys a i))
 
-pub drives_one : (d : Driver) (a i : ℕ) → drives_in (d ∷ []) a i ≡ ((a == d.node) && has_bit d.mask i)
-drives_one d a i = or-false ((a == d.node) && has_bit d.mask i)
+pub drives_one : (d : Driver) (a i : ℕ) → drives_in (d ∷ []) a i ≡ ((a == d.item) && has_bit d.mask i)
+drives_one d a i = or-false ((a == d.item) && has_bit d.mask i)
 
 -- the bits of two masks together
 pub has_either : (m n i : ℕ) → has_bit (bit_or m n) i ≡ (has_bit m i || has_bit n i)
@@ -77,11 +77,11 @@ has_either m n i =
 
 -- the last driver's mask takes more bits
 pub drives_merged : (xs : List Driver) (node m n a i : ℕ)
-    → drives_in (xs ++ record { node = node; mask = bit_or m n } ∷ []) a i
-    ≡ (drives_in (xs ++ record { node = node; mask = m } ∷ []) a i || ((a == node) && has_bit n i))
+    → drives_in (xs ++ record { item = node; mask = bit_or m n } ∷ []) a i
+    ≡ (drives_in (xs ++ record { item = node; mask = m } ∷ []) a i || ((a == node) && has_bit n i))
 drives_merged xs node m n a i =
-    let d : Driver = record { node = node; mask = m } in
-    let e : Driver = record { node = node; mask = bit_or m n } in
+    let d : Driver = record { item = node; mask = m } in
+    let e : Driver = record { item = node; mask = bit_or m n } in
     drives_both xs (e ∷ []) a i ∙ ap (λ t. drives_in xs a i || t)
     (drives_one e a i ∙ ap (λ t. (a == node) && t) (has_either m n i) ∙ and_or (a == node) (has_bit m i) (has_bit n i)
     ∙ ap (λ t. t || ((a == node) && has_bit n i)) (sym (drives_one d a i)))

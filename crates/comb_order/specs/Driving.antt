@@ -19,12 +19,12 @@ row_in (r ∷ rs) (suc k) = row_in rs k
 -- among these drivers of a signal, node a drives its bit i
 abbrev pub drives_in : List Driver → ℕ → ℕ → Bool
 drives_in [] a i = false
-drives_in (d ∷ ds) a i = ((a == d.node) && has_bit d.mask i) || drives_in ds a i
+drives_in (d ∷ ds) a i = ((a == d.item) && has_bit d.mask i) || drives_in ds a i
 
 -- the nodes of these drivers rise, from low on, and stay below high; so none stands twice
 abbrev pub Rises : ℕ → List Driver → ℕ → Type 0
 Rises low [] high = low ≤ high
-Rises low (d ∷ ds) high = (low ≤ d.node) × Rises (d.node + 1) ds high
+Rises low (d ∷ ds) high = (low ≤ d.item) × Rises (d.item + 1) ds high
 
 -- so in each row
 abbrev pub AllRise : List (Vec Driver Global) → ℕ → Type 0
@@ -37,7 +37,7 @@ common m n = not (bit_and m n % 2 ^ 128 == 0)
 -- among these drivers of a signal, node a drives a bit of the mask
 abbrev pub drives_some : List Driver → ℕ → ℕ → Bool
 drives_some [] mask a = false
-drives_some (d ∷ ds) mask a = ((a == d.node) && common d.mask mask) || drives_some ds mask a
+drives_some (d ∷ ds) mask a = ((a == d.item) && common d.mask mask) || drives_some ds mask a
 
 -- by the table of all signals, node a drives one of the bits
 abbrev pub drives_any : List (Vec Driver Global) → List Touch → ℕ → Bool

@@ -6,19 +6,20 @@ use Rattle.typed_ir.specs.declared.span.Span.{Span}
 use Rattle.typed_ir.specs.Stmts.{SizedStmt, later_targets}
 use Rattle.typed_ir.specs.Nodes.{FlatNode, are_legal}
 use Rattle.typed_ir.specs.FlatNodes.{node_of}
-use Rattle.typed_ir.specs.Flats.{signal_widths, are_clocked, are_below, flat_from, IsFlat}
+use Rattle.typed_ir.specs.Flats.{signal_widths, are_clocked, are_below, are_within, flat_from, IsFlat}
 use Rattle.typed_ir.specs.Touches.{is_block}
 use Rattle.comb_order.specs.declared.drivers.Driver.{Driver}
 use Rattle.comb_order.specs.declared.parts.Parts.{Parts}
 use Rattle.comb_order.specs.Driving.{row_in, common}
 
--- the parts make a flat design: widths agree, numbers name signals, and all is so that a flat design keeps
+-- the parts make a flat design: signals name instances of the table, widths agree, numbers name signals, and all is so that a flat design keeps
 pub record IsDesign (parts : Parts) : Type 0 where
+  pub signals_there : IsTrue (are_within parts.signals.items (length parts.instances.rows.items))
   pub legal : IsTrue (are_legal (map node_of parts.nodes.items) (signal_widths parts.signals.items))
   pub blocks : IsTrue (are_clocked parts.clocked.items (signal_widths parts.signals.items))
   pub registers_there : IsTrue (are_below parts.registers.items (length parts.signals.items))
   pub inputs_there : IsTrue (are_below parts.inputs.items (length parts.signals.items))
-  pub flat : IsFlat (flat_from parts.signals.items parts.registers.items parts.inputs.items parts.nodes.items parts.clocked.items)
+  pub flat : IsFlat (flat_from parts.instances.rows.items parts.signals.items parts.registers.items parts.inputs.items parts.nodes.items parts.clocked.items)
 
 abbrev pub is_member : ℕ → List ℕ → Bool
 is_member x [] = false

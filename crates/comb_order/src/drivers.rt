@@ -7,30 +7,31 @@ ghost use Rattle.typed_ir.specs.Statements.{stmt_of};
 ghost use Rattle.typed_ir.specs.Cycles.{block_writes, writes_at};
 ghost use Rattle.comb_order.specs.Driving.{row_in, drives_in, Rises, AllRise};
 
+use crate::driver_id::DriverId;
 use no_memory::NoMemory;
 use std::alloc::Global;
-use typed_ir::{Node, NodeId, Stmt, Touch, drives_of, later_spans, touches_of};
+use typed_ir::{Node, Stmt, Touch, drives_of, later_spans, touches_of};
 
 /// A node or a clocked block, and the bits of a signal that it drives or may write.
 #[derive(Clone, Copy, Debug, PartialEq, Eq)]
 pub struct Driver {
-    pub node: NodeId,
+    pub item: DriverId,
     pub mask: u128,
 }
 
-// The bits that the last driver's node drives join its mask, so a signal has no more drivers than bits.
+// More bits that the last driver drives join its mask, so a signal has no more drivers than bits.
 fn add_driver(row: &mut Vec<Driver>, driver: Driver) -> Result<(), NoMemory>
-    requires { Rises 0 row.old.items (driver.node + 1) }
+    requires { Rises 0 row.old.items (driver.item + 1) }
     ensures drives { IfOk result (λ _. (a i : ℕ) → drives_in row.new.items a i
-        ≡ (drives_in row.old.items a i || ((a == driver.node) && has_bit driver.mask i))) }
-    ensures rises { IfOk result (λ _. Rises 0 row.new.items (driver.node + 1)) }
+        ≡ (drives_in row.old.items a i || ((a == driver.item) && has_bit driver.mask i))) }
+    ensures rises { IfOk result (λ _. Rises 0 row.new.items (driver.item + 1)) }
 {
     match row.pop() {
         Some(last) => {
-            if last.node.number() == driver.node.number() {
+            if last.item.number() == driver.item.number() {
                 let mask = last.mask | driver.mask;
                 row.push(Driver {
-                    node: driver.node,
+                    item: driver.item,
                     mask,
                 })?;
             } else {
@@ -43,31 +44,31 @@ fn add_driver(row: &mut Vec<Driver>, driver: Driver) -> Result<(), NoMemory>
     Ok(())
 }
 
-// A node drives these bits of a signal too.
-fn add_touch(table: &mut [Vec<Driver>], node: NodeId, touch: Touch) -> Result<(), NoMemory>
-    requires { AllRise table.old (node + 1) }
+// An item drives these bits of a signal too.
+fn add_touch(table: &mut [Vec<Driver>], item: DriverId, touch: Touch) -> Result<(), NoMemory>
+    requires { AllRise table.old (item + 1) }
     ensures drives { IfOk result (λ _. (a s i : ℕ) → s < length table.old → drives_in (row_in table.new s) a i
-        ≡ (drives_in (row_in table.old s) a i || ((a == node) && ((s == touch.signal) && has_bit touch.mask i)))) }
-    ensures rises { IfOk result (λ _. AllRise table.new (node + 1)) }
+        ≡ (drives_in (row_in table.old s) a i || ((a == item) && ((s == touch.signal) && has_bit touch.mask i)))) }
+    ensures rises { IfOk result (λ _. AllRise table.new (item + 1)) }
 {
     let signal = touch.signal.index();
     if signal >= table.len() {
         return Ok(());
     }
     let mask = touch.mask;
-    add_driver(&mut table[signal], Driver { node, mask })?;
+    add_driver(&mut table[signal], Driver { item, mask })?;
     Ok(())
 }
 
-// A node drives these bits too.
-fn add_touches(table: &mut [Vec<Driver>], node: NodeId, touches: &[Touch]) -> Result<(), NoMemory>
-    requires { AllRise table.old (node + 1) }
+// An item drives these bits too.
+fn add_touches(table: &mut [Vec<Driver>], item: DriverId, touches: &[Touch]) -> Result<(), NoMemory>
+    requires { AllRise table.old (item + 1) }
     ensures drives { IfOk result (λ _. (a s i : ℕ) → s < length table.old → drives_in (row_in table.new s) a i
-        ≡ (drives_in (row_in table.old s) a i || ((a == node) && touched touches.now s i))) }
-    ensures rises { IfOk result (λ _. AllRise table.new (node + 1)) }
+        ≡ (drives_in (row_in table.old s) a i || ((a == item) && touched touches.now s i))) }
+    ensures rises { IfOk result (λ _. AllRise table.new (item + 1)) }
 {
     for touch in touches {
-        add_touch(table, node, *touch)?;
+        add_touch(table, item, *touch)?;
     }
     Ok(())
 }
@@ -99,7 +100,7 @@ pub fn drivers_of(
     let mut table = empty_table(alloc, signals)?;
     for k in 0..nodes.len() {
         let touches = drives_of(alloc, &nodes[k])?;
-        add_touches(&mut table, NodeId(k as u32), &touches)?;
+        add_touches(&mut table, DriverId(k as u32), &touches)?;
     }
     Ok(table)
 }
@@ -127,7 +128,7 @@ pub fn writers_of(
     let mut table = empty_table(alloc, signals)?;
     for k in 0..blocks.len() {
         let touches = writes_of(alloc, &blocks[k])?;
-        add_touches(&mut table, NodeId(k as u32), &touches)?;
+        add_touches(&mut table, DriverId(k as u32), &touches)?;
     }
     Ok(table)
 }

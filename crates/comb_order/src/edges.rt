@@ -57,13 +57,13 @@ fn connect_driver(
     requires { AreRows b (rows_of rows.old) }
     ensures rows { IfOk result (λ _. AreRows b (rows_of rows.new)) }
     ensures edges { IfOk result (λ _. (a t : ℕ) → a < length rows.old → edge (rows_of rows.new) a t
-        ≡ (edge (rows_of rows.old) a t || ((t == b) && (((a == driver.node) && common driver.mask mask) && not (block && (a == b)))))) }
+        ≡ (edge (rows_of rows.old) a t || ((t == b) && (((a == driver.item) && common driver.mask mask) && not (block && (a == b)))))) }
 {
-    let a = driver.node.index();
+    let a = driver.item.index();
     if !meet(driver.mask, mask) || a >= rows.len() {
         return Ok(());
     }
-    let from = driver.node.number();
+    let from = driver.item.number();
     let to = b.number();
     if block && from == to {
         return Ok(());

@@ -1,6 +1,6 @@
 // The parts of a flat design, and whether they make one.
 ghost use Rattle.std.specs.Prelude.{◌≡◌, ◌<◌, ◌^◌, ◌&&◌, not, true, false, IsTrue, IfOk, IfSome, IfNone, map, length};
-ghost use Rattle.typed_ir.specs.Flats.{signal_widths, are_clocked, are_below, flat_from, NodeWritesFirst};
+ghost use Rattle.typed_ir.specs.Flats.{signal_widths, are_clocked, are_below, are_within, flat_from, NodeWritesFirst};
 ghost use Rattle.typed_ir.specs.Cycles.{OneWriter};
 ghost use Rattle.typed_ir.specs.FlatNodes.{node_of};
 ghost use Rattle.typed_ir.specs.Linkeds.{flat};
@@ -17,11 +17,12 @@ use crate::undriven::{are_undriven, rows_apart};
 use bits::Bits;
 use no_memory::NoMemory;
 use std::alloc::Global;
-use typed_ir::{Flat, Node, Signal, SignalId, Stmt};
+use typed_ir::{Flat, InstanceTable, Node, Signal, SignalId, Stmt};
 
 /// What a flat design is made of.
 #[derive(Drop)]
 pub struct Parts {
+    pub instances: InstanceTable,
     pub signals: Vec<Signal>,
     pub registers: Vec<SignalId>,
     pub inputs: Vec<SignalId>,
@@ -51,6 +52,25 @@ pub fn no_block(nodes: &[Node]) -> bool
         }
     }
     true
+}
+
+// Whether each signal names one of so many instances.
+fn are_within(signals: &[Signal], count: usize) -> bool
+    ensures { result ≡ are_within signals.now count }
+{
+    for signal in signals {
+        if signal.instance.index() >= count {
+            return false;
+        }
+    }
+    true
+}
+
+// Whether each signal names an instance of the table.
+fn are_placed(parts: &Parts) -> bool
+    ensures { result ≡ are_within parts.now.signals.items (length parts.now.instances.rows.items) }
+{
+    are_within(&parts.signals, parts.instances.rows.len())
 }
 
 // Whether the widths agree and each number names a signal.
@@ -104,17 +124,20 @@ fn are_written_once(alloc: Global, parts: &Parts) -> Result<bool, NoMemory>
     Ok(rows_apart(&table))
 }
 
-/// The flat design of these parts; None just where they make none. So it is where widths don't agree, a number names no signal, a bit
-/// has two drivers or two clocked blocks that may write it, a clocked block has a blocking assignment or writes what isn't a
-/// register, a register or data input is driven or stands twice, or a signal is both of them.
+/// The flat design of these parts; None just where they make none. So it is where a signal names no instance of the table, widths
+/// don't agree, a number names no signal, a bit has two drivers or two clocked blocks that may write it, a clocked block has a blocking
+/// assignment or writes what isn't a register, a register or data input is driven or stands twice, or a signal is both of them.
 pub fn checked_flat(alloc: Global, parts: Parts) -> Result<Option<Flat>, NoMemory>
     requires complete { Each IsComplete (map node_of parts.nodes.items) }
     requires first { Each NodeWritesFirst (map node_of parts.nodes.items) }
     requires few { length parts.nodes.items < 2 ^ 32 }
     ensures design { IfOk result (λ found. IfSome found (λ design.
-        flat design ≡ flat_from parts.signals.items parts.registers.items parts.inputs.items parts.nodes.items parts.clocked.items)) }
+        flat design ≡ flat_from parts.instances.rows.items parts.signals.items parts.registers.items parts.inputs.items parts.nodes.items parts.clocked.items)) }
     ensures refused { IfOk result (λ found. IfNone found (IsDesign parts → ⊥)) }
 {
+    if !are_placed(&parts) {
+        return Ok(None);
+    }
     let env = zeros(alloc, &parts.signals)?;
     if !are_sized(&parts, &env) {
         return Ok(None);
@@ -132,6 +155,7 @@ pub fn checked_flat(alloc: Global, parts: Parts) -> Result<Option<Flat>, NoMemor
         return Ok(None);
     }
     Ok(Some(Flat {
+        instances: parts.instances,
         signals: parts.signals,
         registers: parts.registers,
         inputs: parts.inputs,

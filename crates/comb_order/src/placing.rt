@@ -1,9 +1,7 @@
 // Nodes are placed one by one, each once all that comes before it is placed.
-ghost use Rattle.std.specs.Prelude.{◌≡◌, ◌-◌, ◌≤◌, ◌<◌, ◌^◌, ◌++◌, ◌∷◌, [], ◌==◌, if◌then◌else◌, ℕ, length, slice_index, IfOk, IfSome, IfNone, List};
+ghost use Rattle.std.specs.Prelude.{◌≡◌, ◌-◌, ◌≤◌, ◌<◌, ◌^◌, ◌++◌, ◌∷◌, [], ◌==◌, if◌then◌else◌, ℕ, length, slice_index, IfOk};
 ghost use Rattle.typed_ir.specs.Valuations.{put};
-ghost use Rattle.comb_order.specs.Graphs.{times, waiting, rows_of, lowered, released, count_of, HasEdge};
-ghost use Rattle.comb_order.specs.Loops.{IsStuck, Path};
-ghost use Rattle.typed_ir.specs.Orders.{IsOrderOf};
+ghost use Rattle.comb_order.specs.Graphs.{times, waiting, rows_of, lowered, released, count_of};
 ghost use Rattle.comb_order.specs.Kahn.{IsClosed, IsPlacing};
 
 use crate::counting::{free_nodes, in_degrees};
@@ -83,10 +81,3 @@ pub fn place_nodes(alloc: Global, graph: &[Vec<NodeId>]) -> Result<Placing, Allo
     place_free(graph, &mut counts, &mut placed, &mut order)?;
     Ok(Placing { order, placed })
 }
-
-/// Where an order exists no node can't be placed, and none is on a circle.
-pub fn order_says()
-    ensures placed { (rows : List (List ℕ)) (order : List ℕ) → IsOrderOf (HasEdge rows) (length rows) order → (t : ℕ) → IsStuck (HasEdge rows) (length rows) t → ⊥ }
-    ensures circle { (rows : List (List ℕ)) (order : List ℕ) → IsOrderOf (HasEdge rows) (length rows) order
-        → (a n : ℕ) → a < length rows → Path rows a n a → ⊥ }
-{}

@@ -4,28 +4,27 @@ use Rattle.std.specs.Prelude.{Option, Some, None}
 use Rattle.std.specs.Map.{lookup, KeepsOthers}
 use Rattle.std.proofs.lemmas.Bool.{eqb-true, eq-eqb, cond-true, cond-false, and_from}
 use Rattle.std.proofs.lemmas.Option.{same_Some, none-some}
-use lib.Pointwise.{pointwise}
-use Rattle.ls_text.specs.declared.name_id.NameId.{NameId}
 use Rattle.typed_ir.proofs.Cases.{by_cases, and_left, and_right}
 use Rattle.typed_ir.proofs.Lists.{drop_split}
 use Rattle.cycle_eval.proofs.Loads.{below_read}
 use Rattle.cycle_eval.proofs.Carries.{register_read}
 use Rattle.typed_ir.specs.declared.signal.Signal.{Signal as Signal'}
 use Rattle.typed_ir.specs.Flats.{are_below}
+use Rattle.cycle_eval.specs.declared.register_key.RegisterKey.{RegisterKey}
 use Rattle.cycle_eval.specs.Kits.{Register, same_path, carried_value}
-use Rattle.cycle_eval.specs.Paths.{ids, path_in, register_in}
+use Rattle.cycle_eval.specs.Paths.{key_list, key_in, keyed_in}
 use Rattle.cycle_eval.specs.Places.{place_from, found}
 
 -- ---- paths
 
-same_is : (xs ys : List ℕ) → same_path xs ys ≡ true → xs ≡ ys
+pub same_is : (xs ys : List ℕ) → same_path xs ys ≡ true → xs ≡ ys
 same_is [] [] h = refl
 same_is [] (y ∷ ys) h = absurd (true≢false (sym h))
 same_is (x ∷ xs) [] h = absurd (true≢false (sym h))
 same_is (x ∷ xs) (y ∷ ys) h =
     ap₂ (λ (n : ℕ) (ns : List ℕ). n ∷ ns) (eqb-true x y (and_left (x == y) (same_path xs ys) h)) (same_is xs ys (and_right (x == y) (same_path xs ys) h))
 
-same_own : (xs : List ℕ) → same_path xs xs ≡ true
+pub same_own : (xs : List ℕ) → same_path xs xs ≡ true
 same_own [] = refl
 same_own (x ∷ xs) = and_from (x == x) (same_path xs xs) (eq-eqb x x refl) (same_own xs)
 
@@ -39,12 +38,14 @@ swap xs ys = by_cases (same_path xs ys)
         (λ t. absurd (true≢false (sym (ap (λ zs. same_path zs ys) (sym (same_is ys xs t)) ∙ same_own ys) ∙ f)))
         (λ g. g)
 
--- names compared one by one
-pub named : (E : NameId → NameId → Bool) → ((x y : NameId) → E x y ≡ (x.0 == y.0)) → (xs ys : List NameId) → pointwise E xs ys ≡ same_path (ids xs) (ids ys)
-named E e [] [] = refl
-named E e [] (y ∷ ys) = refl
-named E e (x ∷ xs) [] = refl
-named E e (x ∷ xs) (y ∷ ys) = ap₂ (λ (a b : Bool). a && b) (e x y) (named E e xs ys)
+-- equal keys
+pub key_same : (x y : RegisterKey) → ((x.instance == y.instance) && (x.name.0 == y.name.0)) ≡ same_path (key_list x) (key_list y)
+key_same x y = ended (x.instance == y.instance) (x.name.0 == y.name.0)
+  where
+    ended : (a b : Bool) → (a && b) ≡ (a && (b && true))
+    ended true true = refl
+    ended true false = refl
+    ended false b = refl
 
 -- ---- the map
 
@@ -137,15 +138,15 @@ paths_of f [] = refl
 paths_of f (r ∷ rs) = ap (λ ps. (f r).path ∷ ps) (paths_of f rs)
 
 -- a place that is found is one of the registers, and what it has is taken where the modules are the same
-pub record IsChosen (signals : List Signal') (rs xs : List ℕ) (r : Register) (initial i : ℕ) : Type 0 where
+pub record IsChosen (numbers : List ℕ) (signals : List Signal') (rs xs : List ℕ) (r : Register) (initial i : ℕ) : Type 0 where
   pub within : i < length rs
   pub value : (y : Signal') → y ≡ get_or signals (get_or rs i 0) y
-      → carried_value (map (register_in signals) rs) xs r initial ≡ cond (y.in_module.0 == r.in_module) (get_or xs i 0) initial
+      → carried_value (map (keyed_in numbers signals) rs) xs r initial ≡ cond (y.in_module.0 == r.in_module) (get_or xs i 0) initial
 
-pub chosen : (signals : List Signal') (rs xs : List ℕ) (r : Register) (initial i : ℕ) → length xs ≡ length rs → IsTrue (are_below rs (length signals))
-    → place_from 0 (map (path_in signals) rs) r.path ≡ Some i → IsChosen signals rs xs r initial i
-chosen signals rs xs r initial i one there e =
-    let f = register_in signals in
+pub chosen : (numbers : List ℕ) (signals : List Signal') (rs xs : List ℕ) (r : Register) (initial i : ℕ) → length xs ≡ length rs → IsTrue (are_below rs (length signals))
+    → place_from 0 (map (key_in numbers signals) rs) r.path ≡ Some i → IsChosen numbers signals rs xs r initial i
+chosen numbers signals rs xs r initial i one there e =
+    let f = keyed_in numbers signals in
     let long : length (map f rs) ≡ length rs = length_of f rs in
     let at : IsAt (map f rs) xs r initial 0 i = present (map f rs) xs r initial 0 i (one ∙ sym long) (ap (λ ps. place_from 0 ps r.path) (paths_of f rs) ∙ e) in
     let same : i - 0 ≡ i = omega arith in
@@ -157,7 +158,7 @@ chosen signals rs xs r initial i one there e =
           at.value d
           ∙ ap (λ j. cond ((get_or (map f rs) j d).in_module == r.in_module) (get_or xs j 0) initial) same
           ∙ ap (λ (k : Register). cond (k.in_module == r.in_module) (get_or xs i 0) initial)
-          (read_at f rs i d small ∙ sym (register_read signals (get_or rs i 0) y (below_read rs (length signals) i there small) is));
+          (read_at f rs i d small ∙ sym (register_read numbers signals (get_or rs i 0) y (below_read rs (length signals) i there small) is));
     }
   where
     length_of : (f : ℕ → Register) (rs : List ℕ) → length (map f rs) ≡ length rs
@@ -169,7 +170,7 @@ chosen signals rs xs r initial i one there e =
     read_at f (r ∷ rs) zero d h = refl
     read_at f (r ∷ rs) (suc i) d h = read_at f rs i d (omega (arith, h))
 
-pub not_chosen : (signals : List Signal') (rs xs : List ℕ) (r : Register) (initial : ℕ) → place_from 0 (map (path_in signals) rs) r.path ≡ None
-    → carried_value (map (register_in signals) rs) xs r initial ≡ initial
-not_chosen signals rs xs r initial e =
-    absent (map (register_in signals) rs) xs r initial 0 (ap (λ ps. place_from 0 ps r.path) (paths_of (register_in signals) rs) ∙ e)
+pub not_chosen : (numbers : List ℕ) (signals : List Signal') (rs xs : List ℕ) (r : Register) (initial : ℕ) → place_from 0 (map (key_in numbers signals) rs) r.path ≡ None
+    → carried_value (map (keyed_in numbers signals) rs) xs r initial ≡ initial
+not_chosen numbers signals rs xs r initial e =
+    absent (map (keyed_in numbers signals) rs) xs r initial 0 (ap (λ ps. place_from 0 ps r.path) (paths_of (keyed_in numbers signals) rs) ∙ e)

@@ -3,6 +3,8 @@ pub mod Passes
 pub mod Loads
 pub mod Carries
 pub mod Finding
+pub mod PathTables
+pub mod Keys
 pub mod Laws
 pub mod Temporaries
 pub mod InputRows

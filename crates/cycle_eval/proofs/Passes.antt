@@ -24,7 +24,7 @@ all_nodes l = ∥∥₁_elim l.in_order (hlevel props) (λ o. o.size ∙ length-
 pub flat_widths : (l : Linked) → map (λ (x : Signal). x.width) (flat l.design).signals ≡ signal_widths l.design.signals.items
 flat_widths l = go l.design.signals.items
   where
-    go : (xs : List Signal') → map (λ (x : Signal). x.width) (map signal_of xs) ≡ signal_widths xs
+    go : (xs : List Signal') → map (λ (x : Signal). x.width) (map (signal_of l.design.instances.rows.items) xs) ≡ signal_widths xs
     go [] = refl
     go (x ∷ xs) = ap (λ ws. x.width ∷ ws) (go xs)
 

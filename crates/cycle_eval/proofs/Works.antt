@@ -13,7 +13,7 @@ use Rattle.cycle_eval.specs.Designs.{work_of}
 use Rattle.cycle_eval.specs.declared.design.Design.{Design}
 
 pub work_is : (d : Design) (l : Linked) (f : Flat') (p : Parts) → work_of d ≡ length l.design.nodes.items + length l.design.clocked.items → l.design ≡ f
-    → flat f ≡ flat_from p.signals.items p.registers.items p.inputs.items p.nodes.items p.clocked.items
+    → flat f ≡ flat_from p.instances.rows.items p.signals.items p.registers.items p.inputs.items p.nodes.items p.clocked.items
     → work_of d ≡ length p.nodes.items + length p.clocked.items
 work_is d l f p work lf e =
     work

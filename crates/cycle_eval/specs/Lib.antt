@@ -2,6 +2,7 @@ pub mod Designs
 pub mod States
 pub mod Kits
 pub mod Paths
+pub mod PathNumbers
 pub mod DesignLaws
 pub mod Words
 pub mod Updates

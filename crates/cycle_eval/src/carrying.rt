@@ -1,40 +1,44 @@
 // The beginning state of a design, and the state that an edit leaves it.
 ghost use Rattle.std.specs.Prelude.{◌≡◌, ℕ, List, IsTrue, IfOk, map, length};
-ghost use Rattle.typed_ir.specs.Flats.{are_below, signal_of};
+ghost use Rattle.typed_ir.specs.Flats.{are_below};
 ghost use Rattle.cycle_eval.specs.Designs.{design_flat};
-ghost use Rattle.cycle_eval.specs.Kits.{Fits, reset_of, carried_of, carried_value, register_of};
-ghost use Rattle.cycle_eval.specs.Paths.{path_in, register_in, width_in, initial_in, carried_in};
+ghost use Rattle.cycle_eval.specs.Kits.{Fits, reset_of, carried_of, carried_value};
+ghost use Rattle.cycle_eval.specs.Paths.{key_list, keyed_in, key_in, width_in, initial_in, carried_in};
 ghost use Rattle.cycle_eval.specs.Places.{place_from};
 ghost use Rattle.cycle_eval.specs.Found.{place_in};
 ghost use Rattle.cycle_eval.specs.States.{paired, state_values};
 
 use crate::design::Design;
+use crate::numbered::Numbered;
+use crate::numbering::path_numbers;
 use crate::numbers::index_at;
-use crate::places::{Places, places_of};
+use crate::places::{Places, key_of, places_of};
+use crate::register_key::RegisterKey;
 use bits::Bits;
 use no_memory::NoMemory;
 use std::alloc::Global;
 use typed_ir::{RegState, RegisterId, Signal, SignalId};
 
-// What a register takes from the state of older ones, of which these are the places.
+// What a register of this key takes from the state of older ones, of which these are the places.
 fn value_at(
-    places: &Places<'_>,
-    old_signals: &[Signal],
-    old_registers: &[SignalId],
+    places: &Places,
+    old: &Numbered<'_>,
     state: &RegState,
+    key: RegisterKey,
     signal: &Signal,
 ) -> u128
-    requires old_there { IsTrue (are_below old_registers.now (length old_signals.now)) }
-    requires one { length state.now ≡ length old_registers.now }
-    requires first { (path : List ℕ) → place_in places.now path ≡ place_from 0 (map (path_in old_signals.now) old_registers.now) path }
-    ensures { result ≡ carried_value (map (register_in old_signals.now) old_registers.now) (state_values state.now) (register_of (signal_of signal.now)) signal.now.initial }
+    requires one { length state.now ≡ length old.now.registers.now }
+    requires first { (k : List ℕ)
+        → place_in places.now k ≡ place_from 0 (map (key_in old.now.numbers.now old.now.signals.now) old.now.registers.now) k }
+    ensures { result ≡ carried_value (map (keyed_in old.now.numbers.now old.now.signals.now) old.now.registers.now) (state_values state.now)
+        (record { path = key_list key; in_module = signal.now.in_module.0 }) signal.now.initial }
 {
-    let Some(place) = places.get(&signal.path) else {
+    let Some(place) = places.get(key) else {
         return signal.initial;
     };
-    let register = index_at(old_registers, place);
-    let old = &old_signals[register];
-    if old.in_module.0 == signal.in_module.0 {
+    let register = index_at(old.registers, place);
+    let found = &old.signals[register];
+    if found.in_module.0 == signal.in_module.0 {
         state.get(RegisterId(place)).value
     } else {
         signal.initial
@@ -62,24 +66,22 @@ fn beginnings(
 // What these registers take from the state of older ones.
 fn carried_into(
     alloc: Global,
-    signals: &[Signal],
-    registers: &[SignalId],
-    old_signals: &[Signal],
-    old_registers: &[SignalId],
+    new: &Numbered<'_>,
+    old: &Numbered<'_>,
     state: &RegState,
 ) -> Result<RegState, NoMemory>
-    requires there { IsTrue (are_below registers.now (length signals.now)) }
-    requires old_there { IsTrue (are_below old_registers.now (length old_signals.now)) }
-    requires one { length state.now ≡ length old_registers.now }
-    ensures { IfOk result (λ s. s ≡ paired (map (width_in signals.now) registers.now)
-        (map (carried_in signals.now old_signals.now old_registers.now (state_values state.now)) registers.now)) }
+    requires { length state.now ≡ length old.now.registers.now }
+    ensures { IfOk result (λ s. s ≡ paired (map (width_in new.now.signals.now) new.now.registers.now)
+        (map (carried_in new.now.numbers.now new.now.signals.now old.now.numbers.now old.now.signals.now old.now.registers.now (state_values state.now))
+        new.now.registers.now)) }
 {
-    let places = places_of(alloc, old_signals, old_registers)?;
+    let places = places_of(alloc, old)?;
     let mut values = Vec::new(alloc);
-    for register in registers {
+    for register in new.registers {
         let place = register.index();
-        let signal = &signals[place];
-        let value = value_at(&places, old_signals, old_registers, state, signal);
+        let signal = &new.signals[place];
+        let key = key_of(new.numbers, signal);
+        let value = value_at(&places, old, state, key, signal);
         values.push(Bits::new(signal.width, value))?;
     }
     RegState::new(values)
@@ -96,7 +98,8 @@ impl Design {
     }
 
     /// The state of an older design, carried into this one: each register takes the value of the register of its path, where it
-    /// is of the same module, cut or filled with zeros to its width; else it begins anew. Registers are found by hash.
+    /// is of the same module, cut or filled with zeros to its width; else it begins anew. Paths have numbers that both designs share,
+    /// and registers are found by hash.
     pub(crate) fn carried(
         &self,
         alloc: Global,
@@ -108,13 +111,17 @@ impl Design {
     {
         let design = &self.linked.design;
         let before = &old.linked.design;
-        carried_into(
-            alloc,
-            &design.signals,
-            &design.registers,
-            &before.signals,
-            &before.registers,
-            state,
-        )
+        let numbers = path_numbers(alloc, &before.instances, &design.instances)?;
+        let new = Numbered {
+            numbers: &numbers.new,
+            signals: &design.signals,
+            registers: &design.registers,
+        };
+        let older = Numbered {
+            numbers: &numbers.old,
+            signals: &before.signals,
+            registers: &before.registers,
+        };
+        carried_into(alloc, &new, &older, state)
     }
 }

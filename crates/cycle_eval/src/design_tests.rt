@@ -25,11 +25,16 @@ use std::process::Abort;
 use std::sync::ledger::{Blank, Ledger};
 use std::test::Fail;
 use typed_ir::{
-    ArithmeticOperator, Arm, BinaryOperator, Item, Lane, Node, Reach, RegState, RegisterId, Signal,
-    SignalId, Span, Stmt, Target, TargetForm, Typed,
+    ArithmeticOperator, Arm, BinaryOperator, InstanceId, InstanceTable, Item, Lane, Node, Reach,
+    RegState, RegisterId, Signal, SignalId, Span, Stmt, Target, TargetForm, Typed,
 };
 
-// Signals of these widths and values at the beginning.
+// The table of one instance.
+pub fn top(alloc: Global) -> Result<InstanceTable, NoMemory> {
+    InstanceTable::of_top(alloc, NameId(0))
+}
+
+// Signals of these widths and values at the beginning, all of one instance.
 pub fn signals(
     rt: &impl Abort,
     alloc: Global,
@@ -40,7 +45,8 @@ pub fn signals(
         assert!(rt; 1 <= *width && *width <= 128);
         signals.push(Signal {
             in_module: NameId(0),
-            path: Vec::new(alloc),
+            instance: InstanceId(0),
+            name: NameId(signals.len() as u64),
             lsb: 0,
             signed: false,
             width: *width,
@@ -185,6 +191,7 @@ fn right_sides_read_old_registers(rt: HostRuntime) -> Result<(), Fail> {
         later(alloc, 2, 8, number(2, 8))?,
     ]?;
     let parts = Parts {
+        instances: top(alloc)?,
         signals: signals(&rt, alloc, &[(8, 1), (8, 2), (8, 0)])?,
         registers: vec![in alloc; SignalId(0), SignalId(1), SignalId(2)]?,
         inputs: Vec::new(alloc),
@@ -223,6 +230,7 @@ fn a_place_known_at_run_time(rt: HostRuntime) -> Result<(), Fail> {
     let next = later(alloc, 1, 3, plus(alloc, 1, 3, 1)?)?;
     let body = vec![in alloc; one, next]?;
     let parts = Parts {
+        instances: top(alloc)?,
         signals: signals(&rt, alloc, &[(4, 0), (3, 0)])?,
         registers: vec![in alloc; SignalId(0), SignalId(1)]?,
         inputs: Vec::new(alloc),
@@ -277,6 +285,7 @@ fn a_case_with_dont_cares(rt: HostRuntime) -> Result<(), Fail> {
         },
     ]?;
     let parts = Parts {
+        instances: top(alloc)?,
         signals: signals(&rt, alloc, &[(4, 5), (2, 0)])?,
         registers: vec![in alloc; SignalId(0), SignalId(1)]?,
         inputs: Vec::new(alloc),
@@ -311,6 +320,7 @@ fn a_long_block(rt: HostRuntime) -> Result<(), Fail> {
         otherwise,
     })?;
     let parts = Parts {
+        instances: top(alloc)?,
         signals: signals(&rt, alloc, &[(4, 0), (2, 0)])?,
         registers: vec![in alloc; SignalId(0), SignalId(1)]?,
         inputs: Vec::new(alloc),
@@ -334,6 +344,7 @@ fn a_long_chain(rt: HostRuntime) -> Result<(), Fail> {
     }
     all.push((8, 7))?;
     let parts = Parts {
+        instances: top(alloc)?,
         signals: signals(&rt, alloc, &all)?,
         registers: vec![in alloc; SignalId(100_000)]?,
         inputs: Vec::new(alloc),
@@ -376,6 +387,7 @@ fn a_condition_and_two_parts(rt: HostRuntime) -> Result<(), Fail> {
         },
     ]?;
     let parts = Parts {
+        instances: top(alloc)?,
         signals: signals(&rt, alloc, &[(2, 0), (4, 9), (1, 0)])?,
         registers: vec![in alloc; SignalId(0), SignalId(1), SignalId(2)]?,
         inputs: Vec::new(alloc),
@@ -410,6 +422,7 @@ fn wires_written_backwards(rt: HostRuntime) -> Result<(), Fail> {
         later(alloc, 2, 4, plus(alloc, 6, 4, 1)?)?,
     ]?;
     let parts = Parts {
+        instances: top(alloc)?,
         signals: signals(
             &rt,
             alloc,
@@ -471,6 +484,7 @@ fn a_block_with_a_temporary(rt: HostRuntime) -> Result<(), Fail> {
     let alloc = rt.alloc();
     let nodes = vec![in alloc; block(alloc)?]?;
     let parts = Parts {
+        instances: top(alloc)?,
         signals: signals(&rt, alloc, &[(4, 4), (4, 0), (4, 0)])?,
         registers: vec![in alloc; SignalId(0)]?,
         inputs: Vec::new(alloc),

@@ -6,7 +6,7 @@ ghost use Rattle.cycle_eval.specs.Designs.{design_flat};
 ghost use Rattle.cycle_eval.specs.Updates.{all_updates};
 
 use crate::Design;
-use crate::design_tests::{assign, design_of, later, plus, signals, values_of};
+use crate::design_tests::{assign, design_of, later, plus, signals, top, values_of};
 use bits::Bits;
 use comb_order::Parts;
 use machine::steps::Steps;
@@ -71,6 +71,7 @@ fn after(
 fn inputs_by_rows(rt: HostRuntime) -> Result<(), Fail> {
     let alloc = rt.alloc();
     let parts = Parts {
+        instances: top(alloc)?,
         signals: signals(&rt, alloc, &[(4, 7), (8, 7), (4, 0), (8, 0), (4, 0)])?,
         registers: vec![in alloc; SignalId(0), SignalId(1)]?,
         inputs: vec![in alloc; SignalId(2), SignalId(3)]?,

@@ -1,8 +1,8 @@
 // The evaluator: cycles of a linked design, in place over one flat environment.
 //
 // `making` tests that a design's registers have room, `design` holds it, `inputs` writes a row's inputs, `cycle` settles the wires and applies
-// the updates, `run` is cycle after cycle from one state (`state`) to another, and `carrying` takes registers over from an older design
-// (`places` finds them). `as_machine` is the design as a machine.
+// the updates, `run` is cycle after cycle from one state (`state`) to another, and `carrying` takes registers over from an older design:
+// `numbering` gives the paths of both numbers, and `places` finds registers by these. `as_machine` is the design as a machine.
 #![tactic(auto)]
 
 mod as_machine;
@@ -19,8 +19,13 @@ mod inputs;
 mod making;
 mod no_ops;
 mod no_row;
+mod numbered;
+mod numbering;
 mod numbers;
+mod path_numbers;
+mod path_step;
 mod places;
+mod register_key;
 mod run;
 mod state;
 #[cfg(test)]

@@ -17,8 +17,8 @@ use std::sync::Arc;
 use std::sync::ledger::{Blank, Ledger};
 use std::test::Fail;
 use typed_ir::{
-    ArithmeticOperator, BinaryOperator, Flat, Lane, Linked, RegState, RegisterId, Signal, SignalId,
-    Span, Stmt, Target, Typed,
+    ArithmeticOperator, BinaryOperator, Flat, InstanceId, InstanceTable, Lane, Linked, RegState,
+    RegisterId, Signal, SignalId, Span, Stmt, Target, Typed,
 };
 
 // reg [3:0] q = 14; always @(posedge clk) q <= q + 4'd3;
@@ -26,7 +26,8 @@ fn counter(alloc: Global) -> Result<Linked, NoMemory> {
     let mut signals = Vec::new(alloc);
     signals.push(Signal {
         in_module: NameId(0),
-        path: Vec::new(alloc),
+        instance: InstanceId(0),
+        name: NameId(1),
         lsb: 0,
         signed: false,
         width: 4,
@@ -54,6 +55,7 @@ fn counter(alloc: Global) -> Result<Linked, NoMemory> {
         value: next,
     })?;
     let design = Flat {
+        instances: InstanceTable::of_top(alloc, NameId(0))?,
         signals,
         registers,
         inputs: Vec::new(alloc),

@@ -9,8 +9,8 @@ use std::alloc::Global;
 use std::process::Abort;
 use std::test::Fail;
 use typed_ir::{
-    ArithmeticOperator, BinaryOperator, Lane, Node, NodeId, Reach, Signal, SignalId, Span, Stmt,
-    Target, TargetForm, Typed,
+    ArithmeticOperator, BinaryOperator, InstanceId, InstanceTable, Lane, Node, NodeId, Reach,
+    Signal, SignalId, Span, Stmt, Target, TargetForm, Typed,
 };
 
 fn bit(number: u32, low: u8) -> Span
@@ -80,7 +80,8 @@ fn answer(
         assert!(rt; 1 <= *width && *width <= 128);
         signals.push(Signal {
             in_module: NameId(0),
-            path: Vec::new(alloc),
+            instance: InstanceId(0),
+            name: NameId(signals.len() as u64),
             lsb: 0,
             signed: false,
             width: *width,
@@ -90,6 +91,7 @@ fn answer(
     assert!(rt; no_block(&nodes));
     assert!(rt; nodes.len() < 1_000_000);
     let parts = Parts {
+        instances: InstanceTable::of_top(alloc, NameId(0))?,
         signals,
         registers: Vec::new(alloc),
         inputs: Vec::new(alloc),

@@ -5,7 +5,8 @@ use no_memory::NoMemory;
 use std::alloc::Global;
 use std::test::Fail;
 use typed_ir::{
-    Const, ConstList, Form, InstanceId, InstanceName, Lane, Node, SignalId, Span, TargetForm, Typed,
+    Const, ConstList, Form, InstanceId, InstanceName, InstanceTable, Lane, Node, SignalId, Span,
+    TargetForm, Typed,
 };
 use unit_ir::{ItemPlaces, RegShape, Regs, ShapeList, TypedItems, UnitParts, shifted_node};
 
@@ -58,16 +59,18 @@ fn values_of_parameters(rt: HostRuntime) -> Result<(), Fail> {
         bits: Bits::new(32, 8),
         signed: true,
     };
-    let mut values = Vec::new(rt.alloc());
-    values.push(eight)?;
-    let list = ConstList::new(values);
-    assert_eq!(rt; list.as_slice().len(), 1);
+    let three = Const {
+        bits: Bits::new(2, 3),
+        signed: false,
+    };
+    let list = ConstList::new(vec![in rt.alloc(); eight, three]?);
+    assert_eq!(rt; list.as_slice(), [eight, three].as_slice());
     let values = list.into_vec();
-    assert_eq!(rt; values.len(), 1);
+    assert_eq!(rt; values.as_slice(), [eight, three].as_slice());
     Ok(())
 }
 
-// Whether instances that stand in these make a table of registers with one of this instance.
+// Whether instances that stand in these make a table, and a register may be of this one.
 fn is_table(alloc: Global, parents: &[Option<u32>], instance: u32) -> Result<bool, NoMemory> {
     let mut instances = Vec::new(alloc);
     for parent in parents {
@@ -80,6 +83,9 @@ fn is_table(alloc: Global, parents: &[Option<u32>], instance: u32) -> Result<boo
             name: NameId(0),
         })?;
     }
+    let Some(table) = InstanceTable::new(instances) else {
+        return Ok(false);
+    };
     let mut registers = Vec::new(alloc);
     registers.push(RegShape {
         instance: InstanceId(instance),
@@ -87,7 +93,7 @@ fn is_table(alloc: Global, parents: &[Option<u32>], instance: u32) -> Result<boo
         name: NameId(1),
         width: 1,
     })?;
-    Ok(Regs::new(instances, registers).is_some())
+    Ok(Regs::new(table, registers).is_some())
 }
 
 #[test]

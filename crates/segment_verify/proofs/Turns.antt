@@ -70,10 +70,6 @@ module _ {D S R O : Type 0} (k : Kit D S R O) where
   claimed by j l (Ok (Nothing full closed)) ok err = ok.0
   claimed by j l (Err e) ok err = err.0
 
-  pub claimed_first : (by : Who) (j l : Journal D R O) (o : Option (ℕ × DrawnTicket D S R)) → ClaimIs k by j l o → AddsClaim by j l o
-  claimed_first by j l None is = is.0
-  claimed_first by j l (Some t) is = is.0
-
   claim_leaves : (v : Known D R O) (j l : Journal D R O) (by : Who) (o : Option (ℕ × DrawnTicket D S R)) → Learned v j → is_session by ≡ v.session → l.settings ≡ j.settings → AddsClaim by j l o → MayLeave (entered v j) l
   claim_leaves v j l by None learned kind settings adds = none v j l learned settings adds
   claim_leaves v j l by (Some t) learned kind settings adds = one v j l (Claims t.0 t.1.a t.1.b by) learned settings adds.events kind (adds.not_drawn, adds.not_used)

@@ -3,7 +3,7 @@
 #![tactic(auto)]
 
 ghost use Rattle.std.specs.Prelude.{◌≡◌, ◌+◌, ◌-◌, ◌*◌, ◌≤◌};
-ghost use Rattle.segment_verify.specs.Outcome.{IsOf, IsDone};
+ghost use Rattle.segment_verify.specs.Outcome.{IsTicketOf, IsDone};
 
 pub mod verification;
 pub mod worker;
@@ -23,7 +23,7 @@ pub fn verify<M: Machine, L: Ledger>(
     t: Ticket<M>,
     steps: &mut Steps<L>,
 ) -> Verification<M>
-    ensures ticket { IsOf t result }
+    ensures ticket { IsTicketOf t result }
     ensures taken { IsDone result → steps.new ≡ steps.old + (t.1.b - t.1.a) * M.work t.1.machine }
     ensures rises { steps.old ≤ steps.new }
     ensures most { steps.new ≤ steps.old + (t.1.b - t.1.a) * M.work t.1.machine }

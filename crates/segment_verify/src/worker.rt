@@ -3,7 +3,7 @@
 ghost use Rattle.std.specs.Prelude.{◌≡◌, ◌<◌, false, IfOk};
 ghost use Rattle.book_history.specs.declared.who.Who.TheVariants.{Worker};
 ghost use Rattle.book_turn.specs.Passes.{IsOf, known};
-ghost use Rattle.segment_verify.specs.Outcome.{IsOf as IsTicketOf};
+ghost use Rattle.segment_verify.specs.Outcome.{IsTicketOf};
 ghost use Rattle.segment_verify.specs.Entries.{HasHandedIn, HasTurned, HasAsked};
 ghost use Rattle.segment_verify.specs.Workers.{IsFree, HasEnded, HasTicket, HasDrawn, TellsClosed, drawn_in};
 

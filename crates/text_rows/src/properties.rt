@@ -2,7 +2,7 @@
 use crate::trees::tree;
 use ls_text::push_decimal;
 use no_memory::NoMemory;
-use row_tables::{Row, Table, joined};
+use row_tables::{Property, Row, Table, joined};
 use std::alloc::Global;
 
 // The level of an operator, in one or two digits, and its name in a tree.
@@ -40,8 +40,8 @@ fn pair_tree(alloc: Global, first: &Row, second: &Row) -> Result<Vec<u8>, NoMemo
     Ok(out)
 }
 
-/// The text of the first two operators that bind otherwise than by their levels; none where there are none.
-pub fn first_unlike(alloc: Global, table: &Table) -> Result<Option<Vec<u8>>, NoMemory> {
+// The text of the first two operators that bind otherwise than by their levels; none where there are none.
+fn first_unlike(alloc: Global, table: &Table) -> Result<Option<Vec<u8>>, NoMemory> {
     for first in &table.rows {
         for second in &table.rows {
             let front = joined(alloc, b"module m; assign x = a ", &first.text, b" b ")?;
@@ -73,9 +73,9 @@ fn ends_a_token(byte: u8) -> bool {
     )
 }
 
-/// The first front of a row of which something is read otherwise than as a text that ends too early, where it is cut before a
-/// blank, a bracket, a comma or a semicolon and isn't a whole text; none where there is none.
-pub fn first_uncut(alloc: Global, table: &Table) -> Result<Option<Vec<u8>>, NoMemory> {
+// The first front of a row of which something is read otherwise than as a text that ends too early, where it is cut before a
+// blank, a bracket, a comma or a semicolon and isn't a whole text; none where there is none.
+fn first_uncut(alloc: Global, table: &Table) -> Result<Option<Vec<u8>>, NoMemory> {
     for row in &table.rows {
         let mut cut = Vec::from_slice(alloc, &table.before.text)?;
         for byte in &row.text {
@@ -89,4 +89,26 @@ pub fn first_uncut(alloc: Global, table: &Table) -> Result<Option<Vec<u8>>, NoMe
         }
     }
     Ok(None)
+}
+
+/// What is said of each two operators of a table, and of its rows cut short.
+pub struct TextProperty;
+
+impl Property for TextProperty {
+    fn is_of(&self, name: &str) -> bool {
+        matches!(name, "pairs" | "cut_short")
+    }
+
+    fn first_wrong(
+        &self,
+        alloc: Global,
+        name: &str,
+        table: &Table,
+    ) -> Result<Option<Vec<u8>>, NoMemory> {
+        if name == "pairs" {
+            first_unlike(alloc, table)
+        } else {
+            first_uncut(alloc, table)
+        }
+    }
 }

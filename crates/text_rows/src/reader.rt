@@ -1,5 +1,4 @@
 // What one text is read as, by the reader that a table names.
-use crate::sizes::{constant_of, sizing, value_at};
 use crate::tokens::{counts, kinds, lexed, literal, pieces, places_of_tokens, preprocessed, spans};
 use crate::trees::{part, places, spelled, tree};
 use no_memory::NoMemory;
@@ -30,9 +29,6 @@ impl Reader for TextReader {
             "literal" => literal(alloc, text),
             "at" => places_of_tokens(alloc, text),
             "count" => counts(alloc, text),
-            "value" => value_at(alloc, text),
-            "sizing" => sizing(alloc, text),
-            "constant" => constant_of(alloc, text),
             _ => Ok(Vec::from_slice(alloc, b"no such reader")?),
         }
     }

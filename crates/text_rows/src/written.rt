@@ -1,16 +1,10 @@
 // Trees of expressions and statements as text: nested brackets with a node's name first, and no places.
-use ls_text::{NameId, NoMemory, push_decimal};
+use ls_text::{NoMemory, push_decimal};
+use row_tables::{name, word};
 use verilog_ast::{
     Arm, BinaryOperator, CaseKind, Expr, Identifier, Label, Lhs, Number, Pattern, Reference, Stmt,
     UnaryOperator,
 };
-
-// A space and a text.
-pub fn word(out: &mut Vec<u8>, text: &[u8]) -> Result<(), NoMemory> {
-    out.push(b' ')?;
-    out.extend_from_slice(text)?;
-    Ok(())
-}
 
 // A space, a bracket and a node's name.
 pub fn open(out: &mut Vec<u8>, text: &[u8]) -> Result<(), NoMemory> {
@@ -22,14 +16,6 @@ pub fn open(out: &mut Vec<u8>, text: &[u8]) -> Result<(), NoMemory> {
 pub fn close(out: &mut Vec<u8>) -> Result<(), NoMemory> {
     out.push(b')')?;
     Ok(())
-}
-
-// A name by its number; `?` where the table hasn't it.
-pub fn name(out: &mut Vec<u8>, texts: &[Vec<u8>], id: NameId) -> Result<(), NoMemory> {
-    match texts.get(id.0 as usize) {
-        Some(text) => word(out, text.as_slice()),
-        None => word(out, b"?"),
-    }
 }
 
 // A value in decimal, where it is at most 1,000,000,000; else a `+`.

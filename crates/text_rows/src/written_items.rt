@@ -1,6 +1,7 @@
 // Trees of modules and their items as text: nested brackets with a node's name first, and no places.
-use crate::written::{close, expression, name, open, statement, target, word};
+use crate::written::{close, expression, open, statement, target};
 use ls_text::NoMemory;
+use row_tables::{name, word};
 use verilog_ast::{
     Branch, Child, Children, Connections, Expr, GenerateItem, HeaderParameter, HeaderPort,
     Identifier, Instance, Item, ModuleBody, Parameter, PlainItem, PortNet, Ports, RegVariable,

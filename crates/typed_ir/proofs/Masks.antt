@@ -1,9 +1,9 @@
 -- Lists of masks name the bits that the definitions name.
-use Rattle.std.proofs.Common.{◌≡◌, ℕ, ◌+◌, ◌-◌, ◌*◌, ◌/◌, ◌%◌, ◌^◌, ◌<◌, ◌≤◌, ◌⊎◌, inl, inr, Bool, true, false, ◌||◌, ◌&&◌, ◌==◌, nat_le, nat_lt, List, [], ◌∷◌, ◌++◌, refl, sym, ◌∙◌, ap, ap₂, arith}
-use Rattle.std.proofs.Math.Bool.{and-false, or-false, or_assoc}
+use Rattle.std.proofs.Common.{◌≡◌, ℕ, ◌+◌, ◌-◌, ◌*◌, ◌/◌, ◌%◌, ◌^◌, ◌<◌, ◌≤◌, Bool, true, false, ◌||◌, ◌&&◌, ◌==◌, nat_le, nat_lt, List, [], ◌∷◌, ◌++◌, refl, sym, ◌∙◌, ap, ap₂, arith}
+use Rattle.std.proofs.Math.Bool.{or-false, or_assoc}
 use Rattle.std.specs.Int.{bit_at}
 use Rattle.std.proofs.lemmas.Bool.{eq-eqb, ne_eqb, le-leb, lt-leb, lt-ltb, le-ltb}
-use Rattle.std.proofs.lemmas.Nat.Bits.{bit_at_ones, bit_at-zero, bit_at_mask_inside, bit_at_mask_below, bit_at_mask_above, ones_shr}
+use Rattle.std.proofs.lemmas.Nat.Bits.{bit_at_ones, bit_at_mask_inside, bit_at_mask_below, bit_at_mask_above, ones_shr}
 use Rattle.std.proofs.lemmas.Nat.{pow_pos}
 use Rattle.std.proofs.Math.Pow.{pow_mono, pow-lt}
 use Rattle.std.proofs.Math.Nat.{one-mul, mod-eq_of_lt}
@@ -40,9 +40,6 @@ both_spans (p ∷ ps) qs s i = ap (λ t. within p s i || t) (both_spans ps qs s 
 
 pub whole_mask : (signal s i : ℕ) → i < 128 → ((s == signal) && has_bit (2 ^ 128 - 1) i) ≡ (s == signal)
 whole_mask signal s i h = and_true (s == signal) (has_bit (2 ^ 128 - 1) i) (eq-eqb (bit_at (2 ^ 128 - 1) i) 1 (bit_at_ones 128 i h))
-
-pub no_mask : (i : ℕ) → has_bit 0 i ≡ false
-no_mask i = let z : bit_at 0 i ≡ 0 = bit_at-zero i in ne_eqb (bit_at 0 i) 1 (λ e. omega (arith, z, e))
 
 -- the bits from `low` on and below `high`
 pub has_bit-run : (low high i : ℕ) → has_bit (2 ^ high - 2 ^ low) i ≡ (nat_le low i && nat_lt i high)
@@ -82,13 +79,3 @@ ones_cover low high small order top =
 -- as far as a mask goes
 pub run_to_end : (low width i : ℕ) → 128 ≤ low + width → i < 128 → (nat_le low i && nat_lt i 128) ≡ (nat_le low i && nat_lt i (low + width))
 run_to_end low width i far small = ap (λ t. nat_le low i && t) (lt-ltb i 128 small ∙ sym (lt-ltb i (low + width) (omega (arith, far, small))))
-
--- no run
-pub run_none : (low width i : ℕ) → i < 128 → 128 ≤ low ⊎ width ≡ 0 → has_bit 0 i ≡ (nat_le low i && nat_lt i (low + width))
-run_none low width i small why = no_mask i ∙ sym (by_order i low
-    (λ h. ap (λ t. t && nat_lt i (low + width)) (lt-leb low i h))
-    (λ h. ap (λ t. nat_le low i && t) (le-ltb i (low + width) (past why h)) ∙ and-false (nat_le low i)))
-  where
-    past : 128 ≤ low ⊎ width ≡ 0 → low ≤ i → low + width ≤ i
-    past (inl far) h = absurd (omega (arith, far, h, small))
-    past (inr none) h = omega (arith, none, h)

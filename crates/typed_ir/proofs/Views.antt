@@ -118,11 +118,6 @@ widths_few [] s h = absurd (omega (arith, h))
 widths_few (y ∷ ys) zero h = y.at_most_128
 widths_few (y ∷ ys) (suc s) h = widths_few ys s (omega (arith, h))
 
-pub span_some : (span : Span) (ws : List ℕ) → IsTrue (is_span span ws) → 1 ≤ span.width
-span_some span ws h =
-    leb-true 1 span.width (and_left (nat_le 1 span.width) (nat_le (span.low + span.width) (slice_index ws span.signal))
-    (and_right (nat_lt span.signal (length ws)) (nat_le 1 span.width && nat_le (span.low + span.width) (slice_index ws span.signal)) h))
-
 pub span_within : (span : Span) (ws : List ℕ) → IsTrue (is_span span ws) → span.low + span.width ≤ slice_index ws span.signal
 span_within span ws h =
     leb-true (span.low + span.width) (slice_index ws span.signal) (and_right (nat_le 1 span.width) (nat_le (span.low + span.width) (slice_index ws span.signal))

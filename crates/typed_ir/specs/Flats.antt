@@ -1,20 +1,22 @@
 -- What the parts of a flat design mean together.
 use Rattle.std.specs.Prelude.{◌≡◌, ℕ, Bool, true, false, ◌&&◌, ◌⊎◌, nat_lt, List, [], ◌∷◌, map}
-use Rattle.ls_text.specs.declared.name_id.NameId.{NameId}
 use Rattle.typed_ir.specs.Stmts.{is_legal, is_clocked, WritesFirst}
 use Rattle.typed_ir.specs.Nodes.{FlatNode, Drive, Block, node_drives}
 use Rattle.typed_ir.specs.Orders.{Member, Each, Distinct, any_drives}
 use Rattle.typed_ir.specs.Cycles.{Signal, Flat, IsSound, WritesRegisters, OneWriter}
 use Rattle.typed_ir.specs.Statements.{stmt_of}
 use Rattle.typed_ir.specs.FlatNodes.{node_of}
+use Rattle.typed_ir.specs.Paths.{path_in}
+use Rattle.typed_ir.specs.declared.instance_name.InstanceName.{InstanceName}
 use Rattle.typed_ir.specs.declared.signal.Signal.{Signal as Signal'}
 use Rattle.typed_ir.specs.declared.node.Node.{Node}
 use Rattle.typed_ir.specs.declared.stmt.Stmt.{Stmt}
 
-abbrev pub signal_of : Signal' → Signal
-signal_of x = record {
+-- a signal where these are the instances
+abbrev pub signal_of : List InstanceName → Signal' → Signal
+signal_of rows x = record {
   in_module = x.in_module.0;
-  path = map (λ (n : NameId). n.0) x.path.items;
+  path = path_in rows x.instance x.name.0;
   lsb = x.lsb;
   signed = x.signed;
   width = x.width;
@@ -24,9 +26,9 @@ signal_of x = record {
 abbrev pub signal_widths : List Signal' → List ℕ
 signal_widths signals = map (λ (x : Signal'). x.width) signals
 
-abbrev pub flat_from : List Signal' → List ℕ → List ℕ → List Node → List Stmt → Flat
-flat_from signals registers inputs nodes clocked = record {
-  signals = map signal_of signals;
+abbrev pub flat_from : List InstanceName → List Signal' → List ℕ → List ℕ → List Node → List Stmt → Flat
+flat_from rows signals registers inputs nodes clocked = record {
+  signals = map (signal_of rows) signals;
   registers = registers;
   inputs = inputs;
   nodes = map node_of nodes;
@@ -41,6 +43,11 @@ are_clocked (st ∷ sts) widths = (is_legal (stmt_of st) widths && is_clocked (s
 abbrev pub are_below : List ℕ → ℕ → Bool
 are_below [] count = true
 are_below (s ∷ ss) count = nat_lt s count && are_below ss count
+
+-- each signal names one of so many instances
+abbrev pub are_within : List Signal' → ℕ → Bool
+are_within [] count = true
+are_within (x ∷ xs) count = nat_lt x.instance count && are_within xs count
 
 -- a combinational block writes each of its bits before it reads it
 abbrev pub NodeWritesFirst : FlatNode → Type 0

@@ -10,6 +10,7 @@ pub mod Views
 pub mod Targets
 pub mod Statements
 pub mod FlatNodes
+pub mod Paths
 pub mod Flats
 pub mod Linkeds
 pub mod States

@@ -10,6 +10,8 @@ use Rattle.typed_ir.specs.declared.arithmetic_operator.ArithmeticOperator.{Arith
 use Rattle.typed_ir.specs.declared.arithmetic_operator.ArithmeticOperator.TheVariants.{Sum, Difference, Product, Quotient, Remainder, And, Or, Xor, Xnor}
 use Rattle.typed_ir.specs.declared.comparison.Comparison.{Comparison}
 use Rattle.typed_ir.specs.declared.comparison.Comparison.TheVariants.{Equal, Unequal, Less, AtMost, Greater, AtLeast}
+use Rattle.typed_ir.specs.declared.signedness.Signedness.{Signedness}
+use Rattle.typed_ir.specs.declared.signedness.Signedness.TheVariants.{Signed, Unsigned}
 use Rattle.typed_ir.specs.declared.logical_operator.LogicalOperator.{LogicalOperator}
 use Rattle.typed_ir.specs.declared.logical_operator.LogicalOperator.TheVariants.{Both, Either}
 use Rattle.typed_ir.specs.declared.shift_operator.ShiftOperator.{ShiftOperator}
@@ -72,6 +74,14 @@ width_of (Resized a width signed) = width
 abbrev pub truth_value : Bool → ℕ
 truth_value b = if b then 1 else 0
 
+-- whether operands are read as signed values (4.5)
+abbrev pub is_signed : Signedness → Bool
+is_signed Signed = true
+is_signed Unsigned = false
+
+abbrev pub signedness_of : Bool → Signedness
+signedness_of signed = if signed then Signed else Unsigned
+
 -- the complement (5.1.10), the negative (5.1.5), the reductions & | ^ (5.1.11), and ! or ~| (5.1.9)
 abbrev pub apply_unary : UnaryOperator → ℕ → ℕ → ℕ
 apply_unary Inverse width x = 2 ^ width - 1 - x
@@ -86,8 +96,8 @@ abbrev pub apply_arithmetic : ArithmeticOperator → ℕ → ℕ → ℕ → ℕ
 apply_arithmetic Sum width x y = (x + y) % 2 ^ width
 apply_arithmetic Difference width x y = (x + (2 ^ width - y)) % 2 ^ width
 apply_arithmetic Product width x y = (x * y) % 2 ^ width
-apply_arithmetic (Quotient signed) width x y = quotient width signed x y
-apply_arithmetic (Remainder signed) width x y = remainder width signed x y
+apply_arithmetic (Quotient s) width x y = quotient width (is_signed s) x y
+apply_arithmetic (Remainder s) width x y = remainder width (is_signed s) x y
 apply_arithmetic And width x y = bit_and x y
 apply_arithmetic Or width x y = bit_or x y
 apply_arithmetic Xor width x y = bit_xor x y
@@ -97,10 +107,10 @@ apply_arithmetic Xnor width x y = 2 ^ width - 1 - bit_xor x y
 abbrev pub apply_comparison : Comparison → ℕ → ℕ → ℕ → Bool
 apply_comparison Equal width x y = x == y
 apply_comparison Unequal width x y = not (x == y)
-apply_comparison (Less signed) width x y = is_below width signed x y
-apply_comparison (AtMost signed) width x y = not (is_below width signed y x)
-apply_comparison (Greater signed) width x y = is_below width signed y x
-apply_comparison (AtLeast signed) width x y = not (is_below width signed x y)
+apply_comparison (Less s) width x y = is_below width (is_signed s) x y
+apply_comparison (AtMost s) width x y = not (is_below width (is_signed s) y x)
+apply_comparison (Greater s) width x y = is_below width (is_signed s) y x
+apply_comparison (AtLeast s) width x y = not (is_below width (is_signed s) x y)
 
 -- && and || (5.1.9)
 abbrev pub apply_logical : LogicalOperator → ℕ → ℕ → Bool

@@ -62,8 +62,8 @@ fn apply_arithmetic(op: ArithmeticOperator, x: Bits, y: Bits) -> Bits
         ArithmeticOperator::Sum => x.add(y),
         ArithmeticOperator::Difference => x.sub(y),
         ArithmeticOperator::Product => x.mul(y),
-        ArithmeticOperator::Quotient(signed) => x.div(y, signed),
-        ArithmeticOperator::Remainder(signed) => x.rem(y, signed),
+        ArithmeticOperator::Quotient(signedness) => x.div(y, signedness.is_signed()),
+        ArithmeticOperator::Remainder(signedness) => x.rem(y, signedness.is_signed()),
         ArithmeticOperator::And => x.and(y),
         ArithmeticOperator::Or => x.or(y),
         ArithmeticOperator::Xor => x.xor(y),
@@ -78,10 +78,10 @@ fn apply_comparison(op: Comparison, x: Bits, y: Bits) -> bool
     match op {
         Comparison::Equal => x.value == y.value,
         Comparison::Unequal => x.value != y.value,
-        Comparison::Less(signed) => x.lt(y, signed),
-        Comparison::AtMost(signed) => !y.lt(x, signed),
-        Comparison::Greater(signed) => y.lt(x, signed),
-        Comparison::AtLeast(signed) => !x.lt(y, signed),
+        Comparison::Less(signedness) => x.lt(y, signedness.is_signed()),
+        Comparison::AtMost(signedness) => !y.lt(x, signedness.is_signed()),
+        Comparison::Greater(signedness) => y.lt(x, signedness.is_signed()),
+        Comparison::AtLeast(signedness) => !x.lt(y, signedness.is_signed()),
     }
 }
 

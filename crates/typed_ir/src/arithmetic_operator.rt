@@ -1,4 +1,5 @@
 // Operators on two operands of one width (IEEE Std 1364-2005, 5.1.5, 5.1.10).
+use crate::signedness::Signedness;
 
 /// An operator whose operands and result have one width.
 #[derive(Clone, Copy, Debug, PartialEq, Eq)]
@@ -6,10 +7,10 @@ pub enum ArithmeticOperator {
     Sum,
     Difference,
     Product,
-    /// `/`, of signed values where the flag is set.
-    Quotient(bool),
-    /// `%`, of signed values where the flag is set.
-    Remainder(bool),
+    /// `/`
+    Quotient(Signedness),
+    /// `%`
+    Remainder(Signedness),
     And,
     Or,
     Xor,

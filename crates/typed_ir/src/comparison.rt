@@ -1,16 +1,17 @@
 // Comparisons (IEEE Std 1364-2005, 5.1.7, 5.1.8).
+use crate::signedness::Signedness;
 
 /// A comparison of two values of one width.
 #[derive(Clone, Copy, Debug, PartialEq, Eq)]
 pub enum Comparison {
     Equal,
     Unequal,
-    /// `<`, of signed values where the flag is set.
-    Less(bool),
-    /// `<=`, of signed values where the flag is set.
-    AtMost(bool),
-    /// `>`, of signed values where the flag is set.
-    Greater(bool),
-    /// `>=`, of signed values where the flag is set.
-    AtLeast(bool),
+    /// `<`
+    Less(Signedness),
+    /// `<=`
+    AtMost(Signedness),
+    /// `>`
+    Greater(Signedness),
+    /// `>=`
+    AtLeast(Signedness),
 }

@@ -1,4 +1,10 @@
 // Flat designs: sized expressions, statements and nodes, and what they do to a valuation of the signals.
+//
+// Expressions: `typed` builds sized ones, whose widths agree, of the layers of `form`, which evaluates them by `apply`. Statements: `stmt`
+// runs one in place and notes the updates of its nonblocking assignments (`target`, `writing`, `item` for the items of a case), and `placing`
+// applies updates. Nodes: `node` settles one in place, by `placing` or by its block. Bits: `touching` lists those that a node drives and
+// reads. Whole designs: `rooting` makes a table of instances, `flat` keeps what a design's parts have to be, `linked` an order of its nodes
+// too, and `reg_state` the values of its registers. `laws` says of such a design that the order settles its wires.
 #![tactic(auto)]
 
 mod apply;
@@ -13,6 +19,7 @@ mod flat;
 mod form;
 mod instance_id;
 mod instance_name;
+mod instance_table;
 mod item;
 mod lane;
 mod laws;
@@ -25,9 +32,11 @@ mod placing;
 mod reach;
 mod reg_state;
 mod register_id;
+mod rooting;
 mod shift_operator;
 mod signal;
 mod signal_id;
+mod signedness;
 mod span;
 mod stmt;
 mod target;
@@ -50,6 +59,7 @@ pub use flat::Flat;
 pub use form::{Form, is_signal, is_span};
 pub use instance_id::InstanceId;
 pub use instance_name::InstanceName;
+pub use instance_table::InstanceTable;
 pub use item::Item;
 pub use lane::Lane;
 pub use laws::{order_settles, runs_join};
@@ -65,6 +75,7 @@ pub use register_id::RegisterId;
 pub use shift_operator::ShiftOperator;
 pub use signal::Signal;
 pub use signal_id::SignalId;
+pub use signedness::Signedness;
 pub use span::Span;
 pub use stmt::Stmt;
 pub use target::{Target, span_of};

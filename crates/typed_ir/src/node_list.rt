@@ -32,11 +32,4 @@ impl NodeList {
     {
         &self.nodes
     }
-
-    /// Gives the numbers back. It takes no memory.
-    pub fn into_nodes(self) -> Vec<NodeId>
-        ensures { result.items ≡ self }
-    {
-        self.nodes
-    }
 }

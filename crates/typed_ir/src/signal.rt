@@ -1,15 +1,17 @@
 // Nets and variables.
 ghost use Rattle.std.specs.Prelude.{◌≤◌, ◌<◌, ◌^◌};
 
+use crate::instance_id::InstanceId;
 use ls_text::NameId;
 
-/// A net or variable of a flat design.
-#[derive(Drop)]
+/// A net or variable of a flat design. Its path is that of its instance, and then its own name.
+#[derive(Clone, Copy, Debug, PartialEq, Eq)]
 pub struct Signal {
     /// The module that declares it.
     pub in_module: NameId,
-    /// The names of the instances from the top on, and its own.
-    pub path: Vec<NameId>,
+    /// The instance that it stands in.
+    pub instance: InstanceId,
+    pub name: NameId,
     /// The lower bound of its declared range, 0 without a range.
     pub lsb: u32,
     pub signed: bool,

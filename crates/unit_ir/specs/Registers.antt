@@ -1,10 +1,6 @@
 -- Registers over a table of instances.
-use Rattle.std.specs.Prelude.{ℕ, Bool, true, ◌&&◌, nat_lt, List, [], ◌∷◌, Option, map}
-use Rattle.typed_ir.specs.declared.instance_name.InstanceName.{InstanceName}
+use Rattle.std.specs.Prelude.{ℕ, Bool, true, ◌&&◌, nat_lt, List, [], ◌∷◌}
 use Rattle.unit_ir.specs.declared.reg_shape.RegShape.{RegShape}
-
-abbrev pub parents_of : List InstanceName → List (Option ℕ)
-parents_of instances = map (λ (x : InstanceName). x.parent) instances
 
 -- each register names one of so many instances
 abbrev pub are_within : List RegShape → ℕ → Bool

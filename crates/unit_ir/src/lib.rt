@@ -1,5 +1,10 @@
 // Modules by numbers of their own: the items of a module with their places, its unit, the instances of a design; copies by other
 // numbers, and the law that the design of a tree of sound units is sound.
+//
+// Types alone, of what others make: `unit_parts` are the items of a module, `typed_items` these with their places, `unit` those that are
+// sound and sized; `shape_list` and `port_list` are a module as it is seen from above, `instance_tree` the instances of a design, `regs`
+// its registers. `making` puts lists together where they fit, and `shifting` copies an expression, a statement or a node to other numbers of
+// signals, as linking does for each instance. `laws` says what the definition of linking keeps.
 #![tactic(auto)]
 
 mod child_id;

@@ -1,7 +1,6 @@
-// Tables and lists of places, where they fit.
+// Registers with their table of instances, and items with their places, where they fit.
 ghost use Rattle.std.specs.Prelude.{◌≡◌, ◌&&◌, ◌==◌, false, IfSome, IfNone, length};
-ghost use Rattle.unit_ir.specs.Instances.{stands, parents_before};
-ghost use Rattle.unit_ir.specs.Registers.{parents_of, are_within};
+ghost use Rattle.unit_ir.specs.Registers.{are_within};
 
 use crate::item_places::ItemPlaces;
 use crate::reg_shape::RegShape;
@@ -9,29 +8,9 @@ use crate::regs::Regs;
 use crate::signal_place::SignalPlace;
 use crate::typed_items::TypedItems;
 use crate::unit_parts::UnitParts;
-use typed_ir::{InstanceId, InstanceName};
+use typed_ir::InstanceTable;
 
-// Whether the k-th instance may stand in this one: the first in none, and each other behind the one that it stands in.
-fn stands(k: usize, parent: Option<InstanceId>) -> bool
-    ensures { result ≡ stands k parent }
-{
-    match parent {
-        None => k == 0,
-        Some(p) => p.index() < k,
-    }
-}
-
-fn parents_before(instances: &[InstanceName]) -> bool
-    ensures { result ≡ parents_before 0 (parents_of instances.now) }
-{
-    for k in 0..instances.len() {
-        if !stands(k, instances[k].parent) {
-            return false;
-        }
-    }
-    true
-}
-
+// Whether each register names one of so many instances.
 fn are_within(registers: &[RegShape], count: usize) -> bool
     ensures { result ≡ are_within registers.now count }
 {
@@ -44,15 +23,13 @@ fn are_within(registers: &[RegShape], count: usize) -> bool
 }
 
 impl Regs {
-    /// The registers of these instances; None just where an instance doesn't stand behind the one that it stands in, another than
-    /// the first stands in none, or a register names no instance of the table. It takes no memory.
-    pub fn new(instances: Vec<InstanceName>, registers: Vec<RegShape>) -> Option<Regs>
+    /// The registers of these instances; None just where a register names no instance of the table. It takes no memory.
+    pub fn new(instances: InstanceTable, registers: Vec<RegShape>) -> Option<Regs>
         ensures instances { IfSome result (λ r. r.instances ≡ instances) }
         ensures registers { IfSome result (λ r. r.registers ≡ registers) }
-        ensures refused { IfNone result
-            ((parents_before 0 (parents_of instances.items) && are_within registers.items (length instances.items)) ≡ false) }
+        ensures refused { IfNone result (are_within registers.items (length instances.rows.items) ≡ false) }
     {
-        if parents_before(&instances) && are_within(&registers, instances.len()) {
+        if are_within(&registers, instances.rows.len()) {
             Some(Regs {
                 instances,
                 registers,

@@ -10,7 +10,7 @@ use Rattle.verilog_ast.specs.Expressions.{Expression}
 use Rattle.width_rules.specs.declared.kinds.UnaryKind.{UnaryKind}
 use Rattle.width_rules.specs.declared.kinds.UnaryKind.TheVariants.{Kept, Negated, Inverted, OneBit, Complement}
 use Rattle.width_rules.specs.Operators.{unary_kind, operator_of, arithmetic_with, comparison_with, shift_with}
-use Rattle.width_rules.specs.Scopes.{Meaning, Signal, Constant, Genvar, Unknown, Scope}
+use Rattle.width_rules.specs.Scopes.{Meaning, Signal, Constant, Turn, Genvar, Unknown, Scope}
 use Rattle.width_rules.specs.Signs.{is_signed}
 use Rattle.width_rules.specs.Sizes.{length, push, Operand, unary_at, binary_at, extended, name_at}
 use Rattle.typed_ir.specs.declared.typed.Typed.{Typed}
@@ -24,6 +24,7 @@ use Rattle.width_rules.specs.Opened.{Opened, Simple, opened, open_step, closed, 
 name_opens : (m : Meaning) (l : ℕ) (t : Bool) → closed (open_name m) l t ≡ name_at m l t
 name_opens (Signal signal width lsb signed writer) l t = refl
 name_opens (Constant width value signed) l t = refl
+name_opens (Turn width value signed) l t = refl
 name_opens Genvar l t = refl
 name_opens Unknown l t = refl
 

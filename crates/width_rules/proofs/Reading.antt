@@ -13,7 +13,7 @@ use Rattle.verilog_ast.specs.Expressions.{Expression}
 use Rattle.width_rules.specs.declared.kinds.UnaryKind.{UnaryKind}
 use Rattle.width_rules.specs.declared.kinds.UnaryKind.TheVariants.{Kept, Negated, Inverted, OneBit, Complement}
 use Rattle.width_rules.specs.Operators.{unary_kind, operator_of, arithmetic_with, comparison_with, shift_with}
-use Rattle.width_rules.specs.Scopes.{Meaning, Signal, Constant, Genvar, Unknown, Scope, is_signal}
+use Rattle.width_rules.specs.Scopes.{Meaning, Signal, Constant, Turn, Genvar, Unknown, Scope, is_signal}
 use Rattle.width_rules.specs.Signs.{is_signed}
 use Rattle.width_rules.specs.Sizes.{length, push, joined, beside, Operand, unary_at, binary_at, extended, name_at, bits_at, bits_from, bits_between, count_of, is_constant}
 use Rattle.width_rules.specs.Constants.{integer}
@@ -29,6 +29,7 @@ no_signal_fits x l t h = by_cases (width_of x == l)
 name_reads : (m : Meaning) (l : ℕ) (t : Bool) → not (is_signal m) ≡ true → fits_signals (name_at m l t) [] ≡ true
 name_reads (Signal signal width lsb signed writer) l t h = absurd (true≢false (sym h))
 name_reads (Constant width value signed) l t h = refl
+name_reads (Turn width value signed) l t h = refl
 name_reads Genvar l t h = refl
 name_reads Unknown l t h = refl
 
@@ -36,12 +37,14 @@ bits_read : (m : Meaning) (width down : ℕ) (b : Bool) (at : ℤ) (signed : Boo
     → fits_signals (bits_at m width down b at signed x) [] ≡ true
 bits_read (Signal signal total lsb sign writer) width down b at signed x h = absurd (true≢false (sym h))
 bits_read (Constant own value sign) width down b at signed x h = refl
+bits_read (Turn own value sign) width down b at signed x h = refl
 bits_read Genvar width down b at signed x h = refl
 bits_read Unknown width down b at signed x h = refl
 
 from_read : (m : Meaning) (low : ℤ) (width : ℕ) → not (is_signal m) ≡ true → fits_signals (bits_from m low width) [] ≡ true
 from_read (Signal signal total lsb sign writer) low width h = absurd (true≢false (sym h))
 from_read (Constant own value sign) low width h = refl
+from_read (Turn own value sign) low width h = refl
 from_read Genvar low width h = refl
 from_read Unknown low width h = refl
 
@@ -150,6 +153,7 @@ no_bits : (m : Meaning) (b : Bool) (at : ℤ) (width down : ℕ) (n : Identifier
     → name_faults m true n ++ (ys ++ run_faults m b at width down n) ≡ [] → ⊥
 no_bits (Signal signal total lsb signed writer) b at width down n ys h = cons_nil _ _ h
 no_bits (Constant own value signed) b at width down n ys h = cons_nil _ _ (right_none ys _ h)
+no_bits (Turn own value signed) b at width down n ys h = cons_nil _ _ (right_none ys _ h)
 no_bits Genvar b at width down n ys h = cons_nil _ _ h
 no_bits Unknown b at width down n ys h = cons_nil _ _ h
 
@@ -158,6 +162,8 @@ no_range : (m : Meaning) (low : ℤ) (width : ℕ) (n : Identifier) (ys zs : Lis
 no_range (Signal signal total lsb signed writer) low width n ys zs h = cons_nil _ _ h
 no_range (Constant own value signed) low width n ys zs h =
     cons_nil _ _ (right_none (fault_if (width == 0) (fault_at 32 n)) _ (right_none (fault_if (nat_lt 128 width) (fault_at 31 n)) _ (right_none zs _ (right_none ys _ h))))
+no_range (Turn own value signed) low width n ys zs h =
+    cons_nil _ _ (right_none (fault_if (width == 0) (fault_at 32 n)) _ (right_none (fault_if (nat_lt 128 width) (fault_at 31 n)) _ (right_none zs _ (right_none ys _ h))))
 no_range Genvar low width n ys zs h = cons_nil _ _ h
 no_range Unknown low width n ys zs h = cons_nil _ _ h
 
@@ -165,12 +171,14 @@ no_run : (m : Meaning) (b : Bool) (at : ℤ) (width down : ℕ) (n : Identifier)
     → name_faults m true n ++ (xs ++ (ys ++ (zs ++ run_faults m b at width down n))) ≡ [] → ⊥
 no_run (Signal signal total lsb signed writer) b at width down n xs ys zs h = cons_nil _ _ h
 no_run (Constant own value signed) b at width down n xs ys zs h = cons_nil _ _ (right_none zs _ (right_none ys _ (right_none xs _ h)))
+no_run (Turn own value signed) b at width down n xs ys zs h = cons_nil _ _ (right_none zs _ (right_none ys _ (right_none xs _ h)))
 no_run Genvar b at width down n xs ys zs h = cons_nil _ _ h
 no_run Unknown b at width down n xs ys zs h = cons_nil _ _ h
 
 name_due : (m : Meaning) (n : Identifier) → name_faults m true n ≡ [] → not (is_signal m) ≡ true
 name_due (Signal signal width lsb signed writer) n h = absurd (cons_nil _ _ h)
 name_due (Constant width value signed) n h = refl
+name_due (Turn width value signed) n h = refl
 name_due Genvar n h = refl
 name_due Unknown n h = refl
 

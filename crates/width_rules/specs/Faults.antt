@@ -9,7 +9,7 @@ use Rattle.ls_text.specs.declared.refusal.Refusal.TheVariants as refusal
 use Rattle.verilog_ast.specs.declared.identifier.Identifier.{Identifier}
 use Rattle.verilog_ast.specs.Expressions.{Expression, Literal, Whole, BitSelect, PartSelect, UpwardSelect, DownwardSelect, Unary, Binary, Conditional, Concatenation, Replication, Bracketed, NoPart, Parts}
 use Rattle.verilog_ast.specs.Places.{expression_place}
-use Rattle.width_rules.specs.Scopes.{Meaning, Signal, Constant, Genvar, Unknown, Scope, is_signal}
+use Rattle.width_rules.specs.Scopes.{Meaning, Signal, Constant, Turn, Genvar, Unknown, Scope, is_signal}
 use Rattle.width_rules.specs.Signs.{is_signed}
 use Rattle.width_rules.specs.Sizes.{length, push, literal_length, is_constant, count_of, bits_between}
 use Rattle.width_rules.specs.Constants.{integer}
@@ -61,6 +61,7 @@ fault_if b f = if b then f ∷ [] else []
 abbrev pub name_faults : Meaning → Bool → Identifier → List Fault
 name_faults (Signal signal width lsb signed writer) due n = fault_if due (fault_at 25 n)
 name_faults (Constant width value signed) due n = []
+name_faults (Turn width value signed) due n = []
 name_faults Genvar due n = fault_at 29 n ∷ []
 name_faults Unknown due n = fault_at 29 n ∷ []
 
@@ -77,6 +78,7 @@ abbrev pub run_faults : Meaning → Bool → ℤ → ℕ → ℕ → Identifier 
 run_faults (Signal signal total lsb signed writer) constant at width down n =
     fault_if (constant && not (lies at (lsb + down) width total)) (fault_at 32 n)
 run_faults (Constant own value signed) constant at width down n = fault_at 32 n ∷ []
+run_faults (Turn own value signed) constant at width down n = fault_at 32 n ∷ []
 run_faults Genvar constant at width down n = fault_at 32 n ∷ []
 run_faults Unknown constant at width down n = fault_at 32 n ∷ []
 
@@ -84,6 +86,7 @@ run_faults Unknown constant at width down n = fault_at 32 n ∷ []
 abbrev pub range_faults : Meaning → ℤ → ℕ → Identifier → List Fault
 range_faults (Signal signal total lsb signed writer) low width n = fault_if (not (lies low lsb width total)) (fault_at 32 n)
 range_faults (Constant own value signed) low width n = fault_at 32 n ∷ []
+range_faults (Turn own value signed) low width n = fault_at 32 n ∷ []
 range_faults Genvar low width n = fault_at 32 n ∷ []
 range_faults Unknown low width n = fault_at 32 n ∷ []
 

@@ -17,7 +17,7 @@ use Rattle.width_rules.specs.declared.opened.Open.{Open}
 use Rattle.width_rules.specs.declared.opened.Open.TheOpen.{Open-F}
 use Rattle.width_rules.specs.declared.opened.Open.TheFolds.{fold-Open}
 use Rattle.width_rules.specs.Operators.{unary_kind, operator_of, arithmetic_with, comparison_with, shift_with}
-use Rattle.width_rules.specs.Scopes.{Meaning, Signal, Constant, Genvar, Unknown, Scope}
+use Rattle.width_rules.specs.Scopes.{Meaning, Signal, Constant, Turn, Genvar, Unknown, Scope}
 use Rattle.width_rules.specs.Signs.{is_signed}
 use Rattle.width_rules.specs.Sizes.{length, push, joined, literal_length, is_constant, count_of, bits_between, bits_at, bits_from, extended, constant_at}
 use Rattle.width_rules.specs.Constants.{integer}
@@ -62,6 +62,7 @@ own scope x = push scope x (length scope x) (is_signed scope x)
 abbrev pub open_name : Meaning → Opened
 open_name (Signal signal width lsb signed writer) = Simple (s.Name signal width)
 open_name (Constant width value signed) = Number width value
+open_name (Turn width value signed) = Number width value
 open_name Genvar = Number 1 0
 open_name Unknown = Number 1 0
 

@@ -1,5 +1,5 @@
 -- What an operator of the text does (IEEE Std 1364-2005, 5.1).
-use Rattle.std.specs.Prelude.{Bool, false, if◌then◌else◌}
+use Rattle.std.specs.Prelude.{Bool, if◌then◌else◌}
 use Rattle.verilog_ast.specs.declared.unary_operator.UnaryOperator.{UnaryOperator}
 use Rattle.verilog_ast.specs.declared.unary_operator.UnaryOperator.TheVariants.{Plus, Minus, LogicalNot, Invert, ReduceAnd, ReduceNand, ReduceOr, ReduceNor, ReduceXor, ReduceXnor}
 use Rattle.verilog_ast.specs.declared.binary_operator.BinaryOperator.{BinaryOperator}
@@ -11,6 +11,8 @@ use Rattle.typed_ir.specs.declared.arithmetic_operator.ArithmeticOperator.{Arith
 use Rattle.typed_ir.specs.declared.arithmetic_operator.ArithmeticOperator.TheVariants.{Sum, Difference, Product, Quotient, Remainder, And, Or, Xor, Xnor}
 use Rattle.typed_ir.specs.declared.comparison.Comparison.{Comparison}
 use Rattle.typed_ir.specs.declared.comparison.Comparison.TheVariants.{Equal, Unequal, Less, AtMost, Greater, AtLeast}
+use Rattle.typed_ir.specs.declared.signedness.Signedness.TheVariants.{Unsigned}
+use Rattle.typed_ir.specs.Sized.{signedness_of}
 use Rattle.typed_ir.specs.declared.logical_operator.LogicalOperator.TheVariants.{Both, Either}
 use Rattle.typed_ir.specs.declared.shift_operator.ShiftOperator.{ShiftOperator}
 use Rattle.typed_ir.specs.declared.shift_operator.ShiftOperator.TheVariants.{Left, Right, Arithmetic as ArithmeticRight}
@@ -33,18 +35,18 @@ unary_kind ReduceXnor = Complement OddOnes
 -- an operator between its operands, read as unsigned ones; `<<<` is `<<`
 abbrev pub operator_of : BinaryOperator → Operator
 operator_of written.Multiply = Arithmetic Product
-operator_of written.Divide = Arithmetic (Quotient false)
-operator_of written.Remainder = Arithmetic (Remainder false)
+operator_of written.Divide = Arithmetic (Quotient Unsigned)
+operator_of written.Remainder = Arithmetic (Remainder Unsigned)
 operator_of written.Add = Arithmetic Sum
 operator_of written.Subtract = Arithmetic Difference
 operator_of written.ShiftLeft = Shift Left
 operator_of written.ShiftRight = Shift Right
 operator_of written.ArithmeticShiftLeft = Shift Left
 operator_of written.ArithmeticShiftRight = Shift ArithmeticRight
-operator_of written.Less = Compare (Less false)
-operator_of written.LessOrEqual = Compare (AtMost false)
-operator_of written.Greater = Compare (Greater false)
-operator_of written.GreaterOrEqual = Compare (AtLeast false)
+operator_of written.Less = Compare (Less Unsigned)
+operator_of written.LessOrEqual = Compare (AtMost Unsigned)
+operator_of written.Greater = Compare (Greater Unsigned)
+operator_of written.GreaterOrEqual = Compare (AtLeast Unsigned)
 operator_of written.Equal = Compare Equal
 operator_of written.NotEqual = Compare Unequal
 operator_of written.And = Arithmetic And
@@ -59,8 +61,8 @@ abbrev pub arithmetic_with : ArithmeticOperator → Bool → ArithmeticOperator
 arithmetic_with Sum signed = Sum
 arithmetic_with Difference signed = Difference
 arithmetic_with Product signed = Product
-arithmetic_with (Quotient other) signed = Quotient signed
-arithmetic_with (Remainder other) signed = Remainder signed
+arithmetic_with (Quotient other) signed = Quotient (signedness_of signed)
+arithmetic_with (Remainder other) signed = Remainder (signedness_of signed)
 arithmetic_with And signed = And
 arithmetic_with Or signed = Or
 arithmetic_with Xor signed = Xor
@@ -70,10 +72,10 @@ arithmetic_with Xnor signed = Xnor
 abbrev pub comparison_with : Comparison → Bool → Comparison
 comparison_with Equal signed = Equal
 comparison_with Unequal signed = Unequal
-comparison_with (Less other) signed = Less signed
-comparison_with (AtMost other) signed = AtMost signed
-comparison_with (Greater other) signed = Greater signed
-comparison_with (AtLeast other) signed = AtLeast signed
+comparison_with (Less other) signed = Less (signedness_of signed)
+comparison_with (AtMost other) signed = AtMost (signedness_of signed)
+comparison_with (Greater other) signed = Greater (signedness_of signed)
+comparison_with (AtLeast other) signed = AtLeast (signedness_of signed)
 
 -- `>>>` fills with zeros where the result is unsigned (5.1.12)
 abbrev pub shift_with : ShiftOperator → Bool → ShiftOperator

@@ -5,8 +5,10 @@ use Rattle.width_rules.specs.declared.writer.Writer.{Writer}
 pub data Meaning : Type 0 where
   -- a net or variable: its number, its bits, the lower bound of its range (0 without one), its sign, and what may write it
   Signal : (signal width lsb : ℕ) (signed : Bool) (writer : Writer) → Meaning
-  -- a parameter, or a genvar within its loop
+  -- a parameter
   Constant : (width value : ℕ) (signed : Bool) → Meaning
+  -- a genvar within its loop, with its value in this turn
+  Turn : (width value : ℕ) (signed : Bool) → Meaning
   -- a genvar outside of its loop
   Genvar : Meaning
   -- nothing that an expression can use: not declared in reach, a label or an instance
@@ -20,5 +22,6 @@ Scope = ℕ → Meaning
 abbrev pub is_signal : Meaning → Bool
 is_signal (Signal signal width lsb signed writer) = true
 is_signal (Constant width value signed) = false
+is_signal (Turn width value signed) = false
 is_signal Genvar = false
 is_signal Unknown = false

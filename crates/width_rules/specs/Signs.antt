@@ -6,11 +6,12 @@ use Rattle.verilog_ast.specs.Expressions.{Expression, Literal, Whole, BitSelect,
 use Rattle.width_rules.specs.declared.kinds.UnaryKind.{UnaryKind}
 use Rattle.width_rules.specs.declared.kinds.UnaryKind.TheVariants.{Kept, Negated, Inverted, OneBit, Complement}
 use Rattle.width_rules.specs.Operators.{unary_kind, operator_of}
-use Rattle.width_rules.specs.Scopes.{Meaning, Signal, Constant, Genvar, Unknown, Scope}
+use Rattle.width_rules.specs.Scopes.{Meaning, Signal, Constant, Turn, Genvar, Unknown, Scope}
 
 abbrev pub name_signed : Meaning → Bool
 name_signed (Signal signal width lsb signed writer) = signed
 name_signed (Constant width value signed) = signed
+name_signed (Turn width value signed) = signed
 name_signed Genvar = false
 name_signed Unknown = false
 

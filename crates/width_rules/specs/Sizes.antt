@@ -14,7 +14,7 @@ use Rattle.verilog_ast.specs.Expressions.{Expression, Literal, Whole, BitSelect,
 use Rattle.width_rules.specs.declared.kinds.UnaryKind.{UnaryKind}
 use Rattle.width_rules.specs.declared.kinds.UnaryKind.TheVariants.{Kept, Negated, Inverted, OneBit, Complement}
 use Rattle.width_rules.specs.Operators.{unary_kind, operator_of, arithmetic_with, comparison_with, shift_with}
-use Rattle.width_rules.specs.Scopes.{Meaning, Signal, Constant, Genvar, Unknown, Scope, is_signal}
+use Rattle.width_rules.specs.Scopes.{Meaning, Signal, Constant, Turn, Genvar, Unknown, Scope, is_signal}
 use Rattle.width_rules.specs.Signs.{is_signed}
 
 -- ---- simple operands
@@ -27,6 +27,7 @@ literal_length size = if size == 0 then 32 else size
 abbrev pub name_length : Meaning → ℕ
 name_length (Signal signal width lsb signed writer) = width
 name_length (Constant width value signed) = width
+name_length (Turn width value signed) = width
 name_length Genvar = 1
 name_length Unknown = 1
 
@@ -40,6 +41,7 @@ constant_at own value length signed = s.Constant length (resized own value lengt
 abbrev pub name_at : Meaning → ℕ → Bool → Sized
 name_at (Signal number width lsb sign writer) length signed = extended (s.Name number width) length signed
 name_at (Constant width value sign) length signed = constant_at width value length signed
+name_at (Turn width value sign) length signed = constant_at width value length signed
 name_at Genvar length signed = constant_at 1 0 length signed
 name_at Unknown length signed = constant_at 1 0 length signed
 
@@ -100,6 +102,7 @@ bits_at (Signal signal total lsb sign writer) width down constant at signed inde
     then s.Part (record { signal = signal; low = low_of at (lsb + down); width = width })
     else s.Pick signal width (lsb + down) signed index
 bits_at (Constant own value sign) width down constant at signed index = s.Constant width 0
+bits_at (Turn own value sign) width down constant at signed index = s.Constant width 0
 bits_at Genvar width down constant at signed index = s.Constant width 0
 bits_at Unknown width down constant at signed index = s.Constant width 0
 
@@ -108,6 +111,7 @@ abbrev pub bits_from : Meaning → ℤ → ℕ → Sized
 bits_from (Signal signal total lsb sign writer) low width =
     s.Part (record { signal = signal; low = low_of low lsb; width = width })
 bits_from (Constant own value sign) low width = s.Constant width 0
+bits_from (Turn own value sign) low width = s.Constant width 0
 bits_from Genvar low width = s.Constant width 0
 bits_from Unknown low width = s.Constant width 0
 

@@ -11,7 +11,7 @@ use Rattle.verilog_ast.specs.Expressions as e
 use Rattle.verilog_ast.specs.Expressions.{Expression, Target, Reference, Joined, NoTarget, Targets}
 use Rattle.width_rules.specs.declared.writer.Writer.{Writer}
 use Rattle.width_rules.specs.declared.writer.Writer.TheVariants as writer
-use Rattle.width_rules.specs.Scopes.{Meaning, Signal, Constant, Genvar, Unknown, Scope}
+use Rattle.width_rules.specs.Scopes.{Meaning, Signal, Constant, Turn, Genvar, Unknown, Scope}
 use Rattle.width_rules.specs.Signs.{is_signed}
 use Rattle.width_rules.specs.Sizes.{length, is_constant, count_of, bits_between, low_of}
 use Rattle.width_rules.specs.Constants.{integer}
@@ -33,6 +33,7 @@ known_part shift signal low width = Fixed (record { shift = shift; span = record
 abbrev pub whole_part : Meaning → ℕ → SizedTarget
 whole_part (Signal signal width lsb signed writer) shift = known_part shift signal 0 width
 whole_part (Constant width value signed) shift = known_part shift 0 0 width
+whole_part (Turn width value signed) shift = known_part shift 0 0 width
 whole_part Genvar shift = known_part shift 0 0 1
 whole_part Unknown shift = known_part shift 0 0 1
 
@@ -42,12 +43,14 @@ part_at (Signal signal total lsb sign writer) shift width down constant at signe
     if constant then known_part shift signal (low_of at (lsb + down)) width
     else Moving (record { shift = shift; signal = signal; total = total; width = width; below = lsb + down; signed = signed }) index
 part_at (Constant own value sign) shift width down constant at signed index = known_part shift 0 0 width
+part_at (Turn own value sign) shift width down constant at signed index = known_part shift 0 0 width
 part_at Genvar shift width down constant at signed index = known_part shift 0 0 width
 part_at Unknown shift width down constant at signed index = known_part shift 0 0 width
 
 abbrev pub part_from : Meaning → ℕ → ℤ → ℕ → SizedTarget
 part_from (Signal signal total lsb signed writer) shift low width = known_part shift signal (low_of low lsb) width
 part_from (Constant own value signed) shift low width = known_part shift 0 0 width
+part_from (Turn own value signed) shift low width = known_part shift 0 0 width
 part_from Genvar shift low width = known_part shift 0 0 width
 part_from Unknown shift low width = known_part shift 0 0 width
 
@@ -75,6 +78,7 @@ parts scope shift (Targets t ts) = parts scope (shift + target_length scope ts) 
 abbrev pub target_name_faults : Meaning → Identifier → List Fault
 target_name_faults (Signal signal width lsb signed writer) n = []
 target_name_faults (Constant width value signed) n = []
+target_name_faults (Turn width value signed) n = []
 target_name_faults Genvar n = []
 target_name_faults Unknown n = fault_at 29 n ∷ []
 
@@ -127,6 +131,7 @@ is_writer writer.Combinational writer.Combinational = true
 abbrev pub may_write : Writer → Meaning → Bool
 may_write by (Signal signal width lsb signed writer) = is_writer by writer
 may_write by (Constant width value signed) = false
+may_write by (Turn width value signed) = false
 may_write by Genvar = false
 may_write by Unknown = false
 

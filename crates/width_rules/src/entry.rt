@@ -7,8 +7,10 @@ use typed_ir::Const;
 pub enum Entry {
     /// A net or variable.
     Signal(SignalEntry),
-    /// A parameter, or a genvar within its loop.
+    /// A parameter.
     Constant(Const),
+    /// A genvar within its loop, with its value in this turn.
+    Turn(Const),
     /// A genvar outside of its loop.
     Genvar,
     /// What no expression can use: a label or an instance, or a name that nothing declares.

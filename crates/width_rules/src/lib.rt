@@ -25,7 +25,9 @@ mod whole;
 mod writer;
 
 pub use entry::Entry;
+pub use faults::{refused, refused_at, refused_of};
 pub use scope::Scope;
 pub use signal_entry::SignalEntry;
 pub use sizing::{constant, size_expr};
+pub use whole::{Whole, whole_number};
 pub use writer::Writer;

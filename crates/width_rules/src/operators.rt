@@ -4,7 +4,8 @@ ghost use Rattle.width_rules.specs.Operators.{unary_kind, operator_of, arithmeti
 
 use crate::kinds::UnaryKind;
 use typed_ir::{
-    ArithmeticOperator, BinaryOperator, Comparison, LogicalOperator, ShiftOperator, UnaryOperator,
+    ArithmeticOperator, BinaryOperator, Comparison, LogicalOperator, ShiftOperator, Signedness,
+    UnaryOperator,
 };
 use verilog_ast::{BinaryOperator as Written, UnaryOperator as WrittenBefore};
 
@@ -32,18 +33,24 @@ pub fn operator_of(op: Written) -> BinaryOperator
 {
     match op {
         Written::Multiply => BinaryOperator::Arithmetic(ArithmeticOperator::Product),
-        Written::Divide => BinaryOperator::Arithmetic(ArithmeticOperator::Quotient(false)),
-        Written::Remainder => BinaryOperator::Arithmetic(ArithmeticOperator::Remainder(false)),
+        Written::Divide => BinaryOperator::Arithmetic(ArithmeticOperator::Quotient(
+            Signedness::Unsigned,
+        )),
+        Written::Remainder => BinaryOperator::Arithmetic(ArithmeticOperator::Remainder(
+            Signedness::Unsigned,
+        )),
         Written::Add => BinaryOperator::Arithmetic(ArithmeticOperator::Sum),
         Written::Subtract => BinaryOperator::Arithmetic(ArithmeticOperator::Difference),
         Written::ShiftLeft => BinaryOperator::Shift(ShiftOperator::Left),
         Written::ShiftRight => BinaryOperator::Shift(ShiftOperator::Right),
         Written::ArithmeticShiftLeft => BinaryOperator::Shift(ShiftOperator::Left),
         Written::ArithmeticShiftRight => BinaryOperator::Shift(ShiftOperator::Arithmetic),
-        Written::Less => BinaryOperator::Compare(Comparison::Less(false)),
-        Written::LessOrEqual => BinaryOperator::Compare(Comparison::AtMost(false)),
-        Written::Greater => BinaryOperator::Compare(Comparison::Greater(false)),
-        Written::GreaterOrEqual => BinaryOperator::Compare(Comparison::AtLeast(false)),
+        Written::Less => BinaryOperator::Compare(Comparison::Less(Signedness::Unsigned)),
+        Written::LessOrEqual => BinaryOperator::Compare(Comparison::AtMost(Signedness::Unsigned)),
+        Written::Greater => BinaryOperator::Compare(Comparison::Greater(Signedness::Unsigned)),
+        Written::GreaterOrEqual => BinaryOperator::Compare(Comparison::AtLeast(
+            Signedness::Unsigned,
+        )),
         Written::Equal => BinaryOperator::Compare(Comparison::Equal),
         Written::NotEqual => BinaryOperator::Compare(Comparison::Unequal),
         Written::And => BinaryOperator::Arithmetic(ArithmeticOperator::And),
@@ -60,8 +67,8 @@ pub fn arithmetic_with(op: ArithmeticOperator, signed: bool) -> ArithmeticOperat
     ensures { result ≡ arithmetic_with op signed }
 {
     match op {
-        ArithmeticOperator::Quotient(_) => ArithmeticOperator::Quotient(signed),
-        ArithmeticOperator::Remainder(_) => ArithmeticOperator::Remainder(signed),
+        ArithmeticOperator::Quotient(_) => ArithmeticOperator::Quotient(Signedness::of(signed)),
+        ArithmeticOperator::Remainder(_) => ArithmeticOperator::Remainder(Signedness::of(signed)),
         _ => op,
     }
 }
@@ -72,10 +79,10 @@ pub fn comparison_with(op: Comparison, signed: bool) -> Comparison
 {
     match op {
         Comparison::Equal | Comparison::Unequal => op,
-        Comparison::Less(_) => Comparison::Less(signed),
-        Comparison::AtMost(_) => Comparison::AtMost(signed),
-        Comparison::Greater(_) => Comparison::Greater(signed),
-        Comparison::AtLeast(_) => Comparison::AtLeast(signed),
+        Comparison::Less(_) => Comparison::Less(Signedness::of(signed)),
+        Comparison::AtMost(_) => Comparison::AtMost(Signedness::of(signed)),
+        Comparison::Greater(_) => Comparison::Greater(Signedness::of(signed)),
+        Comparison::AtLeast(_) => Comparison::AtLeast(Signedness::of(signed)),
     }
 }
 

@@ -45,7 +45,7 @@ pub fn known(alloc: Global, scope: &Scope, due: bool, name: Identifier) -> Resul
             }
             Ok(entry)
         }
-        Entry::Constant(_) => Ok(entry),
+        Entry::Constant(_) | Entry::Turn(_) => Ok(entry),
         Entry::Genvar | Entry::Unknown => Err(refused_at(alloc, 29, name)),
     }
 }
@@ -73,7 +73,7 @@ pub fn whole(alloc: Global, scope: &Scope, due: bool, name: Identifier) -> Resul
                 form: Boxed::new(alloc, Open::Simple(typed))?,
             })
         }
-        Entry::Constant(x) => Ok(Measured {
+        Entry::Constant(x) | Entry::Turn(x) => Ok(Measured {
             length: x.bits.width,
             signed: x.signed,
             constant: true,
@@ -143,7 +143,9 @@ pub fn select(
                 None => Err(refused_at(alloc, 32, name)),
             }
         }
-        Entry::Constant(_) | Entry::Genvar | Entry::Unknown => Err(refused_at(alloc, 32, name)),
+        Entry::Constant(_) | Entry::Turn(_) | Entry::Genvar | Entry::Unknown => Err(refused_at(
+            alloc, 32, name,
+        )),
     }
 }
 
@@ -197,6 +199,8 @@ pub fn part_of(
             })),
             None => Err(refused_at(alloc, 32, name)),
         },
-        Entry::Constant(_) | Entry::Genvar | Entry::Unknown => Err(refused_at(alloc, 32, name)),
+        Entry::Constant(_) | Entry::Turn(_) | Entry::Genvar | Entry::Unknown => Err(refused_at(
+            alloc, 32, name,
+        )),
     }
 }

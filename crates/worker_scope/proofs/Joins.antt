@@ -5,7 +5,7 @@ use Rattle.book_history.specs.Owned.{IsPrefix}
 use Rattle.book_turn.specs.Known.{Known, joined}
 use Rattle.book_turn.proofs.Histories.{prefix_refl, prefix_trans}
 use Rattle.segment_verify.specs.Entries.{AreTurns}
-use Rattle.worker_scope.specs.Scope.{AreNumbered, AreOfWorkers, HasJoinedOne, HasJoined}
+use Rattle.worker_scope.specs.Scope.{AreNumbered, HasJoinedOne, HasJoined}
 use Rattle.worker_scope.proofs.Numbers.{one_list_more}
 
 module _ {D R O : Type 0} where
@@ -16,6 +16,7 @@ module _ {D R O : Type 0} where
     all = refl;
     turns = tt;
     own = refl;
+    splits = refl;
     settings = refl;
     alone = refl;
     begins = prefix_refl v.seen;
@@ -29,6 +30,7 @@ module _ {D R O : Type 0} where
     all = length-append h.lists (u.own ∷ []) ∙ ap (λ m. m + 1) h.all;
     turns = let next : n ≡ 0 + length h.lists = omega (arith, h.all) in one_list_more 0 h.lists u.own (subst (λ (m : ℕ). AreTurns (Worker m) u.own) next turns) h.turns;
     own = ap (λ (y : Known D R O). y.own) is ∙ h.own;
+    splits = ap (λ (y : Known D R O). y.splits) is ∙ h.splits;
     settings = ap (λ (y : Known D R O). y.settings) is ∙ h.settings;
     alone = ap (λ (y : Known D R O). y.alone) is ∙ h.alone;
     begins = prefix_trans v.seen w.seen x.seen h.begins begins;

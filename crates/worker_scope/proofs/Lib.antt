@@ -1,4 +1,4 @@
 pub mod Joins
 pub mod Numbers
-pub mod Plains
 pub mod Sessions
+pub mod Spoken

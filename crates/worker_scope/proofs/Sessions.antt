@@ -1,5 +1,5 @@
 -- What one turn of the session asks and gives, and what joins keep.
-use Rattle.std.proofs.Common.{◌≡◌, true, false, List, [], ◌∷◌, ◌++◌, Some, refl, sym, ap, ◌∙◌, subst}
+use Rattle.std.proofs.Common.{◌≡◌, ◌+◌, ℕ, arith, true, false, List, [], ◌∷◌, ◌++◌, Some, refl, sym, ap, ◌∙◌, subst}
 use Rattle.book_history.specs.declared.who.Who.{Who}
 use Rattle.book_history.specs.declared.who.Who.TheVariants.{Session, Worker}
 use Rattle.book_history.specs.Book.{Event, Opens, Runs, Reloads, Claims, Installs, Releases, Shows, Closes}
@@ -7,11 +7,12 @@ use Rattle.book_history.specs.Journal.{Journal}
 use Rattle.book_history.specs.Owned.{is_owned, owned}
 use Rattle.book_history.specs.Rooms.{Counts, counted, count_all, no_entry}
 use Rattle.book_history.specs.Tickets.{kept, MayAdd}
-use Rattle.book_turn.specs.Known.{Known, begun, entered, left, not_alone, joined}
+use Rattle.book_turn.specs.Known.{Known, begun, entered, left, after_split, apart_from_splits, joined}
 use Rattle.book_turn.specs.Rule.{MayLeave, Learned}
 use Rattle.book_turn.proofs.Callers.{may_leave_one, tickets_one}
 use Rattle.checkpoint_book.specs.Views.{counts_of}
 use Rattle.segment_verify.specs.Workers.{is_closed, IsFree}
+use Rattle.worker_scope.specs.Scope.{HasSplit}
 
 counted_same : (n m : Counts) (by : Who) → n.closed ≡ m.closed → (counted n by).closed ≡ m.closed
 counted_same n m Session e = e
@@ -46,9 +47,6 @@ module _ {D R O : Type 0} where
   pub begun_open : (v : Known D R O) (j : Journal D R O) → v ≡ begun j → (counts_of j).closed ≡ false → is_closed v.own ≡ false
   begun_open v j is open' = ap (λ (y : Known D R O). is_closed y.own) is ∙ sym (closed_by_own j.events) ∙ open'
 
-  pub begun_free : (v : Known D R O) (j : Journal D R O) → v ≡ begun j → IsFree v
-  begun_free v j is = subst (λ (y : Known D R O). IsFree y) (sym is) (record { outside = refl; no_ticket = refl })
-
   -- v is what the pass knew before it entered, w what it then knows, x what it knows after it has left; j is the book that it
   -- was given, i the book behind the reference, and l the book after the call, which added the entry e
   module _ (v w x : Known D R O) (i j l : Journal D R O) (e : Event D R O) (knows : w ≡ entered v j) (same : i ≡ j) (learned : Learned v j) (settings : l.settings ≡ i.settings) (events : l.events ≡ i.events ++ e ∷ []) where
@@ -75,11 +73,20 @@ module _ {D R O : Type 0} where
   pub free_join : (w x u : Known D R O) → x ≡ joined w u → IsFree w → IsFree x
   free_join w x u is free = subst (λ (y : Known D R O). IsFree y) (sym is) (record { outside = free.outside; no_ticket = free.no_ticket })
 
-  pub started_more : (v w x : Known D R O) → x ≡ not_alone w → not_alone w ≡ not_alone v → not_alone x ≡ not_alone v
-  started_more v w x is same = ap (λ (y : Known D R O). not_alone y) is ∙ same
-
-  pub free_started : (w x : Known D R O) → x ≡ not_alone w → IsFree w → IsFree x
+  pub free_started : (w x : Known D R O) → x ≡ after_split w → IsFree w → IsFree x
   free_started w x is free = subst (λ (y : Known D R O). IsFree y) (sym is) (record { outside = free.outside; no_ticket = free.no_ticket })
 
-  pub own_started : (v w : Known D R O) → not_alone w ≡ not_alone v → is_closed v.own ≡ false → is_closed w.own ≡ false
-  own_started v w same open' = ap (λ (y : Known D R O). is_closed y.own) same ∙ open'
+  pub own_started : (count : ℕ) (v w : Known D R O) → HasSplit count v w → is_closed v.own ≡ false → is_closed w.own ≡ false
+  own_started count v w h open' = ap (λ (y : Known D R O). is_closed y.own) h.else_same ∙ open'
+
+  pub split_none : (v w : Known D R O) → w ≡ v → HasSplit 0 v w
+  split_none v w is = record { splits = let same : w.splits ≡ v.splits = ap (λ (y : Known D R O). y.splits) is in omega (arith, same); else_same = ap (λ (y : Known D R O). apart_from_splits y) is }
+
+  pub split_once : (v w : Known D R O) → w ≡ after_split v → HasSplit 1 v w
+  split_once v w is = record { splits = ap (λ (y : Known D R O). y.splits) is; else_same = ap (λ (y : Known D R O). apart_from_splits y) is }
+
+  pub split_more : (n m total : ℕ) (v w x : Known D R O) → HasSplit n v w → HasSplit m w x → total ≡ n + m → HasSplit total v x
+  split_more n m total v w x g h is = record { splits = omega (arith, g.splits, h.splits, is); else_same = h.else_same ∙ g.else_same }
+
+  pub split_so_many : (n total : ℕ) (v w : Known D R O) → HasSplit n v w → total ≡ n → HasSplit total v w
+  split_so_many n total v w h is = subst (λ (k : ℕ). HasSplit k v w) (sym is) h

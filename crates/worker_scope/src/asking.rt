@@ -3,7 +3,7 @@ ghost use Rattle.std.specs.Prelude.{◌≡◌, true, false};
 ghost use Rattle.book_turn.specs.Passes.{IsOf, known};
 ghost use Rattle.book_turn.specs.Turns.{GoesOn};
 ghost use Rattle.segment_verify.specs.Workers.{is_closed, IsFree};
-ghost use Rattle.worker_scope.specs.Plain.{AddsPlain};
+ghost use Rattle.worker_scope.specs.Spoken.{AddsSpoken};
 
 use crate::session_work::SessionWork;
 use crate::watched::WatchedMachine;
@@ -105,9 +105,9 @@ fn ask<M: Machine, R: Wait>(rt: &R, turn: &Turn<Book<M>>, pass: &mut SessionPass
 }
 
 /// Whether a show answers so. Without a version or a room for it the answer is no.
-#[tactic(auto, using(crate::proofs::Plains::none_added, crate::proofs::Plains::one_added))]
+#[tactic(auto, using(crate::proofs::Spoken::none_added, crate::proofs::Spoken::one_added))]
 fn is_settled<M: Machine>(book: &mut Book<M>) -> bool
-    ensures { AddsPlain book.old book.new }
+    ensures { AddsSpoken book.old book.new }
 {
     if book.version() == 0 || book.session_room() == 0 {
         return false;

@@ -1,4 +1,11 @@
 // Workers in threads beside the session: a scope in which they start, and after which all have ended.
+//
+// `scope` splits a pass from the session's for each worker and starts the worker's thread with it, whose end `ends` promises; beside them
+// it lets the session do its work, as `session_work` asks of it, and closes the book, which ends the workers; then it waits for each thread
+// and joins its pass into the session's. `worked` is what comes back, with `start_refusal` where fewer were started than were asked for.
+//
+// In the tests `asking` and `reloading` are work of a session; `meeting`, `meeting_gate`, `noting_gate` and `watched` see where workers are;
+// `replay` and `drawn` take the history that is left, entry by entry.
 #![tactic(auto)]
 
 #[cfg(test)]

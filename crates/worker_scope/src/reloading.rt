@@ -3,7 +3,7 @@ ghost use Rattle.std.specs.Prelude.{◌≡◌, ◌<◌, true, false, IfOk};
 ghost use Rattle.book_turn.specs.Passes.{IsOf, known};
 ghost use Rattle.book_turn.specs.Turns.{GoesOn};
 ghost use Rattle.segment_verify.specs.Workers.{is_closed, IsFree};
-ghost use Rattle.worker_scope.specs.Plain.{AddsPlain};
+ghost use Rattle.worker_scope.specs.Spoken.{AddsSpoken};
 
 use crate::asking::ask_often;
 use crate::session_work::SessionWork;
@@ -138,13 +138,13 @@ fn reload<L: Ledger, R: Wait>(
 
 /// Reloads with the next version. The answer is whether it was made: not without a version, without room, after a million of
 /// them, or where memory runs out.
-#[tactic(auto, using(crate::proofs::Plains::none_added, crate::proofs::Plains::one_added))]
+#[tactic(auto, using(crate::proofs::Spoken::none_added, crate::proofs::Spoken::one_added))]
 pub fn reload_next<L: Ledger>(
     book: &mut Book<TallyMachine>,
     alloc: Global,
     steps: &mut Steps<L>,
 ) -> bool
-    ensures { AddsPlain book.old book.new }
+    ensures { AddsSpoken book.old book.new }
 {
     let current = book.version();
     if current == 0 || current > 1000000 || book.session_room() == 0 {

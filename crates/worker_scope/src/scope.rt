@@ -1,13 +1,13 @@
 // The scope: workers start, the session does its work and closes the book, and all workers' passes are joined in.
-ghost use Rattle.std.specs.Prelude.{◌≡◌, ◌≤◌, [], ◌∷◌, vec_len, true, false, All, IfOk, IfNone};
+ghost use Rattle.std.specs.Prelude.{◌≡◌, ◌<◌, ◌≤◌, ◌+◌, [], ◌∷◌, vec_len, true, false, All, None, IfOk, IfErr, IfSome, IfNone};
 ghost use Rattle.book_history.specs.Book.{Closes};
 ghost use Rattle.book_history.specs.declared.who.Who.TheVariants.{Worker};
-ghost use Rattle.book_turn.specs.Known.{Known, not_alone};
+ghost use Rattle.book_turn.specs.Known.{Known, apart_from_splits};
 ghost use Rattle.book_turn.specs.Passes.{IsOf, known};
 ghost use Rattle.book_turn.specs.Turns.{HasAdded};
 ghost use Rattle.segment_verify.specs.Entries.{AreTurns};
 ghost use Rattle.segment_verify.specs.Workers.{is_closed, IsFree, HasEnded};
-ghost use Rattle.worker_scope.specs.Scope.{AreNumbered, HasJoined, HasJoinedOne, HasWorked, HasWorkedAlone};
+ghost use Rattle.worker_scope.specs.Scope.{AreNumbered, HasJoined, HasJoinedOne, HasSplit, HasWorked, HasWorkedAlone, lost_by, lost_in};
 
 use crate::ends::Ends;
 use crate::session_work::SessionWork;
@@ -30,7 +30,8 @@ type Child<M> = PromisedHandle<WorkerPass<Book<M>>, Ends<Book<M>>>;
 /// Has so many workers, numbered from 0, run beside the session's work, and closes the book behind it.
 ///
 /// The first worker that can't be started is left out with those behind it, and the answer says how many were started and
-/// why no more. All that were started have ended, and each one's pass is joined into the session's.
+/// why no more. All that were started have ended, and each one's pass is joined into the session's: of the passes that were
+/// split from it none is left out but that of a thread that was refused.
 pub fn with_workers<'s, M: Machine, G: Gate, W: SessionWork<M>, R: Threads + Wait + Sync>(
     rt: &'s R,
     alloc: Global,
@@ -43,13 +44,14 @@ pub fn with_workers<'s, M: Machine, G: Gate, W: SessionWork<M>, R: Threads + Wai
     requires turn { IsOf turn.now pass true }
     requires free { IsFree (known pass) }
     requires open { is_closed (known pass).own ≡ false }
-    requires ready { (u : Known M M.Row M.Ops) → not_alone u ≡ not_alone (known pass) → W.ready session u }
+    requires ready { (u : Known M M.Row M.Ops) → apart_from_splits u ≡ apart_from_splits (known pass) → W.ready session u }
     ensures turn { IsOf turn.now result.pass true }
     ensures free { IsFree (known result.pass) }
-    ensures worked { HasWorked (W.does session) result.started (known pass) (known result.pass) result.answer }
+    ensures worked { HasWorked (W.does session) result.started (lost_in result.refusal) (known pass) (known result.pass) result.answer }
     ensures none { workers ≡ 0 → HasWorkedAlone (W.does session) (known pass) (known result.pass) result.answer }
     ensures most { result.started ≤ workers }
     ensures all { IfNone result.refusal (result.started ≡ workers) }
+    ensures fewer { IfSome result.refusal (λ _. result.started < workers) }
 {
     if workers == 0 {
         return without_workers(rt, turn, pass, session);
@@ -58,8 +60,8 @@ pub fn with_workers<'s, M: Machine, G: Gate, W: SessionWork<M>, R: Threads + Wai
         thread::scope_env(),
         rt,
         |scope| -> Worked<M, W::Answer>
-            requires { IsOf turn.now pass true × IsFree (known pass) × (is_closed (known pass).own ≡ false) × ((u : Known M M.Row M.Ops) → not_alone u ≡ not_alone (known pass) → W.ready session u) }
-            ensures { IsOf turn.entry.now result.pass true × IsFree (known result.pass) × HasWorked (W.does session) result.started (known pass) (known result.pass) result.answer × (result.started ≤ workers) × IfNone result.refusal (result.started ≡ workers) }
+            requires { IsOf turn.now pass true × IsFree (known pass) × (is_closed (known pass).own ≡ false) × ((u : Known M M.Row M.Ops) → apart_from_splits u ≡ apart_from_splits (known pass) → W.ready session u) }
+            ensures { IsOf turn.entry.now result.pass true × IsFree (known result.pass) × HasWorked (W.does session) result.started (lost_in result.refusal) (known pass) (known result.pass) result.answer × (result.started ≤ workers) × IfNone result.refusal (result.started ≡ workers) × IfSome result.refusal (λ _. result.started < workers) }
         { beside(scope, rt, alloc, turn, pass, workers, gate, session) },
     )
 }
@@ -78,8 +80,9 @@ fn without_workers<M: Machine, W: SessionWork<M>, R: Threads + Wait + Sync>(
     ensures turn { IsOf turn.now result.pass true }
     ensures free { IsFree (known result.pass) }
     ensures alone { HasWorkedAlone (W.does session) (known pass) (known result.pass) result.answer }
-    ensures worked { HasWorked (W.does session) result.started (known pass) (known result.pass) result.answer }
+    ensures worked { HasWorked (W.does session) result.started (lost_in result.refusal) (known pass) (known result.pass) result.answer }
     ensures none { result.started ≡ 0 }
+    ensures refusal { result.refusal ≡ None }
 {
     let answer = session.work(rt, turn, &mut pass);
     close(rt, turn, &mut pass);
@@ -105,12 +108,13 @@ fn beside<'s, E, M: Machine + 's, G: Gate + 's, W: SessionWork<M>, R: Threads + 
     requires turn { IsOf turn.now pass true }
     requires free { IsFree (known pass) }
     requires open { is_closed (known pass).own ≡ false }
-    requires ready { (u : Known M M.Row M.Ops) → not_alone u ≡ not_alone (known pass) → W.ready session u }
+    requires ready { (u : Known M M.Row M.Ops) → apart_from_splits u ≡ apart_from_splits (known pass) → W.ready session u }
     ensures turn { IsOf turn.now result.pass true }
     ensures free { IsFree (known result.pass) }
-    ensures worked { HasWorked (W.does session) result.started (known pass) (known result.pass) result.answer }
+    ensures worked { HasWorked (W.does session) result.started (lost_in result.refusal) (known pass) (known result.pass) result.answer }
     ensures most { result.started ≤ workers }
     ensures all { IfNone result.refusal (result.started ≡ workers) }
+    ensures fewer { IfSome result.refusal (λ _. result.started < workers) }
 {
     let (children, refusal) = start(scope, rt, alloc, turn, &mut pass, workers, gate);
     let answer = session.work(rt, turn, &mut pass);
@@ -139,11 +143,12 @@ fn start<'s, E, M: Machine + 's, G: Gate + 's, R: Threads + Wait + Sync>(
     requires free { IsFree (known pass.old) }
     ensures turn { IsOf turn.now pass.new true }
     ensures free { IsFree (known pass.new) }
-    ensures started { not_alone (known pass.new) ≡ not_alone (known pass.old) }
+    ensures split { HasSplit (vec_len result.0 + lost_in result.1) (known pass.old) (known pass.new) }
     ensures children { All (λ h. h.promise.turn.value ≡ turn.now) result.0.items }
     ensures numbers { AreNumbered (λ h. h.promise.number) 0 result.0.items }
     ensures most { vec_len result.0 ≤ workers }
     ensures all { IfNone result.1 (vec_len result.0 ≡ workers) }
+    ensures fewer { IfSome result.1 (λ _. vec_len result.0 < workers) }
 {
     let mut children = Vec::new(alloc);
     for number in 0..workers {
@@ -159,7 +164,7 @@ fn start<'s, E, M: Machine + 's, G: Gate + 's, R: Threads + Wait + Sync>(
 }
 
 /// Starts the worker of this number.
-#[tactic(auto, using(crate::proofs::Sessions::free_started, crate::proofs::Numbers::turned_alone))]
+#[tactic(auto, using(crate::proofs::Sessions::free_started, crate::proofs::Sessions::split_once, crate::proofs::Sessions::split_none, crate::proofs::Numbers::turned_alone))]
 fn start_one<'s, E, M: Machine + 's, G: Gate + 's, R: Threads + Wait + Sync>(
     scope: &Scope<'s, E>,
     rt: &'s R,
@@ -173,7 +178,8 @@ fn start_one<'s, E, M: Machine + 's, G: Gate + 's, R: Threads + Wait + Sync>(
     requires free { IsFree (known pass.old) }
     ensures turn { IsOf turn.now pass.new true }
     ensures free { IsFree (known pass.new) }
-    ensures started { not_alone (known pass.new) ≡ not_alone (known pass.old) }
+    ensures split { IfOk result (λ _. HasSplit 1 (known pass.old) (known pass.new)) }
+    ensures lost { IfErr result (λ e. HasSplit (lost_by e) (known pass.old) (known pass.new)) }
     ensures child { IfOk result (λ h. h.promise.turn.value ≡ turn.now) }
     ensures number { IfOk result (λ h. h.promise.number ≡ number) }
 {

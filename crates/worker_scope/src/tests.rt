@@ -86,7 +86,7 @@ fn run_eight<M: Machine, L: Ledger>(
 }
 
 /// Eight cycles under a machine that adds 3, and a reload with one that adds 4.
-#[tactic(auto, using(crate::proofs::Plains::open_with))]
+#[tactic(auto, using(crate::proofs::Spoken::open_with))]
 fn edited<L: Ledger>(alloc: Global, blank: Blank) -> Result<Box<Book<TallyMachine>>, Fail>
     requires name { blank.name ≡ L.name }
     requires parts { blank.parts ≡ L.parts }

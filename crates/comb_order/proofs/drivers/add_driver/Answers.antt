@@ -13,18 +13,18 @@ returns-in_ok-push-in-Some-clause-drives c = λ a i.
     let last = c.in-Some.last in
     let d = c.args.driver in
     ap (λ z. drives_in z a i) c.in_ok-push-in-Some.ensures.items
-    ∙ drives_merged xs d.node last.mask d.mask a i
-    ∙ ap (λ z. drives_in z a i || ((a == d.node) && has_bit d.mask i))
-    (ap (λ n. xs ++ record { node = n; mask = last.mask } ∷ []) (sym (sym c.number.ensures ∙ c.if-number.true ∙ c.number-in-Some.ensures)) ∙ sym c.in-Some.ensures.items)
+    ∙ drives_merged xs d.item last.mask d.mask a i
+    ∙ ap (λ z. drives_in z a i || ((a == d.item) && has_bit d.mask i))
+    (ap (λ n. xs ++ record { item = n; mask = last.mask } ∷ []) (sym (sym c.number.ensures ∙ c.if-number.true ∙ c.number-in-Some.ensures)) ∙ sym c.in-Some.ensures.items)
 
 pub returns-in_ok-push-in-Some-clause-rises : goal.returns-in_ok-push-in-Some-clause-rises
 returns-in_ok-push-in-Some-clause-rises c =
     let d = c.args.driver in
     let last = c.in-Some.last in
-    let both : Driver = record { node = d.node; mask = bit_or last.mask d.mask } in
-    subst (λ (ds : List Driver). Rises 0 ds (d.node + 1)) (sym c.in_ok-push-in-Some.ensures.items)
-    (rises_again c.pop.new.self.items last both (d.node + 1) (sym c.number.ensures ∙ c.if-number.true ∙ c.number-in-Some.ensures)
-    (subst (λ (ds : List Driver). Rises 0 ds (d.node + 1)) c.in-Some.ensures.items c.requires))
+    let both : Driver = record { item = d.item; mask = bit_or last.mask d.mask } in
+    subst (λ (ds : List Driver). Rises 0 ds (d.item + 1)) (sym c.in_ok-push-in-Some.ensures.items)
+    (rises_again c.pop.new.self.items last both (d.item + 1) (sym c.number.ensures ∙ c.if-number.true ∙ c.number-in-Some.ensures)
+    (subst (λ (ds : List Driver). Rises 0 ds (d.item + 1)) c.in-Some.ensures.items c.requires))
 
 pub returns-in_ok-push-in-Some-3-clause-drives : goal.returns-in_ok-push-in-Some-3-clause-drives
 returns-in_ok-push-in-Some-3-clause-drives c = λ a i.
@@ -36,7 +36,7 @@ returns-in_ok-push-in-Some-3-clause-drives c = λ a i.
 pub returns-in_ok-push-in-Some-3-clause-rises : goal.returns-in_ok-push-in-Some-3-clause-rises
 returns-in_ok-push-in-Some-3-clause-rises c =
     let d = c.args.driver in
-    subst (λ (ds : List Driver). Rises 0 ds (d.node + 1))
+    subst (λ (ds : List Driver). Rises 0 ds (d.item + 1))
     (sym (c.in_ok-push-in-Some-3.ensures.items ∙ ap (λ z. z ++ d ∷ []) c.in_ok-push-in-Some-2.ensures.items))
     (rises_next c.pop.new.self.items c.in-Some.last d (λ e. c.if-number.false (c.number.ensures ∙ e ∙ sym c.number-in-Some.ensures))
-    (subst (λ (ds : List Driver). Rises 0 ds (d.node + 1)) c.in-Some.ensures.items c.requires))
+    (subst (λ (ds : List Driver). Rises 0 ds (d.item + 1)) c.in-Some.ensures.items c.requires))

@@ -6,7 +6,7 @@ use Rattle.comb_order.proofs.drivers.add_touches.Given as goal
 abbrev pub invariant-loop-touch : goal.invariant-loop-touch
 invariant-loop-touch l = record {
   drives : (a s i : ℕ) → s < length l.table
-      → (drives_in (row_in l.table s) a i || ((a == l.node) && touched (drop l.touch-index l.touches) s i))
-      ≡ (drives_in (row_in l.initial.table s) a i || ((a == l.node) && touched l.touches s i));
-  rises : AllRise l.table (l.node + 1);
+      → (drives_in (row_in l.table s) a i || ((a == l.item) && touched (drop l.touch-index l.touches) s i))
+      ≡ (drives_in (row_in l.initial.table s) a i || ((a == l.item) && touched l.touches s i));
+  rises : AllRise l.table (l.item + 1);
 }

@@ -15,6 +15,7 @@ use Rattle.comb_order.proofs.parts.checked_flat.Goals as goal
 
 pub invariant_of-result : goal.invariant_of-result
 invariant_of-result c =
+    let rows = c.args.parts.instances.rows.items in
     let signals = c.args.parts.signals.items in
     let registers = c.args.parts.registers.items in
     let inputs = c.args.parts.inputs.items in
@@ -39,14 +40,19 @@ invariant_of-result c =
     subst (λ (t : List (Vec Driver Global)). (rows_apart t && (are_undriven t registers && are_undriven t inputs)) ≡ true) c.deref-4.ensures.value
     (sym c.are_driven_once.ensures ∙ c.if-not-are_driven_once.false) in
     record {
+      signals_there = sym c.are_placed.ensures ∙ c.if-not-are_placed.false;
       legal = sized.one;
       blocks = sized.two;
       registers_there = sized.three;
       inputs_there = sized.four;
       few = c.requires.few;
-      sound = ∣ flat_sound (flat_from signals registers inputs nodes clocked) table is c.requires.complete c.requires.first held driven
+      sound = ∣ flat_sound (flat_from rows signals registers inputs nodes clocked) table is c.requires.complete c.requires.first held driven
           (c.in_ok-written.ensures.one c.if-not-written.false) ∣₁;
     }
+
+pub returns-then-not-are_placed-clause-refused : goal.returns-then-not-are_placed-clause-refused
+returns-then-not-are_placed-clause-refused c = λ (is : IsDesign c.args.parts).
+    true≢false (sym is.signals_there ∙ sym c.are_placed.ensures ∙ c.if-not-are_placed.true)
 
 pub returns-then-not-are_sized-clause-refused : goal.returns-then-not-are_sized-clause-refused
 returns-then-not-are_sized-clause-refused c = λ (is : IsDesign c.args.parts).
@@ -63,11 +69,12 @@ returns-then-not-are_sized-clause-refused c = λ (is : IsDesign c.args.parts).
 
 pub returns-then-not-held-clause-refused : goal.returns-then-not-held-clause-refused
 returns-then-not-held-clause-refused c = λ (is : IsDesign c.args.parts).
-    true≢false (sym (held_passes (flat_from c.args.parts.signals.items c.args.parts.registers.items c.args.parts.inputs.items c.args.parts.nodes.items c.args.parts.clocked.items) is.flat)
+    true≢false (sym (held_passes (flat_from c.args.parts.instances.rows.items c.args.parts.signals.items c.args.parts.registers.items c.args.parts.inputs.items c.args.parts.nodes.items c.args.parts.clocked.items) is.flat)
     ∙ sym c.in_ok-held.ensures ∙ c.if-not-held.true)
 
 pub returns-then-not-are_driven_once-clause-refused : goal.returns-then-not-are_driven_once-clause-refused
 returns-then-not-are_driven_once-clause-refused c = λ (is : IsDesign c.args.parts).
+    let rows = c.args.parts.instances.rows.items in
     let signals = c.args.parts.signals.items in
     let registers = c.args.parts.registers.items in
     let inputs = c.args.parts.inputs.items in
@@ -79,7 +86,7 @@ returns-then-not-are_driven_once-clause-refused c = λ (is : IsDesign c.args.par
     parts_table signals (map node_of nodes) table is.legal (c.in_ok-table.ensures.length ∙ count)
     (λ a s i h low. c.in_ok-table.ensures.drives a s i (omega (arith, h, count)) low
     ∙ ap (λ ns. drives_at (map node_of ns) a s i) c.deref-3.ensures.value) in
-    true≢false (sym (driven_passes (flat_from signals registers inputs nodes clocked) table (length c.deref-3.result.now) whole c.in_ok-table.ensures.rises is.flat)
+    true≢false (sym (driven_passes (flat_from rows signals registers inputs nodes clocked) table (length c.deref-3.result.now) whole c.in_ok-table.ensures.rises is.flat)
     ∙ ap (λ (t : List (Vec Driver Global)). rows_apart t && (are_undriven t registers && are_undriven t inputs)) (sym c.deref-4.ensures.value)
     ∙ sym c.are_driven_once.ensures ∙ c.if-not-are_driven_once.true)
 

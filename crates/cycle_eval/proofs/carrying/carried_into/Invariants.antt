@@ -6,6 +6,5 @@ use Rattle.cycle_eval.proofs.carrying.carried_into.Given as goal
 
 abbrev pub invariant-loop-register : goal.invariant-loop-register
 invariant-loop-register l =
-    map sized_value l.values.items
-    ++ map (λ (r : ℕ). (width_in l.signals r, carried_in l.signals l.old_signals l.old_registers (state_values l.state) r)) (drop l.register-index l.registers)
-    ≡ map (λ (r : ℕ). (width_in l.signals r, carried_in l.signals l.old_signals l.old_registers (state_values l.state) r)) l.registers
+    let one : ℕ → ℕ × ℕ = λ r. (width_in l.new.signals.now r, carried_in l.new.numbers.now l.new.signals.now l.old.numbers.now l.old.signals.now l.old.registers.now (state_values l.state) r) in
+    map sized_value l.values.items ++ map one (drop l.register-index l.new.registers.now) ≡ map one l.new.registers.now

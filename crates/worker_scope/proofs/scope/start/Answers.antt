@@ -1,8 +1,9 @@
-use Rattle.std.proofs.Common.{◌≡◌, ◌+◌, ◌++◌, ◌∷◌, [], ℕ, length, sym, ap, ◌∙◌, subst, arith, rules}
+use Rattle.std.proofs.Common.{◌≡◌, ◌+◌, ◌++◌, ◌∷◌, [], sym, ap, ◌∙◌, subst, arith}
 use Rattle.std.specs.List.{All}
 use Rattle.std.proofs.lemmas.List.Elements.{All-push}
 use Rattle.worker_scope.specs.Scope.{AreNumbered}
 use Rattle.worker_scope.proofs.Numbers.{next_more}
+use Rattle.worker_scope.proofs.Sessions.{split_more}
 use Rattle.worker_scope.proofs.scope.start.Goals as goal
 
 pub loop-number-preserved : goal.loop-number-preserved
@@ -11,7 +12,7 @@ loop-number-preserved g c =
     let pushed = c.push_reserved.ensures.items ∙ ap (λ l. l ++ child ∷ []) c.reserve.ensures.items in (
       c.start_one.ensures.turn,
       c.start_one.ensures.free,
-      c.start_one.ensures.started ∙ c.loop-number.invariant.2,
+      split_more _ 1 _ _ _ _ c.loop-number.invariant.2 c.in-Ok.ensures.split (omega arith),
       subst (λ l. All (λ h. h.promise.turn.value ≡ c.args.turn.now) l) (sym pushed)
           (All-push (λ h. h.promise.turn.value ≡ c.args.turn.now) c.loop-number.children.items child c.loop-number.invariant.3 c.in-Ok.ensures.child),
       subst (λ l. AreNumbered (λ h. h.promise.number) 0 l) (sym pushed)

@@ -1,5 +1,5 @@
 use Rattle.std.proofs.Common.{refl}
-use Rattle.worker_scope.proofs.Plains.{one_added, open_with}
+use Rattle.worker_scope.proofs.Spoken.{one_added, open_with}
 use Rattle.worker_scope.proofs.tests.run_eight.Goals as goal
 
 pub returns : goal.returns

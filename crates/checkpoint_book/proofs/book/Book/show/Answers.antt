@@ -12,8 +12,8 @@ use Rattle.checkpoint_book.proofs.Keeps.{kept_more, left_stands, legal_next, sma
 use Rattle.checkpoint_book.proofs.Entries.{show_next}
 use Rattle.checkpoint_book.proofs.book.Book.show.Goals as goal
 
-pub settled_to-requires : goal.settled_to-requires
-settled_to-requires g c =
+pub shown-requires : goal.shown-requires
+shown-requires g c =
     let m = g.M.Machine in
     let j = c.self.inside.history in
     let n = c.self.inside.counters in
@@ -31,9 +31,9 @@ push-requires-clause-legal g c κs within =
     let Q : Journal g.row.M.Denot g.row.M-Row.Denot g.row.M-Ops.Denot → Type 0 = λ x. HasSessionRoom x 1 in
     let room : Q j = subst Q (sym c.self.view_is) c.requires.room in
     let fits : n.session + 1 ≤ j.settings.rooms.session = omega (arith, room, ap (λ (x : Counts). x.session) c.self.invariant.counted) in
-    let e = c.settled_to-2.ensures ∙ c.shown-answer.ensures ∙ c.settled_to.ensures in
-    let next = show_next m.kit m.valid j.settings (book_of m.kit j) o n.drawn n.out c.settled_to-2.result kept.stands e in
-    legal_next m.kit m.valid j (Shows c.settled_to-2.result) (Some o) n kept c.legal.ensures next.0 fits
+    let e = c.settled_to.ensures ∙ c.answer_of-answer.ensures ∙ c.shown.ensures in
+    let next = show_next m.kit m.valid j.settings (book_of m.kit j) o n.drawn n.out c.settled_to.result kept.stands e in
+    legal_next m.kit m.valid j (Shows c.settled_to.result) (Some o) n kept c.legal.ensures next.0 fits
 
 pub one_of_session-self-inside-requires : goal.one_of_session-self-inside-requires
 one_of_session-self-inside-requires g c =
@@ -50,8 +50,8 @@ invariant_of-self g c =
     let Q : Journal g.row.M.Denot g.row.M-Row.Denot g.row.M-Ops.Denot → Type 0 = λ x. HasSessionRoom x 1 in
     let room : Q j = subst Q (sym c.self.view_is) c.requires.room in
     let fits : n.session + 1 ≤ j.settings.rooms.session = omega (arith, room, ap (λ (x : Counts). x.session) c.self.invariant.counted) in
-    let e = c.settled_to-2.ensures ∙ c.shown-answer.ensures ∙ c.settled_to.ensures in
-    let next = show_next m.kit m.valid j.settings (book_of m.kit j) o n.drawn n.out c.settled_to-2.result kept.stands e in
-    let after = kept_more m.kit j c.push.new.self (Shows c.settled_to-2.result) (Some o) (Some o) n (one_more n) kept c.push.ensures.settings c.push.ensures.events next.1 refl (omega (arith, kept.fewer)) in
+    let e = c.settled_to.ensures ∙ c.answer_of-answer.ensures ∙ c.shown.ensures in
+    let next = show_next m.kit m.valid j.settings (book_of m.kit j) o n.drawn n.out c.settled_to.result kept.stands e in
+    let after = kept_more m.kit j c.push.new.self (Shows c.settled_to.result) (Some o) (Some o) n (one_more n) kept c.push.ensures.settings c.push.ensures.events next.1 refl (omega (arith, kept.fewer)) in
     let back : IsKept m.kit c.push.new.self c.self.inside.opened (one_more n) = subst (λ (x : Option (Opened g.row.M.Denot g.row.M-State.Denot)). IsKept m.kit c.push.new.self x (one_more n)) (sym c.in-Some.is) after in
     subst (λ (x : Counters). IsKept m.kit c.push.new.self c.self.inside.opened x) (sym c.one_of_session-self-inside.ensures) back

@@ -1,0 +1,25 @@
+// What one row is, by the reader that its table names.
+use crate::sizes::{constant_of, sizing, value_at};
+use no_memory::NoMemory;
+use row_tables::Reader;
+use std::alloc::Global;
+
+/// The readers of sizes.
+pub struct SizeReader;
+
+impl Reader for SizeReader {
+    fn read(
+        &self,
+        alloc: Global,
+        name: &str,
+        text: &[u8],
+        _want: &[u8],
+    ) -> Result<Vec<u8>, NoMemory> {
+        match name {
+            "value" => value_at(alloc, text),
+            "sizing" => sizing(alloc, text),
+            "constant" => constant_of(alloc, text),
+            _ => Ok(Vec::from_slice(alloc, b"no such reader")?),
+        }
+    }
+}

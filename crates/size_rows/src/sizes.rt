@@ -1,0 +1,131 @@
+// What the rules of sizes make of expressions, as texts.
+ghost use Rattle.std.specs.Prelude.{◌≤◌};
+
+use crate::operands::operands;
+use bits::Bits;
+use ls_text::{Names, NoMemory, Refusal, behind, front, push_decimal};
+use row_tables::{fault_text, push_hex, texts_of, tokens_of};
+use std::alloc::Global;
+use typed_ir::{fits, value};
+use verilog_ast::Expr;
+use verilog_expr::parse_expr;
+use width_rules::{constant, size_expr};
+
+// The expression that a text is; none where it isn't one.
+fn expression_of(alloc: Global, names: &mut Names, text: &[u8]) -> Result<Option<Expr>, NoMemory> {
+    let Some(tokens) = tokens_of(alloc, names, text)? else {
+        return Ok(None);
+    };
+    match parse_expr(alloc, &tokens, 0, 0) {
+        Ok(parsed) => Ok(if parsed.next.saturating_add(1) == tokens.len() {
+            Some(parsed.expr)
+        } else {
+            None
+        }),
+        Err(Refusal::NoMemory) => Err(NoMemory),
+        Err(Refusal::Fault(_fault)) => Ok(None),
+    }
+}
+
+// A value in hexadecimal, with as many digits as a quarter of the width.
+fn push_value(out: &mut Vec<u8>, bits: Bits) -> Result<(), NoMemory> {
+    push_hex(out, bits.value(), bits.width().div_ceil(4))
+}
+
+// The fault of a refusal, behind what is there.
+fn push_refusal(
+    alloc: Global,
+    out: &mut Vec<u8>,
+    names: &mut Names,
+    refusal: Refusal,
+) -> Result<(), NoMemory> {
+    match refusal {
+        Refusal::NoMemory => Err(NoMemory),
+        Refusal::Fault(fault) => {
+            let texts = texts_of(alloc, names)?;
+            let mut shown = Vec::new(alloc);
+            fault_text(&mut shown, &texts, &fault)?;
+            if fault.names.ids().is_empty() {
+                shown.extend_from_slice(b" -")?;
+            }
+            out.extend_from_slice(behind(&shown, 1))?;
+            Ok(())
+        }
+    }
+}
+
+// How many bytes stand before the first space.
+fn word_len(text: &[u8]) -> usize {
+    text.iter().take_while(|b| **b != b' ').count()
+}
+
+/// The value of an expression that is assigned to so many bits: a row is the number of bits and the expression.
+pub fn value_at(alloc: Global, text: &[u8]) -> Result<Vec<u8>, NoMemory> {
+    let mut out = Vec::new(alloc);
+    let mut names = Names::new(alloc);
+    let n = word_len(text);
+    let length = decimal(front(text, n));
+    let Some(e) = expression_of(alloc, &mut names, behind(text, n.saturating_add(1)))? else {
+        return Ok(out);
+    };
+    let (scope, env) = operands(alloc, &mut names)?;
+    match size_expr(alloc, &scope, &e, Some(length), false) {
+        Ok(typed) => {
+            if fits(&typed, &env) {
+                push_value(&mut out, value(&typed, &env).resize(length, false))?;
+            }
+        }
+        Err(refusal) => push_refusal(alloc, &mut out, &mut names, refusal)?,
+    }
+    Ok(out)
+}
+
+// A number of 1 to 128 in decimal digits.
+fn decimal(text: &[u8]) -> u8
+    ensures least { 1 ≤ result }
+    ensures most { result ≤ 128 }
+{
+    let mut n = 0u8;
+    for byte in text {
+        n = n.saturating_mul(10).saturating_add(*byte & 15);
+    }
+    n.clamp(1, 128)
+}
+
+/// The first fault of an expression, `CODE LINE COL NAMES`; or `ok`.
+pub fn sizing(alloc: Global, text: &[u8]) -> Result<Vec<u8>, NoMemory> {
+    let mut out = Vec::new(alloc);
+    let mut names = Names::new(alloc);
+    let Some(e) = expression_of(alloc, &mut names, text)? else {
+        return Ok(out);
+    };
+    let (scope, _env) = operands(alloc, &mut names)?;
+    match size_expr(alloc, &scope, &e, None, false) {
+        Ok(_) => out.extend_from_slice(b"ok")?,
+        Err(refusal) => push_refusal(alloc, &mut out, &mut names, refusal)?,
+    }
+    Ok(out)
+}
+
+/// The length, the sign and the value of a constant expression; or its first fault.
+pub fn constant_of(alloc: Global, text: &[u8]) -> Result<Vec<u8>, NoMemory> {
+    let mut out = Vec::new(alloc);
+    let mut names = Names::new(alloc);
+    let Some(e) = expression_of(alloc, &mut names, text)? else {
+        return Ok(out);
+    };
+    let (scope, _env) = operands(alloc, &mut names)?;
+    match constant(alloc, &scope, &e) {
+        Ok(found) => {
+            push_decimal(&mut out, u64::from(found.bits.width()))?;
+            out.extend_from_slice(if found.signed {
+                b" signed "
+            } else {
+                b" unsigned "
+            })?;
+            push_value(&mut out, found.bits)?;
+        }
+        Err(refusal) => push_refusal(alloc, &mut out, &mut names, refusal)?,
+    }
+    Ok(out)
+}

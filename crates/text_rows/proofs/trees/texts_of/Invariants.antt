@@ -1,5 +1,0 @@
-use Rattle.std.proofs.Common.{◌-◌}
-use Rattle.text_rows.proofs.trees.texts_of.Given as goal
-
-abbrev pub decreases-loop-id : goal.decreases-loop-id
-decreases-loop-id l = l.last.0 - l.id
