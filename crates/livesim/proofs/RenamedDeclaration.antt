@@ -12,6 +12,7 @@ use Rattle.verilog_ast.specs.declared.range.Range.{Range}
 use Rattle.verilog_ast.specs.declared.shape.Shape.{Shape}
 use Rattle.verilog_ast.specs.declared.reg_variable.RegVariable.{RegVariable}
 use Rattle.verilog_ast.specs.Renamed.{renamed_expression, renamed_reference, expression_step, reference_step, renamed_range, renamed_shape, renamed_reg_variable}
+use Rattle.verilog_ast.proofs.Equal.{ap₄}
 use Rattle.ls_text.specs.Options.{guard, ◌>>=◌}
 use Rattle.livesim.specs.Module.{number_of, number_in, plain_value, literal_of, literal_in, bounds_width, range_width, shape_width, variable_at, RegisterText}
 use Rattle.livesim.proofs.JointNames.{Keeps}
@@ -77,10 +78,6 @@ with_parts width initial none name = do
   w ← width
   i ← initial
   guard none (name, w, i.0, i.1)
-
-ap₄ : {A B C D E : Type 0} {x y : A} {u v : B} {m n : C} {i j : D} (f : A → B → C → D → E) → x ≡ y → u ≡ v → m ≡ n → i ≡ j
-    → f x u m i ≡ f y v n j
-ap₄ f a b c d = cc
 
 pub same_variable : (f : NameId → NameId) (names joint : List (List ℕ)) → Keeps f names joint → (x : Shape) (v : RegVariable)
     → variable_at joint (renamed_shape f x) (renamed_reg_variable f v) ≡ variable_at names x v

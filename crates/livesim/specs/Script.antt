@@ -5,7 +5,7 @@ use Rattle.std.specs.List.{prefix_len}
 use Rattle.std.specs.Str.{bytes_eq}
 use Rattle.std.specs.Str.Lines.{lines}
 use Rattle.ls_text.specs.Bytes.{is_word_byte}
-use Rattle.livesim.specs.Scan.{number_of}
+use Rattle.livesim.specs.Scan.{decimal_of}
 use Rattle.ls_text.specs.Options.{guard, ◌>>=◌}
 use Rattle.livesim.specs.declared.script_line.ScriptLine.{ScriptLine}
 use Rattle.livesim.specs.declared.script_line.ScriptLine.TheVariants.{Skipped, Edit, Run, Show, Other}
@@ -51,7 +51,7 @@ is_skipped line = (length (first_word line).0 == 0) || (slice_index (first_word 
 unfoldable pub cycles_of : List ℕ → Option ℕ
 cycles_of line = do
   word ← only_word line
-  cycles ← number_of 10 word
+  cycles ← decimal_of word
   guard (nat_le (length word) 20 && (nat_le 1 cycles && nat_le cycles 1000000000)) cycles
 
 abbrev pub run_line : Option ℕ → ScriptLine

@@ -8,7 +8,7 @@ ghost use Rattle.std.specs.Str.Lines.{strip_carriage_return};
 
 use crate::block::Block;
 use crate::block_head::BlockHead;
-use crate::scan::number;
+use crate::scan::decimal;
 use crate::script_line::ScriptLine;
 use ls_text::{NoMemory, is_word_byte};
 use std::alloc::Global;
@@ -136,7 +136,7 @@ fn cycles(line: &[u8]) -> Option<u64>
     ensures small { IfSome result (λ n. n ≤ 1000000000) }
 {
     let word = single_word(line)?;
-    let cycles = number(10, word)?;
+    let cycles = decimal(word)?;
     if word.len() <= 20 && 1 <= cycles && cycles <= 1_000_000_000 {
         Some(cycles as u64)
     } else {
