@@ -4,7 +4,7 @@ use Rattle.typed_ir.specs.Sized.{Sized}
 use Rattle.typed_ir.specs.Stmts.{SizedTarget}
 use Rattle.verilog_ast.specs.Expressions as e
 use Rattle.verilog_ast.specs.Expressions.{Expression, Target, Reference, Joined, NoTarget, Targets}
-use Rattle.width_rules.specs.Scopes.{Meaning, Signal, Constant, Genvar, Unknown, Scope}
+use Rattle.width_rules.specs.Scopes.{Meaning, Signal, Constant, Turn, Genvar, Unknown, Scope}
 use Rattle.width_rules.specs.Signs.{is_signed}
 use Rattle.width_rules.specs.Sizes.{is_constant, count_of, bits_between}
 use Rattle.width_rules.specs.Constants.{integer}
@@ -15,6 +15,7 @@ use Rattle.width_rules.specs.Leaves.{Leaf, shifted, leaves, bits_of, laid}
 whole_shifted : (m : Meaning) (s : ℕ) → whole_part m s ≡ shifted s (whole_part m 0)
 whole_shifted (Signal signal width lsb signed writer) s = refl
 whole_shifted (Constant width value signed) s = refl
+whole_shifted (Turn width value signed) s = refl
 whole_shifted Genvar s = refl
 whole_shifted Unknown s = refl
 
@@ -23,12 +24,14 @@ at_shifted : (m : Meaning) (s width down : ℕ) (c : Bool) (at : ℤ) (signed : 
 at_shifted (Signal signal total lsb sign writer) s width down true at signed x = refl
 at_shifted (Signal signal total lsb sign writer) s width down false at signed x = refl
 at_shifted (Constant own value sign) s width down c at signed x = refl
+at_shifted (Turn own value sign) s width down c at signed x = refl
 at_shifted Genvar s width down c at signed x = refl
 at_shifted Unknown s width down c at signed x = refl
 
 from_shifted : (m : Meaning) (s : ℕ) (low : ℤ) (width : ℕ) → part_from m s low width ≡ shifted s (part_from m 0 low width)
 from_shifted (Signal signal total lsb sign writer) s low width = refl
 from_shifted (Constant own value sign) s low width = refl
+from_shifted (Turn own value sign) s low width = refl
 from_shifted Genvar s low width = refl
 from_shifted Unknown s low width = refl
 

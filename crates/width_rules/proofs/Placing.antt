@@ -1,16 +1,16 @@
 -- Left of `assign` the bits of all parts are known, since its indices are constant.
-use Rattle.std.proofs.Common.{◌≡◌, ℕ, ◌+◌, Bool, true, false, ℤ, List, [], ◌∷◌, ◌++◌, refl, sym, ◌∙◌, true≢false}
+use Rattle.std.proofs.Common.{◌≡◌, ℕ, ◌+◌, Bool, true, false, ℤ, List, [], ◌∷◌, ◌++◌, refl, sym, true≢false}
 use Rattle.ls_text.specs.declared.fault.Fault.{Fault}
 use Rattle.typed_ir.specs.Sized.{Sized}
 use Rattle.typed_ir.specs.Stmts.{SizedTarget, Fixed, Moving}
 use Rattle.verilog_ast.specs.Expressions as e
 use Rattle.verilog_ast.specs.Expressions.{Expression, Target, Reference, Joined, NoTarget, Targets}
-use Rattle.width_rules.specs.Scopes.{Meaning, Signal, Constant, Genvar, Unknown, Scope}
+use Rattle.width_rules.specs.Scopes.{Meaning, Signal, Constant, Turn, Genvar, Unknown, Scope}
 use Rattle.width_rules.specs.Signs.{is_signed}
 use Rattle.width_rules.specs.Sizes.{is_constant, count_of, bits_between}
 use Rattle.width_rules.specs.Constants.{integer}
 use Rattle.width_rules.specs.Opened.{own}
-use Rattle.width_rules.specs.Faults.{faults, width_faults, run_faults, total_faults}
+use Rattle.width_rules.specs.Faults.{faults, total_faults}
 use Rattle.width_rules.specs.Targets.{target_length, whole_part, part_at, part_from, reference_part, parts, target_name_faults, reference_faults, target_faults}
 use Rattle.width_rules.specs.Drives.{are_fixed}
 use Rattle.width_rules.proofs.Reading.{due_constant, left_none, right_none}
@@ -18,6 +18,7 @@ use Rattle.width_rules.proofs.Reading.{due_constant, left_none, right_none}
 whole_fixed : (m : Meaning) (s : ℕ) → are_fixed (whole_part m s ∷ []) ≡ true
 whole_fixed (Signal signal width lsb signed writer) s = refl
 whole_fixed (Constant width value signed) s = refl
+whole_fixed (Turn width value signed) s = refl
 whole_fixed Genvar s = refl
 whole_fixed Unknown s = refl
 
@@ -25,12 +26,14 @@ at_fixed : (m : Meaning) (s width down : ℕ) (c : Bool) (at : ℤ) (signed : Bo
 at_fixed (Signal signal total lsb sign writer) s width down true at signed x h = refl
 at_fixed (Signal signal total lsb sign writer) s width down false at signed x h = absurd (true≢false (sym h))
 at_fixed (Constant own value sign) s width down c at signed x h = refl
+at_fixed (Turn own value sign) s width down c at signed x h = refl
 at_fixed Genvar s width down c at signed x h = refl
 at_fixed Unknown s width down c at signed x h = refl
 
 from_fixed : (m : Meaning) (s : ℕ) (low : ℤ) (width : ℕ) → are_fixed (part_from m s low width ∷ []) ≡ true
 from_fixed (Signal signal total lsb sign writer) s low width = refl
 from_fixed (Constant own value sign) s low width = refl
+from_fixed (Turn own value sign) s low width = refl
 from_fixed Genvar s low width = refl
 from_fixed Unknown s low width = refl
 
