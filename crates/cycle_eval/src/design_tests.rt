@@ -125,6 +125,51 @@ fn after(alloc: Global, design: &Design, cycles: u64) -> Result<Vec<u128>, NoMem
     counted::<Brand>(alloc, design, cycles, Blank::new(1))
 }
 
+// The registers after so many cycles, by a table.
+fn check(
+    rt: &impl Abort,
+    alloc: Global,
+    design: &Design,
+    table: &[(u64, &[u128])],
+) -> Result<(), NoMemory> {
+    for (cycles, wanted) in table {
+        let values = after(alloc, design, *cycles)?;
+        assert_eq!(rt; values.as_slice(), *wanted, "after {cycles} cycles");
+    }
+    Ok(())
+}
+
+fn ids(alloc: Global, numbers: &[u32]) -> Result<Vec<SignalId>, NoMemory> {
+    let mut ids = Vec::new(alloc);
+    for number in numbers {
+        ids.push(SignalId(*number))?;
+    }
+    Ok(ids)
+}
+
+// A design of one instance, with signals of these widths and values at the beginning, of which these are registers and these inputs.
+pub fn made(
+    rt: &impl Abort,
+    alloc: Global,
+    list: &[(u8, u128)],
+    registers: &[u32],
+    inputs: &[u32],
+    nodes: Vec<Node>,
+    clocked: Vec<Stmt>,
+) -> Result<Design, NoMemory>
+    ensures { IfOk result (λ design. work_of design ≡ length nodes.items + length clocked.items) }
+{
+    let parts = Parts {
+        instances: top(alloc)?,
+        signals: signals(rt, alloc, list)?,
+        registers: ids(alloc, registers)?,
+        inputs: ids(alloc, inputs)?,
+        nodes,
+        clocked,
+    };
+    design_of(rt, alloc, parts)
+}
+
 fn whole(signal: u32, width: u8) -> Lane
     ensures { result ≡ record { shift = 0; span = record { signal = signal; low = 0; width = width } } }
 {
@@ -190,18 +235,18 @@ fn right_sides_read_old_registers(rt: HostRuntime) -> Result<(), Fail> {
         later(alloc, 2, 8, number(1, 8))?,
         later(alloc, 2, 8, number(2, 8))?,
     ]?;
-    let parts = Parts {
-        instances: top(alloc)?,
-        signals: signals(&rt, alloc, &[(8, 1), (8, 2), (8, 0)])?,
-        registers: vec![in alloc; SignalId(0), SignalId(1), SignalId(2)]?,
-        inputs: Vec::new(alloc),
-        nodes: Vec::new(alloc),
-        clocked: vec![in alloc; Stmt::Sequence(body)]?,
-    };
-    let design = design_of(&rt, alloc, parts)?;
-    assert_eq!(rt; after(alloc, &design, 0)?.as_slice(), [1, 2, 0].as_slice());
-    assert_eq!(rt; after(alloc, &design, 1)?.as_slice(), [2, 1, 2].as_slice());
-    assert_eq!(rt; after(alloc, &design, 2)?.as_slice(), [1, 2, 2].as_slice());
+    let clocked = vec![in alloc; Stmt::Sequence(body)]?;
+    let design = made(
+        &rt,
+        alloc,
+        &[(8, 1), (8, 2), (8, 0)],
+        &[0, 1, 2],
+        &[],
+        Vec::new(alloc),
+        clocked,
+    )?;
+    let table: &[(u64, &[u128])] = &[(0, &[1, 2, 0]), (1, &[2, 1, 2]), (2, &[1, 2, 2])];
+    check(&rt, alloc, &design, table)?;
     Ok(())
 }
 
@@ -229,28 +274,23 @@ fn a_place_known_at_run_time(rt: HostRuntime) -> Result<(), Fail> {
     };
     let next = later(alloc, 1, 3, plus(alloc, 1, 3, 1)?)?;
     let body = vec![in alloc; one, next]?;
-    let parts = Parts {
-        instances: top(alloc)?,
-        signals: signals(&rt, alloc, &[(4, 0), (3, 0)])?,
-        registers: vec![in alloc; SignalId(0), SignalId(1)]?,
-        inputs: Vec::new(alloc),
-        nodes: Vec::new(alloc),
-        clocked: vec![in alloc; Stmt::Sequence(body)]?,
-    };
-    let design = design_of(&rt, alloc, parts)?;
-    assert_eq!(rt;
-        after(alloc, &design, 3)?.as_slice(),
-        [0b0111, 3].as_slice()
-    );
-    assert_eq!(rt;
-        after(alloc, &design, 4)?.as_slice(),
-        [0b1111, 4].as_slice()
-    );
-    // Places 4 to 7 lie outside of q.
-    assert_eq!(rt;
-        after(alloc, &design, 8)?.as_slice(),
-        [0b1111, 0].as_slice()
-    );
+    let clocked = vec![in alloc; Stmt::Sequence(body)]?;
+    let design = made(
+        &rt,
+        alloc,
+        &[(4, 0), (3, 0)],
+        &[0, 1],
+        &[],
+        Vec::new(alloc),
+        clocked,
+    )?;
+    let table: &[(u64, &[u128])] = &[
+        (3, &[0b0111, 3]),
+        (4, &[0b1111, 4]),
+        // Places 4 to 7 lie outside of q.
+        (8, &[0b1111, 0]),
+    ];
+    check(&rt, alloc, &design, table)?;
     Ok(())
 }
 
@@ -284,20 +324,24 @@ fn a_case_with_dont_cares(rt: HostRuntime) -> Result<(), Fail> {
             otherwise
         },
     ]?;
-    let parts = Parts {
-        instances: top(alloc)?,
-        signals: signals(&rt, alloc, &[(4, 5), (2, 0)])?,
-        registers: vec![in alloc; SignalId(0), SignalId(1)]?,
-        inputs: Vec::new(alloc),
-        nodes: Vec::new(alloc),
-        clocked: vec![in alloc; Stmt::Sequence(body)]?,
-    };
-    let design = design_of(&rt, alloc, parts)?;
-    let table = [[11, 1], [1, 3], [7, 2], [13, 1], [3, 3]];
-    for cycles in 0..table.len() {
-        let values = after(alloc, &design, cycles as u64 + 1)?;
-        assert_eq!(rt; values.as_slice(), table[cycles].as_slice());
-    }
+    let clocked = vec![in alloc; Stmt::Sequence(body)]?;
+    let design = made(
+        &rt,
+        alloc,
+        &[(4, 5), (2, 0)],
+        &[0, 1],
+        &[],
+        Vec::new(alloc),
+        clocked,
+    )?;
+    let table: &[(u64, &[u128])] = &[
+        (1, &[11, 1]),
+        (2, &[1, 3]),
+        (3, &[7, 2]),
+        (4, &[13, 1]),
+        (5, &[3, 3]),
+    ];
+    check(&rt, alloc, &design, table)?;
     Ok(())
 }
 
@@ -319,16 +363,18 @@ fn a_long_block(rt: HostRuntime) -> Result<(), Fail> {
         arms,
         otherwise,
     })?;
-    let parts = Parts {
-        instances: top(alloc)?,
-        signals: signals(&rt, alloc, &[(4, 0), (2, 0)])?,
-        registers: vec![in alloc; SignalId(0), SignalId(1)]?,
-        inputs: Vec::new(alloc),
-        nodes: Vec::new(alloc),
-        clocked: vec![in alloc; Stmt::Sequence(body)]?,
-    };
-    let design = design_of(&rt, alloc, parts)?;
-    assert_eq!(rt; after(alloc, &design, 1)?.as_slice(), [15, 3].as_slice());
+    let clocked = vec![in alloc; Stmt::Sequence(body)]?;
+    let design = made(
+        &rt,
+        alloc,
+        &[(4, 0), (2, 0)],
+        &[0, 1],
+        &[],
+        Vec::new(alloc),
+        clocked,
+    )?;
+    let table: &[(u64, &[u128])] = &[(1, &[15, 3])];
+    check(&rt, alloc, &design, table)?;
     Ok(())
 }
 
@@ -343,16 +389,10 @@ fn a_long_chain(rt: HostRuntime) -> Result<(), Fail> {
         all.push((8, 0))?;
     }
     all.push((8, 7))?;
-    let parts = Parts {
-        instances: top(alloc)?,
-        signals: signals(&rt, alloc, &all)?,
-        registers: vec![in alloc; SignalId(100_000)]?,
-        inputs: Vec::new(alloc),
-        nodes,
-        clocked: vec![in alloc; later(alloc, 100_000, 8, Typed::name(SignalId(0), 8))?]?,
-    };
-    let design = design_of(&rt, alloc, parts)?;
-    assert_eq!(rt; after(alloc, &design, 1)?.as_slice(), [167].as_slice());
+    let clocked = vec![in alloc; later(alloc, 100_000, 8, Typed::name(SignalId(0), 8))?]?;
+    let design = made(&rt, alloc, &all, &[100_000], &[], nodes, clocked)?;
+    let table: &[(u64, &[u128])] = &[(1, &[167])];
+    check(&rt, alloc, &design, table)?;
     Ok(())
 }
 
@@ -386,19 +426,23 @@ fn a_condition_and_two_parts(rt: HostRuntime) -> Result<(), Fail> {
             alternative: nothing
         },
     ]?;
-    let parts = Parts {
-        instances: top(alloc)?,
-        signals: signals(&rt, alloc, &[(2, 0), (4, 9), (1, 0)])?,
-        registers: vec![in alloc; SignalId(0), SignalId(1), SignalId(2)]?,
-        inputs: Vec::new(alloc),
-        nodes: Vec::new(alloc),
-        clocked: vec![in alloc; Stmt::Sequence(body)]?,
-    };
-    let design = design_of(&rt, alloc, parts)?;
-    // 45 is 10 1101 in binary.
-    assert_eq!(rt; after(alloc, &design, 1)?.as_slice(), [0, 9, 1].as_slice());
-    assert_eq!(rt; after(alloc, &design, 2)?.as_slice(), [2, 13, 0].as_slice());
-    assert_eq!(rt; after(alloc, &design, 3)?.as_slice(), [2, 13, 1].as_slice());
+    let clocked = vec![in alloc; Stmt::Sequence(body)]?;
+    let design = made(
+        &rt,
+        alloc,
+        &[(2, 0), (4, 9), (1, 0)],
+        &[0, 1, 2],
+        &[],
+        Vec::new(alloc),
+        clocked,
+    )?;
+    let table: &[(u64, &[u128])] = &[
+        // 45 is 10 1101 in binary.
+        (1, &[0, 9, 1]),
+        (2, &[2, 13, 0]),
+        (3, &[2, 13, 1]),
+    ];
+    check(&rt, alloc, &design, table)?;
     Ok(())
 }
 
@@ -421,27 +465,27 @@ fn wires_written_backwards(rt: HostRuntime) -> Result<(), Fail> {
         later(alloc, 1, 4, Typed::name(SignalId(5), 4))?,
         later(alloc, 2, 4, plus(alloc, 6, 4, 1)?)?,
     ]?;
-    let parts = Parts {
-        instances: top(alloc)?,
-        signals: signals(
-            &rt,
-            alloc,
-            &[(4, 0), (4, 9), (4, 0), (4, 0), (4, 0), (4, 0), (4, 0)],
-        )?,
-        registers: vec![in alloc; SignalId(0), SignalId(1), SignalId(2)]?,
-        inputs: vec![in alloc; SignalId(6)]?,
+    let clocked = vec![in alloc;
+        later(alloc, 0, 4, Typed::name(SignalId(4), 4))?,
+        Stmt::Sequence(others),
+    ]?;
+    let design = made(
+        &rt,
+        alloc,
+        &[(4, 0), (4, 9), (4, 0), (4, 0), (4, 0), (4, 0), (4, 0)],
+        &[0, 1, 2],
+        &[6],
         nodes,
-        clocked: vec![in alloc;
-            later(alloc, 0, 4, Typed::name(SignalId(4), 4))?,
-            Stmt::Sequence(others),
-        ]?,
-    };
-    let design = design_of(&rt, alloc, parts)?;
-    // (0 + 1) ^ 3 is 2, and (2 + 1) ^ 3 is 0; a wire without a driver and an input that isn't set read 0
-    assert_eq!(rt; after(alloc, &design, 0)?.as_slice(), [0, 9, 0].as_slice());
-    assert_eq!(rt; after(alloc, &design, 1)?.as_slice(), [2, 0, 1].as_slice());
-    assert_eq!(rt; after(alloc, &design, 2)?.as_slice(), [0, 0, 1].as_slice());
-    assert_eq!(rt; after(alloc, &design, 3)?.as_slice(), [2, 0, 1].as_slice());
+        clocked,
+    )?;
+    let table: &[(u64, &[u128])] = &[
+        // (0 + 1) ^ 3 is 2, and (2 + 1) ^ 3 is 0; a wire without a driver and an input that isn't set read 0
+        (0, &[0, 9, 0]),
+        (1, &[2, 0, 1]),
+        (2, &[0, 0, 1]),
+        (3, &[2, 0, 1]),
+    ];
+    check(&rt, alloc, &design, table)?;
     Ok(())
 }
 
@@ -493,11 +537,14 @@ fn a_block_with_a_temporary(rt: HostRuntime) -> Result<(), Fail> {
     };
     let design = design_with(&rt, alloc, parts)?;
     // 5 ^ 6 is 3, 4 ^ 6 is 2, 3 ^ 6 is 5, 6 ^ 6 is 0, and 1 ^ 6 is 7.
-    for (cycles, wanted) in [(0, 4), (1, 3), (2, 2), (3, 5), (4, 0), (5, 7)] {
-        assert_eq!(rt;
-            after(alloc, &design, cycles)?.as_slice(),
-            [wanted].as_slice()
-        );
-    }
+    let table: &[(u64, &[u128])] = &[
+        (0, &[4]),
+        (1, &[3]),
+        (2, &[2]),
+        (3, &[5]),
+        (4, &[0]),
+        (5, &[7]),
+    ];
+    check(&rt, alloc, &design, table)?;
     Ok(())
 }

@@ -6,9 +6,8 @@ ghost use Rattle.cycle_eval.specs.Designs.{design_flat};
 ghost use Rattle.cycle_eval.specs.Updates.{all_updates};
 
 use crate::Design;
-use crate::design_tests::{assign, design_of, later, plus, signals, top, values_of};
+use crate::design_tests::{assign, later, made, plus, values_of};
 use bits::Bits;
-use comb_order::Parts;
 use machine::steps::Steps;
 use no_memory::NoMemory;
 use std::alloc::Global;
@@ -70,36 +69,24 @@ fn after(
 #[test]
 fn inputs_by_rows(rt: HostRuntime) -> Result<(), Fail> {
     let alloc = rt.alloc();
-    let parts = Parts {
-        instances: top(alloc)?,
-        signals: signals(&rt, alloc, &[(4, 7), (8, 7), (4, 0), (8, 0), (4, 0)])?,
-        registers: vec![in alloc; SignalId(0), SignalId(1)]?,
-        inputs: vec![in alloc; SignalId(2), SignalId(3)]?,
-        nodes: vec![in alloc; assign(alloc, 4, 4, plus(alloc, 2, 4, 1)?)?]?,
-        clocked: vec![in alloc;
-            later(alloc, 0, 4, Typed::name(SignalId(4), 4))?,
-            later(alloc, 1, 8, Typed::name(SignalId(3), 8))?,
-        ]?,
-    };
-    let design = design_of(&rt, alloc, parts)?;
-    // 21 is 16 + 5 and 300 is 256 + 44: each too wide for its input.
-    assert_eq!(rt;
-        after(alloc, &design, &[1, 2], &[21, 300])?.as_slice(),
-        [6, 44].as_slice()
-    );
-    // An input that the row has no number for is 0, whatever it was.
-    assert_eq!(rt;
-        after(alloc, &design, &[21, 300], &[3])?.as_slice(),
-        [4, 0].as_slice()
-    );
-    assert_eq!(rt;
-        after(alloc, &design, &[21, 300], &[])?.as_slice(),
-        [1, 0].as_slice()
-    );
-    // A number without an input does nothing.
-    assert_eq!(rt;
-        after(alloc, &design, &[], &[15, 255, 9])?.as_slice(),
-        [0, 255].as_slice()
-    );
+    let nodes = vec![in alloc; assign(alloc, 4, 4, plus(alloc, 2, 4, 1)?)?]?;
+    let clocked = vec![in alloc;
+        later(alloc, 0, 4, Typed::name(SignalId(4), 4))?,
+        later(alloc, 1, 8, Typed::name(SignalId(3), 8))?,
+    ]?;
+    let list = [(4, 7), (8, 7), (4, 0), (8, 0), (4, 0)];
+    let design = made(&rt, alloc, &list, &[0, 1], &[2, 3], nodes, clocked)?;
+    // The numbers of one row, of another, and the registers after a cycle under each. 21 is 16 + 5 and 300 is 256 + 44: each too wide for
+    // its input. An input that the row has no number for is 0, whatever it was. A number without an input does nothing.
+    let table: &[(&[u128], &[u128], &[u128])] = &[
+        (&[1, 2], &[21, 300], &[6, 44]),
+        (&[21, 300], &[3], &[4, 0]),
+        (&[21, 300], &[], &[1, 0]),
+        (&[], &[15, 255, 9], &[0, 255]),
+    ];
+    for (one, other, wanted) in table {
+        let values = after(alloc, &design, one, other)?;
+        assert_eq!(rt; values.as_slice(), *wanted);
+    }
     Ok(())
 }

@@ -3,8 +3,7 @@ ghost use Rattle.std.specs.Prelude.{◌≡◌, ◌<◌, ◌+◌, IfOk};
 ghost use Rattle.cycle_eval.specs.Designs.{work_of};
 
 use crate::Design;
-use crate::design_tests::{assign, design_of, later, plus, signals, top, values_after};
-use comb_order::Parts;
+use crate::design_tests::{assign, later, made, plus, values_after};
 use machine::steps::Steps;
 use no_memory::NoMemory;
 use std::alloc::Global;
@@ -27,15 +26,8 @@ fn two_and_two(rt: &impl Abort, alloc: Global) -> Result<Design, NoMemory>
         later(alloc, 0, 4, Typed::name(SignalId(2), 4))?,
         later(alloc, 1, 4, Typed::name(SignalId(3), 4))?,
     ]?;
-    let parts = Parts {
-        instances: top(alloc)?,
-        signals: signals(rt, alloc, &[(4, 1), (4, 2), (4, 0), (4, 0)])?,
-        registers: vec![in alloc; SignalId(0), SignalId(1)]?,
-        inputs: Vec::new(alloc),
-        nodes,
-        clocked,
-    };
-    design_of(rt, alloc, parts)
+    let list = [(4, 1), (4, 2), (4, 0), (4, 0)];
+    made(rt, alloc, &list, &[0, 1], &[], nodes, clocked)
 }
 
 // Three cycles of four steps.
