@@ -81,12 +81,12 @@ taken_through old mid new result run items label here said is next =
 pub block_goes : (run : Option ℕ → State → Told State) (items : ModuleItem) (here : Option ℕ) (label : Identifier) (turn : Option LoopTurn)
     (st within end out : State) (old mid mids new : List ModuleStep) (number : ℕ)
     → number ≡ st.opened
-    → mid ≡ old ++ Opened (record { number = st.opened; parent = here; label = label; turn = turn }) ∷ []
+    → mid ≡ old ++ Opened (record { number = st.opened; parent = here; label = label; turn = turn }) items ∷ []
     → within ≡ inside turn items st → Comes mid mids (Ok end) (run (Some number) within)
     → new ≡ mids ++ Closed ∷ [] → out ≡ outside st end
     → Comes old new (Ok out) (block_with run items here label turn st)
 block_goes run items here label turn st within end out old mid mids new number is said in_is next closed out_is =
-    say_then old mid new (Opened (record { number = st.opened; parent = here; label = label; turn = turn })) within (inside turn items st)
+    say_then old mid new (Opened (record { number = st.opened; parent = here; label = label; turn = turn }) items) within (inside turn items st)
     (λ within. run (Some st.opened) within >>= λ end. say Closed (outside st end)) (Ok out) said in_is
     (then_goes mid mids new end (run (Some st.opened) within) (λ end. say Closed (outside st end)) (Ok out)
     (subst (λ (n : ℕ). Comes mid mids (Ok end) (run (Some n) within)) is next)
@@ -95,12 +95,12 @@ block_goes run items here label turn st within end out old mid mids new number i
 pub block_refused : (run : Option ℕ → State → Told State) (items : ModuleItem) (here : Option ℕ) (label : Identifier) (turn : Option LoopTurn)
     (old mid new : Walk) (number : ℕ) (r : Refusal)
     → number ≡ (state_of old).opened
-    → steps_of mid ≡ steps_of old ++ Opened (record { number = (state_of old).opened; parent = here; label = label; turn = turn }) ∷ []
+    → steps_of mid ≡ steps_of old ++ Opened (record { number = (state_of old).opened; parent = here; label = label; turn = turn }) items ∷ []
     → state_of mid ≡ inside turn items (state_of old) → Goes mid new (Err r) (run (Some number) (state_of mid))
     → Goes old new (Err r) (block_with run items here label turn (state_of old))
 block_refused run items here label turn old mid new number refusal.NoMemory is said in_is next = tt
 block_refused run items here label turn old mid new number (refusal.Fault e) is said in_is next =
-    say_then (steps_of old) (steps_of mid) (steps_of new) (Opened (record { number = (state_of old).opened; parent = here; label = label; turn = turn })) (state_of mid) (inside turn items (state_of old))
+    say_then (steps_of old) (steps_of mid) (steps_of new) (Opened (record { number = (state_of old).opened; parent = here; label = label; turn = turn }) items) (state_of mid) (inside turn items (state_of old))
     (λ within. run (Some (state_of old).opened) within >>= λ end. say Closed (outside (state_of old) end)) (Err e) said in_is
     (stop_goes (steps_of mid) (steps_of new) (run (Some (state_of old).opened) (state_of mid)) (λ end. say Closed (outside (state_of old) end)) e
     (subst (λ (n : ℕ). Comes (steps_of mid) (steps_of new) (Err e) (run (Some n) (state_of mid))) is next))

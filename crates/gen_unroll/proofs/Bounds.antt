@@ -48,16 +48,13 @@ not_but : (b : Bool) → b ≡ true → not b ≡ false
 not_but b is = ap not is
 
 pub first_high : (scope : Scope) (r : RangeBounds) (x : Refusal) → IsFirst (faults scope true r.high) x → IsFirst (range_faults scope r) x
-unfolding range_faults
 first_high scope r x h = earlier (faults scope true r.high) _ x h
 
 pub first_low : (scope : Scope) (r : RangeBounds) (x : Refusal) → faults scope true r.high ≡ [] → IsFirst (faults scope true r.low) x → IsFirst (range_faults scope r) x
-unfolding range_faults
 first_low scope r x a h = later (faults scope true r.high) _ x a (earlier (faults scope true r.low) _ x h)
 
 pub first_order : (scope : Scope) (r : RangeBounds) (high low : ℤ) (x : Refusal) → faults scope true r.high ≡ [] → faults scope true r.low ≡ []
     → high ≡ integer scope r.high → low ≡ integer scope r.low → is_range high low ≡ false → IsFirst (fault_of 26 r.high ∷ []) x → IsFirst (range_faults scope r) x
-unfolding range_faults
 first_order scope r high low x a b is_high is_low none h =
     later (faults scope true r.high) _ x a (later (faults scope true r.low) _ x b
     (earlier (fault_if (not (is_range (integer scope r.high) (integer scope r.low))) (fault_of 26 r.high)) _ x
@@ -67,7 +64,6 @@ first_order scope r high low x a b is_high is_low none h =
 pub first_wide : (scope : Scope) (r : RangeBounds) (high low : ℤ) (x : Refusal) → faults scope true r.high ≡ [] → faults scope true r.low ≡ []
     → high ≡ integer scope r.high → low ≡ integer scope r.low → is_range high low ≡ true → nat_lt 128 (bits_between high low) ≡ true
     → IsFirst (fault_of 31 r.high ∷ []) x → IsFirst (range_faults scope r) x
-unfolding range_faults
 first_wide scope r high low x a b is_high is_low so wide h =
     later (faults scope true r.high) _ x a (later (faults scope true r.low) _ x b
     (later (fault_if (not (is_range (integer scope r.high) (integer scope r.low))) (fault_of 26 r.high)) _ x
@@ -79,7 +75,6 @@ first_wide scope r high low x a b is_high is_low so wide h =
 pub first_none : (scope : Scope) (r : RangeBounds) (high low : ℤ) → faults scope true r.high ≡ [] → faults scope true r.low ≡ []
     → high ≡ integer scope r.high → low ≡ integer scope r.low → is_range high low ≡ true → nat_lt 128 (bits_between high low) ≡ false
     → range_faults scope r ≡ []
-unfolding range_faults
 first_none scope r high low a b is_high is_low so narrow =
     neither (faults scope true r.high) _ a (neither (faults scope true r.low) _ b
     (neither (fault_if (not (is_range (integer scope r.high) (integer scope r.low))) (fault_of 26 r.high)) _

@@ -6,4 +6,5 @@ pub mod Listing
 pub mod Counting
 pub mod Scoping
 pub mod Blocks
+pub mod Reaching
 pub mod Prefixes

@@ -29,10 +29,6 @@ pub each_next : {A B : Type 0} (view : B → A) (step : A → State → Told Sta
     → each step (map view (drop k xs)) st ≡ (step (view x) st >>= λ next. each step (map view (drop (k + 1) xs)) next)
 each_next view step xs k x st h is = ap (λ zs. each step (map view zs) st) (drop_read xs k x h is)
 
-pub each_split : {A B : Type 0} (view : B → A) (step : A → State → Told State) (xs : List B) (k : ℕ) (d : B) (st : State) → k < length xs
-    → each step (map view (drop k xs)) st ≡ (step (view (get_or xs k d)) st >>= λ next. each step (map view (drop (k + 1) xs)) next)
-each_split view step xs k d st h = ap (λ zs. each step (map view zs) st) (drop_split xs k d h)
-
 pub each_none : {A B : Type 0} (view : B → A) (step : A → State → Told State) (xs : List B) (k : ℕ) (st : State) → length xs ≤ k
     → each step (map view (drop k xs)) st ≡ done st
 each_none view step xs k st h = at_drop_all (λ zs. each step (map view zs) st) xs k h

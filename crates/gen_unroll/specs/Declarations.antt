@@ -30,7 +30,7 @@ abbrev pub is_range : ℤ → ℤ → Bool
 is_range high low = is_bound high && (is_bound low && not (bits_between high low == 0))
 
 -- the faults of both bounds, a bound that is none or a high one below the low one (26), and more than 128 bits (31)
-unfoldable pub range_faults : Scope → RangeBounds → List Fault
+abbrev pub range_faults : Scope → RangeBounds → List Fault
 range_faults scope r =
     faults scope true r.high ++ (faults scope true r.low
     ++ (fault_if (not (is_range (integer scope r.high) (integer scope r.low))) (fault_of 26 r.high)

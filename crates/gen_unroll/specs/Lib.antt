@@ -3,5 +3,7 @@ pub mod Declarations
 pub mod Steps
 pub mod Told
 pub mod Unrolled
+pub mod Reaches
 pub mod Spoken
 pub mod Views
+pub mod ReachViews

@@ -30,12 +30,12 @@ pub data ModuleStep : Type 0 where
   Item : (item : ModuleItem) → ModuleStep
   -- the label of a loop, once, or of the branch that is taken
   Labelled : (label : Identifier) → ModuleStep
-  -- around what stands in a block
-  Opened : (block : GenerateBlock) → ModuleStep
+  -- around what stands in a block, with the items of the block
+  Opened : (block : GenerateBlock) (items : ModuleItem) → ModuleStep
   Closed : ModuleStep
 
 -- the blocks that are opened
 abbrev pub blocks_in : List ModuleStep → List GenerateBlock
 blocks_in [] = []
-blocks_in (Opened b ∷ steps) = b ∷ blocks_in steps
+blocks_in (Opened b items ∷ steps) = b ∷ blocks_in steps
 blocks_in (other ∷ steps) = blocks_in steps

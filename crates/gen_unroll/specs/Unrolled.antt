@@ -162,7 +162,7 @@ outside before st = record st { scope = before.scope }
 -- what `run` tells of the items of a block, with its number, stands in it
 abbrev pub block_with : (Option ℕ → State → Told State) → ModuleItem → (here : Option ℕ) → Identifier → Option LoopTurn → State → Told State
 block_with run items here label turn st =
-    say (Opened (record { number = st.opened; parent = here; label = label; turn = turn })) (inside turn items st)
+    say (Opened (record { number = st.opened; parent = here; label = label; turn = turn }) items) (inside turn items st)
     >>= λ within. run (Some st.opened) within
     >>= λ end. say Closed (outside st end)
 
@@ -216,10 +216,14 @@ unfoldable mutual
 abbrev pub nowhere : Scope
 nowhere = λ name. Unknown
 
+-- the names of a module itself
+abbrev pub own_names : ModuleDeclaration → Scope
+own_names m = item_names m.items (port_names m.ports nowhere)
+
 -- a module begins with its own names in reach and with all its turns left
 abbrev pub beginning : (limit : ℕ) → List (Option ConstantValue) → ModuleDeclaration → State
 beginning limit overrides m = record {
-  scope = item_names m.items (port_names m.ports nowhere);
+  scope = own_names m;
   overrides = overrides;
   opened = 0;
   left = limit;

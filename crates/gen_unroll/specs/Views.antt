@@ -6,7 +6,7 @@ use Rattle.ls_text.specs.declared.refusal.Refusal.{Refusal}
 use Rattle.ls_text.specs.declared.refusal.Refusal.TheVariants as refusal
 use Rattle.typed_ir.specs.declared.constant.Const.{Const}
 use Rattle.verilog_ast.specs.Items as i
-use Rattle.verilog_ast.specs.Views.{kind_of, declared_of, port_of, plain_item_of}
+use Rattle.verilog_ast.specs.Views.{kind_of, declared_of, port_of, plain_item_of, generate_item_of, items_of}
 use Rattle.width_rules.specs.Entries.{scope_of}
 use Rattle.gen_unroll.specs.declared.bit_range.BitRange.{BitRange as Bounds}
 use Rattle.gen_unroll.specs.declared.block.Block.{Block}
@@ -54,7 +54,7 @@ step_of (step.Inputs at net k ns) = Item (i.Inputs at net (kind_of k.now) ns.now
 step_of (step.Outputs at net k xs) = Item (i.Outputs at net (kind_of k.now) (map declared_of xs.now))
 step_of (step.Item x) = Item (plain_item_of x.now)
 step_of (step.Label n) = Labelled n
-step_of (step.Open b) = Opened (block_of b)
+step_of (step.Open b xs) = Opened (block_of b) (items_of (map generate_item_of xs.now))
 step_of step.Close = Closed
 
 -- ---- what unrolling goes by

@@ -3,7 +3,7 @@ use crate::block::Block;
 use crate::parameter_sort::ParameterSort;
 use ls_text::Place;
 use typed_ir::Const;
-use verilog_ast::{HeaderPort, Identifier, PlainItem, PortNet, Shape, Variable};
+use verilog_ast::{GenerateItem, HeaderPort, Identifier, PlainItem, PortNet, Shape, Variable};
 
 /// What comes next of a module in the order of its text. Nothing is copied: a step refers to the tree.
 #[derive(Clone, Copy)]
@@ -22,7 +22,7 @@ pub enum Step<'a> {
     Item(&'a PlainItem),
     /// The label of a loop, once and also where it has no turn, or of the branch that is taken.
     Label(Identifier),
-    /// What follows stands in the block, up to its `Close`.
-    Open(Block),
+    /// What follows stands in the block, up to its `Close`; these are the items of the block.
+    Open(Block, &'a [GenerateItem]),
     Close,
 }

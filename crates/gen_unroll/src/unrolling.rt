@@ -183,27 +183,30 @@ fn next_number(w: &mut Walk<'_, '_>) -> Result<BlockId, NoMemory>
 }
 
 // A block is opened, in which the names of its turn and of its items are known; its number.
-fn opened(
-    w: &mut Walk<'_, '_>,
+fn opened<'a>(
+    w: &mut Walk<'a, '_>,
     parent: Option<BlockId>,
     label: Identifier,
     turn: Option<Turn>,
-    items: &[GenerateItem],
+    items: &'a [GenerateItem],
 ) -> Result<BlockId, NoMemory>
     ensures number { IfOk result (λ number. number.0 ≡ w.old.opened) }
-    ensures steps { IfOk result (λ _. steps_of w.new ≡ steps_of w.old ++ Opened (record { number = w.old.opened; parent = here_of parent; label = label; turn = option_map turn_of turn }) ∷ []) }
+    ensures steps { IfOk result (λ _. steps_of w.new ≡ steps_of w.old ++ Opened (record { number = w.old.opened; parent = here_of parent; label = label; turn = option_map turn_of turn }) (items_of (map generate_item_of items.now)) ∷ []) }
     ensures state { IfOk result (λ _. state_of w.new ≡ u.inside (option_map turn_of turn) (items_of (map generate_item_of items.now)) (state_of w.old)) }
     ensures around { IfOk result (λ _. around w.new.scope ≡ (state_of w.old).scope ∷ around w.old.scope) }
 {
     let number = next_number(w)?;
     tell(
         w,
-        Step::Open(Block {
-            number,
-            parent,
-            label,
-            turn,
-        }),
+        Step::Open(
+            Block {
+                number,
+                parent,
+                label,
+                turn,
+            },
+            items,
+        ),
     )?;
     open_block(&mut w.scope, turn, items)?;
     Ok(number)
@@ -258,10 +261,7 @@ fn turns<'a>(
             genvar,
             value: *value,
         };
-        match block(w, parent, items, label, Some(turn)) {
-            Ok(()) => {}
-            Err(refusal) => return Err(refusal),
-        }
+        block(w, parent, items, label, Some(turn))?;
     }
     Ok(())
 }
@@ -472,16 +472,16 @@ fn blocks_in(alloc: Global, steps: &[Step<'_>]) -> Result<Vec<Block>, NoMemory>
 {
     let mut blocks = Vec::new(alloc);
     for step in steps {
-        if let Step::Open(block) = step {
+        if let Step::Open(block, _) = step {
             blocks.push(*block)?;
         }
     }
     Ok(blocks)
 }
 
-// The same as `unroll`, with so many turns.
+/// The same as `unroll`, with so many turns.
 #[tactic(auto, unfolding(crate::specs::Unrolled::unrolled_module))]
-fn unroll_within<'a>(
+pub fn unroll_within<'a>(
     alloc: Global,
     of: &'a ModuleBody,
     overrides: &[Option<Const>],

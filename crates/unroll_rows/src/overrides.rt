@@ -24,7 +24,7 @@ fn one(text: &[u8]) -> Option<Const> {
     let width = decimal(width).clamp(1, 128) as u8;
     Some(Const {
         bits: Bits::new(width, decimal(value)),
-        signed: sign == b"s".as_slice(),
+        signed: sign == b"s",
     })
 }
 

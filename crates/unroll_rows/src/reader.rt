@@ -14,7 +14,6 @@ use verilog_parse::parse;
 pub struct ModuleReader;
 
 // What a reader shows of a module.
-#[derive(Drop)]
 enum Shown {
     Steps,
     Counts,

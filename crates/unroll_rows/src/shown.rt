@@ -33,9 +33,9 @@ fn instances(out: &mut Vec<u8>, texts: &[Vec<u8>], all: &[Instance]) -> Result<(
     Ok(())
 }
 
-// A number in decimal; 2^64 - 1 stands for all from there on.
+// A number in decimal, of which the lowest 64 bits count.
 fn number(out: &mut Vec<u8>, n: u128) -> Result<(), NoMemory> {
-    push_decimal(out, n.min(u128::from(u64::MAX)) as u64)
+    push_decimal(out, (n & u128::from(u64::MAX)) as u64)
 }
 
 // ` WIDTH signed VALUE` or ` WIDTH unsigned VALUE`, the value as it reads without a sign.
@@ -160,7 +160,7 @@ fn step(out: &mut Vec<u8>, texts: &[Vec<u8>], x: &Step<'_>) -> Result<(), NoMemo
             name(out, texts, id.name)?;
             out.push(b')')?;
         }
-        Step::Open(b) => block(out, texts, b)?,
+        Step::Open(b, _) => block(out, texts, b)?,
         Step::Close => out.push(b'}')?,
     }
     Ok(())

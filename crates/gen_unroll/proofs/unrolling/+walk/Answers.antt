@@ -4,14 +4,13 @@ use Rattle.width_rules.specs.Entries.{scope_of}
 use Rattle.width_rules.specs.Scopes.{Scope}
 use Rattle.verilog_ast.specs.declared.generate_item.GenerateItem.{GenerateItem}
 use Rattle.verilog_ast.specs.Views.{expression_of, head_of, generate_item_of, branch_of, items_of}
-use Rattle.gen_unroll.specs.Unrolled.{State, each, turn_with, block_with, loop_with, taken_with, is_taken, unrolled, chosen}
-use Rattle.gen_unroll.specs.Values.{constant_of, Answers}
+use Rattle.gen_unroll.specs.Unrolled.{State, block_with, loop_with, taken_with, is_taken, unrolled, chosen}
+use Rattle.gen_unroll.specs.Values.{Answers}
 use Rattle.gen_unroll.specs.Views.{Goes, state_of, here_of}
 use Rattle.gen_unroll.proofs.Blocks.{goes_from, goes_as, nothing_told, taken_through, item_loop}
 use Rattle.gen_unroll.proofs.Comings.{quiet_refused}
 use Rattle.gen_unroll.proofs.Lefts.{left_more, left_end, goes_stop}
-use Rattle.gen_unroll.proofs.Listing.{each_split, items_next, items_none, chosen_first, chosen_quiet, chosen_none}
-use Rattle.gen_unroll.proofs.Values.{same_rest}
+use Rattle.gen_unroll.proofs.Listing.{items_next, items_none, chosen_first, chosen_quiet, chosen_none}
 use Rattle.gen_unroll.proofs.unrolling.+walk.Goals as goal
 
 pub taken-returns-clause-goes : goal.taken-returns-clause-goes
@@ -78,17 +77,3 @@ pub generate_items-returns-clause-goes : goal.generate_items-returns-clause-goes
 generate_items-returns-clause-goes t c =
     left_end _ _ _ _ (state_of c.loop-item.w) c.loop-item.invariant.left
     (items_none generate_item_of c.args.items.now c.loop-item.item-index (here_of c.args.parent) (state_of c.loop-item.w) c.loop-item-test.false)
-
-pub block-returns-clause-around : goal.block-returns-clause-around
-block-returns-clause-around t c =
-    c.in_ok-tell.ensures.around
-    ∙ same_rest (scope_of c.close_block.new.self) _ _ _ (sym c.close_block.ensures ∙ c.in_ok-generate_items.ensures.around ∙ c.in_ok-number.ensures.around)
-
-pub turns-returns-in-Err-clause-goes : goal.turns-returns-in-Err-clause-goes
-turns-returns-in-Err-clause-goes t c =
-    goes_stop c.args.w.now c.loop-value.w c.block.new.w _ _ _
-    (λ next. each (turn_with (unrolled (items_of (map generate_item_of c.args.items.now))) (items_of (map generate_item_of c.args.items.now)) c.args.genvar c.args.label (here_of c.args.parent)) (map constant_of (drop (c.loop-value.value-index + 1) c.args.values.now)) next) _
-    c.loop-value.invariant.left
-    (each_split constant_of (turn_with (unrolled (items_of (map generate_item_of c.args.items.now))) (items_of (map generate_item_of c.args.items.now)) c.args.genvar c.args.label (here_of c.args.parent))
-    c.args.values.now c.loop-value.value-index _ (state_of c.loop-value.w) c.loop-value-test.true)
-    c.in-Err.ensures.goes
