@@ -9,9 +9,8 @@ use Rattle.ls_text.specs.declared.refusal.Refusal.TheVariants as refusal
 use Rattle.verilog_ast.specs.declared.identifier.Identifier.{Identifier}
 use Rattle.verilog_ast.specs.Expressions.{Expression, Literal, Whole, BitSelect, PartSelect, UpwardSelect, DownwardSelect, Unary, Binary, Conditional, Concatenation, Replication, Bracketed, NoPart, Parts}
 use Rattle.verilog_ast.specs.Places.{expression_place}
-use Rattle.width_rules.specs.Scopes.{Meaning, Signal, Constant, Turn, Genvar, Unknown, Scope, is_signal}
-use Rattle.width_rules.specs.Signs.{is_signed}
-use Rattle.width_rules.specs.Sizes.{length, push, literal_length, is_constant, count_of, bits_between}
+use Rattle.width_rules.specs.Scopes.{Meaning, Signal, Constant, Turn, Genvar, Unknown, Scope}
+use Rattle.width_rules.specs.Sizes.{length, literal_length, is_constant, count_of, bits_between}
 use Rattle.width_rules.specs.Constants.{integer}
 
 abbrev pub fault : ℕ → Place → List NameId → Fault

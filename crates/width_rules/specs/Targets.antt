@@ -1,9 +1,6 @@
 -- What stands left of an assignment: which bits of the value go where, and what may be wrong with it (IEEE Std 1364-2005, 6.1, 9.2).
 use Rattle.std.specs.Prelude.{ℕ, ◌+◌, ◌-◌, Bool, true, false, not, List, [], ◌∷◌, ◌++◌, if◌then◌else◌, ℤ}
 use Rattle.ls_text.specs.declared.fault.Fault.{Fault}
-use Rattle.typed_ir.specs.declared.span.Span.{Span}
-use Rattle.typed_ir.specs.declared.lane.Lane.{Lane}
-use Rattle.typed_ir.specs.declared.reach.Reach.{Reach}
 use Rattle.typed_ir.specs.Sized.{Sized}
 use Rattle.typed_ir.specs.Stmts.{SizedTarget, Fixed, Moving}
 use Rattle.verilog_ast.specs.declared.identifier.Identifier.{Identifier}

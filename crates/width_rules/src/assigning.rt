@@ -1,5 +1,5 @@
 // Assignments: a value at the larger of its own length and its target's, and continuous assignments.
-ghost use Rattle.std.specs.Prelude.{◌≡◌, ◌≤◌, ◌++◌, [], true, false, map, IfOk, IfErr, OnOk, IsTrue};
+ghost use Rattle.std.specs.Prelude.{◌≡◌, ◌≤◌, [], true, false, map, IfOk, IfErr, OnOk, IsTrue};
 ghost use Rattle.typed_ir.specs.Forms.{sized};
 ghost use Rattle.typed_ir.specs.Stmts.{Fixed};
 ghost use Rattle.typed_ir.specs.Targets.{targets_of as parts_of};

@@ -1,18 +1,16 @@
 // The first walk over an expression: its first fault from left to right, or its own length and sign and what its context may still
 // change. Each part is walked once.
-ghost use Rattle.std.specs.Prelude.{◌≡◌, ◌≤◌, ◌++◌, ◌==◌, true, false, [], min, map, IfOk, IfErr};
+ghost use Rattle.std.specs.Prelude.{◌≡◌, ◌==◌, true, false, [], map, IfOk, IfErr};
 ghost use Rattle.typed_ir.specs.Forms.{sized};
 ghost use Rattle.verilog_ast.specs.Expressions as e;
 ghost use Rattle.verilog_ast.specs.Views.{expression_of, reference_of, parts_of};
 ghost use Rattle.width_rules.specs.Entries.{scope_of};
-ghost use Rattle.width_rules.specs.Found.{meaning_of};
 ghost use Rattle.width_rules.specs.Signs.{is_signed};
 ghost use Rattle.width_rules.specs.Sizes.{length, is_constant, count_of};
 ghost use Rattle.width_rules.specs.Constants.{constant, integer};
-ghost use Rattle.width_rules.specs.Faults.{IsFirst, faults, fault_if, fault_of};
+ghost use Rattle.width_rules.specs.Faults.{IsFirst, faults, name_faults};
 ghost use Rattle.width_rules.specs.Opened.{opened, open_of, own, Simple};
 ghost use Rattle.width_rules.specs.Joins.{joined_of, joins, Nothing};
-ghost use Rattle.width_rules.specs.Faults.{name_faults};
 ghost use Rattle.width_rules.specs.Runs.{run_select_faults, run_bits, is_constant_run};
 
 use crate::combining::{calculated, chosen, compared, one_bit, shifted, tested};
@@ -31,7 +29,6 @@ use crate::self_determined::Own;
 use crate::whole::{count_of, whole_number};
 use bits::Bits;
 use ls_text::{Place, Refusal};
-use no_memory::NoMemory;
 use sqlite_items::Boxed;
 use std::alloc::Global;
 use typed_ir::{BinaryOperator, Const, Typed, UnaryOperator};

@@ -1,5 +1,5 @@
 // Names and selects that are written: parts of targets, each as if nothing stood right of it.
-ghost use Rattle.std.specs.Prelude.{◌≡◌, ◌≤◌, ◌++◌, ◌∷◌, [], true, IfOk, IfErr};
+ghost use Rattle.std.specs.Prelude.{◌≡◌, ◌≤◌, [], true, IfOk, IfErr};
 ghost use Rattle.typed_ir.specs.Forms.{sized};
 ghost use Rattle.typed_ir.specs.Sized.{value_of};
 ghost use Rattle.typed_ir.specs.Stmts.{Fixed};

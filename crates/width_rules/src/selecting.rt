@@ -1,16 +1,15 @@
 // Names and selects that are read.
-ghost use Rattle.std.specs.Prelude.{◌≡◌, ◌≤◌, ◌++◌, ◌==◌, true, false, [], min, IfOk, IfErr};
+ghost use Rattle.std.specs.Prelude.{◌≡◌, ◌≤◌, ◌==◌, true, false, [], IfOk, IfErr};
 ghost use Rattle.typed_ir.specs.Forms.{sized};
 ghost use Rattle.verilog_ast.specs.Expressions as e;
-ghost use Rattle.verilog_ast.specs.Views.{expression_of, reference_of};
+ghost use Rattle.verilog_ast.specs.Views.{expression_of};
 ghost use Rattle.width_rules.specs.Entries.{scope_of};
 ghost use Rattle.width_rules.specs.Found.{meaning_of};
 ghost use Rattle.width_rules.specs.Signs.{is_signed};
 ghost use Rattle.width_rules.specs.Sizes.{length, is_constant, count_of};
-ghost use Rattle.width_rules.specs.Constants.{constant, integer};
-ghost use Rattle.width_rules.specs.Faults.{IsFirst, faults, fault_if, fault_of};
-ghost use Rattle.width_rules.specs.Opened.{opened, open_of, own, Simple};
-ghost use Rattle.std.specs.Prelude.{ℕ};
+ghost use Rattle.width_rules.specs.Constants.{constant};
+ghost use Rattle.width_rules.specs.Faults.{IsFirst, faults};
+ghost use Rattle.width_rules.specs.Opened.{opened, open_of, Simple};
 ghost use Rattle.typed_ir.specs.Sized as s;
 ghost use Rattle.typed_ir.specs.Sized.{value_of};
 ghost use Rattle.width_rules.specs.Scopes.{is_signal};

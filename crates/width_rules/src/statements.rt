@@ -1,7 +1,7 @@
 // The walk over a statement: the first fault of its expressions, or what it is sized. Each expression is walked once.
 ghost use Rattle.std.specs.Prelude.{◌≡◌, ◌++◌, ◌&&◌, [], false, max, map, IfOk, IfErr, Some};
 ghost use Rattle.typed_ir.specs.Stmts as s;
-ghost use Rattle.typed_ir.specs.Statements.{stmt_of, sequence_of};
+ghost use Rattle.typed_ir.specs.Statements.{stmt_of};
 ghost use Rattle.verilog_ast.specs.Statements as w;
 ghost use Rattle.verilog_ast.specs.Views.{expression_of, target_of, statement_of, arm_of, statements_of};
 ghost use Rattle.width_rules.specs.Cases.{arm_form, open_item, open_items, default_form, with_default, earlier_or, otherwise_or, sized_case};

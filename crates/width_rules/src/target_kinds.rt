@@ -1,8 +1,8 @@
 // What may write a target (IEEE Std 1364-2005, 6.1, 9.2).
-ghost use Rattle.std.specs.Prelude.{◌≡◌, [], ◌∷◌, not, map, IfErr, OnOk};
+ghost use Rattle.std.specs.Prelude.{◌≡◌, [], not, map, IfErr, OnOk};
 ghost use Rattle.verilog_ast.specs.Views.{reference_of, target_of, targets_of};
 ghost use Rattle.width_rules.specs.Entries.{scope_of};
-ghost use Rattle.width_rules.specs.Faults.{IsFirst, first_name};
+ghost use Rattle.width_rules.specs.Faults.{IsFirst};
 ghost use Rattle.width_rules.specs.Found.{meaning_of};
 ghost use Rattle.width_rules.specs.Targets.{is_writer, may_write, kind_fault, reference_kind, kind_faults};
 

@@ -1,5 +1,5 @@
 // The whole numbers that constants stand for.
-ghost use Rattle.std.specs.Prelude.{◌≡◌, ◌≤◌, ◌<◌, ◌+◌, ◌^◌, min, true, false, MatchOption, IfSome};
+ghost use Rattle.std.specs.Prelude.{◌≡◌, ◌≤◌, ◌<◌, ◌+◌, min, true, false, MatchOption, IfSome};
 ghost use Rattle.width_rules.specs.Sizes.{read_as, count_of, bits_between, low_of};
 ghost use Rattle.width_rules.specs.Faults.{lies};
 ghost use Rattle.width_rules.specs.Wholes.{whole_of};
