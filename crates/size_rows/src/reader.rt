@@ -1,5 +1,6 @@
 // What one row is, by the reader that its table names.
 use crate::blocks::after_item;
+use crate::scopes::within_and_behind;
 use crate::sizes::{constant_of, sizing, value_at};
 use no_memory::NoMemory;
 use row_tables::Reader;
@@ -20,6 +21,7 @@ impl Reader for SizeReader {
             "value" => value_at(alloc, text),
             "sizing" => sizing(alloc, text),
             "constant" => constant_of(alloc, text),
+            "scope" => within_and_behind(alloc, text),
             "item" => after_item(alloc, text),
             _ => Ok(Vec::from_slice(alloc, b"no such reader")?),
         }

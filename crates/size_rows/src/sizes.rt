@@ -11,8 +11,8 @@ use verilog_ast::Expr;
 use verilog_expr::parse_expr;
 use width_rules::{constant, size_expr};
 
-// The expression that a text is; none where it isn't one.
-fn expression_of(alloc: Global, names: &mut Names, text: &[u8]) -> Result<Option<Expr>, NoMemory> {
+/// The expression that a text is; none where it isn't one.
+pub fn expression_of(alloc: Global, names: &mut Names, text: &[u8]) -> Result<Option<Expr>, NoMemory> {
     let Some(tokens) = tokens_of(alloc, names, text)? else {
         return Ok(None);
     };
