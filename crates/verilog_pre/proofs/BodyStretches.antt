@@ -1,6 +1,6 @@
 -- Stretches of a macro's body, and what counts them.
 use Rattle.std.proofs.Common.{◌≡◌, ℕ, ◌+◌, ◌-◌, ◌≤◌, ◌==◌, ◌&&◌, ◌||◌, not, ◌⊎◌, inl, inr, Bool, true, false, cond, List, [], ◌∷◌, ◌++◌, length, take, Some, None, refl, sym, ap, subst, ◌∙◌, arith, true≢false}
-use Rattle.std.proofs.Math.Bool.{and-false}
+use Rattle.std.proofs.Math.Bool.{and-false, or-true}
 use Rattle.std.proofs.lemmas.Bool.{eqb-true, and_from, not-true, or_parts, and_parts}
 use Rattle.std.proofs.lemmas.Option.{none-some}
 use Rattle.verilog_pre.specs.Bodies.{begins_cut, lines_len, comment_len, run_len}
@@ -255,16 +255,12 @@ pub from_ends : (a : ℕ) (bs : List ℕ) → StopsAt not_newline (left_from a b
 from_ends a [] = inl tt
 from_ends a (b ∷ bs) = at (b == 10) (a == 92) (begins_cut a b) refl refl refl (from_ends b bs)
   where
-    or_true : (x : Bool) → (x || true) ≡ true
-    or_true true = refl
-    or_true false = refl
-
     at : (s t u : Bool) → (b == 10) ≡ s → (a == 92) ≡ t → begins_cut a b ≡ u → StopsAt not_newline (left_from b bs) ⊎ BeginsWith begins_stretch (left_from b bs)
         → StopsAt not_newline (cond s (cond t (a ∷ b ∷ bs) (b ∷ bs)) (cond u (a ∷ b ∷ bs) (left_from b bs)))
         ⊎ BeginsWith begins_stretch (cond s (cond t (a ∷ b ∷ bs) (b ∷ bs)) (cond u (a ∷ b ∷ bs) (left_from b bs)))
     at true true u e f g more = inr (ap (λ t. (t && (b == 10)) || begins_cut a b) f ∙ ap (λ t. t || begins_cut a b) e)
     at true false u e f g more = inl (ap not e)
-    at false t true e f g more = inr (ap (λ t. ((a == 92) && (b == 10)) || t) g ∙ or_true ((a == 92) && (b == 10)))
+    at false t true e f g more = inr (ap (λ t. ((a == 92) && (b == 10)) || t) g ∙ or-true ((a == 92) && (b == 10)))
     at false t false e f g more = more
 
 pub from_is : (a : ℕ) (cs rest : List ℕ) → AllAre not_newline (a ∷ cs) → HasNo begins_stretch (a ∷ (cs ++ take 1 rest))
@@ -297,9 +293,5 @@ from_is a [] (b ∷ bs) on has ends = at (b == 10) (a == 92) refl refl ends
     at false t e f (inr begins) = ap (λ t. cond t [] (a ∷ run_from b bs)) is_cut ∙ ap (λ xs. a ∷ xs) (behind bs e begins)
 from_is a (c ∷ cs) rest on has ends =
     ap (λ t. cond t (cond (a == 92) [] (a ∷ [])) (cond (begins_cut a c) [] (a ∷ run_from c (cs ++ rest)))) (not-true (c == 10) on.1.0)
-    ∙ ap (λ t. cond t [] (a ∷ run_from c (cs ++ rest))) (right ((a == 92) && (c == 10)) (begins_cut a c) has.0)
+    ∙ ap (λ t. cond t [] (a ∷ run_from c (cs ++ rest))) (or_parts ((a == 92) && (c == 10)) (begins_cut a c) has.0).1
     ∙ ap (λ xs. a ∷ xs) (from_is c cs rest on.1 has.1 ends)
-  where
-    right : (x y : Bool) → (x || y) ≡ false → y ≡ false
-    right true y e = absurd (true≢false e)
-    right false y e = e

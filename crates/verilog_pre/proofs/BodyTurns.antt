@@ -13,7 +13,7 @@ use Rattle.verilog_pre.specs.declared.body_cut.BodyCut.TheVariants as cut
 use Rattle.verilog_pre.specs.Bodies.{begins_cut, lines_len, comment_len, run_len, comment_or, body_cut, cut_len, goes_on, run_part, cut_parts, trimmed_parts, trimmed_len, body_parts, body_len}
 use Rattle.verilog_pre.specs.Shapes.{HasNo, AllAre, StopsAt, ends_comment, IsLineComment, IsWord}
 use Rattle.verilog_pre.specs.BodyStretches.{ends_line, begins_stretch, LineEnds, IsBodyRun, Gives, Run, Continued, Comment, Unclosed, Macro, Trimmed, Body, AtEnd, AtNewline, AtComment, Goes}
-use Rattle.verilog_pre.proofs.Stretches.{first_of, front_all, front_stops, leading_word, front_is, take_seam, drop_seam, longer}
+use Rattle.verilog_pre.proofs.Stretches.{first_of, zero_no_star, front_all, front_stops, leading_word, front_is, take_seam, drop_seam, longer}
 use Rattle.verilog_pre.proofs.BodyStretches.{not_newline, line_of, after_line, line_and_after, line_count, line_plain, line_ends, line_is, open_plain, open_is, ClosedOn, closes_on, closed_on_is, run_from, left_from, from_joined, from_count, from_on_line, from_plain, from_ends, from_is}
 use Rattle.verilog_pre.proofs.Cuts.{parts_on, parts_last, len_on, len_last}
 
@@ -46,10 +46,7 @@ comment file offset bs = told (comment_len 0 0 bs) refl
 
     from : (m : ℕ) (inside rest : List ℕ) → 0 ∷ bs ≡ inside ++ 42 ∷ 47 ∷ rest → m ≡ 0 + length inside + 1 → HasNo ends_comment (inside ++ 42 ∷ []) → HasNo ends_line inside
         → Cut file offset (47 ∷ 42 ∷ bs) (cut.Gap (2 + m))
-    from m [] rest is count first on = absurd (zero_is 0 42 refl refl (ap first_of is))
-      where
-        zero_is : (x y : ℕ) → x ≡ 0 → y ≡ 42 → x ≡ y → ⊥
-        zero_is x y e f g = absurd (omega (arith, e, f, g))
+    from m [] rest is count first on = absurd (zero_no_star 0 42 refl refl (ap first_of is))
     from m (c ∷ cs) rest is count first on =
         let sum : length (cs ++ 42 ∷ 47 ∷ []) ≡ length cs + 2 = length-append cs (42 ∷ 47 ∷ []) in
         On (47 ∷ 42 ∷ (cs ++ 42 ∷ 47 ∷ [])) rest (cut.Gap (2 + m))

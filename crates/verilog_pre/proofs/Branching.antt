@@ -1,6 +1,7 @@
 -- Of a conditional's branches the first whose condition holds is read, and conditionals nest.
-use Rattle.std.proofs.Common.{◌≡◌, ℕ, suc, ◌+◌, ◌-◌, Bool, true, false, not, ◌&&◌, ◌||◌, cond, List, [], ◌∷◌, ◌++◌, length, take, Option, Some, None, refl, sym, ap, ◌∙◌, arith, true≢false}
-use Rattle.std.specs.Prelude.{◌==◌, slice_get}
+use Rattle.std.proofs.Common.{◌≡◌, ℕ, suc, ◌-◌, Bool, true, false, not, ◌&&◌, ◌||◌, cond, List, [], ◌∷◌, length, Option, Some, None, refl, sym, ap, ◌∙◌, arith, true≢false}
+use Rattle.std.specs.Prelude.{◌==◌}
+use Rattle.std.proofs.Math.Bool.{and_assoc}
 use Rattle.std.proofs.lemmas.List.{length-append, length-take-le}
 use Rattle.std.proofs.lemmas.Bool.Decides.{nat_tests}
 use Rattle.std.proofs.lemmas.Option.{none-some}
@@ -45,16 +46,12 @@ first_is false holds = refl
 -- a further one where, besides, no condition before held
 pub next_is : (around first holds : Bool) (cs : List Bool)
     → is_taken (next_branch (branch_after (first_branch around first) cs) holds) ≡ (around && (not (first || any cs) && holds))
-next_is around first holds cs = taken_next (branch_after (first_branch around first) cs) holds ∙ ap (λ w. w && holds) (waiting around first) ∙ joined around (not (first || any cs)) holds
+next_is around first holds cs = taken_next (branch_after (first_branch around first) cs) holds ∙ ap (λ w. w && holds) (waiting around first) ∙ and_assoc around (not (first || any cs)) holds
   where
     waiting : (around first : Bool) → waits (branch_after (first_branch around first) cs) ≡ (around && not (first || any cs))
     waiting true true = no_more Taken cs refl
     waiting true false = waits_on cs
     waiting false first = no_more Past cs refl
-
-    joined : (x y z : Bool) → ((x && y) && z) ≡ (x && (y && z))
-    joined true y z = refl
-    joined false y z = refl
 
 -- ---- how many are open
 

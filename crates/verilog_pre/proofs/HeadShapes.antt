@@ -12,7 +12,7 @@ use Rattle.verilog_pre.specs.declared.head.Head.{Head}
 use Rattle.verilog_pre.specs.declared.head.Head.TheVariants as head
 use Rattle.verilog_pre.specs.Heads.{plain_len, comment_head, head_of}
 use Rattle.verilog_pre.specs.Shapes.{HasNo, AllAre, StopsAt, ends_comment, IsLineComment, IsBlockComment, IsRun, IsWord}
-use Rattle.verilog_pre.proofs.Stretches.{front_all, front_stops, leading_word, front_is, unclosed, unclosed_is, Closed, closes, closed_is, first_of, run_of, left_of, run_and_left, run_plain, run_ends, run_count, run_is}
+use Rattle.verilog_pre.proofs.Stretches.{front_all, front_stops, leading_word, front_is, unclosed, unclosed_is, Closed, closes, closed_is, first_of, zero_no_star, run_of, left_of, run_and_left, run_plain, run_ends, run_count, run_is}
 
 abbrev not_newline : ℕ → Bool
 not_newline b = not (b == 10)
@@ -51,10 +51,7 @@ block_comment bs = told (through_pair 42 47 false 0 bs) refl
       where
         from : (inside rest : List ℕ) → 0 ∷ bs ≡ inside ++ 42 ∷ 47 ∷ rest → m ≡ 0 + length inside + 1 → HasNo ends_comment (inside ++ 42 ∷ [])
             → Headed (47 ∷ 42 ∷ bs) (head.Comment (2 + m))
-        from [] rest is count first = absurd (zero_is 0 42 refl refl (ap first_of is))
-          where
-            zero_is : (x y : ℕ) → x ≡ 0 → y ≡ 42 → x ≡ y → ⊥
-            zero_is x y e f g = absurd (omega (arith, e, f, g))
+        from [] rest is count first = absurd (zero_no_star 0 42 refl refl (ap first_of is))
         from (c ∷ cs) rest is count first =
             commented (47 ∷ 42 ∷ bs) (length (47 ∷ 42 ∷ (cs ++ 42 ∷ 47 ∷ []))) (2 + m)
             (let sum : length (cs ++ 42 ∷ 47 ∷ []) ≡ length cs + 2 = length-append cs (42 ∷ 47 ∷ []) in

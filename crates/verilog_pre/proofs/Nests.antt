@@ -1,38 +1,21 @@
 -- The nest of open uses, and the steps of an expansion.
-use Rattle.std.proofs.Common.{◌≡◌, ℕ, zero, suc, ◌+◌, ◌-◌, ◌<◌, ◌≤◌, Bool, true, false, eqb, ltb, ◌||◌, List, [], ◌∷◌, ◌++◌, length, get_or, take, set, drop, map, refl, sym, ap, subst, ◌∙◌, arith, true≢false, drop-cons, ◌⊎◌, inl, inr}
-use Rattle.std.proofs.lemmas.Bool.Decides.{nat_tests}
+use Rattle.std.proofs.Common.{◌≡◌, ℕ, zero, suc, ◌+◌, ◌-◌, ◌<◌, ◌≤◌, true, false, eqb, List, [], ◌∷◌, ◌++◌, length, get_or, take, set, drop, map, refl, sym, ap, subst, ◌∙◌, arith, true≢false, drop-cons, ◌⊎◌, inl, inr}
+use Rattle.std.proofs.lemmas.Bool.{eq-eqb, ne_eqb, or_left, or_right, or_from, cases_lt}
 use Rattle.std.proofs.lemmas.List.{length-set, length-append, get_or-set_same, get_or-set_other, get_or_append_left, get_or_push}
 use Rattle.verilog_pre.specs.declared.part.Part.{Part}
 use Rattle.verilog_pre.specs.declared.item.Item.{Item}
 use Rattle.verilog_pre.specs.declared.item.Item.TheVariants as item
 use Rattle.verilog_pre.specs.Expansions.{is_open, Placed}
 
-any_at : (nest : List ℕ) (number i : ℕ) → i < length nest → get_or nest i 0 ≡ number → is_open nest number ≡ true
-any_at [] number i within is = absurd (omega arith)
-any_at (k ∷ ks) number zero within is = ap (λ b. b || is_open ks number) (same k number is)
-  where
-    same : (k number : ℕ) → k ≡ number → eqb k number ≡ true
-    same k number h = grind (arith, nat_tests)
-any_at (k ∷ ks) number (suc i) within is = at (eqb k number) (any_at ks number i (omega arith) is)
-  where
-    at : (b : Bool) → is_open ks number ≡ true → (b || is_open ks number) ≡ true
-    at true h = refl
-    at false h = h
+pub open_here : (nest : List ℕ) (number place : ℕ) → place < length nest → get_or nest place 0 ≡ number → is_open nest number ≡ true
+open_here [] number place within is = absurd (omega arith)
+open_here (k ∷ ks) number zero within is = or_left (eqb k number) (is_open ks number) (eq-eqb k number is)
+open_here (k ∷ ks) number (suc place) within is = or_right (eqb k number) (is_open ks number) (open_here ks number place (omega arith) is)
 
 none_any : (nest : List ℕ) (number : ℕ) → ((i : ℕ) → i < length nest → get_or nest i 0 ≡ number → ⊥) → is_open nest number ≡ false
 none_any [] number none = refl
 none_any (k ∷ ks) number none =
-    ap (λ b. b || is_open ks number) (other (eqb k number) refl) ∙ none_any ks number (λ i within is. none (suc i) (omega arith) is)
-  where
-    same : (k number : ℕ) → eqb k number ≡ true → k ≡ number
-    same k number h = grind (arith, nat_tests)
-
-    other : (b : Bool) → eqb k number ≡ b → eqb k number ≡ false
-    other true e = absurd (none 0 (omega arith) (same k number e))
-    other false e = e
-
-pub open_here : (nest : List ℕ) (number place : ℕ) → place < length nest → get_or nest place 0 ≡ number → is_open nest number ≡ true
-open_here nest number place within is = any_at nest number place within is
+    or_from (eqb k number) (is_open ks number) (ne_eqb k number (none 0 (omega arith))) (none_any ks number (λ i within is. none (suc i) (omega arith) is))
 
 -- a number whose place doesn't have it is nowhere
 pub not_open : (places nest : List ℕ) (number : ℕ) → Placed places nest
@@ -46,29 +29,16 @@ not_open places nest number placed differs =
 pub placed_more : (places nest : List ℕ) (number : ℕ) → Placed places nest → number < length places → is_open nest number ≡ false
     → Placed (set places number (length nest)) (nest ++ number ∷ [])
 placed_more places nest number placed within shut = record {
-  listed = λ i bound. listed i (elim_lt i (length nest)) (omega (arith, bound, length-append nest (number ∷ [])));
-  placed = λ i bound. at i (elim_lt i (length nest)) (omega (arith, bound, length-append nest (number ∷ [])));
+  listed = λ i bound. listed i (cases_lt i (length nest)) (omega (arith, bound, length-append nest (number ∷ [])));
+  placed = λ i bound. at i (cases_lt i (length nest)) (omega (arith, bound, length-append nest (number ∷ [])));
 }
   where
-    elim_lt : (i n : ℕ) → (i < n) ⊎ (n ≤ i)
-    elim_lt i n = side (ltb i n) refl
-      where
-        side : (b : Bool) → ltb i n ≡ b → (i < n) ⊎ (n ≤ i)
-        side true e = inl (yes i n e)
-          where
-            yes : (i n : ℕ) → ltb i n ≡ true → i < n
-            yes i n h = grind (arith, nat_tests)
-        side false e = inr (no i n e)
-          where
-            no : (i n : ℕ) → ltb i n ≡ false → n ≤ i
-            no i n h = grind (arith, nat_tests)
-
     listed : (i : ℕ) → (i < length nest) ⊎ (length nest ≤ i) → i < length nest + 1 → get_or (nest ++ number ∷ []) i 0 < length (set places number (length nest))
     listed i (inl below) bound = omega (arith, placed.listed i below, get_or_append_left nest (number ∷ []) 0 i below, length-set places number (length nest))
     listed i (inr above) bound = omega (arith, within, get_or_push nest number 0 i (let same : length nest ≡ i = omega arith in same), length-set places number (length nest))
 
     differs : (i : ℕ) → i < length nest → get_or nest i 0 ≡ number → ⊥
-    differs i below is = true≢false (sym (any_at nest number i below is) ∙ shut)
+    differs i below is = true≢false (sym (open_here nest number i below is) ∙ shut)
 
     at : (i : ℕ) → (i < length nest) ⊎ (length nest ≤ i) → i < length nest + 1 → get_or (set places number (length nest)) (get_or (nest ++ number ∷ []) i 0) 0 ≡ i
     at i (inl below) bound =

@@ -77,6 +77,9 @@ abbrev pub first_of : List ℕ → ℕ
 first_of [] = 0
 first_of (x ∷ xs) = x
 
+pub zero_no_star : (x y : ℕ) → x ≡ 0 → y ≡ 42 → x ≡ y → ⊥
+zero_no_star x y e f g = absurd (omega (arith, e, f, g))
+
 abbrev pub value_of : Option ℕ → ℕ
 value_of None = 0
 value_of (Some n) = n
