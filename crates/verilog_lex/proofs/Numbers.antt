@@ -1,6 +1,6 @@
 -- A value that has grown too large stays too large.
 use Rattle.std.proofs.Common.{◌≡◌, ℕ, suc, ◌+◌, ◌*◌, ◌<◌, ◌≤◌, Bool, true, false, cond, ltb, eqb, List, [], ◌∷◌, length, drop, get_or, Option, Some, None, refl, sym, ap, ◌∙◌, arith, drop-cons}
-use Rattle.std.proofs.lemmas.Bool.Decides.{nat_tests}
+use Rattle.std.proofs.lemmas.Bool.{lt-ltb, le-ltb}
 use Rattle.std.proofs.Math.Nat.{mul-le-mul_left}
 use Rattle.verilog_lex.specs.Numbers.{digit_of, more_value, value_from}
 use Rattle.ls_text.specs.Options.{◌>>=◌, guard}
@@ -9,10 +9,7 @@ abbrev below : ℕ → Option ℕ → Option ℕ
 below limit value = value >>= λ n. guard (ltb n limit) n
 
 not_below : (limit n : ℕ) → limit ≤ n → below limit (Some n) ≡ None
-not_below limit n h = ap (λ b. guard b n) (no limit n h)
-  where
-    no : (limit n : ℕ) → limit ≤ n → ltb n limit ≡ false
-    no limit n h = grind (arith, nat_tests)
+not_below limit n h = ap (λ b. guard b n) (le-ltb n limit h)
 
 grows : (n r d limit : ℕ) → 1 ≤ r → limit ≤ n → limit ≤ n * r + d
 grows n r d limit some h =
@@ -45,10 +42,7 @@ one_more : (radix n c d : ℕ) (cs : List ℕ) → eqb c 95 ≡ false → digit_
 one_more radix n c d cs byte digit within =
     ap (λ b. cond b (value_from radix n cs) (more_value radix n (digit_of c) (λ m. value_from radix m cs))) byte
     ∙ ap (λ o. more_value radix n o (λ m. value_from radix m cs)) digit
-    ∙ ap (λ b. cond b (value_from radix (n * radix + d) cs) None) (less d radix within)
-  where
-    less : (d r : ℕ) → d < r → ltb d r ≡ true
-    less d r h = grind (arith, nat_tests)
+    ∙ ap (λ b. cond b (value_from radix (n * radix + d) cs) None) (lt-ltb d radix within)
 
 -- the digits have no value below the limit, where those up to one have none
 pub past : (radix limit n i d : ℕ) (ds : List ℕ) → 1 ≤ radix → i < length ds → eqb (get_or ds i 0) 95 ≡ false
