@@ -7,6 +7,7 @@ pub mod Pending
 pub mod Numbered
 pub mod Views
 pub mod Lists
+pub mod Members
 pub mod Steps
 pub mod Ready
 pub mod Masks

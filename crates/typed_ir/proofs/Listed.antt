@@ -18,7 +18,7 @@ use Rattle.typed_ir.specs.Forms.{sized}
 use Rattle.typed_ir.specs.Touches.{touched, Adds}
 use Rattle.typed_ir.proofs.Cases.{and_left, and_right}
 use Rattle.typed_ir.proofs.Lists.{drop_read}
-use Rattle.typed_ir.proofs.Masks.{both_spans}
+use Rattle.typed_ir.proofs.Locals.{any_within-append}
 use Rattle.typed_ir.proofs.Pending.{pending_then}
 
 -- what holds where a call succeeds
@@ -35,7 +35,7 @@ pub adds_targets : (old mid new : List Touch) (a b : SizedStmt) → Adds old mid
     → Adds old new (any_within (targets a ++ targets b))
 adds_targets old mid new a b h k = record {
   says = λ s i small. (adds_two old mid new (any_within (targets a)) (any_within (targets b)) h k).says s i small
-      ∙ ap (λ t. touched old s i || t) (sym (both_spans (targets a) (targets b) s i));
+      ∙ ap (λ t. touched old s i || t) (sym (any_within-append (targets a) (targets b) s i));
 }
 
 pub if_is : (c : Typed) (a b : Box Stmt Global) → stmt_of (If' c a b) ≡ If (sized c.form) (stmt_of a.value) (stmt_of b.value)
@@ -84,7 +84,7 @@ targets_next list k x mid new s i h is small adds =
     let rest = sequence_of (map stmt_of (drop (k + 1) list)) in
     ap (λ b. b || any_within (targets rest) s i) (adds.says s i small)
     ∙ or_assoc (touched mid s i) (any_within (targets (stmt_of x)) s i) (any_within (targets rest) s i)
-    ∙ ap (λ b. touched mid s i || b) (sym (both_spans (targets (stmt_of x)) (targets rest) s i))
+    ∙ ap (λ b. touched mid s i || b) (sym (any_within-append (targets (stmt_of x)) (targets rest) s i))
     ∙ ap (λ zs. touched mid s i || any_within (targets (sequence_of (map stmt_of zs))) s i) (sym (drop_read list k x h is))
 
 -- one more arm
@@ -96,7 +96,7 @@ arm_targets_next arms otherwise k x mid new s i h is small adds =
     let rest = arms_before (map arm_of (drop (k + 1) arms)) otherwise in
     ap (λ b. b || any_within (arm_targets rest) s i) (adds.says s i small)
     ∙ or_assoc (touched mid s i) (any_within (targets (stmt_of x.body)) s i) (any_within (arm_targets rest) s i)
-    ∙ ap (λ b. touched mid s i || b) (sym (both_spans (targets (stmt_of x.body)) (arm_targets rest) s i))
+    ∙ ap (λ b. touched mid s i || b) (sym (any_within-append (targets (stmt_of x.body)) (arm_targets rest) s i))
     ∙ ap (λ a. touched mid s i || any_within (arm_targets a) s i) (sym (arm_is x rest))
     ∙ ap (λ zs. touched mid s i || any_within (arm_targets (arms_before (map arm_of zs) otherwise)) s i) (sym (drop_read arms k x h is))
 

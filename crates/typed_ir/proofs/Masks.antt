@@ -8,9 +8,8 @@ use Rattle.std.proofs.lemmas.Nat.{pow_pos}
 use Rattle.std.proofs.Math.Pow.{pow_mono, pow-lt}
 use Rattle.std.proofs.Math.Nat.{one-mul, mod-eq_of_lt}
 use Rattle.bits.proofs.Runs.{by_order}
-use Rattle.typed_ir.specs.declared.span.Span.{Span}
 use Rattle.typed_ir.specs.declared.touch.Touch.{Touch}
-use Rattle.typed_ir.specs.Valuations.{Places, within, any_within}
+use Rattle.typed_ir.specs.Valuations.{Places}
 use Rattle.typed_ir.specs.Touches.{has_bit, touched, Adds}
 
 pub and_true : (a b : Bool) → b ≡ true → (a && b) ≡ a
@@ -30,11 +29,6 @@ adds_one xs t p e = record {
   says = λ s i h. touched-append xs (t ∷ []) s i
       ∙ ap (λ b. touched xs s i || b) (or-false ((s == t.signal) && has_bit t.mask i) ∙ e s i h);
 }
-
--- spans of one list, then those of another
-pub both_spans : (ps qs : List Span) (s i : ℕ) → any_within (ps ++ qs) s i ≡ (any_within ps s i || any_within qs s i)
-both_spans [] qs s i = refl
-both_spans (p ∷ ps) qs s i = ap (λ t. within p s i || t) (both_spans ps qs s i) ∙ sym (or_assoc (within p s i) (any_within ps s i) (any_within qs s i))
 
 -- ---- masks
 

@@ -11,7 +11,7 @@ use Rattle.typed_ir.specs.Nodes.{FlatNode, Drive, Block, lane_spans, node_drives
 use Rattle.typed_ir.specs.Flats.{NodeWritesFirst}
 use Rattle.typed_ir.specs.Touches.{all_reads, all_arm_reads, mentions, is_block}
 use Rattle.typed_ir.proofs.Cases.{by_cases, or_left, or_right, left_or, right_or, and_left, and_right, only_right}
-use Rattle.typed_ir.proofs.Masks.{both_spans}
+use Rattle.typed_ir.proofs.Locals.{any_within-append, first_of_two, second_of_two}
 
 -- ---- reads
 
@@ -27,12 +27,6 @@ and_same false b c h k = h
 or_map : (a b c d : Bool) → (a ≡ true → c ≡ true) → (b ≡ true → d ≡ true) → (a || b) ≡ true → (c || d) ≡ true
 or_map true b c d f g h = left_or c d (f refl)
 or_map false b c d f g h = right_or c d (g h)
-
-first_free : (ps qs : List Span) (s i : ℕ) → any_within (ps ++ qs) s i ≡ false → any_within ps s i ≡ false
-first_free ps qs s i h = or_left (any_within ps s i) (any_within qs s i) (sym (both_spans ps qs s i) ∙ h)
-
-second_free : (ps qs : List Span) (s i : ℕ) → any_within (ps ++ qs) s i ≡ false → any_within qs s i ≡ false
-second_free ps qs s i h = or_right (any_within ps s i) (any_within qs s i) (sym (both_spans ps qs s i) ∙ h)
 
 certain_free : (ts : List SizedTarget) (s i : ℕ) → any_within (map span_of ts) s i ≡ false → certain ts s i ≡ false
 certain_free [] s i h = refl
@@ -53,20 +47,20 @@ mutual
   known_stays (Assign parts e) known s i h = or_none (known s i) (certain parts s i) (certain_free parts s i h)
   known_stays (Later parts e) known s i h = refl
   known_stays (Then a b) known s i h =
-      known_stays b (known_after a known) s i (second_free (targets a) (targets b) s i h)
-      ∙ known_stays a known s i (first_free (targets a) (targets b) s i h)
+      known_stays b (known_after a known) s i (second_of_two (targets a) (targets b) s i h)
+      ∙ known_stays a known s i (first_of_two (targets a) (targets b) s i h)
   known_stays (If c a b) known s i h =
       and_same (known_after a known s i) (known_after b known s i) (known s i)
-      (known_stays a known s i (first_free (targets a) (targets b) s i h))
-      (known_stays b known s i (second_free (targets a) (targets b) s i h))
+      (known_stays a known s i (first_of_two (targets a) (targets b) s i h))
+      (known_stays b known s i (second_of_two (targets a) (targets b) s i h))
   known_stays (Case e arms) known s i h = known_stays_arms arms known s i h
 
   known_stays_arms : (arms : SizedArms) (known : Places) (s i : ℕ) → any_within (arm_targets arms) s i ≡ false
       → known_after_arms arms known s i ≡ known s i
   known_stays_arms (Arm items body rest) known s i h =
       and_same (known_after body known s i) (known_after_arms rest known s i) (known s i)
-      (known_stays body known s i (first_free (targets body) (arm_targets rest) s i h))
-      (known_stays_arms rest known s i (second_free (targets body) (arm_targets rest) s i h))
+      (known_stays body known s i (first_of_two (targets body) (arm_targets rest) s i h))
+      (known_stays_arms rest known s i (second_of_two (targets body) (arm_targets rest) s i h))
   known_stays_arms (Default otherwise) known s i h = known_stays otherwise known s i h
 
 -- the indices of an assignment, where it doesn't write the bit
@@ -95,21 +89,21 @@ mutual
   open_is (Assign parts e) known s i h k = ap₂ (λ x y. x || y) (and_not (reads e s i) (known s i) k) (indices_are parts known s i h k)
   open_is (Later parts e) known s i h k = and_not (reads e s i || index_reads parts s i) (known s i) k
   open_is (Then a b) known s i h k =
-      ap₂ (λ x y. x || y) (open_is a known s i (first_free (targets a) (targets b) s i h) k)
-      (open_is b (known_after a known) s i (second_free (targets a) (targets b) s i h)
-      (known_stays a known s i (first_free (targets a) (targets b) s i h) ∙ k))
+      ap₂ (λ x y. x || y) (open_is a known s i (first_of_two (targets a) (targets b) s i h) k)
+      (open_is b (known_after a known) s i (second_of_two (targets a) (targets b) s i h)
+      (known_stays a known s i (first_of_two (targets a) (targets b) s i h) ∙ k))
   open_is (If c a b) known s i h k =
       ap₂ (λ x y. x || y) (and_not (reads c s i) (known s i) k)
-      (ap₂ (λ x y. x || y) (open_is a known s i (first_free (targets a) (targets b) s i h) k)
-      (open_is b known s i (second_free (targets a) (targets b) s i h) k))
+      (ap₂ (λ x y. x || y) (open_is a known s i (first_of_two (targets a) (targets b) s i h) k)
+      (open_is b known s i (second_of_two (targets a) (targets b) s i h) k))
   open_is (Case e arms) known s i h k = ap₂ (λ x y. x || y) (and_not (reads e s i) (known s i) k) (open_arms_are arms known s i h k)
 
   open_arms_are : (arms : SizedArms) (known : Places) (s i : ℕ) → any_within (arm_targets arms) s i ≡ false → known s i ≡ false
       → open_arm_reads arms known s i ≡ all_arm_reads arms s i
   open_arms_are (Arm items body rest) known s i h k =
       ap₂ (λ x y. x || y) (and_not (item_reads items s i) (known s i) k)
-      (ap₂ (λ x y. x || y) (open_is body known s i (first_free (targets body) (arm_targets rest) s i h) k)
-      (open_arms_are rest known s i (second_free (targets body) (arm_targets rest) s i h) k))
+      (ap₂ (λ x y. x || y) (open_is body known s i (first_of_two (targets body) (arm_targets rest) s i h) k)
+      (open_arms_are rest known s i (second_of_two (targets body) (arm_targets rest) s i h) k))
   open_arms_are (Default otherwise) known s i h k = open_is otherwise known s i h k
 
 -- what is read openly is read
@@ -180,7 +174,7 @@ span_small p widths s i most legal h =
 
 either_small : {P : Type 0} (ps qs : List Span) (s i : ℕ) → any_within (ps ++ qs) s i ≡ true → (any_within ps s i ≡ true → P) → (any_within qs s i ≡ true → P) → P
 either_small ps qs s i h f g = by_cases (any_within ps s i) f
-    (λ no. g (only_right (any_within ps s i) (any_within qs s i) no (sym (both_spans ps qs s i) ∙ h)))
+    (λ no. g (only_right (any_within ps s i) (any_within qs s i) no (sym (any_within-append ps qs s i) ∙ h)))
 
 lanes_small : (lanes : List Lane) (widths : List ℕ) (s i : ℕ) → ((k : ℕ) → slice_index widths k ≤ 128) → are_lanes lanes widths ≡ true
     → any_within (lane_spans lanes) s i ≡ true → (s < length widths) × (i < 128)

@@ -11,6 +11,7 @@ use Rattle.typed_ir.specs.Stmts.{SizedTarget, Fixed, Moving, SizedStmt, SizedArm
 use Rattle.typed_ir.specs.Orders.{Member, Each}
 use Rattle.typed_ir.specs.Cycles.{Flat, fill, base, wires, step, all_pending, Satisfies, WritesRegisters, IsReady}
 use Rattle.typed_ir.proofs.Cases.{by_cases}
+use Rattle.typed_ir.proofs.Members.{member_later}
 use Rattle.typed_ir.proofs.Locals.{node_laws}
 use Rattle.typed_ir.proofs.Settled.{round-outside}
 
@@ -107,11 +108,7 @@ pub fill-map : (rs : List ℕ) (f env : Valuation) (s : ℕ) → Member s rs →
 fill-map [] f env s m = absurd m
 fill-map (r ∷ rs) f env s m = by_cases (s == r)
     (λ yes. cond-true (s == r) (f r) (fill rs (map f rs) env s) yes ∙ ap f (sym (eqb-true s r yes)))
-    (λ no. cond-false (s == r) (f r) (fill rs (map f rs) env s) no ∙ fill-map rs f env s (later s r rs (eqb-false s r no) m))
-  where
-    later : (s r : ℕ) (rs : List ℕ) → (s ≡ r → ⊥) → Member s (r ∷ rs) → Member s rs
-    later s r rs ne (inl e) = absurd (ne e)
-    later s r rs ne (inr m) = m
+    (λ no. cond-false (s == r) (f r) (fill rs (map f rs) env s) no ∙ fill-map rs f env s (member_later s r rs (eqb-false s r no) m))
 
 pub fill-other : (rs xs : List ℕ) (env : Valuation) (s : ℕ) → (Member s rs → ⊥) → fill rs xs env s ≡ env s
 fill-other [] xs env s n = refl

@@ -1,0 +1,36 @@
+-- Members of lists of numbers.
+use Rattle.std.proofs.Common.{◌≡◌, ℕ, List, [], ◌∷◌, ◌++◌, ◌⊎◌, inl, inr, refl}
+use Rattle.typed_ir.specs.Orders.{Member, Distinct}
+
+pub member_append : (x : ℕ) (xs ys : List ℕ) → Member x (xs ++ ys) → Member x xs ⊎ Member x ys
+member_append x [] ys m = inr m
+member_append x (y ∷ xs) ys (inl e) = inl (inl e)
+member_append x (y ∷ xs) ys (inr m) = later (member_append x xs ys m)
+  where
+    later : Member x xs ⊎ Member x ys → Member x (y ∷ xs) ⊎ Member x ys
+    later (inl k) = inl (inr k)
+    later (inr k) = inr k
+
+pub member_left : (x : ℕ) (xs ys : List ℕ) → Member x xs → Member x (xs ++ ys)
+member_left x [] ys m = absurd m
+member_left x (y ∷ xs) ys (inl e) = inl e
+member_left x (y ∷ xs) ys (inr m) = inr (member_left x xs ys m)
+
+pub member_right : (x : ℕ) (xs ys : List ℕ) → Member x ys → Member x (xs ++ ys)
+member_right x [] ys m = m
+member_right x (y ∷ xs) ys m = inr (member_right x xs ys m)
+
+-- a member that isn't the first
+pub member_later : (x y : ℕ) (ys : List ℕ) → (x ≡ y → ⊥) → Member x (y ∷ ys) → Member x ys
+member_later x y ys other (inl e) = absurd (other e)
+member_later x y ys other (inr m) = m
+
+-- no number stands twice in two lists that share none
+pub distinct_append : (xs ys : List ℕ) → Distinct xs → Distinct ys → ((x : ℕ) → Member x xs → Member x ys → ⊥) → Distinct (xs ++ ys)
+distinct_append [] ys p q apart = q
+distinct_append (x ∷ xs) ys p q apart =
+    ((λ m. either (member_append x xs ys m)), distinct_append xs ys p.1 q (λ y a b. apart y (inr a) b))
+  where
+    either : Member x xs ⊎ Member x ys → ⊥
+    either (inl m) = p.0 m
+    either (inr m) = apart x (inl refl) m
