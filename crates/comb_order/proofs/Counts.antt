@@ -8,12 +8,6 @@ use Rattle.typed_ir.proofs.Cases.{by_cases}
 use Rattle.comb_order.specs.Graphs.{times, row_at, rows_of, lowered, released, count_of}
 use Rattle.comb_order.proofs.Released.{times-same, put-same, put-other, enough_left}
 
--- an element of a list, whatever stands for none
-pub read_any : (row : List ℕ) (j d e : ℕ) → j < length row → get_or row j d ≡ get_or row j e
-read_any [] j d e h = absurd (omega (arith, h))
-read_any (x ∷ xs) zero d e h = refl
-read_any (x ∷ xs) (suc j) d e h = read_any xs j d e (omega (arith, h))
-
 pub row-drop : (row : List ℕ) (j t : ℕ) → j < length row → t ≡ get_or row j 0 → drop j row ≡ t ∷ drop (j + 1) row
 row-drop row j t h is =
     let more : suc j ≡ j + 1 = omega arith in

@@ -1,12 +1,12 @@
 -- Drivers of no bit.
-use Rattle.std.proofs.Common.{◌≡◌, ℕ, ◌%◌, ◌^◌, ◌<◌, ◌==◌, inl, inr, Bool, true, false, ◌&&◌, List, [], ◌∷◌, refl, sym, ◌∙◌, ap, arith, true≢false}
+use Rattle.std.proofs.Common.{◌≡◌, ℕ, ◌%◌, ◌^◌, ◌<◌, ◌==◌, inl, inr, true, false, ◌&&◌, List, [], ◌∷◌, refl, sym, ◌∙◌, ap, arith, true≢false}
 use Rattle.std.specs.Int.{bit_at}
-use Rattle.std.proofs.lemmas.Bool.{eqb-true, eqb-false, eq-eqb, ne_eqb, and_from, or_from}
+use Rattle.std.proofs.lemmas.Bool.{eqb-true, eqb-false, eq-eqb, ne_eqb, and_from, and_right, and_parts, or_from}
 use Rattle.std.proofs.lemmas.Nat.{pow_pos}
 use Rattle.std.proofs.lemmas.Nat.Bits.{bit_at-lt, bit_at-zero, same_from_bits_below}
 use Rattle.bits.proofs.Runs.{below_pow, bit_at-mod_in}
 use Rattle.typed_ir.specs.Touches.{has_bit}
-use Rattle.typed_ir.proofs.Cases.{by_cases, left_or, or_right, and_left, and_right}
+use Rattle.typed_ir.proofs.Cases.{by_cases, left_or, or_right}
 use Rattle.comb_order.specs.declared.drivers.Driver.{Driver}
 use Rattle.comb_order.specs.Driving.{drives_in}
 use Rattle.comb_order.specs.Parts.{is_idle, are_idle}
@@ -34,16 +34,12 @@ some_bit m h = elim (find 128 (λ i. has_bit m i)) as (λ _. (i : ℕ) × (i < 1
         let other : bit_at m i ≡ 1 → ⊥ = eqb-false (bit_at m i) 1 out in
         omega (arith, e, z, s, other)
 
-and_none : (a b : Bool) → b ≡ false → (a && b) ≡ false
-and_none true b h = h
-and_none false b h = refl
-
 pub idle_drives : (ds : List Driver) (a i : ℕ) → i < 128 → are_idle ds ≡ true → drives_in ds a i ≡ false
 idle_drives [] a i small h = refl
 idle_drives (d ∷ ds) a i small h =
     or_from ((a == d.item) && has_bit d.mask i) (drives_in ds a i)
-    (and_none (a == d.item) (has_bit d.mask i) (idle_bit d.mask i small (and_left (is_idle d) (are_idle ds) h)))
-    (idle_drives ds a i small (and_right (is_idle d) (are_idle ds) h))
+    (and_right (a == d.item) (has_bit d.mask i) (idle_bit d.mask i small (and_parts (is_idle d) (are_idle ds) h).0))
+    (idle_drives ds a i small (and_parts (is_idle d) (are_idle ds) h).1)
 
 -- where no node drives a bit, all are idle
 pub all_idle : (ds : List Driver) → ((a i : ℕ) → i < 128 → drives_in ds a i ≡ false) → are_idle ds ≡ true

@@ -3,7 +3,7 @@ use Rattle.std.proofs.Common.{◌≡◌, ℕ, zero, suc, ◌+◌, ◌<◌, ◌�
 use Rattle.std.specs.Prelude.{bit_or}
 use Rattle.std.specs.declared.vec.Vec.{Vec}
 use Rattle.std.specs.Global.{Global}
-use Rattle.std.proofs.lemmas.Bool.{eq-eqb, ltb-true, ltb-false, and_from}
+use Rattle.std.proofs.lemmas.Bool.{eq-eqb, ltb-true, ltb-false, and_from, false_from_ne_true}
 use Rattle.typed_ir.specs.declared.span.Span.{Span}
 use Rattle.typed_ir.specs.Stmts.{SizedStmt, later_targets}
 use Rattle.typed_ir.specs.FlatNodes.{node_of}
@@ -26,10 +26,6 @@ use Rattle.comb_order.proofs.Rising.{from_low}
 
 -- ---- tests
 
-false_of : (b : Bool) → (b ≡ true → ⊥) → b ≡ false
-false_of true h = absurd (h refl)
-false_of false h = refl
-
 all_pass : (a b c d : Bool) → a ≡ true → b ≡ true → c ≡ true → d ≡ true → (a && (b && (c && d))) ≡ true
 all_pass a b c d h k l m = and_from a (b && (c && d)) h (and_from b (c && d) k (and_from c d l m))
 
@@ -38,13 +34,13 @@ all_pass a b c d h k l m = and_from a (b && (c && d)) h (and_from b (c && d) k (
 distinct_passes : (xs : List ℕ) → Distinct xs → are_distinct xs ≡ true
 distinct_passes [] d = refl
 distinct_passes (x ∷ xs) d =
-    and_from (not (is_member x xs)) (are_distinct xs) (ap not (false_of (is_member x xs) (λ m. d.0 (member_of x xs m)))) (distinct_passes xs d.1)
+    and_from (not (is_member x xs)) (are_distinct xs) (ap not (false_from_ne_true (is_member x xs) (λ m. d.0 (member_of x xs m)))) (distinct_passes xs d.1)
 
 foreign_passes : (all xs : List ℕ) → ((s : ℕ) → Member s xs → Member s all → ⊥) → none_in all xs ≡ true
 foreign_passes all [] h = refl
 foreign_passes all (x ∷ xs) h =
     and_from (not (is_member x all)) (none_in all xs)
-    (ap not (false_of (is_member x all) (λ m. h x (inl refl) (member_of x all m))))
+    (ap not (false_from_ne_true (is_member x all) (λ m. h x (inl refl) (member_of x all m))))
     (foreign_passes all xs (λ s m n. h s (inr m) n))
 
 written_passes : (registers : List ℕ) (sts : List SizedStmt) → WritesRegisters registers sts → blocks_in registers sts ≡ true
@@ -65,7 +61,7 @@ apart_passes : (taken low : ℕ) (ds : List Driver) (high : ℕ) → Rises low d
 apart_passes taken low [] high r free one = refl
 apart_passes taken low (x ∷ ds) high r free one =
     and_from (not (common taken x.mask)) (are_apart (bit_or taken x.mask) ds)
-    (ap not (false_of (common taken x.mask) (λ c.
+    (ap not (false_from_ne_true (common taken x.mask) (λ c.
     let f : (i : ℕ) × (i < 128) × (has_bit taken i ≡ true) × (has_bit x.mask i ≡ true) = common_bit taken x.mask c in
     free x.item f.0 f.1 f.2 (own f.0 f.3))))
     (apart_passes (bit_or taken x.mask) (x.item + 1) ds high r.1
@@ -117,7 +113,7 @@ undriven_passes : (nodes : List FlatNode) (table : List (Vec Driver Global)) (ss
 undriven_passes nodes table [] is h = refl
 undriven_passes nodes table (s ∷ ss) is h =
     and_from (are_idle (row_in table s)) (are_undriven table ss)
-    (all_idle (row_in table s) (λ a i small. false_of (drives_in (row_in table s) a i)
+    (all_idle (row_in table s) (λ a i small. false_from_ne_true (drives_in (row_in table s) a i)
     (λ d. true≢false (sym (any_at nodes a s i (listed nodes table a s i is small d)) ∙ h s i (inl refl)))))
     (undriven_passes nodes table ss is (λ t i m. h t i (inr m)))
 

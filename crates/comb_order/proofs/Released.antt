@@ -1,9 +1,10 @@
 -- What one placed node sets free.
-use Rattle.std.proofs.Common.{◌≡◌, ℕ, ◌+◌, ◌-◌, ◌<◌, ◌≤◌, ◌==◌, Bool, true, false, cond, ◌⊎◌, inl, inr, List, [], ◌∷◌, ◌++◌, refl, sym, ◌∙◌, ap, subst, arith}
+use Rattle.std.proofs.Common.{◌≡◌, ℕ, ◌+◌, ◌-◌, ◌<◌, ◌≤◌, ◌==◌, Bool, true, false, cond, inl, inr, List, [], ◌∷◌, refl, sym, ◌∙◌, ap, subst, arith}
 use Rattle.std.proofs.lemmas.Bool.{eqb-true, eqb-false, eq-eqb, cond-true, cond-false}
 use Rattle.typed_ir.specs.Valuations.{put}
 use Rattle.typed_ir.specs.Orders.{Member, Distinct}
 use Rattle.typed_ir.proofs.Cases.{by_cases}
+use Rattle.typed_ir.proofs.Members.{member_append, member_left, member_right, distinct_append}
 use Rattle.comb_order.specs.Graphs.{times, lowered, released}
 
 pub put-same : (c : ℕ → ℕ) (t v x : ℕ) → (x == t) ≡ true → put c t v x ≡ v
@@ -43,22 +44,8 @@ lowered-is (t ∷ ts) c h x =
     (λ no. let a : times x (t ∷ ts) ≡ times x ts = times-other x t ts no in
     let b : put c t (c t - 1) x ≡ c x = put-other c t (c t - 1) x no in omega (arith, low, a, b))
 
-pub member_append : (x : ℕ) (xs ys : List ℕ) → Member x (xs ++ ys) → Member x xs ⊎ Member x ys
-member_append x [] ys m = inr m
-member_append x (y ∷ xs) ys (inl e) = inl (inl e)
-member_append x (y ∷ xs) ys (inr m) = elim (member_append x xs ys m) as (λ _. (Member x (y ∷ xs) ⊎ Member x ys)) [ inl a ↦ inl (inr a) | inr b ↦ inr b ]
-
-pub member_left : (x : ℕ) (xs ys : List ℕ) → Member x xs → Member x (xs ++ ys)
-member_left x [] ys m = absurd m
-member_left x (y ∷ xs) ys (inl e) = inl e
-member_left x (y ∷ xs) ys (inr m) = inr (member_left x xs ys m)
-
-pub member_right : (x : ℕ) (xs ys : List ℕ) → Member x ys → Member x (xs ++ ys)
-member_right x [] ys m = m
-member_right x (y ∷ xs) ys m = inr (member_right x xs ys m)
-
 -- the part for one node of the row
-first_member : (x t : ℕ) (b : Bool) → Member x (cond b (t ∷ []) []) → (b ≡ true) × (x ≡ t)
+pub first_member : (x t : ℕ) (b : Bool) → Member x (cond b (t ∷ []) []) → (b ≡ true) × (x ≡ t)
 first_member x t true (inl e) = (refl, e)
 first_member x t true (inr m) = absurd m
 first_member x t false m = absurd m
@@ -115,13 +102,6 @@ released-all (t ∷ ts) c h x e some =
     (λ no. let s : times x (t ∷ ts) ≡ times x ts = times-other x t ts no in
     let p : put c t (c t - 1) x ≡ c x = put-other c t (c t - 1) x no in
     rest (omega (arith, e, s, p)) (omega (arith, some, p)))
-
-pub distinct_append : (xs ys : List ℕ) → Distinct xs → Distinct ys → ((x : ℕ) → Member x xs → Member x ys → ⊥) → Distinct (xs ++ ys)
-distinct_append [] ys p q apart = q
-distinct_append (x ∷ xs) ys p q apart = (
-  (λ m. elim (member_append x xs ys m) as (λ _. ⊥) [ inl a ↦ p.0 a | inr b ↦ apart x (inl refl) b ]),
-  distinct_append xs ys p.1 q (λ y a b. apart y (inr a) b),
-)
 
 first_distinct : (t : ℕ) (b : Bool) → Distinct (cond b (t ∷ []) [])
 first_distinct t true = ((λ m. m), tt)

@@ -1,6 +1,6 @@
 -- Rows in which no node stands twice.
 use Rattle.std.proofs.Common.{◌≡◌, ℕ, suc, ◌+◌, ◌-◌, ◌<◌, ◌≤◌, ◌==◌, Bool, true, false, ◌||◌, ◌&&◌, not, ◌⊎◌, inl, inr, nat_lt, List, [], ◌∷◌, ◌++◌, length, set, refl, sym, ◌∙◌, ap, ap₂, subst, arith, true≢false}
-use Rattle.std.proofs.Math.Bool.{or-false, or_assoc}
+use Rattle.std.proofs.Math.Bool.{or-false, or_assoc, and-true}
 use Rattle.std.specs.Prelude.{slice_index}
 use Rattle.std.specs.declared.vec.Vec.{Vec}
 use Rattle.std.specs.Global.{Global}
@@ -11,7 +11,7 @@ use Rattle.comb_order.specs.Graphs.{times, row_at, rows_of, waiting}
 use Rattle.comb_order.specs.Driving.{row_in, edge, ends_with, IsRow, AreRows}
 use Rattle.comb_order.proofs.Counts.{times-at}
 use Rattle.comb_order.proofs.Released.{times-same, times-other}
-use Rattle.comb_order.proofs.Tables.{rows_row, row_same, row_other}
+use Rattle.comb_order.proofs.Tables.{or_nothing, rows_row, row_same, row_other}
 
 times_none : (t : ℕ) (row : List ℕ) (b : ℕ) → (t == b) ≡ false → times t (row ++ b ∷ []) ≡ times t row
 times_none t [] b h = times-other t b [] h
@@ -104,18 +104,9 @@ edges_set rows k b r test block h step holds foreign a t = by_cases (a == k)
     ∙ step t
     ∙ ap₂ (λ x y. nat_lt 0 (times t x) || y) (ap (row_in rows) (sym (eqb-true a k here)) ∙ sym (rows_row rows a))
     (sym (ap₂ (λ x y. (t == b) && (x && y)) (and_from (a == k) test here holds)
-    (ap (λ z. not (block && (z == b))) (eqb-true a k here) ∙ ap not foreign) ∙ and_true (t == b))))
+    (ap (λ z. not (block && (z == b))) (eqb-true a k here) ∙ ap not foreign) ∙ and-true (t == b))))
     (λ out. ap (λ z. nat_lt 0 (times t z)) (rows_row (set rows k r) a ∙ row_other rows k a r (eqb-false a k out) ∙ sym (rows_row rows a))
-    ∙ sym (ap (λ x. edge (rows_of rows) a t || ((t == b) && ((x && test) && not (block && (a == b))))) out ∙ idle (edge (rows_of rows) a t) (t == b)))
-  where
-    and_true : (x : Bool) → (x && true) ≡ x
-    and_true true = refl
-    and_true false = refl
-
-    idle : (x y : Bool) → (x || (y && false)) ≡ x
-    idle true y = refl
-    idle false true = refl
-    idle false false = refl
+    ∙ sym (ap (λ x. edge (rows_of rows) a t || ((t == b) && ((x && test) && not (block && (a == b))))) out ∙ or_nothing (edge (rows_of rows) a t) (t == b)))
 
 pub not_own : (block : Bool) (k b : ℕ) → ((block ≡ true) × (k ≡ b → ⊥)) ⊎ (block ≡ false) → (block && (k == b)) ≡ false
 not_own block k b (inl h) = ap (λ x. x && (k == b)) h.0 ∙ ne_eqb k b h.1

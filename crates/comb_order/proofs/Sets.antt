@@ -1,14 +1,9 @@
 -- Sets of the numbers of a list.
-use Rattle.std.proofs.Common.{◌≡◌, ℕ, zero, suc, ◌+◌, ◌<◌, Bool, true, false, not, ◌&&◌, ◌||◌, ◌==◌, cond, List, [], ◌∷◌, length, get_or, drop, refl, sym, ◌∙◌, ap, ap₂, true≢false}
-use Rattle.std.proofs.lemmas.Bool.{eqb-true, eq-eqb}
-use Rattle.typed_ir.proofs.Cases.{by_cases}
+use Rattle.std.proofs.Common.{◌≡◌, ℕ, zero, suc, ◌+◌, ◌<◌, Bool, true, false, not, ◌&&◌, ◌||◌, ◌==◌, cond, List, [], ◌∷◌, length, get_or, drop, refl, sym, ◌∙◌, ap, ap₂}
+use Rattle.std.proofs.lemmas.Bool.{and_right}
+use Rattle.typed_ir.proofs.Cases.{turned}
 use Rattle.typed_ir.proofs.Lists.{drop_split}
 use Rattle.comb_order.specs.Parts.{is_member, are_distinct}
-
-swap : (x q : ℕ) → (x == q) ≡ (q == x)
-swap x q = by_cases (x == q)
-    (λ t. t ∙ sym (eq-eqb q x (sym (eqb-true x q t))))
-    (λ f. f ∙ sym (by_cases (q == x) (λ t. absurd (true≢false (sym (eq-eqb x q (sym (eqb-true q x t))) ∙ f))) (λ g. g)))
 
 mix : (b c m : Bool) → (cond b true c || m) ≡ (c || (b || m))
 mix true true m = refl
@@ -20,7 +15,7 @@ pub one_more : (xs : List ℕ) (i q d : ℕ) (c : Bool) → i < length xs
     → (cond (get_or xs i d == q) true c || is_member q (drop (i + 1) xs)) ≡ (c || is_member q (drop i xs))
 one_more xs i q d c h =
     mix (get_or xs i d == q) c (is_member q (drop (i + 1) xs))
-    ∙ ap (λ b. c || (b || is_member q (drop (i + 1) xs))) (swap (get_or xs i d) q)
+    ∙ ap (λ b. c || (b || is_member q (drop (i + 1) xs))) (turned (get_or xs i d) q)
     ∙ ap (λ zs. c || is_member q zs) (sym (drop_split xs i d h))
 
 joined : (b m : Bool) → cond b true m ≡ (b || m)
@@ -31,7 +26,7 @@ joined false m = refl
 pub one_before : (xs : List ℕ) (i q d : ℕ) → i < length xs → cond (get_or xs i d == q) true (is_member q (drop (i + 1) xs)) ≡ is_member q (drop i xs)
 one_before xs i q d h =
     joined (get_or xs i d == q) (is_member q (drop (i + 1) xs))
-    ∙ ap (λ b. b || is_member q (drop (i + 1) xs)) (swap (get_or xs i d) q)
+    ∙ ap (λ b. b || is_member q (drop (i + 1) xs)) (turned (get_or xs i d) q)
     ∙ ap (is_member q) (sym (drop_split xs i d h))
 
 pub still_distinct : (xs : List ℕ) (i d : ℕ) → i < length xs → is_member (get_or xs i d) (drop (i + 1) xs) ≡ false → are_distinct (drop (i + 1) xs) ≡ true
@@ -41,11 +36,7 @@ still_distinct xs i d h new rest = ap are_distinct (drop_split xs i d h) ∙ ap�
 pub twice : (xs : List ℕ) (i d : ℕ) → i < length xs → is_member (get_or xs i d) (drop (i + 1) xs) ≡ true → are_distinct xs ≡ false
 twice xs i d h old = later xs i (ap are_distinct (drop_split xs i d h) ∙ ap (λ a. not a && are_distinct (drop (i + 1) xs)) old)
   where
-    and_false : (a b : Bool) → b ≡ false → (a && b) ≡ false
-    and_false true b e = e
-    and_false false b e = refl
-
     later : (ys : List ℕ) (j : ℕ) → are_distinct (drop j ys) ≡ false → are_distinct ys ≡ false
     later ys zero e = e
     later [] (suc j) e = e
-    later (y ∷ ys) (suc j) e = and_false (not (is_member y ys)) (are_distinct ys) (later ys j e)
+    later (y ∷ ys) (suc j) e = and_right (not (is_member y ys)) (are_distinct ys) (later ys j e)

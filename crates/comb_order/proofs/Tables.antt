@@ -1,6 +1,6 @@
 -- Tables by rows, and the drivers of a signal.
 use Rattle.std.proofs.Common.{◌≡◌, ℕ, zero, suc, ◌+◌, ◌<◌, ◌≤◌, ◌==◌, Bool, true, false, ◌||◌, ◌&&◌, List, [], ◌∷◌, ◌++◌, length, map, take, get_or, set, refl, sym, ◌∙◌, ap, ap₂, arith}
-use Rattle.std.proofs.Math.Bool.{or-false, or_assoc}
+use Rattle.std.proofs.Math.Bool.{or-false, or_assoc, and-false}
 use Rattle.std.specs.declared.vec.Vec.{Vec}
 use Rattle.std.specs.Global.{Global}
 use Rattle.std.specs.Prelude.{bit_or}
@@ -88,6 +88,9 @@ drives_merged xs node m n a i =
     ∙ sym (or_assoc (drives_in xs a i) (drives_in (d ∷ []) a i) ((a == node) && has_bit n i))
     ∙ ap (λ t. t || ((a == node) && has_bit n i)) (sym (drives_both xs (d ∷ []) a i))
 
+pub or_nothing : (a b : Bool) → (a || (b && false)) ≡ a
+or_nothing a b = ap (λ t. a || t) (and-false b) ∙ or-false a
+
 -- one row of the table takes more bits of a node
 pub touch_added : (table : List (Vec Driver Global)) (k : ℕ) (r : Vec Driver Global) (node mask : ℕ) → k < length table
     → ((a i : ℕ) → drives_in r.items a i ≡ (drives_in (row_in table k) a i || ((a == node) && has_bit mask i)))
@@ -98,12 +101,7 @@ touch_added table k r node mask h step a s i =
     ap (λ z. drives_in (row_in (set table k r) z) a i) e ∙ ap (λ z. drives_in z a i) (row_same table k r h) ∙ step a i
     ∙ sym (ap₂ (λ z t. drives_in (row_in table z) a i || ((a == node) && (t && has_bit mask i))) e yes))
     (λ out. ap (λ z. drives_in z a i) (row_other table k s r (eqb-false s k out))
-    ∙ sym (ap (λ t. drives_in (row_in table s) a i || ((a == node) && (t && has_bit mask i))) out ∙ idle (drives_in (row_in table s) a i) (a == node)))
-  where
-    idle : (x b : Bool) → (x || (b && false)) ≡ x
-    idle true b = refl
-    idle false true = refl
-    idle false false = refl
+    ∙ sym (ap (λ t. drives_in (row_in table s) a i || ((a == node) && (t && has_bit mask i))) out ∙ or_nothing (drives_in (row_in table s) a i) (a == node)))
 
 -- ---- nodes and blocks by number
 
