@@ -1,7 +1,7 @@
 -- The rows of a list of runs, and where its runs begin.
 use Rattle.std.proofs.Common.{◌≡◌, ℕ, zero, suc, ◌+◌, ◌-◌, ◌<◌, ◌≤◌, List, [], ◌∷◌, ◌++◌, length, take, drop, get_or, set, replicate, refl, sym, subst, inl, inr, eq-or-lt_of_le, ◌∙◌, ap, arith, length-append, append_assoc, append-nil, drop-drop, take-add, add-one}
 use Rattle.std.proofs.lemmas.List.{length-replicate, drop-replicate, drop-append-le, replicate-append-replicate, take_all}
-use Rattle.std.proofs.Math.Seq.{drop-append-add, take-append_seam}
+use Rattle.std.proofs.Math.Seq.{drop-append-add}
 use Rattle.std.specs.List.{remove}
 use Rattle.std.specs.Prelude.{Result, Ok, Err, OnOk, is_err, false}
 use Rattle.std.proofs.lemmas.Grind.{take_at_read}
@@ -270,9 +270,6 @@ module _ {R : Type 0} where
             (gapless-snoc a h.added r.start one.added (h.gapless a r.start s.0) one.start (omega (arith, one.start, one.end, s.1)));
       }
 
-  pub with_front : (old runs new : List (RowRun R)) → IsWithRuns old runs new → take (length old) new ≡ old
-  with_front old runs new h = ap (λ (l : List (RowRun R)). take (length old) l) h.items ∙ take-append_seam old h.added
-
   pub with_next : (old runs mid new : List (RowRun R)) (i : ℕ) (g : RowRun R) (r : Result (Unit {0}) NoMemory) → i < length runs → g ≡ get_or runs i g
       → is_err r ≡ false → IsWithRuns old (take i runs) mid → OnOk r (IsWithRun mid g new) → IsWithRuns old (take (i + 1) runs) new
   with_next old runs mid new i g (Ok x) lt is ok h one =
@@ -351,9 +348,6 @@ module _ {R : Type 0} where
 
   abbrev pub HasRowsOf : List (RowRun R) → List (RowRun R) → Type 0
   HasRowsOf runs new = (a b : ℕ) → IsGapless a runs b → IsGapless a new b × (expanded new ≡ expanded runs)
-
-  pub rows_of_none : (new : List (RowRun R)) → new ≡ [] → HasRowsOf [] new
-  rows_of_none new e = λ a b h. (subst (λ (l : List (RowRun R)). IsGapless a l b) (sym e) h, ap (λ (l : List (RowRun R)). expanded l) e)
 
   -- one run more, and then a list with the same rows
   pub rows_of_more : (runs old mid new : List (RowRun R)) (i : ℕ) (g : RowRun R) → i < length runs → g ≡ get_or runs i g
