@@ -36,9 +36,6 @@ copies_fit (suc n) w x h =
 pub one_more : (n w x : ℕ) → copies (n + 1) w x ≡ copies n w x * 2 ^ w + x
 one_more n w x = let e : n + 1 ≡ suc n = omega arith in ap (λ k. copies k w x) e
 
-pub once : (w x : ℕ) → copies 1 w x ≡ x
-once w x = omega (arith, zero-mul (2 ^ w))
-
 -- where one more copy is to come, there is room for it
 pub room_for_one : (n count w : ℕ) → n < count → count * w ≤ 128 → n * w + w ≤ 128
 room_for_one n count w h few =
