@@ -1,9 +1,11 @@
 -- Sound units give a design in which no bit has two drivers.
-use Rattle.std.proofs.Common.{◌≡◌, ℕ, zero, suc, ◌+◌, ◌-◌, ◌<◌, ◌≤◌, Bool, true, false, ◌&&◌, ◌⊎◌, inl, inr, List, [], ◌∷◌, ◌++◌, map, length, slice_index, cond, true≢false, refl, sym, ◌∙◌, ap, ap₂, subst, nat_lt, ltb-true, ltb-false, eq-eqb, arith}
+use Rattle.std.proofs.Common.{◌≡◌, ℕ, zero, suc, ◌+◌, ◌-◌, ◌<◌, ◌≤◌, Bool, true, false, ◌&&◌, ◌⊎◌, inl, inr, List, [], ◌∷◌, ◌++◌, map, length, slice_index, cond, true≢false, refl, sym, ◌∙◌, ap, ap₂, subst, eq-eqb, arith}
+use Rattle.std.proofs.lemmas.Bool.{cases_lt}
 use Rattle.typed_ir.specs.declared.lane.Lane.{Lane}
 use Rattle.typed_ir.specs.Valuations.{any_within}
 use Rattle.typed_ir.specs.Nodes.{FlatNode, lane_spans, node_drives}
 use Rattle.typed_ir.specs.Orders.{Each, Member}
+use Rattle.typed_ir.proofs.Members.{member_append}
 use Rattle.unit_ir.specs.Shifts.{shifted_lane, shifted_span, shifted_node}
 use Rattle.unit_ir.specs.Trees.{UnitNode, Own, Into, From, SizedUnit, Instances, Nothing, One, signals_in, firsts, copied_out, node_there, nodes_at, registers_at, count, own_drives, port_drives, is_kid_input, IsFit, IsSoundUnit, AreSound}
 use Rattle.unit_ir.proofs.Pulled.{spans_shifted, spans_below, drives_shifted, drives_below, lanes_shifted}
@@ -44,13 +46,6 @@ count_none P f xs all h = chosen (count_found P ⊥ f xs all h)
     chosen (inl none) = none
     chosen (inr bad) = absurd bad
 
-pub below : (a b : ℕ) → (a < b) ⊎ (b ≤ a)
-below a b = split (nat_lt a b) refl
-  where
-    split : (t : Bool) → nat_lt a b ≡ t → (a < b) ⊎ (b ≤ a)
-    split true e = inl (ltb-true a b e)
-    split false e = inr (ltb-false a b e)
-
 -- ---- what a shifted node drives, by the numbers that it had
 
 pub record Back (first s : ℕ) (P : ℕ → Type 0) : Type 0 where
@@ -60,7 +55,7 @@ pub record Back (first s : ℕ) (P : ℕ → Type 0) : Type 0 where
 
 lanes_back : (first : ℕ) (lanes : List Lane) (s i : ℕ) → any_within (lane_spans (map (shifted_lane first) lanes)) s i ≡ true
     → Back first s (λ t. any_within (lane_spans lanes) t i ≡ true)
-lanes_back first lanes s i h = at (below s first)
+lanes_back first lanes s i h = at (cases_lt s first)
   where
     shifted_is : any_within (map (shifted_span first) (lane_spans lanes)) s i ≡ true
     shifted_is = sym (ap (λ ps. any_within ps s i) (lanes_shifted first lanes)) ∙ h
@@ -76,7 +71,7 @@ lanes_back first lanes s i h = at (below s first)
         }
 
 node_back : (first : ℕ) (n : FlatNode) (s i : ℕ) → node_drives (shifted_node first n) s i ≡ true → Back first s (λ t. node_drives n t i ≡ true)
-node_back first n s i h = at (below s first)
+node_back first n s i h = at (cases_lt s first)
   where
     at : (s < first) ⊎ (first ≤ s) → Back first s (λ t. node_drives n t i ≡ true)
     at (inl low) = absurd (true≢false (sym h ∙ drives_below first n s i low))
@@ -169,24 +164,6 @@ port_case first n c p i within sound h (Into d form lanes e) fit is =
     ap₂ (λ x y. x && y) (eq-eqb d c same.0) (ap (λ q. any_within (lane_spans lanes) q i) (sym same.1) ∙ b.is)
 
 -- ---- members of lists
-
-pub member_append : (s : ℕ) (xs ys : List ℕ) → Member s (xs ++ ys) → Member s xs ⊎ Member s ys
-member_append s [] ys h = inr h
-member_append s (x ∷ xs) ys (inl e) = inl (inl e)
-member_append s (x ∷ xs) ys (inr h) = later (member_append s xs ys h)
-  where
-    later : Member s xs ⊎ Member s ys → Member s (x ∷ xs) ⊎ Member s ys
-    later (inl k) = inl (inr k)
-    later (inr k) = inr k
-
-pub member_left : (s : ℕ) (xs ys : List ℕ) → Member s xs → Member s (xs ++ ys)
-member_left s [] ys h = absurd h
-member_left s (x ∷ xs) ys (inl e) = inl e
-member_left s (x ∷ xs) ys (inr h) = inr (member_left s xs ys h)
-
-pub member_right : (s : ℕ) (xs ys : List ℕ) → Member s ys → Member s (xs ++ ys)
-member_right s [] ys h = h
-member_right s (x ∷ xs) ys h = inr (member_right s xs ys h)
 
 pub member_back : (first s : ℕ) (rs : List ℕ) → Member s (map (λ r. first + r) rs) → Back first s (λ t. Member t rs)
 member_back first s [] h = absurd h
@@ -296,7 +273,7 @@ total s i own inner later =
 few_parts : (path here : List ℕ) (first : ℕ) (u : SizedUnit) (within after : Instances) (own inner later : List FlatNode) → IsSoundUnit u within
     → Parts path here first u within after own inner later → (s i : ℕ) → total s i own inner later ≤ 1
 few_parts path here first u within after own inner later sound parts s i =
-    at (below s first) (below s (first + length u.signals)) (below s (first + length u.signals + signals_in within))
+    at (cases_lt s first) (cases_lt s (first + length u.signals)) (cases_lt s (first + length u.signals + signals_in within))
   where
     mid : s < first + length u.signals + signals_in within → (count (λ k. node_drives k s i) own ≡ 0) ⊎ Hit (first + length u.signals) within s
         → total s i own inner later ≤ 1

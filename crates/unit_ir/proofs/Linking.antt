@@ -1,18 +1,20 @@
 -- The flat design of a tree of sound units keeps all that a flat design keeps beside its widths.
 use Rattle.std.proofs.Common.{◌≡◌, ℕ, ◌+◌, ◌-◌, ◌<◌, ◌≤◌, ◌==◌, ◌&&◌, ◌||◌, nat_le, nat_lt, eqb-true, true≢false, Bool, true, false, ◌⊎◌, inl, inr, List, [], ◌∷◌, ◌++◌, map, length, slice_index, cond, refl, sym, ◌∙◌, ap, ap₂, subst, arith}
+use Rattle.std.proofs.lemmas.Bool.{cases_lt}
 use Rattle.typed_ir.specs.Stmts.{SizedStmt, later_targets}
 use Rattle.typed_ir.specs.declared.span.Span.{Span}
 use Rattle.typed_ir.specs.Valuations.{within, any_within}
 use Rattle.typed_ir.proofs.Cases.{by_cases, and_left, only_right}
 use Rattle.typed_ir.specs.Nodes.{FlatNode, Drive, Block, node_drives, IsComplete}
 use Rattle.typed_ir.specs.Orders.{Each, Member, Distinct, any_drives}
+use Rattle.typed_ir.proofs.Members.{member_left, member_right, member_append, distinct_append}
 use Rattle.typed_ir.specs.Cycles.{WritesRegisters, block_writes}
 use Rattle.typed_ir.specs.Flats.{NodeWritesFirst, IsFlat}
 use Rattle.unit_ir.specs.Shifts.{shifted_span, shifted_stmt}
 use Rattle.unit_ir.specs.Trees.{UnitNode, Own, Into, From, SizedUnit, Instances, Nothing, One, Standing, signals_in, firsts, copied_out, node_there, nodes_at, blocks_at, top_inputs, flat_of_tree, count, IsNodeSound, IsSoundUnit, AreSound}
 use Rattle.unit_ir.proofs.Pulled.{complete_shifted, first_shifted, spans_below, spans_shifted}
 use Rattle.unit_ir.proofs.Fitting.{later_shifted, one_each}
-use Rattle.unit_ir.proofs.Counted.{count_append, count_map, count_none, below, driven, nodes_given, registers_of, registers_range, InRange, no_register, Hit, member_left, member_right, member_append, member_there, member_back}
+use Rattle.unit_ir.proofs.Counted.{count_append, count_map, count_none, driven, nodes_given, registers_of, registers_range, InRange, no_register, Hit, member_there, member_back}
 
 pub each_append : {A : Type 0} (P : A → Type 0) (xs ys : List A) → Each P xs → Each P ys → Each P (xs ++ ys)
 each_append P [] ys h k = k
@@ -44,15 +46,6 @@ node_first first kid (Into c form lanes e) h = tt
 node_first first kid (From c form lanes e) h = tt
 
 -- ---- registers
-
-distinct_append : (xs ys : List ℕ) → Distinct xs → Distinct ys → ((s : ℕ) → Member s xs → Member s ys → ⊥) → Distinct (xs ++ ys)
-distinct_append [] ys h k apart = k
-distinct_append (x ∷ xs) ys h k apart =
-    ((λ m. either (member_append x xs ys m)), distinct_append xs ys h.1 k (λ s a b. apart s (inr a) b))
-  where
-    either : Member x xs ⊎ Member x ys → ⊥
-    either (inl m) = h.0 m
-    either (inr m) = apart x (inl refl) m
 
 distinct_map : (first : ℕ) (rs : List ℕ) → Distinct rs → Distinct (map (λ r. first + r) rs)
 distinct_map first [] h = tt
@@ -175,7 +168,7 @@ own_none first n rs sts all there s i out =
 own_few : (first : ℕ) (sts : List SizedStmt) → ((s i : ℕ) → count (writes s i) sts ≤ 1)
     → (s i : ℕ) → count (writes s i) (map (shifted_stmt first) sts) ≤ 1
 own_few first sts few s i =
-    subst (λ z. z ≤ 1) (sym (count_map (writes s i) (shifted_stmt first) sts)) (at (below s first))
+    subst (λ z. z ≤ 1) (sym (count_map (writes s i) (shifted_stmt first) sts)) (at (cases_lt s first))
   where
     none_low : s < first → (xs : List SizedStmt) → count (λ st. block_writes (shifted_stmt first st) s i) xs ≡ 0
     none_low low [] = refl
@@ -228,7 +221,7 @@ writers_few path first (One name u within after) sound =
 
     few_of : (first n m s a b c : ℕ) → ((s < first) ⊎ (first + n ≤ s) → a ≡ 0) → a ≤ 1 → ((s < first + n) ⊎ (first + n + m ≤ s) → b ≡ 0) → b ≤ 1
         → {k : ℕ} → ((s < first + n + m) ⊎ (k ≤ s) → c ≡ 0) → c ≤ 1 → a + (b + c) ≤ 1
-    few_of first n m s a b c f fa g gb h hc = at (below s (first + n))
+    few_of first n m s a b c f fa g gb h hc = at (cases_lt s (first + n))
       where
         inner_or_later : first + n ≤ s → (s < first + n + m) ⊎ (first + n + m ≤ s) → a + (b + c) ≤ 1
         inner_or_later from (inl low) = omega (arith, f (inr from), gb, h (inl low))
@@ -236,7 +229,7 @@ writers_few path first (One name u within after) sound =
 
         at : (s < first + n) ⊎ (first + n ≤ s) → a + (b + c) ≤ 1
         at (inl low) = omega (arith, fa, g (inl low), h (inl (omega (arith, low))))
-        at (inr from) = inner_or_later from (below s (first + n + m))
+        at (inr from) = inner_or_later from (cases_lt s (first + n + m))
 
 -- ---- the whole
 
