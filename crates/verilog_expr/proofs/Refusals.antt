@@ -29,7 +29,7 @@ run_at {stack} {s} is h = run_of (subst (λ (e : ParseError). Fails stack s e) i
 
 -- ---- what is spelled
 
-stuck_not_ok : {stack : List Symbol} {s r : List Token} {f : ParseFault} → Run stack s (Ok r) → Run stack s (Err f) → ⊥
+pub stuck_not_ok : {stack : List Symbol} {s r : List Token} {f : ParseFault} → Run stack s (Ok r) → Run stack s (Err f) → ⊥
 stuck_not_ok {r = r} {f = f} p q = apart r f _ (one_end p p) (one_end p q)
   where
     apart : (r : List Token) (f : ParseFault) (o : Outcome) → o ≡ Ok r → o ≡ Err f → ⊥
