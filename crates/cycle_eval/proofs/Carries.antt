@@ -1,5 +1,5 @@
 -- Registers one by one, and what their signals have.
-use Rattle.std.proofs.Common.{◌≡◌, ℕ, zero, suc, ◌+◌, ◌<◌, List, [], ◌∷◌, ◌++◌, length, map, get_or, drop, nat_lt, IsTrue, append_assoc, refl, sym, ◌∙◌, ap, subst, arith}
+use Rattle.std.proofs.Common.{◌≡◌, ℕ, zero, suc, ◌+◌, ◌<◌, List, [], ◌∷◌, ◌++◌, length, map, get_or, drop, nat_lt, IsTrue, append_assoc, sym, ◌∙◌, ap, subst, arith}
 use Rattle.bits.specs.declared.Bits.{Bits}
 use Rattle.typed_ir.specs.declared.signal.Signal.{Signal as Signal'}
 use Rattle.typed_ir.specs.States.{sized_value}
@@ -7,6 +7,7 @@ use Rattle.typed_ir.specs.Flats.{are_within}
 use Rattle.typed_ir.proofs.Cases.{and_left, and_right}
 use Rattle.typed_ir.proofs.Lists.{drop_split}
 use Rattle.std.proofs.lemmas.Bool.{ltb-true}
+use Rattle.std.proofs.lemmas.List.{map_push}
 use Rattle.cycle_eval.specs.Paths.{keyed, keyed_in, width_in, initial_in}
 
 pub width_read : (signals : List Signal') (r : ℕ) (x : Signal') → r < length signals → x ≡ get_or signals r x → x.width ≡ width_in signals r
@@ -38,14 +39,10 @@ pub push_step : (f : ℕ → ℕ × ℕ) (rs : List ℕ) (i : ℕ) (old new : Li
     → new ≡ old ++ b ∷ [] → map sized_value new ++ map f (drop (i + 1) rs) ≡ map sized_value old ++ map f (drop i rs)
 push_step f rs i old new b h here e =
     ap (λ zs. map sized_value zs ++ map f (drop (i + 1) rs)) e
-    ∙ ap (λ zs. zs ++ map f (drop (i + 1) rs)) (map_more old b)
+    ∙ ap (λ zs. zs ++ map f (drop (i + 1) rs)) (map_push sized_value old b)
     ∙ append_assoc (map sized_value old) (sized_value b ∷ []) (map f (drop (i + 1) rs))
     ∙ ap (λ z. map sized_value old ++ z ∷ map f (drop (i + 1) rs)) here
     ∙ sym (ap (λ zs. map sized_value old ++ map f zs) (drop_split rs i 0 h))
-  where
-    map_more : (xs : List Bits) (b : Bits) → map sized_value (xs ++ b ∷ []) ≡ map sized_value xs ++ sized_value b ∷ []
-    map_more [] b = refl
-    map_more (x ∷ xs) b = ap (λ zs. sized_value x ∷ zs) (map_more xs b)
 
 abbrev pub pair : ℕ → ℕ → ℕ × ℕ
 pair w x = (w, x)

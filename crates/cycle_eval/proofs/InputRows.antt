@@ -8,6 +8,7 @@ use Rattle.typed_ir.specs.Valuations.{Valuation, look}
 use Rattle.typed_ir.specs.Orders.{Member}
 use Rattle.typed_ir.specs.Cycles.{Flat, fill, cut_to, input, width_at, IsReady}
 use Rattle.typed_ir.proofs.Cases.{by_cases}
+use Rattle.typed_ir.proofs.Members.{member_later}
 use Rattle.typed_ir.proofs.Ready.{member_or, fill-other}
 use Rattle.cycle_eval.proofs.Laws.{map_same}
 
@@ -23,10 +24,6 @@ cut_read (w ∷ ws) [] zero h = small 0 w (pow_pos w)
 cut_read (w ∷ ws) [] (suc i) h = cut_read ws [] i (omega (arith, h))
 cut_read (w ∷ ws) (x ∷ xs) zero h = refl
 cut_read (w ∷ ws) (x ∷ xs) (suc i) h = cut_read ws xs i (omega (arith, h))
-
-member_later : (s t : ℕ) (ts : List ℕ) → (s ≡ t → ⊥) → Member s (t ∷ ts) → Member s ts
-member_later s t ts ne (inl e) = absurd (ne e)
-member_later s t ts ne (inr m) = m
 
 -- a signal that is filled has the same, whatever was there
 fill_full : (ss xs : List ℕ) (v w : Valuation) (s : ℕ) → length xs ≡ length ss → Member s ss → fill ss xs v s ≡ fill ss xs w s

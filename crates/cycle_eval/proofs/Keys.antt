@@ -1,7 +1,7 @@
 -- Registers that are found by keys are found by their paths.
 use Rattle.std.proofs.Common.{◌≡◌, ℕ, zero, suc, ◌%◌, ◌^◌, ◌<◌, Bool, true, false, ◌&&◌, ◌==◌, cond, nat_lt, List, [], ◌∷◌, ◌++◌, length, map, get_or, IsTrue, refl, sym, ◌∙◌, ap, ap₂, arith}
 use Rattle.std.specs.Prelude.{slice_index}
-use Rattle.std.proofs.Math.Bool.{and-false}
+use Rattle.std.proofs.Math.Bool.{and-false, and_assoc}
 use Rattle.std.proofs.lemmas.Bool.{ltb-true}
 use Rattle.typed_ir.specs.declared.flat.Flat.{Flat}
 use Rattle.typed_ir.specs.declared.instance_name.InstanceName.{InstanceName}
@@ -48,11 +48,7 @@ same_ends (p ∷ ps) [] a b = ap (λ t. (p == b) && t) (no_end ps) ∙ and-false
     no_end : (ps : List ℕ) → same_path (ps ++ a ∷ []) [] ≡ false
     no_end [] = refl
     no_end (p ∷ ps) = refl
-same_ends (p ∷ ps) (q ∷ qs) a b = ap (λ t. (p == q) && t) (same_ends ps qs a b) ∙ apart (p == q) (same_path ps qs) ((a == b) && true)
-  where
-    apart : (x y z : Bool) → (x && (y && z)) ≡ ((x && y) && z)
-    apart true y z = refl
-    apart false y z = refl
+same_ends (p ∷ ps) (q ∷ qs) a b = ap (λ t. (p == q) && t) (same_ends ps qs a b) ∙ sym (and_assoc (p == q) (same_path ps qs) ((a == b) && true))
 
 -- ---- keys
 

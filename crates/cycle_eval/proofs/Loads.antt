@@ -1,5 +1,5 @@
 -- States that are put into an environment, and read from it.
-use Rattle.std.proofs.Common.{◌≡◌, ℕ, zero, suc, ◌+◌, ◌<◌, nat_lt, List, [], ◌∷◌, ◌++◌, length, map, get_or, set, drop, append_assoc, IsTrue, refl, sym, ◌∙◌, ap, ap₂, arith}
+use Rattle.std.proofs.Common.{◌≡◌, ℕ, zero, suc, ◌+◌, ◌<◌, nat_lt, List, [], ◌∷◌, ◌++◌, length, map, get_or, set, drop, IsTrue, refl, sym, ◌∙◌, ap, ap₂, arith}
 use Rattle.std.specs.Prelude.{slice_index, slice_get, Some}
 use Rattle.bits.specs.declared.Bits.{Bits}
 use Rattle.typed_ir.specs.States.{sized_value}
@@ -12,18 +12,13 @@ use Rattle.typed_ir.specs.Flats.{are_below}
 use Rattle.typed_ir.proofs.Cases.{and_left, and_right}
 use Rattle.typed_ir.proofs.Lists.{drop_split}
 use Rattle.cycle_eval.specs.States.{paired, state_widths, state_values}
+use Rattle.cycle_eval.proofs.Carries.{pair, push_step}
 
 -- each register is there
 pub below_read : (rs : List ℕ) (count i : ℕ) → IsTrue (are_below rs count) → i < length rs → get_or rs i 0 < count
 below_read [] count i h k = absurd (omega (arith, k))
 below_read (r ∷ rs) count zero h k = ltb-true r count (and_left (nat_lt r count) (are_below rs count) h)
 below_read (r ∷ rs) count (suc i) h k = below_read rs count i (and_right (nat_lt r count) (are_below rs count) h) (omega (arith, k))
-
--- an element of a list, whatever stands for none
-pub read_any : (rs : List ℕ) (i d e : ℕ) → i < length rs → get_or rs i d ≡ get_or rs i e
-read_any [] i d e h = absurd (omega (arith, h))
-read_any (r ∷ rs) zero d e h = refl
-read_any (r ∷ rs) (suc i) d e h = read_any rs i d e (omega (arith, h))
 
 -- one more register filled, from the end
 pub fill_step : (rs xs : List ℕ) (i : ℕ) (start env : Valuation) (r x : ℕ) → i < length rs → i < length xs → r ≡ get_or rs i 0 → x ≡ get_or xs i 0
@@ -64,18 +59,7 @@ store_step env rs i old new b h k is e =
     let f : ℕ → ℕ × ℕ = λ r. (slice_index (widths env) r, env_of env r) in
     let here : sized_value b ≡ f (get_or rs i 0) =
     ap₂ pair (widths-read env (get_or rs i 0) b k is) (env_of-read env (get_or rs i 0) b k is) in
-    ap (λ zs. map sized_value zs ++ map f (drop (i + 1) rs)) e
-    ∙ ap (λ zs. zs ++ map f (drop (i + 1) rs)) (map_more old b)
-    ∙ append_assoc (map sized_value old) (sized_value b ∷ []) (map f (drop (i + 1) rs))
-    ∙ ap (λ z. map sized_value old ++ z ∷ map f (drop (i + 1) rs)) here
-    ∙ sym (ap (λ zs. map sized_value old ++ map f zs) (drop_split rs i 0 h))
-  where
-    pair : ℕ → ℕ → ℕ × ℕ
-    pair w x = (w, x)
-
-    map_more : (xs : List Bits) (b : Bits) → map sized_value (xs ++ b ∷ []) ≡ map sized_value xs ++ sized_value b ∷ []
-    map_more [] b = refl
-    map_more (x ∷ xs) b = ap (λ zs. sized_value x ∷ zs) (map_more xs b)
+    push_step f rs i old new b h here e
 
 -- where no input is given, all of them are 0
 pub no_inputs : (ss : List ℕ) (env : Valuation) → ((s : ℕ) → env s ≡ 0) → env ≡ fill ss [] (λ s. 0)

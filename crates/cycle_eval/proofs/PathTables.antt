@@ -4,7 +4,7 @@ use Rattle.std.specs.Prelude.{Option, Some, None, slice_index, nat_eq}
 use Rattle.std.specs.Option.{option_eq}
 use Rattle.std.specs.List.{list_any}
 use Rattle.std.proofs.lemmas.Bool.{ltb-true, lt-ltb, eqb-true, eq-eqb, and_from, cond-true, cond-false}
-use Rattle.std.proofs.lemmas.List.{length-append, get_or_append_left}
+use Rattle.std.proofs.lemmas.List.{length-append, length-map, map_push, get_or_append_left}
 use Rattle.std.proofs.Math.Seq.{get_or-append_seam}
 use Rattle.std.proofs.lemmas.List.Folds.{list_any_at}
 use Rattle.std.proofs.lemmas.Option.{same_Some, none-some, slice_get_within, get_or_from_slice_get}
@@ -36,19 +36,11 @@ paths_length paths (x ∷ xs) n e =
 pub rows_length : (rows : List InstanceName) → length (paths_of rows) ≡ length rows
 rows_length rows = let all : length (paths_of rows) ≡ 0 + length rows = paths_length [] rows 0 refl in omega (arith, all)
 
-map_more : (xs : List PathStep) (s : PathStep) → map row_of (xs ++ s ∷ []) ≡ map row_of xs ++ row_of s ∷ []
-map_more [] s = refl
-map_more (x ∷ xs) s = ap (λ zs. row_of x ∷ zs) (map_more xs s)
-
-steps_long : (xs : List PathStep) → length (map row_of xs) ≡ length xs
-steps_long [] = refl
-steps_long (x ∷ xs) = ap suc (steps_long xs)
-
 steps_more : (xs : List PathStep) (s : PathStep) → step_paths (xs ++ s ∷ []) ≡ step_paths xs ++ path_next (step_paths xs) s.before s.name.0 ∷ []
-steps_more xs s = ap (paths_from []) (map_more xs s) ∙ paths_more [] (map row_of xs) (row_of s)
+steps_more xs s = ap (paths_from []) (map_push row_of xs s) ∙ paths_more [] (map row_of xs) (row_of s)
 
 steps_length : (xs : List PathStep) → length (step_paths xs) ≡ length xs
-steps_length xs = rows_length (map row_of xs) ∙ steps_long xs
+steps_length xs = rows_length (map row_of xs) ∙ length-map xs row_of
 
 -- a number of before
 old_path : (xs : List PathStep) (s : PathStep) (n : ℕ) → n < length xs → path_at (xs ++ s ∷ []) n ≡ path_at xs n

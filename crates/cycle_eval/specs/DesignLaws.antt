@@ -1,7 +1,7 @@
 -- The laws of a design as a machine.
-use Rattle.std.proofs.Common.{◌≡◌, ℕ, zero, suc, ◌+◌, ◌%◌, ◌^◌, Bool, true, false, ◌&&◌, ◌==◌, List, [], ◌∷◌, ◌++◌, length, map, refl, sym, ◌∙◌, ap, ap₂, ◌↔◌, true≢false}
+use Rattle.std.proofs.Common.{◌≡◌, ℕ, zero, suc, ◌+◌, ◌%◌, ◌^◌, true, ◌&&◌, ◌==◌, List, [], ◌∷◌, ◌++◌, length, map, refl, sym, ◌∙◌, ap, ap₂, ◌↔◌, true≢false}
 use Rattle.std.proofs.Math.Nat.{suc-add}
-use Rattle.std.proofs.lemmas.Bool.{eqb-true, eq-eqb, and_from}
+use Rattle.std.proofs.lemmas.Bool.{eqb-true, eq-eqb, and_from, and_parts}
 use Rattle.std.proofs.lemmas.List.{append-nil, length-append}
 use Rattle.typed_ir.specs.RunLaws.{seg_more}
 use Rattle.typed_ir.specs.Stmts.{all_applied}
@@ -61,14 +61,6 @@ carried_fits old new s =
     paired_widths (width_at new)
     (λ r. carried_value (map (register_at old) old.registers) (state_values s) (register_at new r) (initial_at new r) % 2 ^ width_at new r) new.registers
 
-and_left : (a b : Bool) → (a && b) ≡ true → a ≡ true
-and_left true b h = refl
-and_left false b h = h
-
-and_right : (a b : Bool) → (a && b) ≡ true → b ≡ true
-and_right true b h = h
-and_right false b h = absurd (true≢false (sym h))
-
 pub alike_is : (x y : List (ℕ × ℕ)) → (are_alike x y ≡ true) ↔ (x ≡ y)
 alike_is x y = (same x y, λ e. ap (are_alike x) (sym e) ∙ itself x)
   where
@@ -83,10 +75,10 @@ alike_is x y = (same x y, λ e. ap (are_alike x) (sym e) ∙ itself x)
     same [] (y ∷ ys) h = absurd (true≢false (sym h))
     same (x ∷ xs) [] h = absurd (true≢false (sym h))
     same (x ∷ xs) (y ∷ ys) h =
-        let both : ((x.0 == y.0) && (x.1 == y.1)) ≡ true = and_left ((x.0 == y.0) && (x.1 == y.1)) (are_alike xs ys) h in
+        let both : ((x.0 == y.0) && (x.1 == y.1)) ≡ true = (and_parts ((x.0 == y.0) && (x.1 == y.1)) (are_alike xs ys) h).0 in
         ap₂ (λ (z : ℕ × ℕ) (zs : List (ℕ × ℕ)). z ∷ zs)
-        (pair_same x y (eqb-true x.0 y.0 (and_left (x.0 == y.0) (x.1 == y.1) both)) (eqb-true x.1 y.1 (and_right (x.0 == y.0) (x.1 == y.1) both)))
-        (same xs ys (and_right ((x.0 == y.0) && (x.1 == y.1)) (are_alike xs ys) h))
+        (pair_same x y (eqb-true x.0 y.0 (and_parts (x.0 == y.0) (x.1 == y.1) both).0) (eqb-true x.1 y.1 (and_parts (x.0 == y.0) (x.1 == y.1) both).1))
+        (same xs ys (and_parts ((x.0 == y.0) && (x.1 == y.1)) (are_alike xs ys) h).1)
 
     itself : (x : List (ℕ × ℕ)) → are_alike x x ≡ true
     itself [] = refl

@@ -1,11 +1,11 @@
 use Rattle.std.proofs.Common.{rules, ◌≡◌, ◌++◌, ◌<◌, ◌∙◌, ℕ, List, length, get_or, map, sym, ap, ap₂, subst, arith}
 use Rattle.std.specs.Prelude.{IfOk}
-use Rattle.std.proofs.lemmas.List.{append-nil, at_drop_all}
+use Rattle.std.proofs.lemmas.List.{append-nil, at_drop_all, get_or_default}
 use Rattle.bits.proofs.Modulo.{small}
 use Rattle.typed_ir.specs.States.{sized_value}
 use Rattle.cycle_eval.specs.Paths.{width_in, initial_in}
 use Rattle.cycle_eval.specs.States.{paired}
-use Rattle.cycle_eval.proofs.Loads.{below_read, read_any, pairs_of}
+use Rattle.cycle_eval.proofs.Loads.{below_read, pairs_of}
 use Rattle.cycle_eval.proofs.Carries.{width_read, initial_read, push_step, pair}
 use Rattle.cycle_eval.proofs.carrying.beginnings.Goals as goal
 
@@ -15,7 +15,7 @@ bounds-signals-place c =
     let i = c.loop-register.register-index in
     let listed : get_or rs i 0 < length c.args.signals.now = below_read rs (length c.args.signals.now) i c.requires c.loop-register-test.true in
     let same : c.index-place.result ≡ get_or rs i 0 =
-    c.index-place.ensures ∙ c.register-item.is ∙ read_any rs i c.register-item.result 0 c.loop-register-test.true in
+    c.index-place.ensures ∙ c.register-item.is ∙ get_or_default rs i c.register-item.result 0 c.loop-register-test.true in
     omega (arith, listed, same)
 
 pub loop-register-preserved : goal.loop-register-preserved
@@ -27,7 +27,7 @@ loop-register-preserved c =
     let x = c.index-signals-place.result in
     let r = get_or rs i 0 in
     let at = c.index-place.result in
-    let same : at ≡ r = c.index-place.ensures ∙ c.register-item.is ∙ read_any rs i c.register-item.result 0 c.loop-register-test.true in
+    let same : at ≡ r = c.index-place.ensures ∙ c.register-item.is ∙ get_or_default rs i c.register-item.result 0 c.loop-register-test.true in
     let listed : r < length signals = below_read rs (length signals) i c.requires c.loop-register-test.true in
     let there : at < length signals = omega (arith, listed, same) in
     let here : sized_value c.new.result ≡ f r = ap₂ pair
@@ -54,6 +54,6 @@ offset_bounds-signals-place c =
     let i = c.loop-register.register-index in
     let listed : get_or rs i 0 < length c.args.signals.now = below_read rs (length c.args.signals.now) i c.requires c.loop-register-test.true in
     let same : c.index-place.result ≡ get_or rs i 0 =
-    c.index-place.ensures ∙ c.register-item.is ∙ read_any rs i c.register-item.result 0 c.loop-register-test.true in
+    c.index-place.ensures ∙ c.register-item.is ∙ get_or_default rs i c.register-item.result 0 c.loop-register-test.true in
     let within : c.index-place.result < length c.args.signals.now = omega (arith, listed, same) in
     search (rules, within)

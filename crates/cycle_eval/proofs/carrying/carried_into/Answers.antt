@@ -1,12 +1,12 @@
 use Rattle.std.proofs.Common.{rules, ◌≡◌, ◌++◌, ◌<◌, ◌%◌, ◌^◌, ◌∙◌, ℕ, List, length, get_or, map, sym, ap, ap₂, subst, arith}
 use Rattle.std.specs.Prelude.{IfOk}
-use Rattle.std.proofs.lemmas.List.{append-nil, at_drop_all}
+use Rattle.std.proofs.lemmas.List.{append-nil, at_drop_all, get_or_default}
 use Rattle.typed_ir.specs.States.{sized_value}
 use Rattle.cycle_eval.specs.Kits.{carried_value}
 use Rattle.typed_ir.specs.declared.signal.Signal.{Signal}
 use Rattle.cycle_eval.specs.Paths.{keyed, keyed_in, width_in, initial_in, carried_in}
 use Rattle.cycle_eval.specs.States.{paired, state_values}
-use Rattle.cycle_eval.proofs.Loads.{below_read, read_any, pairs_of}
+use Rattle.cycle_eval.proofs.Loads.{below_read, pairs_of}
 use Rattle.cycle_eval.proofs.Carries.{width_read, initial_read, register_read, within_read, push_step, pair}
 use Rattle.cycle_eval.proofs.carrying.carried_into.Goals as goal
 
@@ -16,7 +16,7 @@ bounds-new-place c =
     let i = c.loop-register.register-index in
     let listed : get_or rs i 0 < length c.args.new.now.signals.now = below_read rs (length c.args.new.now.signals.now) i c.args.new.now.registers_there c.loop-register-test.true in
     let same : c.index-place.result ≡ get_or rs i 0 =
-    c.index-place.ensures ∙ c.register-item.is ∙ read_any rs i c.register-item.result 0 c.loop-register-test.true in
+    c.index-place.ensures ∙ c.register-item.is ∙ get_or_default rs i c.register-item.result 0 c.loop-register-test.true in
     omega (arith, listed, same)
 
 pub loop-register-preserved : goal.loop-register-preserved
@@ -30,7 +30,7 @@ loop-register-preserved c =
     let x = c.index-new-place.result in
     let r = get_or rs i 0 in
     let at = c.index-place.result in
-    let same : at ≡ r = c.index-place.ensures ∙ c.register-item.is ∙ read_any rs i c.register-item.result 0 c.loop-register-test.true in
+    let same : at ≡ r = c.index-place.ensures ∙ c.register-item.is ∙ get_or_default rs i c.register-item.result 0 c.loop-register-test.true in
     let listed : r < length signals = below_read rs (length signals) i c.args.new.now.registers_there c.loop-register-test.true in
     let there : at < length signals = omega (arith, listed, same) in
     let width : (get_or signals at x).width ≡ width_in signals r = ap (λ (z : Signal). z.width) (sym c.index-new-place.is) ∙ width_read signals at x there c.index-new-place.is ∙ ap (width_in signals) same in
@@ -66,7 +66,7 @@ offset_bounds-new-place c =
     let i = c.loop-register.register-index in
     let listed : get_or rs i 0 < length c.args.new.now.signals.now = below_read rs (length c.args.new.now.signals.now) i c.args.new.now.registers_there c.loop-register-test.true in
     let same : c.index-place.result ≡ get_or rs i 0 =
-    c.index-place.ensures ∙ c.register-item.is ∙ read_any rs i c.register-item.result 0 c.loop-register-test.true in
+    c.index-place.ensures ∙ c.register-item.is ∙ get_or_default rs i c.register-item.result 0 c.loop-register-test.true in
     let within : c.index-place.result < length c.args.new.now.signals.now = omega (arith, listed, same) in
     search (rules, within)
 
@@ -77,7 +77,7 @@ key_of-key-requires c =
     let i = c.loop-register.register-index in
     let listed : get_or rs i 0 < length signals = below_read rs (length signals) i c.args.new.now.registers_there c.loop-register-test.true in
     let same : c.index-place.result ≡ get_or rs i 0 =
-    c.index-place.ensures ∙ c.register-item.is ∙ read_any rs i c.register-item.result 0 c.loop-register-test.true in
+    c.index-place.ensures ∙ c.register-item.is ∙ get_or_default rs i c.register-item.result 0 c.loop-register-test.true in
     subst (λ (z : Signal). z.instance < length c.args.new.now.numbers.now) c.index-new-place.is
     (within_read signals (length c.args.new.now.numbers.now) c.index-place.result c.index-new-place.result c.args.new.now.signals_there
     (omega (arith, listed, same)) c.index-new-place.is)

@@ -1,9 +1,10 @@
 use Rattle.std.proofs.Common.{rules, ◌≡◌, ◌+◌, ◌/◌, ◌<◌, ◌∙◌, ℕ, length, map, drop, get_or, sym, ap, arith}
 use Rattle.std.proofs.lemmas.Bool.{lt-ltb}
+use Rattle.std.proofs.lemmas.List.{get_or_default}
 use Rattle.typed_ir.proofs.Lists.{drop_split}
 use Rattle.cycle_eval.specs.Paths.{width_in}
 use Rattle.cycle_eval.specs.Words.{words_of}
-use Rattle.cycle_eval.proofs.Loads.{below_read, read_any}
+use Rattle.cycle_eval.proofs.Loads.{below_read}
 use Rattle.cycle_eval.proofs.Carries.{width_read}
 use Rattle.cycle_eval.proofs.making.passes_words.Goals as goal
 
@@ -13,7 +14,7 @@ bounds-signals-place c =
     let i = c.loop-register.register-index in
     let listed : get_or rs i 0 < length c.args.signals.now = below_read rs (length c.args.signals.now) i c.requires c.loop-register-test.true in
     let same : c.index-place.result ≡ get_or rs i 0 =
-    c.index-place.ensures ∙ c.register-item.is ∙ read_any rs i c.register-item.result 0 c.loop-register-test.true in
+    c.index-place.ensures ∙ c.register-item.is ∙ get_or_default rs i c.register-item.result 0 c.loop-register-test.true in
     omega (arith, listed, same)
 
 pub returns-then-words-left : goal.returns-then-words-left
@@ -24,7 +25,7 @@ returns-then-words-left c =
     let r = get_or rs i 0 in
     let f : ℕ → ℕ = width_in signals in
     let at = c.index-place.result in
-    let same : at ≡ r = c.index-place.ensures ∙ c.register-item.is ∙ read_any rs i c.register-item.result 0 c.loop-register-test.true in
+    let same : at ≡ r = c.index-place.ensures ∙ c.register-item.is ∙ get_or_default rs i c.register-item.result 0 c.loop-register-test.true in
     let listed : r < length signals = below_read rs (length signals) i c.requires c.loop-register-test.true in
     let there : at < length signals = omega (arith, listed, same) in
     let words : (c.from.result + 63) / 64 ≡ (f r + 63) / 64 =
@@ -42,7 +43,7 @@ loop-register-preserved c =
     let r = get_or rs i 0 in
     let f : ℕ → ℕ = width_in signals in
     let at = c.index-place.result in
-    let same : at ≡ r = c.index-place.ensures ∙ c.register-item.is ∙ read_any rs i c.register-item.result 0 c.loop-register-test.true in
+    let same : at ≡ r = c.index-place.ensures ∙ c.register-item.is ∙ get_or_default rs i c.register-item.result 0 c.loop-register-test.true in
     let listed : r < length signals = below_read rs (length signals) i c.requires c.loop-register-test.true in
     let there : at < length signals = omega (arith, listed, same) in
     let words : (c.from.result + 63) / 64 ≡ (f r + 63) / 64 =
@@ -61,6 +62,6 @@ offset_bounds-signals-place c =
     let i = c.loop-register.register-index in
     let listed : get_or rs i 0 < length c.args.signals.now = below_read rs (length c.args.signals.now) i c.requires c.loop-register-test.true in
     let same : c.index-place.result ≡ get_or rs i 0 =
-    c.index-place.ensures ∙ c.register-item.is ∙ read_any rs i c.register-item.result 0 c.loop-register-test.true in
+    c.index-place.ensures ∙ c.register-item.is ∙ get_or_default rs i c.register-item.result 0 c.loop-register-test.true in
     let within : c.index-place.result < length c.args.signals.now = omega (arith, listed, same) in
     search (rules, within)

@@ -1,10 +1,10 @@
 use Rattle.std.proofs.Common.{rules, ◌≡◌, ◌++◌, ◌<◌, ◌∙◌, ℕ, length, get_or, map, sym, ap, subst, arith, List}
 use Rattle.std.specs.Prelude.{slice_index, IfOk}
-use Rattle.std.proofs.lemmas.List.{append-nil, at_drop_all}
+use Rattle.std.proofs.lemmas.List.{append-nil, at_drop_all, get_or_default}
 use Rattle.cycle_eval.specs.States.{paired}
 use Rattle.typed_ir.specs.States.{sized_value}
 use Rattle.typed_ir.specs.Views.{widths, env_of}
-use Rattle.cycle_eval.proofs.Loads.{below_read, read_any, store_step, pairs_of}
+use Rattle.cycle_eval.proofs.Loads.{below_read, store_step, pairs_of}
 use Rattle.cycle_eval.proofs.state.stored.Goals as goal
 
 pub bounds-env-place : goal.bounds-env-place
@@ -13,7 +13,7 @@ bounds-env-place c =
     let i = c.loop-register.register-index in
     let listed : get_or rs i 0 < length c.args.env.now = below_read rs (length c.args.env.now) i c.requires c.loop-register-test.true in
     let same : c.index-place.result ≡ get_or rs i 0 =
-    c.index-place.ensures ∙ c.register-item.is ∙ read_any rs i c.register-item.result 0 c.loop-register-test.true in
+    c.index-place.ensures ∙ c.register-item.is ∙ get_or_default rs i c.register-item.result 0 c.loop-register-test.true in
     omega (arith, listed, same)
 
 pub loop-register-preserved : goal.loop-register-preserved
@@ -22,7 +22,7 @@ loop-register-preserved c =
     let i = c.loop-register.register-index in
     let b = c.index-env-place.result in
     let same : c.index-place.result ≡ get_or rs i 0 =
-    c.index-place.ensures ∙ c.register-item.is ∙ read_any rs i c.register-item.result 0 c.loop-register-test.true in
+    c.index-place.ensures ∙ c.register-item.is ∙ get_or_default rs i c.register-item.result 0 c.loop-register-test.true in
     store_step c.args.env.now rs i c.loop-register.values.items c.push.new.self.items b
     c.loop-register-test.true
     (below_read rs (length c.args.env.now) i c.requires c.loop-register-test.true)
@@ -48,6 +48,6 @@ offset_bounds-env-place c =
     let i = c.loop-register.register-index in
     let listed : get_or rs i 0 < length c.args.env.now = below_read rs (length c.args.env.now) i c.requires c.loop-register-test.true in
     let same : c.index-place.result ≡ get_or rs i 0 =
-    c.index-place.ensures ∙ c.register-item.is ∙ read_any rs i c.register-item.result 0 c.loop-register-test.true in
+    c.index-place.ensures ∙ c.register-item.is ∙ get_or_default rs i c.register-item.result 0 c.loop-register-test.true in
     let within : c.index-place.result < length c.args.env.now = omega (arith, listed, same) in
     search (rules, within)
