@@ -1,6 +1,6 @@
 -- What a history says of its tickets, and what the replayed book does.
-use Rattle.std.proofs.Common.{◌≡◌, ℕ, suc, ◌+◌, ◌<◌, ◌≤◌, Bool, true, false, true≢false, List, [], ◌∷◌, ◌++◌, ◌||◌, length, Option, Some, None, eqb, refl, sym, ap, ◌∙◌, subst, arith}
-use Rattle.std.proofs.lemmas.Bool.{cond_both, cond-false, eqb-true, or_from}
+use Rattle.std.proofs.Common.{◌≡◌, ℕ, suc, ◌+◌, ◌<◌, ◌≤◌, false, List, [], ◌∷◌, ◌++◌, length, Option, Some, None, eqb, refl, sym, ap, ◌∙◌, subst, arith}
+use Rattle.std.proofs.lemmas.Bool.{cond_both, cond-false, ne_eqb, or_from, or_parts}
 use Rattle.machine.specs.Kit.{Kit}
 use Rattle.book_history.specs.declared.who.Who.{Who}
 use Rattle.book_history.specs.Book.{DrawnTicket, Book, Settings, Event, Opens, Runs, Reloads, Claims, Installs, Releases, Shows, Closes, drawn, takes, first_link, claim_found, install_found, with_segs, with_used, is_current, joined, result_of, step, apply, replay_from, replay}
@@ -10,28 +10,13 @@ use Rattle.book_history.specs.Outs.{IsOutFor, tickets_drawn}
 use Rattle.book_history.proofs.KeptInstall.{drawn_within}
 use Rattle.book_history.proofs.Places.{replay-append}
 
-left_false : (a b : Bool) → a || b ≡ false → a ≡ false
-left_false true b e = e
-left_false false b e = refl
-
-right_false : (a b : Bool) → a || b ≡ false → b ≡ false
-right_false true b e = absurd (true≢false e)
-right_false false b e = e
-
-differs : (n m : ℕ) → (n ≡ m → ⊥) → eqb n m ≡ false
-differs n m h = go (eqb n m) refl
-  where
-    go : (b : Bool) → eqb n m ≡ b → b ≡ false
-    go true t = absurd (h (eqb-true n m t))
-    go false t = refl
-
 module _ {D S R O : Type 0} (k : Kit D S R O) (st : Settings) where
   abbrev Is : Book D S R → ℕ → DrawnTicket D S R → Type 0
   Is c n t = (drawn n c.tickets ≡ Some t) × (is_among n c.used ≡ false)
 
   claim_is : (c : Book D S R) (by : Who) (o : Option (ℕ × ℕ × S)) (n : ℕ) (t : DrawnTicket D S R) → Is c n t → Is (claim_found c by o) n t
   claim_is c by None n t h = h
-  claim_is c by (Some f) n t h = let w = drawn_within n c.tickets t h.0 in (cond-false _ _ _ (differs n (length c.tickets + 1) (λ e. omega arith)) ∙ h.0, h.1)
+  claim_is c by (Some f) n t h = let w = drawn_within n c.tickets t h.0 in (cond-false _ _ _ (ne_eqb n (length c.tickets + 1) (λ e. omega arith)) ∙ h.0, h.1)
 
   install_is : (c : Book D S R) (m : ℕ) (o : Option (DrawnTicket D S R)) (n : ℕ) (t : DrawnTicket D S R) → eqb n m ≡ false → Is c n t → Is (install_found k c m o) n t
   install_is c m None n t u h = h
@@ -52,8 +37,8 @@ module _ {D S R O : Type 0} (k : Kit D S R O) (st : Settings) where
   outs_from b [] n t by o u = o
   outs_from None (e ∷ es) n t by o u = absurd o
   outs_from (Some c) (e ∷ es) n t by o u =
-      let s = step_is c e n t (left_false (uses n e) (is_used n es) u) (o.0, o.2) in
-      outs_from (Some (step k st c e)) es n t by (s.0, o.1, s.1) (right_false (uses n e) (is_used n es) u)
+      let s = step_is c e n t (or_parts (uses n e) (is_used n es) u).0 (o.0, o.2) in
+      outs_from (Some (step k st c e)) es n t by (s.0, o.1, s.1) (or_parts (uses n e) (is_used n es) u).1
 
   -- a ticket that is out stays so until an entry uses it up
   pub still_out : (h es : List (Event D R O)) (n : ℕ) (t : DrawnTicket D S R) (by : Who) → IsOutFor (replay k st h) n t by → is_used n es ≡ false → IsOutFor (replay k st (h ++ es)) n t by
@@ -98,10 +83,10 @@ module _ {D S R O : Type 0} (k : Kit D S R O) (st : Settings) where
     names (Some c) (Reloads v m ops from) may n l = (refl, refl)
     names (Some c) (Claims i a b by) may n l =
         let more : length (claim_found c by (first_link (takes by) 0 c.first c.segs)).tickets ≡ suc (length c.tickets) = ap (λ o. length (claim_found c by o).tickets) may.1.1 in
-        (differs n i (λ e. omega (arith, may.0, more)), refl)
+        (ne_eqb n i (λ e. omega (arith, may.0, more)), refl)
     names (Some c) (Installs i j by) may n l =
-        let w = drawn_within i c.tickets may.0 may.1 in let g = install_grows c i (drawn i c.tickets) in (refl, differs n i (λ e. omega arith))
-    names (Some c) (Releases i by) may n l = let w = drawn_within i c.tickets may.0 may.1 in (refl, differs n i (λ e. omega arith))
+        let w = drawn_within i c.tickets may.0 may.1 in let g = install_grows c i (drawn i c.tickets) in (refl, ne_eqb n i (λ e. omega arith))
+    names (Some c) (Releases i by) may n l = let w = drawn_within i c.tickets may.0 may.1 in (refl, ne_eqb n i (λ e. omega arith))
     names (Some c) (Shows s) may n l = (refl, refl)
     names (Some c) Closes may n l = (refl, refl)
 

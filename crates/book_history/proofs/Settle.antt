@@ -15,6 +15,7 @@ use Rattle.book_history.proofs.Kept.{Kept, TicketIsKept, Inv, chain_head}
 use Rattle.book_history.proofs.KeptInstall.{Same, matches_same, if_true, each_drawn, drawn_grows, drawn_newest}
 use Rattle.book_history.proofs.Law.{InvOf, replay_kept, step_kept}
 use Rattle.book_history.proofs.Currents.{legal_at, is_current_iff, same_matches}
+use Rattle.book_history.proofs.Places.{replay-append}
 
 -- l links are joined, and the one after them is the ticket's
 abbrev pub Ready : {D S R : Type 0} → DrawnTicket D S R → ℕ → ℕ → S → List (Segment S) → Type 0
@@ -241,11 +242,6 @@ settles_from {D} {S} {R} {O} k fits valid laws st (Some c) es ys n x y j h calm 
     subst (λ (i : ℕ). Pends (step k st c (Claims n x y Session)) i p.0 (lead c.segs)) (sym legal.0.0) p.1 in
     calm_joins k fits valid laws st (step k st c (Claims n x y Session)) n p.0 (lead c.segs) j Session es ys
     (step_kept k fits valid laws st c (Claims n x y Session) h legal.0) q calm legal.1
-
-pub replay-append : {D S R O : Type 0} (k : Kit D S R O) (st : Settings) (b : Option (Book D S R)) (xs ys : List (Event D R O))
-    → replay_from k st b (xs ++ ys) ≡ replay_from k st (replay_from k st b xs) ys
-replay-append k st b [] ys = refl
-replay-append k st b (x ∷ xs) ys = replay-append k st (apply k st b x) xs ys
 
 pub legal_settles : {D S R O : Type 0} (k : Kit D S R O) (fits : D → S → Type 0) (valid : D → D → O → Type 0) → Laws k fits valid
     → (st : Settings) (xs es ys : List (Event D R O)) (n x y : ℕ) (j : Bool) → AreCalm es
