@@ -30,7 +30,7 @@ use Rattle.checkpoint_book.specs.Idle.{left_of}
 use Rattle.checkpoint_book.specs.Kept.{Stands, StandsFor}
 use Rattle.checkpoint_book.specs.Opened.{core_of}
 use Rattle.checkpoint_book.specs.Renew.{Rises, AllFit}
-use Rattle.checkpoint_book.specs.Views.{book_of, version_in, cycle_in, FitsMachine, LeadTo, chosen_in, work_in, none_free, is_none}
+use Rattle.checkpoint_book.specs.Views.{book_of, version_in, cycle_in, FitsMachine, LeadTo, chosen_in, none_free, is_none}
 use Rattle.checkpoint_book.proofs.Lengths.{length-marked}
 use Rattle.checkpoint_book.proofs.Thins.{extend_few}
 use Rattle.checkpoint_book.proofs.Renewals.{chain-rises}
@@ -73,17 +73,9 @@ module _ {D S R O : Type 0} (k : Kit D S R O) where
       subst (λ (rows : List R). Facts (fits o.version.value.machine.value) o.first o.segs.items rows) (replay_record k valid j.settings None j.events legal.follows) here
 
   -- the fields, read of the replayed book
-  pub version_is : (b : Option (Book D S R)) (o : Opened D S) (drawn out : ℕ) → Stands b (Some o) drawn out → version_in b ≡ o.version.value.number
-  version_is None o drawn out s = absurd s
-  version_is (Some c) o drawn out s = ap (λ (x : Book D S R). x.version) s.core
-
   pub cycle_is : (b : Option (Book D S R)) → cycle_in b ≡ length (record_in b)
   cycle_is None = refl
   cycle_is (Some c) = refl
-
-  pub work_is : (w : D → ℕ) (b : Option (Book D S R)) (o : Opened D S) (drawn out : ℕ) → Stands b (Some o) drawn out → work_in w b ≡ w o.version.value.machine.value
-  work_is w None o drawn out s = absurd s
-  work_is w (Some c) o drawn out s = ap (λ (x : Book D S R). w x.machine) s.core
 
   pub fits_is : (fits : D → S → Type 0) (b : Option (Book D S R)) (o : Opened D S) (drawn out : ℕ) {x : S} → Stands b (Some o) drawn out → fits o.version.value.machine.value x → FitsMachine fits b x
   fits_is fits None o drawn out s f = absurd s

@@ -1,6 +1,6 @@
 -- What is left of links, and that a claim finds nothing exactly where it takes none of it.
 use Rattle.std.proofs.Common.{◌≡◌, ℕ, List, [], ◌∷◌, ◌++◌, refl, sym, ◌∙◌, ap, Bool, true, false, cond, not, ◌||◌}
-use Rattle.std.specs.Prelude.{Some, None, Option}
+use Rattle.std.specs.Prelude.{Some}
 use Rattle.book_history.specs.declared.link.Link.{Link}
 use Rattle.book_history.specs.declared.link.Link.TheVariants.{Open, Out, Joined}
 use Rattle.book_history.specs.declared.segment.Segment.{Segment}
@@ -76,7 +76,3 @@ module _ {S : Type 0} where
       go false false true q' = refl
       go false false false true = refl
       go false false false false = refl
-
-pub none_is : {A : Type 0} (o : Option A) → is_none o ≡ true → o ≡ None
-none_is None h = refl
-none_is (Some x) h = absurd cc

@@ -1,6 +1,6 @@
 use Rattle.std.proofs.Common.{◌≡◌, ℕ, zero, suc, ◌+◌, ◌-◌, ◌*◌, ◌<◌, ◌≤◌, List, [], ◌∷◌, ◌++◌, length, take, drop, set, get_or, sym, ◌∙◌, ap, arith, eqb, length-append}
 use Rattle.std.proofs.Math.Seq.{drop-append-add, drop-cons, take-suc}
-use Rattle.std.proofs.lemmas.List.{append-nil, drop_all, take_all, take-set-le}
+use Rattle.std.proofs.lemmas.List.{drop_all, take-set-le}
 use Rattle.std.specs.List.{SwappedAt}
 use Rattle.std.proofs.lemmas.Bool.{cond_both, eqb-false}
 use Rattle.book_history.specs.declared.segment.Segment.{Segment}
@@ -30,11 +30,6 @@ squeeze_last {S} k a m (d ∷ ds) ys em le few len sw =
     ∙ ap (λ (y : Segment S). take k ys ++ y ∷ []) (sw.0 d)
     ∙ ap (λ (l : List (Segment S)). l ++ x ∷ []) front
     ∙ ap (λ (l : List (Segment S)). take k xs ++ thin l) (sym one)
-
--- a vector that was handed to a call as a slice
-pub handed_back : {A : Type 0} (n : ℕ) (new old : List A) → length new ≡ length old → length new ≡ n → take n (new ++ drop (length new) old) ≡ new
-handed_back {A} n new old same is =
-    ap (λ (l : List A). take n (new ++ l)) (drop_all (length new) old (omega (arith, same))) ∙ ap (λ (l : List A). take n l) (append-nil new) ∙ take_all n new (omega (arith, is))
 
 pub length-thin : {S : Type 0} (xs : List (Segment S)) → 2 * length (thin xs) ≤ length xs + 1
 length-thin [] = omega arith
