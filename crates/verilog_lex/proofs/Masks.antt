@@ -1,13 +1,10 @@
 -- The bits that wildcard digits cover, modulo a number.
 use Rattle.std.proofs.Common.{◌≡◌, ◌<◌, ℕ, suc, ◌+◌, ◌*◌, ◌%◌, ◌/◌, Bool, true, false, cond, eqb, List, [], ◌∷◌, length, drop, get_or, refl, sym, ap, ◌∙◌, arith, drop-cons}
-use Rattle.std.proofs.Math.Nat.{add-mul, mul_assoc, mod-add-div, mod-mod, add-mul-mod_self_left}
+use Rattle.std.proofs.Math.Nat.{add-mul, mul_assoc, mod-add-div, mod-add-mod, mod-mod, add-mul-mod_self_left}
 use Rattle.verilog_lex.specs.Numbers.{covered, covered_from}
 
 pub added : (w a d : ℕ) → (a % w + d) % w ≡ (a + d) % w
-added w a d =
-    let split : a % w + w * (a / w) ≡ a = mod-add-div a w in
-    let same : a + d ≡ a % w + d + w * (a / w) = omega (arith, split) in
-    sym (ap (λ x. x % w) same ∙ add-mul-mod_self_left (a % w + d) w (a / w))
+added w a d = mod-add-mod a w d
 
 times : (w n r d : ℕ) → (n % w * r + d) % w ≡ (n * r + d) % w
 times w n r d =
