@@ -6,16 +6,18 @@ ghost use Rattle.typed_ir.specs.Stmts.{Fixed};
 ghost use Rattle.typed_ir.specs.Targets.{target_of};
 ghost use Rattle.verilog_ast.specs.Expressions as e;
 ghost use Rattle.verilog_ast.specs.Views.{expression_of, reference_of};
+ghost use Rattle.width_rules.specs.declared.due.Due.TheVariants.{ConstantOnly};
 ghost use Rattle.width_rules.specs.Constants.{integer};
 ghost use Rattle.width_rules.specs.Entries.{scope_of};
 ghost use Rattle.width_rules.specs.Faults.{IsFirst, run_faults, part_faults};
 ghost use Rattle.width_rules.specs.Found.{meaning_of};
 ghost use Rattle.width_rules.specs.Runs.{run_select_faults, run_part};
 ghost use Rattle.width_rules.specs.Sizes.{length, read_as, no_signals, bits_between, count_of};
-ghost use Rattle.width_rules.specs.Targets.{known_part, part_at, part_from, reference_part, target_name_faults, reference_faults};
+ghost use Rattle.width_rules.specs.References.{known_part, part_at, part_from, reference_part, target_name_faults, reference_faults};
 ghost use Rattle.width_rules.specs.Wholes.{whole_of};
 
 use crate::direction::{Direction, down_of};
+use crate::due::Due;
 use crate::entry::Entry;
 use crate::faults::refused_at;
 use crate::measuring::{number, own};
@@ -29,12 +31,17 @@ use std::alloc::Global;
 use typed_ir::{Lane, Reach, SignalId, Span, Target};
 use verilog_ast::{Expr, Identifier, Reference};
 
-/// A name with its select or without, as a part of a target; or the first fault from left to right, or want of memory.
+/// A name that is written, with its select or without: the part of a target that takes the lowest bits of a value, as if nothing stood
+/// right of it (IEEE Std 1364-2005, 5.2.1). What is due are its indices, constants left of `assign`; bounds and widths are constant always.
+///
+/// Faults, the first one from left to right: 29 UnknownName where the name is not declared; those of `size_expr` in its select; 26
+/// BadRange at a width below 1; 31 TooWide at the name of more than 128 bits; 32 BadSelect at the name where known bits don't lie in the
+/// declared range or the name has no bits to select. Who may write it is no question here. Else want of memory.
 #[tactic(auto, using(crate::proofs::Firsts::earlier, crate::proofs::Firsts::later, crate::proofs::Firsts::neither, crate::proofs::Lengths::upward_is, crate::proofs::Lengths::downward_is))]
-pub fn reference(
+pub fn size_reference(
     alloc: Global,
     scope: &Scope,
-    due: bool,
+    due: Due,
     target: &Reference,
 ) -> Result<TargetPart, Refusal>
     ensures faultless { IfOk result (λ _. reference_faults (scope_of scope.now) due (reference_of target.now) ≡ []) }
@@ -181,7 +188,7 @@ fn range(
 fn bit(
     alloc: Global,
     scope: &Scope,
-    due: bool,
+    due: Due,
     name: Identifier,
     a: &Expr,
 ) -> Result<TargetPart, Refusal>
@@ -199,7 +206,7 @@ fn bit(
 fn run(
     alloc: Global,
     scope: &Scope,
-    due: bool,
+    due: Due,
     direction: Direction,
     name: Identifier,
     a: &Expr,
@@ -225,10 +232,10 @@ fn part(
     a: &Expr,
     b: &Expr,
 ) -> Result<TargetPart, Refusal>
-    ensures faultless { IfOk result (λ _. reference_faults (scope_of scope.now) true (e.PartSelect name (expression_of a.now) (expression_of b.now)) ≡ []) }
+    ensures faultless { IfOk result (λ _. reference_faults (scope_of scope.now) ConstantOnly (e.PartSelect name (expression_of a.now) (expression_of b.now)) ≡ []) }
     ensures width { IfOk result (λ x. x.width ≡ length (scope_of scope.now) (e.PartSelect name (expression_of a.now) (expression_of b.now))) }
     ensures part { IfOk result (λ x. target_of x.target ≡ reference_part (scope_of scope.now) 0 (e.PartSelect name (expression_of a.now) (expression_of b.now))) }
-    ensures fault { IfErr result (IsFirst (reference_faults (scope_of scope.now) true (e.PartSelect name (expression_of a.now) (expression_of b.now)))) }
+    ensures fault { IfErr result (IsFirst (reference_faults (scope_of scope.now) ConstantOnly (e.PartSelect name (expression_of a.now) (expression_of b.now)))) }
 {
     let entry = named(alloc, scope, name)?;
     let high = number(alloc, scope, a)?;

@@ -18,6 +18,7 @@ ghost use Rattle.width_rules.specs.Sizes.{bits_at, bits_from, bits_between, read
 ghost use Rattle.width_rules.specs.Faults.{name_faults, run_faults, part_faults, width_faults};
 ghost use Rattle.width_rules.specs.Wholes.{whole_of};
 
+use crate::due::Due;
 use crate::entry::Entry;
 use crate::faults::{refused_at, refused_of};
 use crate::measured::Measured;
@@ -33,7 +34,7 @@ use typed_ir::{Const, Span, Typed};
 use verilog_ast::{Expr, Identifier};
 
 /// What a name is that an expression may use: else 29, or 25 where a constant is due.
-pub fn known(alloc: Global, scope: &Scope, due: bool, name: Identifier) -> Result<Entry, Refusal>
+pub fn known(alloc: Global, scope: &Scope, due: Due, name: Identifier) -> Result<Entry, Refusal>
     ensures faultless { IfOk result (λ _. name_faults (scope_of scope.now name.name.0) due name ≡ []) }
     ensures meaning { IfOk result (λ entry. meaning_of entry ≡ scope_of scope.now name.name.0) }
     ensures fault { IfErr result (IsFirst (name_faults (scope_of scope.now name.name.0) due name)) }
@@ -41,10 +42,10 @@ pub fn known(alloc: Global, scope: &Scope, due: bool, name: Identifier) -> Resul
     let entry = scope.find(name.name);
     match entry {
         Entry::Signal(_) => {
-            if due {
-                return Err(refused_at(alloc, 25, name));
+            match due {
+                Due::AnyValue => Ok(entry),
+                Due::ConstantOnly => Err(refused_at(alloc, 25, name)),
             }
-            Ok(entry)
         }
         Entry::Constant(_) | Entry::Turn(_) => Ok(entry),
         Entry::Genvar | Entry::Unknown => Err(refused_at(alloc, 29, name)),
@@ -53,7 +54,7 @@ pub fn known(alloc: Global, scope: &Scope, due: bool, name: Identifier) -> Resul
 
 /// A name without a select.
 #[tactic(auto, using(crate::proofs::Firsts::earlier, crate::proofs::Firsts::later, crate::proofs::Firsts::neither, crate::proofs::Lengths::whole_is))]
-pub fn whole(alloc: Global, scope: &Scope, due: bool, name: Identifier) -> Result<Measured, Refusal>
+pub fn whole(alloc: Global, scope: &Scope, due: Due, name: Identifier) -> Result<Measured, Refusal>
     ensures faultless { IfOk result (λ m. faults (scope_of scope.now) due (e.Whole name) ≡ []) }
     ensures length { IfOk result (λ m. m.length ≡ length (scope_of scope.now) (e.Whole name)) }
     ensures signed { IfOk result (λ m. m.signed ≡ is_signed (scope_of scope.now) (e.Whole name)) }
@@ -62,18 +63,18 @@ pub fn whole(alloc: Global, scope: &Scope, due: bool, name: Identifier) -> Resul
     ensures fault { IfErr result (IsFirst (faults (scope_of scope.now) due (e.Whole name))) }
 {
     match scope.find(name.name) {
-        Entry::Signal(x) => {
-            if due {
-                return Err(refused_at(alloc, 25, name));
+        Entry::Signal(x) => match due {
+            Due::AnyValue => {
+                let typed = Boxed::new(alloc, Typed::name(x.signal, x.width))?;
+                Ok(Measured {
+                    length: x.width,
+                    signed: x.signed,
+                    constant: false,
+                    form: Boxed::new(alloc, Open::Simple(typed))?,
+                })
             }
-            let typed = Boxed::new(alloc, Typed::name(x.signal, x.width))?;
-            Ok(Measured {
-                length: x.width,
-                signed: x.signed,
-                constant: false,
-                form: Boxed::new(alloc, Open::Simple(typed))?,
-            })
-        }
+            Due::ConstantOnly => Err(refused_at(alloc, 25, name)),
+        },
         Entry::Constant(x) | Entry::Turn(x) => Ok(Measured {
             length: x.bits.width,
             signed: x.signed,
