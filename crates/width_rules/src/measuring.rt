@@ -246,10 +246,10 @@ fn conditional(
     ensures form { IfOk result (λ m. opened m.form ≡ open_of (scope_of scope.now) (e.Conditional (expression_of c.now) (expression_of a.now) (expression_of b.now))) }
     ensures fault { IfErr result (IsFirst (faults (scope_of scope.now) due (e.Conditional (expression_of c.now) (expression_of a.now) (expression_of b.now)))) }
 {
-    let c = own(alloc, scope, due, c)?;
+    let condition = measure(alloc, scope, due, c)?;
     let yes = measure(alloc, scope, due, a)?;
     let no = measure(alloc, scope, due, b)?;
-    Ok(chosen(alloc, c, yes, no)?)
+    Ok(chosen(alloc, condition, yes, no)?)
 }
 
 // A name with its select or without; or the first fault, or want of memory.
