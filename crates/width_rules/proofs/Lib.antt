@@ -7,3 +7,4 @@ pub mod Nodes
 pub mod Gathered
 pub mod Stepping
 pub mod Repeating
+pub mod Renaming
