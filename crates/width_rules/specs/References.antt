@@ -4,6 +4,7 @@ use Rattle.ls_text.specs.declared.fault.Fault.{Fault}
 use Rattle.typed_ir.specs.declared.span.Span.{Span}
 use Rattle.typed_ir.specs.declared.lane.Lane.{Lane}
 use Rattle.typed_ir.specs.declared.reach.Reach.{Reach}
+use Rattle.typed_ir.specs.Sized as s
 use Rattle.typed_ir.specs.Sized.{Sized}
 use Rattle.typed_ir.specs.Stmts.{SizedTarget, Fixed, Moving}
 use Rattle.verilog_ast.specs.declared.identifier.Identifier.{Identifier}
@@ -46,6 +47,21 @@ part_from (Constant own value signed) shift low width = known_part shift 0 0 wid
 part_from (Turn own value signed) shift low width = known_part shift 0 0 width
 part_from Genvar shift low width = known_part shift 0 0 width
 part_from Unknown shift low width = known_part shift 0 0 width
+
+-- what such bits are as an operand
+abbrev pub read_part : SizedTarget → Sized
+read_part (Fixed lane) = s.Part lane.span
+read_part (Moving reach index) = s.Pick reach.signal reach.width reach.below reach.signed index
+
+-- how many bits it takes
+abbrev pub part_width : SizedTarget → ℕ
+part_width (Fixed lane) = lane.span.width
+part_width (Moving reach index) = reach.width
+
+-- where known bits end in their signal
+abbrev pub part_end : SizedTarget → ℕ
+part_end (Fixed lane) = lane.span.low + lane.span.width
+part_end (Moving reach index) = 0
 
 -- a name with its select or without
 abbrev pub reference_part : Scope → ℕ → Expression → SizedTarget

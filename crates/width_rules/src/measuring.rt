@@ -28,7 +28,7 @@ use crate::measured::Measured;
 use crate::opened::{Open, close};
 use crate::operators::{operator_of, unary_kind};
 use crate::scope::Scope;
-use crate::selecting::{known, part_of, select, selected, whole, width_of};
+use crate::selecting::{known, range, reach, selected, whole, width_of};
 use crate::self_determined::Own;
 use crate::whole::{count_of, whole_number};
 use bits::Bits;
@@ -297,8 +297,8 @@ fn bit(
 {
     let entry = known(alloc, scope, due, name)?;
     let index = own(alloc, scope, due, a)?;
-    let typed = select(alloc, entry, name, 1, 0, index)?;
-    Ok(selected(alloc, typed)?)
+    let taken = reach(alloc, entry, name, 1, 0, index)?;
+    Ok(selected(alloc, taken)?)
 }
 
 // `x[base +: width]` or `x[base -: width]`
@@ -323,8 +323,8 @@ fn run(
     let base = own(alloc, scope, due, a)?;
     let found = number(alloc, scope, b)?;
     let width = width_of(alloc, name, b, found)?;
-    let typed = select(alloc, entry, name, width, down_of(direction, width), base)?;
-    Ok(selected(alloc, typed)?)
+    let taken = reach(alloc, entry, name, width, down_of(direction, width), base)?;
+    Ok(selected(alloc, taken)?)
 }
 
 // `x[high:low]`
@@ -350,8 +350,8 @@ fn part(
     let low = number(alloc, scope, b)?;
     let high = whole_number(high.bits, high.signed);
     let low = whole_number(low.bits, low.signed);
-    let typed = part_of(alloc, entry, name, high, low)?;
-    Ok(selected(alloc, typed)?)
+    let taken = range(alloc, entry, name, high, low)?;
+    Ok(selected(alloc, taken)?)
 }
 
 // The parts of a concatenation from left to right, each at its own length and sign.
