@@ -1,6 +1,7 @@
 // What one row is, by the reader that its table names.
 use crate::blocks::after_item;
-use crate::sizes::{constant_of, sizing, value_at};
+use crate::scopes::within_and_behind;
+use crate::sizes::{constant_of, sizing, unsigned_at, value_at, within};
 use no_memory::NoMemory;
 use row_tables::Reader;
 use std::alloc::Global;
@@ -18,8 +19,11 @@ impl Reader for SizeReader {
     ) -> Result<Vec<u8>, NoMemory> {
         match name {
             "value" => value_at(alloc, text),
+            "unsigned" => unsigned_at(alloc, text),
             "sizing" => sizing(alloc, text),
+            "within" => within(alloc, text),
             "constant" => constant_of(alloc, text),
+            "scope" => within_and_behind(alloc, text),
             "item" => after_item(alloc, text),
             _ => Ok(Vec::from_slice(alloc, b"no such reader")?),
         }

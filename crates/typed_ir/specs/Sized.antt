@@ -74,7 +74,7 @@ width_of (Resized a width signed) = width
 abbrev pub truth_value : Bool → ℕ
 truth_value b = if b then 1 else 0
 
--- whether operands are read as signed values (4.5)
+-- whether operands are read as signed values (5.5)
 abbrev pub is_signed : Signedness → Bool
 is_signed Signed = true
 is_signed Unsigned = false

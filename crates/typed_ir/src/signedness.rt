@@ -1,4 +1,4 @@
-// Whether operands are read as signed values (IEEE Std 1364-2005, 4.5).
+// Whether operands are read as signed values (IEEE Std 1364-2005, 5.5).
 ghost use Rattle.std.specs.Prelude.{◌≡◌};
 ghost use Rattle.typed_ir.specs.Sized.{is_signed, signedness_of};
 

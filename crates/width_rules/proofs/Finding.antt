@@ -129,9 +129,3 @@ pub held_after : {V A : Type 0} (E : NameId → NameId → Bool) (r : Result V A
     → OnOk r (new ≡ insert_entry E old k x) → OnErr r (new ≡ old) → are_held old cs ≡ true → are_held new cs ≡ true
 held_after E (Ok v) old new k x cs is same h = ap (λ (es : List (NameId × Entry)). are_held es cs) is ∙ all_held_more E old k x cs h
 held_after E (Err a) old new k x cs is same h = ap (λ (es : List (NameId × Entry)). are_held es cs) same ∙ h
-
--- after something more is covered
-pub held_pushed : (b : Bool) (es : List (NameId × Entry)) (c : Covered) (old new : List Covered) → new ≡ cond b (c ∷ old) old
-    → are_held es (c ∷ old) ≡ true → are_held es old ≡ true → are_held es new ≡ true
-held_pushed true es c old new is more h = ap (are_held es) is ∙ more
-held_pushed false es c old new is more h = ap (are_held es) is ∙ h

@@ -7,9 +7,4 @@ pub mod Nodes
 pub mod Gathered
 pub mod Stepping
 pub mod Repeating
-pub mod Walks
-pub mod Listing
-pub mod Laying
-pub mod Placing
-pub mod Gathering
-pub mod Building
+pub mod Renaming

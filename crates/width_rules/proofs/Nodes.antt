@@ -8,17 +8,9 @@ use Rattle.verilog_ast.specs.declared.expression.Expr.TheFolds.{fold-roll-Expr, 
 use Rattle.verilog_ast.specs.declared.expression.Expr.TheVariants as node
 use Rattle.verilog_ast.specs.declared.expression.Reference.TheVariants as part
 use Rattle.verilog_ast.specs.declared.identifier.Identifier.{Identifier}
-use Rattle.verilog_ast.specs.declared.case_kind.CaseKind.{CaseKind}
-use Rattle.verilog_ast.specs.declared.statement.Arm.{Arm}
-use Rattle.verilog_ast.specs.declared.statement.Arm.TheOpen.{Stmt-F}
-use Rattle.verilog_ast.specs.declared.statement.Arm.TheFolds.{fold-roll-Stmt}
-use Rattle.verilog_ast.specs.declared.statement.Stmt.TheVariants as statement
-use Rattle.verilog_ast.specs.declared.target.Lhs.{Lhs}
 use Rattle.verilog_ast.specs.Expressions as e
 use Rattle.verilog_ast.specs.Expressions.{Expression}
-use Rattle.verilog_ast.specs.Views.{expression_of, reference_of, expression_view, reference_view, parts_of, target_of, statement_of, arm_of, statement_view, arm_view, statements_of}
-use Rattle.verilog_ast.specs.Statements as s
-use Rattle.verilog_ast.specs.Statements.{Statement}
+use Rattle.verilog_ast.specs.Views.{expression_of, reference_of, expression_view, reference_view, parts_of}
 
 pub binary_is : (op : BinaryOperator) (x y : Expr) → expression_of (node.Binary op x y) ≡ e.Binary op (expression_of x) (expression_of y)
 binary_is op x y =
@@ -53,11 +45,3 @@ upward_is n x y =
 pub downward_is : (n : Identifier) (x y : Expr) → reference_of (part.Downward n x y) ≡ e.DownwardSelect n (expression_of x) (expression_of y)
 downward_is n x y =
     ap reference_of (sym (part.rolls-Downward n x y)) ∙ fold-roll-Reference Expression Expression expression_view reference_view (Reference-F.Downward n x y)
-
-pub case_is : (at : Place) (which : CaseKind) (x : Expr) (ys : List Arm) → statement_of (statement.Case at which x ys) ≡ s.Case at which (expression_of x) (statements_of (map arm_of ys))
-case_is at which x ys =
-    ap statement_of (sym (statement.rolls-Case at which x ys)) ∙ fold-roll-Stmt Statement Statement arm_view statement_view (Stmt-F.Case at which x ys)
-
-pub assignment_is : (x : Lhs) (y : Expr) → statement_of (statement.Assign x y) ≡ s.Assignment (target_of x) (expression_of y)
-assignment_is x y =
-    ap statement_of (sym (statement.rolls-Assign x y)) ∙ fold-roll-Stmt Statement Statement arm_view statement_view (Stmt-F.Assign x y)

@@ -19,7 +19,7 @@ use Rattle.width_rules.specs.declared.opened.Open.{Open}
 use Rattle.width_rules.specs.declared.opened.Open.TheOpen.{Open-F}
 use Rattle.width_rules.specs.declared.opened.Open.TheFolds.{fold-roll-Open}
 use Rattle.width_rules.specs.declared.opened.Open.TheVariants as node
-use Rattle.width_rules.specs.Opened.{Opened, Simple, opened, open_step, closed, open_name, open_unary, open_binary, open_of, own}
+use Rattle.width_rules.specs.Opened.{Opened, Simple, Choice, opened, open_step, closed, open_name, open_unary, open_binary, open_of, own}
 
 name_opens : (m : Meaning) (l : ℕ) (t : Bool) → closed (open_name m) l t ≡ name_at m l t
 name_opens (Signal signal width lsb signed writer) l t = refl
@@ -82,3 +82,9 @@ pushed scope x o l t z form is = is ∙ ap (λ (p : Opened). closed p l t) form 
 -- what is sized already is left as it is
 pub simple_is : (x : Typed) → opened (node.Simple x) ≡ Simple (sized x.form)
 simple_is x = ap opened (sym (node.rolls-Simple x)) ∙ fold-roll-Open Opened open_step (Open-F.Simple x)
+
+-- a condition at its own length and sign, before what it chooses from
+pub chosen_is : (scope : Scope) (c x y : Expression) (f g h : Opened) (l : ℕ) (t : Bool) (o : Opened) → f ≡ open_of scope c → l ≡ length scope c → t ≡ is_signed scope c
+    → g ≡ open_of scope x → h ≡ open_of scope y → o ≡ Choice (closed f l t) g h → o ≡ open_of scope (e.Conditional c x y)
+chosen_is scope c x y f g h l t o f_is l_is t_is g_is h_is is =
+    is ∙ ap (λ (z : Sized). Choice z g h) (owned scope c f l t (closed f l t) f_is l_is t_is refl) ∙ ap₂ (Choice (own scope c)) g_is h_is

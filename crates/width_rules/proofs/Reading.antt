@@ -13,6 +13,7 @@ use Rattle.verilog_ast.specs.Expressions.{Expression}
 use Rattle.width_rules.specs.declared.kinds.UnaryKind.{UnaryKind}
 use Rattle.width_rules.specs.declared.kinds.UnaryKind.TheVariants.{Kept, Negated, Inverted, OneBit, Complement}
 use Rattle.width_rules.specs.Operators.{unary_kind, operator_of, arithmetic_with, comparison_with, shift_with}
+use Rattle.width_rules.specs.declared.due.Due.TheVariants.{ConstantOnly}
 use Rattle.width_rules.specs.Scopes.{Meaning, Signal, Constant, Turn, Genvar, Unknown, Scope, is_signal}
 use Rattle.width_rules.specs.Signs.{is_signed}
 use Rattle.width_rules.specs.Sizes.{length, push, joined, beside, Operand, unary_at, binary_at, extended, name_at, bits_at, bits_from, bits_between, count_of, is_constant}
@@ -150,7 +151,7 @@ right_none (x ∷ xs) ys h = absurd (cons_nil x (xs ++ ys) h)
 
 -- no select has no fault where a constant is due: a net or variable has 25, all else 32
 no_bits : (m : Meaning) (b : Bool) (at : ℤ) (width down : ℕ) (n : Identifier) (ys : List Fault)
-    → name_faults m true n ++ (ys ++ run_faults m b at width down n) ≡ [] → ⊥
+    → name_faults m ConstantOnly n ++ (ys ++ run_faults m b at width down n) ≡ [] → ⊥
 no_bits (Signal signal total lsb signed writer) b at width down n ys h = cons_nil _ _ h
 no_bits (Constant own value signed) b at width down n ys h = cons_nil _ _ (right_none ys _ h)
 no_bits (Turn own value signed) b at width down n ys h = cons_nil _ _ (right_none ys _ h)
@@ -158,7 +159,7 @@ no_bits Genvar b at width down n ys h = cons_nil _ _ h
 no_bits Unknown b at width down n ys h = cons_nil _ _ h
 
 no_range : (m : Meaning) (low : ℤ) (width : ℕ) (n : Identifier) (ys zs : List Fault)
-    → name_faults m true n ++ (ys ++ (zs ++ part_faults m low width n)) ≡ [] → ⊥
+    → name_faults m ConstantOnly n ++ (ys ++ (zs ++ part_faults m low width n)) ≡ [] → ⊥
 no_range (Signal signal total lsb signed writer) low width n ys zs h = cons_nil _ _ h
 no_range (Constant own value signed) low width n ys zs h =
     cons_nil _ _ (right_none (fault_if (width == 0) (fault_at 32 n)) _ (right_none (fault_if (nat_lt 128 width) (fault_at 31 n)) _ (right_none zs _ (right_none ys _ h))))
@@ -168,46 +169,46 @@ no_range Genvar low width n ys zs h = cons_nil _ _ h
 no_range Unknown low width n ys zs h = cons_nil _ _ h
 
 no_run : (m : Meaning) (b : Bool) (at : ℤ) (width down : ℕ) (n : Identifier) (xs ys zs : List Fault)
-    → name_faults m true n ++ (xs ++ (ys ++ (zs ++ run_faults m b at width down n))) ≡ [] → ⊥
+    → name_faults m ConstantOnly n ++ (xs ++ (ys ++ (zs ++ run_faults m b at width down n))) ≡ [] → ⊥
 no_run (Signal signal total lsb signed writer) b at width down n xs ys zs h = cons_nil _ _ h
 no_run (Constant own value signed) b at width down n xs ys zs h = cons_nil _ _ (right_none zs _ (right_none ys _ (right_none xs _ h)))
 no_run (Turn own value signed) b at width down n xs ys zs h = cons_nil _ _ (right_none zs _ (right_none ys _ (right_none xs _ h)))
 no_run Genvar b at width down n xs ys zs h = cons_nil _ _ h
 no_run Unknown b at width down n xs ys zs h = cons_nil _ _ h
 
-name_due : (m : Meaning) (n : Identifier) → name_faults m true n ≡ [] → not (is_signal m) ≡ true
+name_due : (m : Meaning) (n : Identifier) → name_faults m ConstantOnly n ≡ [] → not (is_signal m) ≡ true
 name_due (Signal signal width lsb signed writer) n h = absurd (cons_nil _ _ h)
 name_due (Constant width value signed) n h = refl
 name_due (Turn width value signed) n h = refl
 name_due Genvar n h = refl
 name_due Unknown n h = refl
 
-pub due_constant : (scope : Scope) (x : Expression) → faults scope true x ≡ [] → is_constant scope x ≡ true
+pub due_constant : (scope : Scope) (x : Expression) → faults scope ConstantOnly x ≡ [] → is_constant scope x ≡ true
 due_constant scope (e.Literal at x) h = refl
 due_constant scope (e.Whole n) h = name_due (scope n.name.0) n h
-due_constant scope (e.BitSelect n x) h = absurd (no_bits (scope n.name.0) (is_constant scope x) (integer scope x) 1 0 n (faults scope true x) h)
-due_constant scope (e.PartSelect n x y) h = absurd (no_range (scope n.name.0) (integer scope y) (bits_between (integer scope x) (integer scope y)) n (faults scope true x) (faults scope true y) h)
-due_constant scope (e.UpwardSelect n x y) h = absurd (no_run (scope n.name.0) (is_constant scope x) (integer scope x) (count_of (integer scope y)) 0 n (faults scope true x) (faults scope true y) (width_faults n y (count_of (integer scope y))) h)
-due_constant scope (e.DownwardSelect n x y) h = absurd (no_run (scope n.name.0) (is_constant scope x) (integer scope x) (count_of (integer scope y)) (count_of (integer scope y) - 1) n (faults scope true x) (faults scope true y) (width_faults n y (count_of (integer scope y))) h)
+due_constant scope (e.BitSelect n x) h = absurd (no_bits (scope n.name.0) (is_constant scope x) (integer scope x) 1 0 n (faults scope ConstantOnly x) h)
+due_constant scope (e.PartSelect n x y) h = absurd (no_range (scope n.name.0) (integer scope y) (bits_between (integer scope x) (integer scope y)) n (faults scope ConstantOnly x) (faults scope ConstantOnly y) h)
+due_constant scope (e.UpwardSelect n x y) h = absurd (no_run (scope n.name.0) (is_constant scope x) (integer scope x) (count_of (integer scope y)) 0 n (faults scope ConstantOnly x) (faults scope ConstantOnly y) (width_faults n y (count_of (integer scope y))) h)
+due_constant scope (e.DownwardSelect n x y) h = absurd (no_run (scope n.name.0) (is_constant scope x) (integer scope x) (count_of (integer scope y)) (count_of (integer scope y) - 1) n (faults scope ConstantOnly x) (faults scope ConstantOnly y) (width_faults n y (count_of (integer scope y))) h)
 due_constant scope (e.Unary at op x) h = due_constant scope x h
 due_constant scope (e.Binary op x y) h =
-    and_from (is_constant scope x) (is_constant scope y) (due_constant scope x (left_none (faults scope true x) (faults scope true y) h)) (due_constant scope y (right_none (faults scope true x) (faults scope true y) h))
+    and_from (is_constant scope x) (is_constant scope y) (due_constant scope x (left_none (faults scope ConstantOnly x) (faults scope ConstantOnly y) h)) (due_constant scope y (right_none (faults scope ConstantOnly x) (faults scope ConstantOnly y) h))
 due_constant scope (e.Conditional c x y) h =
-    let both : faults scope true x ++ faults scope true y ≡ [] = right_none (faults scope true c) (faults scope true x ++ faults scope true y) h in
-    and_from (is_constant scope c) (is_constant scope x && is_constant scope y) (due_constant scope c (left_none (faults scope true c) (faults scope true x ++ faults scope true y) h))
-    (and_from (is_constant scope x) (is_constant scope y) (due_constant scope x (left_none (faults scope true x) (faults scope true y) both)) (due_constant scope y (right_none (faults scope true x) (faults scope true y) both)))
-due_constant scope (e.Concatenation at xs) h = due_constant scope xs (left_none (faults scope true xs) (total_faults at (length scope xs)) h)
+    let both : faults scope ConstantOnly x ++ faults scope ConstantOnly y ≡ [] = right_none (faults scope ConstantOnly c) (faults scope ConstantOnly x ++ faults scope ConstantOnly y) h in
+    and_from (is_constant scope c) (is_constant scope x && is_constant scope y) (due_constant scope c (left_none (faults scope ConstantOnly c) (faults scope ConstantOnly x ++ faults scope ConstantOnly y) h))
+    (and_from (is_constant scope x) (is_constant scope y) (due_constant scope x (left_none (faults scope ConstantOnly x) (faults scope ConstantOnly y) both)) (due_constant scope y (right_none (faults scope ConstantOnly x) (faults scope ConstantOnly y) both)))
+due_constant scope (e.Concatenation at xs) h = due_constant scope xs (left_none (faults scope ConstantOnly xs) (total_faults at (length scope xs)) h)
 due_constant scope (e.Replication at c xs) h =
     let total : List Fault = total_faults at (count_of (integer scope c) * length scope xs) in
     let none : List Fault = fault_if (count_of (integer scope c) == 0) (fault_of 26 c) in
     and_from (is_constant scope c) (is_constant scope xs)
-    (due_constant scope c (left_none (faults scope true c) (none ++ (faults scope true xs ++ total)) h))
-    (due_constant scope xs (left_none (faults scope true xs) total (right_none none (faults scope true xs ++ total) (right_none (faults scope true c) (none ++ (faults scope true xs ++ total)) h))))
+    (due_constant scope c (left_none (faults scope ConstantOnly c) (none ++ (faults scope ConstantOnly xs ++ total)) h))
+    (due_constant scope xs (left_none (faults scope ConstantOnly xs) total (right_none none (faults scope ConstantOnly xs ++ total) (right_none (faults scope ConstantOnly c) (none ++ (faults scope ConstantOnly xs ++ total)) h))))
 due_constant scope (e.Bracketed at x) h = due_constant scope x h
 due_constant scope e.NoPart h = refl
 due_constant scope (e.Parts x xs) h =
-    and_from (is_constant scope x) (is_constant scope xs) (due_constant scope x (left_none (faults scope true x) (faults scope true xs) h)) (due_constant scope xs (right_none (faults scope true x) (faults scope true xs) h))
+    and_from (is_constant scope x) (is_constant scope xs) (due_constant scope x (left_none (faults scope ConstantOnly x) (faults scope ConstantOnly xs) h)) (due_constant scope xs (right_none (faults scope ConstantOnly x) (faults scope ConstantOnly xs) h))
 
 -- a constant reads no signal
-pub number_reads : (scope : Scope) (x : Expression) (z : Sized) → faults scope true x ≡ [] → z ≡ push scope x (length scope x) (is_signed scope x) → IsTrue (fits_signals z [])
+pub number_reads : (scope : Scope) (x : Expression) (z : Sized) → faults scope ConstantOnly x ≡ [] → z ≡ push scope x (length scope x) (is_signed scope x) → IsTrue (fits_signals z [])
 number_reads scope x z h is = own_reads scope x z (due_constant scope x h) is

@@ -10,6 +10,8 @@ use Rattle.std.proofs.lemmas.Bool.{cond-false}
 use Rattle.ls_text.specs.declared.refusal.Refusal.{Refusal}
 use Rattle.verilog_ast.specs.Expressions as e
 use Rattle.verilog_ast.specs.Expressions.{Expression}
+use Rattle.width_rules.specs.declared.due.Due.TheVariants.{ConstantOnly}
+use Rattle.width_rules.specs.declared.due.Due.{Due}
 use Rattle.width_rules.specs.Scopes.{Scope}
 use Rattle.width_rules.specs.Sizes.{length, count_of}
 use Rattle.width_rules.specs.Constants.{integer}
@@ -57,37 +59,28 @@ from_large n h = omega (arith, h)
 pub positive : (n t : ℕ) → t ≡ min n 255 → 1 ≤ t → 1 ≤ n
 positive n t is one = by_cases (nat_le n 255) (λ yes. from_small n t (is ∙ min-eq_left (leb-true n 255 yes)) one) (λ no. from_large n (leb-false n 255 no))
 
-pub copies_wide : (n t bits : ℕ) → t ≡ min n 255 → 1 ≤ t → 128 < bits → 128 < n * bits
-copies_wide n t bits is one wide = omega (arith, mul-le 1 bits n bits (positive n t is one) (omega arith), wide)
-
-pub no_copies : (n bits : ℕ) → bits ≡ 0 → n * bits ≡ 0
-no_copies n bits h = ap (λ b. n * b) h ∙ nothing n
-  where
-    nothing : (n : ℕ) → n * 0 ≡ 0
-    nothing n = omega arith
-
 -- the count of a replication isn't below 1
 pub counted : (scope : Scope) (c : Expression) (t : ℕ) → t ≡ min (count_of (integer scope c)) 255 → 1 ≤ t
     → fault_if (count_of (integer scope c) == 0) (fault_of 26 c) ≡ []
 counted scope c t is one = cond-false (count_of (integer scope c) == 0) (fault_of 26 c ∷ []) [] (some (count_of (integer scope c)) (positive (count_of (integer scope c)) t is one))
 
-pub replication_fine : (scope : Scope) (due : Bool) (at : Place) (c xs : Expression) (t w : ℕ) → faults scope true c ≡ [] → faults scope due xs ≡ []
+pub replication_fine : (scope : Scope) (due : Due) (at : Place) (c xs : Expression) (t w : ℕ) → faults scope ConstantOnly c ≡ [] → faults scope due xs ≡ []
     → t ≡ min (count_of (integer scope c)) 255 → 1 ≤ t → 1 ≤ w → t * w ≤ 128 → w ≡ length scope xs → faults scope due (e.Replication at c xs) ≡ []
 replication_fine scope due at c xs t w c_fine xs_fine is one wide few w_is =
     let n = count_of (integer scope c) in
     let total = total_faults at (n * length scope xs) in
     let none = fault_if (n == 0) (fault_of 26 c) in
-    neither (faults scope true c) (none ++ (faults scope due xs ++ total)) c_fine
+    neither (faults scope ConstantOnly c) (none ++ (faults scope due xs ++ total)) c_fine
     (neither none (faults scope due xs ++ total) (counted scope c t is one)
     (neither (faults scope due xs) total xs_fine (repeated_fine at n t w (length scope xs) is one wide few w_is)))
 
-pub replication_wide : (scope : Scope) (due : Bool) (at : Place) (c xs : Expression) (t w : ℕ) (r : Refusal) → faults scope true c ≡ [] → faults scope due xs ≡ []
+pub replication_wide : (scope : Scope) (due : Due) (at : Place) (c xs : Expression) (t w : ℕ) (r : Refusal) → faults scope ConstantOnly c ≡ [] → faults scope due xs ≡ []
     → t ≡ min (count_of (integer scope c)) 255 → 1 ≤ t → 128 < t * w → w ≡ length scope xs → IsFirst (fault 31 at [] ∷ []) r
     → IsFirst (faults scope due (e.Replication at c xs)) r
 replication_wide scope due at c xs t w r c_fine xs_fine is one wide w_is first =
     let n = count_of (integer scope c) in
     let total = total_faults at (n * length scope xs) in
     let none = fault_if (n == 0) (fault_of 26 c) in
-    later (faults scope true c) (none ++ (faults scope due xs ++ total)) r c_fine
+    later (faults scope ConstantOnly c) (none ++ (faults scope due xs ++ total)) r c_fine
     (later none (faults scope due xs ++ total) r (counted scope c t is one)
     (later (faults scope due xs) total r xs_fine (width_wide at (n * length scope xs) r (repeated_wide n t w (length scope xs) is wide w_is) first)))

@@ -11,6 +11,7 @@ use Rattle.ls_text.specs.declared.refusal.Refusal.{Refusal}
 use Rattle.verilog_ast.specs.declared.expression.Expr.{Expr}
 use Rattle.verilog_ast.specs.Expressions.{Expression}
 use Rattle.verilog_ast.specs.Views.{expression_of, parts_of}
+use Rattle.width_rules.specs.declared.due.Due.{Due}
 use Rattle.width_rules.specs.Scopes.{Scope}
 use Rattle.width_rules.specs.Sizes.{length as bits_of, joined, is_constant}
 use Rattle.width_rules.specs.Opened.{own}
@@ -26,13 +27,13 @@ left xs k = map expression_of (drop k xs)
 left_is : (xs : List Expr) (k : ℕ) (x : Expr) → k < length xs → x ≡ get_or xs k x → left xs k ≡ expression_of x ∷ left xs (k + 1)
 left_is xs k x h is = ap (map expression_of) (drop_read xs k x h is)
 
-pub ahead_next : (scope : Scope) (due : Bool) (xs : List Expr) (k : ℕ) (x : Expr) → k < length xs → x ≡ get_or xs k x → faults scope due (expression_of x) ≡ []
+pub ahead_next : (scope : Scope) (due : Due) (xs : List Expr) (k : ℕ) (x : Expr) → k < length xs → x ≡ get_or xs k x → faults scope due (expression_of x) ≡ []
     → faults scope due (parts_of (left xs (k + 1))) ≡ faults scope due (parts_of (left xs k))
 ahead_next scope due xs k x h is none =
     ap (λ (zs : List Fault). zs ++ faults scope due (parts_of (left xs (k + 1)))) (sym none)
     ∙ ap (λ ys. faults scope due (parts_of ys)) (sym (left_is xs k x h is))
 
-pub fault_next : (scope : Scope) (due : Bool) (xs : List Expr) (k : ℕ) (x : Expr) (r : Refusal) → k < length xs → x ≡ get_or xs k x
+pub fault_next : (scope : Scope) (due : Due) (xs : List Expr) (k : ℕ) (x : Expr) (r : Refusal) → k < length xs → x ≡ get_or xs k x
     → IsFirst (faults scope due (expression_of x)) r → IsFirst (faults scope due (parts_of (left xs k))) r
 fault_next scope due xs k x r h is first =
     subst (λ ys. IsFirst (faults scope due (parts_of ys)) r) (sym (left_is xs k x h is))

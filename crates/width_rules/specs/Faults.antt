@@ -9,6 +9,8 @@ use Rattle.ls_text.specs.declared.refusal.Refusal.TheVariants as refusal
 use Rattle.verilog_ast.specs.declared.identifier.Identifier.{Identifier}
 use Rattle.verilog_ast.specs.Expressions.{Expression, Literal, Whole, BitSelect, PartSelect, UpwardSelect, DownwardSelect, Unary, Binary, Conditional, Concatenation, Replication, Bracketed, NoPart, Parts}
 use Rattle.verilog_ast.specs.Places.{expression_place}
+use Rattle.width_rules.specs.declared.due.Due.{Due}
+use Rattle.width_rules.specs.declared.due.Due.TheVariants.{AnyValue, ConstantOnly}
 use Rattle.width_rules.specs.Scopes.{Meaning, Signal, Constant, Turn, Genvar, Unknown, Scope, is_signal}
 use Rattle.width_rules.specs.Signs.{is_signed}
 use Rattle.width_rules.specs.Sizes.{length, push, literal_length, is_constant, count_of, bits_between}
@@ -58,8 +60,9 @@ fault_if b f = if b then f ∷ [] else []
 -- ---- names
 
 -- a name that no expression can use (29), and a net or variable where a constant is due (25)
-abbrev pub name_faults : Meaning → Bool → Identifier → List Fault
-name_faults (Signal signal width lsb signed writer) due n = fault_if due (fault_at 25 n)
+abbrev pub name_faults : Meaning → Due → Identifier → List Fault
+name_faults (Signal signal width lsb signed writer) AnyValue n = []
+name_faults (Signal signal width lsb signed writer) ConstantOnly n = fault_at 25 n ∷ []
 name_faults (Constant width value signed) due n = []
 name_faults (Turn width value signed) due n = []
 name_faults Genvar due n = fault_at 29 n ∷ []
@@ -105,22 +108,22 @@ width_faults n y width = fault_if (width == 0) (fault_of 26 y) ++ fault_if (nat_
 abbrev pub total_faults : Place → ℕ → List Fault
 total_faults at width = fault_if (width == 0) (fault 26 at []) ++ fault_if (nat_lt 128 width) (fault 31 at [])
 
--- from left to right; `due` says that a constant is due, as in an index left of `assign`, a bound, a width and a count
-abbrev pub faults : Scope → Bool → Expression → List Fault
+-- from left to right; a constant is due in an index left of `assign`, a bound, a width and a count
+abbrev pub faults : Scope → Due → Expression → List Fault
 faults scope due (Literal at x) = fault_if (nat_lt 128 (literal_length x.size)) (fault 31 at [])
 faults scope due (Whole n) = name_faults (scope n.name.0) due n
 faults scope due (BitSelect n x) =
     name_faults (scope n.name.0) due n ++ (faults scope due x
     ++ run_faults (scope n.name.0) (is_constant scope x) (integer scope x) 1 0 n)
 faults scope due (PartSelect n x y) =
-    name_faults (scope n.name.0) due n ++ (faults scope true x ++ (faults scope true y
+    name_faults (scope n.name.0) due n ++ (faults scope ConstantOnly x ++ (faults scope ConstantOnly y
     ++ part_faults (scope n.name.0) (integer scope y) (bits_between (integer scope x) (integer scope y)) n))
 faults scope due (UpwardSelect n x y) =
-    name_faults (scope n.name.0) due n ++ (faults scope due x ++ (faults scope true y
+    name_faults (scope n.name.0) due n ++ (faults scope due x ++ (faults scope ConstantOnly y
     ++ (width_faults n y (count_of (integer scope y))
     ++ run_faults (scope n.name.0) (is_constant scope x) (integer scope x) (count_of (integer scope y)) 0 n)))
 faults scope due (DownwardSelect n x y) =
-    name_faults (scope n.name.0) due n ++ (faults scope due x ++ (faults scope true y
+    name_faults (scope n.name.0) due n ++ (faults scope due x ++ (faults scope ConstantOnly y
     ++ (width_faults n y (count_of (integer scope y))
     ++ run_faults (scope n.name.0) (is_constant scope x) (integer scope x) (count_of (integer scope y)) (count_of (integer scope y) - 1) n)))
 faults scope due (Unary at op x) = faults scope due x
@@ -128,7 +131,7 @@ faults scope due (Binary op x y) = faults scope due x ++ faults scope due y
 faults scope due (Conditional c x y) = faults scope due c ++ (faults scope due x ++ faults scope due y)
 faults scope due (Concatenation at xs) = faults scope due xs ++ total_faults at (length scope xs)
 faults scope due (Replication at c xs) =
-    faults scope true c ++ (fault_if (count_of (integer scope c) == 0) (fault_of 26 c)
+    faults scope ConstantOnly c ++ (fault_if (count_of (integer scope c) == 0) (fault_of 26 c)
     ++ (faults scope due xs ++ total_faults at (count_of (integer scope c) * length scope xs)))
 faults scope due (Bracketed at x) = faults scope due x
 faults scope due NoPart = []
@@ -142,4 +145,4 @@ pushed_length (Some context) own = max context own
 -- of an expression in a context: its own, and then a context above 128 bits
 abbrev pub sizing_faults : Scope → Expression → Option ℕ → List Fault
 sizing_faults scope e context =
-    faults scope false e ++ fault_if (nat_lt 128 (pushed_length context (length scope e))) (fault_of 31 e)
+    faults scope AnyValue e ++ fault_if (nat_lt 128 (pushed_length context (length scope e))) (fault_of 31 e)

@@ -10,9 +10,6 @@ pub mod Found
 pub mod Entries
 pub mod Wholes
 pub mod Directions
-pub mod Targets
-pub mod Statements
+pub mod References
 pub mod Runs
-pub mod Leaves
-pub mod Cases
-pub mod Drives
+pub mod Renamed

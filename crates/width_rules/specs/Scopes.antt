@@ -1,4 +1,4 @@
--- What names stand for (IEEE Std 1364-2005, 3.11, 4.2, 4.3, 4.8, 4.10, 12.4 and 12.7).
+-- What names stand for (IEEE Std 1364-2005, 4.2, 4.3, 4.8, 4.10, 4.11, 12.4 and 12.7).
 use Rattle.std.specs.Prelude.{ℕ, Bool, true, false, ◌==◌, if◌then◌else◌}
 use Rattle.width_rules.specs.declared.writer.Writer.{Writer}
 

@@ -46,9 +46,10 @@ pub fn calculated(
     ensures constant { IfOk result (λ m. m.constant ≡ (a.constant && b.constant)) }
     ensures form { IfOk result (λ m. opened m.form ≡ Calculation op (opened a.form) (opened b.form)) }
 {
+    let all_signed = a.signed && b.signed;
     Ok(Measured {
         length: a.length.max(b.length),
-        signed: a.signed && b.signed,
+        signed: all_signed,
         constant: a.constant && b.constant,
         form: Boxed::new(alloc, Open::Calculation(op, a.form, b.form))?,
     })
@@ -105,16 +106,17 @@ pub fn tested(alloc: Global, op: LogicalOperator, a: Own, b: Own) -> Result<Meas
 }
 
 /// `c ? a : b`: as long as the longer of both, signed where both are; the condition by itself.
-pub fn chosen(alloc: Global, c: Own, a: Measured, b: Measured) -> Result<Measured, NoMemory>
+pub fn chosen(alloc: Global, c: Measured, a: Measured, b: Measured) -> Result<Measured, NoMemory>
     ensures length { IfOk result (λ m. m.length ≡ max a.length b.length) }
     ensures signed { IfOk result (λ m. m.signed ≡ (a.signed && b.signed)) }
     ensures constant { IfOk result (λ m. m.constant ≡ (c.constant && (a.constant && b.constant))) }
-    ensures form { IfOk result (λ m. opened m.form ≡ Choice (sized c.typed.form) (opened a.form) (opened b.form)) }
+    ensures form { IfOk result (λ m. opened m.form ≡ Choice (closed (opened c.form) c.length c.signed) (opened a.form) (opened b.form)) }
 {
+    let condition = Boxed::new(alloc, close(alloc, c.form, c.length, c.signed)?)?;
     Ok(Measured {
         length: a.length.max(b.length),
         signed: a.signed && b.signed,
         constant: c.constant && (a.constant && b.constant),
-        form: Boxed::new(alloc, Open::Choice(c.typed, a.form, b.form))?,
+        form: Boxed::new(alloc, Open::Choice(condition, a.form, b.form))?,
     })
 }

@@ -4,6 +4,7 @@ ghost use Rattle.std.specs.Prelude.{◌≡◌, ◌≤◌, ◌++◌, ◌==◌, tr
 ghost use Rattle.typed_ir.specs.Forms.{sized};
 ghost use Rattle.verilog_ast.specs.Expressions as e;
 ghost use Rattle.verilog_ast.specs.Views.{expression_of, reference_of, parts_of};
+ghost use Rattle.width_rules.specs.declared.due.Due.TheVariants.{ConstantOnly};
 ghost use Rattle.width_rules.specs.Entries.{scope_of};
 ghost use Rattle.width_rules.specs.Found.{meaning_of};
 ghost use Rattle.width_rules.specs.Signs.{is_signed};
@@ -17,6 +18,7 @@ ghost use Rattle.width_rules.specs.Runs.{run_select_faults, run_bits, is_constan
 
 use crate::combining::{calculated, chosen, compared, one_bit, shifted, tested};
 use crate::direction::{Direction, down_of};
+use crate::due::Due;
 use crate::faults::{refused, refused_of};
 use crate::joined::Joined;
 use crate::joined_parts::JoinedParts;
@@ -26,7 +28,7 @@ use crate::measured::Measured;
 use crate::opened::{Open, close};
 use crate::operators::{operator_of, unary_kind};
 use crate::scope::Scope;
-use crate::selecting::{known, part_of, select, selected, whole, width_of};
+use crate::selecting::{known, range, reach, selected, whole, width_of};
 use crate::self_determined::Own;
 use crate::whole::{count_of, whole_number};
 use bits::Bits;
@@ -43,7 +45,7 @@ use verilog_ast::{
 /// constant is due: then 25 at a net or variable.
 #[tactic(auto, using(crate::proofs::Firsts::earlier, crate::proofs::Firsts::later, crate::proofs::Firsts::neither, crate::proofs::Lengths::bracketed_is))]
 #[cycle(measure)]
-pub fn measure(alloc: Global, scope: &Scope, due: bool, e: &Expr) -> Result<Measured, Refusal>
+pub fn measure(alloc: Global, scope: &Scope, due: Due, e: &Expr) -> Result<Measured, Refusal>
     ensures faultless { IfOk result (λ m. faults (scope_of scope.now) due (expression_of e.now) ≡ []) }
     ensures length { IfOk result (λ m. m.length ≡ length (scope_of scope.now) (expression_of e.now)) }
     ensures signed { IfOk result (λ m. m.signed ≡ is_signed (scope_of scope.now) (expression_of e.now)) }
@@ -68,7 +70,7 @@ pub fn measure(alloc: Global, scope: &Scope, due: bool, e: &Expr) -> Result<Meas
 /// An expression at its own length and sign; or its first fault, or want of memory.
 #[tactic(auto, using(crate::proofs::Firsts::earlier, crate::proofs::Firsts::later, crate::proofs::Firsts::neither, crate::proofs::Opening::owned, crate::proofs::Reading::own_reads))]
 #[cycle(measure)]
-pub fn own(alloc: Global, scope: &Scope, due: bool, e: &Expr) -> Result<Own, Refusal>
+pub fn own(alloc: Global, scope: &Scope, due: Due, e: &Expr) -> Result<Own, Refusal>
     ensures faultless { IfOk result (λ x. faults (scope_of scope.now) due (expression_of e.now) ≡ []) }
     ensures width { IfOk result (λ x. x.typed.width ≡ length (scope_of scope.now) (expression_of e.now)) }
     ensures signed { IfOk result (λ x. x.signed ≡ is_signed (scope_of scope.now) (expression_of e.now)) }
@@ -89,13 +91,13 @@ pub fn own(alloc: Global, scope: &Scope, due: bool, e: &Expr) -> Result<Own, Ref
 #[tactic(auto, using(crate::proofs::Firsts::earlier, crate::proofs::Firsts::later, crate::proofs::Firsts::neither, crate::proofs::Reading::number_reads))]
 #[cycle(measure)]
 pub fn number(alloc: Global, scope: &Scope, e: &Expr) -> Result<Const, Refusal>
-    ensures faultless { IfOk result (λ x. faults (scope_of scope.now) true (expression_of e.now) ≡ []) }
+    ensures faultless { IfOk result (λ x. faults (scope_of scope.now) ConstantOnly (expression_of e.now) ≡ []) }
     ensures width { IfOk result (λ x. x.bits.width ≡ length (scope_of scope.now) (expression_of e.now)) }
     ensures signed { IfOk result (λ x. x.signed ≡ is_signed (scope_of scope.now) (expression_of e.now)) }
     ensures value { IfOk result (λ x. x.bits.value ≡ constant (scope_of scope.now) (expression_of e.now)) }
-    ensures fault { IfErr result (IsFirst (faults (scope_of scope.now) true (expression_of e.now))) }
+    ensures fault { IfErr result (IsFirst (faults (scope_of scope.now) ConstantOnly (expression_of e.now))) }
 {
-    let x = own(alloc, scope, true, e)?;
+    let x = own(alloc, scope, Due::ConstantOnly, e)?;
     Ok(Const {
         bits: x.typed.get().form.value(&[]),
         signed: x.signed,
@@ -107,7 +109,7 @@ pub fn number(alloc: Global, scope: &Scope, e: &Expr) -> Result<Const, Refusal>
 fn literal(
     alloc: Global,
     scope: &Scope,
-    due: bool,
+    due: Due,
     at: Place,
     number: Number,
 ) -> Result<Measured, Refusal>
@@ -136,7 +138,7 @@ fn literal(
 fn unary(
     alloc: Global,
     scope: &Scope,
-    due: bool,
+    due: Due,
     at: Place,
     op: WrittenBefore,
     a: &Expr,
@@ -190,7 +192,7 @@ fn unary(
 fn binary(
     alloc: Global,
     scope: &Scope,
-    due: bool,
+    due: Due,
     op: Written,
     a: &Expr,
     b: &Expr,
@@ -232,7 +234,7 @@ fn binary(
 fn conditional(
     alloc: Global,
     scope: &Scope,
-    due: bool,
+    due: Due,
     c: &Expr,
     a: &Expr,
     b: &Expr,
@@ -244,16 +246,16 @@ fn conditional(
     ensures form { IfOk result (λ m. opened m.form ≡ open_of (scope_of scope.now) (e.Conditional (expression_of c.now) (expression_of a.now) (expression_of b.now))) }
     ensures fault { IfErr result (IsFirst (faults (scope_of scope.now) due (e.Conditional (expression_of c.now) (expression_of a.now) (expression_of b.now)))) }
 {
-    let c = own(alloc, scope, due, c)?;
+    let condition = measure(alloc, scope, due, c)?;
     let yes = measure(alloc, scope, due, a)?;
     let no = measure(alloc, scope, due, b)?;
-    Ok(chosen(alloc, c, yes, no)?)
+    Ok(chosen(alloc, condition, yes, no)?)
 }
 
 // A name with its select or without; or the first fault, or want of memory.
 #[tactic(auto, using(crate::proofs::Firsts::earlier, crate::proofs::Firsts::later, crate::proofs::Firsts::neither, crate::proofs::Lengths::upward_is, crate::proofs::Lengths::downward_is))]
 #[cycle(measure)]
-fn read(alloc: Global, scope: &Scope, due: bool, reference: &Reference) -> Result<Measured, Refusal>
+fn read(alloc: Global, scope: &Scope, due: Due, reference: &Reference) -> Result<Measured, Refusal>
     ensures faultless { IfOk result (λ m. faults (scope_of scope.now) due (reference_of reference.now) ≡ []) }
     ensures length { IfOk result (λ m. m.length ≡ length (scope_of scope.now) (reference_of reference.now)) }
     ensures signed { IfOk result (λ m. m.signed ≡ is_signed (scope_of scope.now) (reference_of reference.now)) }
@@ -282,7 +284,7 @@ fn read(alloc: Global, scope: &Scope, due: bool, reference: &Reference) -> Resul
 fn bit(
     alloc: Global,
     scope: &Scope,
-    due: bool,
+    due: Due,
     name: Identifier,
     a: &Expr,
 ) -> Result<Measured, Refusal>
@@ -295,8 +297,8 @@ fn bit(
 {
     let entry = known(alloc, scope, due, name)?;
     let index = own(alloc, scope, due, a)?;
-    let typed = select(alloc, entry, name, 1, 0, index)?;
-    Ok(selected(alloc, typed)?)
+    let taken = reach(alloc, entry, name, 1, 0, index)?;
+    Ok(selected(alloc, taken)?)
 }
 
 // `x[base +: width]` or `x[base -: width]`
@@ -304,7 +306,7 @@ fn bit(
 fn run(
     alloc: Global,
     scope: &Scope,
-    due: bool,
+    due: Due,
     direction: Direction,
     name: Identifier,
     a: &Expr,
@@ -321,8 +323,8 @@ fn run(
     let base = own(alloc, scope, due, a)?;
     let found = number(alloc, scope, b)?;
     let width = width_of(alloc, name, b, found)?;
-    let typed = select(alloc, entry, name, width, down_of(direction, width), base)?;
-    Ok(selected(alloc, typed)?)
+    let taken = reach(alloc, entry, name, width, down_of(direction, width), base)?;
+    Ok(selected(alloc, taken)?)
 }
 
 // `x[high:low]`
@@ -331,7 +333,7 @@ fn run(
 fn part(
     alloc: Global,
     scope: &Scope,
-    due: bool,
+    due: Due,
     name: Identifier,
     a: &Expr,
     b: &Expr,
@@ -348,19 +350,14 @@ fn part(
     let low = number(alloc, scope, b)?;
     let high = whole_number(high.bits, high.signed);
     let low = whole_number(low.bits, low.signed);
-    let typed = part_of(alloc, entry, name, high, low)?;
-    Ok(selected(alloc, typed)?)
+    let taken = range(alloc, entry, name, high, low)?;
+    Ok(selected(alloc, taken)?)
 }
 
 // The parts of a concatenation from left to right, each at its own length and sign.
 #[tactic(auto, using(crate::proofs::Firsts::earlier, crate::proofs::Firsts::later, crate::proofs::Firsts::neither, crate::proofs::Stepping::ahead_next, crate::proofs::Stepping::fault_next, crate::proofs::Stepping::fixed_next, crate::proofs::Stepping::together_next))]
 #[cycle(measure)]
-fn all_parts(
-    alloc: Global,
-    scope: &Scope,
-    due: bool,
-    parts: &[Expr],
-) -> Result<JoinedParts, Refusal>
+fn all_parts(alloc: Global, scope: &Scope, due: Due, parts: &[Expr]) -> Result<JoinedParts, Refusal>
     ensures faultless { IfOk result (λ x. faults (scope_of scope.now) due (parts_of (map expression_of parts.now)) ≡ []) }
     ensures joined { IfOk result (λ x. joined_of x.joined ≡ joins (scope_of scope.now) Nothing (map expression_of parts.now)) }
     ensures constant { IfOk result (λ x. x.constant ≡ is_constant (scope_of scope.now) (parts_of (map expression_of parts.now))) }
@@ -382,7 +379,7 @@ fn all_parts(
 fn concatenation(
     alloc: Global,
     scope: &Scope,
-    due: bool,
+    due: Due,
     at: Place,
     parts: &[Expr],
 ) -> Result<Measured, Refusal>
@@ -412,7 +409,7 @@ fn concatenation(
 fn replication(
     alloc: Global,
     scope: &Scope,
-    due: bool,
+    due: Due,
     at: Place,
     parts: &[Expr],
     count: &Expr,

@@ -35,20 +35,26 @@ impl Scope {
         }
     }
 
-    /// Declares a name in the innermost block; an earlier meaning is covered, up to the block's end. Want of memory is `NoMemory`;
-    /// nothing is said of the names then.
+    /// Declares a name in the innermost block; an earlier meaning is covered, up to the block's end. Want of memory is `NoMemory`: then
+    /// nothing has changed.
     pub fn declare(&mut self, name: NameId, entry: Entry) -> Result<(), NoMemory>
         ensures names { IfOk result (λ _. scope_of self.new ≡ with_name name.0 (meaning_of entry) (scope_of self.old)) }
-        ensures around { IfOk result (λ _. around self.new ≡ around self.old) }
+        ensures around { around self.new ≡ around self.old }
+        ensures same { OnErr result (scope_of self.new ≡ scope_of self.old) }
     {
         if self.covered.is_empty() {
             self.names.insert(name, entry)?;
             return Ok(());
         }
         let before = self.find(name);
-        self.names.insert(name, entry)?;
         self.covered.push_front(Covered::Name(name, before))?;
-        Ok(())
+        match self.names.insert(name, entry) {
+            Ok(_) => Ok(()),
+            Err(_) => {
+                let _taken = self.covered.pop_front();
+                Err(NoMemory)
+            }
+        }
     }
 
     /// Begins a block. Want of memory is `NoMemory`: then none begins.

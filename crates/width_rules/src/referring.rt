@@ -1,40 +1,42 @@
 // Names and selects that are written: parts of targets, each as if nothing stood right of it.
-ghost use Rattle.std.specs.Prelude.{◌≡◌, ◌≤◌, ◌++◌, ◌∷◌, [], true, IfOk, IfErr};
-ghost use Rattle.typed_ir.specs.Forms.{sized};
-ghost use Rattle.typed_ir.specs.Sized.{value_of};
-ghost use Rattle.typed_ir.specs.Stmts.{Fixed};
+ghost use Rattle.std.specs.Prelude.{◌≡◌, [], IfOk, IfErr};
 ghost use Rattle.typed_ir.specs.Targets.{target_of};
 ghost use Rattle.verilog_ast.specs.Expressions as e;
 ghost use Rattle.verilog_ast.specs.Views.{expression_of, reference_of};
+ghost use Rattle.width_rules.specs.declared.due.Due.TheVariants.{ConstantOnly};
 ghost use Rattle.width_rules.specs.Constants.{integer};
 ghost use Rattle.width_rules.specs.Entries.{scope_of};
-ghost use Rattle.width_rules.specs.Faults.{IsFirst, run_faults, part_faults};
+ghost use Rattle.width_rules.specs.Faults.{IsFirst};
 ghost use Rattle.width_rules.specs.Found.{meaning_of};
+ghost use Rattle.width_rules.specs.References.{reference_part, target_name_faults, reference_faults};
 ghost use Rattle.width_rules.specs.Runs.{run_select_faults, run_part};
-ghost use Rattle.width_rules.specs.Sizes.{length, read_as, no_signals, bits_between, count_of};
-ghost use Rattle.width_rules.specs.Targets.{known_part, part_at, part_from, reference_part, target_name_faults, reference_faults};
-ghost use Rattle.width_rules.specs.Wholes.{whole_of};
+ghost use Rattle.width_rules.specs.Sizes.{length, count_of};
 
 use crate::direction::{Direction, down_of};
+use crate::due::Due;
 use crate::entry::Entry;
 use crate::faults::refused_at;
 use crate::measuring::{number, own};
 use crate::scope::Scope;
-use crate::selecting::width_of;
-use crate::self_determined::Own;
+use crate::selecting::{bits_of, range, reach, width_of};
 use crate::target_part::TargetPart;
-use crate::whole::{Whole, bits_between, low_bit, whole_number};
+use crate::whole::whole_number;
 use ls_text::Refusal;
 use std::alloc::Global;
-use typed_ir::{Lane, Reach, SignalId, Span, Target};
+use typed_ir::SignalId;
 use verilog_ast::{Expr, Identifier, Reference};
 
-/// A name with its select or without, as a part of a target; or the first fault from left to right, or want of memory.
+/// A name that is written, with its select or without: the part of a target that takes the lowest bits of a value, as if nothing stood
+/// right of it (IEEE Std 1364-2005, 5.2.1). What is due are its indices, constants left of `assign`; bounds and widths are constant always.
+///
+/// Faults, the first one from left to right: 29 UnknownName where the name is not declared; those of `size_expr` in its select; 26
+/// BadRange at a width below 1; 31 TooWide at the name of more than 128 bits; 32 BadSelect at the name where known bits don't lie in the
+/// declared range or the name has no bits to select. Who may write it is no question here. Else want of memory.
 #[tactic(auto, using(crate::proofs::Firsts::earlier, crate::proofs::Firsts::later, crate::proofs::Firsts::neither, crate::proofs::Lengths::upward_is, crate::proofs::Lengths::downward_is))]
-pub fn reference(
+pub fn size_reference(
     alloc: Global,
     scope: &Scope,
-    due: bool,
+    due: Due,
     target: &Reference,
 ) -> Result<TargetPart, Refusal>
     ensures faultless { IfOk result (λ _. reference_faults (scope_of scope.now) due (reference_of target.now) ≡ []) }
@@ -70,20 +72,6 @@ fn named(alloc: Global, scope: &Scope, name: Identifier) -> Result<Entry, Refusa
     }
 }
 
-// Known bits of a signal.
-fn known(signal: SignalId, low: u8, width: u8) -> TargetPart
-    requires some { 1 ≤ width }
-    requires few { width ≤ 128 }
-    ensures width { result.width ≡ width }
-    ensures part { target_of result.target ≡ known_part 0 signal low width }
-{
-    let span = Span { signal, low, width };
-    TargetPart {
-        target: Target::Fixed(Lane { shift: 0, span }),
-        width,
-    }
-}
-
 // A name without a select.
 #[tactic(auto, using(crate::proofs::Firsts::earlier, crate::proofs::Firsts::later, crate::proofs::Firsts::neither, crate::proofs::Lengths::whole_is))]
 fn whole(alloc: Global, scope: &Scope, name: Identifier) -> Result<TargetPart, Refusal>
@@ -93,86 +81,10 @@ fn whole(alloc: Global, scope: &Scope, name: Identifier) -> Result<TargetPart, R
     ensures fault { IfErr result (IsFirst (target_name_faults (scope_of scope.now name.name.0) name)) }
 {
     match scope.find(name.name) {
-        Entry::Signal(x) => Ok(known(x.signal, 0, x.width)),
-        Entry::Constant(x) | Entry::Turn(x) => Ok(known(SignalId(0), 0, x.bits.width)),
-        Entry::Genvar => Ok(known(SignalId(0), 0, 1)),
+        Entry::Signal(x) => Ok(bits_of(x.signal, 0, x.width)),
+        Entry::Constant(x) | Entry::Turn(x) => Ok(bits_of(SignalId(0), 0, x.bits.width)),
+        Entry::Genvar => Ok(bits_of(SignalId(0), 0, 1)),
         Entry::Unknown => Err(refused_at(alloc, 29, name)),
-    }
-}
-
-// `width` bits from an index on, less `down`: known ones where the index is constant. 32 where they don't lie in the declared range,
-// or the name has no bits to select.
-fn reach(
-    alloc: Global,
-    entry: Entry,
-    name: Identifier,
-    width: u8,
-    down: u8,
-    index: Own,
-) -> Result<TargetPart, Refusal>
-    requires some { 1 ≤ width }
-    requires few { width ≤ 128 }
-    ensures faultless { IfOk result (λ _. run_faults (meaning_of entry) index.constant (read_as index.signed index.typed.width (value_of (sized index.typed.form) no_signals)) width down name ≡ []) }
-    ensures width { IfOk result (λ x. x.width ≡ width) }
-    ensures part { IfOk result (λ x. target_of x.target ≡ part_at (meaning_of entry) 0 width down index.constant (read_as index.signed index.typed.width (value_of (sized index.typed.form) no_signals)) index.signed (sized index.typed.form)) }
-    ensures fault { IfErr result (IsFirst (run_faults (meaning_of entry) index.constant (read_as index.signed index.typed.width (value_of (sized index.typed.form) no_signals)) width down name)) }
-{
-    match entry {
-        Entry::Signal(x) => {
-            let below = x.lsb + u32::from(down);
-            if !index.constant {
-                let reach = Reach {
-                    shift: 0,
-                    signal: x.signal,
-                    total: x.width,
-                    width,
-                    below,
-                    signed: index.signed,
-                };
-                let index = index.typed.into_inner();
-                let target = Target::Moving { reach, index };
-                return Ok(TargetPart { target, width });
-            }
-            let at = whole_number(index.typed.get().form.value(&[]), index.signed);
-            match low_bit(at, below, width, x.width) {
-                Some(low) => Ok(known(x.signal, low, width)),
-                None => Err(refused_at(alloc, 32, name)),
-            }
-        }
-        Entry::Constant(_) | Entry::Turn(_) | Entry::Genvar | Entry::Unknown => Err(refused_at(
-            alloc, 32, name,
-        )),
-    }
-}
-
-// The bits of a name from `low` up to `high`: 31 above 128 of them, else 32 where it is reversed or not within the declared range.
-fn range(
-    alloc: Global,
-    entry: Entry,
-    name: Identifier,
-    high: Whole,
-    low: Whole,
-) -> Result<TargetPart, Refusal>
-    ensures faultless { IfOk result (λ _. part_faults (meaning_of entry) (whole_of low) (bits_between (whole_of high) (whole_of low)) name ≡ []) }
-    ensures width { IfOk result (λ x. x.width ≡ bits_between (whole_of high) (whole_of low)) }
-    ensures part { IfOk result (λ x. target_of x.target ≡ part_from (meaning_of entry) 0 (whole_of low) (bits_between (whole_of high) (whole_of low))) }
-    ensures fault { IfErr result (IsFirst (part_faults (meaning_of entry) (whole_of low) (bits_between (whole_of high) (whole_of low)) name)) }
-{
-    let width = bits_between(high, low);
-    if width > 128 {
-        return Err(refused_at(alloc, 31, name));
-    }
-    if width == 0 {
-        return Err(refused_at(alloc, 32, name));
-    }
-    match entry {
-        Entry::Signal(x) => match low_bit(low, x.lsb, width, x.width) {
-            Some(low) => Ok(known(x.signal, low, width)),
-            None => Err(refused_at(alloc, 32, name)),
-        },
-        Entry::Constant(_) | Entry::Turn(_) | Entry::Genvar | Entry::Unknown => Err(refused_at(
-            alloc, 32, name,
-        )),
     }
 }
 
@@ -181,7 +93,7 @@ fn range(
 fn bit(
     alloc: Global,
     scope: &Scope,
-    due: bool,
+    due: Due,
     name: Identifier,
     a: &Expr,
 ) -> Result<TargetPart, Refusal>
@@ -199,7 +111,7 @@ fn bit(
 fn run(
     alloc: Global,
     scope: &Scope,
-    due: bool,
+    due: Due,
     direction: Direction,
     name: Identifier,
     a: &Expr,
@@ -225,10 +137,10 @@ fn part(
     a: &Expr,
     b: &Expr,
 ) -> Result<TargetPart, Refusal>
-    ensures faultless { IfOk result (λ _. reference_faults (scope_of scope.now) true (e.PartSelect name (expression_of a.now) (expression_of b.now)) ≡ []) }
+    ensures faultless { IfOk result (λ _. reference_faults (scope_of scope.now) ConstantOnly (e.PartSelect name (expression_of a.now) (expression_of b.now)) ≡ []) }
     ensures width { IfOk result (λ x. x.width ≡ length (scope_of scope.now) (e.PartSelect name (expression_of a.now) (expression_of b.now))) }
     ensures part { IfOk result (λ x. target_of x.target ≡ reference_part (scope_of scope.now) 0 (e.PartSelect name (expression_of a.now) (expression_of b.now))) }
-    ensures fault { IfErr result (IsFirst (reference_faults (scope_of scope.now) true (e.PartSelect name (expression_of a.now) (expression_of b.now)))) }
+    ensures fault { IfErr result (IsFirst (reference_faults (scope_of scope.now) ConstantOnly (e.PartSelect name (expression_of a.now) (expression_of b.now)))) }
 {
     let entry = named(alloc, scope, name)?;
     let high = number(alloc, scope, a)?;

@@ -2,12 +2,14 @@
 ghost use Rattle.std.specs.Prelude.{◌≡◌, ◌&&◌, not, true, [], IfOk, IfErr};
 ghost use Rattle.typed_ir.specs.Forms.{sized};
 ghost use Rattle.verilog_ast.specs.Views.{expression_of};
+ghost use Rattle.width_rules.specs.declared.due.Due.TheVariants.{ConstantOnly};
 ghost use Rattle.width_rules.specs.Entries.{scope_of};
 ghost use Rattle.width_rules.specs.Signs.{is_signed};
 ghost use Rattle.width_rules.specs.Sizes.{length, push};
 ghost use Rattle.width_rules.specs.Constants.{constant};
 ghost use Rattle.width_rules.specs.Faults.{IsFirst, faults, sizing_faults, pushed_length};
 
+use crate::due::Due;
 use crate::faults::refused_of;
 use crate::measuring::{measure, number};
 use crate::opened::close;
@@ -37,7 +39,7 @@ pub fn size_expr(
     ensures form { IfOk result (λ x. sized x.form ≡ push (scope_of scope.now) (expression_of e.now) (pushed_length context (length (scope_of scope.now) (expression_of e.now))) (is_signed (scope_of scope.now) (expression_of e.now) && not unsigned)) }
     ensures fault { IfErr result (IsFirst (sizing_faults (scope_of scope.now) (expression_of e.now) context)) }
 {
-    let m = measure(alloc, scope, false, e)?;
+    let m = measure(alloc, scope, Due::AnyValue, e)?;
     let length = match context {
         Some(context) => context.max(m.length),
         None => m.length,
@@ -53,11 +55,11 @@ pub fn size_expr(
 ///
 /// Faults, the first one from left to right: 25 NotConstant at a net or variable, and else those of `size_expr`. Else want of memory.
 pub fn constant(alloc: Global, scope: &Scope, e: &Expr) -> Result<Const, Refusal>
-    ensures faultless { IfOk result (λ _. faults (scope_of scope.now) true (expression_of e.now) ≡ []) }
+    ensures faultless { IfOk result (λ _. faults (scope_of scope.now) ConstantOnly (expression_of e.now) ≡ []) }
     ensures width { IfOk result (λ x. x.bits.width ≡ length (scope_of scope.now) (expression_of e.now)) }
     ensures signed { IfOk result (λ x. x.signed ≡ is_signed (scope_of scope.now) (expression_of e.now)) }
     ensures value { IfOk result (λ x. x.bits.value ≡ constant (scope_of scope.now) (expression_of e.now)) }
-    ensures fault { IfErr result (IsFirst (faults (scope_of scope.now) true (expression_of e.now))) }
+    ensures fault { IfErr result (IsFirst (faults (scope_of scope.now) ConstantOnly (expression_of e.now))) }
 {
     number(alloc, scope, e)
 }

@@ -11,7 +11,7 @@ use Rattle.width_rules.specs.Joins.{Nothing, Bits, joins}
 use Rattle.width_rules.proofs.Stepping.{bits_are}
 use Rattle.width_rules.proofs.Repeating.{repeated_long, count_exact, replication_fine, replication_wide}
 use Rattle.width_rules.proofs.Reading.{due_constant}
-use Rattle.width_rules.proofs.Opening.{simple_is}
+use Rattle.width_rules.proofs.Opening.{simple_is, chosen_is}
 use Rattle.typed_ir.specs.Sized.{Repeat}
 use Rattle.width_rules.proofs.Lengths as row
 use Rattle.width_rules.proofs.Nodes as node
@@ -66,7 +66,7 @@ run-returns-clause-length t c =
     let scope = scope_of c.args.scope.now in
     let b = expression_of c.args.b.now in
     let found = c.in_ok-found in
-    c.in_ok-selected.ensures.length ∙ c.in_ok-typed.ensures.width ∙ c.in_ok-width.ensures.value
+    c.in_ok-selected.ensures.length ∙ c.in_ok-taken.ensures.width ∙ c.in_ok-width.ensures.value
     ∙ ap count_of (row.read_same scope b found.found.signed found.found.bits.width found.found.bits.value found.ensures.signed found.ensures.width found.ensures.value)
 
 pub concatenation-returns-in_ok-new-in-Bits-clause-form : goal.concatenation-returns-in_ok-new-in-Bits-clause-form
@@ -161,6 +161,12 @@ part-returns-clause-length t c =
     let high = c.in_ok-high in
     let low = c.in_ok-low in
     c.in_ok-selected.ensures.length
-    ∙ row.part_long scope c.args.name a b c.in_ok-typed.typed.width _ _ c.in_ok-typed.ensures.width
+    ∙ row.part_long scope c.args.name a b c.in_ok-taken.taken.width _ _ c.in_ok-taken.ensures.width
     (c.whole_number-high.ensures ∙ row.read_same scope a high.high.signed high.high.bits.width high.high.bits.value high.ensures.signed high.ensures.width high.ensures.value)
     (c.whole_number-low.ensures ∙ row.read_same scope b low.low.signed low.low.bits.width low.low.bits.value low.ensures.signed low.ensures.width low.ensures.value)
+
+pub conditional-returns-clause-form : goal.conditional-returns-clause-form
+conditional-returns-clause-form t c =
+    chosen_is (scope_of c.args.scope.now) (expression_of c.args.c.now) (expression_of c.args.a.now) (expression_of c.args.b.now) _ _ _ _ _ _
+    c.in_ok-condition.ensures.form c.in_ok-condition.ensures.length c.in_ok-condition.ensures.signed c.in_ok-yes.ensures.form c.in_ok-no.ensures.form
+    c.in_ok-chosen.ensures.form

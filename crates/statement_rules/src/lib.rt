@@ -1,0 +1,28 @@
+// Statements and continuous assignments, with their expressions sized.
+//
+// `targeting` walks a target and lays its parts; `assigning` has continuous assignments. `statements` walks a statement once for its
+// expressions, with labels of cases in `labelling`, which `closing` closes when all are known; `checking` walks it for its targets
+// (`target_kinds`) and defaults, and `blocks` does both in turn.
+#![tactic(auto, using(width_rules::proofs::Firsts::earlier, width_rules::proofs::Firsts::later, width_rules::proofs::Firsts::neither))]
+
+mod assigning;
+mod blocks;
+mod checking;
+mod closing;
+mod drive;
+mod labelling;
+mod open_arm;
+mod open_case;
+mod open_label;
+mod open_labels;
+mod sized_target;
+mod statements;
+mod target_kinds;
+mod targeting;
+
+pub use assigning::size_assign;
+pub use blocks::size_stmt;
+pub use drive::Drive;
+pub use sized_target::SizedTarget;
+pub use target_kinds::check_target;
+pub use targeting::size_target;
