@@ -1,0 +1,10 @@
+pub mod Values
+pub mod Bounds
+pub mod Comings
+pub mod Lefts
+pub mod Listing
+pub mod Counting
+pub mod Scoping
+pub mod Blocks
+pub mod NamesInReach
+pub mod Prefixes

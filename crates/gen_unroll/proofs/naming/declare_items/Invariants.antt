@@ -1,0 +1,11 @@
+use Rattle.std.proofs.Common.{◌≡◌, map, drop}
+use Rattle.verilog_ast.specs.Views.{generate_item_of, items_of}
+use Rattle.gen_unroll.specs.Declarations.{item_names}
+use Rattle.width_rules.specs.Entries.{scope_of, around}
+use Rattle.gen_unroll.proofs.naming.declare_items.Given as goal
+
+abbrev pub invariant-loop-item : goal.invariant-loop-item
+invariant-loop-item l = record {
+  names : item_names (items_of (map generate_item_of (drop l.item-index l.items))) (scope_of l.scope) ≡ item_names (items_of (map generate_item_of l.items)) (scope_of l.initial.scope);
+  kept : around l.scope ≡ around l.initial.scope;
+}

@@ -1,0 +1,15 @@
+use Rattle.std.proofs.Common.{◌≡◌, map, drop}
+use Rattle.verilog_ast.specs.Views.{parameter_of}
+use Rattle.width_rules.specs.Entries.{around}
+use Rattle.gen_unroll.specs.Unrolled.{each, parameter}
+use Rattle.gen_unroll.specs.Views.{steps_of, state_of, parameter_type_of}
+use Rattle.gen_unroll.proofs.Lefts.{Left}
+use Rattle.gen_unroll.proofs.unrolling.parameters.Given as goal
+
+abbrev pub invariant-loop-one : goal.invariant-loop-one
+invariant-loop-one l = record {
+  left : Left (steps_of l.initial.w) (steps_of l.w)
+      (each (parameter l.sort (parameter_type_of l.kind)) (map parameter_of l.all) (state_of l.initial.w))
+      (each (parameter l.sort (parameter_type_of l.kind)) (map parameter_of (drop l.one-index l.all)) (state_of l.w));
+  kept : around l.w.scope ≡ around l.initial.w.scope;
+}

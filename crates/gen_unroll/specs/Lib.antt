@@ -1,0 +1,9 @@
+pub mod Values
+pub mod Declarations
+pub mod Steps
+pub mod Told
+pub mod Unrolled
+pub mod Reaches
+pub mod Spoken
+pub mod Views
+pub mod ReachViews

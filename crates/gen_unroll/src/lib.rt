@@ -1,0 +1,41 @@
+// A module with its loops and branches unrolled in place.
+//
+// `unrolling` walks the tree of a module and answers `unrolled`: `step`s in the order of the text, which refer to the tree, and the
+// table of the `block`s that were opened, up to the first fault. It goes by the names in reach: `naming` declares those of a block
+// where it is opened, `parameters` gives parameters their values (by `ranges` and `constants`), `looping` counts the turns of a loop
+// before its first block. `speaking` says what a name within a block is called. `reaching` follows the steps with the names in reach, for
+// whoever checks them.
+#![tactic(auto)]
+
+mod bit_range;
+mod block;
+mod block_id;
+mod constants;
+mod looping;
+mod naming;
+mod parameter_sort;
+mod parameter_type;
+mod parameters;
+mod ranges;
+mod reach;
+mod reaching;
+mod speaking;
+mod step;
+mod telling;
+mod turn;
+mod unrolled;
+mod unrolling;
+mod walk;
+
+pub use bit_range::BitRange;
+pub use block::Block;
+pub use block_id::BlockId;
+pub use constants::evaluated;
+pub use parameter_sort::ParameterSort;
+pub use ranges::range_value;
+pub use reach::Reach;
+pub use speaking::full_name;
+pub use step::Step;
+pub use turn::Turn;
+pub use unrolled::Unrolled;
+pub use unrolling::{TURN_LIMIT, unroll, unroll_within};
