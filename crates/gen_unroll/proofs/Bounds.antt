@@ -9,6 +9,7 @@ use Rattle.verilog_ast.specs.declared.range.Range.{Range}
 use Rattle.verilog_ast.specs.declared.shape.Shape.{Shape}
 use Rattle.verilog_ast.specs.Views.{range_of, kind_of}
 use Rattle.verilog_ast.specs.Declarations.{RangeBounds}
+use Rattle.width_rules.specs.declared.due.Due.TheVariants.{ConstantOnly}
 use Rattle.width_rules.specs.Constants.{integer}
 use Rattle.width_rules.specs.Faults.{IsFirst, faults, fault_if, fault_of}
 use Rattle.width_rules.specs.Scopes.{Scope}
@@ -47,41 +48,41 @@ not_so b is = ap not is
 not_but : (b : Bool) → b ≡ true → not b ≡ false
 not_but b is = ap not is
 
-pub first_high : (scope : Scope) (r : RangeBounds) (x : Refusal) → IsFirst (faults scope true r.high) x → IsFirst (range_faults scope r) x
+pub first_high : (scope : Scope) (r : RangeBounds) (x : Refusal) → IsFirst (faults scope ConstantOnly r.high) x → IsFirst (range_faults scope r) x
 unfolding range_faults
-first_high scope r x h = earlier (faults scope true r.high) _ x h
+first_high scope r x h = earlier (faults scope ConstantOnly r.high) _ x h
 
-pub first_low : (scope : Scope) (r : RangeBounds) (x : Refusal) → faults scope true r.high ≡ [] → IsFirst (faults scope true r.low) x → IsFirst (range_faults scope r) x
+pub first_low : (scope : Scope) (r : RangeBounds) (x : Refusal) → faults scope ConstantOnly r.high ≡ [] → IsFirst (faults scope ConstantOnly r.low) x → IsFirst (range_faults scope r) x
 unfolding range_faults
-first_low scope r x a h = later (faults scope true r.high) _ x a (earlier (faults scope true r.low) _ x h)
+first_low scope r x a h = later (faults scope ConstantOnly r.high) _ x a (earlier (faults scope ConstantOnly r.low) _ x h)
 
-pub first_order : (scope : Scope) (r : RangeBounds) (high low : ℤ) (x : Refusal) → faults scope true r.high ≡ [] → faults scope true r.low ≡ []
+pub first_order : (scope : Scope) (r : RangeBounds) (high low : ℤ) (x : Refusal) → faults scope ConstantOnly r.high ≡ [] → faults scope ConstantOnly r.low ≡ []
     → high ≡ integer scope r.high → low ≡ integer scope r.low → is_range high low ≡ false → IsFirst (fault_of 26 r.high ∷ []) x → IsFirst (range_faults scope r) x
 unfolding range_faults
 first_order scope r high low x a b is_high is_low none h =
-    later (faults scope true r.high) _ x a (later (faults scope true r.low) _ x b
+    later (faults scope ConstantOnly r.high) _ x a (later (faults scope ConstantOnly r.low) _ x b
     (earlier (fault_if (not (is_range (integer scope r.high) (integer scope r.low))) (fault_of 26 r.high)) _ x
     (if_so (not (is_range (integer scope r.high) (integer scope r.low))) (fault_of 26 r.high) x
     (not_so (is_range (integer scope r.high) (integer scope r.low)) (sym (ap₂ is_range is_high is_low) ∙ none)) h)))
 
-pub first_wide : (scope : Scope) (r : RangeBounds) (high low : ℤ) (x : Refusal) → faults scope true r.high ≡ [] → faults scope true r.low ≡ []
+pub first_wide : (scope : Scope) (r : RangeBounds) (high low : ℤ) (x : Refusal) → faults scope ConstantOnly r.high ≡ [] → faults scope ConstantOnly r.low ≡ []
     → high ≡ integer scope r.high → low ≡ integer scope r.low → is_range high low ≡ true → nat_lt 128 (bits_between high low) ≡ true
     → IsFirst (fault_of 31 r.high ∷ []) x → IsFirst (range_faults scope r) x
 unfolding range_faults
 first_wide scope r high low x a b is_high is_low so wide h =
-    later (faults scope true r.high) _ x a (later (faults scope true r.low) _ x b
+    later (faults scope ConstantOnly r.high) _ x a (later (faults scope ConstantOnly r.low) _ x b
     (later (fault_if (not (is_range (integer scope r.high) (integer scope r.low))) (fault_of 26 r.high)) _ x
     (none_if (not (is_range (integer scope r.high) (integer scope r.low))) (fault_of 26 r.high)
     (not_but (is_range (integer scope r.high) (integer scope r.low)) (sym (ap₂ is_range is_high is_low) ∙ so)))
     (if_so (nat_lt 128 (bits_between (integer scope r.high) (integer scope r.low))) (fault_of 31 r.high) x
     (ap (nat_lt 128) (sym (ap₂ bits_between is_high is_low)) ∙ wide) h)))
 
-pub first_none : (scope : Scope) (r : RangeBounds) (high low : ℤ) → faults scope true r.high ≡ [] → faults scope true r.low ≡ []
+pub first_none : (scope : Scope) (r : RangeBounds) (high low : ℤ) → faults scope ConstantOnly r.high ≡ [] → faults scope ConstantOnly r.low ≡ []
     → high ≡ integer scope r.high → low ≡ integer scope r.low → is_range high low ≡ true → nat_lt 128 (bits_between high low) ≡ false
     → range_faults scope r ≡ []
 unfolding range_faults
 first_none scope r high low a b is_high is_low so narrow =
-    neither (faults scope true r.high) _ a (neither (faults scope true r.low) _ b
+    neither (faults scope ConstantOnly r.high) _ a (neither (faults scope ConstantOnly r.low) _ b
     (neither (fault_if (not (is_range (integer scope r.high) (integer scope r.low))) (fault_of 26 r.high)) _
     (none_if (not (is_range (integer scope r.high) (integer scope r.low))) (fault_of 26 r.high)
     (not_but (is_range (integer scope r.high) (integer scope r.low)) (sym (ap₂ is_range is_high is_low) ∙ so)))
@@ -96,14 +97,14 @@ refused_range scope r x h =
     is_first (range_faults scope r) (record { width = bits_between (integer scope r.high) (integer scope r.low); low = lower_bound (integer scope r.low) }) bit_range_of x h
 
 -- what the first fault of a bound gives
-pub high_refused : {A : Type 0} (scope : Scope) (r : RangeBounds) (view : A → BitRange) (x : Refusal) → IsFirst (faults scope true r.high) x
+pub high_refused : {A : Type 0} (scope : Scope) (r : RangeBounds) (view : A → BitRange) (x : Refusal) → IsFirst (faults scope ConstantOnly r.high) x
     → Answers {A = A} (Err x) view (range_value scope r)
 unfolding range_value
 high_refused scope r view x h =
     is_first (range_faults scope r) (record { width = bits_between (integer scope r.high) (integer scope r.low); low = lower_bound (integer scope r.low) }) view x
     (first_high scope r x h)
 
-pub low_refused : {A : Type 0} (scope : Scope) (r : RangeBounds) (view : A → BitRange) (x : Refusal) → faults scope true r.high ≡ [] → IsFirst (faults scope true r.low) x
+pub low_refused : {A : Type 0} (scope : Scope) (r : RangeBounds) (view : A → BitRange) (x : Refusal) → faults scope ConstantOnly r.high ≡ [] → IsFirst (faults scope ConstantOnly r.low) x
     → Answers {A = A} (Err x) view (range_value scope r)
 unfolding range_value
 low_refused scope r view x none h =

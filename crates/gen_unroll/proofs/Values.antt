@@ -6,6 +6,7 @@ use Rattle.ls_text.specs.declared.refusal.Refusal.{Refusal}
 use Rattle.ls_text.specs.declared.refusal.Refusal.TheVariants as refusal
 use Rattle.typed_ir.specs.declared.constant.Const.{Const}
 use Rattle.verilog_ast.specs.Expressions.{Expression}
+use Rattle.width_rules.specs.declared.due.Due.TheVariants.{ConstantOnly}
 use Rattle.width_rules.specs.Constants.{constant, integer}
 use Rattle.width_rules.specs.Faults.{IsFirst, faults, first}
 use Rattle.width_rules.specs.Scopes.{Scope}
@@ -36,11 +37,11 @@ same_value v w a b c =
     ∙ ap (λ n. record { width = w.width; value = n; signed = v.signed }) b
     ∙ ap (λ s. record { width = w.width; value = w.value; signed = s }) c
 
-pub is_value : (scope : Scope) (e : Expression) (x : Const) → faults scope true e ≡ [] → x.bits.width ≡ length scope e → x.signed ≡ is_signed scope e
+pub is_value : (scope : Scope) (e : Expression) (x : Const) → faults scope ConstantOnly e ≡ [] → x.bits.width ≡ length scope e → x.signed ≡ is_signed scope e
     → x.bits.value ≡ constant scope e → evaluated scope e ≡ Ok (constant_of x)
 unfolding evaluated
 is_value scope e x none width signed value =
-    no_fault (faults scope true e) (record { width = length scope e; value = constant scope e; signed = is_signed scope e }) none
+    no_fault (faults scope ConstantOnly e) (record { width = length scope e; value = constant scope e; signed = is_signed scope e }) none
     ∙ ap Ok (same_value (record { width = length scope e; value = constant scope e; signed = is_signed scope e }) (constant_of x) (sym width) (sym value) (sym signed))
 
 pub is_integer : (scope : Scope) (e : Expression) (signed : Bool) (width value : ℕ) (n : ℤ) → n ≡ read_as signed width value

@@ -7,6 +7,7 @@ use Rattle.verilog_ast.specs.declared.identifier.Identifier.{Identifier}
 use Rattle.verilog_ast.specs.Declarations.{RangeBounds, Kind, Declared, DeclaredReg, PortDeclaration, InputPort, OutputPort, NextPort, PortList, NoPorts, NamedPorts, DeclaredPorts}
 use Rattle.verilog_ast.specs.Items as i
 use Rattle.verilog_ast.specs.Items.{ModuleItem, ModuleInstance}
+use Rattle.width_rules.specs.declared.due.Due.TheVariants.{ConstantOnly}
 use Rattle.width_rules.specs.declared.writer.Writer.TheVariants as writer
 use Rattle.width_rules.specs.Constants.{integer}
 use Rattle.width_rules.specs.Faults.{faults, fault_if, fault_of}
@@ -32,7 +33,7 @@ is_range high low = is_bound high && (is_bound low && not (bits_between high low
 -- the faults of both bounds, a bound that is none or a high one below the low one (26), and more than 128 bits (31)
 unfoldable pub range_faults : Scope → RangeBounds → List Fault
 range_faults scope r =
-    faults scope true r.high ++ (faults scope true r.low
+    faults scope ConstantOnly r.high ++ (faults scope ConstantOnly r.low
     ++ (fault_if (not (is_range (integer scope r.high) (integer scope r.low))) (fault_of 26 r.high)
     ++ fault_if (nat_lt 128 (bits_between (integer scope r.high) (integer scope r.low))) (fault_of 31 r.high)))
 

@@ -5,6 +5,7 @@ use Rattle.ls_text.specs.declared.refusal.Refusal.{Refusal}
 use Rattle.ls_text.specs.declared.refusal.Refusal.TheVariants as refusal
 use Rattle.typed_ir.specs.declared.constant.Const.{Const}
 use Rattle.verilog_ast.specs.Expressions.{Expression}
+use Rattle.width_rules.specs.declared.due.Due.TheVariants.{ConstantOnly}
 use Rattle.width_rules.specs.Constants.{constant}
 use Rattle.width_rules.specs.Faults.{faults}
 use Rattle.width_rules.specs.Scopes.{Scope}
@@ -34,7 +35,7 @@ unless (f ∷ fs) x = Err f
 -- a constant expression at its own length and sign (4.10, 5.1)
 unfoldable pub evaluated : Scope → Expression → Result ConstantValue Fault
 evaluated scope e =
-    unless (faults scope true e) (record { width = length scope e; value = constant scope e; signed = is_signed scope e })
+    unless (faults scope ConstantOnly e) (record { width = length scope e; value = constant scope e; signed = is_signed scope e })
 
 -- the answer is that of the definition, or memory ran out
 abbrev pub Answers : {A B : Type 0} → Result A Refusal → (A → B) → Result B Fault → Type 0

@@ -1,6 +1,7 @@
 // Ranges to how many bits they have.
 ghost use Rattle.std.specs.Prelude.{◌≡◌, true, false, [], nat_lt, IfOk, IfErr, IfSome, MatchOption};
 ghost use Rattle.verilog_ast.specs.Views.{expression_of, range_of};
+ghost use Rattle.width_rules.specs.declared.due.Due.TheVariants.{ConstantOnly};
 ghost use Rattle.width_rules.specs.Constants.{integer};
 ghost use Rattle.width_rules.specs.Entries.{scope_of};
 ghost use Rattle.width_rules.specs.Faults.{IsFirst, faults};
@@ -19,9 +20,9 @@ use width_rules::{Scope, Whole, constant, refused_of, whole_number};
 // The number that a bound is.
 #[tactic(auto, using(crate::proofs::Values::is_integer))]
 fn bound(alloc: Global, scope: &Scope, e: &Expr) -> Result<Whole, Refusal>
-    ensures faultless { IfOk result (λ _. faults (scope_of scope.now) true (expression_of e.now) ≡ []) }
+    ensures faultless { IfOk result (λ _. faults (scope_of scope.now) ConstantOnly (expression_of e.now) ≡ []) }
     ensures value { IfOk result (λ x. whole_of x ≡ integer (scope_of scope.now) (expression_of e.now)) }
-    ensures fault { IfErr result (IsFirst (faults (scope_of scope.now) true (expression_of e.now))) }
+    ensures fault { IfErr result (IsFirst (faults (scope_of scope.now) ConstantOnly (expression_of e.now))) }
 {
     let value = constant(alloc, scope, e)?;
     Ok(whole_number(value.bits, value.signed))

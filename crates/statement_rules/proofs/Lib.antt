@@ -6,3 +6,5 @@ pub mod Placing
 pub mod Gathering
 pub mod Building
 pub mod Clocked
+pub mod RenamedTargets
+pub mod RenamedStatements

@@ -2,7 +2,7 @@
 //
 // `targeting` walks a target and lays its parts; `assigning` has continuous assignments. `statements` walks a statement once for its
 // expressions, with labels of cases in `labelling`, which `closing` closes when all are known; `checking` walks it for its targets
-// (`target_kinds`) and defaults, and `blocks` does both in turn.
+// (`target_kinds`) and defaults, and `blocks` does both in turn; `laws` says that other names change nothing.
 #![tactic(auto, using(width_rules::proofs::Firsts::earlier, width_rules::proofs::Firsts::later, width_rules::proofs::Firsts::neither))]
 
 mod assigning;
@@ -11,6 +11,7 @@ mod checking;
 mod closing;
 mod drive;
 mod labelling;
+mod laws;
 mod open_arm;
 mod open_case;
 mod open_label;
@@ -23,6 +24,7 @@ mod targeting;
 pub use assigning::size_assign;
 pub use blocks::size_stmt;
 pub use drive::Drive;
+pub use laws::names_may_change;
 pub use sized_target::SizedTarget;
 pub use target_kinds::check_target;
 pub use targeting::size_target;

@@ -7,4 +7,6 @@ pub mod Nodes
 pub mod Gathered
 pub mod Stepping
 pub mod Repeating
-pub mod Renaming
+pub mod RenamedSizes
+pub mod RenamedFaults
+pub mod RenamedReferences

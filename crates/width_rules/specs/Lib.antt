@@ -12,4 +12,4 @@ pub mod Wholes
 pub mod Directions
 pub mod References
 pub mod Runs
-pub mod Renamed
+pub mod Renaming

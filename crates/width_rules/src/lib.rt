@@ -36,7 +36,7 @@ mod writer;
 pub use due::Due;
 pub use entry::Entry;
 pub use faults::{refused, refused_at, refused_of};
-pub use laws::names_have_any_number;
+pub use laws::names_may_change;
 pub use measured::Measured;
 pub use measuring::{measure, own};
 pub use opened::close;

@@ -1,5 +1,6 @@
 use Rattle.std.proofs.Common.{◌≡◌, nat_lt, true, false, [], ◌∷◌, rules}
 use Rattle.verilog_ast.specs.Views.{range_of}
+use Rattle.width_rules.specs.declared.due.Due.TheVariants.{ConstantOnly}
 use Rattle.width_rules.specs.Constants.{integer}
 use Rattle.width_rules.specs.Entries.{scope_of}
 use Rattle.width_rules.specs.Faults.{IsFirst, faults, fault_of}
@@ -17,8 +18,8 @@ returns-in-Some c =
     let r = range_of c.args.range.now in
     let high : whole_of c.in_ok-high.high ≡ integer s r.high = search rules in
     let low : whole_of c.in_ok-low.low ≡ integer s r.low = search rules in
-    let high_none : faults s true r.high ≡ [] = search rules in
-    let low_none : faults s true r.low ≡ [] = search rules in
+    let high_none : faults s ConstantOnly r.high ≡ [] = search rules in
+    let low_none : faults s ConstantOnly r.low ≡ [] = search rules in
     let ordered : is_range (whole_of c.in_ok-high.high) (whole_of c.in_ok-low.low) ≡ true = search rules in
     let narrow : nat_lt 128 (bits_between (whole_of c.in_ok-high.high) (whole_of c.in_ok-low.low)) ≡ false = search rules in
     is_range_value s r (whole_of c.in_ok-high.high) (whole_of c.in_ok-low.low) c.in-Some.range
@@ -31,8 +32,8 @@ returns-then-not-is_range c =
     let r = range_of c.args.range.now in
     let high : whole_of c.in_ok-high.high ≡ integer s r.high = search rules in
     let low : whole_of c.in_ok-low.low ≡ integer s r.low = search rules in
-    let high_none : faults s true r.high ≡ [] = search rules in
-    let low_none : faults s true r.low ≡ [] = search rules in
+    let high_none : faults s ConstantOnly r.high ≡ [] = search rules in
+    let low_none : faults s ConstantOnly r.low ≡ [] = search rules in
     let unordered : is_range (whole_of c.in_ok-high.high) (whole_of c.in_ok-low.low) ≡ false = search rules in
     let first : IsFirst (fault_of 26 r.high ∷ []) c.refused_of.result = search rules in
     refused_range s r c.refused_of.result
@@ -44,8 +45,8 @@ returns-in-None c =
     let r = range_of c.args.range.now in
     let high : whole_of c.in_ok-high.high ≡ integer s r.high = search rules in
     let low : whole_of c.in_ok-low.low ≡ integer s r.low = search rules in
-    let high_none : faults s true r.high ≡ [] = search rules in
-    let low_none : faults s true r.low ≡ [] = search rules in
+    let high_none : faults s ConstantOnly r.high ≡ [] = search rules in
+    let low_none : faults s ConstantOnly r.low ≡ [] = search rules in
     let ordered : is_range (whole_of c.in_ok-high.high) (whole_of c.in_ok-low.low) ≡ true = search rules in
     let first : IsFirst (fault_of 31 r.high ∷ []) c.refused_of-in-None.result = search rules in
     refused_range s r c.refused_of-in-None.result
@@ -55,7 +56,7 @@ pub returns-in_err-high : goal.returns-in_err-high
 returns-in_err-high c =
     let s = scope_of c.args.scope.now in
     let r = range_of c.args.range.now in
-    let first : IsFirst (faults s true r.high) c.in_err-high.field-0.0 = search rules in
+    let first : IsFirst (faults s ConstantOnly r.high) c.in_err-high.field-0.0 = search rules in
     handed_on c.from_residual.result c.in_err-high.field-0.0 bit_range_of (range_value s r) c.from_residual.ensures.1
     (high_refused s r bit_range_of c.in_err-high.field-0.0 first)
 
@@ -63,7 +64,7 @@ pub returns-in_err-low : goal.returns-in_err-low
 returns-in_err-low c =
     let s = scope_of c.args.scope.now in
     let r = range_of c.args.range.now in
-    let high_none : faults s true r.high ≡ [] = search rules in
-    let first : IsFirst (faults s true r.low) c.in_err-low.field-0.0 = search rules in
+    let high_none : faults s ConstantOnly r.high ≡ [] = search rules in
+    let first : IsFirst (faults s ConstantOnly r.low) c.in_err-low.field-0.0 = search rules in
     handed_on c.from_residual-in_err-low.result c.in_err-low.field-0.0 bit_range_of (range_value s r) c.from_residual-in_err-low.ensures.1
     (low_refused s r bit_range_of c.in_err-low.field-0.0 high_none first)
