@@ -6,3 +6,4 @@ pub mod Placing
 pub mod Gathering
 pub mod Building
 pub mod Clocked
+pub mod Renaming

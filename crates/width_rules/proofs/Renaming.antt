@@ -224,8 +224,11 @@ mutual
 same_operand : (f : NameId → NameId) (scope other : Scope) → StandsFor f scope other → (x : Expression) → Same (operand scope x) (operand other (expression_as f x))
 same_operand f scope other h x = record { own_is = same_length f scope other h x; sign_is = same_sign f scope other h x; at_is = same_push f scope other h x }
 
-same_integer : (f : NameId → NameId) (scope other : Scope) → StandsFor f scope other → (x : Expression) → integer other (expression_as f x) ≡ integer scope x
+pub same_integer : (f : NameId → NameId) (scope other : Scope) → StandsFor f scope other → (x : Expression) → integer other (expression_as f x) ≡ integer scope x
 same_integer f scope other h x = integer_same scope other x (expression_as f x) (same_operand f scope other h x)
+
+pub same_own : (f : NameId → NameId) (scope other : Scope) → StandsFor f scope other → (x : Expression) → own other (expression_as f x) ≡ own scope x
+same_own f scope other h x = own_same scope other x (expression_as f x) (same_operand f scope other h x)
 
 -- ---- faults
 
@@ -234,10 +237,10 @@ map_append g [] ys = refl
 map_append g (x ∷ xs) ys = ap (λ (zs : List Fault). g x ∷ zs) (map_append g xs ys)
 
 -- two lists one behind the other
-appended : (g : Fault → Fault) (xs ys xs' ys' : List Fault) → xs' ≡ map g xs → ys' ≡ map g ys → xs' ++ ys' ≡ map g (xs ++ ys)
+pub appended : (g : Fault → Fault) (xs ys xs' ys' : List Fault) → xs' ≡ map g xs → ys' ≡ map g ys → xs' ++ ys' ≡ map g (xs ++ ys)
 appended g xs ys xs' ys' h k = ap₂ (λ (a b : List Fault). a ++ b) h k ∙ sym (map_append g xs ys)
 
-if_same : (g : Fault → Fault) (b b' : Bool) (x x' : Fault) → b' ≡ b → x' ≡ g x → fault_if b' x' ≡ map g (fault_if b x)
+pub if_same : (g : Fault → Fault) (b b' : Bool) (x x' : Fault) → b' ≡ b → x' ≡ g x → fault_if b' x' ≡ map g (fault_if b x)
 if_same g b b' x x' b_is x_is = ap₂ fault_if b_is x_is ∙ chosen b
   where
     chosen : (b : Bool) → fault_if b (g x) ≡ map g (fault_if b x)
@@ -291,7 +294,7 @@ name_faults_same f m m' due n is = ap (λ (z : Meaning). name_faults z due (rena
     by_meaning Genvar due = refl
     by_meaning Unknown due = refl
 
-run_faults_same : (f : NameId → NameId) (m m' : Meaning) (b b' : Bool) (at at' : ℤ) (w w' d d' : ℕ) (n : Identifier) → m' ≡ m → b' ≡ b → at' ≡ at → w' ≡ w → d' ≡ d
+pub run_faults_same : (f : NameId → NameId) (m m' : Meaning) (b b' : Bool) (at at' : ℤ) (w w' d d' : ℕ) (n : Identifier) → m' ≡ m → b' ≡ b → at' ≡ at → w' ≡ w → d' ≡ d
     → run_faults m' b' at' w' d' (renamed_identifier f n) ≡ map (fault_as f) (run_faults m b at w d n)
 run_faults_same f m m' b b' at at' w w' d d' n m_is b_is at_is w_is d_is =
     ap₂ (λ (z : Meaning) (c : Bool). run_faults z c at' w' d' (renamed_identifier f n)) m_is b_is
@@ -316,7 +319,7 @@ range_faults_same f (Turn width value signed) low w n = refl
 range_faults_same f Genvar low w n = refl
 range_faults_same f Unknown low w n = refl
 
-part_faults_same : (f : NameId → NameId) (m m' : Meaning) (low low' : ℤ) (w w' : ℕ) (n : Identifier) → m' ≡ m → low' ≡ low → w' ≡ w
+pub part_faults_same : (f : NameId → NameId) (m m' : Meaning) (low low' : ℤ) (w w' : ℕ) (n : Identifier) → m' ≡ m → low' ≡ low → w' ≡ w
     → part_faults m' low' w' (renamed_identifier f n) ≡ map (fault_as f) (part_faults m low w n)
 part_faults_same f m m' low low' w w' n m_is low_is w_is =
     ap₂ (λ (z : Meaning) (v : ℤ). part_faults z v w' (renamed_identifier f n)) m_is low_is
@@ -329,7 +332,7 @@ part_faults_same f m m' low low' w w' n m_is low_is w_is =
     (if_same (fault_as f) (w == 0) (w == 0) (fault_at 32 n) (fault_at 32 (renamed_identifier f n)) refl refl)
     (range_faults_same f m low w n))
 
-width_faults_same : (f : NameId → NameId) (n : Identifier) (y : Expression) (w w' : ℕ) → w' ≡ w
+pub width_faults_same : (f : NameId → NameId) (n : Identifier) (y : Expression) (w w' : ℕ) → w' ≡ w
     → width_faults (renamed_identifier f n) (expression_as f y) w' ≡ map (fault_as f) (width_faults n y w)
 width_faults_same f n y w w' is =
     ap (λ (v : ℕ). width_faults (renamed_identifier f n) (expression_as f y) v) is
@@ -338,7 +341,7 @@ width_faults_same f n y w w' is =
     (if_same (fault_as f) (w == 0) (w == 0) (fault_of 26 y) (fault_of 26 (expression_as f y)) refl (fault_of_same f 26 y))
     (if_same (fault_as f) (nat_lt 128 w) (nat_lt 128 w) (fault_at 31 n) (fault_at 31 (renamed_identifier f n)) refl refl)
 
-total_faults_same : (f : NameId → NameId) (at : Place) (w w' : ℕ) → w' ≡ w → total_faults at w' ≡ map (fault_as f) (total_faults at w)
+pub total_faults_same : (f : NameId → NameId) (at : Place) (w w' : ℕ) → w' ≡ w → total_faults at w' ≡ map (fault_as f) (total_faults at w)
 total_faults_same f at w w' is =
     ap (total_faults at) is
     ∙ appended (fault_as f) (fault_if (w == 0) (fault 26 at [])) (fault_if (nat_lt 128 w) (fault 31 at []))
