@@ -9,7 +9,7 @@ use Rattle.typed_ir.specs.declared.stmt.Stmt.TheOpen.{Stmt-F}
 use Rattle.typed_ir.specs.declared.stmt.Stmt.TheVariants as node
 use Rattle.typed_ir.specs.Forms.{sized}
 use Rattle.typed_ir.specs.Sized.{Sized}
-use Rattle.typed_ir.specs.Statements.{stmt_step, arm_step, stmt_of, arm_of, sequence_of, arms_before}
+use Rattle.typed_ir.specs.Statements.{stmt_step, arm_step, stmt_of, sequence_of}
 use Rattle.typed_ir.specs.Stmts as s
 use Rattle.typed_ir.specs.Stmts.{SizedTarget, SizedStmt, SizedArms}
 use Rattle.typed_ir.specs.Targets.{targets_of}

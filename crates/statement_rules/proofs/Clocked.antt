@@ -1,7 +1,6 @@
 -- The statement of a clocked block has no blocking assignment.
 use Rattle.std.proofs.Common.{◌≡◌, ℕ, Bool, true, ◌&&◌, max, refl, ◌∙◌, ap}
 use Rattle.std.proofs.lemmas.Bool.{and_from}
-use Rattle.typed_ir.specs.Stmts as s
 use Rattle.typed_ir.specs.Stmts.{SizedStmt, SizedArms, is_clocked, are_clocked_arms}
 use Rattle.verilog_ast.specs.Statements.{Statement, Block, If, IfElse, Case, Assignment, Null, Default, Match, NoStatement, Statements}
 use Rattle.width_rules.specs.declared.writer.Writer.{Writer}

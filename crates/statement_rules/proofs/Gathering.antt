@@ -6,7 +6,7 @@ use Rattle.typed_ir.specs.declared.arm.Arm.{Arm as SizedArm}
 use Rattle.typed_ir.specs.Sized.{Sized}
 use Rattle.typed_ir.specs.Stmts as s
 use Rattle.typed_ir.specs.Stmts.{SizedItem, SizedStmt, SizedArms}
-use Rattle.typed_ir.specs.Statements.{stmt_of, arm_of, item_of, arms_before, sequence_of}
+use Rattle.typed_ir.specs.Statements.{arm_of, arms_before, sequence_of}
 use Rattle.typed_ir.proofs.Listed.{arm_is}
 use Rattle.verilog_ast.specs.declared.label.Label.{Label}
 use Rattle.verilog_ast.specs.declared.statement.Arm.{Arm}
@@ -19,7 +19,7 @@ use Rattle.width_rules.specs.Signs.{is_signed}
 use Rattle.width_rules.specs.Sizes.{length as bits}
 use Rattle.width_rules.specs.Opened.{Opened, closed, open_of}
 use Rattle.statement_rules.specs.Statements.{label_at, label_length, label_signed, labels_length, labels_signed, items_length, items_signed, item_before, default_or, sized_statement, sized_arms, sized_default}
-use Rattle.statement_rules.specs.Cases.{OpenedArm, ClosedArm, sized_arm, open_label, closed_label, closed_arm, arms_from, open_item, open_items, earlier_or, with_default, otherwise_or, OpenedLabel, sized_case}
+use Rattle.statement_rules.specs.Cases.{OpenedArm, sized_arm, open_label, closed_label, closed_arm, arms_from, open_item, open_items, earlier_or, with_default, otherwise_or, sized_case}
 use Rattle.width_rules.proofs.Opening.{opens}
 use Rattle.statement_rules.proofs.Walks.{head_is}
 

@@ -1,5 +1,5 @@
 -- One more target, statement, item, label or assignment of a list, for the walks over them.
-use Rattle.std.proofs.Common.{◌≡◌, ◌<◌, ℕ, ◌+◌, Bool, List, [], ◌∷◌, ◌++◌, map, drop, length, get_or, refl, sym, ◌∙◌, ap, subst, append_assoc}
+use Rattle.std.proofs.Common.{◌≡◌, ◌<◌, ℕ, ◌+◌, Bool, List, [], ◌++◌, map, drop, length, get_or, refl, sym, subst, append_assoc}
 use Rattle.ls_text.specs.declared.fault.Fault.{Fault}
 use Rattle.ls_text.specs.declared.refusal.Refusal.{Refusal}
 use Rattle.verilog_ast.specs.declared.continuous.Continuous.{Continuous}

@@ -1,18 +1,17 @@
 -- Statements and continuous assignments under other names: the same sized form, and the same faults with their other names.
-use Rattle.std.proofs.Common.{◌≡◌, ℕ, max, Bool, true, false, ◌&&◌, List, [], ◌∷◌, ◌++◌, map, refl, sym, ◌∙◌, ap, ap₂}
-use Rattle.ls_text.specs.declared.fault.Fault.{Fault}
+use Rattle.std.proofs.Common.{◌≡◌, ℕ, max, Bool, false, ◌&&◌, List, [], ◌∷◌, map, refl, ◌∙◌, ap, ap₂}
 use Rattle.ls_text.specs.declared.name_id.NameId.{NameId}
 use Rattle.typed_ir.specs.Sized.{Sized}
 use Rattle.typed_ir.specs.Stmts as s
 use Rattle.typed_ir.specs.Stmts.{SizedTarget, SizedItem, SizedStmt, SizedArms}
-use Rattle.verilog_ast.specs.Expressions.{Expression, Target}
+use Rattle.verilog_ast.specs.Expressions.{Expression}
 use Rattle.verilog_ast.specs.Items.{ContinuousAssignment}
 use Rattle.verilog_ast.specs.Renaming.{expression_as, target_as, label_as, statement_as, assignment_as}
 use Rattle.verilog_ast.specs.Statements.{CaseLabel, DontCare, Compared, Statement, Block, If, IfElse, Case, Assignment, Null, Default, Match, NoStatement, Statements}
 use Rattle.width_rules.specs.declared.due.Due.TheVariants.{AnyValue, ConstantOnly}
 use Rattle.width_rules.specs.declared.writer.Writer.{Writer}
 use Rattle.width_rules.specs.declared.writer.Writer.TheVariants as writer
-use Rattle.statement_rules.specs.Drives.{SizedDrive, sized_drive, drive_faults, all_drive_faults, all_kind_faults, assign_faults}
+use Rattle.statement_rules.specs.Drives.{sized_drive, all_drive_faults, all_kind_faults, assign_faults}
 use Rattle.width_rules.specs.Faults.{fault}
 use Rattle.width_rules.specs.Opened.{own}
 use Rattle.width_rules.specs.Renaming.{MeansSame, fault_as}

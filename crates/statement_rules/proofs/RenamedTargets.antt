@@ -1,5 +1,5 @@
 -- Targets under other names: the same parts, and the same faults with their other names.
-use Rattle.std.proofs.Common.{◌≡◌, ℕ, ◌+◌, Bool, not, List, [], ◌∷◌, ◌++◌, map, refl, ◌∙◌, ap, ap₂}
+use Rattle.std.proofs.Common.{◌≡◌, ℕ, ◌+◌, not, List, [], ◌∷◌, ◌++◌, map, refl, ◌∙◌, ap, ap₂}
 use Rattle.ls_text.specs.declared.name_id.NameId.{NameId}
 use Rattle.typed_ir.specs.Stmts.{SizedTarget}
 use Rattle.verilog_ast.specs.declared.identifier.Identifier.{Identifier}

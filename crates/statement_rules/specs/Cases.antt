@@ -1,5 +1,5 @@
 -- The items of a case before its length and its sign are known: what the walk of the code keeps until it has seen all labels.
-use Rattle.std.specs.Prelude.{ℕ, ◌%◌, ◌^◌, max, Bool, true, false, ◌&&◌, List, [], ◌∷◌, ◌++◌, Option, Some, None, Box, map}
+use Rattle.std.specs.Prelude.{ℕ, ◌%◌, ◌^◌, max, Bool, false, ◌&&◌, List, [], ◌∷◌, ◌++◌, Option, Some, None, Box, map}
 use Rattle.std.specs.Global.{Global}
 use Rattle.std.specs.Option.{option_map}
 use Rattle.typed_ir.specs.declared.arm.Arm.{Arm as SizedArm}
@@ -17,7 +17,7 @@ use Rattle.width_rules.specs.Scopes.{Scope}
 use Rattle.width_rules.specs.Signs.{is_signed}
 use Rattle.width_rules.specs.Sizes.{length as bits, push, literal_length, constant_at}
 use Rattle.width_rules.specs.Opened.{Opened, opened, closed, open_of}
-use Rattle.statement_rules.specs.Statements.{labels_length, labels_signed, items_length, items_signed, sized_statement, sized_arms, sized_default}
+use Rattle.statement_rules.specs.Statements.{items_length, items_signed, sized_statement, sized_arms, sized_default}
 
 -- ---- labels
 

@@ -1,5 +1,5 @@
 -- Continuous assignments, sized, and what may be wrong with one and with an item of them (IEEE Std 1364-2005, 6.1).
-use Rattle.std.specs.Prelude.{ℕ, Bool, true, false, List, [], ◌∷◌, ◌++◌, map}
+use Rattle.std.specs.Prelude.{Bool, true, false, List, [], ◌∷◌, ◌++◌, map}
 use Rattle.ls_text.specs.declared.fault.Fault.{Fault}
 use Rattle.typed_ir.specs.Sized.{Sized}
 use Rattle.typed_ir.specs.Stmts.{SizedTarget, Fixed, Moving}

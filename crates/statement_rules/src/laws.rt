@@ -11,7 +11,7 @@ ghost use Rattle.width_rules.specs.Renaming.{MeansSame, fault_as};
 ghost use Rattle.width_rules.specs.Scopes.{Scope};
 ghost use Rattle.statement_rules.specs.Drives.{sized_drive, assign_faults};
 ghost use Rattle.statement_rules.specs.Statements.{sized_statement, statement_faults};
-ghost use Rattle.statement_rules.specs.Targets.{parts, target_faults};
+ghost use Rattle.statement_rules.specs.Targets.{parts, target_faults, kind_faults};
 
 /// Statements, continuous assignments and targets under other names, in a scope where these mean the same, have the same sized form, and the
 /// same faults under these names.
@@ -29,4 +29,6 @@ pub fn names_may_change()
         → parts other shift (target_as f t) ≡ parts scope shift t }
     ensures target_faults { (f : NameId → NameId) (scope other : Scope) (due : Due) (t : Target) → MeansSame f scope other
         → target_faults other due (target_as f t) ≡ map (fault_as f) (target_faults scope due t) }
+    ensures kinds { (f : NameId → NameId) (scope other : Scope) (by : Writer) (t : Target) → MeansSame f scope other
+        → kind_faults other by (target_as f t) ≡ map (fault_as f) (kind_faults scope by t) }
 {}

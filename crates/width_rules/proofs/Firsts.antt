@@ -1,11 +1,10 @@
 -- The first of the faults of parts.
-use Rattle.std.proofs.Common.{◌≡◌, List, [], ◌∷◌, ◌++◌, refl, sym, ◌∙◌, ap, subst}
-use Rattle.std.specs.Prelude.{Option, Some, None}
+use Rattle.std.proofs.Common.{◌≡◌, List, [], ◌∷◌, ◌++◌, sym, ◌∙◌, ap, subst}
 use Rattle.std.proofs.lemmas.Option.{none-some}
 use Rattle.ls_text.specs.declared.fault.Fault.{Fault}
 use Rattle.ls_text.specs.declared.refusal.Refusal.{Refusal}
 use Rattle.ls_text.specs.declared.refusal.Refusal.TheVariants as refusal
-use Rattle.width_rules.specs.Faults.{IsFirst, first}
+use Rattle.width_rules.specs.Faults.{IsFirst}
 
 -- a fault of the first part
 pub earlier : (xs ys : List Fault) (r : Refusal) → IsFirst xs r → IsFirst (xs ++ ys) r

@@ -1,5 +1,5 @@
 -- What the walk keeps of the parts of a concatenation is what the definition makes of them.
-use Rattle.std.proofs.Common.{◌≡◌, ◌<◌, ℕ, ◌+◌, true, false, List, [], ◌∷◌, refl, sym, ◌∙◌, ap, subst, arith, nat_le}
+use Rattle.std.proofs.Common.{◌≡◌, ◌<◌, ℕ, ◌+◌, List, [], ◌∷◌, refl, sym, ◌∙◌, ap, subst, arith, nat_le}
 use Rattle.std.proofs.lemmas.Bool.{cond-true, cond-false, leb-false}
 use Rattle.typed_ir.proofs.Cases.{by_cases}
 use Rattle.typed_ir.specs.Sized as s
@@ -10,7 +10,7 @@ use Rattle.verilog_ast.specs.Views.{parts_of}
 use Rattle.width_rules.specs.Scopes.{Scope}
 use Rattle.width_rules.specs.Sizes.{length, joined, beside}
 use Rattle.width_rules.specs.Opened.{own}
-use Rattle.width_rules.specs.Joins.{Together, Nothing, Bits, TooWide, added, joins}
+use Rattle.width_rules.specs.Joins.{Together, Nothing, Bits, TooWide, joins}
 
 pub no_part : (scope : Scope) → length scope e.NoPart ≡ 0
 unfolding length

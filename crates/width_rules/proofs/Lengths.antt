@@ -1,5 +1,5 @@
 -- The table of lengths, one row after another.
-use Rattle.std.proofs.Common.{◌≡◌, ℕ, Bool, ℤ, ◌+◌, ◌*◌, max, refl, sym, ap, ap₂, ◌∙◌}
+use Rattle.std.proofs.Common.{◌≡◌, ℕ, Bool, ℤ, ◌*◌, max, refl, sym, ap, ap₂, ◌∙◌}
 use Rattle.ls_text.specs.declared.place.Place.{Place}
 use Rattle.verilog_ast.specs.declared.identifier.Identifier.{Identifier}
 use Rattle.verilog_ast.specs.declared.number.Number.{Number}

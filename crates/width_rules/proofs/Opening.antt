@@ -1,5 +1,5 @@
 -- What is left open, at a length and a sign, is what the definition pushes.
-use Rattle.std.proofs.Common.{◌≡◌, ℕ, Bool, false, ◌&&◌, ◌+◌, ◌-◌, ◌*◌, max, refl, sym, ◌∙◌, ap, ap₂}
+use Rattle.std.proofs.Common.{◌≡◌, ℕ, Bool, ◌&&◌, max, refl, sym, ◌∙◌, ap, ap₂}
 use Rattle.typed_ir.specs.Sized as s
 use Rattle.typed_ir.specs.Sized.{Sized}
 use Rattle.typed_ir.specs.declared.unary_operator.UnaryOperator.TheVariants as operator
@@ -15,7 +15,6 @@ use Rattle.width_rules.specs.Signs.{is_signed}
 use Rattle.width_rules.specs.Sizes.{length, push, Operand, unary_at, binary_at, extended, name_at}
 use Rattle.typed_ir.specs.declared.typed.Typed.{Typed}
 use Rattle.typed_ir.specs.Forms.{sized}
-use Rattle.width_rules.specs.declared.opened.Open.{Open}
 use Rattle.width_rules.specs.declared.opened.Open.TheOpen.{Open-F}
 use Rattle.width_rules.specs.declared.opened.Open.TheFolds.{fold-roll-Open}
 use Rattle.width_rules.specs.declared.opened.Open.TheVariants as node

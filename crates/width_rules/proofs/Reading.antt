@@ -1,5 +1,5 @@
 -- Constant expressions read no signal.
-use Rattle.std.proofs.Common.{◌≡◌, ℕ, Bool, true, false, ◌&&◌, ◌==◌, ◌+◌, ◌-◌, ◌*◌, max, not, List, [], ◌∷◌, ◌++◌, refl, sym, ◌∙◌, ap, ap₂, cond, true≢false, IsTrue, ℤ, nat_lt}
+use Rattle.std.proofs.Common.{◌≡◌, ℕ, Bool, true, false, ◌&&◌, ◌==◌, ◌+◌, ◌-◌, ◌*◌, max, not, List, [], ◌∷◌, ◌++◌, refl, sym, ◌∙◌, ap, true≢false, IsTrue, ℤ, nat_lt}
 use Rattle.std.proofs.lemmas.Bool.{and_from, cond-true, cond-false}
 use Rattle.typed_ir.proofs.Cases.{by_cases, and_left, and_right}
 use Rattle.ls_text.specs.declared.fault.Fault.{Fault}
@@ -12,7 +12,7 @@ use Rattle.verilog_ast.specs.Expressions as e
 use Rattle.verilog_ast.specs.Expressions.{Expression}
 use Rattle.width_rules.specs.declared.kinds.UnaryKind.{UnaryKind}
 use Rattle.width_rules.specs.declared.kinds.UnaryKind.TheVariants.{Kept, Negated, Inverted, OneBit, Complement}
-use Rattle.width_rules.specs.Operators.{unary_kind, operator_of, arithmetic_with, comparison_with, shift_with}
+use Rattle.width_rules.specs.Operators.{unary_kind, operator_of, comparison_with}
 use Rattle.width_rules.specs.declared.due.Due.TheVariants.{ConstantOnly}
 use Rattle.width_rules.specs.Scopes.{Meaning, Signal, Constant, Turn, Genvar, Unknown, Scope, is_signal}
 use Rattle.width_rules.specs.Signs.{is_signed}
@@ -20,7 +20,7 @@ use Rattle.width_rules.specs.Sizes.{length, push, joined, beside, Operand, unary
 use Rattle.width_rules.specs.Constants.{integer}
 use Rattle.width_rules.specs.Opened.{own}
 use Rattle.typed_ir.specs.declared.unary_operator.UnaryOperator.TheVariants as operator
-use Rattle.width_rules.specs.Faults.{faults, name_faults, run_faults, part_faults, width_faults, range_faults, total_faults, fault_if, fault_at, fault_of}
+use Rattle.width_rules.specs.Faults.{faults, name_faults, run_faults, part_faults, width_faults, total_faults, fault_if, fault_at, fault_of}
 
 no_signal_fits : (x : Sized) (l : ℕ) (t : Bool) → fits_signals x [] ≡ true → fits_signals (extended x l t) [] ≡ true
 no_signal_fits x l t h = by_cases (width_of x == l)

@@ -1,5 +1,5 @@
 -- Faults under other names: the same, in the same order, and each shows its other names.
-use Rattle.std.proofs.Common.{◌≡◌, ℕ, ◌+◌, ◌-◌, ◌*◌, ◌==◌, nat_lt, max, Bool, true, false, ◌&&◌, not, List, [], ◌∷◌, ◌++◌, map, Option, Some, None, ℤ, refl, sym, ◌∙◌, ap, ap₂}
+use Rattle.std.proofs.Common.{◌≡◌, ℕ, ◌+◌, ◌-◌, ◌*◌, ◌==◌, nat_lt, Bool, true, false, ◌&&◌, not, List, [], ◌++◌, map, Option, ℤ, refl, sym, ◌∙◌, ap, ap₂}
 use Rattle.std.proofs.lemmas.List.{map-append}
 use Rattle.ls_text.specs.declared.place.Place.{Place}
 use Rattle.ls_text.specs.declared.name_id.NameId.{NameId}
@@ -14,7 +14,7 @@ use Rattle.width_rules.specs.declared.due.Due.TheVariants.{AnyValue, ConstantOnl
 use Rattle.width_rules.specs.Constants.{integer}
 use Rattle.width_rules.specs.Renaming.{MeansSame, fault_as}
 use Rattle.width_rules.specs.Scopes.{Meaning, Signal, Constant, Turn, Genvar, Unknown, Scope}
-use Rattle.width_rules.specs.Sizes.{length, literal_length, is_constant, count_of, bits_between}
+use Rattle.width_rules.specs.Sizes.{literal_length, count_of, bits_between}
 use Rattle.width_rules.specs.Faults.{faults, sizing_faults, pushed_length, fault, fault_of, fault_at, fault_if, first_name, name_faults, run_faults, range_faults, part_faults, width_faults, total_faults, lies}
 use Rattle.width_rules.proofs.RenamedSizes.{same_length, same_fixed, same_worth}
 

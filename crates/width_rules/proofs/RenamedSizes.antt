@@ -1,5 +1,5 @@
 -- Signs, lengths and sized forms don't change under other names.
-use Rattle.std.proofs.Common.{◌≡◌, ℕ, ◌+◌, ◌-◌, ◌*◌, max, Bool, ◌&&◌, not, ℤ, refl, sym, ◌∙◌, ap, ap₂}
+use Rattle.std.proofs.Common.{◌≡◌, ℕ, ◌+◌, ◌-◌, ◌*◌, max, Bool, ◌&&◌, not, ℤ, refl, ◌∙◌, ap, ap₂}
 use Rattle.std.proofs.Math.Path.{fun_ext}
 use Rattle.ls_text.specs.declared.name_id.NameId.{NameId}
 use Rattle.typed_ir.specs.Sized as s

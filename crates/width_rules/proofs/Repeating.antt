@@ -1,5 +1,5 @@
 -- The width of a replication. The code knows a count up to 255.
-use Rattle.std.proofs.Common.{◌≡◌, ◌<◌, ◌≤◌, ◌==◌, ◌++◌, Bool, true, ℕ, ◌*◌, [], ◌∷◌, sym, ◌∙◌, ap, ap₂, arith, min, nat_le}
+use Rattle.std.proofs.Common.{◌≡◌, ◌<◌, ◌≤◌, ◌==◌, ◌++◌, ℕ, ◌*◌, [], ◌∷◌, sym, ◌∙◌, ap, ap₂, arith, min, nat_le}
 use Rattle.std.proofs.Math.Nat.{min-eq_left, min-eq_right, le-mul_of_pos_right}
 use Rattle.std.proofs.lemmas.Nat.{mul-le}
 use Rattle.std.proofs.lemmas.Bool.{leb-true, leb-false}

@@ -1,5 +1,5 @@
 -- One more part of a concatenation, and what all of them are together.
-use Rattle.std.proofs.Common.{◌≡◌, ◌<◌, ◌≤◌, ℕ, ◌+◌, ◌*◌, Bool, true, false, ◌&&◌, ◌==◌, ◌++◌, List, [], ◌∷◌, map, drop, length, get_or, refl, sym, ◌∙◌, ap, ap₂, subst, arith, min, nat_le, nat_lt}
+use Rattle.std.proofs.Common.{◌≡◌, ◌<◌, ◌≤◌, ℕ, ◌+◌, Bool, false, ◌&&◌, ◌==◌, ◌++◌, List, [], ◌∷◌, map, drop, length, get_or, sym, ◌∙◌, ap, ap₂, subst, arith, nat_lt}
 use Rattle.std.proofs.Math.Bool.{and_assoc}
 use Rattle.std.proofs.lemmas.Bool.{cond-true, cond-false, lt-leb, le-leb, eqb-true}
 use Rattle.typed_ir.proofs.Cases.{by_cases}

@@ -1,5 +1,5 @@
 -- Constant expressions (IEEE Std 1364-2005, 4.10 and 5.1).
-use Rattle.std.specs.Prelude.{ℕ, Bool, ℤ}
+use Rattle.std.specs.Prelude.{ℕ, ℤ}
 use Rattle.typed_ir.specs.Sized.{value_of}
 use Rattle.verilog_ast.specs.Expressions.{Expression}
 use Rattle.width_rules.specs.Scopes.{Scope}

@@ -1,5 +1,5 @@
 -- What may be wrong with an expression, in the order of the text: a list of possible faults, of which the first is the answer.
-use Rattle.std.specs.Prelude.{◌≡◌, ⊤, ℕ, ◌+◌, ◌-◌, ◌*◌, Bool, true, false, ◌&&◌, ◌==◌, not, nat_le, nat_lt, if◌then◌else◌, List, [], ◌∷◌, ◌++◌, Option, Some, None, ℤ, pos, negsuc, max}
+use Rattle.std.specs.Prelude.{◌≡◌, ⊤, ℕ, ◌+◌, ◌-◌, ◌*◌, Bool, false, ◌&&◌, ◌==◌, not, nat_le, nat_lt, if◌then◌else◌, List, [], ◌∷◌, ◌++◌, Option, Some, None, ℤ, pos, negsuc, max}
 use Rattle.ls_text.specs.declared.place.Place.{Place}
 use Rattle.ls_text.specs.declared.at.At.TheVariants.{Text}
 use Rattle.ls_text.specs.declared.name_id.NameId.{NameId}
@@ -11,9 +11,8 @@ use Rattle.verilog_ast.specs.Expressions.{Expression, Literal, Whole, BitSelect,
 use Rattle.verilog_ast.specs.Places.{expression_place}
 use Rattle.width_rules.specs.declared.due.Due.{Due}
 use Rattle.width_rules.specs.declared.due.Due.TheVariants.{AnyValue, ConstantOnly}
-use Rattle.width_rules.specs.Scopes.{Meaning, Signal, Constant, Turn, Genvar, Unknown, Scope, is_signal}
-use Rattle.width_rules.specs.Signs.{is_signed}
-use Rattle.width_rules.specs.Sizes.{length, push, literal_length, is_constant, count_of, bits_between}
+use Rattle.width_rules.specs.Scopes.{Meaning, Signal, Constant, Turn, Genvar, Unknown, Scope}
+use Rattle.width_rules.specs.Sizes.{length, literal_length, is_constant, count_of, bits_between}
 use Rattle.width_rules.specs.Constants.{integer}
 
 abbrev pub fault : ℕ → Place → List NameId → Fault

@@ -1,6 +1,6 @@
 -- Expressions of which the context's length and sign haven't gone down yet: what the first walk of the code gives. Only operators
 -- whose operands the context decides are left open; all else is sized already.
-use Rattle.std.specs.Prelude.{ℕ, ◌+◌, ◌-◌, ◌*◌, ◌%◌, ◌^◌, max, Bool, false, ◌&&◌}
+use Rattle.std.specs.Prelude.{ℕ, ◌-◌, ◌*◌, ◌%◌, ◌^◌, max, Bool, ◌&&◌}
 use Rattle.typed_ir.specs.declared.unary_operator.UnaryOperator.TheVariants as operator
 use Rattle.typed_ir.specs.declared.binary_operator.BinaryOperator.{BinaryOperator as Operator}
 use Rattle.typed_ir.specs.declared.binary_operator.BinaryOperator.TheVariants.{Arithmetic, Compare, Logical, Shift}

@@ -1,9 +1,6 @@
 -- Names and selects that are written: which bits they are, and what may be wrong with one (IEEE Std 1364-2005, 5.2.1, 6.1, 9.2).
-use Rattle.std.specs.Prelude.{ℕ, ◌+◌, ◌-◌, Bool, true, List, [], ◌∷◌, ◌++◌, if◌then◌else◌, ℤ}
+use Rattle.std.specs.Prelude.{ℕ, ◌+◌, ◌-◌, Bool, List, [], ◌∷◌, ◌++◌, if◌then◌else◌, ℤ}
 use Rattle.ls_text.specs.declared.fault.Fault.{Fault}
-use Rattle.typed_ir.specs.declared.span.Span.{Span}
-use Rattle.typed_ir.specs.declared.lane.Lane.{Lane}
-use Rattle.typed_ir.specs.declared.reach.Reach.{Reach}
 use Rattle.typed_ir.specs.Sized as s
 use Rattle.typed_ir.specs.Sized.{Sized}
 use Rattle.typed_ir.specs.Stmts.{SizedTarget, Fixed, Moving}

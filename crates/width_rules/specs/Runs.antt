@@ -1,5 +1,5 @@
 -- What is said of `x[base +: width]` and `x[base -: width]` at once, by the direction.
-use Rattle.std.specs.Prelude.{ℕ, Bool, true, ◌&&◌, not, List, ◌++◌}
+use Rattle.std.specs.Prelude.{Bool, ◌&&◌, not, List, ◌++◌}
 use Rattle.ls_text.specs.declared.fault.Fault.{Fault}
 use Rattle.typed_ir.specs.Sized.{Sized}
 use Rattle.typed_ir.specs.Stmts.{SizedTarget}

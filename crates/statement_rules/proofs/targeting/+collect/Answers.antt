@@ -1,9 +1,8 @@
-use Rattle.std.proofs.Common.{◌≡◌, ◌≤◌, ℕ, ◌+◌, List, min, map, drop, length, sym, ◌∙◌, ap, arith}
+use Rattle.std.proofs.Common.{◌≡◌, ◌≤◌, ℕ, ◌+◌, List, min, map, sym, ◌∙◌, arith}
 use Rattle.std.proofs.lemmas.List.{at_drop_all}
 use Rattle.verilog_ast.specs.declared.target.Lhs.{Lhs}
 use Rattle.verilog_ast.specs.Views.{target_of, targets_of}
 use Rattle.width_rules.specs.Entries.{scope_of}
-use Rattle.width_rules.specs.Scopes.{Scope}
 use Rattle.statement_rules.specs.Targets.{target_length}
 use Rattle.statement_rules.proofs.targeting.+collect.Goals as goal
 

@@ -1,4 +1,4 @@
-use Rattle.std.proofs.Common.{◌∙◌, sym, ap, refl}
+use Rattle.std.proofs.Common.{◌∙◌, sym, ap}
 use Rattle.std.specs.Option.{option_copied}
 use Rattle.width_rules.proofs.Finding.{meaning_or, looked_up, turned}
 use Rattle.width_rules.proofs.scope.Scope.find.Goals as goal
