@@ -1,6 +1,6 @@
 -- What one turn of a worker asks and gives, by the call that it makes on the book.
-use Rattle.std.proofs.Common.{◌≡◌, ℕ, Bool, true, false, List, [], ◌∷◌, ◌++◌, ◌||◌, Result, Ok, Err, Option, Some, None, IfOk, OnErr, eqb, refl, sym, ap, ◌∙◌, subst, append_assoc, append-nil}
-use Rattle.std.proofs.lemmas.Bool.{eq-eqb, cond-true}
+use Rattle.std.proofs.Common.{◌≡◌, ℕ, true, false, List, [], ◌∷◌, ◌++◌, Result, Ok, Err, Option, Some, None, IfOk, OnErr, eqb, refl, sym, ap, ◌∙◌, subst, append_assoc, append-nil}
+use Rattle.std.proofs.lemmas.Bool.{eq-eqb, cond-true, or_left, or_parts}
 use Rattle.machine.specs.Kit.{Kit}
 use Rattle.book_history.specs.declared.who.Who.{Who}
 use Rattle.book_history.specs.Book.{Settings, Event, Claims, DrawnTicket, replay}
@@ -20,16 +20,8 @@ use Rattle.checkpoint_book.specs.Views.{book_of}
 use Rattle.segment_verify.specs.Entries.{IsEnd, no_turn, one_more, HasHandedIn, HasTurned, HasAsked}
 use Rattle.segment_verify.specs.Workers.{is_closed, IsFree, IsOutAfter, HasTicket, HasDrawn, TellsClosed, drawn_in}
 
-or_first : (b : Bool) → b ≡ true → b || false ≡ true
-or_first true e = refl
-or_first false e = e
-
-or_second : (a b : Bool) → a || b ≡ false → b ≡ false
-or_second true b e = absurd cc
-or_second false b e = e
-
 mine : (n : ℕ) (ts : List ℕ) → ts ≡ n ∷ [] → is_among n ts ≡ true
-mine n ts is = ap (λ l. is_among n l) is ∙ or_first (eqb n n) (eq-eqb n n refl)
+mine n ts is = ap (λ l. is_among n l) is ∙ or_left (eqb n n) false (eq-eqb n n refl)
 
 none_left : (n : ℕ) (ts : List ℕ) → ts ≡ n ∷ [] → without n ts ≡ []
 none_left n ts is = ap (λ l. without n l) is ∙ cond-true (eqb n n) [] (n ∷ []) (eq-eqb n n refl)
@@ -42,7 +34,7 @@ module _ {D S R O : Type 0} (k : Kit D S R O) where
   out_now v i j t by same learned has =
       let es : List (Event D R O) = learned.begins.0 in
       let unused : is_used t.0 es ≡ false =
-      or_second (is_used t.0 v.seen) (is_used t.0 es) (sym (used_append t.0 v.seen es) ∙ ap (λ h. is_used t.0 h) (sym learned.begins.1) ∙ (learned.are_out t.0 (mine t.0 v.tickets has.tickets)).unused) in
+      (or_parts (is_used t.0 v.seen) (is_used t.0 es) (sym (used_append t.0 v.seen es) ∙ ap (λ h. is_used t.0 h) (sym learned.begins.1) ∙ (learned.are_out t.0 (mine t.0 v.tickets has.tickets)).unused)).1 in
       let before : IsOutAfter k (Some j.settings) v.seen t by = subst (λ (st : Option Settings). IsOutAfter k st v.seen t by) learned.carries has.is_out in
       let now : IsOutFor (replay k j.settings (v.seen ++ es)) t.0 t.1 by = still_out k j.settings v.seen es t.0 t.1 by before unused in
       subst (λ (x : Journal D R O). IsOutFor (book_of k x) t.0 t.1 by) (sym same) (subst (λ h. IsOutFor (replay k j.settings h) t.0 t.1 by) (sym learned.begins.1) now)

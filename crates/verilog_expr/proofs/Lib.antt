@@ -14,7 +14,6 @@ pub mod OneToken
 pub mod OneRow
 pub mod OneReading
 pub mod SameReadings
-pub mod OneRun
 pub mod Named
 pub mod RenamedTokens
 pub mod RenamedTrees

@@ -11,6 +11,7 @@ use Rattle.verilog_ast.specs.declared.expression.Expr.TheVariants as e
 use Rattle.verilog_ast.specs.declared.expression.Reference.{Reference}
 use Rattle.verilog_ast.specs.declared.expression.Reference.TheVariants as ref
 use Rattle.verilog_ast.specs.declared.range.Range.{Range}
+use Rattle.verilog_ast.proofs.Equal.{ap₃}
 use Rattle.verilog_expr.specs.Tokens.{next, Takes, identifier_of, number_of, unary_operator, binary_operator}
 use Rattle.verilog_expr.specs.Spells.{Phrase, Spells, AnExpression, AChain, AnOperand, ASelect, APart, ABraced, Behind, Others, ARange, plain, conditional, one, binary, number, unary, read, bracketed, braced, concatenation, replication, behind, no_other, another, whole, select, bit, part, upward, downward, range}
 use Rattle.verilog_expr.proofs.OneToken.{kind_of, clash, one_rest, one_token}
@@ -55,9 +56,6 @@ IsOnly (ARange x) s r = OneRange x s r
 same_two : {A B C : Type 0} (f : A → B → C) (a c : A) (b d : B) → a ≡ c → b ≡ d → f a b ≡ f c d
 same_two f a c b d p q = cc
 
-same_three : {A B C D : Type 0} (f : A → B → C → D) (a d : A) (b g : B) (c h : C) → a ≡ d → b ≡ g → c ≡ h → f a b c ≡ f d g h
-same_three f a d b g c h p q r = cc
-
 -- ---- expressions
 
 question_operator : (kind : Kind) → kind ≡ k.Question → binary_operator kind ≡ None
@@ -78,7 +76,7 @@ conditional_only {a = a} g t x c y q (conditional {a = a'} h t' x' c' y') =
     let o = one_chain g q h (question_operator (next a) (kind_of t)) (question_operator (next a') (kind_of t')) in
     let m = x _ _ _ (one_rest t o.1 t') x' in
     let n = y _ _ _ (one_rest c m.1 c') y' in
-    (same_three (λ (u v w : Expr). e.Conditional u v w) _ _ _ _ _ _ o.0 m.0 n.0, n.1)
+    (ap₃ (λ (u v w : Expr). e.Conditional u v w) o.0 m.0 n.0, n.1)
 
 -- ---- operands
 
@@ -104,7 +102,7 @@ unary_only has t h q (number t') = absurd (unary_clash has refl t q t')
 unary_only {op = op} {x = x} {kind = kind} {t = t} has took h q (unary {op = o} {x = z} {kind = other} {t = t'} has' took' h') =
     let i = h _ _ _ (one_rest took q took') h' in
     let j = same_operator kind other op o has has' (sym (kind_of took) ∙ ap next q ∙ kind_of took') in
-    (same_three (λ (v : Token) (b : UnaryOperator) (w : Expr). e.Unary v.at b w) t t' op o x z (one_token took q took') j i.0, i.1)
+    (ap₃ (λ (v : Token) (b : UnaryOperator) (w : Expr). e.Unary v.at b w) (one_token took q took') j i.0, i.1)
 unary_only has t h q (read t' h') = absurd (unary_clash has refl t q t')
 unary_only has t h q (bracketed t' h' v) = absurd (unary_clash has refl t q t')
 unary_only has t h q (braced t' h' b) = absurd (unary_clash has refl t q t')
@@ -153,7 +151,7 @@ replication_only t y b u v i j q (concatenation free h t') = absurd (free (sym (
 replication_only t y b u v i j q (replication t' y' b' u' v') =
     let m = y _ _ _ (one_rest t q t') y' in
     let n = b _ _ _ _ m.0 m.1 b' in
-    (same_three (λ (p : Place) (c : Expr) (l : List Expr). e.Replication p c l) _ _ _ _ _ _ i j n.0, one_rest v (one_rest u n.1 u') v')
+    (ap₃ (λ (p : Place) (c : Expr) (l : List Expr). e.Replication p c l) i j n.0, one_rest v (one_rest u n.1 u') v')
 
 behind_only : {x y : Expr} {xs ys : List Expr} {s s' r t : List Token} → OneOthers xs s r → x ≡ y → s ≡ s' → Spells (Behind y ys) s' t
     → (x ∷ xs ≡ ys) × (r ≡ t)
@@ -198,7 +196,7 @@ part_only : {n m : Identifier} {x y z : Expr} {w : Reference} {s s' a r u : List
     → OneExpression y a r → n ≡ m → x ≡ z → s ≡ s' → Spells (APart m z w) s' u → (ref.Part n x y ≡ w) × (r ≡ u)
 part_only t h i j q (bit a b c) = absurd (a (sym (ap next q) ∙ kind_of t))
 part_only t h i j q (part t' h') =
-    let o = h _ _ _ (one_rest t q t') h' in (same_three (λ (v : Identifier) (c d : Expr). ref.Part v c d) _ _ _ _ _ _ i j o.0, o.1)
+    let o = h _ _ _ (one_rest t q t') h' in (ap₃ (λ (v : Identifier) (c d : Expr). ref.Part v c d) i j o.0, o.1)
 part_only t h i j q (upward t' h') = absurd (clash (λ is. cc) t q t')
 part_only t h i j q (downward t' h') = absurd (clash (λ is. cc) t q t')
 
@@ -207,7 +205,7 @@ upward_only : {n m : Identifier} {x y z : Expr} {w : Reference} {s s' a r u : Li
 upward_only t h i j q (bit a b c) = absurd (b (sym (ap next q) ∙ kind_of t))
 upward_only t h i j q (part t' h') = absurd (clash (λ is. cc) t q t')
 upward_only t h i j q (upward t' h') =
-    let o = h _ _ _ (one_rest t q t') h' in (same_three (λ (v : Identifier) (c d : Expr). ref.Upward v c d) _ _ _ _ _ _ i j o.0, o.1)
+    let o = h _ _ _ (one_rest t q t') h' in (ap₃ (λ (v : Identifier) (c d : Expr). ref.Upward v c d) i j o.0, o.1)
 upward_only t h i j q (downward t' h') = absurd (clash (λ is. cc) t q t')
 
 downward_only : {n m : Identifier} {x y z : Expr} {w : Reference} {s s' a r u : List Token} {t : Token} → Takes k.MinusColon s a t
@@ -217,7 +215,7 @@ downward_only t h i j q (bit a b c) = absurd (c (sym (ap next q) ∙ kind_of t))
 downward_only t h i j q (part t' h') = absurd (clash (λ is. cc) t q t')
 downward_only t h i j q (upward t' h') = absurd (clash (λ is. cc) t q t')
 downward_only t h i j q (downward t' h') =
-    let o = h _ _ _ (one_rest t q t') h' in (same_three (λ (v : Identifier) (c d : Expr). ref.Downward v c d) _ _ _ _ _ _ i j o.0, o.1)
+    let o = h _ _ _ (one_rest t q t') h' in (ap₃ (λ (v : Identifier) (c d : Expr). ref.Downward v c d) i j o.0, o.1)
 
 same_range : (x y z w : Expr) → x ≡ z → y ≡ w → let a : Range = record { high = x; low = y } in a ≡ record { high = z; low = w }
 same_range x y z w i j = cc

@@ -18,7 +18,7 @@ use Rattle.verilog_expr.specs.Expressions.{StandsFrom, BeginsWithExpression, exp
 use Rattle.verilog_expr.specs.Spells as spells
 use Rattle.verilog_expr.specs.Spells.{Spells}
 use Rattle.verilog_expr.proofs.Complete.{Gets, through, too_heavy, one_end, complete}
-use Rattle.verilog_expr.proofs.Suffixes.{suffix, left_part}
+use Rattle.verilog_expr.proofs.Suffixes.{suffix, left_part, err_ok}
 use Rattle.verilog_expr.proofs.Endings.{still_ends, ends_from, not_empty}
 
 run_of : {stack : List Symbol} {s : List Token} {f : ParseFault} → Fails stack s (errors.Fault f) → Run stack s (Err f)
@@ -30,10 +30,7 @@ run_at {stack} {s} is h = run_of (subst (λ (e : ParseError). Fails stack s e) i
 -- ---- what is spelled
 
 pub stuck_not_ok : {stack : List Symbol} {s r : List Token} {f : ParseFault} → Run stack s (Ok r) → Run stack s (Err f) → ⊥
-stuck_not_ok {r = r} {f = f} p q = apart r f _ (one_end p p) (one_end p q)
-  where
-    apart : (r : List Token) (f : ParseFault) (o : Outcome) → o ≡ Ok r → o ≡ Err f → ⊥
-    apart r f o a b = cc
+stuck_not_ok {r = r} {f = f} p q = err_ok f r _ (one_end p q) (one_end p p)
 
 heavy_code : (s : List Token) (f : ParseFault) (fault : Fault) (n : ℕ) (o : Outcome) → o ≡ Err f → o ≡ Err (Heavy n) → IsShownAs s f fault → fault.code ≡ 16
 heavy_code s (Heavy k) fault n o is at shown = shown.code

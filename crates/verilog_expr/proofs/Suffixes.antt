@@ -12,7 +12,7 @@ use Rattle.verilog_expr.specs.Machine.{Outcome, Run, ends, takes, heavy, differs
 same_ok : (r s : List Token) (o : Outcome) → o ≡ Ok r → o ≡ Ok s → r ≡ s
 same_ok r s o a b = cc
 
-err_ok : (f : ParseFault) (r : List Token) (o : Outcome) → o ≡ Err f → o ≡ Ok r → ⊥
+pub err_ok : (f : ParseFault) (r : List Token) (o : Outcome) → o ≡ Err f → o ≡ Ok r → ⊥
 err_ok f r o a b = cc
 
 suffix_from : {stack : List Symbol} {s : List Token} {o : Outcome} → Run stack s o → (r : List Token) → o ≡ Ok r → (own : List Token) × (s ≡ own ++ r)

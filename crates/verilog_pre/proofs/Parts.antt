@@ -1,9 +1,10 @@
 -- Parts and items stand for the same by a table of words that has grown.
-use Rattle.std.proofs.Common.{◌≡◌, ℕ, suc, ◌<◌, ◌-◌, List, [], ◌∷◌, ◌++◌, length, map, take, drop, refl, sym, ap, subst, ◌∙◌, arith}
+use Rattle.std.proofs.Common.{◌≡◌, ℕ, suc, ◌-◌, List, [], ◌∷◌, ◌++◌, length, map, take, drop, refl, sym, ap, subst, ◌∙◌, arith}
 use Rattle.std.specs.List.{All}
-use Rattle.std.proofs.lemmas.List.{get_or_append_left, length-append, length-map, map-append, take-map, drop-map}
+use Rattle.std.proofs.lemmas.List.{length-map, map-append, take-map, drop-map}
 use Rattle.std.proofs.lemmas.List.Elements.{All-append, All-map, All-take, All-drop}
-use Rattle.ls_text.specs.Texts.{Grows, text_at}
+use Rattle.ls_text.specs.Texts.{Grows}
+use Rattle.ls_text.proofs.Growth.{grown_id, grown_text}
 use Rattle.verilog_pre.specs.Expansions.{body_items}
 use Rattle.verilog_pre.specs.Parts.{Use, Read}
 use Rattle.verilog_pre.specs.Views.{part_of, item_of, parts_of, body_work, IsListed, IsListedItem}
@@ -14,20 +15,14 @@ use Rattle.verilog_pre.specs.declared.item.Item.TheVariants as item
 use Rattle.verilog_pre.specs.declared.macro_body.Macro.{Macro}
 use Rattle.verilog_pre.specs.declared.macros.Macros.{Macros}
 
-grown_length : (old new : List (List ℕ)) → Grows old new → (n : ℕ) → n < length old → n < length new
-grown_length old new g n within = omega (arith, within, ap length g.begins, length-append old g.more)
-
-grown_text : (old new : List (List ℕ)) → Grows old new → (n : ℕ) → n < length old → text_at new n ≡ text_at old n
-grown_text old new g n within = ap (λ ws. text_at ws n) g.begins ∙ get_or_append_left old g.more [] n within
-
 same_part : (old new : List (List ℕ)) → Grows old new → (p : code.Part) → IsListed (length old) p → part_of new p ≡ part_of old p
 same_part old new g (part.Text s) is = refl
-same_part old new g (part.Use id) is = ap Use (grown_text old new g id.0 is)
+same_part old new g (part.Use id) is = ap Use (grown_text old new id.0 g is)
 same_part old new g part.Open is = refl
 
 listed_more : (old new : List (List ℕ)) → Grows old new → (p : code.Part) → IsListed (length old) p → IsListed (length new) p
 listed_more old new g (part.Text s) is = tt
-listed_more old new g (part.Use id) is = grown_length old new g id.0 is
+listed_more old new g (part.Use id) is = grown_id old new id.0 g is
 listed_more old new g part.Open is = tt
 
 pub same_parts : (old new : List (List ℕ)) → Grows old new → (ps : List code.Part) → All (IsListed (length old)) ps → map (part_of new) ps ≡ map (part_of old) ps

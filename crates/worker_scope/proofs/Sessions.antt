@@ -1,6 +1,5 @@
 -- What one turn of the session asks and gives, and what joins keep.
 use Rattle.std.proofs.Common.{◌≡◌, ◌+◌, ℕ, arith, true, false, List, [], ◌∷◌, ◌++◌, Some, refl, sym, ap, ◌∙◌, subst}
-use Rattle.book_history.specs.declared.who.Who.{Who}
 use Rattle.book_history.specs.declared.who.Who.TheVariants.{Session, Worker}
 use Rattle.book_history.specs.Book.{Event, Opens, Runs, Reloads, Claims, Installs, Releases, Shows, Closes}
 use Rattle.book_history.specs.Journal.{Journal}
@@ -13,10 +12,6 @@ use Rattle.book_turn.proofs.Callers.{may_leave_one, tickets_one}
 use Rattle.checkpoint_book.specs.Views.{counts_of}
 use Rattle.segment_verify.specs.Workers.{is_closed, IsFree}
 use Rattle.worker_scope.specs.Scope.{HasSplit}
-
-counted_same : (n m : Counts) (by : Who) → n.closed ≡ m.closed → (counted n by).closed ≡ m.closed
-counted_same n m Session e = e
-counted_same n m (Worker w) e = e
 
 module _ {D R O : Type 0} where
   -- a Close is the session's own
@@ -87,6 +82,3 @@ module _ {D R O : Type 0} where
 
   pub split_more : (n m total : ℕ) (v w x : Known D R O) → HasSplit n v w → HasSplit m w x → total ≡ n + m → HasSplit total v x
   split_more n m total v w x g h is = record { splits = omega (arith, g.splits, h.splits, is); else_same = h.else_same ∙ g.else_same }
-
-  pub split_so_many : (n total : ℕ) (v w : Known D R O) → HasSplit n v w → total ≡ n → HasSplit total v w
-  split_so_many n total v w h is = subst (λ (k : ℕ). HasSplit k v w) (sym is) h
