@@ -6,8 +6,6 @@
 #![tactic(auto)]
 
 mod as_machine;
-#[cfg(test)]
-mod carry_tests;
 mod carrying;
 mod cycle;
 mod design;

@@ -1,10 +1,8 @@
-// Tests of designs, in a crate of their own, since a crate with tests is proved twice: the values of sized expressions (`values`),
-// copies and checked tables of units (`units`), orders and loops (`orders`). What they expect was worked out by hand.
+// Tests of designs, in a crate of their own, since a crate with tests is proved twice: copies and checked tables of units (`units`),
+// orders and loops (`orders`). What they expect was worked out by hand.
 #![tactic(auto)]
 
 #[cfg(test)]
 mod orders;
 #[cfg(test)]
 mod units;
-#[cfg(test)]
-mod values;
