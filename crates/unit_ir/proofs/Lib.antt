@@ -4,3 +4,4 @@ pub mod Fitting
 pub mod Counted
 pub mod Linking
 pub mod Widths
+pub mod Example

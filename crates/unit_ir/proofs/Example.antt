@@ -1,0 +1,110 @@
+-- That units can be sound: a register that follows an input, in a top that hands its own input down.
+use Rattle.std.proofs.Common.{◌≡◌, ℕ, suc, ◌+◌, ◌<◌, ◌≤◌, ◌==◌, ◌&&◌, ◌||◌, ap, true≢false, Bool, true, false, inl, inr, [], ◌∷◌, cond, nat_le, nat_lt, refl, sym, ◌∙◌, eqb-true, arith}
+use Rattle.typed_ir.specs.declared.lane.Lane.{Lane}
+use Rattle.typed_ir.specs.declared.target_form.TargetForm.TheVariants.{Name as Shown}
+use Rattle.typed_ir.specs.Sized.{Name}
+use Rattle.typed_ir.specs.Stmts.{Later, Fixed}
+use Rattle.typed_ir.specs.Valuations.{any_within}
+use Rattle.typed_ir.specs.Nodes.{lane_spans}
+use Rattle.typed_ir.specs.Orders.{Member}
+use Rattle.typed_ir.specs.Cycles.{Signal}
+use Rattle.unit_ir.specs.Trees.{Into, SizedUnit, Instances, Nothing, One, AreSound, AreLegal}
+use Rattle.typed_ir.proofs.Cases.{by_cases}
+
+wire : ℕ → Signal
+wire name = record { in_module = 0; path = name ∷ []; lsb = 0; signed = false; width = 8; initial = 0 }
+
+all_of : ℕ → Lane
+all_of s = record { shift = 0; span = record { signal = s; low = 0; width = 8 } }
+
+follower : SizedUnit
+follower = record {
+  signals = wire 1 ∷ wire 2 ∷ [];
+  registers = 1 ∷ [];
+  inputs = 0 ∷ [];
+  nodes = [];
+  clocked = Later (Fixed (all_of 1) ∷ []) (Name 0 8) ∷ [];
+}
+
+top : SizedUnit
+top = record {
+  signals = wire 3 ∷ [];
+  registers = [];
+  inputs = 0 ∷ [];
+  nodes = Into 0 Shown (all_of 0 ∷ []) (Name 0 8) ∷ [];
+  clocked = [];
+}
+
+tree : Instances
+tree = One 4 top (One 5 follower Nothing Nothing) Nothing
+
+zero_there : (n s : ℕ) → Member s (0 ∷ []) → s < suc n
+zero_there n s (inl e) = omega (arith, e)
+zero_there n s (inr h) = absurd h
+
+one_there : (s : ℕ) → Member s (1 ∷ []) → s < 2
+one_there s (inl e) = omega (arith, e)
+one_there s (inr h) = absurd h
+
+differ : (s : ℕ) → Member s (1 ∷ []) → Member s (0 ∷ []) → ⊥
+differ s (inl e) (inl f) = omega (arith, e, f)
+differ s (inl e) (inr h) = h
+differ s (inr h) k = h
+
+at_most : (b : Bool) → cond b 1 0 + 0 ≤ 1
+at_most true = omega arith
+at_most false = omega arith
+
+tree_sound : AreSound tree
+unfolding tree top follower all_of wire
+tree_sound = (
+  record {
+    unit = record {
+      own = λ s i. omega arith;
+      ports = λ c s i. at_most _;
+      inputs_held = λ s i h. refl;
+      registers_held = λ s i h. absurd h;
+      inputs_there = λ s h. zero_there 0 s h;
+      registers_there = λ s h. absurd h;
+      nodes = (tt, tt);
+      writers = λ s i. omega arith;
+      registers_only = tt;
+      registers_once = tt;
+      inputs_once = ((λ m. m), tt);
+      apart = λ s m k. m;
+    };
+    fit = ((λ s i h. inl (eqb-true s 0 (first_of_or s i h))), tt);
+  },
+  (
+    record {
+      unit = record {
+        own = λ s i. omega arith;
+        ports = λ c s i. omega arith;
+        inputs_held = λ s i h. refl;
+        registers_held = λ s i h. refl;
+        inputs_there = λ s h. zero_there 1 s h;
+        registers_there = λ s h. one_there s h;
+        nodes = tt;
+        writers = λ s i. at_most _;
+        registers_only = ((inl refl, tt), tt);
+        registers_once = ((λ m. m), tt);
+        inputs_once = ((λ m. m), tt);
+        apart = differ;
+      };
+      fit = tt;
+    },
+    tt,
+    tt,
+  ),
+  tt,
+)
+  where
+    first_of_or : (s i : ℕ) → any_within (lane_spans (all_of 0 ∷ [])) s i ≡ true → (s == 0) ≡ true
+    first_of_or s i h = by_cases (s == 0) (λ e. e) (λ out. absurd (true≢false (sym h ∙ none out)))
+      where
+        none : (s == 0) ≡ false → any_within (lane_spans (all_of 0 ∷ [])) s i ≡ false
+        none out = ap (λ b. (b && (nat_le 0 i && nat_lt i (0 + 8))) || false) out
+
+tree_legal : AreLegal tree
+unfolding tree top follower all_of wire
+tree_legal = (record { nodes = (refl, tt); blocks = tt }, (record { nodes = tt; blocks = (refl, tt) }, tt, tt), tt)
