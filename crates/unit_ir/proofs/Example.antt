@@ -1,42 +1,11 @@
--- That units can be sound: a register that follows an input, in a top that hands its own input down.
+-- That the units of the example are sound, and of widths that agree.
 use Rattle.std.proofs.Common.{◌≡◌, ℕ, suc, ◌+◌, ◌<◌, ◌≤◌, ◌==◌, ◌&&◌, ◌||◌, ap, true≢false, Bool, true, false, inl, inr, [], ◌∷◌, cond, nat_le, nat_lt, refl, sym, ◌∙◌, eqb-true, arith}
-use Rattle.typed_ir.specs.declared.lane.Lane.{Lane}
-use Rattle.typed_ir.specs.declared.target_form.TargetForm.TheVariants.{Name as Shown}
-use Rattle.typed_ir.specs.Sized.{Name}
-use Rattle.typed_ir.specs.Stmts.{Later, Fixed}
 use Rattle.typed_ir.specs.Valuations.{any_within}
 use Rattle.typed_ir.specs.Nodes.{lane_spans}
 use Rattle.typed_ir.specs.Orders.{Member}
-use Rattle.typed_ir.specs.Cycles.{Signal}
-use Rattle.unit_ir.specs.Trees.{Into, SizedUnit, Instances, Nothing, One, AreSound, AreLegal}
+use Rattle.unit_ir.specs.Trees.{AreSound, AreLegal}
+use Rattle.unit_ir.specs.Example.{all_of, tree}
 use Rattle.typed_ir.proofs.Cases.{by_cases}
-
-wire : ℕ → Signal
-wire name = record { in_module = 0; path = name ∷ []; lsb = 0; signed = false; width = 8; initial = 0 }
-
-all_of : ℕ → Lane
-all_of s = record { shift = 0; span = record { signal = s; low = 0; width = 8 } }
-
-follower : SizedUnit
-follower = record {
-  signals = wire 1 ∷ wire 2 ∷ [];
-  registers = 1 ∷ [];
-  inputs = 0 ∷ [];
-  nodes = [];
-  clocked = Later (Fixed (all_of 1) ∷ []) (Name 0 8) ∷ [];
-}
-
-top : SizedUnit
-top = record {
-  signals = wire 3 ∷ [];
-  registers = [];
-  inputs = 0 ∷ [];
-  nodes = Into 0 Shown (all_of 0 ∷ []) (Name 0 8) ∷ [];
-  clocked = [];
-}
-
-tree : Instances
-tree = One 4 top (One 5 follower Nothing Nothing) Nothing
 
 zero_there : (n s : ℕ) → Member s (0 ∷ []) → s < suc n
 zero_there n s (inl e) = omega (arith, e)
@@ -55,8 +24,7 @@ at_most : (b : Bool) → cond b 1 0 + 0 ≤ 1
 at_most true = omega arith
 at_most false = omega arith
 
-tree_sound : AreSound tree
-unfolding tree top follower all_of wire
+pub tree_sound : AreSound tree
 tree_sound = (
   record {
     unit = record {
@@ -105,6 +73,5 @@ tree_sound = (
         none : (s == 0) ≡ false → any_within (lane_spans (all_of 0 ∷ [])) s i ≡ false
         none out = ap (λ b. (b && (nat_le 0 i && nat_lt i (0 + 8))) || false) out
 
-tree_legal : AreLegal tree
-unfolding tree top follower all_of wire
+pub tree_legal : AreLegal tree
 tree_legal = (record { nodes = (refl, tt); blocks = tt }, (record { nodes = tt; blocks = (refl, tt) }, tt, tt), tt)

@@ -4,3 +4,4 @@ pub mod Units
 pub mod OwnWidths
 pub mod Instances
 pub mod Registers
+pub mod Example

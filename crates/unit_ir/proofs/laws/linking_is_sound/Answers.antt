@@ -1,5 +1,6 @@
 use Rattle.unit_ir.proofs.Linking.{flat_sound}
 use Rattle.unit_ir.proofs.Widths.{flat_legal, flat_clocked, flat_registers, flat_inputs}
+use Rattle.unit_ir.proofs.Example.{tree_sound, tree_legal}
 use Rattle.unit_ir.proofs.laws.linking_is_sound.Goals as goal
 
 pub returns-clause-sound : goal.returns-clause-sound
@@ -16,3 +17,6 @@ returns-clause-registers c = flat_registers
 
 pub returns-clause-inputs : goal.returns-clause-inputs
 returns-clause-inputs c = flat_inputs
+
+pub returns-clause-example : goal.returns-clause-example
+returns-clause-example c = (tree_sound, tree_legal)
