@@ -1,5 +1,5 @@
 -- A text has one list of modules, or one fault, and not both.
-use Rattle.std.proofs.Common.{◌≡◌, ◌∙◌, ℕ, List, [], ◌∷◌, ◌++◌, Ok, Err, refl, sym, ap, ap₂}
+use Rattle.std.proofs.Common.{◌≡◌, ◌∙◌, ℕ, List, ◌∷◌, ◌++◌, Err, refl, sym, ap, ap₂}
 use Rattle.std.proofs.lemmas.List.{append_cancel_right}
 use Rattle.ls_text.specs.declared.at.At.{At}
 use Rattle.ls_text.specs.declared.at.At.TheVariants.{Text}
@@ -14,6 +14,7 @@ use Rattle.verilog_expr.specs.declared.fault.ParseFault.{ParseFault}
 use Rattle.verilog_expr.specs.Machine.{Outcome}
 use Rattle.verilog_expr.specs.Shown.{code_of, left_at, token_at, place_of, names_of, IsShownAs, Refuses, at_fault}
 use Rattle.verilog_expr.proofs.Complete.{one_end}
+use Rattle.verilog_expr.proofs.Refusals.{stuck_not_ok}
 use Rattle.verilog_spelling.specs.Spellings.{spelling}
 use Rattle.verilog_parse.specs.Files.{file, IsSpelledAs, SpellsAll, no_module, another_module, Stands}
 use Rattle.verilog_expr.proofs.OneToken.{no_kind}
@@ -65,8 +66,5 @@ one_fault s x y (at_fault {f = f} run shown) (at_fault {f = g} run' shown') =
 
 -- ---- either
 
-ok_or_err : (r : List Token) (f : ParseFault) (o : Outcome) → o ≡ Ok r → o ≡ Err f → ⊥
-ok_or_err r f o a b = cc
-
 pub not_both : (names : List (List ℕ)) (xs : List Module) (s : List Token) (x : Fault) → Stands names xs s → Refuses file s (refusal.Fault x) → ⊥
-not_both names xs s x h (at_fault {f = f} run shown) = ok_or_err [] f (Ok []) refl (one_end h.taken run)
+not_both names xs s x h (at_fault {f = f} run shown) = stuck_not_ok h.taken run

@@ -1,5 +1,5 @@
 -- A text's modules and its fault depend on its tokens alone, whatever numbers their names have.
-use Rattle.std.proofs.Common.{◌≡◌, ◌∙◌, ◌≢◌, ℕ, List, [], ◌∷◌, map, Ok, Err, refl, sym, ap, ap₂, subst}
+use Rattle.std.proofs.Common.{◌≡◌, ◌∙◌, ◌≢◌, ℕ, List, [], ◌∷◌, map, Err, refl, sym, ap, ap₂, subst}
 use Rattle.ls_text.specs.declared.name_id.NameId.{NameId}
 use Rattle.verilog_lex.specs.declared.token.Token.{Token}
 use Rattle.verilog_lex.specs.declared.kind.Kind.{Kind}
@@ -15,6 +15,7 @@ use Rattle.verilog_expr.specs.Tokens.{next}
 use Rattle.verilog_expr.specs.Renamed.{retokens}
 use Rattle.verilog_expr.specs.Machine.{Outcome, Run}
 use Rattle.verilog_expr.proofs.Complete.{one_end}
+use Rattle.verilog_expr.proofs.Refusals.{stuck_not_ok}
 use Rattle.verilog_expr.proofs.RenamedTokens.{at_next}
 use Rattle.verilog_expr.proofs.RenamedRun.{run_so}
 use Rattle.verilog_parse.specs.Modules.{Spells, AModule}
@@ -63,15 +64,12 @@ one_outcome : (f g : NameId → NameId) (s q : List Token) (o p : Outcome) → r
     → Run file (retokens g q) p → o ≡ p
 one_outcome f g s q o p same h d = one_end h (subst (λ (l : List Token). Run file l p) (sym same) d)
 
-ok_or_err : (r : List Token) (x : ParseFault) → Ok r ≡ Err x → ⊥
-ok_or_err r x h = cc
-
 errs : (x y : ParseFault) (o p : Outcome) → o ≡ Err x → p ≡ Err y → o ≡ p → x ≡ y
 errs x y o p a b h = cc
 
 pub not_both : (f g : NameId → NameId) (names : List (List ℕ)) (xs : List Module) (s q : List Token) (x : ParseFault) → retokens f s ≡ retokens g q
     → Stands names xs s → Run file q (Err x) → ⊥
-not_both f g names xs s q x same h d = ok_or_err [] x (one_outcome f g s q (Ok []) (Err x) same (run_so f h.taken) (run_so g d))
+not_both f g names xs s q x same h d = stuck_not_ok (run_so f h.taken) (subst (λ (l : List Token). Run file l (Err x)) (sym same) (run_so g d))
 
 pub same_fault : (f g : NameId → NameId) (s q : List Token) (x y : ParseFault) → retokens f s ≡ retokens g q → Run file s (Err x)
     → Run file q (Err y) → x ≡ y
