@@ -1,21 +1,15 @@
-// Reads the texts of its folder of data, and compares what is read of them with what has to be read.
+// Preprocesses and lexes the texts of its folder of data, and compares what is made of them with what has to be made.
 //
-// A reader (`reader`) takes one row: `trees` has those of the grammar, with `written` and `written_items` for the trees, `tokens` those
-// of the preprocessor and the lexer. `properties` has what is said of a whole table.
+// A reader (`reader`) takes one row: `tokens` has those of the preprocessor and the lexer.
 #![tactic(auto)]
 
-mod properties;
 mod reader;
 mod tokens;
-mod trees;
-mod written;
-mod written_items;
 
-use crate::properties::TextProperty;
 use crate::reader::TextReader;
-use row_tables::compare_all;
+use row_tables::{NoProperty, compare_all};
 use std::io;
 
 fn main(rt: HostRuntime) -> io::Result<()> {
-    compare_all(&rt, &TextReader, &TextProperty)
+    compare_all(&rt, &TextReader, &NoProperty)
 }

@@ -1,11 +1,10 @@
 // What one text is read as, by the reader that a table names.
 use crate::tokens::{counts, kinds, lexed, literal, pieces, places_of_tokens, preprocessed, spans};
-use crate::trees::{part, places, spelled, tree};
 use no_memory::NoMemory;
 use row_tables::Reader;
 use std::alloc::Global;
 
-/// The readers of the preprocessor, the lexer and the parser.
+/// The readers of the preprocessor and the lexer.
 pub struct TextReader;
 
 impl Reader for TextReader {
@@ -14,13 +13,9 @@ impl Reader for TextReader {
         alloc: Global,
         name: &str,
         text: &[u8],
-        want: &[u8],
+        _want: &[u8],
     ) -> Result<Vec<u8>, NoMemory> {
         match name {
-            "tree" => tree(alloc, text),
-            "spelling" => spelled(alloc, text),
-            "place" => places(alloc, text),
-            "part" => part(alloc, text, want),
             "preprocessed" => preprocessed(alloc, text),
             "pieces" => pieces(alloc, text),
             "spans" => spans(alloc, text),

@@ -1,10 +1,11 @@
 // What the grammar makes of a text, as a text: its trees or its fault, the spelling of its modules, the places of its parts.
+use crate::tree_text::TreeText;
 use crate::written::expression;
 use crate::written_items::module;
 use ls_text::{Names, NoMemory, Place, Refusal, behind, push_decimal};
 use row_tables::{fault_text, texts_of, tokens_of};
 use std::alloc::Global;
-use verilog_ast::{GenerateItem, Item, PlainItem};
+use verilog_ast::{Expr, GenerateItem, Item, Module, PlainItem};
 use verilog_expr::parse_expr;
 use verilog_parse::parse;
 
@@ -13,24 +14,39 @@ fn behind_space(alloc: Global, text: &[u8]) -> Result<Vec<u8>, NoMemory> {
     Ok(Vec::from_slice(alloc, behind(text, 1))?)
 }
 
+// The trees of modules, each behind a space.
+fn modules(alloc: Global, texts: &[Vec<u8>], all: &[Module]) -> Result<Vec<u8>, NoMemory> {
+    let mut out = TreeText::new(alloc, texts);
+    for m in all {
+        module(&mut out, &m.body);
+    }
+    out.done()
+}
+
+// ` CODE LINE COL NAMES`
+fn refused(alloc: Global, texts: &[Vec<u8>], refusal: Refusal) -> Result<Vec<u8>, NoMemory> {
+    match refusal {
+        Refusal::NoMemory => Err(NoMemory),
+        Refusal::Fault(fault) => {
+            let mut out = Vec::new(alloc);
+            fault_text(&mut out, texts, &fault)?;
+            Ok(out)
+        }
+    }
+}
+
 /// What `parse` makes of a text: each module's tree, or `CODE LINE COL NAMES`.
 pub fn tree(alloc: Global, text: &[u8]) -> Result<Vec<u8>, NoMemory> {
     let mut names = Names::new(alloc);
-    let mut out = Vec::new(alloc);
     let Some(tokens) = tokens_of(alloc, &mut names, text)? else {
-        return Ok(out);
+        return Ok(Vec::new(alloc));
     };
     let parsed = parse(alloc, &mut names, &tokens);
     let texts = texts_of(alloc, &mut names)?;
-    match parsed {
-        Ok(all) => {
-            for m in &all {
-                module(&mut out, &texts, &m.body)?;
-            }
-        }
-        Err(Refusal::NoMemory) => return Err(NoMemory),
-        Err(Refusal::Fault(fault)) => fault_text(&mut out, &texts, &fault)?,
-    }
+    let out = match parsed {
+        Ok(all) => modules(alloc, &texts, &all)?,
+        Err(refusal) => refused(alloc, &texts, refusal)?,
+    };
     behind_space(alloc, &out)
 }
 
@@ -54,29 +70,36 @@ pub fn spelled(alloc: Global, text: &[u8]) -> Result<Vec<u8>, NoMemory> {
     behind_space(alloc, &out)
 }
 
+// The tree of an expression, and ` @` with the number of the next token.
+fn read_up_to(
+    alloc: Global,
+    texts: &[Vec<u8>],
+    expr: &Expr,
+    next: usize,
+) -> Result<Vec<u8>, NoMemory> {
+    let mut out = TreeText::new(alloc, texts);
+    expression(&mut out, expr);
+    out.push(b" @");
+    out.decimal(next as u64);
+    out.done()
+}
+
 // What `parse_expr` makes of a text from one of its tokens on: the tree and ` @` with the number of the next token,
 // or ` CODE LINE COL NAMES`.
 fn read_from(alloc: Global, text: &[u8], from: usize, weight: u32) -> Result<Vec<u8>, NoMemory> {
     let mut names = Names::new(alloc);
-    let mut out = Vec::new(alloc);
     let Some(tokens) = tokens_of(alloc, &mut names, text)? else {
-        return Ok(out);
+        return Ok(Vec::new(alloc));
     };
     if from >= tokens.len() {
-        return Ok(out);
+        return Ok(Vec::new(alloc));
     }
     let parsed = parse_expr(alloc, &tokens, from, weight);
     let texts = texts_of(alloc, &mut names)?;
     match parsed {
-        Ok(x) => {
-            expression(&mut out, &texts, &x.expr)?;
-            out.extend_from_slice(b" @")?;
-            push_decimal(&mut out, x.next as u64)?;
-        }
-        Err(Refusal::NoMemory) => return Err(NoMemory),
-        Err(Refusal::Fault(fault)) => fault_text(&mut out, &texts, &fault)?,
+        Ok(x) => read_up_to(alloc, &texts, &x.expr, x.next),
+        Err(refusal) => refused(alloc, &texts, refusal),
     }
-    Ok(out)
 }
 
 // The first two numbers of a text, which a space parts and a space ends.

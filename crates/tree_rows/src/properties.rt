@@ -92,9 +92,9 @@ fn first_uncut(alloc: Global, table: &Table) -> Result<Option<Vec<u8>>, NoMemory
 }
 
 /// What is said of each two operators of a table, and of its rows cut short.
-pub struct TextProperty;
+pub struct TreeProperty;
 
-impl Property for TextProperty {
+impl Property for TreeProperty {
     fn is_of(&self, name: &str) -> bool {
         matches!(name, "pairs" | "cut_short")
     }
