@@ -1,4 +1,3 @@
 pub mod Joins
 pub mod Numbers
 pub mod Sessions
-pub mod Spoken

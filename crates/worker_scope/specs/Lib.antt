@@ -1,2 +1,1 @@
 pub mod Scope
-pub mod Spoken

@@ -3,33 +3,12 @@
 // `scope` splits a pass from the session's for each worker and starts the worker's thread with it, whose end `ends` promises; beside them
 // it lets the session do its work, as `session_work` asks of it, and closes the book, which ends the workers; then it waits for each thread
 // and joins its pass into the session's. `worked` is what comes back, with `start_refusal` where fewer were started than were asked for.
-//
-// In the tests `asking` and `reloading` are work of a session; `meeting`, `meeting_gate`, `noting_gate` and `watched` see where workers are;
-// `replay` and `drawn` take the history that is left, entry by entry.
 #![tactic(auto)]
 
-#[cfg(test)]
-mod asking;
-#[cfg(test)]
-mod drawn;
 mod ends;
-#[cfg(test)]
-mod meeting;
-#[cfg(test)]
-mod meeting_gate;
-#[cfg(test)]
-mod noting_gate;
-#[cfg(test)]
-mod reloading;
-#[cfg(test)]
-mod replay;
 mod scope;
 mod session_work;
 mod start_refusal;
-#[cfg(test)]
-mod tests;
-#[cfg(test)]
-mod watched;
 mod worked;
 
 pub use scope::with_workers;

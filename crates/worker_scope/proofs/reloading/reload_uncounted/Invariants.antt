@@ -1,4 +1,0 @@
-use Rattle.worker_scope.proofs.reloading.reload_uncounted.Given as goal
-
-abbrev pub ghosts-reload_often : goal.ghosts-reload_often
-ghosts-reload_often g a = record { name = a.blank.name; parts = a.blank.parts }
