@@ -6,6 +6,4 @@ pub mod Finding
 pub mod PathTables
 pub mod Keys
 pub mod Laws
-pub mod Temporaries
 pub mod InputRows
-pub mod Works

@@ -8,4 +8,3 @@ pub mod Words
 pub mod Updates
 pub mod Places
 pub mod Found
-pub mod Temporary

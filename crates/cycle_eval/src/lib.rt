@@ -10,8 +10,6 @@ mod carrying;
 mod cycle;
 mod design;
 #[cfg(test)]
-mod design_tests;
-#[cfg(test)]
 mod input_tests;
 mod inputs;
 mod making;
@@ -26,10 +24,6 @@ mod places;
 mod register_key;
 mod run;
 mod state;
-#[cfg(test)]
-mod step_tests;
-#[cfg(test)]
-mod tests;
 
 pub use design::Design;
 pub use no_ops::NoOps;

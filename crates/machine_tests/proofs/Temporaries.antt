@@ -11,7 +11,7 @@ use Rattle.typed_ir.specs.Orders.{Each}
 use Rattle.typed_ir.specs.Flats.{NodeWritesFirst}
 use Rattle.typed_ir.specs.FlatNodes.{node_of}
 use Rattle.typed_ir.proofs.Cases.{by_cases}
-use Rattle.cycle_eval.specs.Temporary.{temporary}
+use Rattle.machine_tests.specs.Temporary.{temporary}
 
 is_written : (a b : Bool) → (a || (a || (b || false))) ≡ true → (((false || (a || false)) || (a || false)) || (b || false)) ≡ true
 is_written true b h = refl

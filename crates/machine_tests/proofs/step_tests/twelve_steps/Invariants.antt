@@ -1,4 +1,4 @@
-use Rattle.cycle_eval.proofs.step_tests.twelve_steps.Given as goal
+use Rattle.machine_tests.proofs.step_tests.twelve_steps.Given as goal
 
 abbrev pub ghosts-counted : goal.ghosts-counted
 ghosts-counted g a = record { name = a.blank.name; parts = a.blank.parts }

@@ -2,8 +2,8 @@
 ghost use Rattle.std.specs.Prelude.{◌≡◌, ◌<◌, ◌+◌, IfOk};
 ghost use Rattle.cycle_eval.specs.Designs.{work_of};
 
-use crate::Design;
-use crate::design_tests::{assign, later, made, plus, values_after};
+use crate::designs::{assign, later, made, plus, state_after, values_of};
+use cycle_eval::Design;
 use machine::steps::Steps;
 use no_memory::NoMemory;
 use std::alloc::Global;
@@ -39,7 +39,8 @@ fn three_cycles<L: Ledger>(
     requires { work_of design.now ≡ 4 }
     ensures { IfOk result (λ _. steps.new ≡ steps.old + 12) }
 {
-    values_after(alloc, design, 3, steps)
+    let state = state_after(alloc, design, 3, steps)?;
+    values_of(alloc, &state)
 }
 
 fn counted<L: Ledger>(rt: &impl Abort, alloc: Global, blank: Blank) -> Result<Vec<u128>, NoMemory>

@@ -3,8 +3,8 @@ use Rattle.typed_ir.specs.FlatNodes.{node_of}
 use Rattle.typed_ir.specs.Flats.{NodeWritesFirst}
 use Rattle.typed_ir.specs.Nodes.{IsComplete}
 use Rattle.typed_ir.specs.Orders.{Each}
-use Rattle.cycle_eval.proofs.Temporaries.{complete, first}
-use Rattle.cycle_eval.proofs.design_tests.a_block_with_a_temporary.Goals as goal
+use Rattle.machine_tests.proofs.Temporaries.{complete, first}
+use Rattle.machine_tests.proofs.block_tests.design.Goals as goal
 
 pub design_with-requires-clause-complete : goal.design_with-requires-clause-complete
 design_with-requires-clause-complete g c =

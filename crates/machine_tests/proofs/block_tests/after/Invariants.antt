@@ -1,4 +1,4 @@
-use Rattle.cycle_eval.proofs.design_tests.after.Given as goal
+use Rattle.machine_tests.proofs.block_tests.after.Given as goal
 
 abbrev pub ghosts-counted : goal.ghosts-counted
 ghosts-counted a = record { name = a.blank.name; parts = a.blank.parts }

@@ -1,29 +1,25 @@
-// Designs of tests, and one whose block has a temporary, worked out by hand.
+// What designs are made of, runs of them, and the values of their registers.
 ghost use Rattle.std.specs.Prelude.{◌≡◌, ◌<◌, ◌+◌, ◌*◌, map, length, IfOk};
 ghost use Rattle.typed_ir.specs.FlatNodes.{node_of};
 ghost use Rattle.typed_ir.specs.Flats.{NodeWritesFirst};
-ghost use Rattle.typed_ir.specs.Nodes.{Block, IsComplete};
+ghost use Rattle.typed_ir.specs.Nodes.{IsComplete};
 ghost use Rattle.typed_ir.specs.Orders.{Each};
-ghost use Rattle.typed_ir.specs.Statements.{stmt_of};
-ghost use Rattle.typed_ir.specs.Stmts.{Assign};
-ghost use Rattle.typed_ir.specs.Forms.{sized};
-ghost use Rattle.typed_ir.specs.declared.arithmetic_operator.ArithmeticOperator.TheVariants.{Sum, Xor};
-ghost use Rattle.typed_ir.specs.declared.binary_operator.BinaryOperator.TheVariants.{Arithmetic};
-ghost use Rattle.typed_ir.specs.declared.target_form.TargetForm.TheVariants.{Name as Shown};
 ghost use Rattle.cycle_eval.specs.Designs.{work_of};
-ghost use Rattle.cycle_eval.specs.Temporary.{all_of, temporary};
+ghost use Rattle.machine.specs.Rows.{Covers};
 
-use crate::Design;
 use bits::Bits;
 use comb_order::{Parts, checked_flat, linked, no_block};
+use cycle_eval::{Design, NoRow};
 use ls_text::NameId;
+use machine::Machine;
+use machine::row_run::RowRun;
+use machine::row_runs::RowRuns;
 use machine::steps::Steps;
 use no_memory::NoMemory;
 use std::alloc::Global;
-use std::marker::Brand;
 use std::process::Abort;
-use std::sync::ledger::{Blank, Ledger};
-use std::test::Fail;
+use std::sync::Arc;
+use std::sync::ledger::Ledger;
 use typed_ir::{
     ArithmeticOperator, BinaryOperator, InstanceId, InstanceTable, Lane, Node, RegState,
     RegisterId, Signal, SignalId, Span, Stmt, Target, TargetForm, Typed,
@@ -67,7 +63,7 @@ pub fn design_of(rt: &impl Abort, alloc: Global, parts: Parts) -> Result<Design,
 
 // A design whose blocks write each of their bits on every path, and before they read it.
 #[tactic(auto, using(crate::proofs::Works::work_is))]
-fn design_with(rt: &impl Abort, alloc: Global, parts: Parts) -> Result<Design, NoMemory>
+pub fn design_with(rt: &impl Abort, alloc: Global, parts: Parts) -> Result<Design, NoMemory>
     requires complete { Each IsComplete (map node_of parts.nodes.items) }
     requires first { Each NodeWritesFirst (map node_of parts.nodes.items) }
     ensures { IfOk result (λ design. work_of design ≡ length parts.nodes.items + length parts.clocked.items) }
@@ -89,54 +85,31 @@ pub fn values_of(alloc: Global, state: &RegState) -> Result<Vec<u128>, NoMemory>
     Ok(values)
 }
 
-// What the registers have after so many cycles from the beginning.
-pub fn values_after<L: Ledger>(
+// The rows of the cycles 0 to N - 1.
+pub fn rows(alloc: Global, cycles: u64) -> Result<RowRuns<NoRow>, NoMemory>
+    ensures { IfOk result (λ r. Covers r 0 cycles) }
+{
+    let mut runs = Vec::new(alloc);
+    runs.push(RowRun {
+        start: 0,
+        end: cycles,
+        row: Arc::new(alloc, NoRow)?,
+    })?;
+    RowRuns::new(0, cycles, runs)
+}
+
+// The state after so many cycles from the beginning.
+pub fn state_after<L: Ledger>(
     alloc: Global,
     design: &Design,
     cycles: u64,
     steps: &mut Steps<L>,
-) -> Result<Vec<u128>, NoMemory>
+) -> Result<RegState, NoMemory>
     ensures { IfOk result (λ _. steps.new ≡ steps.old + cycles * work_of design.now) }
 {
-    let start = design.reset_state(alloc)?;
-    let mut env = design.loaded(alloc, &start)?;
-    let mut updates = design.room(alloc)?;
-    design.run(&mut env, &mut updates, cycles, steps);
-    let state = design.state_of(alloc, &env)?;
-    values_of(alloc, &state)
-}
-
-// The same with a counter of its own.
-fn counted<L: Ledger>(
-    alloc: Global,
-    design: &Design,
-    cycles: u64,
-    blank: Blank,
-) -> Result<Vec<u128>, NoMemory>
-    requires name { blank.name ≡ L.name }
-    requires parts { blank.parts ≡ L.parts }
-    requires some { 0 < blank.parts }
-{
-    let mut steps = Steps::<L>::start(blank);
-    values_after(alloc, design, cycles, &mut steps)
-}
-
-fn after(alloc: Global, design: &Design, cycles: u64) -> Result<Vec<u128>, NoMemory> {
-    counted::<Brand>(alloc, design, cycles, Blank::new(1))
-}
-
-// The registers after so many cycles, by a table.
-fn check(
-    rt: &impl Abort,
-    alloc: Global,
-    design: &Design,
-    table: &[(u64, &[u128])],
-) -> Result<(), NoMemory> {
-    for (cycles, wanted) in table {
-        let values = after(alloc, design, *cycles)?;
-        assert_eq!(rt; values.as_slice(), *wanted, "after {cycles} cycles");
-    }
-    Ok(())
+    let rows = rows(alloc, cycles)?;
+    let start = design.reset(alloc)?;
+    design.advance(alloc, &rows, &start, 0, cycles, steps)
 }
 
 fn ids(alloc: Global, numbers: &[u32]) -> Result<Vec<SignalId>, NoMemory> {
@@ -170,7 +143,7 @@ pub fn made(
     design_of(rt, alloc, parts)
 }
 
-fn whole(signal: u32, width: u8) -> Lane
+pub fn whole(signal: u32, width: u8) -> Lane
     ensures { result ≡ record { shift = 0; span = record { signal = signal; low = 0; width = width } } }
 {
     Lane {
@@ -223,64 +196,4 @@ pub fn plus(alloc: Global, signal: u32, width: u8, n: u8) -> Result<Typed, NoMem
         Typed::name(SignalId(signal), width),
         number(n, width),
     )
-}
-
-// SIGNAL = E;
-fn now(alloc: Global, signal: u32, e: Typed) -> Result<Stmt, NoMemory>
-    ensures { IfOk result (λ st. stmt_of st ≡ Assign (all_of signal) (sized e.form)) }
-{
-    let mut parts = Vec::new(alloc);
-    parts.push(Target::Fixed(whole(signal, 4)))?;
-    Ok(Stmt::Assign {
-        targets: parts,
-        value: e,
-    })
-}
-
-// always @* begin t = q + 1; t = t ^ 6; y = t; end
-fn block(alloc: Global) -> Result<Node, NoMemory>
-    ensures { IfOk result (λ n. node_of n ≡ Block Shown (temporary (Arithmetic Sum) (Arithmetic Xor))) }
-{
-    let sum = BinaryOperator::Arithmetic(ArithmeticOperator::Sum);
-    let xor = BinaryOperator::Arithmetic(ArithmeticOperator::Xor);
-    let one = Typed::constant(Bits::new(4, 1));
-    let six = Typed::constant(Bits::new(4, 6));
-    let more = Typed::binary(alloc, sum, Typed::name(SignalId(0), 4), one)?;
-    let mixed = Typed::binary(alloc, xor, Typed::name(SignalId(1), 4), six)?;
-    let body = vec![in alloc;
-        now(alloc, 1, more)?,
-        now(alloc, 1, mixed)?,
-        now(alloc, 2, Typed::name(SignalId(1), 4))?,
-    ]?;
-    Ok(Node::Block {
-        form: TargetForm::Name,
-        body: Stmt::Sequence(body),
-    })
-}
-
-// reg [3:0] q = 4; reg [3:0] t, y; the block; always @(posedge clk) q <= y;
-#[test]
-fn a_block_with_a_temporary(rt: HostRuntime) -> Result<(), Fail> {
-    let alloc = rt.alloc();
-    let nodes = vec![in alloc; block(alloc)?]?;
-    let parts = Parts {
-        instances: top(alloc)?,
-        signals: signals(&rt, alloc, &[(4, 4), (4, 0), (4, 0)])?,
-        registers: vec![in alloc; SignalId(0)]?,
-        inputs: Vec::new(alloc),
-        nodes,
-        clocked: vec![in alloc; later(alloc, 0, 4, Typed::name(SignalId(2), 4))?]?,
-    };
-    let design = design_with(&rt, alloc, parts)?;
-    // 5 ^ 6 is 3, 4 ^ 6 is 2, 3 ^ 6 is 5, 6 ^ 6 is 0, and 1 ^ 6 is 7.
-    let table: &[(u64, &[u128])] = &[
-        (0, &[4]),
-        (1, &[3]),
-        (2, &[2]),
-        (3, &[5]),
-        (4, &[0]),
-        (5, &[7]),
-    ];
-    check(&rt, alloc, &design, table)?;
-    Ok(())
 }
