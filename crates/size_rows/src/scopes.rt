@@ -1,6 +1,6 @@
 // What expressions are within a block of a scope and behind it, as texts.
-ghost use Rattle.std.specs.Prelude.{◌≡◌, IfOk};
-ghost use Rattle.width_rules.specs.Entries.{around};
+ghost use Rattle.std.specs.Prelude.{◌≡◌, ◌≤◌, ◌∷◌, length, IfOk};
+ghost use Rattle.width_rules.specs.Entries.{scope_of, around};
 
 use crate::operands::operands;
 use crate::sizes::{expression_of, push_refusal, push_value};
@@ -51,6 +51,45 @@ fn declare_constant(
     )
 }
 
+// Begins a block that declares `a` as 7 and `zz` as 1, each of 8 bits.
+fn open_with_names(names: &mut Names, scope: &mut Scope) -> Result<(), NoMemory>
+    ensures { IfOk result (λ _. around scope.new ≡ scope_of scope.old ∷ around scope.old) }
+{
+    scope.open_block()?;
+    declare_constant(names, scope, b"a", 7)?;
+    declare_constant(names, scope, b"zz", 1)
+}
+
+// What an expression is within the innermost block, which ends then.
+fn push_within(
+    alloc: Global,
+    out: &mut Vec<u8>,
+    names: &mut Names,
+    scope: &mut Scope,
+    env: &Env,
+    e: &Expr,
+) -> Result<(), NoMemory>
+    requires { 1 ≤ length (around scope.old) }
+{
+    push_sized(alloc, out, names, scope, env, e)?;
+    scope.close_block();
+    Ok(out.push(b' ')?)
+}
+
+// What an expression is within a block, and then behind it.
+fn push_both(
+    alloc: Global,
+    out: &mut Vec<u8>,
+    names: &mut Names,
+    scope: &mut Scope,
+    env: &Env,
+    e: &Expr,
+) -> Result<(), NoMemory> {
+    open_with_names(names, scope)?;
+    push_within(alloc, out, names, scope, env, e)?;
+    push_sized(alloc, out, names, scope, env, e)
+}
+
 /// The value of an expression within a block that declares `a` as 7 and `zz` as 1, each of 8 bits, and then behind the block.
 pub fn within_and_behind(alloc: Global, text: &[u8]) -> Result<Vec<u8>, NoMemory> {
     let mut out = Vec::new(alloc);
@@ -59,12 +98,6 @@ pub fn within_and_behind(alloc: Global, text: &[u8]) -> Result<Vec<u8>, NoMemory
         return Ok(out);
     };
     let (mut scope, env) = operands(alloc, &mut names)?;
-    scope.open_block()?;
-    declare_constant(&mut names, &mut scope, b"a", 7)?;
-    declare_constant(&mut names, &mut scope, b"zz", 1)?;
-    push_sized(alloc, &mut out, &mut names, &scope, &env, &e)?;
-    out.push(b' ')?;
-    scope.close_block();
-    push_sized(alloc, &mut out, &mut names, &scope, &env, &e)?;
+    push_both(alloc, &mut out, &mut names, &mut scope, &env, &e)?;
     Ok(out)
 }
