@@ -20,7 +20,7 @@ use crate::declaring::is_input;
 use crate::modules::Modules;
 use crate::naming::header_ports;
 use crate::visited::Visited;
-use gen_unroll::{BitRange, Step, unroll_within};
+use gen_unroll::{BitRange, Step, Unrolled, unroll_within};
 use ls_text::{NameId, Refusal};
 use std::alloc::Global;
 use typed_ir::Const;
@@ -133,15 +133,11 @@ pub fn visit(
     ensures { Answers result visited_of
         (v.visited turns (modules_of modules.now) most (plain_module of.now) (map override_view overrides.now) (clock_view clock)) }
 {
-    let unrolled = unroll_within(alloc, of, overrides, turns)?;
-    let checks = check(
-        alloc,
-        turns,
-        modules,
-        of,
-        overrides,
-        &unrolled.steps,
-        unrolled.fault,
-    )?;
-    clocked(alloc, modules, of, &unrolled.steps, most, clock, checks)
+    let Unrolled {
+        steps,
+        blocks: _,
+        fault,
+    } = unroll_within(alloc, of, overrides, turns)?;
+    let checks = check(alloc, turns, modules, of, overrides, &steps, fault)?;
+    clocked(alloc, modules, of, &steps, most, clock, checks)
 }
