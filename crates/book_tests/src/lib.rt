@@ -1,5 +1,9 @@
 // Tests of the book and of its verifications: tables of steps, whose answers are worked by hand, and one function that
 // plays them.
+//
+// A case (`book_case`) is a list of steps (`book_step`), each with its answer (`book_answer`); `case_rows` and `history_rows` are the
+// tables. `playing` plays a case: `calls` and `ticket_calls` make each step's call on the book, and tickets that are out (`held_ticket`)
+// stand in two places (`held_tickets`, `place`). `tests` plays all cases, `empty_history` looks at histories alone.
 #![tactic(auto)]
 
 #[cfg(test)]

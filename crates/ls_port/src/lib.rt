@@ -1,7 +1,8 @@
 // The outside: where bytes come from and go to, how often that failed, and where threads pause.
 //
 // `Source` and `Sink` are the traits that the program is written over. `MemSource`, `MemSink`, `SolidSource` and `SolidSink`
-// stand for them in memory, `StdSource` and `StdSink` on the streams of std. `Gate` is a pause point of threads.
+// stand for them in memory, `StdSource` and `StdSink` on the streams of std. `Gate` is a pause point of threads. `tests` has the
+// order of calls at a gate and a sink.
 #![tactic(auto)]
 
 mod failed;

@@ -3,8 +3,8 @@
 //
 // A row has words, each a name and numbers (`word`), in postfix order: what stands before a word is what it takes. `operators` are
 // the names of operators, `expressions` takes the words of a sized expression, `statements` those of statements, `declarations`
-// those of signals and of whole blocks. `made` keeps what is made of them, `designs` makes a design of it, `running` runs one and
-// `carrying` carries a state into another. `reader` takes one row by the reader that its table names.
+// those of signals and of whole blocks. `made` keeps what is made of them, `values` shows an expression's value, `designs` makes a
+// design, `running` runs one and `carrying` carries a state into another. `reader` takes one row by the reader that its table names.
 #![tactic(auto)]
 
 mod carrying;

@@ -2,7 +2,7 @@
 //
 // `rows.txt` has a line `STATUS NAME` for each row: NAME.live is the script, NAME.out are the lines, and STATUS is how the run
 // ends. `FAULTS.md` is the page of faults (`page`): each of its examples is a row, and shows the fault by the line that the page tells;
-// each fault that a row shows is on the page. What differs is named.
+// each fault that a row shows is on the page. What differs is named. `tests` has rows and pages that don't agree.
 #![tactic(auto)]
 
 mod page;

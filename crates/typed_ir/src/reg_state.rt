@@ -43,6 +43,7 @@ impl RegState {
         self.values.len()
     }
 
+    /// Whether there is no register.
     pub fn is_empty(&self) -> bool
         ensures { result ≡ (length self.now == 0) }
     {

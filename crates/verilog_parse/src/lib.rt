@@ -1,7 +1,8 @@
 // Verilog texts, read exactly as the grammar says.
 //
 // `parsing` and `file` read a whole text into `modules`: a `header`, then items, each by a function of its nonterminal (`generate`,
-// `plain_item`, and below these the crates `verilog_decl` and `verilog_stmt`). Each ensures one phrase of the relation `Spells`.
+// `plain_item`, and below these the crates `verilog_decl` and `verilog_stmt`). Each ensures one phrase of the relation `Spells`;
+// `laws` says of it that a text is read in one way, that trees have places, and that names may change.
 #![tactic(auto)]
 
 mod file;

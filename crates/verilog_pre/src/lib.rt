@@ -2,8 +2,8 @@
 //
 // `files` reads file after file; `reading` goes on from what stands at the head of a text (`heads`, `head`): a comment, a run of
 // bytes, or a directive (`directives`). `define` and `body` read a macro into the `table`, `conditionals` keep the nest of open
-// conditionals (`left_open` where one stays open), and `expand` works off a use into pieces of the `output`. `laws` says the same
-// by relations on whole texts.
+// conditionals (`branches` obeys their directives, `left_open` tells where one stays open), and `expand` works off a use into pieces
+// of the `output`. `laws` says the same by relations on whole texts.
 #![tactic(auto)]
 
 mod body;

@@ -3,7 +3,8 @@
 // `naming` has the names in reach of a `scope`, with its blocks. `measuring` walks an expression once: its first fault, or what is left
 // open until its context's length and sign are known (`opened`), with operators in `combining`, selects in `selecting` and parts put
 // together in `joining`; `whole` has the whole numbers of counts, widths and indices. `sizing` closes what is open in a context, or
-// takes its value. `referring` has names and selects that are written.
+// takes its value. `referring` has names and selects that are written. `faults` makes a first fault of a code, a place and a name; `laws` says
+// that names may change.
 #![tactic(auto, using(crate::proofs::Firsts::earlier, crate::proofs::Firsts::later, crate::proofs::Firsts::neither))]
 
 mod combining;
