@@ -1,5 +1,4 @@
 // What one row is, by the reader that its table names.
-use crate::blocks::after_item;
 use crate::scopes::within_and_behind;
 use crate::sizes::{constant_of, sizing, unsigned_at, value_at, within};
 use no_memory::NoMemory;
@@ -24,7 +23,6 @@ impl Reader for SizeReader {
             "within" => within(alloc, text),
             "constant" => constant_of(alloc, text),
             "scope" => within_and_behind(alloc, text),
-            "item" => after_item(alloc, text),
             _ => Ok(Vec::from_slice(alloc, b"no such reader")?),
         }
     }

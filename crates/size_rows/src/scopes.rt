@@ -2,10 +2,10 @@
 ghost use Rattle.std.specs.Prelude.{◌≡◌, ◌≤◌, ◌∷◌, length, IfOk};
 ghost use Rattle.width_rules.specs.Entries.{scope_of, around};
 
-use crate::operands::operands;
-use crate::sizes::{expression_of, push_refusal, push_value};
+use crate::sizes::expression_of;
 use bits::Bits;
 use ls_text::{Names, NoMemory};
+use row_operands::{operands, push_refusal, push_value};
 use std::alloc::Global;
 use typed_ir::{Const, Env, fits, value};
 use verilog_ast::Expr;

@@ -4,8 +4,8 @@ use Rattle.typed_ir.specs.declared.update.Update.{Update}
 use Rattle.typed_ir.specs.Statements.{stmt_of}
 use Rattle.typed_ir.specs.Stmts.{is_legal, pending, are_spans}
 use Rattle.typed_ir.specs.Views.{widths, env_of}
-use Rattle.size_rows.proofs.Noted.{noted_fit}
-use Rattle.size_rows.proofs.blocks.clocked.Goals as goal
+use Rattle.statement_rows.proofs.Noted.{noted_fit}
+use Rattle.statement_rows.proofs.blocks.clocked.Goals as goal
 
 pub apply_all-requires : goal.apply_all-requires
 apply_all-requires c =

@@ -1,4 +1,4 @@
-// The names that rows of sizes speak of.
+// The names that rows of sizes and of statements speak of.
 ghost use Rattle.std.specs.Prelude.{◌≤◌};
 
 use bits::Bits;

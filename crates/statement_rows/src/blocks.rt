@@ -3,13 +3,12 @@ ghost use Rattle.std.specs.Prelude.{◌≡◌, true};
 ghost use Rattle.typed_ir.specs.Statements.{stmt_of};
 ghost use Rattle.typed_ir.specs.Stmts.{is_clocked};
 
-use crate::operands::operands;
 use crate::outcome::Outcome;
-use crate::sizes::{push_refusal, push_value};
 use crate::variables::declare_variables;
 use bits::Bits;
 use comb_order::is_legal;
 use ls_text::{Names, NoMemory, Refusal};
+use row_operands::{operands, push_refusal, push_value};
 use row_tables::tokens_of;
 use statement_rules::{Drive, size_assign, size_stmt};
 use std::alloc::Global;
