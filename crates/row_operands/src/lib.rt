@@ -1,10 +1,10 @@
 // What rows of sizes and of statements share: the names that they speak of, and how they show a value and a fault.
 //
-// `operands` declares nets and constants in a scope, with the values of the nets; `shown` appends a value, or the fault of a refusal.
+// `nets` declares nets and constants in a scope, with the values of the nets; `shown` appends a value, or the fault of a refusal.
 #![tactic(auto)]
 
-mod operands;
+mod nets;
 mod shown;
 
-pub use operands::operands;
+pub use nets::operands;
 pub use shown::{push_refusal, push_value};
