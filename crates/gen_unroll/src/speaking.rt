@@ -1,5 +1,5 @@
 // Names within blocks to the texts that they are called by.
-ghost use Rattle.std.specs.Prelude.{◌≡◌, ◌<◌, ◌++◌, length, map, reverse, All, IfOk, OnOk, OnErr};
+ghost use Rattle.std.specs.Prelude.{◌≡◌, ◌++◌, map, reverse, IfOk, OnOk, OnErr};
 ghost use Rattle.std.specs.Fmt.{signed_decimal};
 ghost use Rattle.std.specs.Option.{option_map};
 ghost use Rattle.ls_text.specs.Texts.{Grows, IsIdOf};
@@ -51,7 +51,6 @@ fn push_prefix(
     blocks: &[Block],
     block: Option<BlockId>,
 ) -> Result<(), NoMemory>
-    requires { All (λ b. b.label.name.0 < length names.now) blocks.now }
     ensures { OnOk result (out.new.items ≡ out.old.items ++ prefix_in names.now (reverse (map block_of blocks.now)) (here_of block)) }
 {
     let Some(number) = block else {
@@ -80,8 +79,6 @@ pub fn full_name(
     block: Option<BlockId>,
     name: NameId,
 ) -> Result<NameId, NoMemory>
-    requires labels { All (λ b. b.label.name.0 < length names.old) blocks.now }
-    requires name { name.0 < length names.old }
     ensures id { IfOk result (λ id. IsIdOf names.new (spoken names.old (map block_of blocks.now) (here_of block) name.0) id.0) }
     ensures grows { Grows names.old names.new }
     ensures err { OnErr result (names.new ≡ names.old) }

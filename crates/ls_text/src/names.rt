@@ -1,5 +1,5 @@
 // A table of names, which gives equal texts one id.
-ghost use Rattle.std.specs.Prelude.{◌≡◌, ◌<◌, ℕ, List, [], map, length, Some, slice_get, IfOk, OnOk, OnErr};
+ghost use Rattle.std.specs.Prelude.{◌≡◌, ℕ, List, [], map, length, Some, slice_get, IfOk, OnOk, OnErr};
 ghost use Rattle.ls_text.specs.Texts.{Grows, HasEachOnce, IsIdOf, interned, text_at};
 
 use crate::{NameId, NoMemory};
@@ -50,14 +50,16 @@ impl Names {
         Ok(NameId(index as u64))
     }
 
-    /// The text of a name that this table gave.
+    /// The text of a name; an empty one where the table doesn't have the name.
     pub fn text(&self, id: NameId) -> &[u8]
-        requires { id.0 < length self.now }
         ensures text { result.now ≡ text_at self.now id.0 }
         ensures once { HasEachOnce self.now }
     {
         let _count = self.texts.len();
-        &self.texts[id.0 as usize]
+        match self.texts.get_index(id.0 as usize) {
+            Some(text) => text,
+            None => &[],
+        }
     }
 
     /// A table of its own with the same ids.
