@@ -1,0 +1,12 @@
+pub mod Listings
+pub mod Tables
+pub mod Modules
+pub mod Overrides
+pub mod Connections
+pub mod Checks
+pub mod Clocks
+pub mod Visits
+pub mod Elaborated
+pub mod Outlines
+pub mod Views
+pub mod Jobs

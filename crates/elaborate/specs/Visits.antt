@@ -1,0 +1,40 @@
+-- The visit of a module: its own checks, its ports and its clock, in this order; what its instances and the designs above see of it.
+use Rattle.std.specs.Prelude.{ℕ, Bool, false, List, [], ◌∷◌, ◌++◌, drop, Option, Some, None, Result, Ok, Err}
+use Rattle.ls_text.specs.declared.fault.Fault.{Fault}
+use Rattle.verilog_ast.specs.declared.identifier.Identifier.{Identifier}
+use Rattle.verilog_ast.specs.Items.{ModuleDeclaration}
+use Rattle.width_rules.specs.Faults.{fault_at}
+use Rattle.gen_unroll.specs.Reaches.{reach_in}
+use Rattle.gen_unroll.specs.Steps.{ModuleStep}
+use Rattle.gen_unroll.specs.Unrolled.{unrolled_module}
+use Rattle.gen_unroll.specs.Values.{ConstantValue, ◌>>=◌}
+use Rattle.elaborate.specs.Checks.{Checked, checked}
+use Rattle.elaborate.specs.Clocks.{with_clock, clock_steps, own_clock}
+use Rattle.elaborate.specs.Modules.{header_ports}
+
+-- what a visit finds: the checks, and the clock ports of the instances in their order
+pub record Visited : Type 0 where
+  pub checks : Checked
+  pub clocks : List (Option ℕ)
+
+-- one port more than a top module may have is refused at its name (40)
+abbrev pub none_beyond : List Identifier → Result (Unit {0}) Fault
+none_beyond [] = Ok tt
+none_beyond (p ∷ ps) = Err (fault_at 40 p)
+
+abbrev pub few_ports : (most : Option ℕ) → (ports : List Identifier) → Result (Unit {0}) Fault
+few_ports None ports = Ok tt
+few_ports (Some most) ports = none_beyond (drop most ports)
+
+-- the ports, and then the clock
+abbrev pub clocked : List ModuleDeclaration → ModuleDeclaration → (said : List ModuleStep) → (most clock : Option ℕ) → Checked → Result Visited Fault
+clocked ms m said most clock c =
+    few_ports most (header_ports m.ports)
+    >>= λ _. own_clock clock (header_ports m.ports) c.declared
+    >>= λ _. clock_steps ms (with_clock clock (reach_in m)) said []
+    >>= λ ks. Ok (record { checks = c; clocks = ks })
+
+-- a module under the overrides of its parameters and with its clock port, and for a top with its most ports
+unfoldable pub visited : (turns : ℕ) → List ModuleDeclaration → (most : Option ℕ) → ModuleDeclaration → List (Option ConstantValue) → (clock : Option ℕ) → Result Visited Fault
+visited turns ms most m vs clock =
+    checked turns ms m vs >>= λ c. clocked ms m (unrolled_module turns vs m).said most clock c
