@@ -1,5 +1,5 @@
 -- What a run took and wrote, by how its reading ended.
-use Rattle.std.proofs.Common.{◌≡◌, ◌≢◌, ◌⊎◌, inl, inr, ℕ, ◌<◌, ◌≤◌, Bool, true, false, eqb, if◌then◌else◌, List, [], ◌∷◌, length, ◌++◌, Option, Some, None, Result, Ok, Err, refl, sym, ap, ◌∙◌, append_assoc, true≢false, arith}
+use Rattle.std.proofs.Common.{◌≡◌, ◌≢◌, ◌⊎◌, ⊎_elim, inl, inr, ℕ, ◌<◌, ◌≤◌, Bool, true, false, eqb, if◌then◌else◌, List, [], ◌∷◌, length, ◌++◌, Option, Some, None, Result, Ok, Err, refl, sym, ap, ◌∙◌, append_assoc, true≢false, arith}
 use Rattle.std.proofs.lemmas.Bool.Decides.{eqb_tells}
 use Rattle.std.specs.Io.KnownBytes.{Consumes, IsAtEnd}
 use Rattle.std.specs.Int.{from_bool}
@@ -26,11 +26,6 @@ begins_all bytes false front begins =
 nothing : (o : Option (List ℕ)) → LeavesToWrite o o [] []
 nothing None = tt
 nothing (Some xs) = refl
-
--- a number of two
-one_of : {P : Type 0} (s a b : ℕ) → (s ≡ a) ⊎ (s ≡ b) → (s ≡ a → P) → (s ≡ b → P) → P
-one_of s a b (inl e) f g = f e
-one_of s a b (inr e) f g = g e
 
 -- a display of a design tells its truth
 pub displays_truth : (before : List Told) (line : ℕ) (t : Told) (design : Flat) → t.command ≡ Display line → (world_after before fresh).design ≡ Some design
@@ -68,7 +63,7 @@ cut_short left_old left_new written bytes consumed = record {
 }
   where
     other : (s : ℕ) → s ≡ 5 → (s ≡ 0) ⊎ (s ≡ 1) → ⊥
-    other s five h = one_of s 0 1 h (λ e. omega (arith, five, e)) (λ e. omega (arith, five, e))
+    other s five h = ⊎_elim (λ e. omega (arith, five, e)) (λ e. omega (arith, five, e)) h
 
 small : (b : Bool) → (if b then 1 else 0) < 2
 small true = omega arith
@@ -92,10 +87,10 @@ module _ (left_old left_new written_old written_new : Option (List ℕ)) (bytes 
         begins = f.begins;
         begins_all = f.begins;
         whole = λ h. refl;
-        judged = λ h. one_of status 0 1 h (λ z. z ∙ status_is Whole f 0 z (λ e. omega (arith, e)) (λ e. omega (arith, e))) (λ z. z ∙ status_is Whole f 1 z (λ e. omega (arith, e)) (λ e. omega (arith, e)));
-        cut = λ h. absurd (one_of status 3 6 h
+        judged = λ h. ⊎_elim (λ z. z ∙ status_is Whole f 0 z (λ e. omega (arith, e)) (λ e. omega (arith, e))) (λ z. z ∙ status_is Whole f 1 z (λ e. omega (arith, e)) (λ e. omega (arith, e))) h;
+        cut = λ h. absurd (⊎_elim
             (λ z. let e = status_is Whole f 3 z (λ e. omega (arith, e)) (λ e. omega (arith, e)) in omega (arith, e, below))
-            (λ z. let e = status_is Whole f 6 z (λ e. omega (arith, e)) (λ e. omega (arith, e)) in omega (arith, e, below)));
+            (λ z. let e = status_is Whole f 6 z (λ e. omega (arith, e)) (λ e. omega (arith, e)) in omega (arith, e, below)) h);
         written = f.written;
         front = f.front;
         settled = shown_truth f.told;
@@ -124,9 +119,9 @@ module _ (left_old left_new written_old written_new : Option (List ℕ)) (bytes 
   }
     where
       no : (status ≡ 0) ⊎ (status ≡ 1) → ⊥
-      no h = one_of status 0 1 h
+      no h = ⊎_elim
           (λ z. let e = status_is ending f 0 z (λ e. omega (arith, e)) (λ e. omega (arith, e)) ∙ is (any_refused f.told fresh) in omega (arith, e, two))
-          (λ z. let e = status_is ending f 1 z (λ e. omega (arith, e)) (λ e. omega (arith, e)) ∙ is (any_refused f.told fresh) in omega (arith, e, two))
+          (λ z. let e = status_is ending f 1 z (λ e. omega (arith, e)) (λ e. omega (arith, e)) ∙ is (any_refused f.told fresh) in omega (arith, e, two)) h
 
   -- however the reading ended
   pub finished : (ending : Ending) → Consumes left_old left_new bytes → (ending ≡ Whole → IsAtEnd left_new) → (ending ≡ TooMuch → 67108864 < length bytes) → (67108864 < length bytes → ending ≡ TooMuch) → Finishes ending written_old written_new bytes status → Lived left_old left_new written_old written_new bytes (has_ended ending) status
@@ -160,9 +155,9 @@ finishes ending old new bytes all (Err e) status c is says = record {
   right = c.right;
   begins = (c.begins.0, c.begins.1 ∙ is);
   front = c.front;
-  all = λ four five. absurd (one_of status 4 5 says four five);
-  written = λ four five. absurd (one_of status 4 5 says four five);
-  says = λ four five. absurd (one_of status 4 5 says four five);
+  all = λ four five. absurd (⊎_elim four five says);
+  written = λ four five. absurd (⊎_elim four five says);
+  says = λ four five. absurd (⊎_elim four five says);
 }
 
 -- nothing outside failed, and the script isn't too long
