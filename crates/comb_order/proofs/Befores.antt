@@ -1,14 +1,14 @@
 -- The least node before another that isn't placed.
-use Rattle.std.proofs.Common.{◌≡◌, ℕ, zero, suc, ◌+◌, ◌<◌, ◌==◌, Bool, true, false, not, ◌&&◌, cond, nat_lt, List, [], ◌∷◌, length, drop, drop-cons, get_or, refl, sym, ◌∙◌, ap, ap₂, arith, true≢false}
+use Rattle.std.proofs.Common.{◌≡◌, ℕ, zero, suc, ◌+◌, ◌<◌, ◌==◌, Bool, true, false, not, ◌&&◌, cond, nat_lt, List, [], ◌∷◌, length, drop, get_or, refl, sym, ◌∙◌, ap, ap₂, arith, true≢false}
 use Rattle.std.specs.declared.vec.Vec.{Vec}
 use Rattle.std.specs.Global.{Global}
 use Rattle.std.proofs.lemmas.Bool.{ltb-true, lt-ltb, cond-true, cond-false, not-true, and_from}
 use Rattle.typed_ir.specs.Valuations.{put}
 use Rattle.typed_ir.proofs.Cases.{by_cases, and_left, and_right}
+use Rattle.typed_ir.proofs.Lists.{drop_read, drop_split}
 use Rattle.comb_order.specs.Graphs.{times, rows_of, HasEdge, flag_at}
 use Rattle.comb_order.specs.Loops.{nearest, overwritten}
 use Rattle.comb_order.proofs.Released.{times-same, times-other, put-same, put-other}
-use Rattle.comb_order.proofs.Counts.{row-drop}
 
 pub overwritten-is : (row : List ℕ) (a : ℕ) (g : ℕ → ℕ) (t : ℕ) → overwritten row a g t ≡ cond (nat_lt 0 (times t row)) a (g t)
 overwritten-is [] a g t = refl
@@ -65,22 +65,18 @@ nearest-says (r ∷ rs) (g ∷ fs) a t (suc k) e h f edge =
     earlier (suc i) j none before l p q = before i (omega (arith, l)) p q
 
 -- the loop's step over one row, and over all rows from the last to the first
-pub overwritten-drop : (row : List ℕ) (j t a : ℕ) (g next : ℕ → ℕ) → j < length row → t ≡ get_or row j 0 → next ≡ put g t a
+pub overwritten-drop : (row : List ℕ) (j t a : ℕ) (g next : ℕ → ℕ) → j < length row → t ≡ get_or row j t → next ≡ put g t a
     → overwritten (drop (j + 1) row) a next ≡ overwritten (drop j row) a g
-overwritten-drop row j t a g next h is e = ap (overwritten (drop (j + 1) row) a) e ∙ sym (ap (λ r. overwritten r a g) (row-drop row j t h is))
-
-pub flags-drop : (fs : List Bool) (j : ℕ) → j < length fs → drop j fs ≡ get_or fs j false ∷ drop (j + 1) fs
-flags-drop fs j h = let more : suc j ≡ j + 1 = omega arith in drop-cons fs j false h ∙ ap (λ n. get_or fs j false ∷ drop n fs) more
+overwritten-drop row j t a g next h is e = ap (overwritten (drop (j + 1) row) a) e ∙ sym (ap (λ r. overwritten r a g) (drop_read row j t h is))
 
 pub rows-drop : (graph : List (Vec ℕ Global)) (j : ℕ) (r : Vec ℕ Global) → j < length graph → r ≡ get_or graph j r
     → rows_of (drop j graph) ≡ r.items ∷ rows_of (drop (j + 1) graph)
-rows-drop graph j r h is = let more : suc j ≡ j + 1 = omega arith in
-    ap rows_of (drop-cons graph j r h ∙ ap (λ z. z ∷ drop (suc j) graph) (sym is)) ∙ ap (λ n. r.items ∷ rows_of (drop n graph)) more
+rows-drop graph j r h is = ap rows_of (drop_read graph j r h is)
 
 pub nearest-drop : (graph : List (Vec ℕ Global)) (fs : List Bool) (j : ℕ) (r : Vec ℕ Global) (t : ℕ) → j < length graph → j < length fs → r ≡ get_or graph j r
     → nearest j (rows_of (drop j graph)) (drop j fs) t
     ≡ cond (not (get_or fs j false) && nat_lt 0 (times t r.items)) j (nearest (j + 1) (rows_of (drop (j + 1) graph)) (drop (j + 1) fs) t)
-nearest-drop graph fs j r t h k is = ap₂ (λ rs gs. nearest j rs gs t) (rows-drop graph j r h is) (flags-drop fs j k)
+nearest-drop graph fs j r t h k is = ap₂ (λ rs gs. nearest j rs gs t) (rows-drop graph j r h is) (drop_split fs j false k)
 
 -- a node that isn't placed writes its row
 pub nearest_open : (graph : List (Vec ℕ Global)) (fs : List Bool) (j : ℕ) (r : Vec ℕ Global) (t : ℕ) (g : ℕ → ℕ) → j < length graph → j < length fs → r ≡ get_or graph j r

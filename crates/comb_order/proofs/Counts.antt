@@ -1,25 +1,21 @@
 -- Counting, one node or one row at a time.
-use Rattle.std.proofs.Common.{◌≡◌, ℕ, zero, suc, ◌+◌, ◌-◌, ◌<◌, ◌≤◌, ◌==◌, if◌then◌else◌, List, [], ◌∷◌, ◌++◌, length, drop, get_or, set, refl, sym, ◌∙◌, ap, ap₂, arith, drop-cons, get_or-set_same, get_or-set_other, append_assoc}
+use Rattle.std.proofs.Common.{◌≡◌, ℕ, zero, suc, ◌+◌, ◌-◌, ◌<◌, ◌≤◌, ◌==◌, if◌then◌else◌, List, [], ◌∷◌, ◌++◌, length, drop, get_or, set, refl, sym, ◌∙◌, ap, ap₂, arith, get_or-set_same, get_or-set_other, append_assoc}
 use Rattle.std.specs.declared.vec.Vec.{Vec}
 use Rattle.std.specs.Global.{Global}
 use Rattle.std.proofs.lemmas.Bool.{eqb-true, eqb-false, eq-eqb}
 use Rattle.typed_ir.specs.Valuations.{put}
 use Rattle.typed_ir.proofs.Cases.{by_cases}
+use Rattle.typed_ir.proofs.Lists.{drop_read}
 use Rattle.comb_order.specs.Graphs.{times, row_at, rows_of, lowered, released, count_of}
 use Rattle.comb_order.proofs.Released.{times-same, put-same, put-other, enough_left}
 
-pub row-drop : (row : List ℕ) (j t : ℕ) → j < length row → t ≡ get_or row j 0 → drop j row ≡ t ∷ drop (j + 1) row
-row-drop row j t h is =
-    let more : suc j ≡ j + 1 = omega arith in
-    drop-cons row j 0 h ∙ ap (λ z. z ∷ drop (suc j) row) (sym is) ∙ ap (λ n. t ∷ drop n row) more
-
-pub times-here : (row : List ℕ) (j t : ℕ) → j < length row → t ≡ get_or row j 0 → 0 < times t (drop j row)
+pub times-here : (row : List ℕ) (j t : ℕ) → j < length row → t ≡ get_or row j t → 0 < times t (drop j row)
 times-here row j t h is =
-    let a : times t (drop j row) ≡ times t (t ∷ drop (j + 1) row) = ap (times t) (row-drop row j t h is) in
+    let a : times t (drop j row) ≡ times t (t ∷ drop (j + 1) row) = ap (times t) (drop_read row j t h is) in
     let b : times t (t ∷ drop (j + 1) row) ≡ 1 + times t (drop (j + 1) row) = times-same t t (drop (j + 1) row) (eq-eqb t t refl) in
     omega (arith, a, b)
 
-pub times-at : (row : List ℕ) (j t : ℕ) → j < length row → t ≡ get_or row j 0 → 0 < times t row
+pub times-at : (row : List ℕ) (j t : ℕ) → j < length row → t ≡ get_or row j t → 0 < times t row
 times-at (y ∷ ys) zero t h is =
     let a : 0 < times t (drop zero (y ∷ ys)) = times-here (y ∷ ys) zero t h is in a
 times-at [] j t h is = absurd (omega (arith, h))
@@ -43,24 +39,24 @@ length_rows [] = refl
 length_rows (x ∷ xs) = ap suc (length_rows xs)
 
 -- one node of the row is lowered
-pub lowered-drop : (row : List ℕ) (j t : ℕ) (c : ℕ → ℕ) → j < length row → t ≡ get_or row j 0
+pub lowered-drop : (row : List ℕ) (j t : ℕ) (c : ℕ → ℕ) → j < length row → t ≡ get_or row j t
     → lowered (drop j row) c ≡ lowered (drop (j + 1) row) (put c t (c t - 1))
-lowered-drop row j t c h is = ap (λ r. lowered r c) (row-drop row j t h is)
+lowered-drop row j t c h is = ap (λ r. lowered r c) (drop_read row j t h is)
 
-pub released-drop : (row : List ℕ) (j t : ℕ) (c : ℕ → ℕ) → j < length row → t ≡ get_or row j 0
+pub released-drop : (row : List ℕ) (j t : ℕ) (c : ℕ → ℕ) → j < length row → t ≡ get_or row j t
     → released (drop j row) c ≡ (if c t == 1 then t ∷ [] else []) ++ released (drop (j + 1) row) (put c t (c t - 1))
-released-drop row j t c h is = ap (λ r. released r c) (row-drop row j t h is)
+released-drop row j t c h is = ap (λ r. released r c) (drop_read row j t h is)
 
-pub enough-drop : (row : List ℕ) (j t : ℕ) (c next : ℕ → ℕ) → j < length row → t ≡ get_or row j 0 → next ≡ put c t (c t - 1)
+pub enough-drop : (row : List ℕ) (j t : ℕ) (c next : ℕ → ℕ) → j < length row → t ≡ get_or row j t → next ≡ put c t (c t - 1)
     → ((x : ℕ) → times x (drop j row) ≤ c x) → (x : ℕ) → times x (drop (j + 1) row) ≤ next x
 enough-drop row j t c next h is e inv x =
     let a : next x ≡ put c t (c t - 1) x = ap (λ f. f x) e in
     let b : times x (drop (j + 1) row) ≤ put c t (c t - 1) x = enough_left t (drop (j + 1) row) c
     (λ y. let i : times y (drop j row) ≤ c y = inv y in
-    let r : times y (drop j row) ≡ times y (t ∷ drop (j + 1) row) = ap (times y) (row-drop row j t h is) in omega (arith, i, r)) x in
+    let r : times y (drop j row) ≡ times y (t ∷ drop (j + 1) row) = ap (times y) (drop_read row j t h is) in omega (arith, i, r)) x in
     omega (arith, a, b)
 
-pub free-drop : (row : List ℕ) (j t : ℕ) (c next : ℕ → ℕ) (old new total : List ℕ) → j < length row → t ≡ get_or row j 0 → next ≡ put c t (c t - 1)
+pub free-drop : (row : List ℕ) (j t : ℕ) (c next : ℕ → ℕ) (old new total : List ℕ) → j < length row → t ≡ get_or row j t → next ≡ put c t (c t - 1)
     → new ≡ old ++ (if c t == 1 then t ∷ [] else []) → old ++ released (drop j row) c ≡ total → new ++ released (drop (j + 1) row) next ≡ total
 free-drop row j t c next old new total h is e en inv =
     ap₂ (λ o n. o ++ released (drop (j + 1) row) n) en e

@@ -4,8 +4,9 @@ use Rattle.std.specs.Prelude.{slice_index, slice_get, Some}
 use Rattle.bits.specs.declared.Bits.{Bits}
 use Rattle.typed_ir.specs.States.{sized_value}
 use Rattle.typed_ir.specs.Views.{widths, env_of}
-use Rattle.typed_ir.proofs.Views.{map_set, set_same, widths-read, env_of-read}
+use Rattle.typed_ir.proofs.Views.{widths-read, env_of-read}
 use Rattle.std.proofs.lemmas.Bool.{ltb-true}
+use Rattle.std.proofs.lemmas.List.{map-set, set-get_or}
 use Rattle.typed_ir.specs.Valuations.{Valuation, put}
 use Rattle.typed_ir.specs.Cycles.{fill}
 use Rattle.typed_ir.specs.Flats.{are_below}
@@ -48,7 +49,7 @@ got_within (x ∷ xs) zero p e = omega arith
 got_within (x ∷ xs) (suc i) p e = let rest : i < length (state_values xs) = got_within xs i p e in omega (arith, rest)
 
 pub widths_put : (env : List Bits) (i : ℕ) (x : Bits) → x.width ≡ slice_index (widths env) i → widths (set env i x) ≡ widths env
-widths_put env i x same = map_set (λ (b : Bits). b.width) env i x ∙ ap (set (widths env) i) same ∙ set_same (widths env) i 0
+widths_put env i x same = map-set (λ (b : Bits). b.width) env i x ∙ ap (set (widths env) i) same ∙ set-get_or (widths env) i 0
 
 -- one more register read
 pub store_step : (env : List Bits) (rs : List ℕ) (i : ℕ) (old new : List Bits) (b : Bits) → i < length rs → get_or rs i 0 < length env

@@ -4,7 +4,7 @@ use Rattle.std.specs.Prelude.{Option, Some, None, slice_index, nat_eq}
 use Rattle.std.specs.Option.{option_eq}
 use Rattle.std.specs.List.{list_any}
 use Rattle.std.proofs.lemmas.Bool.{ltb-true, lt-ltb, eqb-true, eq-eqb, and_from, cond-true, cond-false}
-use Rattle.std.proofs.lemmas.List.{length-append, length-map, map_push, get_or_append_left}
+use Rattle.std.proofs.lemmas.List.{length-append, length-map, map_push, get_or_append_left, length_push, same_from_push}
 use Rattle.std.proofs.Math.Seq.{get_or-append_seam}
 use Rattle.std.proofs.lemmas.List.Folds.{list_any_at}
 use Rattle.std.proofs.lemmas.Option.{same_Some, none-some, slice_get_within, get_or_from_slice_get}
@@ -60,30 +60,6 @@ old_above : (xs : List PathStep) (s : PathStep) (b : Option ℕ) → IsTrue (goe
 old_above xs s None h = refl
 old_above xs s (Some p) h = old_path xs s p (ltb-true p (length xs) h)
 
--- ---- names at the end
-
-more_some : (xs : List ℕ) (a : ℕ) → xs ++ a ∷ [] ≡ [] → ⊥
-more_some xs a e =
-    let long : length (xs ++ a ∷ []) ≡ length xs + 1 = length-append xs (a ∷ []) in
-    let none : length (xs ++ a ∷ []) ≡ 0 = ap length e in
-    omega (arith, long, none)
-
-abbrev head_of : List ℕ → ℕ
-head_of [] = 0
-head_of (x ∷ xs) = x
-
-abbrev tail_of : List ℕ → List ℕ
-tail_of [] = []
-tail_of (x ∷ xs) = xs
-
-pub ends_same : (xs ys : List ℕ) (a b : ℕ) → xs ++ a ∷ [] ≡ ys ++ b ∷ [] → (xs ≡ ys) × (a ≡ b)
-ends_same [] [] a b e = (refl, ap head_of e)
-ends_same [] (y ∷ ys) a b e = absurd (more_some ys b (sym (ap tail_of e)))
-ends_same (x ∷ xs) [] a b e = absurd (more_some xs a (ap tail_of e))
-ends_same (x ∷ xs) (y ∷ ys) a b e =
-    let rest : (xs ≡ ys) × (a ≡ b) = ends_same xs ys a b (ap tail_of e) in
-    (ap₂ (λ (z : ℕ) (zs : List ℕ). z ∷ zs) (ap head_of e) rest.0, rest.1)
-
 -- ---- one more step
 
 got : (xs : List PathStep) (p : ℕ) → p < length xs → (s : PathStep) × (slice_get xs p ≡ Some s)
@@ -94,7 +70,10 @@ got (x ∷ xs) (suc p) h = got xs p (omega (arith, h))
 is_some : (xs : List PathStep) (p : ℕ) → IsPathTable xs → p < length xs → path_at xs p ≡ [] → ⊥
 is_some xs p t h e =
     let s : (s : PathStep) × (slice_get xs p ≡ Some s) = got xs p h in
-    more_some (path_above (step_paths xs) s.0.before) s.0.name.0 (sym (t.next p s.0 s.1) ∙ e)
+    let above = path_above (step_paths xs) s.0.before in
+    let long : length (above ++ s.0.name.0 ∷ []) ≡ length above + 1 = length_push above s.0.name.0 in
+    let none : length (above ++ s.0.name.0 ∷ []) ≡ 0 = ap length (sym (t.next p s.0 s.1) ∙ e) in
+    omega (arith, long, none)
 
 -- of a table, a step is known by its path
 above_same : (xs : List PathStep) (b d : Option ℕ) → IsPathTable xs → IsTrue (goes_on (length xs) b) → IsTrue (goes_on (length xs) d)
@@ -132,7 +111,7 @@ new_apart : (old : List PathStep) (s : PathStep) → IsNew old s → (i : ℕ) (
     → path_at old i ≡ path_next (step_paths old) s.before s.name.0 → ⊥
 new_apart old s is i x at e =
     let both : (path_above (step_paths old) x.before ≡ path_above (step_paths old) s.before) × (x.name.0 ≡ s.name.0) =
-    ends_same (path_above (step_paths old) x.before) (path_above (step_paths old) s.before) x.name.0 s.name.0 (sym (is.table.next i x at) ∙ e) in
+    same_from_push (path_above (step_paths old) x.before) (path_above (step_paths old) s.before) x.name.0 s.name.0 (sym (is.table.next i x at) ∙ e) in
     let above : x.before ≡ s.before = above_same old x.before s.before is.table (is.table.within i x at) is.goes both.0 in
     is.absent i (at ∙ ap Some (step_same x s above both.1))
 

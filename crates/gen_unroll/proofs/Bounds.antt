@@ -2,6 +2,7 @@
 use Rattle.std.proofs.Common.{◌≡◌, nat_lt, Bool, true, false, not, [], ◌∷◌, Ok, Err, sym, ◌∙◌, ap, ap₂, subst}
 use Rattle.std.specs.Prelude.{ℤ, Option, Some, Result}
 use Rattle.std.specs.Option.{option_map}
+use Rattle.std.proofs.lemmas.Bool.{not_from_false, not_from_true}
 use Rattle.ls_text.specs.declared.fault.Fault.{Fault}
 use Rattle.ls_text.specs.declared.refusal.Refusal.{Refusal}
 use Rattle.ls_text.specs.declared.refusal.Refusal.TheVariants as refusal
@@ -42,12 +43,6 @@ if_so b f r is h = subst (λ (c : Bool). IsFirst (fault_if c f) r) (sym is) h
 none_if : (b : Bool) (f : Fault) → b ≡ false → fault_if b f ≡ []
 none_if b f is = ap (λ c. fault_if c f) is
 
-not_so : (b : Bool) → b ≡ false → not b ≡ true
-not_so b is = ap not is
-
-not_but : (b : Bool) → b ≡ true → not b ≡ false
-not_but b is = ap not is
-
 pub first_high : (scope : Scope) (r : RangeBounds) (x : Refusal) → IsFirst (faults scope ConstantOnly r.high) x → IsFirst (range_faults scope r) x
 unfolding range_faults
 first_high scope r x h = earlier (faults scope ConstantOnly r.high) _ x h
@@ -63,7 +58,7 @@ first_order scope r high low x a b is_high is_low none h =
     later (faults scope ConstantOnly r.high) _ x a (later (faults scope ConstantOnly r.low) _ x b
     (earlier (fault_if (not (is_range (integer scope r.high) (integer scope r.low))) (fault_of 26 r.high)) _ x
     (if_so (not (is_range (integer scope r.high) (integer scope r.low))) (fault_of 26 r.high) x
-    (not_so (is_range (integer scope r.high) (integer scope r.low)) (sym (ap₂ is_range is_high is_low) ∙ none)) h)))
+    (not_from_false (is_range (integer scope r.high) (integer scope r.low)) (sym (ap₂ is_range is_high is_low) ∙ none)) h)))
 
 pub first_wide : (scope : Scope) (r : RangeBounds) (high low : ℤ) (x : Refusal) → faults scope ConstantOnly r.high ≡ [] → faults scope ConstantOnly r.low ≡ []
     → high ≡ integer scope r.high → low ≡ integer scope r.low → is_range high low ≡ true → nat_lt 128 (bits_between high low) ≡ true
@@ -73,7 +68,7 @@ first_wide scope r high low x a b is_high is_low so wide h =
     later (faults scope ConstantOnly r.high) _ x a (later (faults scope ConstantOnly r.low) _ x b
     (later (fault_if (not (is_range (integer scope r.high) (integer scope r.low))) (fault_of 26 r.high)) _ x
     (none_if (not (is_range (integer scope r.high) (integer scope r.low))) (fault_of 26 r.high)
-    (not_but (is_range (integer scope r.high) (integer scope r.low)) (sym (ap₂ is_range is_high is_low) ∙ so)))
+    (not_from_true (is_range (integer scope r.high) (integer scope r.low)) (sym (ap₂ is_range is_high is_low) ∙ so)))
     (if_so (nat_lt 128 (bits_between (integer scope r.high) (integer scope r.low))) (fault_of 31 r.high) x
     (ap (nat_lt 128) (sym (ap₂ bits_between is_high is_low)) ∙ wide) h)))
 
@@ -85,7 +80,7 @@ first_none scope r high low a b is_high is_low so narrow =
     neither (faults scope ConstantOnly r.high) _ a (neither (faults scope ConstantOnly r.low) _ b
     (neither (fault_if (not (is_range (integer scope r.high) (integer scope r.low))) (fault_of 26 r.high)) _
     (none_if (not (is_range (integer scope r.high) (integer scope r.low))) (fault_of 26 r.high)
-    (not_but (is_range (integer scope r.high) (integer scope r.low)) (sym (ap₂ is_range is_high is_low) ∙ so)))
+    (not_from_true (is_range (integer scope r.high) (integer scope r.low)) (sym (ap₂ is_range is_high is_low) ∙ so)))
     (none_if (nat_lt 128 (bits_between (integer scope r.high) (integer scope r.low))) (fault_of 31 r.high)
     (ap (nat_lt 128) (sym (ap₂ bits_between is_high is_low)) ∙ narrow))))
 

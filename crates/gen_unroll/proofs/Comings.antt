@@ -1,11 +1,11 @@
 -- Steps that are told, one after another.
-use Rattle.std.proofs.Common.{◌≡◌, List, [], ◌∷◌, ◌++◌, append_assoc, append-nil, Result, Ok, Err, refl, sym, ◌∙◌, ap}
+use Rattle.std.proofs.Common.{◌≡◌, List, [], ◌∷◌, ◌++◌, append_assoc, append-nil, Result, Ok, Err, sym, ◌∙◌, ap}
 use Rattle.ls_text.specs.declared.fault.Fault.{Fault}
 use Rattle.ls_text.specs.declared.refusal.Refusal.{Refusal}
 use Rattle.ls_text.specs.declared.refusal.Refusal.TheVariants as refusal
 use Rattle.gen_unroll.specs.declared.walk.Walk.{Walk}
 use Rattle.gen_unroll.specs.Steps.{ModuleStep}
-use Rattle.gen_unroll.specs.Told.{Told, go_on, ◌>>=◌, done, say, say_all, quiet}
+use Rattle.gen_unroll.specs.Told.{Told, go_on, ◌>>=◌, say, say_all, quiet}
 use Rattle.gen_unroll.specs.Unrolled.{State}
 use Rattle.gen_unroll.specs.Values.{Answers}
 use Rattle.gen_unroll.specs.Views.{Comes, Goes, steps_of}
@@ -39,12 +39,6 @@ pub quiet_ok : {A : Type 0} (old new : List ModuleStep) (x : A) (r : Result A Fa
     → r ≡ Ok x → Comes old new end (f x) → Comes old new end (quiet r >>= f)
 quiet_ok old new x r f end is next = then old old new x (quiet r) f end (sym (append-nil old)) is next
 
-pub quiet_err : {A : Type 0} (old : List ModuleStep) (r : Result A Fault) (f : A → Told State) (e : Fault) → r ≡ Err e → Comes old old (Err e) (quiet r >>= f)
-quiet_err old r f e is = stops old old (quiet r) f e (sym (append-nil old)) is
-
-pub done_goes : (old : List ModuleStep) (s : State) → Comes old old (Ok s) (done s)
-done_goes old s = record { says = sym (append-nil old); ends = refl }
-
 pub say_goes : (old new : List ModuleStep) (x : ModuleStep) (s t : State) → new ≡ old ++ x ∷ [] → s ≡ t → Comes old new (Ok s) (say x t)
 say_goes old new x s t said is = record { says = said; ends = ap Ok (sym is) }
 
@@ -63,12 +57,6 @@ pub quiet_refused : {A B : Type 0} (old new : Walk) (r : Refusal) (view : A → 
     → steps_of new ≡ steps_of old → Answers {A = A} (Err r) view d → Goes old new (Err r) (quiet d >>= f)
 quiet_refused old new (refusal.Fault e) view d f same is = stops (steps_of old) (steps_of new) (quiet d) f e (same ∙ sym (append-nil (steps_of old))) is
 quiet_refused old new refusal.NoMemory view d f same is = tt
-
--- a refusal behind what was told
-pub refused_then : (old mid new : Walk) (r : Refusal) (s : State) (t : Told State) (f : State → Told State)
-    → Comes (steps_of old) (steps_of mid) (Ok s) t → Goes mid new (Err r) (f s) → Goes old new (Err r) (t >>= f)
-refused_then old mid new (refusal.Fault e) s t f first next = then_goes (steps_of old) (steps_of mid) (steps_of new) s t f (Err e) first next
-refused_then old mid new refusal.NoMemory s t f first next = tt
 
 -- a refusal is the last
 pub refused_first : (old new : Walk) (r : Refusal) (t : Told State) (f : State → Told State) → Goes old new (Err r) t → Goes old new (Err r) (t >>= f)

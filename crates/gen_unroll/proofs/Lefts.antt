@@ -1,5 +1,5 @@
 -- Loops over what a definition takes one after another: what is there and what is left are together what was there and the whole.
-use Rattle.std.proofs.Common.{◌≡◌, List, ◌++◌, append_assoc, append-nil, Result, Ok, Err, refl, sym, ◌∙◌, ap}
+use Rattle.std.proofs.Common.{◌≡◌, List, ◌++◌, append_assoc, append-nil, Ok, Err, refl, sym, ◌∙◌, ap}
 use Rattle.ls_text.specs.declared.fault.Fault.{Fault}
 use Rattle.ls_text.specs.declared.refusal.Refusal.{Refusal}
 use Rattle.ls_text.specs.declared.refusal.Refusal.TheVariants as refusal
@@ -15,13 +15,6 @@ pub record Left (old mid : List ModuleStep) (whole rest : Told State) : Type 0 w
 
 pub left_all : (old : List ModuleStep) (t : Told State) → Left old old t t
 left_all old t = record { says = refl; ends = refl }
-
--- the same under another name
-pub left_same : (old mid : List ModuleStep) (whole rest other : Told State) → Left old mid whole rest → rest ≡ other → Left old mid whole other
-left_same old mid whole rest other left is = record {
-  says = sym (ap (λ (r : Told State). mid ++ r.said) is) ∙ left.says;
-  ends = sym (ap (λ (r : Told State). r.ending) is) ∙ left.ends;
-}
 
 pub left_more : (old mid new : List ModuleStep) (whole rest t : Told State) (f : State → Told State) (s : State)
     → Left old mid whole rest → rest ≡ (t >>= f) → Comes mid new (Ok s) t → Left old new whole (f s)
@@ -40,14 +33,6 @@ left_stop old mid new whole rest t f e left is step = record {
   ends = sym left.ends ∙ ap (λ (r : Told State). r.ending) is ∙ ap (λ r. (go_on t.said r f).ending) step.ends;
 }
 
--- the end of what is left is the end of the whole
-pub left_last : (old mid new : List ModuleStep) (whole rest t : Told State) (end : Result State Fault)
-    → Left old mid whole rest → rest ≡ t → Comes mid new end t → Comes old new end whole
-left_last old mid new whole rest t end left is step = record {
-  says = step.says ∙ sym (ap (λ (r : Told State). mid ++ r.said) is) ∙ left.says;
-  ends = sym left.ends ∙ ap (λ (r : Told State). r.ending) is ∙ step.ends;
-}
-
 pub left_end : (old mid : List ModuleStep) (whole rest : Told State) (s : State) → Left old mid whole rest → rest ≡ done s → Comes old mid (Ok s) whole
 left_end old mid whole rest s left is = record {
   says = sym (append-nil mid) ∙ sym (ap (λ (r : Told State). mid ++ r.said) is) ∙ left.says;
@@ -60,12 +45,5 @@ pub goes_stop : (old mid new : Walk) (whole rest t : Told State) (f : State → 
 goes_stop old mid new whole rest t f (refusal.Fault e) left is step =
     left_stop (steps_of old) (steps_of mid) (steps_of new) whole rest t f e left is step
 goes_stop old mid new whole rest t f refusal.NoMemory left is step = tt
-
--- what is refused is all that is left
-pub goes_last : (old mid new : Walk) (whole rest t : Told State) (r : Refusal)
-    → Left (steps_of old) (steps_of mid) whole rest → rest ≡ t → Goes mid new (Err r) t → Goes old new (Err r) whole
-goes_last old mid new whole rest t (refusal.Fault e) left is step =
-    left_last (steps_of old) (steps_of mid) (steps_of new) whole rest t (Err e) left is step
-goes_last old mid new whole rest t refusal.NoMemory left is step = tt
 
 pub ruleset lefts = (left_all, left_more, left_end, goes_stop)

@@ -1,8 +1,9 @@
 -- Lists of parameters, turns, items and branches, taken one by one.
-use Rattle.std.proofs.Common.{◌≡◌, ℕ, suc, ◌+◌, ◌<◌, ◌≤◌, if◌then◌else◌, List, ◌∷◌, map, length, get_or, drop, drop-cons, Option, Result, Ok, true, false, Bool, sym, ◌∙◌, ap, arith}
+use Rattle.std.proofs.Common.{◌≡◌, ℕ, ◌+◌, ◌<◌, ◌≤◌, if◌then◌else◌, List, map, length, get_or, drop, Option, Result, Ok, true, false, Bool, ◌∙◌, ap}
 use Rattle.std.specs.Option.{option_map}
 use Rattle.std.proofs.lemmas.List.{at_drop_all}
 use Rattle.ls_text.specs.declared.fault.Fault.{Fault}
+use Rattle.typed_ir.proofs.Lists.{drop_read}
 use Rattle.verilog_ast.specs.declared.generate_item.Branch.{Branch}
 use Rattle.verilog_ast.specs.declared.header_parameter.HeaderParameter.{HeaderParameter}
 use Rattle.verilog_ast.specs.Items.{ModuleItem}
@@ -12,14 +13,6 @@ use Rattle.gen_unroll.specs.declared.parameter_sort.ParameterSort.TheVariants as
 use Rattle.gen_unroll.specs.Declarations.{ParameterType}
 use Rattle.gen_unroll.specs.Told.{Told, ◌>>=◌, done, quiet}
 use Rattle.gen_unroll.specs.Unrolled.{State, each, parameter, next_type, header_parameters, is_taken, taken_with, unrolled, chosen, branch}
-
-pub drop_read : {A : Type 0} (xs : List A) (k : ℕ) (x : A) → k < length xs → x ≡ get_or xs k x → drop k xs ≡ x ∷ drop (k + 1) xs
-drop_read xs k x h is =
-    let more : suc k ≡ k + 1 = omega arith in
-    drop-cons xs k x h ∙ ap (λ z. z ∷ drop (suc k) xs) (sym is) ∙ ap (λ n. x ∷ drop n xs) more
-
-pub drop_split : {A : Type 0} (xs : List A) (k : ℕ) (d : A) → k < length xs → drop k xs ≡ get_or xs k d ∷ drop (k + 1) xs
-drop_split xs k d h = let more : suc k ≡ k + 1 = omega arith in drop-cons xs k d h ∙ ap (λ n. get_or xs k d ∷ drop n xs) more
 
 -- ---- steps over a list
 

@@ -1,5 +1,5 @@
 -- The names in reach, part by part.
-use Rattle.std.proofs.Common.{◌≡◌, ◌≤◌, ℕ, suc, List, [], ◌∷◌, length, refl, sym, ◌∙◌, ap, ap₂, arith}
+use Rattle.std.proofs.Common.{◌≡◌, ◌≤◌, ℕ, suc, List, ◌∷◌, length, sym, ◌∙◌, ap, ap₂, arith}
 use Rattle.width_rules.specs.Scopes.{Scope}
 use Rattle.gen_unroll.specs.Reaches.{Reach, closed_reach}
 
@@ -11,9 +11,6 @@ same_parts s t xs ys ms ns a b c =
     ap (λ (u : Scope). reach_with u xs ms) a ∙ ap (λ (zs : List Scope). reach_with t zs ms) b ∙ ap (λ (zs : List ℕ). reach_with t ys zs) c
 
 -- ---- as many scopes as blocks
-
-pub even_none : (xs : List Scope) (ms : List ℕ) → xs ≡ [] → ms ≡ [] → length xs ≡ length ms
-even_none xs ms a b = ap length a ∙ sym (ap length b)
 
 pub even_more : (xs ys : List Scope) (ms ns : List ℕ) (s : Scope) (n : ℕ) → length ys ≡ length ns → xs ≡ s ∷ ys → ms ≡ n ∷ ns → length xs ≡ length ms
 even_more xs ys ms ns s n even a b = ap length a ∙ ap suc even ∙ sym (ap length b)
@@ -29,9 +26,3 @@ even_some xs ms ns n even b = let more : length xs ≡ suc (length ns) = even �
 
 pub closed_some : (s t : Scope) (xs ys : List Scope) (ms ns : List ℕ) (n : ℕ) → xs ≡ t ∷ ys → ms ≡ n ∷ ns → reach_with t ys ns ≡ closed_reach (reach_with s xs ms)
 closed_some s t xs ys ms ns n a b = sym (ap₂ (λ (zs : List Scope) (ks : List ℕ). closed_reach (reach_with s zs ks)) a b)
-
--- no block is open
-pub closed_none : (s : Scope) (xs : List Scope) (ms : List ℕ) → length xs ≡ length ms → ms ≡ [] → reach_with s xs ms ≡ closed_reach (reach_with s xs ms)
-closed_none s [] [] even none = refl
-closed_none s (x ∷ xs) [] even none = absurd (let z : suc (length xs) ≡ 0 = even in omega arith)
-closed_none s xs (m ∷ ms) even none = absurd (let z : suc (length ms) ≡ 0 = ap length none in omega arith)

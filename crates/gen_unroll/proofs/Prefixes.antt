@@ -8,7 +8,7 @@ use Rattle.gen_unroll.specs.declared.block.Block.{Block}
 use Rattle.gen_unroll.specs.Steps.{GenerateBlock}
 use Rattle.gen_unroll.specs.Spoken.{own_text, prefix_in}
 use Rattle.gen_unroll.specs.Views.{block_of}
-use Rattle.gen_unroll.proofs.Listing.{drop_read}
+use Rattle.typed_ir.proofs.Lists.{drop_read}
 
 -- a block that stands before is not among those behind
 skipped : (texts : List (List ℕ)) (xs ys : List GenerateBlock) (k : ℕ) → k < length ys → prefix_in texts (xs ++ ys) (Some k) ≡ prefix_in texts ys (Some k)

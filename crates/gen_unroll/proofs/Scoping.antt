@@ -5,7 +5,7 @@ use Rattle.verilog_ast.specs.declared.identifier.Identifier.{Identifier}
 use Rattle.width_rules.specs.Scopes.{Meaning, Unknown, Scope}
 use Rattle.gen_unroll.specs.Declarations.{declared, all_declared}
 use Rattle.gen_unroll.specs.Unrolled.{nowhere}
-use Rattle.gen_unroll.proofs.Listing.{drop_read, drop_split}
+use Rattle.typed_ir.proofs.Lists.{drop_read, drop_split}
 
 covered : (b : Bool) (x y z : Meaning) → (if b then y else (if b then x else z)) ≡ (if b then y else z)
 covered true x y z = refl
@@ -26,9 +26,6 @@ pub differs_more : (n : Identifier) (scope other new : Scope) (x : Meaning) → 
 differs_more n scope other new x h is = record {
   same = λ m. ap (λ (s : Scope). declared s n m) is ∙ declared_twice other n x m ∙ h.same m;
 }
-
-pub declared_again : (n : Identifier) (scope other new : Scope) (m : Meaning) → DiffersAt n scope other → new ≡ declared other n m → new ≡ declared scope n m
-declared_again n scope other new m h is = is ∙ h.same m
 
 -- ---- names that are declared one by one
 

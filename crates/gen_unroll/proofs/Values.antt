@@ -1,5 +1,5 @@
 -- Values of constants, and their first fault.
-use Rattle.std.proofs.Common.{◌≡◌, ℕ, Bool, true, List, [], ◌∷◌, get_or, drop, IfOk, IsErrAnd, Result, Ok, Err, refl, sym, ◌∙◌, ap, subst}
+use Rattle.std.proofs.Common.{◌≡◌, ℕ, Bool, true, List, [], ◌∷◌, IfOk, IsErrAnd, Result, Ok, Err, refl, sym, ◌∙◌, ap, subst}
 use Rattle.std.specs.Prelude.{Option, Some, None, ℤ}
 use Rattle.ls_text.specs.declared.fault.Fault.{Fault}
 use Rattle.ls_text.specs.declared.refusal.Refusal.{Refusal}
@@ -69,12 +69,5 @@ goes_on d x f y is next = ap (λ z. z >>= f) is ∙ next
 pub if_ok : {A E P : Type 0} (r : Result A E) → P → IfOk r (λ _. P)
 if_ok (Ok x) h = h
 if_ok (Err e) h = tt
-
--- lists that are the same have the same head and the same rest
-pub same_head : {A : Type 0} (x y : A) (xs ys : List A) → x ∷ xs ≡ y ∷ ys → x ≡ y
-same_head x y xs ys h = ap (λ zs. get_or zs 0 x) h
-
-pub same_rest : {A : Type 0} (x y : A) (xs ys : List A) → x ∷ xs ≡ y ∷ ys → xs ≡ ys
-same_rest x y xs ys h = ap (drop 1) h
 
 pub ruleset answers = (is_first, refused_on, goes_on, no_fault)

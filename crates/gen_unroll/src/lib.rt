@@ -34,7 +34,7 @@ pub use constants::evaluated;
 pub use parameter_sort::ParameterSort;
 pub use ranges::range_value;
 pub use reach::Reach;
-pub use speaking::full_name;
+pub use speaking::full_text;
 pub use step::Step;
 pub use turn::Turn;
 pub use unrolled::Unrolled;

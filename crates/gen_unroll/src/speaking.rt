@@ -1,8 +1,7 @@
 // Names within blocks to the texts that they are called by.
-ghost use Rattle.std.specs.Prelude.{◌≡◌, ◌++◌, map, reverse, IfOk, OnOk, OnErr};
+ghost use Rattle.std.specs.Prelude.{◌≡◌, ◌++◌, map, reverse, IfOk, OnOk};
 ghost use Rattle.std.specs.Fmt.{signed_decimal};
 ghost use Rattle.std.specs.Option.{option_map};
-ghost use Rattle.ls_text.specs.Texts.{Grows, IsIdOf};
 ghost use Rattle.width_rules.specs.Sizes.{read_as};
 ghost use Rattle.gen_unroll.specs.Spoken.{index_text, prefix_in, spoken};
 ghost use Rattle.gen_unroll.specs.Views.{block_of, here_of, turn_of};
@@ -69,22 +68,20 @@ fn push_prefix(
     Ok(())
 }
 
-/// What a name within a block is called, as a name: `g[0].h[1].x`, `g.x`; a name of the module itself is called as it is. `blocks`
-/// is the table of a module's blocks.
+/// What a name within a block is called: `g[0].h[1].x`, `g.x`; a name of the module itself is called as it is. `blocks` is the table of
+/// a module's blocks.
 #[tactic(auto, unfolding(crate::specs::Spoken::spoken))]
-pub fn full_name(
+pub fn full_text(
     alloc: Global,
-    names: &mut Names,
+    names: &Names,
     blocks: &[Block],
     block: Option<BlockId>,
     name: NameId,
-) -> Result<NameId, NoMemory>
-    ensures id { IfOk result (λ id. IsIdOf names.new (spoken names.old (map block_of blocks.now) (here_of block) name.0) id.0) }
-    ensures grows { Grows names.old names.new }
-    ensures err { OnErr result (names.new ≡ names.old) }
+) -> Result<Vec<u8>, NoMemory>
+    ensures { IfOk result (λ text. text.items ≡ spoken names.now (map block_of blocks.now) (here_of block) name.0) }
 {
     let mut text = Vec::new(alloc);
     push_prefix(&mut text, names, blocks, block)?;
     text.extend_from_slice(names.text(name))?;
-    names.intern(&text)
+    Ok(text)
 }

@@ -24,7 +24,7 @@ parts_around (b ∷ front) tail =
     join false (p ∷ ps) some = refl
 
 -- parts before other parts are whole lines
-whole_parts : (ps qs : List (List ℕ)) → 0 < length qs → lines_of_parts (ps ++ qs) ≡ map strip_carriage_return ps ++ lines_of_parts qs
+pub whole_parts : (ps qs : List (List ℕ)) → 0 < length qs → lines_of_parts (ps ++ qs) ≡ map strip_carriage_return ps ++ lines_of_parts qs
 whole_parts [] qs some = refl
 whole_parts (p ∷ []) [] some = absurd (omega arith)
 whole_parts (p ∷ []) (q ∷ qs) some = refl

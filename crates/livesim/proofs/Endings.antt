@@ -1,6 +1,6 @@
 -- What a run took and wrote, by how its reading ended.
-use Rattle.std.proofs.Common.{◌≡◌, ◌≢◌, ◌⊎◌, inl, inr, ℕ, ◌<◌, ◌≤◌, Bool, true, false, eqb, if◌then◌else◌, List, [], ◌∷◌, length, ◌++◌, Option, Some, None, Result, Ok, Err, refl, sym, ap, ◌∙◌, append_assoc, true≢false, arith}
-use Rattle.std.proofs.lemmas.Bool.Decides.{nat_tests}
+use Rattle.std.proofs.Common.{◌≡◌, ◌≢◌, ◌⊎◌, ⊎_elim, inl, inr, ℕ, ◌<◌, ◌≤◌, Bool, true, false, eqb, if◌then◌else◌, List, [], ◌∷◌, length, ◌++◌, Option, Some, None, Result, Ok, Err, refl, sym, ap, ◌∙◌, append_assoc, true≢false, arith}
+use Rattle.std.proofs.lemmas.Bool.Decides.{eqb_tells}
 use Rattle.std.specs.Io.KnownBytes.{Consumes, IsAtEnd}
 use Rattle.std.specs.Int.{from_bool}
 use Rattle.ls_port.specs.declared.sink_refusal.SinkRefusal.{SinkRefusal}
@@ -26,11 +26,6 @@ begins_all bytes false front begins =
 nothing : (o : Option (List ℕ)) → LeavesToWrite o o [] []
 nothing None = tt
 nothing (Some xs) = refl
-
--- a number of two
-one_of : {P : Type 0} (s a b : ℕ) → (s ≡ a) ⊎ (s ≡ b) → (s ≡ a → P) → (s ≡ b → P) → P
-one_of s a b (inl e) f g = f e
-one_of s a b (inr e) f g = g e
 
 -- a display of a design tells its truth
 pub displays_truth : (before : List Told) (line : ℕ) (t : Told) (design : Flat) → t.command ≡ Display line → (world_after before fresh).design ≡ Some design
@@ -68,7 +63,7 @@ cut_short left_old left_new written bytes consumed = record {
 }
   where
     other : (s : ℕ) → s ≡ 5 → (s ≡ 0) ⊎ (s ≡ 1) → ⊥
-    other s five h = one_of s 0 1 h (λ e. omega (arith, five, e)) (λ e. omega (arith, five, e))
+    other s five h = ⊎_elim (λ e. omega (arith, five, e)) (λ e. omega (arith, five, e)) h
 
 small : (b : Bool) → (if b then 1 else 0) < 2
 small true = omega arith
@@ -92,10 +87,10 @@ module _ (left_old left_new written_old written_new : Option (List ℕ)) (bytes 
         begins = f.begins;
         begins_all = f.begins;
         whole = λ h. refl;
-        judged = λ h. one_of status 0 1 h (λ z. z ∙ status_is Whole f 0 z (λ e. omega (arith, e)) (λ e. omega (arith, e))) (λ z. z ∙ status_is Whole f 1 z (λ e. omega (arith, e)) (λ e. omega (arith, e)));
-        cut = λ h. absurd (one_of status 3 6 h
+        judged = λ h. ⊎_elim (λ z. z ∙ status_is Whole f 0 z (λ e. omega (arith, e)) (λ e. omega (arith, e))) (λ z. z ∙ status_is Whole f 1 z (λ e. omega (arith, e)) (λ e. omega (arith, e))) h;
+        cut = λ h. absurd (⊎_elim
             (λ z. let e = status_is Whole f 3 z (λ e. omega (arith, e)) (λ e. omega (arith, e)) in omega (arith, e, below))
-            (λ z. let e = status_is Whole f 6 z (λ e. omega (arith, e)) (λ e. omega (arith, e)) in omega (arith, e, below)));
+            (λ z. let e = status_is Whole f 6 z (λ e. omega (arith, e)) (λ e. omega (arith, e)) in omega (arith, e, below)) h);
         written = f.written;
         front = f.front;
         settled = shown_truth f.told;
@@ -124,9 +119,9 @@ module _ (left_old left_new written_old written_new : Option (List ℕ)) (bytes 
   }
     where
       no : (status ≡ 0) ⊎ (status ≡ 1) → ⊥
-      no h = one_of status 0 1 h
+      no h = ⊎_elim
           (λ z. let e = status_is ending f 0 z (λ e. omega (arith, e)) (λ e. omega (arith, e)) ∙ is (any_refused f.told fresh) in omega (arith, e, two))
-          (λ z. let e = status_is ending f 1 z (λ e. omega (arith, e)) (λ e. omega (arith, e)) ∙ is (any_refused f.told fresh) in omega (arith, e, two))
+          (λ z. let e = status_is ending f 1 z (λ e. omega (arith, e)) (λ e. omega (arith, e)) ∙ is (any_refused f.told fresh) in omega (arith, e, two)) h
 
   -- however the reading ended
   pub finished : (ending : Ending) → Consumes left_old left_new bytes → (ending ≡ Whole → IsAtEnd left_new) → (ending ≡ TooMuch → 67108864 < length bytes) → (67108864 < length bytes → ending ≡ TooMuch) → Finishes ending written_old written_new bytes status → Lived left_old left_new written_old written_new bytes (has_ended ending) status
@@ -160,22 +155,15 @@ finishes ending old new bytes all (Err e) status c is says = record {
   right = c.right;
   begins = (c.begins.0, c.begins.1 ∙ is);
   front = c.front;
-  all = λ four five. absurd (one_of status 4 5 says four five);
-  written = λ four five. absurd (one_of status 4 5 says four five);
-  says = λ four five. absurd (one_of status 4 5 says four five);
+  all = λ four five. absurd (⊎_elim four five says);
+  written = λ four five. absurd (⊎_elim four five says);
+  says = λ four five. absurd (⊎_elim four five says);
 }
-
-is_it : (s n : ℕ) → (s ≡ n) ⊎ (s ≢ n)
-is_it s n = by (eqb s n) refl
-  where
-    by : (b : Bool) → eqb s n ≡ b → (s ≡ n) ⊎ (s ≢ n)
-    by true h = inl (grind (arith, nat_tests))
-    by false h = inr (λ e. grind (arith, nat_tests))
 
 -- nothing outside failed, and the script isn't too long
 pub completed : (SourceRose SinkRose : Type 0) (written_old written_new : Option (List ℕ)) (bytes : List ℕ) (status : ℕ) (ending : Ending) → Finishes ending written_old written_new bytes status → (ending ≡ Failed → SourceRose) → (status ≡ 4 → SinkRose) → (ending ≡ TooMuch → 67108864 < length bytes) → (SourceRose → ⊥) → (SinkRose → ⊥) → length bytes ≤ 67108864 → IsComplete status
 completed SourceRose SinkRose written_old written_new bytes status ending f source_rose sink_rose much source sink few =
-    by (is_it status 4) (is_it status 5)
+    by (eqb_tells status 4) (eqb_tells status 5)
   where
     zero_one : (b : Bool) → status ≡ (if b then 1 else 0) → IsComplete status
     zero_one true e = inr (inl e)
@@ -186,37 +174,33 @@ completed SourceRose SinkRose written_old written_new bytes status ending f sour
     ended Failed b failed over is = absurd (source (failed refl))
     ended TooMuch b failed over is = absurd (let many = over refl in omega (arith, many, few))
 
-    by : (status ≡ 4) ⊎ (status ≢ 4) → (status ≡ 5) ⊎ (status ≢ 5) → IsComplete status
-    by (inl four) five = absurd (sink (sink_rose four))
-    by (inr other) (inl five) = inr (inr five)
-    by (inr four) (inr five) = ended ending (any_refused f.told fresh) source_rose much (f.says four five)
+    by : ((eqb status 4 ≡ true) × (status ≡ 4)) ⊎ ((eqb status 4 ≡ false) × (status ≢ 4)) → ((eqb status 5 ≡ true) × (status ≡ 5)) ⊎ ((eqb status 5 ≡ false) × (status ≢ 5)) → IsComplete status
+    by (inl four) five = absurd (sink (sink_rose four.1))
+    by (inr four) (inl five) = inr (inr five.1)
+    by (inr four) (inr five) = ended ending (any_refused f.told fresh) source_rose much (f.says four.1 five.1)
 
 -- at 0, 1 and 6 the reading didn't fail
 pub unfailed : {Kept : Type 0} (written_old written_new : Option (List ℕ)) (bytes : List ℕ) (status : ℕ) (ending : Ending) → Finishes ending written_old written_new bytes status → (ending ≡ Whole → Kept) → (ending ≡ TooMuch → Kept) → (status ≡ 0) ⊎ ((status ≡ 1) ⊎ (status ≡ 6)) → Kept
 unfailed {Kept} written_old written_new bytes status ending f whole much which = by ending whole much (f.says four five)
   where
-    four : status ≢ 4
-    four e = at which
+    other : (n : ℕ) → 1 < n → n ≢ 6 → status ≢ n
+    other n some six e = at which
       where
         at : (status ≡ 0) ⊎ ((status ≡ 1) ⊎ (status ≡ 6)) → ⊥
-        at (inl z) = omega (arith, z, e)
-        at (inr (inl z)) = omega (arith, z, e)
-        at (inr (inr z)) = omega (arith, z, e)
+        at (inl z) = omega (arith, some, z, e)
+        at (inr (inl z)) = omega (arith, some, z, e)
+        at (inr (inr z)) = six (sym e ∙ z)
+
+    four : status ≢ 4
+    four = other 4 (omega arith) (λ e. omega (arith, e))
 
     five : status ≢ 5
-    five e = at which
-      where
-        at : (status ≡ 0) ⊎ ((status ≡ 1) ⊎ (status ≡ 6)) → ⊥
-        at (inl z) = omega (arith, z, e)
-        at (inr (inl z)) = omega (arith, z, e)
-        at (inr (inr z)) = omega (arith, z, e)
+    five = other 5 (omega arith) (λ e. omega (arith, e))
 
-    three : status ≡ 3 → (status ≡ 0) ⊎ ((status ≡ 1) ⊎ (status ≡ 6)) → ⊥
-    three e (inl z) = omega (arith, z, e)
-    three e (inr (inl z)) = omega (arith, z, e)
-    three e (inr (inr z)) = omega (arith, z, e)
+    three : status ≢ 3
+    three = other 3 (omega arith) (λ e. omega (arith, e))
 
     by : (e : Ending) → (e ≡ Whole → Kept) → (e ≡ TooMuch → Kept) → status ≡ status_of e (any_refused f.told fresh) → Kept
     by Whole kept kept' is = kept refl
-    by Failed kept kept' is = absurd (three is which)
+    by Failed kept kept' is = absurd (three is)
     by TooMuch kept kept' is = kept' refl

@@ -1,6 +1,7 @@
 -- Two tables of names in one: equal texts get one number there.
-use Rattle.std.proofs.Common.{◌≡◌, ◌∙◌, ℕ, zero, suc, List, [], ◌∷◌, ◌++◌, map, length, Bool, true, false, refl, sym, ap, ap₂}
+use Rattle.std.proofs.Common.{◌≡◌, ◌∙◌, ℕ, ◌+◌, zero, suc, List, [], ◌∷◌, ◌++◌, map, length, Bool, true, false, true≢false, refl, sym, ap, ap₂, arith}
 use Rattle.std.specs.Str.{bytes_eq}
+use Rattle.std.proofs.lemmas.List.{get_or_past, get_or-append-add}
 use Rattle.std.proofs.lemmas.Slice.Eq.{bytes_eq-Decides}
 use Rattle.ls_text.specs.Texts.{text_at}
 use Rattle.ls_text.specs.declared.name_id.NameId.{NameId}
@@ -18,12 +19,6 @@ pub place_of : List (List ℕ) → List ℕ → ℕ
 place_of [] text = zero
 place_of (x ∷ xs) text = pick (bytes_eq x text) (place_of xs text)
 
-differ : (b : Bool) → b ≡ true → b ≡ false → ⊥
-differ b p q = cc
-
-equal_bytes : (x text : List ℕ) → x ≡ text → bytes_eq x text ≡ true
-equal_bytes x text same = (bytes_eq-Decides x text).1 same
-
 -- a text that has some place has the first one
 pub found : (names : List (List ℕ)) (text : List ℕ) (n : ℕ) → text_at names n ≡ text → text_at names (place_of names text) ≡ text
 unfolding place_of
@@ -33,21 +28,16 @@ found (x ∷ xs) text n is = by (bytes_eq x text) refl n is (λ m. found xs text
     by : (b : Bool) → bytes_eq x text ≡ b → (n : ℕ) → text_at (x ∷ xs) n ≡ text
         → ((m : ℕ) → text_at xs m ≡ text → text_at xs (place_of xs text) ≡ text) → text_at (x ∷ xs) (pick b (place_of xs text)) ≡ text
     by true e n is later = (bytes_eq-Decides x text).0 e
-    by false e zero is later = absurd (differ (bytes_eq x text) (equal_bytes x text is) e)
+    by false e zero is later = absurd (true≢false (sym ((bytes_eq-Decides x text).1 is) ∙ e))
     by false e (suc n) is later = later n is
 
-past : (names : List (List ℕ)) → text_at names (length names) ≡ []
-past [] = refl
-past (x ∷ xs) = past xs
-
 pub left_place : (names other : List (List ℕ)) (n : ℕ) → (m : ℕ) × (text_at (names ++ other) m ≡ text_at names n)
-left_place [] other n = (length other, past other)
+left_place [] other n = (length other, get_or_past other (length other) [] (omega arith))
 left_place (x ∷ xs) other zero = (zero, refl)
 left_place (x ∷ xs) other (suc n) = let m = left_place xs other n in (suc m.0, m.1)
 
 pub right_place : (names other : List (List ℕ)) (n : ℕ) → (m : ℕ) × (text_at (names ++ other) m ≡ text_at other n)
-right_place [] other n = (n, refl)
-right_place (x ∷ xs) other n = let m = right_place xs other n in (suc m.0, m.1)
+right_place names other n = (length names + n, get_or-append-add names other n [])
 
 -- under the number that a text has in the joint table, it is there
 pub left_kept : (names other : List (List ℕ)) (n : ℕ) → text_at (names ++ other) (place_of (names ++ other) (text_at names n)) ≡ text_at names n

@@ -1,5 +1,5 @@
 -- Commands have one output, whatever is told of their texts, as long as it is right.
-use Rattle.std.proofs.Common.{◌≡◌, ◌∙◌, ℕ, ◌||◌, List, [], ◌∷◌, ◌++◌, drop, Option, Some, None, refl, sym, ap, subst}
+use Rattle.std.proofs.Common.{◌≡◌, ◌∙◌, ℕ, ◌||◌, List, [], ◌∷◌, ◌++◌, length, drop, Option, Some, None, refl, sym, ap, subst, arith}
 use Rattle.std.specs.Prelude.{is_err}
 use Rattle.typed_ir.specs.Cycles.{Flat}
 use Rattle.livesim.specs.Script.{BlockText}
@@ -41,14 +41,8 @@ first_or c (x ∷ xs) = x
 
 pub one_output : (ts us : List Told) (w : World) → AreRight w ts → AreRight w us → commands_of ts ≡ commands_of us → ComeToOne ts us w
 one_output [] [] w p q same = record { lines = refl; refused = refl; world = refl }
-one_output [] (u ∷ us) w p q same = absurd (none_some same)
-  where
-    none_some : {A : Type 0} {x : A} {xs : List A} → [] ≡ x ∷ xs → ⊥
-    none_some e = cc
-one_output (t ∷ ts) [] w p q same = absurd (some_none same)
-  where
-    some_none : {A : Type 0} {x : A} {xs : List A} → x ∷ xs ≡ [] → ⊥
-    some_none e = cc
+one_output [] (u ∷ us) w p q same = absurd (omega (arith, ap length same))
+one_output (t ∷ ts) [] w p q same = absurd (omega (arith, ap length same))
 one_output (t ∷ ts) (u ∷ us) w p q same =
     let first : t.command ≡ u.command = ap (first_or t.command) same in
     let judged : verdict t w ≡ verdict u w = same_verdict t u w p.0 q.0 first in

@@ -1,9 +1,8 @@
 -- A module under other names, which keep their texts: its register and its assignment are those that it has.
-use Rattle.std.proofs.Common.{◌≡◌, ◌∙◌, ℕ, Bool, true, false, not, ◌&&◌, ◌==◌, if◌then◌else◌, List, [], ◌∷◌, map, Option, Some, None, is_none, refl, ap₂}
+use Rattle.std.proofs.Common.{◌≡◌, ◌∙◌, ℕ, Bool, true, false, not, ◌&&◌, ◌==◌, if◌then◌else◌, List, [], ◌∷◌, map, Option, None, refl, ap₂}
 use Rattle.std.specs.Option.{option_map}
 use Rattle.std.proofs.lemmas.List.{length-map}
 use Rattle.ls_text.specs.declared.name_id.NameId.{NameId}
-use Rattle.verilog_ast.specs.declared.range.Range.{Range}
 use Rattle.verilog_ast.specs.declared.port_net.PortNet.TheVariants as net
 use Rattle.verilog_ast.specs.declared.header_port.HeaderPort.{HeaderPort}
 use Rattle.verilog_ast.specs.declared.header_port.HeaderPort.TheVariants as port
@@ -12,23 +11,20 @@ use Rattle.verilog_ast.specs.declared.ports.Ports.TheVariants as ports
 use Rattle.verilog_ast.specs.declared.item.Item.{Item}
 use Rattle.verilog_ast.specs.declared.module_body.ModuleBody.{ModuleBody}
 use Rattle.verilog_ast.specs.declared.module.Module.{Module}
-use Rattle.verilog_ast.specs.Renamed.{renamed_range, renamed_header_parameter, renamed_header_port, renamed_ports, renamed_item, renamed_body}
+use Rattle.verilog_ast.specs.Renamed.{renamed_header_parameter, renamed_header_port, renamed_ports, renamed_item, renamed_body}
 use Rattle.ls_text.specs.Options.{◌>>=◌}
 use Rattle.livesim.specs.Module.{only, both, is_clock_port, declared, some_clock_port, is_header, RegisterText, Assignment, items_at, body_at, module_at}
 use Rattle.livesim.proofs.JointNames.{Keeps}
 use Rattle.livesim.proofs.RenamedParts.{same_name}
+use Rattle.livesim.proofs.RenamedDeclaration.{same_none}
 use Rattle.livesim.proofs.RenamedRegister.{renamed_parts, same_items}
 
 -- ---- the header
 
-same_absent : (f : NameId → NameId) (r : Option Range) → is_none (option_map (renamed_range f) r) ≡ is_none r
-same_absent f None = refl
-same_absent f (Some r) = refl
-
 same_clock_port : (f : NameId → NameId) (names joint : List (List ℕ)) → Keeps f names joint → (clock : List ℕ) (p : HeaderPort)
     → is_clock_port joint clock (renamed_header_port f p) ≡ is_clock_port names clock p
 same_clock_port f names joint keeps clock (port.Input at net.Nothing x n) =
-    ap₂ (λ (a b : Bool). not x.signed && (a && b)) (same_absent f x.range) (same_name f names joint keeps clock n)
+    ap₂ (λ (a b : Bool). not x.signed && (a && b)) (same_none f x.range) (same_name f names joint keeps clock n)
 same_clock_port f names joint keeps clock (port.Input at net.Wire x n) = refl
 same_clock_port f names joint keeps clock (port.Input at net.Reg x n) = refl
 same_clock_port f names joint keeps clock (port.Output at net x y) = refl

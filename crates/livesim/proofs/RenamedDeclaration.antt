@@ -69,7 +69,7 @@ same_literal : (f : NameId → NameId) (v : Option Expr) → literal_in (option_
 same_literal f None = refl
 same_literal f (Some x) = ap (λ (n : Option Number). n >>= λ x. literal_of x) (same_number f x)
 
-same_none : (f : NameId → NameId) (r : Option Range) → is_none (option_map (renamed_range f) r) ≡ is_none r
+pub same_none : (f : NameId → NameId) (r : Option Range) → is_none (option_map (renamed_range f) r) ≡ is_none r
 same_none f None = refl
 same_none f (Some r) = refl
 

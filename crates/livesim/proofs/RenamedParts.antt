@@ -1,7 +1,8 @@
 -- A sum of operands under other names, which keep their texts.
-use Rattle.std.proofs.Common.{◌≡◌, ◌∙◌, ℕ, Bool, true, false, not, if◌then◌else◌, List, [], ◌∷◌, ◌++◌, map, Option, Some, None, refl, sym, ap, ap₂, subst}
+use Rattle.std.proofs.Common.{◌≡◌, ◌∙◌, ℕ, Bool, true, false, not, if◌then◌else◌, List, [], ◌∷◌, map, Option, Some, None, refl, sym, ap, ap₂, subst}
 use Rattle.std.specs.Option.{option_map}
 use Rattle.std.specs.Str.{bytes_eq}
+use Rattle.std.proofs.lemmas.List.{map-append}
 use Rattle.ls_text.specs.declared.name_id.NameId.{NameId}
 use Rattle.verilog_ast.specs.declared.identifier.Identifier.{Identifier}
 use Rattle.verilog_ast.specs.declared.binary_operator.BinaryOperator.{BinaryOperator}
@@ -54,11 +55,6 @@ literal_so : (f : NameId → NameId) (o : Option (ℕ × ℕ))
 literal_so f None = refl
 literal_so f (Some l) = refl
 
-map_last : (f : NameId → NameId) (os : List Operand) (o : Operand)
-    → map (renamed_operand f) os ++ renamed_operand f o ∷ [] ≡ map (renamed_operand f) (os ++ o ∷ [])
-map_last f [] o = refl
-map_last f (x ∷ os) o = ap (λ (zs : List Operand). renamed_operand f x ∷ zs) (map_last f os o)
-
 abbrev plus : Option Sum → Option Operand → Part
 plus s o = record { lone = None; sum = s >>= λ s. o >>= λ o. Some (with_operand s o) }
 
@@ -67,7 +63,7 @@ plus_so : (f : NameId → NameId) (s : Option Sum) (o : Option Operand)
 plus_so f None o = refl
 plus_so f (Some (x, xs)) None = refl
 plus_so f (Some (x, xs)) (Some o) =
-    ap (λ (zs : List Operand). record { lone = None; sum = Some (renamed_operand f x, zs) }) (map_last f xs o)
+    ap (λ (zs : List Operand). record { lone = None; sum = Some (renamed_operand f x, zs) }) (sym (map-append (renamed_operand f) xs (o ∷ [])))
 
 binary_so : (f : NameId → NameId) (op : BinaryOperator) (p q : Part)
     → binary_part op (renamed_part f p) (renamed_part f q) ≡ renamed_part f (binary_part op p q)

@@ -1,6 +1,7 @@
 -- The line of a fault in the files of a block.
-use Rattle.std.proofs.Common.{◌≡◌, ℕ, zero, suc, Bool, false, cond, eqb, List, [], ◌∷◌, ◌++◌, map, length, refl, sym, ap, ◌∙◌, arith}
-use Rattle.std.proofs.lemmas.Bool.Decides.{nat_tests}
+use Rattle.std.proofs.Common.{◌≡◌, ℕ, zero, suc, Bool, cond, List, [], ◌∷◌, ◌++◌, map, length, refl, sym, ap, ◌∙◌}
+use Rattle.std.proofs.Math.Dec.{eqb-suc-zero}
+use Rattle.std.proofs.lemmas.List.Folds.{flat_map-map}
 use Rattle.std.specs.Prelude.{codes, decimal, slice_get, slice_index_or}
 use Rattle.std.specs.List.{flat_map}
 use Rattle.ls_text.specs.Texts.{text_at}
@@ -25,20 +26,13 @@ place_shown names files line (Text p) = ap (λ file. file ++ (58 ∷ decimal p.l
 place_shown names files line (Line n) = refl
 place_shown names files line Edit = refl
 
-each_shown : (names : List (List ℕ)) (ids : List NameId) → flat_map (λ (id : NameId). 32 ∷ text_at names id.0) ids ≡ flat_map (λ (name : List ℕ). 32 ∷ name) (map (λ (id : NameId). text_at names id.0) ids)
-each_shown names [] = refl
-each_shown names (id ∷ ids) = ap (λ more. (32 ∷ text_at names id.0) ++ more) (each_shown names ids)
-
-none_left : {A : Type 0} (x : A) (xs : List A) → eqb (length (x ∷ xs)) 0 ≡ false
-none_left x xs = grind (arith, nat_tests)
-
 names_shown : (names : List (List ℕ)) (ids : List NameId) → names_text names ids ≡ shown_names (map (λ (id : NameId). text_at names id.0) ids)
 names_shown names [] = refl
 names_shown names (id ∷ ids) =
     let front = flat_map (λ (id : NameId). 32 ∷ text_at names id.0) (id ∷ ids) in
     let back = flat_map (λ (name : List ℕ). 32 ∷ name) (map (λ (id : NameId). text_at names id.0) (id ∷ ids)) in
-    ap (λ (b : Bool). cond b (codes " -") front) (none_left id ids) ∙ each_shown names (id ∷ ids)
-    ∙ ap (λ (b : Bool). cond b (codes " -") back) (sym (none_left (text_at names id.0) (map (λ (id : NameId). text_at names id.0) ids)))
+    ap (λ (b : Bool). cond b (codes " -") front) (eqb-suc-zero (length ids)) ∙ sym (flat_map-map (λ (name : List ℕ). 32 ∷ name) (λ (id : NameId). text_at names id.0) (id ∷ ids))
+    ∙ ap (λ (b : Bool). cond b (codes " -") back) (sym (eqb-suc-zero (length (map (λ (id : NameId). text_at names id.0) ids))))
 
 pub fault_shown : (names : List (List ℕ)) (files : List SourceFile) (line : ℕ) (f : Fault) → fault_text names files line f.code f.at f.names ≡ refusal_text (refused_text (file_names names files) line (fault_view names f))
 fault_shown names files line f =

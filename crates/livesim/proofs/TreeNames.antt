@@ -1,5 +1,7 @@
 -- Parts of a tree, whose names are of the table where the tree's are.
-use Rattle.std.proofs.Common.{◌≡◌, ◌<◌, ◌+◌, ℕ, zero, suc, List, [], ◌∷◌, ◌++◌, length, get_or, flat_map, Option, Some, None, Vec, Global, option_map, All, refl, subst, sym, ap, ◌∙◌, arith}
+use Rattle.std.proofs.Common.{◌≡◌, ◌<◌, ◌+◌, ℕ, zero, suc, List, [], ◌∷◌, ◌++◌, length, get_or, flat_map, Option, Some, Vec, Global, option_map, All, refl, subst, sym, ap, ◌∙◌, arith}
+use Rattle.std.proofs.lemmas.List.{map-append}
+use Rattle.std.proofs.lemmas.Option.{none-some, same_Some}
 use Rattle.std.proofs.lemmas.List.Elements.{All-nil, All-cons, All-head, All-tail}
 use Rattle.ls_text.specs.declared.name_id.NameId.{NameId}
 use Rattle.ls_text.specs.declared.place.Place.{Place}
@@ -80,21 +82,15 @@ right_names count op x y z whole is same h =
     subst (λ x. AreOfTable count (names_of_expression x)) (sym same)
     (back_names (names_of_expression x) (names_of_expression y) (subst (AreOfTable count) (ap names_of_expression is ∙ binary_names op x y) h))
 
-some_same : {A : Type 0} (x y : A) → Some x ≡ Some y → x ≡ y
-some_same x y is = cc
-
-some_none : {A : Type 0} (x : A) → Some x ≡ None → ⊥
-some_none x is = cc
-
 only_names : (count : ℕ) (xs : List HeaderPort) (x : HeaderPort) → Some x ≡ only xs → AreOfTable count (flat_map names_of_header_port xs)
     → AreOfTable count (names_of_header_port x)
-only_names count [] x is h = absurd (some_none x is)
-only_names count (y ∷ []) x is h = subst (λ z. AreOfTable count (names_of_header_port z)) (sym (some_same x y is)) (front_names (names_of_header_port y) [] h)
-only_names count (y ∷ z ∷ rest) x is h = absurd (some_none x is)
+only_names count [] x is h = absurd (none-some x (sym is))
+only_names count (y ∷ []) x is h = subst (λ z. AreOfTable count (names_of_header_port z)) (sym (same_Some x y is)) (front_names (names_of_header_port y) [] h)
+only_names count (y ∷ z ∷ rest) x is h = absurd (none-some x (sym is))
 
 declared_names : (count : ℕ) (x : Ports) (port : HeaderPort) → Some port ≡ declared x → AreOfTable count (names_of_ports x) → AreOfTable count (names_of_header_port port)
-declared_names count ports.Nothing port is h = absurd (some_none port is)
-declared_names count (ports.Names xs) port is h = absurd (some_none port is)
+declared_names count ports.Nothing port is h = absurd (none-some port (sym is))
+declared_names count (ports.Names xs) port is h = absurd (none-some port (sym is))
 declared_names count (ports.Declarations xs) port is h = only_names count xs port is h
 
 -- the one port of a module
@@ -124,10 +120,6 @@ sum_more names clock register op x y whole is add =
     ap (λ (z : Expr). (part_at names clock register z).sum) (is ∙ ap (λ (o : BinaryOperator). e.Binary o x y) add ∙ sym (e.rolls-Binary Add x y))
     ∙ ap (λ (p : Part). p.sum) (fold-roll-Expr Part (Option Identifier) (part_of names clock register) whole_name (Expr-F.Binary Add x y))
 
-operands_push : (ts : List Term) (t : Term) → operands (ts ++ t ∷ []) ≡ operands ts ++ operand t ∷ []
-operands_push [] t = refl
-operands_push (x ∷ ts) t = ap (λ z. operand x ∷ z) (operands_push ts t)
-
 both_found : (a : Option Sum) (b : Option Operand) (s : Sum) (o : Operand) → a ≡ Some s → b ≡ Some o → (a >>= λ s. b >>= λ o. Some (with_operand s o)) ≡ Some (with_operand s o)
 both_found a b s o p q = ap (λ (z : Option Sum). z >>= λ s. b >>= λ o. Some (with_operand s o)) p ∙ ap (λ (z : Option Operand). z >>= λ o. Some (with_operand s o)) q
 
@@ -140,17 +132,17 @@ sum_read names clock register op x y whole left right front term more found is a
     let a : (part_at names clock register x).sum ≡ Some (sum front) =
     ap (λ (z : Expr). (part_at names clock register z).sum) (sym is-left) ∙ sym v ∙ ap (λ (z : Option Terms). option_map sum z) is-front in
     let b : (part_at names clock register y).lone ≡ Some (operand term) = ap (λ (z : Expr). (part_at names clock register z).lone) (sym is-right) ∙ sym w in
-    ap (λ z. Some (operand front.first, z)) (ap operands pushed ∙ operands_push front.more.items term)
+    ap (λ z. Some (operand front.first, z)) (ap operands pushed ∙ map-append operand front.more.items (term ∷ []))
     ∙ sym (sum_more names clock register op x y whole is add ∙ both_found _ _ (sum front) (operand term) a b)
 
 operand_names : (count : ℕ) (t : Term) (rest : Option Identifier) (name : Identifier) → Some name ≡ or_else (unknown_name (operand t)) rest → IsTermOf count t
     → (Some name ≡ rest → name.name.0 < count) → name.name.0 < count
 operand_names count Register rest name is h other = other is
 operand_names count (Literal bits) rest name is h other = other is
-operand_names count (Unknown n) rest name is h other = subst (λ (z : Identifier). z.name.0 < count) (sym (some_same name n is)) h
+operand_names count (Unknown n) rest name is h other = subst (λ (z : Identifier). z.name.0 < count) (sym (same_Some name n is)) h
 
 operands_names : (count : ℕ) (ts : List Term) (name : Identifier) → Some name ≡ first_unknown (operands ts) → All (IsTermOf count) ts → name.name.0 < count
-operands_names count [] name is h = absurd (some_none name is)
+operands_names count [] name is h = absurd (none-some name (sym is))
 operands_names count (t ∷ ts) name is h =
     operand_names count t (first_unknown (operands ts)) name is (All-head (IsTermOf count) t ts h) (λ other. operands_names count ts name other (All-tail (IsTermOf count) t ts h))
 
@@ -165,17 +157,17 @@ unknown_names count parts name is h =
 whole_reference : (count : ℕ) (x : Reference) (o : Reference-F Expr Reference) (n : Identifier) → out-Reference x ≡ o → Some n ≡ name_of o
     → AreOfTable count (names_of_reference x) → n.name.0 < count
 whole_reference count x (Reference-F.Whole m) n is found h =
-    subst (λ (z : Identifier). z.name.0 < count) (sym (some_same n m found))
+    subst (λ (z : Identifier). z.name.0 < count) (sym (same_Some n m found))
     (first_name m.name [] (subst (AreOfTable count) (rw is at (fold_out-Reference (List NameId) (List NameId) expression_names reference_names x)) h))
-whole_reference count x (Reference-F.Bit m y) n is found h = absurd (some_none n found)
-whole_reference count x (Reference-F.Part m y z) n is found h = absurd (some_none n found)
-whole_reference count x (Reference-F.Upward m y z) n is found h = absurd (some_none n found)
-whole_reference count x (Reference-F.Downward m y z) n is found h = absurd (some_none n found)
+whole_reference count x (Reference-F.Bit m y) n is found h = absurd (none-some n (sym found))
+whole_reference count x (Reference-F.Part m y z) n is found h = absurd (none-some n (sym found))
+whole_reference count x (Reference-F.Upward m y z) n is found h = absurd (none-some n (sym found))
+whole_reference count x (Reference-F.Downward m y z) n is found h = absurd (none-some n (sym found))
 
 whole_target : (count : ℕ) (x : Lhs) (o : Lhs-F Lhs) (n : Identifier) → out-Lhs x ≡ o → Some n ≡ target_of o → AreOfTable count (names_of_target x) → n.name.0 < count
 whole_target count x (Lhs-F.Reference r) n is found h =
     whole_reference count r (out-Reference r) n refl found (subst (AreOfTable count) (rw is at (fold_out-Lhs (List NameId) target_names x)) h)
-whole_target count x (Lhs-F.Concatenation at xs) n is found h = absurd (some_none n found)
+whole_target count x (Lhs-F.Concatenation at xs) n is found h = absurd (none-some n (sym found))
 
 -- the target of an assignment, and its right side
 pub target_names_of : (count : ℕ) (left : Lhs) (right : Expr) (x : Stmt) (n : Identifier) → x ≡ s.Assign left right → Some n ≡ target_in left
@@ -199,14 +191,14 @@ clocked_names count at n x y item is same h =
 plain_generate : (count : ℕ) (x : GenerateItem) (o : GenerateItem-F GenerateItem Branch) (p : PlainItem) → out-GenerateItem x ≡ o → Some p ≡ plain_of o
     → AreOfTable count (names_of_generate_item x) → AreOfTable count (names_of_plain_item p)
 plain_generate count x (GenerateItem-F.Plain q) p is found h =
-    subst (λ (z : PlainItem). AreOfTable count (names_of_plain_item z)) (sym (some_same p q found))
+    subst (λ (z : PlainItem). AreOfTable count (names_of_plain_item z)) (sym (same_Some p q found))
     (subst (AreOfTable count) (rw is at (fold_out-GenerateItem (List NameId) (List NameId) generate_item_names branch_names x)) h)
-plain_generate count x (GenerateItem-F.For at y n ys) p is found h = absurd (some_none p found)
-plain_generate count x (GenerateItem-F.If xs) p is found h = absurd (some_none p found)
+plain_generate count x (GenerateItem-F.For at y n ys) p is found h = absurd (none-some p (sym found))
+plain_generate count x (GenerateItem-F.If xs) p is found h = absurd (none-some p (sym found))
 
 pub plain_names_of : (count : ℕ) (x : Item) (p : PlainItem) → Some p ≡ plain_in x → AreOfTable count (names_of_item x) → AreOfTable count (names_of_plain_item p)
-plain_names_of count (item.Input at net x ns) p found h = absurd (some_none p found)
-plain_names_of count (item.Output at net x ys) p found h = absurd (some_none p found)
-plain_names_of count (item.Parameter at x ys) p found h = absurd (some_none p found)
-plain_names_of count (item.Region at xs) p found h = absurd (some_none p found)
+plain_names_of count (item.Input at net x ns) p found h = absurd (none-some p (sym found))
+plain_names_of count (item.Output at net x ys) p found h = absurd (none-some p (sym found))
+plain_names_of count (item.Parameter at x ys) p found h = absurd (none-some p (sym found))
+plain_names_of count (item.Region at xs) p found h = absurd (none-some p (sym found))
 plain_names_of count (item.Item x) p found h = plain_generate count x (out-GenerateItem x) p refl found h

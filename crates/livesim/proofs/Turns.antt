@@ -1,6 +1,8 @@
 -- One turn of a run: what it answers, and what was carried out.
 use Rattle.std.proofs.Common.{◌≡◌, ℕ, Bool, true, false, ◌||◌, List, [], ◌∷◌, ◌++◌, Option, Some, None, Result, Ok, Err, refl, sym, ap, ◌∙◌, subst, append-nil, append_assoc, true≢false}
 use Rattle.std.proofs.Math.Bool.{or-false, or_assoc}
+use Rattle.std.proofs.KnownBytes.{Appends-nil, Appends-trans}
+use Rattle.std.proofs.lemmas.List.{map-append}
 use Rattle.std.specs.Prelude.{is_err, IsErr}
 use Rattle.std.specs.Io.KnownBytes.{Appends}
 use Rattle.ls_port.specs.declared.sink_refusal.SinkRefusal.{SinkRefusal}
@@ -11,10 +13,6 @@ use Rattle.livesim.specs.Endings.{Carries}
 use Rattle.livesim.specs.Worlds.{World, Told, plain, fresh, after, commands_of, verdict, any_refused, world_after, IsRight, AreRight}
 use Rattle.livesim.specs.Replies.{reply, lines, Replies, RepliesTo, RepliesAll}
 use Rattle.livesim.specs.Runs.{LeavesToWrite, WritesFront}
-
-commands-append : (xs ys : List Told) → commands_of (xs ++ ys) ≡ commands_of xs ++ commands_of ys
-commands-append [] ys = refl
-commands-append (x ∷ xs) ys = ap (λ cs. x.command ∷ cs) (commands-append xs ys)
 
 after-append : (xs ys : List Told) (w : World) → world_after (xs ++ ys) w ≡ world_after ys (world_after xs w)
 after-append [] ys w = refl
@@ -35,13 +33,6 @@ any_refused-append [] ys w = refl
 any_refused-append (x ∷ xs) ys w =
     ap (λ more. is_err (verdict x w) || more) (any_refused-append xs ys (after x w))
     ∙ sym (or_assoc (is_err (verdict x w)) (any_refused xs (after x w)) (any_refused ys (world_after xs (after x w))))
-
--- one text after another
-appends_more : (old mid new : Option (List ℕ)) (front back : List ℕ) → Appends old mid front → Appends mid new back → Appends old new (front ++ back)
-appends_more None mid new front back h w = tt
-appends_more (Some xs) None new front back h w = absurd h
-appends_more (Some xs) (Some ys) None front back h w = absurd w
-appends_more (Some xs) (Some ys) (Some zs) front back h w = w ∙ ap (λ z. z ++ back) h ∙ append_assoc xs front back
 
 -- one text, and a front of another
 leaves_more : (old mid new : Option (List ℕ)) (front back rest : List ℕ) → Appends old mid front → LeavesToWrite mid new rest back → LeavesToWrite old new rest (front ++ back)
@@ -72,18 +63,14 @@ pub record Done (all left : List Command) (w : World) (old new : Option (List �
   pub written : Appends old new (lines told fresh)
   pub judged : refused ≡ any_refused told fresh
 
-nothing_appended : (o : Option (List ℕ)) → Appends o o []
-nothing_appended None = tt
-nothing_appended (Some xs) = sym (append-nil xs)
-
 -- before the first
 pub none_done : (all : List Command) (w : World) (o : Option (List ℕ)) → w ≡ fresh → Done all all w o o false
-none_done all w o is = record { told = []; split = refl; right = tt; world = is; written = nothing_appended o; judged = refl }
+none_done all w o is = record { told = []; split = refl; right = tt; world = is; written = Appends-nil o; judged = refl }
 
 module _ (all left now later : List Command) (w x : World) (old mid new : Option (List ℕ)) (text : List ℕ) (refused so_far : Bool) (d : Done all left w old mid so_far) (is : left ≡ now ++ later) (r : RepliesAll now w x text refused) where
   split_more : commands_of (d.told ++ r.told) ++ later ≡ all
   split_more =
-      ap (λ cs. cs ++ later) (commands-append d.told r.told)
+      ap (λ cs. cs ++ later) (map-append (λ (t : Told). t.command) d.told r.told)
       ∙ append_assoc (commands_of d.told) (commands_of r.told) later
       ∙ ap (λ cs. commands_of d.told ++ (cs ++ later)) r.same
       ∙ ap (λ cs. commands_of d.told ++ cs) (sym is) ∙ d.split
@@ -103,7 +90,7 @@ module _ (all left now later : List Command) (w x : World) (old mid new : Option
     split = split_more;
     right = right_more;
     world = r.world ∙ ap (world_after r.told) d.world ∙ sym (after-append d.told r.told fresh);
-    written = subst (Appends old new) (sym lines_more) (appends_more old mid new (lines d.told fresh) text d.written written);
+    written = subst (Appends old new) (sym lines_more) (Appends-trans old mid new (lines d.told fresh) text d.written written);
     judged = ap (λ b. b || refused) d.judged ∙ ap (λ b. any_refused d.told fresh || b) r.refused
         ∙ ap (λ v. any_refused d.told fresh || any_refused r.told v) d.world ∙ sym (any_refused-append d.told r.told fresh);
   }

@@ -1,5 +1,6 @@
 -- The parts of a target, each where those right of it stand below it, are those of the definition.
-use Rattle.std.proofs.Common.{◌≡◌, ℕ, ◌+◌, Bool, true, false, ℤ, List, [], ◌∷◌, ◌++◌, refl, sym, ◌∙◌, ap, ap₂, arith}
+use Rattle.std.proofs.Common.{◌≡◌, ℕ, ◌+◌, Bool, true, false, ℤ, List, [], ◌∷◌, ◌++◌, refl, sym, ◌∙◌, ap, ap₂}
+use Rattle.std.proofs.Math.Nat.{add_assoc, add_comm, add-zero, zero-add}
 use Rattle.typed_ir.specs.Sized.{Sized}
 use Rattle.typed_ir.specs.Stmts.{SizedTarget}
 use Rattle.verilog_ast.specs.Expressions as e
@@ -54,24 +55,12 @@ reference_shifted scope s (e.Bracketed at x) = refl
 reference_shifted scope s e.NoPart = refl
 reference_shifted scope s (e.Parts x xs) = refl
 
-added : (a b c : ℕ) → a + (b + c) ≡ a + b + c
-added a b c = omega arith
-
-nothing_more : (a : ℕ) → a + 0 ≡ a
-nothing_more a = omega arith
-
-below_them : (s a b : ℕ) → s + (a + b) ≡ s + b + a
-below_them s a b = omega arith
-
 bits_append : (xs ys : List Leaf) → bits_of (xs ++ ys) ≡ bits_of xs + bits_of ys
-bits_append [] ys = zero_more (bits_of ys)
-  where
-    zero_more : (a : ℕ) → a ≡ 0 + a
-    zero_more a = omega arith
-bits_append (x ∷ xs) ys = ap (λ n. x.width + n) (bits_append xs ys) ∙ added x.width (bits_of xs) (bits_of ys)
+bits_append [] ys = sym (zero-add (bits_of ys))
+bits_append (x ∷ xs) ys = ap (λ n. x.width + n) (bits_append xs ys) ∙ sym (add_assoc x.width (bits_of xs) (bits_of ys))
 
 pub leaves_bits : (scope : Scope) (t : Target) → bits_of (leaves scope t) ≡ target_length scope t
-leaves_bits scope (Reference x) = nothing_more _
+leaves_bits scope (Reference x) = add-zero _
 leaves_bits scope (Joined at ts) = leaves_bits scope ts
 leaves_bits scope NoTarget = refl
 leaves_bits scope (Targets t ts) = bits_append (leaves scope t) (leaves scope ts) ∙ ap₂ (λ a b. a + b) (leaves_bits scope t) (leaves_bits scope ts)
@@ -80,11 +69,11 @@ laid_append : (s : ℕ) (xs ys : List Leaf) → laid s (xs ++ ys) ≡ laid (s + 
 laid_append s [] ys = refl
 laid_append s (x ∷ xs) ys =
     ap₂ (λ (n : ℕ) (ts : List SizedTarget). shifted n x.part ∷ ts)
-    (ap (λ n. s + n) (bits_append xs ys) ∙ below_them s (bits_of xs) (bits_of ys)) (laid_append s xs ys)
+    (ap (λ n. s + n) (bits_append xs ys ∙ add_comm (bits_of xs) (bits_of ys)) ∙ sym (add_assoc s (bits_of ys) (bits_of xs))) (laid_append s xs ys)
 
 pub leaves_laid : (scope : Scope) (s : ℕ) (t : Target) → laid s (leaves scope t) ≡ parts scope s t
 leaves_laid scope s (Reference x) =
-    ap (λ n. shifted n (reference_part scope 0 x) ∷ []) (nothing_more s) ∙ ap (λ (y : SizedTarget). y ∷ []) (sym (reference_shifted scope s x))
+    ap (λ n. shifted n (reference_part scope 0 x) ∷ []) (add-zero s) ∙ ap (λ (y : SizedTarget). y ∷ []) (sym (reference_shifted scope s x))
 leaves_laid scope s (Joined at ts) = leaves_laid scope s ts
 leaves_laid scope s NoTarget = refl
 leaves_laid scope s (Targets t ts) =

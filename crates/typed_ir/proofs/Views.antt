@@ -1,7 +1,8 @@
 -- What a write of a signal in place does to the views.
-use Rattle.std.proofs.Common.{◌≡◌, ℕ, zero, suc, ◌+◌, ◌-◌, ◌*◌, ◌/◌, ◌%◌, ◌^◌, min, pos, ◌≤◌, ◌<◌, ◌&&◌, nat_lt, nat_le, List, [], ◌∷◌, length, map, get_or, set, ◌==◌, IsTrue, refl, sym, ◌∙◌, ap, arith, get_or-set_same, get_or-set_other, drop, drop-cons}
+use Rattle.std.proofs.Common.{◌≡◌, ℕ, zero, suc, ◌+◌, ◌-◌, ◌*◌, ◌/◌, ◌%◌, ◌^◌, min, pos, ◌≤◌, ◌<◌, ◌&&◌, nat_lt, nat_le, List, [], ◌∷◌, length, map, get_or, set, ◌==◌, IsTrue, sym, ◌∙◌, ap, arith, get_or-set_same, get_or-set_other, drop}
 use Rattle.std.specs.Prelude.{slice_index}
 use Rattle.std.proofs.lemmas.Bool.{eqb-true, eqb-false, leb-true, ltb-true, cond-true, cond-false}
+use Rattle.std.proofs.lemmas.List.{length-map, map-set, set-get_or, get_or-map}
 use Rattle.std.proofs.lemmas.Nat.{pow_pos, mod_below}
 use Rattle.bits.specs.declared.Bits.{Bits}
 use Rattle.bits.specs.Runs.{replaced, replaced_within}
@@ -17,41 +18,23 @@ use Rattle.typed_ir.specs.Stmts.{all_applied, are_spans}
 use Rattle.typed_ir.specs.Nodes.{is_legal_node, are_legal}
 use Rattle.typed_ir.specs.Orders.{at_or}
 use Rattle.typed_ir.proofs.Cases.{by_cases, and_left, and_right}
-
-pub map_set : {A : Type 0} (f : A → ℕ) (xs : List A) (i : ℕ) (x : A) → map f (set xs i x) ≡ set (map f xs) i (f x)
-map_set f [] i x = refl
-map_set f (y ∷ ys) zero x = refl
-map_set f (y ∷ ys) (suc i) x = ap (λ zs. f y ∷ zs) (map_set f ys i x)
-
-pub set_same : (xs : List ℕ) (i : ℕ) (d : ℕ) → set xs i (get_or xs i d) ≡ xs
-set_same [] i d = refl
-set_same (y ∷ ys) zero d = refl
-set_same (y ∷ ys) (suc i) d = ap (λ zs. y ∷ zs) (set_same ys i d)
-
-pub get_or-map : {A : Type 0} (f : A → ℕ) (xs : List A) (i d : ℕ) (x : A) → i < length xs → get_or (map f xs) i d ≡ f (get_or xs i x)
-get_or-map f [] i d x h = absurd (omega (arith, h))
-get_or-map f (y ∷ ys) zero d x h = refl
-get_or-map f (y ∷ ys) (suc i) d x h = get_or-map f ys i d x (omega (arith, h))
-
-pub length_map : {A : Type 0} (f : A → ℕ) (xs : List A) → length (map f xs) ≡ length xs
-length_map f [] = refl
-length_map f (x ∷ xs) = ap suc (length_map f xs)
+use Rattle.typed_ir.proofs.Lists.{drop_split}
 
 -- a value of the same width leaves the widths
 pub widths-set : (env : List Bits) (i : ℕ) (x y : Bits) → i < length env → y ≡ get_or env i y → x.width ≡ y.width → widths (set env i x) ≡ widths env
 widths-set env i x y h is same =
-    map_set (λ (b : Bits). b.width) env i x
-    ∙ ap (set (widths env) i) (same ∙ ap (λ (b : Bits). b.width) is ∙ sym (get_or-map (λ (b : Bits). b.width) env i 0 y h))
-    ∙ set_same (widths env) i 0
+    map-set (λ (b : Bits). b.width) env i x
+    ∙ ap (set (widths env) i) (same ∙ ap (λ (b : Bits). b.width) is ∙ sym (get_or-map (λ (b : Bits). b.width) env i y 0 h))
+    ∙ set-get_or (widths env) i 0
 
 pub env_of-set : (env : List Bits) (i : ℕ) (x : Bits) → i < length env → env_of (set env i x) ≡ put (env_of env) i x.value
 env_of-set env i x h = λ j s. at s j
   where
     few : i < length (values env)
-    few = let e : length (values env) ≡ length env = length_map (λ (b : Bits). b.value) env in omega (arith, e, h)
+    few = let e : length (values env) ≡ length env = length-map env (λ (b : Bits). b.value) in omega (arith, e, h)
 
     at : (s : ℕ) → env_of (set env i x) s ≡ put (env_of env) i x.value s
-    at s = ap (λ xs. get_or xs s 0) (map_set (λ (b : Bits). b.value) env i x)
+    at s = ap (λ xs. get_or xs s 0) (map-set (λ (b : Bits). b.value) env i x)
         ∙ by_cases (s == i)
         (λ yes. let e : s ≡ i = eqb-true s i yes in
         ap (λ t. get_or (set (values env) i x.value) t 0) e ∙ get_or-set_same (values env) i x.value 0 few
@@ -61,13 +44,13 @@ env_of-set env i x h = λ j s. at s j
 
 -- what is read from the environment
 pub env_of-read : (env : List Bits) (i : ℕ) (y : Bits) → i < length env → y ≡ get_or env i y → y.value ≡ env_of env i
-env_of-read env i y h is = ap (λ (b : Bits). b.value) is ∙ sym (get_or-map (λ (b : Bits). b.value) env i 0 y h)
+env_of-read env i y h is = ap (λ (b : Bits). b.value) is ∙ sym (get_or-map (λ (b : Bits). b.value) env i y 0 h)
 
 pub widths-read : (env : List Bits) (i : ℕ) (y : Bits) → i < length env → y ≡ get_or env i y → y.width ≡ slice_index (widths env) i
-widths-read env i y h is = ap (λ (b : Bits). b.width) is ∙ sym (get_or-map (λ (b : Bits). b.width) env i 0 y h)
+widths-read env i y h is = ap (λ (b : Bits). b.width) is ∙ sym (get_or-map (λ (b : Bits). b.width) env i y 0 h)
 
 pub widths-length : (env : List Bits) → length (widths env) ≡ length env
-widths-length env = length_map (λ (b : Bits). b.width) env
+widths-length env = length-map env (λ (b : Bits). b.width)
 
 -- a span of these widths is of a signal that is there
 pub span_below : (span : Span) (env : List Bits) → IsTrue (is_span span (widths env)) → span.signal < length env
@@ -99,17 +82,14 @@ legal_read (y ∷ ys) ws (suc k) x h is l =
     legal_read ys ws k x (omega (arith, h)) is (and_right (is_legal_node (node_of y) ws) (are_legal (map node_of ys) ws) l)
 
 -- one more update
-pub update-drop : (us : List Update) (i : ℕ) (d : Update) → i < length us → drop i us ≡ get_or us i d ∷ drop (i + 1) us
-update-drop us i d h = let more : suc i ≡ i + 1 = omega arith in drop-cons us i d h ∙ ap (λ n. get_or us i d ∷ drop n us) more
-
 pub apply_step : (us : List Update) (i : ℕ) (d : Update) (ws ws' : List ℕ) (env next : Valuation) → i < length us → ws' ≡ ws
     → next ≡ placed (get_or us i d).span (get_or us i d).value env → IsTrue (are_spans (drop i us) ws)
     → IsTrue (are_spans (drop (i + 1) us) ws') × (all_applied (drop (i + 1) us) next ≡ all_applied (drop i us) env)
 apply_step us i d ws ws' env next h e en s =
     let u = get_or us i d in (
       ap (are_spans (drop (i + 1) us)) e
-          ∙ and_right (is_span u.span ws) (are_spans (drop (i + 1) us) ws) (sym (ap (λ xs. are_spans xs ws) (update-drop us i d h)) ∙ s),
-      ap (all_applied (drop (i + 1) us)) en ∙ sym (ap (λ xs. all_applied xs env) (update-drop us i d h)),
+          ∙ and_right (is_span u.span ws) (are_spans (drop (i + 1) us) ws) (sym (ap (λ xs. are_spans xs ws) (drop_split us i d h)) ∙ s),
+      ap (all_applied (drop (i + 1) us)) en ∙ sym (ap (λ xs. all_applied xs env) (drop_split us i d h)),
     )
 
 -- a signal has 1 to 128 bits

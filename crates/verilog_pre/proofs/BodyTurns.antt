@@ -1,5 +1,6 @@
 -- A body has the parts that its stretches give, and no others.
 use Rattle.std.proofs.Common.{◌≡◌, ℕ, zero, suc, ◌+◌, ◌-◌, ◌<◌, ◌≤◌, ◌==◌, ◌&&◌, ◌||◌, not, Bool, true, false, cond, List, [], ◌∷◌, ◌++◌, length, take, drop, Option, Some, None, refl, sym, ap, subst, ◌∙◌, arith, append_assoc, true≢false}
+use Rattle.std.proofs.Math.Seq.{take-append_seam, drop-append_seam}
 use Rattle.std.proofs.Math.Bool.{and-false}
 use Rattle.std.specs.Prelude.{slice_index}
 use Rattle.std.specs.List.{prefix_len}
@@ -13,7 +14,7 @@ use Rattle.verilog_pre.specs.declared.body_cut.BodyCut.TheVariants as cut
 use Rattle.verilog_pre.specs.Bodies.{begins_cut, lines_len, comment_len, run_len, comment_or, body_cut, cut_len, goes_on, run_part, cut_parts, trimmed_parts, trimmed_len, body_parts, body_len}
 use Rattle.verilog_pre.specs.Shapes.{HasNo, AllAre, StopsAt, ends_comment, IsLineComment, IsWord}
 use Rattle.verilog_pre.specs.BodyStretches.{ends_line, begins_stretch, LineEnds, IsBodyRun, Gives, Run, Continued, Comment, Unclosed, Macro, Trimmed, Body, AtEnd, AtNewline, AtComment, Goes}
-use Rattle.verilog_pre.proofs.Stretches.{first_of, zero_no_star, front_all, front_stops, leading_word, front_is, take_seam, drop_seam, longer}
+use Rattle.verilog_pre.proofs.Stretches.{first_of, zero_no_star, front_all, front_stops, leading_word, front_is, longer}
 use Rattle.verilog_pre.proofs.BodyStretches.{not_newline, line_of, after_line, line_and_after, line_count, line_plain, line_ends, line_is, open_plain, open_is, ClosedOn, closes_on, closed_on_is, run_from, left_from, from_joined, from_count, from_on_line, from_plain, from_ends, from_is}
 use Rattle.verilog_pre.proofs.Cuts.{parts_on, parts_last, len_on, len_last}
 
@@ -107,9 +108,9 @@ run file offset a bs line plain =
     subst (λ n. Cut file offset (a ∷ bs) (cut.Run n)) (sym (counted_from a bs plain))
     (On (run_from a bs) (left_from a bs) (cut.Run (length (run_from a bs))) joined refl refl some
     (subst (λ xs. Gives file offset (run_from a bs) (left_from a bs) (run_part file offset xs (drop (length (run_from a bs)) (a ∷ bs))))
-    (sym (ap (take (length (run_from a bs))) joined ∙ take_seam (run_from a bs) (left_from a bs)))
+    (sym (ap (take (length (run_from a bs))) joined ∙ take-append_seam (run_from a bs) (left_from a bs)))
     (subst (λ ys. Gives file offset (run_from a bs) (left_from a bs) (run_part file offset (run_from a bs) ys))
-    (sym (ap (drop (length (run_from a bs))) joined ∙ drop_seam (run_from a bs) (left_from a bs)))
+    (sym (ap (drop (length (run_from a bs))) joined ∙ drop-append_seam (run_from a bs) (left_from a bs)))
     (Run (record { some = some; on_line = from_on_line a bs (ap not line); plain = from_plain a bs; ends = from_ends a bs })))))
   where
     joined : a ∷ bs ≡ run_from a bs ++ left_from a bs
@@ -212,7 +213,7 @@ whole_trimmed (suc fuel) file offset (b ∷ bs) within =
         let sum : length (bytes ++ rest) ≡ length bytes + length rest = length-append bytes rest in
         let sizes : length (b ∷ bs) ≡ length (bytes ++ rest) = ap length joined in
         let short : length rest ≤ fuel = omega (arith, sum, some, within, sizes) in
-        let behind : drop (length bytes) (b ∷ bs) ≡ rest = ap (drop (length bytes)) joined ∙ drop_seam bytes rest in
+        let behind : drop (length bytes) (b ∷ bs) ≡ rest = ap (drop (length bytes)) joined ∙ drop-append_seam bytes rest in
         let parts : trimmed_parts file offset (b ∷ bs) ≡ cut_parts file offset (b ∷ bs) c ++ trimmed_parts file (offset + length bytes) rest =
         parts_on file offset (b ∷ bs) c (length bytes) (omega arith) is size some on
         ∙ ap (λ xs. cut_parts file offset (b ∷ bs) c ++ trimmed_parts file (offset + length bytes) xs) behind in
@@ -276,8 +277,8 @@ run_cut file offset (a ∷ cs) rest is =
       is = sym (plain_cut a (cs ++ rest) (not-true (a == 10) is.on_line.0) plain ∙ ap cut.Run (counted_from a (cs ++ rest) plain ∙ ap length (from_is a cs rest is.on_line is.plain is.ends)));
       on = refl;
       size = refl;
-      gives = ap (λ xs. run_part file offset xs (drop (length (a ∷ cs)) ((a ∷ cs) ++ rest))) (take_seam (a ∷ cs) rest)
-          ∙ ap (run_part file offset (a ∷ cs)) (drop_seam (a ∷ cs) rest);
+      gives = ap (λ xs. run_part file offset xs (drop (length (a ∷ cs)) ((a ∷ cs) ++ rest))) (take-append_seam (a ∷ cs) rest)
+          ∙ ap (run_part file offset (a ∷ cs)) (drop-append_seam (a ∷ cs) rest);
     }
   where
     first_two : (cs rest : List ℕ) → HasNo begins_stretch (a ∷ (cs ++ take 1 rest)) → Plain a (cs ++ rest)
@@ -331,7 +332,7 @@ continued_cut rest = refl
 
 front_word : (word rest : List ℕ) → take (length (96 ∷ word) - 1) (drop 1 ((96 ∷ word) ++ rest)) ≡ word
 front_word word rest =
-    let same : length (96 ∷ word) - 1 ≡ length word = omega arith in ap (λ n. take n (word ++ rest)) same ∙ take_seam word rest
+    let same : length (96 ∷ word) - 1 ≡ length word = omega arith in ap (λ n. take n (word ++ rest)) same ∙ take-append_seam word rest
 
 gives_is : (file offset : ℕ) (bytes rest : List ℕ) (parts : List Part) → Gives file offset bytes rest parts → IsCut file offset bytes rest parts
 gives_is file offset bytes rest parts (Run is) = run_cut file offset bytes rest is
@@ -379,9 +380,9 @@ goes_is : (file offset : ℕ) (bytes rest : List ℕ) (parts more : List Part) (
 goes_is file offset bytes rest parts more n c some behind =
     let sum : length (bytes ++ rest) ≡ length bytes + length rest = length-append bytes rest in (
       ap (λ ps. ps ++ more) (sym c.gives) ∙ ap (λ ps. cut_parts file offset (bytes ++ rest) c.cut ++ ps) behind.0
-          ∙ ap (λ xs. cut_parts file offset (bytes ++ rest) c.cut ++ trimmed_parts file (offset + length bytes) xs) (sym (drop_seam bytes rest))
+          ∙ ap (λ xs. cut_parts file offset (bytes ++ rest) c.cut ++ trimmed_parts file (offset + length bytes) xs) (sym (drop-append_seam bytes rest))
           ∙ sym (parts_on file offset (bytes ++ rest) c.cut (length bytes) (longer bytes rest some) c.is c.size some c.on),
-      ap (λ k. length bytes + k) (behind.1 ∙ ap trimmed_len (sym (drop_seam bytes rest)))
+      ap (λ k. length bytes + k) (behind.1 ∙ ap trimmed_len (sym (drop-append_seam bytes rest)))
           ∙ sym (len_on (bytes ++ rest) c.cut (length bytes) (longer bytes rest some) c.is c.size some (omega (arith, sum)) c.on),
     )
 
@@ -427,7 +428,7 @@ pub only_body : (file offset : ℕ) (text : List ℕ) (parts : List Part) (n : �
 unfolding body_parts body_len
 only_body file offset text parts n b =
     let lead : prefix_len is_blank text ≡ length b.blanks = ap (prefix_len is_blank) b.is ∙ front_is is_blank b.blanks b.rest b.blank b.ends in
-    let left : drop (prefix_len is_blank text) text ≡ b.rest = ap (λ k. drop k text) lead ∙ ap (drop (length b.blanks)) b.is ∙ drop_seam b.blanks b.rest in
+    let left : drop (prefix_len is_blank text) text ≡ b.rest = ap (λ k. drop k text) lead ∙ ap (drop (length b.blanks)) b.is ∙ drop-append_seam b.blanks b.rest in
     let is : (parts ≡ trimmed_parts file (offset + length b.blanks) b.rest) × (b.size ≡ trimmed_len b.rest) =
     only_trimmed file (offset + length b.blanks) b.rest parts b.size b.behind in (
       is.0 ∙ ap (λ k. trimmed_parts file (offset + k) b.rest) (sym lead) ∙ ap (trimmed_parts file (offset + prefix_len is_blank text)) (sym left),

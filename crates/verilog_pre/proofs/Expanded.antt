@@ -1,5 +1,6 @@
 -- The use of a macro gives what the relation on uses says, and nothing else.
 use Rattle.std.proofs.Common.{◌≡◌, ℕ, zero, suc, ◌+◌, ◌-◌, ◌<◌, ◌≤◌, Bool, true, false, cond, ltb, List, [], ◌∷◌, ◌++◌, length, take, map, Option, Some, None, Result, Ok, Err, refl, sym, ap, subst, ◌∙◌, arith}
+use Rattle.std.proofs.Math.Seq.{take-append_seam}
 use Rattle.std.proofs.lemmas.List.{length-append}
 use Rattle.ls_text.specs.Readings.{TextFault, fault_at, ◌>>=◌}
 use Rattle.ls_text.specs.declared.place.Place.{Place}
@@ -10,7 +11,6 @@ use Rattle.verilog_pre.specs.Conditionals.{but_last}
 use Rattle.verilog_pre.specs.Parts.{Part, Text, Use, Open, Item, Read, Leave}
 use Rattle.verilog_pre.specs.Expansions.{Output, Context, emitted, stretch_piece, is_open, entered, work_with, use_with, work_on, used, expanded}
 use Rattle.verilog_pre.specs.Uses.{macro_parts, with_uses, Expands, AtEnd, Bytes, TooLong, Unclosed, TooMany, Unknown, Within, Body, BodyFails}
-use Rattle.verilog_pre.proofs.Stretches.{take_seam}
 
 emitted_uses : (at : Place) (piece : Piece) (len : ℕ) (out new : Output) → emitted at piece len out ≡ Ok new → new.uses ≡ out.uses
 unfolding emitted
@@ -33,7 +33,7 @@ left : (nest : List ℕ) (k : ℕ) → but_last (nest ++ k ∷ []) ≡ nest
 left nest k =
     let size : length (nest ++ k ∷ []) ≡ length nest + 1 = length-append nest (k ∷ []) in
     let one : length (nest ++ k ∷ []) - 1 ≡ length nest = omega (arith, size) in
-    ap (λ n. take n (nest ++ k ∷ [])) one ∙ take_seam nest (k ∷ [])
+    ap (λ n. take n (nest ++ k ∷ [])) one ∙ take-append_seam nest (k ∷ [])
 
 bytes_is : (c : Context) (nest : List ℕ) (out : Output) (s : Stretch) (work : List Item) (r : Result Output TextFault)
     → emitted c.at (stretch_piece c.at s) (s.end - s.start) out ≡ r

@@ -1,5 +1,6 @@
 -- The rest of a file leaves conditionals open where the relation says so, and nowhere else.
 use Rattle.std.proofs.Common.{◌≡◌, ℕ, zero, suc, ◌+◌, ◌<◌, ◌≤◌, ◌⊎◌, inl, inr, Bool, true, List, [], ◌∷◌, ◌++◌, length, drop, refl, sym, ap, subst, ◌∙◌, arith}
+use Rattle.std.proofs.Math.Seq.{take-append_seam, drop-append_seam}
 use Rattle.std.proofs.lemmas.Bool.{lt-ltb}
 use Rattle.std.proofs.lemmas.List.{length-append}
 use Rattle.verilog_pre.specs.declared.head.Head.{Head}
@@ -10,13 +11,13 @@ use Rattle.verilog_pre.specs.LeavesOpen.{LeavesOpen, AllClosed, AtEnd, Comment, 
 use Rattle.verilog_pre.specs.Shapes.{HasNo, ends_comment, IsLineComment, IsBlockComment, IsWord}
 use Rattle.verilog_pre.proofs.HeadShapes.{Headed, Line, Block, Unclosed, Backquoted, Plain, headed, line_head, block_head, open_head, word_head, run_head}
 use Rattle.verilog_pre.proofs.Passed.{stays_on, none_stays, stays_at_end}
-use Rattle.verilog_pre.proofs.Stretches.{take_seam, drop_seam, longer}
+use Rattle.verilog_pre.proofs.Stretches.{longer}
 
 -- behind a stretch it goes on with the rest
 goes : (depth next : ℕ) (cut rest : List ℕ) → 0 < depth → 0 < length cut → passed depth (cut ++ rest) (head_of (cut ++ rest)) ≡ (next, length cut)
     → stays_open depth (cut ++ rest) ≡ stays_open next rest
 goes depth next cut rest open_ some is =
-    stays_on depth next (cut ++ rest) rest (length cut) (longer cut rest some) open_ some is (sym (drop_seam cut rest))
+    stays_on depth next (cut ++ rest) rest (length cut) (longer cut rest some) open_ some is (sym (drop-append_seam cut rest))
 
 -- what the stretches come to, each by its head
 comment_goes : (depth : ℕ) (cut rest : List ℕ) → 0 < depth → 0 < length cut → head_of (cut ++ rest) ≡ head.Comment (length cut)
@@ -32,7 +33,7 @@ word_goes : (depth : ℕ) (word rest : List ℕ) → 0 < depth → IsWord word r
 word_goes depth word rest open_ is =
     goes depth (depth_behind depth (directive_of word)) (96 ∷ word) rest open_ (omega arith)
     (ap (passed depth (96 ∷ (word ++ rest))) (word_head word rest is)
-    ∙ ap (λ w. (depth_behind depth (directive_of w), 1 + length word)) (take_seam word rest)
+    ∙ ap (λ w. (depth_behind depth (directive_of w), 1 + length word)) (take-append_seam word rest)
     ∙ ap (λ n. (depth_behind depth (directive_of word), n)) (let same : 1 + length word ≡ length (96 ∷ word) = omega arith in same))
 
 open_goes : (depth : ℕ) (inside : List ℕ) → 0 < depth → HasNo ends_comment inside → stays_open depth (47 ∷ 42 ∷ inside) ≡ true

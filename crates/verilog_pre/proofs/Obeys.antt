@@ -1,5 +1,6 @@
 -- A directive does what the relation on directives says, and nothing else.
 use Rattle.std.proofs.Common.{◌≡◌, ℕ, ◌+◌, ◌==◌, ◌&&◌, ◌||◌, not, Bool, true, false, cond, List, [], ◌∷◌, ◌++◌, length, take, drop, Option, Some, None, Result, Ok, Err, refl, sym, ap, subst, ◌∙◌, arith, append_assoc, true≢false}
+use Rattle.std.proofs.Math.Seq.{take-append_seam, drop-append_seam}
 use Rattle.std.specs.Prelude.{slice_index, is_some}
 use Rattle.std.specs.List.{prefix_len}
 use Rattle.std.proofs.lemmas.Bool.{eqb-true, or_parts}
@@ -22,7 +23,7 @@ use Rattle.verilog_pre.specs.Reading.{Read, bad, with_out, with_body, define_nam
 use Rattle.verilog_pre.specs.States.{State}
 use Rattle.verilog_pre.specs.Shapes.{AllAre, StopsAt, IsWord}
 use Rattle.verilog_pre.specs.Uses.{Expands}
-use Rattle.verilog_pre.proofs.Stretches.{front_all, front_stops, leading_word, front_is, take_seam, drop_seam}
+use Rattle.verilog_pre.proofs.Stretches.{front_all, front_stops, leading_word, front_is}
 use Rattle.verilog_pre.proofs.BodyTurns.{whole_body, only_body}
 use Rattle.verilog_pre.proofs.Expanded.{whole_use, only_use}
 
@@ -99,7 +100,7 @@ left_is : (text blanks name rest : List ℕ) → HasName text blanks name rest �
 left_is text blanks name rest has =
     ap (drop (length blanks + length name)) (has.is ∙ sym (append_assoc blanks name rest))
     ∙ ap (λ n. drop n ((blanks ++ name) ++ rest)) (sym (length-append blanks name))
-    ∙ drop_seam (blanks ++ name) rest
+    ∙ drop-append_seam (blanks ++ name) rest
 
 -- the name's letter behind the blanks
 letter_first : (name rest : List ℕ) → IsWord name rest → is_letter (slice_index (name ++ rest) 0) ≡ true
@@ -121,7 +122,7 @@ behind_blanks : (blanks left : List ℕ) → AllAre is_blank blanks → StopsAt 
 unfolding name_at
 behind_blanks blanks left blank stops =
     ap (λ n. name_behind (drop n (blanks ++ left)) n) (front_is is_blank blanks left blank stops)
-    ∙ ap (λ xs. name_behind xs (length blanks)) (drop_seam blanks left)
+    ∙ ap (λ xs. name_behind xs (length blanks)) (drop-append_seam blanks left)
 
 name_is : (text blanks name rest : List ℕ) → HasName text blanks name rest → name_at text ≡ Some (name, length blanks + length name)
 name_is text blanks name rest has =
@@ -130,7 +131,7 @@ name_is text blanks name rest has =
     ∙ behind_blanks blanks (name ++ rest) has.blank (stops_blank (name ++ rest) letter)
     ∙ ap (name_if (name ++ rest) (length blanks)) letter
     ∙ ap (λ n. Some (take n (name ++ rest), length blanks + n)) (front_is is_word_byte name rest has.word.all has.word.ends)
-    ∙ ap (λ xs. Some (xs, length blanks + length name)) (take_seam name rest)
+    ∙ ap (λ xs. Some (xs, length blanks + length name)) (take-append_seam name rest)
 
 no_name_is : (text : List ℕ) → HasNoName text → name_at text ≡ None
 no_name_is text has =

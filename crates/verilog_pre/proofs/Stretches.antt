@@ -205,14 +205,6 @@ run_is a (c ∷ cs) rest has ends =
 
 -- ---- two stretches side by side
 
-pub drop_seam : (cut rest : List ℕ) → drop (length cut) (cut ++ rest) ≡ rest
-drop_seam [] rest = refl
-drop_seam (c ∷ cs) rest = drop_seam cs rest
-
-pub take_seam : (cut rest : List ℕ) → take (length cut) (cut ++ rest) ≡ cut
-take_seam [] rest = refl
-take_seam (c ∷ cs) rest = ap (λ xs. c ∷ xs) (take_seam cs rest)
-
 pub longer : (cut rest : List ℕ) → 0 < length cut → 0 < length (cut ++ rest)
 longer [] rest some = absurd (omega arith)
 longer (c ∷ cs) rest some = omega arith

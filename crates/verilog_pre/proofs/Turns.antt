@@ -1,5 +1,6 @@
 -- A text is read as its stretches say, and in no other way.
 use Rattle.std.proofs.Common.{◌≡◌, ℕ, zero, suc, ◌+◌, ◌-◌, ◌<◌, ◌≤◌, Bool, true, false, cond, List, [], ◌∷◌, ◌++◌, length, take, drop, Option, Some, None, Result, Ok, Err, refl, sym, ap, subst, ◌∙◌, arith, append_assoc}
+use Rattle.std.proofs.Math.Seq.{take-append_seam, drop-append_seam}
 use Rattle.std.specs.Prelude.{nat_lt, slice_get}
 use Rattle.std.proofs.lemmas.Bool.{ltb-true, ltb-false, lt-ltb, le-ltb}
 use Rattle.std.proofs.lemmas.List.{append-nil, take-append-drop, take-append-le, length-append}
@@ -21,7 +22,7 @@ use Rattle.verilog_pre.specs.Stretches.{with_run, Does, LineComment, BlockCommen
 use Rattle.verilog_pre.proofs.HeadShapes.{Headed, Line, Block, Unclosed, Backquoted, Plain, headed, line_head, block_head, open_head, word_head, run_head}
 use Rattle.verilog_pre.proofs.LeavesOpen.{whole_leaves, only_leaves}
 use Rattle.verilog_pre.proofs.Obeys.{whole_directive, only_directive}
-use Rattle.verilog_pre.proofs.Stretches.{take_seam, drop_seam, longer}
+use Rattle.verilog_pre.proofs.Stretches.{longer}
 use Rattle.verilog_pre.proofs.Uses.{text_on}
 use Rattle.verilog_pre.proofs.Within.{directive_within}
 
@@ -49,8 +50,8 @@ reads_word : (at : Place) (offset : ℕ) (st : State) (word left : List ℕ)
     → word_read at offset st (96 ∷ (word ++ left)) (length word) ≡ behind_word word (directive_read at (offset + 1 + length word) word st left)
 unfolding word_read
 reads_word at offset st word left =
-    ap (λ xs. behind_word xs (directive_read at (offset + 1 + length word) xs st (drop (length word) (word ++ left)))) (take_seam word left)
-    ∙ ap (λ xs. behind_word word (directive_read at (offset + 1 + length word) word st xs)) (drop_seam word left)
+    ap (λ xs. behind_word xs (directive_read at (offset + 1 + length word) xs st (drop (length word) (word ++ left)))) (take-append_seam word left)
+    ∙ ap (λ xs. behind_word word (directive_read at (offset + 1 + length word) word st xs)) (drop-append_seam word left)
 
 word_turned : (at : Place) (offset : ℕ) (st : State) (word left : List ℕ) → IsWord word left
     → Turned at offset st (96 ∷ (word ++ left)) (word_read at offset st (96 ∷ (word ++ left)) (length word))
@@ -141,7 +142,7 @@ goes_on : (at : Place) (offset : ℕ) (st next : State) (cut rest : List ℕ) �
     → text_read at offset st (cut ++ rest) ≡ text_read (place_after at cut) (offset + length cut) next rest
 goes_on at offset st next cut rest some turns =
     text_on at (place_after at cut) offset st next (cut ++ rest) rest (length cut) (longer cut rest some) some turns
-    (ap (place_after at) (sym (take_seam cut rest))) (sym (drop_seam cut rest))
+    (ap (place_after at) (sym (take-append_seam cut rest))) (sym (drop-append_seam cut rest))
 
 fails_with : (at : Place) (offset : ℕ) (st : State) (text : List ℕ) (e : TextFault) → 0 < length text
     → turn at offset st text ≡ Err e → text_read at offset st text ≡ Err e

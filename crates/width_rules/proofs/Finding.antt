@@ -7,7 +7,7 @@ use Rattle.std.proofs.lemmas.Bool.{eqb-true, eq-eqb, cond-true, cond-false, and_
 use Rattle.std.proofs.lemmas.Option.{none-some}
 use Rattle.indexmap.specs.IndexMap.{insert_entry}
 use Rattle.ls_text.specs.declared.name_id.NameId.{NameId}
-use Rattle.typed_ir.proofs.Cases.{by_cases, and_left, and_right, left_or, right_or}
+use Rattle.typed_ir.proofs.Cases.{by_cases, and_left, and_right, left_or, right_or, turned}
 use Rattle.width_rules.specs.declared.entry.Entry.{Entry}
 use Rattle.width_rules.specs.declared.covered.Covered.{Covered}
 use Rattle.width_rules.specs.declared.covered.Covered.TheVariants as covered
@@ -57,12 +57,6 @@ inserted E same (e ∷ es) k v other = by_cases (E k e.0)
     apart f t = by_cases (k.0 == other)
         (λ u. absurd (true≢false (sym (same k e.0 ∙ eq-eqb k.0 e.0.0 (eqb-true k.0 other u ∙ sym (eqb-true e.0.0 other t))) ∙ f)))
         (λ g. g)
-
--- a test of equality both ways
-pub turned : (m n : ℕ) → (m == n) ≡ (n == m)
-turned m n = by_cases (m == n)
-    (λ t. t ∙ sym (eq-eqb n m (sym (eqb-true m n t))))
-    (λ f. f ∙ sym (by_cases (n == m) (λ u. absurd (true≢false (sym (eq-eqb m n (sym (eqb-true n m u))) ∙ f))) (λ g. g)))
 
 -- ---- as a whole
 

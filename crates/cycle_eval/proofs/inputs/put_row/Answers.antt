@@ -1,10 +1,10 @@
 use Rattle.std.proofs.Common.{rules, ◌≡◌, ◌+◌, ◌-◌, ◌<◌, ◌%◌, ◌^◌, ◌∙◌, ℕ, length, get_or, map, drop, sym, ap, ap₂, subst, arith}
 use Rattle.std.specs.Prelude.{slice_index}
-use Rattle.std.proofs.lemmas.List.{length-map}
+use Rattle.std.proofs.lemmas.List.{length-map, get_or-map}
 use Rattle.bits.specs.declared.Bits.{Bits}
 use Rattle.typed_ir.specs.Cycles.{fill, cut_to}
 use Rattle.typed_ir.specs.Views.{widths, env_of}
-use Rattle.typed_ir.proofs.Views.{env_of-set, get_or-map}
+use Rattle.typed_ir.proofs.Views.{env_of-set}
 use Rattle.cycle_eval.proofs.Loads.{below_read, fill_step, widths_put}
 use Rattle.cycle_eval.proofs.InputRows.{cut_length, cut_read}
 use Rattle.cycle_eval.proofs.inputs.put_row.Goals as goal
@@ -48,7 +48,7 @@ loop-left-preserved c =
     let more : i + 1 ≡ c.loop-left.left = omega arith in
     let count : length ws ≡ length ss = length-map ss (λ (s : ℕ). slice_index (widths old) s) in
     let few : i < length ws = omega (arith, within, count) in
-    let width : x.width ≡ slice_index (widths env) s = c.new.ensures.width ∙ sym (get_or-map (λ (b : Bits). b.width) env s 0 c.index-env-input.result here) in
+    let width : x.width ≡ slice_index (widths env) s = c.new.ensures.width ∙ sym (get_or-map (λ (b : Bits). b.width) env s c.index-env-input.result 0 here) in
     let declared : x.width ≡ get_or ws i 0 =
     width ∙ ap (λ zs. slice_index zs s) c.loop-left.invariant.kept ∙ ap (λ z. slice_index (widths old) z) same ∙ sym (get_or-map (λ (s : ℕ). slice_index (widths old) s) ss i 0 0 within) in
     let cut : x.value ≡ get_or (cut_to ws row) i 0 =

@@ -1,9 +1,9 @@
-use Rattle.std.proofs.Common.{map, sym, ◌∙◌}
+use Rattle.std.proofs.Common.{List, map, get_or, drop, sym, ◌∙◌, ap}
 use Rattle.verilog_ast.specs.Views.{head_of}
 use Rattle.width_rules.specs.Entries.{scope_of}
+use Rattle.width_rules.specs.Scopes.{Scope}
 use Rattle.gen_unroll.specs.Values.{constant_of}
 use Rattle.gen_unroll.proofs.Counting.{loop_counted, loop_refused}
-use Rattle.gen_unroll.proofs.Values.{same_head, same_rest}
 use Rattle.gen_unroll.proofs.looping.loop_turns.Goals as goal
 
 pub returns-in-Ok-clause-answer : goal.returns-in-Ok-clause-answer
@@ -20,10 +20,10 @@ returns-in-Err-clause-answer c =
 
 pub returns-in-Ok-clause-names : goal.returns-in-Ok-clause-names
 returns-in-Ok-clause-names c =
-    same_head (scope_of c.close_block.new.self) (scope_of c.args.scope.now) _ _
+    ap (λ (ss : List Scope). get_or ss 0 (scope_of c.args.scope.now))
     (sym c.close_block.ensures ∙ c.in-Ok.ensures.around ∙ c.in_ok-declare.ensures.around ∙ c.in_ok-open_block.ensures.around)
 
 pub returns-in-Ok-clause-around : goal.returns-in-Ok-clause-around
 returns-in-Ok-clause-around c =
-    same_rest (scope_of c.close_block.new.self) (scope_of c.args.scope.now) _ _
+    ap (λ (ss : List Scope). drop 1 ss)
     (sym c.close_block.ensures ∙ c.in-Ok.ensures.around ∙ c.in_ok-declare.ensures.around ∙ c.in_ok-open_block.ensures.around)

@@ -1,4 +1,4 @@
-use Rattle.std.proofs.Common.{◌≡◌, ◌+◌, Bool, true, map, length, drop, None, Err, Ok, sym, ap, ◌∙◌, subst, rules}
+use Rattle.std.proofs.Common.{◌≡◌, ◌+◌, List, Bool, true, map, length, drop, None, Err, Ok, sym, ap, ◌∙◌, subst, rules}
 use Rattle.std.specs.Option.{option_map}
 use Rattle.width_rules.specs.Entries.{scope_of}
 use Rattle.width_rules.specs.Scopes.{Scope}
@@ -11,7 +11,6 @@ use Rattle.gen_unroll.proofs.Blocks.{goes_from, goes_as, nothing_told, taken_thr
 use Rattle.gen_unroll.proofs.Comings.{quiet_refused}
 use Rattle.gen_unroll.proofs.Lefts.{left_more, left_end, goes_stop}
 use Rattle.gen_unroll.proofs.Listing.{each_next, items_next, items_none, chosen_first, chosen_quiet, chosen_none}
-use Rattle.gen_unroll.proofs.Values.{same_rest}
 use Rattle.gen_unroll.proofs.unrolling.+walk.Goals as goal
 
 pub taken-returns-clause-goes : goal.taken-returns-clause-goes
@@ -82,7 +81,7 @@ generate_items-returns-clause-goes t c =
 pub block-returns-clause-around : goal.block-returns-clause-around
 block-returns-clause-around t c =
     c.in_ok-tell.ensures.around
-    ∙ same_rest (scope_of c.close_block.new.self) _ _ _ (sym c.close_block.ensures ∙ c.in_ok-generate_items.ensures.around ∙ c.in_ok-number.ensures.around)
+    ∙ ap (λ (ss : List Scope). drop 1 ss) (sym c.close_block.ensures ∙ c.in_ok-generate_items.ensures.around ∙ c.in_ok-number.ensures.around)
 
 pub turns-returns-in-Err-clause-goes : goal.turns-returns-in-Err-clause-goes
 turns-returns-in-Err-clause-goes t c =

@@ -1,6 +1,7 @@
 use Rattle.std.proofs.Common.{◌∙◌, sym, ap}
 use Rattle.std.specs.Option.{option_copied}
-use Rattle.width_rules.proofs.Finding.{meaning_or, looked_up, turned}
+use Rattle.typed_ir.proofs.Cases.{turned}
+use Rattle.width_rules.proofs.Finding.{meaning_or, looked_up}
 use Rattle.width_rules.proofs.scope.Scope.find.Goals as goal
 
 pub returns-in-Some : goal.returns-in-Some

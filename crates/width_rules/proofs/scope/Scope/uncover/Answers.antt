@@ -1,6 +1,7 @@
 use Rattle.std.proofs.Common.{◌∙◌, sym, ap, refl, true≢false}
+use Rattle.typed_ir.proofs.Cases.{turned}
 use Rattle.width_rules.specs.Found.{found}
-use Rattle.width_rules.proofs.Finding.{declared, held_after, not_held, turned}
+use Rattle.width_rules.proofs.Finding.{declared, held_after, not_held}
 use Rattle.width_rules.proofs.scope.Scope.uncover.Goals as goal
 
 pub invariant_of-self : goal.invariant_of-self
