@@ -12,7 +12,7 @@ use Rattle.gen_unroll.specs.Unrolled.{State}
 use Rattle.gen_unroll.specs.Values.{◌>>=◌, Answers}
 use Rattle.elaborate.specs.declared.checking.Checking.{Checking}
 use Rattle.elaborate.specs.Checks.{Checked, check_steps, check_told, ended, nothing_checked, ports_declared}
-use Rattle.elaborate.specs.Modules.{header_ports}
+use Rattle.module_names.specs.Modules.{header_ports}
 use Rattle.elaborate.specs.Views.{checked_of}
 
 -- with what the steps give

@@ -14,7 +14,7 @@ use Rattle.elaborate.specs.declared.limits.Limits.{Limits}
 use Rattle.elaborate.specs.Checks.{ModuleChild, or_no_module}
 use Rattle.elaborate.specs.Elaborated.{Standing, standing, child_at, within, is_on}
 use Rattle.elaborate.specs.Jobs.{IsOf, IsJob, AreJobs}
-use Rattle.elaborate.specs.Modules.{module_named}
+use Rattle.module_names.specs.Modules.{module_named}
 use Rattle.elaborate.specs.Views.{clock_view, visited_of}
 use Rattle.elaborate.specs.Visits.{visited}
 

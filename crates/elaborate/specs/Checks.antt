@@ -11,6 +11,7 @@ use Rattle.verilog_ast.specs.Items.{ConnectionList, ModuleInstance, ModuleItem, 
 use Rattle.verilog_ast.specs.Places.{no_place}
 use Rattle.width_rules.specs.Faults.{fault_at}
 use Rattle.width_rules.specs.Scopes.{Scope}
+use Rattle.gen_unroll.specs.declared.parameter_sort.ParameterSort.{ParameterSort}
 use Rattle.gen_unroll.specs.Declarations.{BitRange, range_value, declared_name}
 use Rattle.gen_unroll.specs.Reaches.{Reach, reach_in, innermost, in_reach}
 use Rattle.gen_unroll.specs.Steps.{ModuleStep, Listed, Port, Parameter, Item, Labelled, Opened, Closed}
@@ -20,8 +21,8 @@ use Rattle.gen_unroll.specs.Values.{ConstantValue, ◌>>=◌}
 use Rattle.elaborate.specs.declared.declaration_kind.DeclarationKind.{DeclarationKind}
 use Rattle.elaborate.specs.declared.declaration_kind.DeclarationKind.TheVariants as kind
 use Rattle.elaborate.specs.Connections.{connected}
-use Rattle.elaborate.specs.Listings.{is_listed}
-use Rattle.elaborate.specs.Modules.{module_named, parameters_of, header_ports}
+use Rattle.module_names.specs.Listings.{is_listed}
+use Rattle.module_names.specs.Modules.{module_named, parameters_of, header_ports}
 use Rattle.elaborate.specs.Overrides.{overridden}
 use Rattle.elaborate.specs.Tables.{Declaration, Table, declare, declare_net, initial, is_port, declared_as, kind_of_net}
 
@@ -32,11 +33,12 @@ pub record ModuleChild : Type 0 where
   pub instantiated : Identifier
   pub overrides : List (Option ConstantValue)
 
--- what is known behind a step: the ports of the header and the declaration of the last one, what was declared so far, and the instances so
--- far
+-- what is known behind a step: the ports of the header and the declaration of the last one, the values of the parameters outside of
+-- generate blocks, what was declared so far, and the instances so far
 pub record Checked : Type 0 where
   pub ports : List Identifier
   pub port : Declaration
+  pub parameters : List ConstantValue
   pub declared : Table
   pub children : List ModuleChild
 
@@ -47,6 +49,7 @@ abbrev pub nothing_checked : Checked
 nothing_checked = record {
   ports = [];
   port = record { at = no_place; kind = kind.Input net.Wire; range = None; signed = false };
+  parameters = [];
   declared = [];
   children = [];
 }
@@ -152,6 +155,16 @@ instances ms here n overrides xs c =
     >>= λ m. overridden here.scope (parameters_of m) overrides
     >>= λ vs. each (one_instance here m n vs) xs c
 
+-- ---- parameters and localparams (12.2); those within a generate block are seen in it alone
+
+abbrev pub with_parameter : Option ℕ → ConstantValue → Checked → Checked
+with_parameter None v c = record c { parameters = c.parameters ++ v ∷ [] }
+with_parameter (Some block) v c = c
+
+unfoldable pub parameter : Reach → ParameterSort → Identifier → ConstantValue → Checked → Result Checked Fault
+parameter here s n v c =
+    plain here n (declaration (kind.Parameter s) None v.signed n) c >>= λ next. Ok (with_parameter (innermost here.blocks) v next)
+
 -- ---- steps
 
 abbrev pub check_item : List ModuleDeclaration → Reach → ModuleItem → Checked → Result Checked Fault
@@ -167,7 +180,7 @@ check_item ms here other c = Ok c
 abbrev pub check_step : List ModuleDeclaration → Reach → ModuleStep → Checked → Result Checked Fault
 check_step ms here (Listed n) c = list_port n c
 check_step ms here (Port p) c = header_port here p c
-check_step ms here (Parameter s n v) c = plain here n (declaration (kind.Parameter s) None v.signed n) c
+check_step ms here (Parameter s n v) c = parameter here s n v c
 check_step ms here (Item x) c = check_item ms here x c
 check_step ms here (Labelled n) c = plain here n (declaration kind.Label None false n) c
 check_step ms here (Opened b items) c = Ok c

@@ -16,8 +16,8 @@ use Rattle.gen_unroll.specs.Declarations.{BitRange}
 use Rattle.gen_unroll.specs.Reaches.{Reach, in_reach}
 use Rattle.gen_unroll.specs.Steps.{ModuleStep, Listed, Port, Parameter, Item, Labelled, Opened, Closed}
 use Rattle.gen_unroll.specs.Values.{◌>>=◌}
-use Rattle.elaborate.specs.Listings.{is_listed}
-use Rattle.elaborate.specs.Modules.{module_named, header_ports, is_input_of}
+use Rattle.module_names.specs.Listings.{is_listed}
+use Rattle.module_names.specs.Modules.{module_named, header_ports, is_input_of}
 use Rattle.elaborate.specs.Tables.{Declaration, Table, is_input, declared_as}
 
 -- ---- the clock among the names in reach: a signal with a number of its own, which a declaration in a block hides

@@ -7,7 +7,7 @@ use Rattle.verilog_ast.specs.Expressions.{Expression}
 use Rattle.verilog_ast.specs.Items.{ConnectionByName, ConnectionByOrder, ConnectionList, ByName, ByOrder}
 use Rattle.width_rules.specs.Faults.{fault, fault_at, fault_of}
 use Rattle.gen_unroll.specs.Values.{◌>>=◌}
-use Rattle.elaborate.specs.Listings.{is_listed}
+use Rattle.module_names.specs.Listings.{is_listed}
 
 -- a connection to no port (27), or to one that is connected already (28)
 abbrev pub named : (ports before : List Identifier) → Identifier → Result (Unit {0}) Fault

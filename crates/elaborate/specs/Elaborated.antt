@@ -9,16 +9,20 @@ use Rattle.gen_unroll.specs.Values.{ConstantValue, ◌>>=◌}
 use Rattle.elaborate.specs.declared.limits.Limits.{Limits}
 use Rattle.elaborate.specs.Checks.{ModuleChild, or_no_module}
 use Rattle.elaborate.specs.Clocks.{top_clock}
-use Rattle.elaborate.specs.Listings.{is_listed}
-use Rattle.elaborate.specs.Modules.{module_named}
+use Rattle.module_names.specs.Listings.{is_listed}
+use Rattle.module_names.specs.Modules.{module_named}
 use Rattle.elaborate.specs.Visits.{Visited, visited}
 
 -- ---- the modules: no name twice (21), not too many (40), and the top is one of them (22)
 
--- the names before it, and then its own
-abbrev pub names_once : (before : List Identifier) → List ModuleDeclaration → Result (Unit {0}) Fault
-names_once before [] = Ok tt
-names_once before (m ∷ ms) = if is_listed m.name.name.0 before then Err (fault_at 21 m.name) else names_once (before ++ m.name ∷ []) ms
+abbrev pub unless_there : Option ModuleDeclaration → Identifier → Result (Unit {0}) Fault
+unless_there None n = Ok tt
+unless_there (Some m) n = Err (fault_at 21 n)
+
+-- the modules in their order, where no two have one name
+abbrev pub named_once : (before : List ModuleDeclaration) → List ModuleDeclaration → Result (List ModuleDeclaration) Fault
+named_once before [] = Ok before
+named_once before (m ∷ ms) = unless_there (module_named m.name.name.0 before) m.name >>= λ _. named_once (before ++ m ∷ []) ms
 
 abbrev pub none_more : List ModuleDeclaration → Result (Unit {0}) Fault
 none_more [] = Ok tt
@@ -33,7 +37,7 @@ top_module (Some m) = Ok m
 
 -- ---- the tree
 
--- an instance: the place of the one that it stands in, its block and name there, and what its module is visited with
+-- an instance: the place of the one that it stands in, its block and name there, what its module is visited with, and what the visit finds
 pub record Standing : Type 0 where
   pub parent : Option ℕ
   pub block : Option ℕ
@@ -41,9 +45,18 @@ pub record Standing : Type 0 where
   pub instantiated : ℕ
   pub overrides : List (Option ConstantValue)
   pub clock : Option ℕ
+  pub visited : Visited
 
-abbrev pub standing : ℕ → ModuleChild → Option ℕ → Standing
-standing above c k = record { parent = Some above; block = c.block; name = c.name; instantiated = c.instantiated.name.0; overrides = c.overrides; clock = k }
+abbrev pub standing : ℕ → ModuleChild → Option ℕ → Visited → Standing
+standing above c k v = record {
+  parent = Some above;
+  block = c.block;
+  name = c.name;
+  instantiated = c.instantiated.name.0;
+  overrides = c.overrides;
+  clock = k;
+  visited = v;
+}
 
 abbrev pub is_on : List ℕ → ℕ → Bool
 is_on [] name = false
@@ -65,9 +78,14 @@ abbrev pub each_child : Step → List ModuleChild → List (Option ℕ) → List
 each_child step [] ks all = Ok all
 each_child step (c ∷ cs) ks all = step c (first_clock ks) all >>= λ more. each_child step cs (clocks_behind ks) more
 
--- the visit of a module, and then of the instances in it
-abbrev pub within : Limits → List ModuleDeclaration → (most : Option ℕ) → ModuleDeclaration → List (Option ConstantValue) → (clock : Option ℕ) → Step → List Standing → Result (List Standing) Fault
-within l ms most m vs clock step all = visited l.turns ms most m vs clock >>= λ v. each_child step v.checks.children v.clocks all
+-- the instances in an instance that was visited
+abbrev pub within : Step → Visited → List Standing → Result (List Standing) Fault
+within step v all = each_child step v.checks.children v.clocks all
+
+-- an instance of a module, and the instances in it
+abbrev pub of_module : Limits → List ModuleDeclaration → (above : ℕ) → (below : ℕ → Step) → ModuleChild → Option ℕ → List Standing → ModuleDeclaration → Result (List Standing) Fault
+of_module l ms above below c k all m =
+    visited l.turns ms None m c.overrides k >>= λ v. within (below (length all)) v (all ++ standing above c k v ∷ [])
 
 -- an instance in the one at `above`, on whose path these modules are, where so many levels may be below that one (23); one more than so many
 -- instances is refused with 40; both at the module's name
@@ -77,19 +95,21 @@ child_at l ms (suc left) path above c k all =
     if is_on path c.instantiated.name.0 then Err (fault_at 23 c.instantiated)
     else if nat_le l.instances (length all) then Err (fault_at 40 c.instantiated)
     else (or_no_module (module_named c.instantiated.name.0 ms) c.instantiated
-    >>= λ m. within l ms None m c.overrides k (child_at l ms left (path ++ c.instantiated.name.0 ∷ []) (length all)) (all ++ standing above c k ∷ []))
+    >>= λ m. of_module l ms above (child_at l ms left (path ++ c.instantiated.name.0 ∷ [])) c k all m)
 
 -- the top stands in no instance, and has no overrides
-abbrev pub top_standing : ModuleDeclaration → (clock : Option ℕ) → Standing
-top_standing m k = record { parent = None; block = None; name = m.name; instantiated = m.name.name.0; overrides = []; clock = k }
+abbrev pub top_standing : ModuleDeclaration → (clock : Option ℕ) → Visited → Standing
+top_standing m k v = record { parent = None; block = None; name = m.name; instantiated = m.name.name.0; overrides = []; clock = k; visited = v }
 
+-- from the top down, the modules being those of a design
 abbrev pub from_top : Limits → List ModuleDeclaration → (clock : Option ℕ) → ModuleDeclaration → Result (List Standing) Fault
 from_top l ms clock m =
-    within l ms (Some l.top_ports) m [] clock (child_at l ms l.levels (m.name.name.0 ∷ []) 0) (top_standing m clock ∷ [])
+    visited l.turns ms (Some l.top_ports) m [] clock
+    >>= λ v. within (child_at l ms l.levels (m.name.name.0 ∷ []) 0) v (top_standing m clock v ∷ [])
+
+-- the top of a design, of which no two modules have one name
+unfoldable pub top_of : Limits → List ModuleDeclaration → (top : ℕ) → Result ModuleDeclaration Fault
+top_of l ms top = named_once [] ms >>= λ all. few_modules l.modules all >>= λ _. top_module (module_named top all)
 
 unfoldable pub elaborated : Limits → List ModuleDeclaration → (top clock : ℕ) → Result (List Standing) Fault
-elaborated l ms top clock =
-    names_once [] ms
-    >>= λ _. few_modules l.modules ms
-    >>= λ _. top_module (module_named top ms)
-    >>= λ m. from_top l ms (top_clock clock m) m
+elaborated l ms top clock = top_of l ms top >>= λ m. from_top l ms (top_clock clock m) m

@@ -9,27 +9,29 @@ use Rattle.verilog_ast.specs.Items.{ModuleDeclaration}
 use Rattle.gen_unroll.specs.Views.{here_of, override_view}
 use Rattle.elaborate.specs.declared.growing.Growing.{Growing}
 use Rattle.elaborate.specs.declared.job.Job.{Job}
+use Rattle.elaborate.specs.declared.visit_key.VisitKey.{VisitKey}
 use Rattle.elaborate.specs.declared.standing.StandingInstance.{StandingInstance}
 use Rattle.elaborate.specs.Elaborated.{Standing}
-use Rattle.elaborate.specs.Modules.{module_named}
+use Rattle.module_names.specs.Modules.{module_named}
 use Rattle.elaborate.specs.Views.{clock_view, visited_of}
 use Rattle.elaborate.specs.Visits.{Visited, visited}
+
+abbrev pub job_view : Arc Job Global → Visited
+job_view job = visited_of job.value.visited
 
 abbrev pub standing_of : StandingInstance → Standing
 standing_of s = record {
   parent = s.parent;
   block = here_of s.block;
   name = s.name;
-  instantiated = s.instantiated.0;
-  overrides = map override_view s.overrides.items;
-  clock = clock_view s.clock;
+  instantiated = s.job.value.instantiated.0;
+  overrides = map override_view s.job.value.overrides.items;
+  clock = clock_view s.job.value.clock;
+  visited = job_view s.job;
 }
 
 abbrev pub all_view : Vec StandingInstance Global → List Standing
 all_view all = map standing_of all.items
-
-abbrev pub job_view : Arc Job Global → Visited
-job_view job = visited_of job.value.visited
 
 -- a visit of this module, under these overrides and with this clock port
 pub record IsOf (job : Job) (name : NameId) (overrides : List (Option Const)) (clock : Option NameId) : Type 0 where
@@ -42,11 +44,14 @@ pub record IsJob (turns : ℕ) (ms : List ModuleDeclaration) (job : Job) : Type 
   pub found : (m : ModuleDeclaration) → module_named job.instantiated.0 ms ≡ Some m
       → visited turns ms None m (map override_view job.overrides.items) (clock_view job.clock) ≡ Ok (visited_of job.visited)
 
-pub record AreJobs (turns : ℕ) (ms : List ModuleDeclaration) (jobs : List (Arc Job Global)) : Type 0 where
-  pub all : All (λ (job : Arc Job Global). IsJob turns ms job.value) jobs
+abbrev pub kept_job : VisitKey × Arc Job Global → Job
+kept_job e = e.1.value
+
+pub record AreJobs (turns : ℕ) (ms : List ModuleDeclaration) (jobs : List (VisitKey × Arc Job Global)) : Type 0 where
+  pub all : All (λ (e : VisitKey × Arc Job Global). IsJob turns ms (kept_job e)) jobs
 
 -- the visits within an instance leave the limits and the path as they were
 pub record Keeps (ms : List ModuleDeclaration) (earlier later : Growing) : Type 0 where
   pub limits : later.limits ≡ earlier.limits
   pub path : later.path.items ≡ earlier.path.items
-  pub jobs : AreJobs earlier.limits.turns ms later.jobs.items
+  pub jobs : AreJobs earlier.limits.turns ms later.jobs.entries

@@ -8,7 +8,7 @@ use Rattle.verilog_ast.specs.Items.{ConnectionByName, ConnectionByOrder, Connect
 use Rattle.width_rules.specs.Faults.{fault, fault_of}
 use Rattle.width_rules.specs.Scopes.{Scope}
 use Rattle.gen_unroll.specs.Values.{ConstantValue, ◌>>=◌, evaluated}
-use Rattle.elaborate.specs.Listings.{is_listed}
+use Rattle.module_names.specs.Listings.{is_listed}
 
 -- ---- by order
 

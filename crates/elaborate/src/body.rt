@@ -3,9 +3,11 @@ ghost use Rattle.std.specs.Prelude.{◌≡◌, map, None, false};
 ghost use Rattle.std.specs.Option.{option_map};
 ghost use Rattle.verilog_ast.specs.Views.{kind_of, declared_of, declared_reg_of, instance_of, connections_of, plain_item_of, declaration_of as plain_module};
 ghost use Rattle.gen_unroll.specs.ReachViews.{reach_of};
+ghost use Rattle.gen_unroll.specs.Values.{constant_of};
 ghost use Rattle.gen_unroll.specs.Views.{override_view, step_of};
 ghost use Rattle.elaborate.specs.Checks as c;
-ghost use Rattle.elaborate.specs.Views.{declaration_of, checked_of, modules_of, Leads};
+ghost use Rattle.elaborate.specs.Views.{declaration_of, checked_of, Leads};
+ghost use Rattle.module_names.specs.Views.{modules_of};
 
 use crate::checking::Checking;
 use crate::child_instance::ChildInstance;
@@ -13,14 +15,13 @@ use crate::connecting::connected;
 use crate::declaration::Declaration;
 use crate::declaration_kind::DeclarationKind;
 use crate::header::{body_port, header_port, list_port, plain, range_of_kind, variable};
-use crate::modules::Modules;
-use crate::naming::{header_ports, parameters_of};
 use crate::overriding::overridden;
-use gen_unroll::{Reach, Step};
+use gen_unroll::{ParameterSort, Reach, Step};
 use ls_text::Refusal;
+use module_names::{ModuleNames, Modules};
 use typed_ir::Const;
 use verilog_ast::{
-    Connections, Identifier, Instance, ModuleBody, PlainItem, PortNet, RegVariable, Shape, Variable,
+    Connections, Identifier, Instance, PlainItem, PortNet, RegVariable, Shape, Variable,
 };
 use width_rules::refused_at;
 
@@ -143,19 +144,18 @@ fn genvars(check: &mut Checking, here: &Reach, names: &[Identifier]) -> Result<(
 fn one_instance(
     check: &mut Checking,
     here: &Reach,
-    of: &ModuleBody,
+    of: &ModuleNames<'_>,
     instantiated: Identifier,
     overrides: &[Option<Const>],
     instance: &Instance,
 ) -> Result<(), Refusal>
     ensures { Leads result (checked_of check.new)
-        (c.one_instance (reach_of here.now) (plain_module of.now) instantiated (map override_view overrides.now) (instance_of instance.now) (checked_of check.old)) }
+        (c.one_instance (reach_of here.now) (plain_module of.now.body.now) instantiated (map override_view overrides.now) (instance_of instance.now) (checked_of check.old)) }
 {
     let block = here.block();
     let declaration = named(DeclarationKind::Instance, instance.name, false);
     plain(check, here, instance.name, declaration)?;
-    let ports = header_ports(check.alloc, &of.ports)?;
-    connected(check.alloc, &ports, &instance.connections)?;
+    connected(check.alloc, &of.ports, &instance.connections)?;
     let overrides = Vec::from_slice(check.alloc, overrides)?;
     check.children.push(ChildInstance {
         block,
@@ -169,13 +169,13 @@ fn one_instance(
 fn each_instance(
     check: &mut Checking,
     here: &Reach,
-    of: &ModuleBody,
+    of: &ModuleNames<'_>,
     instantiated: Identifier,
     overrides: &[Option<Const>],
     instances: &[Instance],
 ) -> Result<(), Refusal>
     ensures { Leads result (checked_of check.new)
-        (c.each (c.one_instance (reach_of here.now) (plain_module of.now) instantiated (map override_view overrides.now)) (map instance_of instances.now) (checked_of check.old)) }
+        (c.each (c.one_instance (reach_of here.now) (plain_module of.now.body.now) instantiated (map override_view overrides.now)) (map instance_of instances.now) (checked_of check.old)) }
 {
     for instance in instances {
         one_instance(check, here, of, instantiated, overrides, instance)?;
@@ -199,11 +199,29 @@ fn instances(
     match modules.find(instantiated.name) {
         None => Err(refused_at(check.alloc, 20, instantiated)),
         Some(of) => {
-            let names = parameters_of(check.alloc, of)?;
-            let values = overridden(check.alloc, &here.scope, &names, overrides)?;
+            let values = overridden(check.alloc, &here.scope, &of.parameters, overrides)?;
             each_instance(check, here, of, instantiated, &values, instances)
         }
     }
+}
+
+// A parameter, and its value where it stands outside of generate blocks.
+#[tactic(auto, unfolding(crate::specs::Checks::parameter))]
+fn parameter(
+    check: &mut Checking,
+    here: &Reach,
+    sort: ParameterSort,
+    name: Identifier,
+    value: Const,
+) -> Result<(), Refusal>
+    ensures { Leads result (checked_of check.new) (c.parameter (reach_of here.now) sort name (constant_of value) (checked_of check.old)) }
+{
+    let declaration = named(DeclarationKind::Parameter(sort), name, value.signed);
+    plain(check, here, name, declaration)?;
+    if here.block().is_none() {
+        check.parameters.push(value)?;
+    }
+    Ok(())
 }
 
 fn item(
@@ -240,10 +258,7 @@ pub fn check_step(
     match step {
         Step::Listed(name) => list_port(check, *name),
         Step::Port(port) => header_port(check, here, port),
-        Step::Parameter(sort, name, value) => {
-            let declaration = named(DeclarationKind::Parameter(*sort), *name, value.signed);
-            plain(check, here, *name, declaration)
-        }
+        Step::Parameter(sort, name, value) => parameter(check, here, *sort, *name, *value),
         Step::Inputs(_, net, shape, names) => inputs(check, here, *net, shape, names),
         Step::Outputs(_, net, shape, ports) => outputs(check, here, *net, shape, ports),
         Step::Item(one) => item(check, here, modules, one),

@@ -9,7 +9,8 @@ ghost use Rattle.gen_unroll.specs.Values.{Answers};
 ghost use Rattle.gen_unroll.specs.ReachViews.{reach_of};
 ghost use Rattle.gen_unroll.specs.Views.{override_view, step_of};
 ghost use Rattle.elaborate.specs.Checks as c;
-ghost use Rattle.elaborate.specs.Views.{checked_of, declaration_of, table_of, modules_of, Leads};
+ghost use Rattle.elaborate.specs.Views.{checked_of, declaration_of, table_of, Leads};
+ghost use Rattle.module_names.specs.Views.{modules_of};
 
 use crate::body::check_step;
 use crate::checking::Checking;
@@ -17,14 +18,12 @@ use crate::declaration::Declaration;
 use crate::declaration_kind::DeclarationKind;
 use crate::declarations::Declarations;
 use crate::declaring::is_port;
-use crate::listing::Listing;
-use crate::modules::Modules;
-use crate::naming::header_ports;
 use gen_unroll::{Reach, Step};
 use ls_text::{Fault, Place, Refusal};
+use module_names::{ModuleNames, Modules, NameOrder};
 use std::alloc::Global;
 use typed_ir::Const;
-use verilog_ast::{Identifier, ModuleBody, PortNet};
+use verilog_ast::{Identifier, PortNet};
 use width_rules::refused_at;
 
 // What is known before the first step.
@@ -33,7 +32,7 @@ fn begin(alloc: Global) -> Checking
 {
     Checking {
         alloc,
-        ports: Listing::new(alloc),
+        ports: NameOrder::new(alloc),
         port: Declaration {
             at: Place {
                 file: 0,
@@ -44,6 +43,7 @@ fn begin(alloc: Global) -> Checking
             range: None,
             signed: false,
         },
+        parameters: Vec::new(alloc),
         declared: Declarations::new(alloc),
         children: Vec::new(alloc),
     }
@@ -93,13 +93,13 @@ fn ports_declared(alloc: Global, ports: &[Identifier], table: &Declarations) -> 
 fn all_steps(
     alloc: Global,
     modules: &Modules<'_>,
-    of: &ModuleBody,
+    of: &ModuleNames<'_>,
     steps: &[Step<'_>],
 ) -> Result<Checking, Refusal>
-    ensures { Answers result checked_of (c.check_steps (modules_of modules.now) (reach_in (plain_module of.now)) (map step_of steps.now) c.nothing_checked) }
+    ensures { Answers result checked_of (c.check_steps (modules_of modules.now) (reach_in (plain_module of.now.body.now)) (map step_of steps.now) c.nothing_checked) }
 {
     let mut check = begin(alloc);
-    let mut here = Reach::new(alloc, of)?;
+    let mut here = Reach::new(alloc, of.body)?;
     check_steps(&mut check, modules, &mut here, steps)?;
     Ok(check)
 }
@@ -110,20 +110,19 @@ pub fn check(
     alloc: Global,
     turns: u32,
     modules: &Modules<'_>,
-    of: &ModuleBody,
+    of: &ModuleNames<'_>,
     overrides: &[Option<Const>],
     steps: &[Step<'_>],
     fault: Option<Fault>,
 ) -> Result<Checking, Refusal>
-    requires said { map step_of steps.now ≡ (unrolled_module turns (map override_view overrides.now) (plain_module of.now)).said }
-    requires ends { fault ≡ fault_in (unrolled_module turns (map override_view overrides.now) (plain_module of.now)).ending }
-    ensures { Answers result checked_of (c.checked turns (modules_of modules.now) (plain_module of.now) (map override_view overrides.now)) }
+    requires said { map step_of steps.now ≡ (unrolled_module turns (map override_view overrides.now) (plain_module of.now.body.now)).said }
+    requires ends { fault ≡ fault_in (unrolled_module turns (map override_view overrides.now) (plain_module of.now.body.now)).ending }
+    ensures { Answers result checked_of (c.checked turns (modules_of modules.now) (plain_module of.now.body.now) (map override_view overrides.now)) }
 {
     let check = all_steps(alloc, modules, of, steps)?;
     if let Some(fault) = fault {
         return Err(Refusal::Fault(fault));
     }
-    let ports = header_ports(alloc, &of.ports)?;
-    ports_declared(alloc, &ports, &check.declared)?;
+    ports_declared(alloc, of.ports.as_slice(), &check.declared)?;
     Ok(check)
 }

@@ -8,34 +8,33 @@ ghost use Rattle.gen_unroll.specs.Values.{Answers};
 ghost use Rattle.gen_unroll.specs.ReachViews.{reach_of};
 ghost use Rattle.gen_unroll.specs.Views.{step_of};
 ghost use Rattle.elaborate.specs.Clocks as k;
-ghost use Rattle.elaborate.specs.Modules.{module_named};
-ghost use Rattle.elaborate.specs.Views.{clock_view, clocks_view, modules_of, Leads};
+ghost use Rattle.module_names.specs.Modules.{module_named};
+ghost use Rattle.elaborate.specs.Views.{clock_view, clocks_view, Leads};
+ghost use Rattle.module_names.specs.Views.{modules_of};
 
 use crate::clock_free::{
     clock_free, is_clock, reference_free, statement_free, target_free, value_free,
 };
-use crate::modules::Modules;
-use crate::naming::{header_ports, is_input_of};
 use gen_unroll::{Reach, Step};
 use ls_text::{NameId, Refusal};
+use module_names::{ModuleNames, Modules};
 use no_memory::NoMemory;
 use std::alloc::Global;
 use typed_ir::SignalId;
 use verilog_ast::{
-    Child, Connections, Continuous, Expr, HeaderPort, Identifier, Instance, ModuleBody,
-    NamedConnection, OrderedConnection, PlainItem, Reference, RegVariable, Variable,
+    Child, Connections, Continuous, Expr, HeaderPort, Identifier, Instance, NamedConnection, OrderedConnection, PlainItem, Reference, RegVariable, Variable,
 };
 use width_rules::{Entry, Scope, SignalEntry, Writer, refused_at};
 
 // The clock at a port of an instance: 37 where it is no input, or where the instance has its clock already.
 fn take_clock(
     alloc: Global,
-    of: &ModuleBody,
+    of: &ModuleNames<'_>,
     port: Option<Identifier>,
     name: Identifier,
     clock: Option<NameId>,
 ) -> Result<Option<NameId>, Refusal>
-    ensures { Answers result clock_view (k.take_clock (declaration_of of.now) port name (clock_view clock)) }
+    ensures { Answers result clock_view (k.take_clock (declaration_of of.now.body.now) port name (clock_view clock)) }
 {
     let Some(port) = port else {
         return Err(refused_at(alloc, 37, name));
@@ -43,7 +42,7 @@ fn take_clock(
     if clock.is_some() {
         return Err(refused_at(alloc, 37, name));
     }
-    if is_input_of(of, port.name) {
+    if of.inputs.has(port.name) {
         Ok(Some(port.name))
     } else {
         Err(refused_at(alloc, 37, name))
@@ -53,13 +52,13 @@ fn take_clock(
 // A name with its select or without, connected to a port.
 fn connect_reference(
     alloc: Global,
-    of: &ModuleBody,
+    of: &ModuleNames<'_>,
     scope: &Scope,
     port: Option<Identifier>,
     reference: &Reference,
     clock: Option<NameId>,
 ) -> Result<Option<NameId>, Refusal>
-    ensures { Answers result clock_view (k.connect (declaration_of of.now) (scope_of scope.now) port (reference_of reference.now) (clock_view clock)) }
+    ensures { Answers result clock_view (k.connect (declaration_of of.now.body.now) (scope_of scope.now) port (reference_of reference.now) (clock_view clock)) }
 {
     match reference {
         Reference::Whole(name) => {
@@ -81,13 +80,13 @@ fn connect_reference(
 
 fn connect(
     alloc: Global,
-    of: &ModuleBody,
+    of: &ModuleNames<'_>,
     scope: &Scope,
     port: Option<Identifier>,
     e: &Expr,
     clock: Option<NameId>,
 ) -> Result<Option<NameId>, Refusal>
-    ensures { Answers result clock_view (k.connect (declaration_of of.now) (scope_of scope.now) port (expression_of e.now) (clock_view clock)) }
+    ensures { Answers result clock_view (k.connect (declaration_of of.now.body.now) (scope_of scope.now) port (expression_of e.now) (clock_view clock)) }
 {
     match e {
         Expr::Read(reference) => connect_reference(alloc, of, scope, port, reference, clock),
@@ -106,13 +105,13 @@ fn connect(
 
 fn connection(
     alloc: Global,
-    of: &ModuleBody,
+    of: &ModuleNames<'_>,
     scope: &Scope,
     port: Option<Identifier>,
     value: &Option<Child<Expr>>,
     clock: Option<NameId>,
 ) -> Result<Option<NameId>, Refusal>
-    ensures { Answers result clock_view (k.connection (declaration_of of.now) (scope_of scope.now) port (option_map expression_of value.now) (clock_view clock)) }
+    ensures { Answers result clock_view (k.connection (declaration_of of.now.body.now) (scope_of scope.now) port (option_map expression_of value.now) (clock_view clock)) }
 {
     match value {
         None => Ok(clock),
@@ -122,11 +121,11 @@ fn connection(
 
 fn clock_by_name(
     alloc: Global,
-    of: &ModuleBody,
+    of: &ModuleNames<'_>,
     scope: &Scope,
     all: &[NamedConnection],
 ) -> Result<Option<NameId>, Refusal>
-    ensures { Answers result clock_view (k.clock_by_name (declaration_of of.now) (scope_of scope.now) (map by_name_of all.now) None) }
+    ensures { Answers result clock_view (k.clock_by_name (declaration_of of.now.body.now) (scope_of scope.now) (map by_name_of all.now) None) }
 {
     let mut clock = None;
     for one in all {
@@ -155,12 +154,12 @@ fn ports_behind(ports: &[Identifier]) -> &[Identifier]
 
 fn clock_by_order(
     alloc: Global,
-    of: &ModuleBody,
+    of: &ModuleNames<'_>,
     scope: &Scope,
     ports: &[Identifier],
     all: &[OrderedConnection],
 ) -> Result<Option<NameId>, Refusal>
-    ensures { Answers result clock_view (k.clock_by_order (declaration_of of.now) (scope_of scope.now) ports.now (map by_order_of all.now) None) }
+    ensures { Answers result clock_view (k.clock_by_order (declaration_of of.now.body.now) (scope_of scope.now) ports.now (map by_order_of all.now) None) }
 {
     let mut clock = None;
     let mut left = ports;
@@ -175,30 +174,29 @@ fn clock_by_order(
 // The clock port of an instance.
 fn clock_of(
     alloc: Global,
-    of: &ModuleBody,
+    of: &ModuleNames<'_>,
     scope: &Scope,
     connections: &Connections,
 ) -> Result<Option<NameId>, Refusal>
-    ensures { Answers result clock_view (k.clock_of (declaration_of of.now) (scope_of scope.now) (connections_of connections.now)) }
+    ensures { Answers result clock_view (k.clock_of (declaration_of of.now.body.now) (scope_of scope.now) (connections_of connections.now)) }
 {
     match connections {
         Connections::Named(all) => clock_by_name(alloc, of, scope, all.as_slice()),
         Connections::Ordered(all) => {
-            let ports = header_ports(alloc, &of.ports)?;
-            clock_by_order(alloc, of, scope, &ports, all.as_slice())
+            clock_by_order(alloc, of, scope, of.ports.as_slice(), all.as_slice())
         }
     }
 }
 
 fn clocks_of(
     alloc: Global,
-    of: &ModuleBody,
+    of: &ModuleNames<'_>,
     scope: &Scope,
     instances: &[Instance],
     clocks: &mut Vec<Option<NameId>>,
 ) -> Result<(), Refusal>
     ensures { Leads result (clocks_view clocks.new.items)
-        (k.clocks_of (declaration_of of.now) (scope_of scope.now) (map instance_of instances.now) (clocks_view clocks.old.items)) }
+        (k.clocks_of (declaration_of of.now.body.now) (scope_of scope.now) (map instance_of instances.now) (clocks_view clocks.old.items)) }
 {
     for instance in instances {
         let clock = clock_of(alloc, of, scope, &instance.connections)?;
@@ -374,14 +372,14 @@ fn mark_clock(here: &mut Reach, clock: Option<NameId>) -> Result<(), NoMemory>
 pub fn clocks(
     alloc: Global,
     modules: &Modules<'_>,
-    of: &ModuleBody,
+    of: &ModuleNames<'_>,
     clock: Option<NameId>,
     steps: &[Step<'_>],
 ) -> Result<Vec<Option<NameId>>, Refusal>
     ensures { Answers result (λ ks. clocks_view ks.items)
-        (k.clock_steps (modules_of modules.now) (k.with_clock (clock_view clock) (reach_in (declaration_of of.now))) (map step_of steps.now) []) }
+        (k.clock_steps (modules_of modules.now) (k.with_clock (clock_view clock) (reach_in (declaration_of of.now.body.now))) (map step_of steps.now) []) }
 {
-    let mut here = Reach::new(alloc, of)?;
+    let mut here = Reach::new(alloc, of.body)?;
     mark_clock(&mut here, clock)?;
     let mut clocks = Vec::new(alloc);
     clock_steps(alloc, modules, &mut here, steps, &mut clocks)?;

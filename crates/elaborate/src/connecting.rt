@@ -5,11 +5,10 @@ ghost use Rattle.verilog_ast.specs.Views.{expression_of, by_name_of, by_order_of
 ghost use Rattle.width_rules.specs.Faults.{IsFirst};
 ghost use Rattle.gen_unroll.specs.Values.{Answers};
 ghost use Rattle.elaborate.specs.Connections as k;
-ghost use Rattle.elaborate.specs.Views.{list_of, Leads};
+ghost use Rattle.elaborate.specs.Views.{Leads};
 
-use crate::listing::Listing;
-use crate::naming::is_listed;
 use ls_text::Refusal;
+use module_names::NameOrder;
 use std::alloc::Global;
 use verilog_ast::{Connections, Identifier, NamedConnection, OrderedConnection};
 use width_rules::{refused, refused_at, refused_of};
@@ -17,27 +16,26 @@ use width_rules::{refused, refused_at, refused_of};
 // A connection by name: 27 where no port has the name, and 28 where it is connected already.
 fn named(
     alloc: Global,
-    ports: &[Identifier],
-    before: &mut Listing,
+    ports: &NameOrder,
+    before: &mut NameOrder,
     name: Identifier,
 ) -> Result<(), Refusal>
-    ensures { Leads result (list_of before.new)
-        (k.name_more ports.now (list_of before.old) name) }
+    ensures { Leads result before.new (k.name_more ports.now before.old name) }
 {
-    if !is_listed(name.name, ports) {
+    if !ports.has(name.name) {
         return Err(refused_at(alloc, 27, name));
     }
     if before.has(name.name) {
         return Err(refused_at(alloc, 28, name));
     }
-    before.add(name)?;
+    before.push(name)?;
     Ok(())
 }
 
-fn all_named(alloc: Global, ports: &[Identifier], all: &[NamedConnection]) -> Result<(), Refusal>
+fn all_named(alloc: Global, ports: &NameOrder, all: &[NamedConnection]) -> Result<(), Refusal>
     ensures { Answers result (λ x. x) (k.all_named ports.now [] (map by_name_of all.now)) }
 {
-    let mut before = Listing::new(alloc);
+    let mut before = NameOrder::new(alloc);
     for one in all {
         named(alloc, ports, &mut before, one.name)?;
     }
@@ -89,7 +87,7 @@ fn is_empty_place(all: &[OrderedConnection]) -> bool
 #[tactic(auto, unfolding(crate::specs::Connections::connected))]
 pub fn connected(
     alloc: Global,
-    ports: &[Identifier],
+    ports: &NameOrder,
     connections: &Connections,
 ) -> Result<(), Refusal>
     ensures { Answers result (λ x. x) (k.connected ports.now (connections_of connections.now)) }
@@ -100,7 +98,7 @@ pub fn connected(
             if is_empty_place(all.as_slice()) {
                 Ok(())
             } else {
-                all_ordered(alloc, ports, all.as_slice())
+                all_ordered(alloc, ports.as_slice(), all.as_slice())
             }
         }
     }

@@ -73,7 +73,7 @@ pub fn list_port(check: &mut Checking, name: Identifier) -> Result<(), Refusal>
     if check.ports.has(name.name) {
         return Err(refused_at(check.alloc, 28, name));
     }
-    check.ports.add(name)?;
+    check.ports.push(name)?;
     Ok(())
 }
 

@@ -1,9 +1,10 @@
-// A module, unrolled, to what it declares, instantiates and clocks; or the first fault of that.
+// Modules to the tree of instances of a design, or its first fault.
 //
-// `checks` goes over the steps of an unrolled module with the names in reach: `header` and `body` declare names (`declaring`, in `tables`)
-// and give instances their overrides (`overriding`) and connections (`connecting`), by what `naming` says of the modules that they
-// instantiate. `clocking` goes over the steps once more, for the clock: where it stands (`clock_free`), and which port of an instance it
-// reaches. `visiting` is both, one after the other.
+// `designing` has the modules by their names and finds the top, `elaborating` goes from the top down to its instances, depth first, and
+// `jobs` has each module visited once under the same overrides and with the same clock. `visiting` is such a visit: `checks` goes over the
+// steps of the unrolled module with the names in reach, where `header` and `body` declare names (`declaring`, in `tables`) and give
+// instances their overrides (`overriding`, `giving`) and connections (`connecting`); `clocking` goes over them once more for the clock, where
+// it stands (`clock_free`), and which port of an instance it reaches. `tree` is what the designs above see of it.
 #![tactic(auto)]
 
 mod body;
@@ -18,33 +19,22 @@ mod declaration_kind;
 mod declarations;
 mod declared_name;
 mod declaring;
+mod designing;
 mod elaborating;
-mod given_parameter;
+mod given_parameters;
+mod giving;
 mod growing;
 mod header;
 mod job;
+mod jobs;
 mod limits;
-mod listing;
-mod listings;
-mod modules;
-mod naming;
 mod overriding;
 mod standing;
 mod tables;
+mod tree;
+mod visit_key;
 mod visited;
 mod visiting;
 
-pub use checking::Checking;
-pub use checks::check;
-pub use child_instance::ChildInstance;
-pub use declaration::Declaration;
-pub use declaration_kind::DeclarationKind;
-pub use declarations::Declarations;
-pub use declared_name::DeclaredName;
-pub use elaborating::elaborate_within;
 pub use limits::Limits;
-pub use listing::Listing;
-pub use modules::Modules;
-pub use standing::StandingInstance;
-pub use visited::Visited;
-pub use visiting::visit;
+pub use tree::{elaborate, tree_within};

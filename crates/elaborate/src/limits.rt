@@ -5,7 +5,7 @@
 #[derive(Clone, Copy, Debug, PartialEq, Eq)]
 pub struct Limits {
     pub modules: usize,
-    pub instances: usize,
+    pub instances: u32,
     pub top_ports: usize,
     pub turns: u32,
     pub levels: u32,

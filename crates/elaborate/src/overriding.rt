@@ -3,15 +3,15 @@ ghost use Rattle.std.specs.Prelude.{◌≡◌, ◌++◌, ◌∷◌, [], map, IfO
 ghost use Rattle.std.specs.Option.{option_map};
 ghost use Rattle.verilog_ast.specs.Views.{expression_of, by_name_of, by_order_of, connections_of};
 ghost use Rattle.width_rules.specs.Entries.{scope_of};
-ghost use Rattle.gen_unroll.specs.Values.{Answers};
+ghost use Rattle.gen_unroll.specs.Values.{Answers, constant_of};
 ghost use Rattle.gen_unroll.specs.Views.{override_view};
 ghost use Rattle.elaborate.specs.Overrides as o;
-ghost use Rattle.elaborate.specs.Views.{given_view, Leads};
+ghost use Rattle.elaborate.specs.Views.{given_of, Leads};
 
-use crate::given_parameter::GivenParameter;
-use crate::naming::is_listed;
+use crate::given_parameters::GivenParameters;
 use gen_unroll::evaluated;
 use ls_text::{NameId, Place, Refusal};
+use module_names::NameOrder;
 use no_memory::NoMemory;
 use std::alloc::Global;
 use typed_ir::Const;
@@ -79,34 +79,24 @@ fn by_order(
     Ok(values)
 }
 
-// The value that a name is given.
-fn given_to(name: NameId, given: &[GivenParameter]) -> Option<Const>
-    ensures { override_view result ≡ o.given_to name.0 (map given_view given.now) }
-{
-    for one in given {
-        if name == one.name {
-            return Some(one.value);
-        }
-    }
-    None
-}
-
 // A parameter that has no value yet takes one; 24 at the dot where it can't be overridden or has one.
 fn if_free(
     alloc: Global,
-    names: &[Identifier],
+    names: &NameOrder,
     at: Place,
-    one: GivenParameter,
-    given: &mut Vec<GivenParameter>,
+    name: NameId,
+    value: Const,
+    given: &mut GivenParameters,
 ) -> Result<(), Refusal>
-    ensures { Leads result (map given_view given.new.items) (o.if_free names.now at (given_view one) (map given_view given.old.items)) }
+    ensures { Leads result (given_of given.new)
+        (o.if_free names.now at (record { name = name.0; value = constant_of value }) (given_of given.old)) }
 {
-    if !is_listed(one.name, names) {
+    if !names.has(name) {
         return Err(refused(alloc, 24, at, None));
     }
-    match given_to(one.name, given) {
+    match given.find(name) {
         Some(_) => Err(refused(alloc, 24, at, None)),
-        None => Ok(given.push(one)?),
+        None => Ok(given.add(name, value)?),
     }
 }
 
@@ -114,32 +104,31 @@ fn if_free(
 fn value_by_name(
     alloc: Global,
     scope: &Scope,
-    names: &[Identifier],
+    names: &NameOrder,
     at: Place,
     name: NameId,
     e: &Expr,
-    given: &mut Vec<GivenParameter>,
+    given: &mut GivenParameters,
 ) -> Result<(), Refusal>
-    ensures { Leads result (map given_view given.new.items)
-        (o.value_by_name (scope_of scope.now) names.now at name.0 (expression_of e.now) (map given_view given.old.items)) }
+    ensures { Leads result (given_of given.new)
+        (o.value_by_name (scope_of scope.now) names.now at name.0 (expression_of e.now) (given_of given.old)) }
 {
     let value = evaluated(alloc, scope, e)?;
-    let one = GivenParameter { name, value };
-    if_free(alloc, names, at, one, given)
+    if_free(alloc, names, at, name, value, given)
 }
 
 // One override by name; an empty one is none.
 fn one_by_name(
     alloc: Global,
     scope: &Scope,
-    names: &[Identifier],
+    names: &NameOrder,
     at: Place,
     name: NameId,
     value: &Option<Child<Expr>>,
-    given: &mut Vec<GivenParameter>,
+    given: &mut GivenParameters,
 ) -> Result<(), Refusal>
-    ensures { Leads result (map given_view given.new.items)
-        (o.one_by_name (scope_of scope.now) names.now at name.0 (option_map expression_of value.now) (map given_view given.old.items)) }
+    ensures { Leads result (given_of given.new)
+        (o.one_by_name (scope_of scope.now) names.now at name.0 (option_map expression_of value.now) (given_of given.old)) }
 {
     match value {
         None => Ok(()),
@@ -150,12 +139,12 @@ fn one_by_name(
 fn by_name(
     alloc: Global,
     scope: &Scope,
-    names: &[Identifier],
+    names: &NameOrder,
     all: &[NamedConnection],
-) -> Result<Vec<GivenParameter>, Refusal>
-    ensures { Answers result (λ gs. map given_view gs.items) (o.by_name (scope_of scope.now) names.now (map by_name_of all.now) []) }
+) -> Result<GivenParameters, Refusal>
+    ensures { Answers result given_of (o.by_name (scope_of scope.now) names.now (map by_name_of all.now) []) }
 {
-    let mut given = Vec::new(alloc);
+    let mut given = GivenParameters::new(alloc);
     for one in all {
         one_by_name(
             alloc,
@@ -174,13 +163,13 @@ fn by_name(
 fn values_given(
     alloc: Global,
     names: &[Identifier],
-    given: &[GivenParameter],
+    given: &GivenParameters,
 ) -> Result<Vec<Option<Const>>, NoMemory>
-    ensures { IfOk result (λ vs. map override_view vs.items ≡ map (o.value_given (map given_view given.now)) names.now) }
+    ensures { IfOk result (λ vs. map override_view vs.items ≡ map (o.value_given (given_of given.now)) names.now) }
 {
     let mut values = Vec::new(alloc);
     for name in names {
-        let value = given_to(name.name, given);
+        let value = given.find(name.name);
         values.push(value)?;
     }
     Ok(values)
@@ -194,17 +183,19 @@ fn values_given(
 pub fn overridden(
     alloc: Global,
     scope: &Scope,
-    names: &[Identifier],
+    names: &NameOrder,
     overrides: &Option<Connections>,
 ) -> Result<Vec<Option<Const>>, Refusal>
     ensures { Answers result (λ vs. map override_view vs.items) (o.overridden (scope_of scope.now) names.now (option_map connections_of overrides.now)) }
 {
     match overrides {
         None => Ok(Vec::new(alloc)),
-        Some(Connections::Ordered(all)) => by_order(alloc, scope, names, all.as_slice()),
+        Some(Connections::Ordered(all)) => {
+            by_order(alloc, scope, names.as_slice(), all.as_slice())
+        },
         Some(Connections::Named(all)) => {
             let given = by_name(alloc, scope, names, all.as_slice())?;
-            Ok(values_given(alloc, names, &given)?)
+            Ok(values_given(alloc, names.as_slice(), &given)?)
         }
     }
 }

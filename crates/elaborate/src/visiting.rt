@@ -1,5 +1,5 @@
 // The visit of a module: its own checks, its ports and its clock.
-ghost use Rattle.std.specs.Prelude.{◌≡◌, ◌&&◌, map, drop};
+ghost use Rattle.std.specs.Prelude.{◌≡◌, ◌&&◌, map, drop, IfOk};
 ghost use Rattle.std.specs.Option.{option_map};
 ghost use Rattle.verilog_ast.specs.Views.{declaration_of as plain_module};
 ghost use Rattle.gen_unroll.specs.Told.{fault_in};
@@ -7,24 +7,25 @@ ghost use Rattle.gen_unroll.specs.Unrolled.{unrolled_module};
 ghost use Rattle.gen_unroll.specs.Values.{Answers};
 ghost use Rattle.gen_unroll.specs.Views.{bit_range_of, override_view, step_of};
 ghost use Rattle.elaborate.specs.Clocks as k;
-ghost use Rattle.elaborate.specs.Modules as m;
 ghost use Rattle.elaborate.specs.Visits as v;
-ghost use Rattle.elaborate.specs.Views.{checked_of, declaration_of, table_of, clock_view, visited_of, modules_of};
+ghost use Rattle.elaborate.specs.Ports as p;
+ghost use Rattle.elaborate.specs.Views.{declaration_of, table_of, clock_view, clocks_view, port_of, visited_of};
+ghost use Rattle.module_names.specs.Views.{modules_of};
 
-use crate::checking::Checking;
 use crate::checks::check;
 use crate::clocking::clocks;
 use crate::declaration::Declaration;
 use crate::declarations::Declarations;
 use crate::declaring::is_input;
-use crate::modules::Modules;
-use crate::naming::header_ports;
 use crate::visited::Visited;
 use gen_unroll::{BitRange, Step, Unrolled, unroll_within};
 use ls_text::{NameId, Refusal};
+use module_names::{ModuleNames, Modules};
+use no_memory::NoMemory;
 use std::alloc::Global;
 use typed_ir::Const;
-use verilog_ast::{Identifier, ModuleBody};
+use unit_ir::PortShape;
+use verilog_ast::Identifier;
 use width_rules::refused_at;
 
 // The first port beyond those that a top module may have: 40 at its name.
@@ -97,23 +98,57 @@ fn own_clock(
     }
 }
 
+// A port of the header, as instances of the module see it.
+fn port_shape(port: Identifier, found: Option<Declaration>) -> PortShape
+    ensures { port_of result ≡ p.outline port (option_map declaration_of found) }
+{
+    match found {
+        None => PortShape {
+            name: port.name,
+            input: false,
+            width: 1,
+            signed: false,
+        },
+        Some(found) => PortShape {
+            name: port.name,
+            input: is_input(found.kind),
+            width: width_of(found.range),
+            signed: found.signed,
+        },
+    }
+}
+
+fn port_shapes(
+    alloc: Global,
+    ports: &[Identifier],
+    table: &Declarations,
+) -> Result<Vec<PortShape>, NoMemory>
+    ensures { IfOk result (λ shapes. map port_of shapes.items ≡ p.port_outlines ports.now (table_of table.now)) }
+{
+    let mut shapes = Vec::new(alloc);
+    for port in ports {
+        let found = table.find(None, port.name);
+        shapes.push(port_shape(*port, found))?;
+    }
+    Ok(shapes)
+}
+
+// The number of a top's ports, and then the clock.
 fn clocked(
     alloc: Global,
     modules: &Modules<'_>,
-    of: &ModuleBody,
+    of: &ModuleNames<'_>,
     steps: &[Step<'_>],
     most: Option<usize>,
     clock: Option<NameId>,
-    checks: Checking,
-) -> Result<Visited, Refusal>
-    ensures { Answers result visited_of
-        (v.clocked (modules_of modules.now) (plain_module of.now) (map step_of steps.now) most (clock_view clock) (checked_of checks)) }
+    table: &Declarations,
+) -> Result<Vec<Option<NameId>>, Refusal>
+    ensures { Answers result (λ ks. clocks_view ks.items)
+        (v.clocked (modules_of modules.now) (plain_module of.now.body.now) (map step_of steps.now) most (clock_view clock) (table_of table.now)) }
 {
-    let ports = header_ports(alloc, &of.ports)?;
-    few_ports(alloc, most, &ports)?;
-    own_clock(alloc, clock, &ports, &checks.declared)?;
-    let clocks = clocks(alloc, modules, of, clock, steps)?;
-    Ok(Visited { checks, clocks })
+    few_ports(alloc, most, of.ports.as_slice())?;
+    own_clock(alloc, clock, of.ports.as_slice(), table)?;
+    clocks(alloc, modules, of, clock, steps)
 }
 
 /// The visit of a module under these overrides and with this clock port; a top has at most so many ports.
@@ -126,18 +161,25 @@ pub fn visit(
     turns: u32,
     modules: &Modules<'_>,
     most: Option<usize>,
-    of: &ModuleBody,
+    of: &ModuleNames<'_>,
     overrides: &[Option<Const>],
     clock: Option<NameId>,
 ) -> Result<Visited, Refusal>
     ensures { Answers result visited_of
-        (v.visited turns (modules_of modules.now) most (plain_module of.now) (map override_view overrides.now) (clock_view clock)) }
+        (v.visited turns (modules_of modules.now) most (plain_module of.now.body.now) (map override_view overrides.now) (clock_view clock)) }
 {
     let Unrolled {
         steps,
-        blocks: _,
+        blocks,
         fault,
-    } = unroll_within(alloc, of, overrides, turns)?;
+    } = unroll_within(alloc, of.body, overrides, turns)?;
     let checks = check(alloc, turns, modules, of, overrides, &steps, fault)?;
-    clocked(alloc, modules, of, &steps, most, clock, checks)
+    let clocks = clocked(alloc, modules, of, &steps, most, clock, &checks.declared)?;
+    let ports = port_shapes(alloc, of.ports.as_slice(), &checks.declared)?;
+    Ok(Visited {
+        checks,
+        clocks,
+        blocks,
+        ports,
+    })
 }
