@@ -2,3 +2,4 @@ pub mod Finding
 pub mod Endings
 pub mod Kept
 pub mod GivenValues
+pub mod Instantiated
