@@ -1,16 +1,12 @@
 // Items of a module, checked.
-ghost use Rattle.std.specs.Prelude.{◌≡◌, ◌++◌, ◌∷◌, [], map, None, false, OnOk};
+ghost use Rattle.std.specs.Prelude.{◌≡◌, map, None, false};
 ghost use Rattle.std.specs.Option.{option_map};
 ghost use Rattle.verilog_ast.specs.Views.{kind_of, declared_of, declared_reg_of, instance_of, connections_of, plain_item_of, declaration_of as plain_module};
-ghost use Rattle.width_rules.specs.Entries.{scope_of};
 ghost use Rattle.gen_unroll.specs.ReachViews.{reach_of};
-ghost use Rattle.gen_unroll.specs.Values.{constant_of, Answers};
-ghost use Rattle.gen_unroll.specs.Views.{here_of, override_view, step_of};
+ghost use Rattle.gen_unroll.specs.Values.{constant_of};
+ghost use Rattle.gen_unroll.specs.Views.{override_view, step_of};
 ghost use Rattle.elaborate.specs.Checks as c;
-ghost use Rattle.elaborate.specs.Connections as k;
-ghost use Rattle.elaborate.specs.Overrides as o;
 ghost use Rattle.elaborate.specs.Views.{declaration_of, checked_of, Leads};
-ghost use Rattle.module_names.specs.Modules.{parameters_of, header_ports};
 ghost use Rattle.module_names.specs.Views.{modules_of};
 
 use crate::checking::Checking;
@@ -20,16 +16,14 @@ use crate::declaration::Declaration;
 use crate::declaration_kind::DeclarationKind;
 use crate::header::{body_port, header_port, list_port, plain, range_of_kind, variable};
 use crate::overriding::overridden;
-use gen_unroll::{BlockId, ParameterSort, Reach, Step};
+use gen_unroll::{ParameterSort, Reach, Step};
 use ls_text::Refusal;
 use module_names::{ModuleNames, Modules};
-use no_memory::NoMemory;
-use std::alloc::Global;
 use typed_ir::Const;
 use verilog_ast::{
     Connections, Identifier, Instance, PlainItem, PortNet, RegVariable, Shape, Variable,
 };
-use width_rules::{Scope, refused_at};
+use width_rules::refused_at;
 
 // A name of this kind, without a range.
 fn named(kind: DeclarationKind, name: Identifier, signed: bool) -> Declaration
@@ -145,40 +139,6 @@ fn genvars(check: &mut Checking, here: &Reach, names: &[Identifier]) -> Result<(
     Ok(())
 }
 
-// The connections of an instance of this module.
-fn connected_to(
-    alloc: Global,
-    of: &ModuleNames<'_>,
-    connections: &Connections,
-) -> Result<(), Refusal>
-    ensures { Answers result (λ x. x) (k.connected (header_ports (plain_module of.now.body.now).ports) (connections_of connections.now)) }
-{
-    connected(alloc, &of.ports, connections)
-}
-
-// One instance more.
-fn add_instance(
-    check: &mut Checking,
-    block: Option<BlockId>,
-    name: Identifier,
-    instantiated: Identifier,
-    overrides: &[Option<Const>],
-) -> Result<(), NoMemory>
-    ensures { OnOk result (checked_of check.new ≡ record (checked_of check.old) {
-        children = (checked_of check.old).children
-            ++ record { block = here_of block; name = name; instantiated = instantiated; overrides = map override_view overrides.now } ∷ [];
-    }) }
-{
-    let overrides = Vec::from_slice(check.alloc, overrides)?;
-    check.children.push(ChildInstance {
-        block,
-        name,
-        instantiated,
-        overrides,
-    })?;
-    Ok(())
-}
-
 // An instance of a module: its name, and then its connections.
 #[tactic(auto, unfolding(crate::specs::Checks::one_instance))]
 fn one_instance(
@@ -195,8 +155,15 @@ fn one_instance(
     let block = here.block();
     let declaration = named(DeclarationKind::Instance, instance.name, false);
     plain(check, here, instance.name, declaration)?;
-    connected_to(check.alloc, of, &instance.connections)?;
-    Ok(add_instance(check, block, instance.name, instantiated, overrides)?)
+    connected(check.alloc, &of.ports, &instance.connections)?;
+    let overrides = Vec::from_slice(check.alloc, overrides)?;
+    check.children.push(ChildInstance {
+        block,
+        name: instance.name,
+        instantiated,
+        overrides,
+    })?;
+    Ok(())
 }
 
 fn each_instance(
@@ -216,19 +183,6 @@ fn each_instance(
     Ok(())
 }
 
-// The overrides of the parameters of this module.
-fn overridden_in(
-    alloc: Global,
-    scope: &Scope,
-    of: &ModuleNames<'_>,
-    overrides: &Option<Connections>,
-) -> Result<Vec<Option<Const>>, Refusal>
-    ensures { Answers result (λ vs. map override_view vs.items)
-        (o.overridden (scope_of scope.now) (parameters_of (plain_module of.now.body.now)) (option_map connections_of overrides.now)) }
-{
-    overridden(alloc, scope, &of.parameters, overrides)
-}
-
 // Instances of a module: 20 NoModule, then its overrides, and then instance by instance.
 #[tactic(auto, unfolding(crate::specs::Checks::instances))]
 fn instances(
@@ -245,25 +199,10 @@ fn instances(
     match modules.find(instantiated.name) {
         None => Err(refused_at(check.alloc, 20, instantiated)),
         Some(of) => {
-            let values = overridden_in(check.alloc, &here.scope, of, overrides)?;
+            let values = overridden(check.alloc, &here.scope, &of.parameters, overrides)?;
             each_instance(check, here, of, instantiated, &values, instances)
         }
     }
-}
-
-// The value of a parameter, where it stands outside of generate blocks.
-fn add_parameter(
-    check: &mut Checking,
-    block: Option<BlockId>,
-    value: Const,
-) -> Result<(), NoMemory>
-    ensures { OnOk result (checked_of check.new ≡ c.with_parameter (here_of block) (constant_of value) (checked_of check.old)) }
-{
-    match block {
-        None => check.parameters.push(value)?,
-        Some(_) => {}
-    }
-    Ok(())
 }
 
 // A parameter, and its value where it stands outside of generate blocks.
@@ -277,10 +216,12 @@ fn parameter(
 ) -> Result<(), Refusal>
     ensures { Leads result (checked_of check.new) (c.parameter (reach_of here.now) sort name (constant_of value) (checked_of check.old)) }
 {
-    let block = here.block();
     let declaration = named(DeclarationKind::Parameter(sort), name, value.signed);
     plain(check, here, name, declaration)?;
-    Ok(add_parameter(check, block, value)?)
+    if here.block().is_none() {
+        check.parameters.push(value)?;
+    }
+    Ok(())
 }
 
 fn item(

@@ -10,7 +10,6 @@ ghost use Rattle.gen_unroll.specs.ReachViews.{reach_of};
 ghost use Rattle.gen_unroll.specs.Views.{override_view, step_of};
 ghost use Rattle.elaborate.specs.Checks as c;
 ghost use Rattle.elaborate.specs.Views.{checked_of, declaration_of, table_of, Leads};
-ghost use Rattle.module_names.specs.Modules.{header_ports};
 ghost use Rattle.module_names.specs.Views.{modules_of};
 
 use crate::body::check_step;
@@ -90,17 +89,6 @@ fn ports_declared(alloc: Global, ports: &[Identifier], table: &Declarations) -> 
     Ok(())
 }
 
-// The names of the header of this module that aren't declared as ports: 27 at the first one.
-fn header_declared(
-    alloc: Global,
-    of: &ModuleNames<'_>,
-    table: &Declarations,
-) -> Result<(), Refusal>
-    ensures { Answers result (λ x. x) (c.ports_declared (header_ports (plain_module of.now.body.now).ports) (table_of table.now)) }
-{
-    ports_declared(alloc, of.ports.as_slice(), table)
-}
-
 // Steps of a module from its first one on.
 fn all_steps(
     alloc: Global,
@@ -135,6 +123,6 @@ pub fn check(
     if let Some(fault) = fault {
         return Err(Refusal::Fault(fault));
     }
-    header_declared(alloc, of, &check.declared)?;
+    ports_declared(alloc, of.ports.as_slice(), &check.declared)?;
     Ok(check)
 }
