@@ -21,17 +21,17 @@ told : (ms : List ModuleDeclaration) (m : ModuleDeclaration) (t : Told State) (s
 told ms m t said r same is =
     ap (λ zs. ended m (check_steps ms (reach_in m) zs nothing_checked) t.ending) (sym same) ∙ ap (λ x. ended m x t.ending) is
 
-is_some : Option Fault → Bool
+abbrev is_some : Option Fault → Bool
 is_some None = false
 is_some (Some f) = true
 
+abbrev or_fault : Result Checked Fault → Option Fault → Result Checked Fault
+or_fault x None = x
+or_fault x (Some z) = Err z
+
 stopped : (e : Result State Fault) (f : Fault) (x : Result Checked Fault) → Some f ≡ fault_in e → (e >>= λ _. x) ≡ Err f
 stopped (Ok s) f x h = absurd (true≢false (ap is_some h))
-stopped (Err g) f x h = ap (pick x) (sym h)
-  where
-    pick : Result Checked Fault → Option Fault → Result Checked Fault
-    pick x None = x
-    pick x (Some z) = Err z
+stopped (Err g) f x h = ap (or_fault x) (sym h)
 
 passed : (e : Result State Fault) (x : Result Checked Fault) → None ≡ fault_in e → (e >>= λ _. x) ≡ x
 passed (Ok s) x h = refl

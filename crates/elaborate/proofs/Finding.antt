@@ -1,19 +1,15 @@
--- Names in the maps of the code.
-use Rattle.std.proofs.Common.{◌≡◌, ℕ, Bool, true, false, ◌==◌, ◌&&◌, List, [], ◌∷◌, ◌++◌, map, refl, sym, ◌∙◌, ap, ap₂, cond, true≢false}
+-- Names in the table of declarations.
+use Rattle.std.proofs.Common.{◌≡◌, Bool, true, false, ◌==◌, ◌&&◌, List, [], ◌∷◌, map, refl, ◌∙◌, ap, ap₂, cond}
 use Rattle.std.specs.Prelude.{Option, Some, None}
 use Rattle.std.specs.Option.{option_map}
 use Rattle.std.specs.Map.{lookup}
 use Rattle.indexmap.specs.IndexMap.{insert_entry}
-use Rattle.ls_text.specs.declared.name_id.NameId.{NameId}
-use Rattle.ls_text.specs.declared.place.Place.{Place}
-use Rattle.verilog_ast.specs.declared.identifier.Identifier.{Identifier}
 use Rattle.gen_unroll.specs.declared.block_id.BlockId.{BlockId}
 use Rattle.gen_unroll.specs.Views.{here_of}
 use Rattle.elaborate.specs.declared.declared_name.DeclaredName.{DeclaredName}
 use Rattle.elaborate.specs.declared.declaration.Declaration.{Declaration as Declared}
 use Rattle.elaborate.specs.Tables.{NameIn, Declaration, Table, same_block, is_same_name, declared_as, with_declaration}
-use Rattle.module_names.specs.Listings.{is_listed}
-use Rattle.elaborate.specs.Views.{declaration_of, key_of, entry_of, listed}
+use Rattle.elaborate.specs.Views.{declaration_of, key_of, entry_of}
 
 -- two keys of the code are compared as they are by the definition
 abbrev pub same_ids : Option BlockId → Option BlockId → Bool
@@ -54,36 +50,3 @@ inserted E same [] k v = refl
 inserted E same (e ∷ es) k v =
     mapped (E k e.0) ((e.0, v) ∷ es) (e ∷ insert_entry E es k v)
     ∙ ap₂ (λ (b : Bool) (t : Table). cond b ((key_of e.0, declaration_of v) ∷ map entry_of es) (entry_of e ∷ t)) (same k e.0) (inserted E same es k v)
-
--- ---- listings
-
-abbrev pub is_some : {A : Type 0} → Option A → Bool
-is_some None = false
-is_some (Some x) = true
-
-some_of : (b : Bool) (x : Place) (o : Option Place) → is_some (cond b (Some x) o) ≡ cond b true (is_some o)
-some_of true x o = refl
-some_of false x o = refl
-
--- what is looked up is listed
-pub found_listed : (n : ℕ) (test : NameId → Bool) → ((k : NameId) → test k ≡ (n == k.0)) → (es : List (NameId × Place)) → is_some (lookup test es) ≡ is_listed n (map listed es)
-found_listed n test same [] = refl
-found_listed n test same (e ∷ es) =
-    some_of (test e.0) e.1 (lookup test es) ∙ ap₂ (λ (b c : Bool). cond b true c) (same e.0) (found_listed n test same es)
-
-same_end : (b c : Bool) → cond b true c ≡ false → (b ≡ false) × (c ≡ false)
-same_end true c h = absurd (let z : true ≡ false = h in true≢false z)
-same_end false c h = (refl, h)
-
-kept : (b : Bool) (xs ys : List (NameId × Place)) → b ≡ false → map listed (cond b xs ys) ≡ map listed ys
-kept true xs ys h = absurd (true≢false h)
-kept false xs ys h = refl
-
--- one name more, which isn't there
-pub listed_more : (E : NameId → NameId → Bool) → ((x y : NameId) → E x y ≡ (x.0 == y.0)) → (es : List (NameId × Place)) (k : NameId) (at : Place) → is_listed k.0 (map listed es) ≡ false
-    → map listed (insert_entry E es k at) ≡ map listed es ++ listed (k, at) ∷ []
-listed_more E same [] k at new = refl
-listed_more E same (e ∷ es) k at new =
-    let ends = same_end (k.0 == e.0.0) (is_listed k.0 (map listed es)) new in
-    kept (E k e.0) ((e.0, at) ∷ es) (e ∷ insert_entry E es k at) (same k e.0 ∙ ends.0)
-    ∙ ap (λ zs. listed e ∷ zs) (listed_more E same es k at ends.1)

@@ -1,3 +1,5 @@
 pub mod Finding
 pub mod Endings
 pub mod Kept
+pub mod GivenValues
+pub mod Instantiated

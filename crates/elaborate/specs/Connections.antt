@@ -1,5 +1,5 @@
 -- Connections of ports by name and by order (IEEE Std 1364-2005, 12.3.5 and 12.3.6).
-use Rattle.std.specs.Prelude.{ℕ, Bool, true, false, not, if◌then◌else◌, List, [], ◌∷◌, ◌++◌, Option, Some, None, Result, Ok, Err}
+use Rattle.std.specs.Prelude.{Bool, true, false, if◌then◌else◌, List, [], ◌∷◌, ◌++◌, Option, Some, None, Result, Ok, Err}
 use Rattle.ls_text.specs.declared.fault.Fault.{Fault}
 use Rattle.ls_text.specs.declared.place.Place.{Place}
 use Rattle.verilog_ast.specs.declared.identifier.Identifier.{Identifier}

@@ -8,5 +8,5 @@ use Rattle.elaborate.proofs.body.each_instance.Given as goal
 
 abbrev pub invariant-loop-instance : goal.invariant-loop-instance
 invariant-loop-instance l =
-    each (one_instance (reach_of l.here) (declaration_of l.of) l.instantiated (map override_view l.overrides)) (map instance_of (drop l.instance-index l.instances)) (checked_of l.check)
-    ≡ each (one_instance (reach_of l.here) (declaration_of l.of) l.instantiated (map override_view l.overrides)) (map instance_of l.instances) (checked_of l.initial.check)
+    each (one_instance (reach_of l.here) (declaration_of l.of.body.now) l.instantiated (map override_view l.overrides)) (map instance_of (drop l.instance-index l.instances)) (checked_of l.check)
+    ≡ each (one_instance (reach_of l.here) (declaration_of l.of.body.now) l.instantiated (map override_view l.overrides)) (map instance_of l.instances) (checked_of l.initial.check)

@@ -3,7 +3,8 @@ use Rattle.gen_unroll.specs.Reaches.{IsEven}
 use Rattle.gen_unroll.specs.ReachViews.{reach_of}
 use Rattle.gen_unroll.specs.Views.{step_of}
 use Rattle.elaborate.specs.Checks.{check_steps}
-use Rattle.elaborate.specs.Views.{checked_of, modules_of}
+use Rattle.elaborate.specs.Views.{checked_of}
+use Rattle.module_names.specs.Views.{modules_of}
 use Rattle.elaborate.proofs.checks.check_steps.Given as goal
 
 abbrev pub invariant-loop-step : goal.invariant-loop-step

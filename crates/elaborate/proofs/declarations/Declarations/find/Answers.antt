@@ -1,4 +1,4 @@
-use Rattle.std.proofs.Common.{◌∙◌, sym, ap, refl}
+use Rattle.std.proofs.Common.{◌∙◌, sym, ap}
 use Rattle.std.specs.Option.{option_map, option_copied}
 use Rattle.gen_unroll.specs.Views.{here_of}
 use Rattle.elaborate.specs.Views.{declaration_of}

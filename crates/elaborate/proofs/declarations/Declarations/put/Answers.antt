@@ -1,4 +1,4 @@
-use Rattle.std.proofs.Common.{◌∙◌, ap, refl, map}
+use Rattle.std.proofs.Common.{◌∙◌, ap, map}
 use Rattle.elaborate.proofs.Finding.{inserted, keys_are}
 use Rattle.elaborate.specs.Views.{entry_of}
 use Rattle.elaborate.proofs.declarations.Declarations.put.Goals as goal
