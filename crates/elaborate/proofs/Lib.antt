@@ -1,3 +1,4 @@
 pub mod Finding
 pub mod Endings
 pub mod Kept
+pub mod Dropping
