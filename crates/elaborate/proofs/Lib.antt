@@ -3,3 +3,4 @@ pub mod Endings
 pub mod Kept
 pub mod GivenValues
 pub mod Instantiated
+pub mod Dropping

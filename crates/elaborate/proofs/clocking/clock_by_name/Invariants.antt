@@ -8,4 +8,4 @@ use Rattle.elaborate.proofs.clocking.clock_by_name.Given as goal
 
 abbrev pub invariant-loop-one : goal.invariant-loop-one
 invariant-loop-one l =
-    clock_by_name (declaration_of l.of) (scope_of l.scope) (map by_name_of (drop l.one-index l.all)) (clock_view l.clock) ≡ clock_by_name (declaration_of l.of) (scope_of l.scope) (map by_name_of l.all) None
+    clock_by_name (declaration_of l.of.body.now) (scope_of l.scope) (map by_name_of (drop l.one-index l.all)) (clock_view l.clock) ≡ clock_by_name (declaration_of l.of.body.now) (scope_of l.scope) (map by_name_of l.all) None

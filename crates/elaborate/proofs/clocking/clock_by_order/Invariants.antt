@@ -8,4 +8,4 @@ use Rattle.elaborate.proofs.clocking.clock_by_order.Given as goal
 
 abbrev pub invariant-loop-one : goal.invariant-loop-one
 invariant-loop-one l =
-    clock_by_order (declaration_of l.of) (scope_of l.scope) l.left (map by_order_of (drop l.one-index l.all)) (clock_view l.clock) ≡ clock_by_order (declaration_of l.of) (scope_of l.scope) l.ports (map by_order_of l.all) None
+    clock_by_order (declaration_of l.of.body.now) (scope_of l.scope) l.left (map by_order_of (drop l.one-index l.all)) (clock_view l.clock) ≡ clock_by_order (declaration_of l.of.body.now) (scope_of l.scope) l.ports (map by_order_of l.all) None

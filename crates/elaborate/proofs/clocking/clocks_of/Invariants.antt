@@ -7,4 +7,4 @@ use Rattle.elaborate.proofs.clocking.clocks_of.Given as goal
 
 abbrev pub invariant-loop-instance : goal.invariant-loop-instance
 invariant-loop-instance l =
-    clocks_of (declaration_of l.of) (scope_of l.scope) (map instance_of (drop l.instance-index l.instances)) (clocks_view l.clocks.items) ≡ clocks_of (declaration_of l.of) (scope_of l.scope) (map instance_of l.instances) (clocks_view l.initial.clocks.items)
+    clocks_of (declaration_of l.of.body.now) (scope_of l.scope) (map instance_of (drop l.instance-index l.instances)) (clocks_view l.clocks.items) ≡ clocks_of (declaration_of l.of.body.now) (scope_of l.scope) (map instance_of l.instances) (clocks_view l.initial.clocks.items)

@@ -11,6 +11,6 @@ use Rattle.elaborate.proofs.clocking.connection.Goals as goal
 pub returns-in-Some : goal.returns-in-Some
 returns-in-Some c =
     subst (λ (o : Option Expr). Answers c.connect.result clock_view
-    (connection (declaration_of c.args.of.now) (scope_of c.args.scope.now) c.args.port (option_map expression_of o) (clock_view c.args.clock))) (sym c.in-Some.is)
+    (connection (declaration_of c.args.of.now.body.now) (scope_of c.args.scope.now) c.args.port (option_map expression_of o) (clock_view c.args.clock))) (sym c.in-Some.is)
     (subst (λ (e : Expr). Answers c.connect.result clock_view
-    (connect (declaration_of c.args.of.now) (scope_of c.args.scope.now) c.args.port (expression_of e) (clock_view c.args.clock))) c.get.ensures c.connect.ensures)
+    (connect (declaration_of c.args.of.now.body.now) (scope_of c.args.scope.now) c.args.port (expression_of e) (clock_view c.args.clock))) c.get.ensures c.connect.ensures)
