@@ -1,0 +1,4 @@
+pub mod Listings
+pub mod Modules
+pub mod Entries
+pub mod Views
