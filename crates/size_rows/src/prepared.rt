@@ -18,11 +18,7 @@ pub struct Prepared {
 }
 
 // The expression that a text is; none where it isn't one.
-fn expression_of(
-    alloc: Global,
-    names: &mut Names,
-    text: &[u8],
-) -> Result<Option<Expr>, NoMemory> {
+fn expression_of(alloc: Global, names: &mut Names, text: &[u8]) -> Result<Option<Expr>, NoMemory> {
     let Some(tokens) = tokens_of(alloc, names, text)? else {
         return Ok(None);
     };
