@@ -5,7 +5,7 @@ use Rattle.std.specs.Prelude.{slice_index}
 use Rattle.std.specs.declared.vec.Vec.{Vec}
 use Rattle.std.specs.Global.{Global}
 use Rattle.std.proofs.lemmas.Bool.{eqb-true, eqb-false, eq-eqb, ne_eqb, ltb-true, lt-ltb, and_from}
-use Rattle.std.proofs.lemmas.List.{length-append}
+use Rattle.std.proofs.lemmas.List.{length-append, get_or_default}
 use Rattle.typed_ir.proofs.Cases.{by_cases, and_left, and_right, left_or, right_or}
 use Rattle.comb_order.specs.Graphs.{times, row_at, rows_of, waiting}
 use Rattle.comb_order.specs.Driving.{row_in, edge, ends_with, IsRow, AreRows}
@@ -36,8 +36,10 @@ pushed_edge row b t = by_cases (t == b)
 pub ends_there : (row : List ℕ) (b : ℕ) → ends_with row b ≡ true → 0 < times b row
 ends_there row b h =
     let some : 0 < length row = ltb-true 0 (length row) (and_left (nat_lt 0 (length row)) (slice_index row (length row - 1) == b) h) in
-    times-at row (length row - 1) b (omega (arith, some))
-    (sym (eqb-true (slice_index row (length row - 1)) b (and_right (nat_lt 0 (length row)) (slice_index row (length row - 1) == b) h)))
+    let inside : length row - 1 < length row = omega (arith, some) in
+    times-at row (length row - 1) b inside
+    (sym (eqb-true (slice_index row (length row - 1)) b (and_right (nat_lt 0 (length row)) (slice_index row (length row - 1) == b) h))
+    ∙ get_or_default row (length row - 1) 0 b inside)
 
 pub kept_edge : (row : List ℕ) (b : ℕ) → ends_with row b ≡ true → (t : ℕ) → nat_lt 0 (times t row) ≡ (nat_lt 0 (times t row) || (t == b))
 kept_edge row b h t = by_cases (t == b)

@@ -1,33 +1,27 @@
 // What expressions are within a block of a scope and behind it, as texts.
-ghost use Rattle.std.specs.Prelude.{◌≡◌, ◌≤◌, ◌∷◌, length, IfOk};
+ghost use Rattle.std.specs.Prelude.{◌≡◌, ◌∷◌, IfOk};
 ghost use Rattle.width_rules.specs.Entries.{scope_of, around};
 
-use crate::sizes::expression_of;
+use crate::prepared::Prepared;
 use bits::Bits;
 use ls_text::{Names, NoMemory};
-use row_operands::{operands, push_refusal, push_value};
+use row_operands::{push_refusal, push_value};
 use std::alloc::Global;
-use typed_ir::{Const, Env, fits, value};
-use verilog_ast::Expr;
+use typed_ir::{Const, fits, value};
 use width_rules::{Entry, Scope, size_expr};
 
 // The value of an expression at its own length and sign, or its first fault; behind what is there.
-fn push_sized(
-    alloc: Global,
-    out: &mut Vec<u8>,
-    names: &mut Names,
-    scope: &Scope,
-    env: &Env,
-    e: &Expr,
-) -> Result<(), NoMemory> {
-    match size_expr(alloc, scope, e, None, false) {
+fn push_sized(alloc: Global, out: &mut Vec<u8>, p: &mut Prepared) -> Result<(), NoMemory>
+    ensures { IfOk result (λ _. around p.new.scope ≡ around p.old.scope) }
+{
+    match size_expr(alloc, &p.scope, &p.expression, None, false) {
         Ok(typed) => {
-            if fits(&typed, env) {
-                push_value(out, value(&typed, env))?;
+            if fits(&typed, &p.env) {
+                push_value(out, value(&typed, &p.env))?;
             }
             Ok(())
         }
-        Err(refusal) => push_refusal(alloc, out, names, refusal),
+        Err(refusal) => push_refusal(alloc, out, &mut p.names, refusal),
     }
 }
 
@@ -60,44 +54,25 @@ fn open_with_names(names: &mut Names, scope: &mut Scope) -> Result<(), NoMemory>
     declare_constant(names, scope, b"zz", 1)
 }
 
-// What an expression is within the innermost block, which ends then.
-fn push_within(
-    alloc: Global,
-    out: &mut Vec<u8>,
-    names: &mut Names,
-    scope: &mut Scope,
-    env: &Env,
-    e: &Expr,
-) -> Result<(), NoMemory>
-    requires { 1 ≤ length (around scope.old) }
-{
-    push_sized(alloc, out, names, scope, env, e)?;
-    scope.close_block();
+// What an expression is within a block, which ends then.
+fn push_within(alloc: Global, out: &mut Vec<u8>, p: &mut Prepared) -> Result<(), NoMemory> {
+    open_with_names(&mut p.names, &mut p.scope)?;
+    push_sized(alloc, out, p)?;
+    p.scope.close_block();
     Ok(out.push(b' ')?)
 }
 
 // What an expression is within a block, and then behind it.
-fn push_both(
-    alloc: Global,
-    out: &mut Vec<u8>,
-    names: &mut Names,
-    scope: &mut Scope,
-    env: &Env,
-    e: &Expr,
-) -> Result<(), NoMemory> {
-    open_with_names(names, scope)?;
-    push_within(alloc, out, names, scope, env, e)?;
-    push_sized(alloc, out, names, scope, env, e)
+fn push_both(alloc: Global, out: &mut Vec<u8>, p: &mut Prepared) -> Result<(), NoMemory> {
+    push_within(alloc, out, p)?;
+    push_sized(alloc, out, p)
 }
 
 /// The value of an expression within a block that declares `a` as 7 and `zz` as 1, each of 8 bits, and then behind the block.
 pub fn within_and_behind(alloc: Global, text: &[u8]) -> Result<Vec<u8>, NoMemory> {
     let mut out = Vec::new(alloc);
-    let mut names = Names::new(alloc);
-    let Some(e) = expression_of(alloc, &mut names, text)? else {
-        return Ok(out);
-    };
-    let (mut scope, env) = operands(alloc, &mut names)?;
-    push_both(alloc, &mut out, &mut names, &mut scope, &env, &e)?;
+    if let Some(mut p) = Prepared::of(alloc, text)? {
+        push_both(alloc, &mut out, &mut p)?;
+    }
     Ok(out)
 }

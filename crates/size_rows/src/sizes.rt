@@ -1,58 +1,48 @@
 // What the rules of sizes make of expressions, as texts.
 ghost use Rattle.std.specs.Prelude.{◌≤◌};
 
-use ls_text::{Names, NoMemory, Refusal, behind, front, push_decimal};
-use row_operands::{operands, push_refusal, push_value};
-use row_tables::tokens_of;
+use crate::prepared::Prepared;
+use ls_text::{NoMemory, behind, front, push_decimal};
+use row_operands::{push_refusal, push_value};
 use std::alloc::Global;
-use typed_ir::{Signedness, fits, value};
-use verilog_ast::Expr;
-use verilog_expr::parse_expr;
+use typed_ir::{Const, Signedness, fits, value};
 use width_rules::{constant, size_expr};
-
-/// The expression that a text is; none where it isn't one.
-pub fn expression_of(
-    alloc: Global,
-    names: &mut Names,
-    text: &[u8],
-) -> Result<Option<Expr>, NoMemory> {
-    let Some(tokens) = tokens_of(alloc, names, text)? else {
-        return Ok(None);
-    };
-    match parse_expr(alloc, &tokens, 0, 0) {
-        Ok(parsed) => Ok(if parsed.next.saturating_add(1) == tokens.len() {
-            Some(parsed.expr)
-        } else {
-            None
-        }),
-        Err(Refusal::NoMemory) => Err(NoMemory),
-        Err(Refusal::Fault(_fault)) => Ok(None),
-    }
-}
 
 // How many bytes stand before the first space.
 fn word_len(text: &[u8]) -> usize {
     text.iter().take_while(|b| **b != b' ').count()
 }
 
-// The value of an expression in a context of so many bits, where it is unsigned or by its own sign.
+// The value in a context of so many bits, where it is unsigned or by its own sign; or the first fault.
+fn push_sized(
+    alloc: Global,
+    out: &mut Vec<u8>,
+    p: &mut Prepared,
+    length: u8,
+    by: Signedness,
+) -> Result<(), NoMemory>
+    requires least { 1 ≤ length }
+    requires most { length ≤ 128 }
+{
+    let unsigned = matches!(by, Signedness::Unsigned);
+    match size_expr(alloc, &p.scope, &p.expression, Some(length), unsigned) {
+        Ok(typed) => {
+            if fits(&typed, &p.env) {
+                push_value(out, value(&typed, &p.env).resize(length, false))?;
+            }
+            Ok(())
+        }
+        Err(refusal) => push_refusal(alloc, out, &mut p.names, refusal),
+    }
+}
+
+// The same of a text: a number of bits and an expression.
 fn value_of(alloc: Global, text: &[u8], by: Signedness) -> Result<Vec<u8>, NoMemory> {
-    let mut out = Vec::new(alloc);
-    let mut names = Names::new(alloc);
     let n = word_len(text);
     let length = bits_of(front(text, n));
-    let Some(e) = expression_of(alloc, &mut names, behind(text, n.saturating_add(1)))? else {
-        return Ok(out);
-    };
-    let (scope, env) = operands(alloc, &mut names)?;
-    let unsigned = matches!(by, Signedness::Unsigned);
-    match size_expr(alloc, &scope, &e, Some(length), unsigned) {
-        Ok(typed) => {
-            if fits(&typed, &env) {
-                push_value(&mut out, value(&typed, &env).resize(length, false))?;
-            }
-        }
-        Err(refusal) => push_refusal(alloc, &mut out, &mut names, refusal)?,
+    let mut out = Vec::new(alloc);
+    if let Some(mut p) = Prepared::of(alloc, behind(text, n.saturating_add(1)))? {
+        push_sized(alloc, &mut out, &mut p, length, by)?;
     }
     Ok(out)
 }
@@ -96,40 +86,52 @@ pub fn sizing(alloc: Global, text: &[u8]) -> Result<Vec<u8>, NoMemory> {
     fault_of(alloc, text, None)
 }
 
-// The same in a context of so many bits, or none.
+// The first fault in a context of so many bits, or none; or `ok`.
+fn push_fault(
+    alloc: Global,
+    out: &mut Vec<u8>,
+    p: &mut Prepared,
+    context: Option<u8>,
+) -> Result<(), NoMemory> {
+    match size_expr(alloc, &p.scope, &p.expression, context, false) {
+        Ok(_) => Ok(out.extend_from_slice(b"ok")?),
+        Err(refusal) => push_refusal(alloc, out, &mut p.names, refusal),
+    }
+}
+
+// The same of a text.
 fn fault_of(alloc: Global, text: &[u8], context: Option<u8>) -> Result<Vec<u8>, NoMemory> {
     let mut out = Vec::new(alloc);
-    let mut names = Names::new(alloc);
-    let Some(e) = expression_of(alloc, &mut names, text)? else {
-        return Ok(out);
-    };
-    let (scope, _env) = operands(alloc, &mut names)?;
-    match size_expr(alloc, &scope, &e, context, false) {
-        Ok(_) => out.extend_from_slice(b"ok")?,
-        Err(refusal) => push_refusal(alloc, &mut out, &mut names, refusal)?,
+    if let Some(mut p) = Prepared::of(alloc, text)? {
+        push_fault(alloc, &mut out, &mut p, context)?;
     }
     Ok(out)
+}
+
+// The length, the sign and the value.
+fn push_const(out: &mut Vec<u8>, found: Const) -> Result<(), NoMemory> {
+    push_decimal(out, u64::from(found.bits.width()))?;
+    out.extend_from_slice(if found.signed {
+        b" signed "
+    } else {
+        b" unsigned "
+    })?;
+    push_value(out, found.bits)
+}
+
+// The constant that an expression is, or its first fault.
+fn push_constant(alloc: Global, out: &mut Vec<u8>, p: &mut Prepared) -> Result<(), NoMemory> {
+    match constant(alloc, &p.scope, &p.expression) {
+        Ok(found) => push_const(out, found),
+        Err(refusal) => push_refusal(alloc, out, &mut p.names, refusal),
+    }
 }
 
 /// The length, the sign and the value of a constant expression; or its first fault.
 pub fn constant_of(alloc: Global, text: &[u8]) -> Result<Vec<u8>, NoMemory> {
     let mut out = Vec::new(alloc);
-    let mut names = Names::new(alloc);
-    let Some(e) = expression_of(alloc, &mut names, text)? else {
-        return Ok(out);
-    };
-    let (scope, _env) = operands(alloc, &mut names)?;
-    match constant(alloc, &scope, &e) {
-        Ok(found) => {
-            push_decimal(&mut out, u64::from(found.bits.width()))?;
-            out.extend_from_slice(if found.signed {
-                b" signed "
-            } else {
-                b" unsigned "
-            })?;
-            push_value(&mut out, found.bits)?;
-        }
-        Err(refusal) => push_refusal(alloc, &mut out, &mut names, refusal)?,
+    if let Some(mut p) = Prepared::of(alloc, text)? {
+        push_constant(alloc, &mut out, &mut p)?;
     }
     Ok(out)
 }
