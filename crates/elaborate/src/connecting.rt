@@ -85,11 +85,7 @@ fn is_empty_place(all: &[OrderedConnection]) -> bool
 /// Faults, connection by connection: 27 NoPort at a connection to no port, or one too many; 28 PortTwice at one to a port that is connected
 /// already. Else want of memory.
 #[tactic(auto, unfolding(crate::specs::Connections::connected))]
-pub fn connected(
-    alloc: Global,
-    ports: &NameOrder,
-    connections: &Connections,
-) -> Result<(), Refusal>
+pub fn connected(alloc: Global, ports: &NameOrder, connections: &Connections) -> Result<(), Refusal>
     ensures { Answers result (λ x. x) (k.connected ports.now (connections_of connections.now)) }
 {
     match connections {
