@@ -1,6 +1,6 @@
 use Rattle.std.proofs.Common.{◌≡◌, map, drop}
 use Rattle.gen_unroll.specs.Views.{override_view}
-use Rattle.elaborate.proofs.elaborating.same_overrides.Given as goal
+use Rattle.elaborate.proofs.jobs.same_overrides.Given as goal
 
 abbrev pub invariant-loop-one : goal.invariant-loop-one
 invariant-loop-one l =
