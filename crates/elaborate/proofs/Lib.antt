@@ -4,3 +4,6 @@ pub mod Kept
 pub mod GivenValues
 pub mod Instantiated
 pub mod Dropping
+pub mod Levels
+pub mod Stood
+pub mod Beyond

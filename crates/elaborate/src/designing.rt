@@ -1,5 +1,7 @@
 // The modules of a design, and its top.
 ghost use Rattle.std.specs.Prelude.{◌≡◌, [], None, Some, IfOk};
+ghost use Rattle.ls_text.specs.declared.at.At.TheVariants.{Edit};
+ghost use Rattle.ls_text.specs.declared.refusal.Refusal.TheVariants as refusal;
 ghost use Rattle.verilog_ast.specs.Views.{declaration_of as plain_module, declarations_of};
 ghost use Rattle.gen_unroll.specs.Values.{Answers};
 ghost use Rattle.module_names.specs.Views.{modules_of};
@@ -23,29 +25,33 @@ fn named_once<'a>(alloc: Global, all: &'a [Module]) -> Result<Modules<'a>, Refus
     ensures all { IfOk result (λ ms. modules_of ms ≡ declarations_of all.now) }
 {
     let mut modules = Modules::new(alloc);
-    for module in all {
-        let name = module.body.name;
+    for one in all {
+        let name = one.body.name;
         if modules.find(name.name).is_some() {
             return Err(refused_at(alloc, 21, name));
         }
-        modules.add(module)?;
+        modules.add(one)?;
     }
     Ok(modules)
 }
 
 // The first module beyond those that a design may have: 40 at its name.
+#[tactic(auto, using(crate::proofs::Beyond::beyond))]
 fn few_modules(alloc: Global, most: usize, all: &[Module]) -> Result<(), Refusal>
     ensures { Answers result (λ x. x) (e.few_modules most (declarations_of all.now)) }
 {
     if most < all.len() {
-        Err(refused_at(alloc, 40, all[most].body.name))
+        let beyond = &all[most];
+        Err(refused_at(alloc, 40, beyond.body.name))
     } else {
         Ok(())
     }
 }
 
 // No top, or none of the modules: 22, which shows no name.
-fn no_top(alloc: Global) -> Refusal {
+fn no_top(alloc: Global) -> Refusal
+    ensures { result ≡ refusal.Fault (record { code = 22; at = Edit; names = [] }) }
+{
     Refusal::Fault(Fault {
         code: 22,
         at: At::Edit,

@@ -96,7 +96,6 @@ fn within(
 
 // An instance of a module that there is, of which this is the number: its visit, and what stands below it.
 #[cycle(visit)]
-#[tactic(auto, using(crate::proofs::Kept::children))]
 fn of_module(
     t: &mut Growing,
     modules: &Modules<'_>,
@@ -140,6 +139,7 @@ fn of_module(
 
 // An instance in the one at `above`: 23 where no level is left or its module is on the path, 40 where there are enough; then its visit.
 #[cycle(visit)]
+#[tactic(auto, using(crate::proofs::Levels::children))]
 fn instance(
     t: &mut Growing,
     modules: &Modules<'_>,

@@ -78,7 +78,10 @@ fn digest(overrides: &[Option<Const>]) -> u64 {
     for one in overrides {
         let value = match one {
             None => 0,
-            Some(value) => (value.bits.value as u64).wrapping_add(u64::from(value.bits.width)),
+            Some(value) => {
+                let low = (value.bits.value % 0x1_0000_0000_0000_0000) as u64;
+                low.wrapping_add(u64::from(value.bits.width))
+            }
         };
         digest = digest
             .wrapping_mul(0x517c_c1b7_2722_0a95)
