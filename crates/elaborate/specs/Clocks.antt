@@ -17,7 +17,7 @@ use Rattle.gen_unroll.specs.Reaches.{Reach, in_reach}
 use Rattle.gen_unroll.specs.Steps.{ModuleStep, Listed, Port, Parameter, Item, Labelled, Opened, Closed}
 use Rattle.gen_unroll.specs.Values.{◌>>=◌}
 use Rattle.module_names.specs.Listings.{is_listed}
-use Rattle.module_names.specs.Modules.{module_named, header_ports, is_input_of}
+use Rattle.module_names.specs.Modules.{module_named, port_name, header_ports, is_input_of}
 use Rattle.elaborate.specs.Tables.{Declaration, Table, is_input, declared_as}
 
 -- ---- the clock among the names in reach: a signal with a number of its own, which a declaration in a block hides
@@ -149,6 +149,31 @@ abbrev pub clocks_in : Option ModuleDeclaration → Scope → List ModuleInstanc
 clocks_in None scope xs ks = Ok ks
 clocks_in (Some m) scope xs ks = clocks_of m scope xs ks
 
+-- ---- the clock port of a module itself: an input of one bit (37 at its name in the header)
+
+abbrev pub width_of : Option BitRange → ℕ
+width_of None = 1
+width_of (Some r) = r.width
+
+abbrev pub is_one_bit_input : Option Declaration → Bool
+is_one_bit_input None = false
+is_one_bit_input (Some d) = is_input d.kind && (width_of d.range == 1)
+
+abbrev pub may_be_clock : Table → Identifier → Bool
+may_be_clock table p = is_one_bit_input (declared_as (record { block = None; name = p.name.0 }) table)
+
+-- a port of the header, which may be the clock port
+abbrev pub own_port : (clock : Option ℕ) → Table → Identifier → Result (Unit {0}) Fault
+own_port None table p = Ok tt
+own_port (Some name) table p = if name == p.name.0 then (if may_be_clock table p then Ok tt else Err (fault_at 37 p)) else Ok tt
+
+abbrev pub own_clock : (clock : Option ℕ) → (ports : List Identifier) → Table → Result (Unit {0}) Fault
+own_clock clock ports table = all_free (own_port clock table) ports
+
+-- a port that the header declares: its name, and then its initial value
+abbrev pub declared_port : (clock : Option ℕ) → Table → Scope → PortDeclaration → Result (Unit {0}) Fault
+declared_port clock table scope p = own_port clock table (port_name p) >>= λ _. port_free scope p
+
 -- ---- steps, with the clock ports of the instances so far
 
 -- `posedge` of anything else is refused at its name
@@ -169,34 +194,15 @@ clock_item ms scope (i.Clocked at n x) ks = unless_misused (posedge scope n >>= 
 clock_item ms scope (i.Instances n overrides xs) ks = clocks_in (module_named n.name.0 ms) scope xs ks
 clock_item ms scope other ks = Ok ks
 
-abbrev pub clock_step : List ModuleDeclaration → Scope → ModuleStep → List (Option ℕ) → Result (List (Option ℕ)) Fault
-clock_step ms scope (Port p) ks = unless_misused (port_free scope p) ks
-clock_step ms scope (Item x) ks = clock_item ms scope x ks
-clock_step ms scope other ks = Ok ks
+abbrev pub clock_step : List ModuleDeclaration → (clock : Option ℕ) → Table → Scope → ModuleStep → List (Option ℕ) → Result (List (Option ℕ)) Fault
+clock_step ms clock table scope (Listed n) ks = unless_misused (own_port clock table n) ks
+clock_step ms clock table scope (Port p) ks = unless_misused (declared_port clock table scope p) ks
+clock_step ms clock table scope (Item x) ks = clock_item ms scope x ks
+clock_step ms clock table scope other ks = Ok ks
 
-abbrev pub clock_steps : List ModuleDeclaration → Reach → List ModuleStep → List (Option ℕ) → Result (List (Option ℕ)) Fault
-clock_steps ms here [] ks = Ok ks
-clock_steps ms here (s ∷ ss) ks = clock_step ms here.scope s ks >>= λ more. clock_steps ms (in_reach s here) ss more
-
--- ---- the clock port of a module itself: an input of one bit (37 at its name in the header)
-
-abbrev pub width_of : Option BitRange → ℕ
-width_of None = 1
-width_of (Some r) = r.width
-
-abbrev pub is_one_bit_input : Option Declaration → Bool
-is_one_bit_input None = false
-is_one_bit_input (Some d) = is_input d.kind && (width_of d.range == 1)
-
-abbrev pub clock_port : (name : ℕ) → (ports : List Identifier) → Table → Result (Unit {0}) Fault
-clock_port name [] table = Ok tt
-clock_port name (p ∷ ps) table =
-    if name == p.name.0 then (if is_one_bit_input (declared_as (record { block = None; name = p.name.0 }) table) then Ok tt else Err (fault_at 37 p))
-    else clock_port name ps table
-
-abbrev pub own_clock : Option ℕ → (ports : List Identifier) → Table → Result (Unit {0}) Fault
-own_clock None ports table = Ok tt
-own_clock (Some name) ports table = clock_port name ports table
+abbrev pub clock_steps : List ModuleDeclaration → (clock : Option ℕ) → Table → Reach → List ModuleStep → List (Option ℕ) → Result (List (Option ℕ)) Fault
+clock_steps ms clock table here [] ks = Ok ks
+clock_steps ms clock table here (s ∷ ss) ks = clock_step ms clock table here.scope s ks >>= λ more. clock_steps ms clock table (in_reach s here) ss more
 
 -- the clock of a top module is its port of this name; without one there is no clock
 abbrev pub top_clock : (clock : ℕ) → ModuleDeclaration → Option ℕ

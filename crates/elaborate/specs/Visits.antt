@@ -26,16 +26,15 @@ abbrev pub none_beyond : List Identifier → Result (Unit {0}) Fault
 none_beyond [] = Ok tt
 none_beyond (p ∷ ps) = Err (fault_at 40 p)
 
-abbrev pub few_ports : (most : Option ℕ) → (ports : List Identifier) → Result (Unit {0}) Fault
-few_ports None ports = Ok tt
-few_ports (Some most) ports = none_beyond (drop most ports)
+-- the ports of a top, and its clock among them
+abbrev pub top_ports : (most : Option ℕ) → (clock : Option ℕ) → (ports : List Identifier) → Table → Result (Unit {0}) Fault
+top_ports None clock ports table = Ok tt
+top_ports (Some most) clock ports table = none_beyond (drop most ports) >>= λ _. own_clock clock ports table
 
--- the ports, and then the clock
+-- these, and then the clock in the order of the text
 abbrev pub clocked : List ModuleDeclaration → ModuleDeclaration → (said : List ModuleStep) → (most clock : Option ℕ) → Table → Result (List (Option ℕ)) Fault
 clocked ms m said most clock table =
-    few_ports most (header_ports m.ports)
-    >>= λ _. own_clock clock (header_ports m.ports) table
-    >>= λ _. clock_steps ms (with_clock clock (reach_in m)) said []
+    top_ports most clock (header_ports m.ports) table >>= λ _. clock_steps ms clock table (with_clock clock (reach_in m)) said []
 
 abbrev pub with_clocks : ModuleDeclaration → (said : List ModuleStep) → Checked → List (Option ℕ) → Visited
 with_clocks m said c ks = record { checks = c; clocks = ks; blocks = blocks_in said; ports = port_outlines (header_ports m.ports) c.declared }

@@ -72,20 +72,26 @@ fn is_job(job: &Job, name: NameId, overrides: &[Option<Const>], clock: Option<Na
         && same_overrides(&job.overrides, overrides)
 }
 
-// A number that equal overrides share.
+// A number behind another one in a digest.
+fn mixed(digest: u64, number: u64) -> u64 {
+    digest
+        .wrapping_mul(0x517c_c1b7_2722_0a95)
+        .wrapping_add(number)
+}
+
+// A number that equal overrides share: of each its width with its sign, or 0 where it is none, and the two halves of its value.
 fn digest(overrides: &[Option<Const>]) -> u64 {
     let mut digest = 0u64;
     for one in overrides {
-        let value = match one {
-            None => 0,
+        match one {
+            None => digest = mixed(digest, 0),
             Some(value) => {
-                let low = (value.bits.value % 0x1_0000_0000_0000_0000) as u64;
-                low.wrapping_add(u64::from(value.bits.width))
+                let width = u64::from(value.bits.width);
+                digest = mixed(digest, if value.signed { width + 256 } else { width });
+                digest = mixed(digest, (value.bits.value >> 64) as u64);
+                digest = mixed(digest, (value.bits.value & u128::from(u64::MAX)) as u64);
             }
-        };
-        digest = digest
-            .wrapping_mul(0x517c_c1b7_2722_0a95)
-            .wrapping_add(value);
+        }
     }
     digest
 }

@@ -113,7 +113,7 @@ pub fn tree_within(
 /// module, and a depth of 64.
 ///
 /// Faults, the first of: 21 TwoModules and 40 TooMany at a module's name, 22 NoTop; then from the top down those of each module, step by
-/// step in the order of its text (20 NoModule, 24 BadParam, 27 NoPort, 28 PortTwice, 30 NameTwice, 33 BadTarget, 41 TooManyTurns and those of
+/// step in the order of its text (20 NoModule, 24 BadParam, 27 NoPort, 28 PortTwice, 30 NameTwice, 33 BadTarget, 41 GenLimit and those of
 /// expressions), 40 at a port of the top, 37 ClockMisuse, and 23 RecursiveInstance and 40 at an instance. Else want of memory. The table of
 /// names keeps all it has.
 pub fn elaborate(

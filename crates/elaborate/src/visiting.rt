@@ -11,12 +11,12 @@ ghost use Rattle.elaborate.specs.Views.{declaration_of, table_of, clock_view, cl
 ghost use Rattle.module_names.specs.Views.{modules_of};
 
 use crate::checks::check;
-use crate::clocking::clocks;
+use crate::clocking::{clocks, own_clock, width_of};
 use crate::declaration::Declaration;
 use crate::declarations::Declarations;
 use crate::declaring::is_input;
 use crate::visited::Visited;
-use gen_unroll::{BitRange, Step, Unrolled, unroll_within};
+use gen_unroll::{Step, Unrolled, unroll_within};
 use ls_text::{NameId, Refusal};
 use module_names::{ModuleNames, Modules};
 use no_memory::NoMemory;
@@ -27,72 +27,32 @@ use verilog_ast::Identifier;
 use width_rules::refused_at;
 
 // The first port beyond those that a top module may have: 40 at its name.
-fn few_ports(alloc: Global, most: Option<usize>, ports: &[Identifier]) -> Result<(), Refusal>
-    ensures { Answers result (λ x. x) (v.few_ports most ports.now) }
+fn few_ports(alloc: Global, most: usize, ports: &[Identifier]) -> Result<(), Refusal>
+    ensures { Answers result (λ x. x) (v.none_beyond (drop most ports.now)) }
 {
-    match most {
-        None => Ok(()),
-        Some(most) => {
-            if most < ports.len() {
-                Err(refused_at(alloc, 40, ports[most]))
-            } else {
-                Ok(())
-            }
-        }
+    if most < ports.len() {
+        Err(refused_at(alloc, 40, ports[most]))
+    } else {
+        Ok(())
     }
 }
 
-fn width_of(range: Option<BitRange>) -> u8
-    ensures { result ≡ k.width_of (option_map bit_range_of range) }
-{
-    match range {
-        None => 1,
-        Some(range) => range.width,
-    }
-}
-
-// Whether a name is declared as an input of one bit.
-fn is_one_bit_input(found: Option<Declaration>) -> bool
-    ensures { result ≡ k.is_one_bit_input (option_map declaration_of found) }
-{
-    match found {
-        None => false,
-        Some(found) => is_input(found.kind) && width_of(found.range) == 1,
-    }
-}
-
-fn clock_port(
+// The ports of a top, and its clock among them.
+fn top_ports(
     alloc: Global,
-    name: NameId,
-    ports: &[Identifier],
-    table: &Declarations,
-) -> Result<(), Refusal>
-    ensures { Answers result (λ x. x) (k.clock_port name.0 ports.now (table_of table.now)) }
-{
-    for port in ports {
-        if name == port.name {
-            let found = table.find(None, port.name);
-            if is_one_bit_input(found) {
-                return Ok(());
-            }
-            return Err(refused_at(alloc, 37, *port));
-        }
-    }
-    Ok(())
-}
-
-// The clock port of a module: 37 at its name in the header where it is no input of one bit.
-fn own_clock(
-    alloc: Global,
+    most: Option<usize>,
     clock: Option<NameId>,
     ports: &[Identifier],
     table: &Declarations,
 ) -> Result<(), Refusal>
-    ensures { Answers result (λ x. x) (k.own_clock (clock_view clock) ports.now (table_of table.now)) }
+    ensures { Answers result (λ x. x) (v.top_ports most (clock_view clock) ports.now (table_of table.now)) }
 {
-    match clock {
+    match most {
         None => Ok(()),
-        Some(name) => clock_port(alloc, name, ports, table),
+        Some(most) => {
+            few_ports(alloc, most, ports)?;
+            own_clock(alloc, clock, ports, table)
+        }
     }
 }
 
@@ -131,7 +91,7 @@ fn port_shapes(
     Ok(shapes)
 }
 
-// The number of a top's ports, and then the clock.
+// The ports of a top, and then the clock in the order of the text.
 fn clocked(
     alloc: Global,
     modules: &Modules<'_>,
@@ -144,15 +104,14 @@ fn clocked(
     ensures { Answers result (λ ks. clocks_view ks.items)
         (v.clocked (modules_of modules.now) (plain_module of.now.body.now) (map step_of steps.now) most (clock_view clock) (table_of table.now)) }
 {
-    few_ports(alloc, most, of.ports.as_slice())?;
-    own_clock(alloc, clock, of.ports.as_slice(), table)?;
-    clocks(alloc, modules, of, clock, steps)
+    top_ports(alloc, most, clock, of.ports.as_slice(), table)?;
+    clocks(alloc, modules, of, clock, table, steps)
 }
 
 /// The visit of a module under these overrides and with this clock port; a top has at most so many ports.
 ///
-/// Faults: those of its own checks, step by step; then 40 TooMany at a port of a top beyond `most`, 37 ClockMisuse at its clock port in the
-/// header, and 37 in the order of the text. Else want of memory.
+/// Faults: those of its own checks, step by step; then of a top 40 TooMany at a port beyond `most` and 37 ClockMisuse at its clock port in
+/// the header; then 37 in the order of the text. Else want of memory.
 #[tactic(auto, unfolding(crate::specs::Visits::visited))]
 pub fn visit(
     alloc: Global,
