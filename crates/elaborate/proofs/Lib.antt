@@ -5,3 +5,5 @@ pub mod Levels
 pub mod Stood
 pub mod Dropping
 pub mod Beyond
+pub mod DepthFirst
+pub mod Instances
