@@ -1,5 +1,5 @@
 -- The instances of a design stand depth first: the top, and each other in one that is still open.
-use Rattle.std.proofs.Common.{◌≡◌, ◌<◌, ◌≤◌, ◌+◌, ◌==◌, ℕ, zero, suc, Bool, true, false, ◌&&◌, nat_lt, if◌then◌else◌, List, [], ◌∷◌, ◌++◌, map, length, Result, Ok, Err, refl, sym, ◌∙◌, ap, subst, arith, append_assoc, append-nil}
+use Rattle.std.proofs.Common.{◌≡◌, ◌<◌, ◌≤◌, ◌==◌, ℕ, zero, suc, Bool, true, false, ◌&&◌, nat_lt, if◌then◌else◌, List, [], ◌∷◌, ◌++◌, map, length, Result, Ok, Err, refl, sym, ◌∙◌, ap, subst, arith, append_assoc, append-nil}
 use Rattle.std.specs.Prelude.{Option, Some, None, nat_le}
 use Rattle.std.proofs.lemmas.Bool.{cond-true, cond-false, eq-eqb, ne_eqb, lt-ltb}
 use Rattle.std.proofs.lemmas.List.{length_push, map_push, length-map}
@@ -145,7 +145,7 @@ child_stands l ms (suc left) path above m around c k all new h stand is =
     let below = child_at l ms left (path ++ c.instantiated.name.0 ∷ []) in
     let named : Result ModuleDeclaration Fault = or_no_module (module_named c.instantiated.name.0 ms) c.instantiated in
     let there = past_test (nat_le l.instances n) (fault_at 40 c.instantiated) (named >>= λ d. of_module l ms above below c k all d) new
-        (past_test (is_on path c.instantiated.name.0) (fault_at 23 c.instantiated) _ new is) in
+    (past_test (is_on path c.instantiated.name.0) (fault_at 23 c.instantiated) _ new is) in
     let module_step = first_step named (λ d. of_module l ms above below c k all d) new there in
     let visit_step = first_step (visited l.turns ms None module_step.value c.overrides k) (λ v. instances_within (below n) v (all ++ standing above c k v ∷ [])) new module_step.second in
     let v = visit_step.value in
