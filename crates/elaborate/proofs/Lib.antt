@@ -7,3 +7,5 @@ pub mod Dropping
 pub mod Levels
 pub mod Stood
 pub mod Beyond
+pub mod DepthFirst
+pub mod Instances

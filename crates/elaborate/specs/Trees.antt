@@ -43,6 +43,12 @@ seen_as name s = record {
   ports = s.visited.ports;
 }
 
+-- instances of these names, one after another
+abbrev pub seen_under : (names : List (List ℕ)) → List Standing → List TreeInstance
+seen_under [] ss = []
+seen_under (name ∷ names) [] = []
+seen_under (name ∷ names) (s ∷ ss) = seen_as name s ∷ seen_under names ss
+
 abbrev pub seen : (texts : List (List ℕ)) → List Standing → Standing → TreeInstance
 seen texts all s = seen_as (called texts all s) s
 

@@ -1,6 +1,5 @@
 // The tree of a design: its instances as the designs above see them.
 ghost use Rattle.std.specs.Prelude.{◌≡◌, ◌<◌, length, map, All, IfOk};
-ghost use Rattle.std.specs.List.{zip_with};
 ghost use Rattle.verilog_ast.specs.Views.{declarations_of};
 ghost use Rattle.ls_text.specs.Texts.{Grows};
 ghost use Rattle.gen_unroll.specs.Values.{Answers};
@@ -21,6 +20,7 @@ use unit_ir::{Instance, InstanceTree, PortList};
 use verilog_ast::Module;
 
 // The blocks of the module that an instance stands in.
+#[tactic(auto, using(crate::proofs::Instances::around))]
 fn blocks_around(all: &[StandingInstance], parent: Option<InstanceId>) -> &[Block]
     ensures { map block_of result.now ≡ t.blocks_around (map standing_of all.now) parent }
 {
@@ -44,12 +44,14 @@ fn texts_of(
     let mut texts = Vec::new(alloc);
     for one in all {
         let blocks = blocks_around(all, one.parent);
-        texts.push(full_text(alloc, names, blocks, one.block, one.name.name)?)?;
+        let text = full_text(alloc, names, blocks, one.block, one.name.name)?;
+        texts.push(text)?;
     }
     Ok(texts)
 }
 
 // An instance of this name, as the designs above see it.
+#[tactic(auto, using(crate::proofs::Instances::is_seen))]
 fn seen(alloc: Global, name: NameId, one: &StandingInstance) -> Result<Instance, NoMemory>
     ensures { IfOk result (λ i. IsSeen name (standing_of one.now) i) }
 {
@@ -69,6 +71,7 @@ fn seen(alloc: Global, name: NameId, one: &StandingInstance) -> Result<Instance,
 }
 
 // All of them, each called by its text.
+#[tactic(auto, using(crate::proofs::Instances::seen))]
 fn all_seen(
     alloc: Global,
     names: &mut Names,
@@ -76,20 +79,26 @@ fn all_seen(
     all: &[StandingInstance],
 ) -> Result<Vec<Instance>, NoMemory>
     requires { length texts.now ≡ length all.now }
-    ensures instances { IfOk result (λ is. map (instance_view names.new) is.items ≡ zip_with t.seen_as (map text_items texts.now) (map standing_of all.now)) }
+    ensures instances { IfOk result (λ is. map (instance_view names.new) is.items ≡ t.seen_under (map text_items texts.now) (map standing_of all.now)) }
     ensures named { IfOk result (λ is. All (λ i. i.place.name.0 < length names.new) is.items) }
     ensures grows { Grows names.old names.new }
 {
     let mut instances = Vec::new(alloc);
-    for (text, one) in texts.iter().zip(all) {
+    let mut rest = texts;
+    for one in all {
+        let Some((text, behind)) = rest.split_first() else {
+            return Ok(instances);
+        };
         let name = names.intern(text)?;
-        instances.push(seen(alloc, name, one)?)?;
+        let instance = seen(alloc, name, one)?;
+        instances.push(instance)?;
+        rest = behind;
     }
     Ok(instances)
 }
 
 /// The same as `elaborate`, within these limits.
-#[tactic(auto, unfolding(crate::specs::Trees::tree), using(crate::proofs::DepthFirst::depth_first))]
+#[tactic(auto, unfolding(crate::specs::Trees::tree), using(crate::proofs::Instances::tree_depth_first, crate::proofs::Instances::tree_seen, crate::proofs::Instances::same_length))]
 pub fn tree_within(
     alloc: Global,
     names: &mut Names,
