@@ -3,11 +3,7 @@ use Rattle.std.proofs.Common.{◌≡◌, ℕ, ◌+◌, ◌<◌, ◌≤◌, List,
 use Rattle.std.proofs.lemmas.List.{drop-map, drop_all}
 use Rattle.typed_ir.proofs.Lists.{drop_read}
 
--- an element is the first one from its place on
-pub from_place : {A B : Type 0} (F : List A → B) (xs : List A) (i : ℕ) (x : A) → i < length xs → x ≡ get_or xs i x → F (drop i xs) ≡ F (x ∷ drop (i + 1) xs)
-from_place F xs i x h is = ap F (drop_read xs i x h is)
-
--- the same where each element is viewed
+-- an element, viewed, is the first one from its place on
 pub from_place_viewed : {A B C : Type 0} (F : List B → C) (view : A → B) (xs : List A) (i : ℕ) (x : A) → i < length xs → x ≡ get_or xs i x
     → F (drop i (map view xs)) ≡ F (view x ∷ map view (drop (i + 1) xs))
 from_place_viewed F view xs i x h is = ap F (drop-map view i xs ∙ ap (map view) (drop_read xs i x h is))

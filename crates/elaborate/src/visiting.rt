@@ -1,5 +1,5 @@
 // The visit of a module: its own checks, its ports and its clock.
-ghost use Rattle.std.specs.Prelude.{◌≡◌, map, IfOk};
+ghost use Rattle.std.specs.Prelude.{◌≡◌, map, drop, IfOk};
 ghost use Rattle.std.specs.Option.{option_map};
 ghost use Rattle.verilog_ast.specs.Views.{declaration_of as plain_module};
 ghost use Rattle.gen_unroll.specs.Values.{Answers};
