@@ -1,0 +1,5 @@
+pub mod RenamedValues
+pub mod RenamedNames
+pub mod RenamedTold
+pub mod RenamedLoops
+pub mod RenamedUnrolled
