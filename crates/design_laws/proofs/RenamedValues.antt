@@ -15,7 +15,7 @@ use Rattle.width_rules.proofs.RenamedSizes.{same_sign, same_length, same_value, 
 use Rattle.width_rules.proofs.RenamedFaults.{both_so, if_so, fault_of_so, same_between, same_faults}
 use Rattle.gen_unroll.specs.Declarations.{BitRange, is_range, lower_bound, range_faults, range_value, parameter_type, typed_by}
 use Rattle.gen_unroll.specs.Values.{ConstantValue, unless, evaluated, ◌>>=◌}
-use Rattle.unroll_laws.specs.Renaming.{answer_as}
+use Rattle.design_laws.specs.Renaming.{answer_as}
 
 -- ---- answers
 

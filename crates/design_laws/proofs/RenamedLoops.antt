@@ -15,9 +15,9 @@ use Rattle.width_rules.specs.Scopes.{Meaning, Signal, Constant, Turn, Genvar, Un
 use Rattle.gen_unroll.specs.Declarations.{declared}
 use Rattle.gen_unroll.specs.Unrolled.{holds, is_taken, assignable, assigned, genvar_value, in_turn, turns_from, turns, loop_turns}
 use Rattle.gen_unroll.specs.Values.{ConstantValue}
-use Rattle.unroll_laws.specs.Renaming.{KeepsApart, answer_as}
-use Rattle.unroll_laws.proofs.RenamedNames.{same_test, declared_so, turn_so}
-use Rattle.unroll_laws.proofs.RenamedValues.{bind_so, same_evaluated}
+use Rattle.design_laws.specs.Renaming.{KeepsApart, answer_as}
+use Rattle.design_laws.proofs.RenamedNames.{same_test, declared_so, turn_so}
+use Rattle.design_laws.proofs.RenamedValues.{bind_so, same_evaluated}
 
 -- ---- conditions
 

@@ -1,8 +1,9 @@
 -- What unrolling tells and the names in reach, under other names: what each name's number becomes is told by a function.
-use Rattle.std.specs.Prelude.{◌≡◌, ⊤, List, [], ◌∷◌, Result, Ok, Err}
+use Rattle.std.specs.Prelude.{◌≡◌, ⊤, ℕ, List, [], ◌∷◌, Result, Ok, Err}
 use Rattle.std.specs.Option.{option_map}
 use Rattle.ls_text.specs.declared.fault.Fault.{Fault}
 use Rattle.ls_text.specs.declared.name_id.NameId.{NameId}
+use Rattle.ls_text.specs.Texts.{text_at}
 use Rattle.verilog_ast.specs.Renamed.{renamed_identifier}
 use Rattle.verilog_ast.specs.Renaming.{port_as, item_as}
 use Rattle.width_rules.specs.Renaming.{MeansSame, fault_as}
@@ -50,3 +51,9 @@ pub record SameReach (f : NameId → NameId) (here there : Reach) : Type 0 where
   pub names : MeansSame f here.scope there.scope
   pub outer : MeanSame f here.around there.around
   pub blocks : there.blocks ≡ here.blocks
+
+-- ---- texts of names
+
+-- each name has in the second table, under its other number, the text that it has in the first
+abbrev pub SpellsSame : (NameId → NameId) → List (List ℕ) → List (List ℕ) → Type 0
+SpellsSame f texts others = (n : NameId) → text_at others (f n).0 ≡ text_at texts n.0

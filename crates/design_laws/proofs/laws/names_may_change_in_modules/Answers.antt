@@ -1,8 +1,9 @@
-use Rattle.unroll_laws.proofs.RenamedNames.{same_beginning, same_reach}
-use Rattle.unroll_laws.proofs.RenamedTold.{same_blocks}
-use Rattle.unroll_laws.proofs.RenamedUnrolled.{same_steps, same_first_fault}
-use Rattle.unroll_laws.proofs.RenamedValues.{same_evaluated, same_range_value}
-use Rattle.unroll_laws.proofs.laws.names_may_change.Goals as goal
+use Rattle.design_laws.proofs.RenamedNames.{same_beginning, same_reach}
+use Rattle.design_laws.proofs.RenamedTexts.{same_spoken}
+use Rattle.design_laws.proofs.RenamedTold.{same_blocks}
+use Rattle.design_laws.proofs.RenamedUnrolled.{same_steps, same_first_fault}
+use Rattle.design_laws.proofs.RenamedValues.{same_evaluated, same_range_value}
+use Rattle.design_laws.proofs.laws.names_may_change_in_modules.Goals as goal
 
 pub returns-clause-steps : goal.returns-clause-steps
 returns-clause-steps c = same_steps
@@ -24,3 +25,6 @@ returns-clause-values c = same_evaluated
 
 pub returns-clause-ranges : goal.returns-clause-ranges
 returns-clause-ranges c = same_range_value
+
+pub returns-clause-texts : goal.returns-clause-texts
+returns-clause-texts c = same_spoken

@@ -9,7 +9,7 @@ use Rattle.width_rules.specs.Scopes.{Scope}
 use Rattle.gen_unroll.specs.Steps.{ModuleStep, GenerateBlock, Listed, Port, Parameter, Item, Labelled, Opened, Closed, blocks_in}
 use Rattle.gen_unroll.specs.Told.{Told, go_on, ◌>>=◌, done, say, say_all, quiet, fault_in}
 use Rattle.gen_unroll.specs.Unrolled.{State, each}
-use Rattle.unroll_laws.specs.Renaming.{answer_as, block_as, step_as}
+use Rattle.design_laws.specs.Renaming.{answer_as, block_as, step_as}
 
 -- ---- states
 

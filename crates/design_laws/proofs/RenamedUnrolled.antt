@@ -21,11 +21,11 @@ use Rattle.gen_unroll.specs.Steps.{LoopTurn, ModuleStep, Listed, Port, Parameter
 use Rattle.gen_unroll.specs.Told.{Told, ◌>>=◌, say, fault_in}
 use Rattle.gen_unroll.specs.Unrolled.{State, each, override_of, given_or, known, parameter, parameters, next_type, header_parameters, port_steps, labelled, with_turn, inside, outside, block_with, turn_with, loop_with, taken_with, unrolled, chosen, branch, beginning, untyped, module_told, unrolled_module}
 use Rattle.gen_unroll.specs.Values.{ConstantValue, evaluated}
-use Rattle.unroll_laws.specs.Renaming.{KeepsApart, answer_as, turn_as, step_as}
-use Rattle.unroll_laws.proofs.RenamedLoops.{same_taken, same_loop_turns}
-use Rattle.unroll_laws.proofs.RenamedNames.{declared_so, with_turn_so, item_names_so, own_names_so}
-use Rattle.unroll_laws.proofs.RenamedTold.{SameTold, Follows, under, step_so, quiet_so, done_so, said_so, say_so, each_so, same_fault}
-use Rattle.unroll_laws.proofs.RenamedValues.{same_evaluated, same_type}
+use Rattle.design_laws.specs.Renaming.{KeepsApart, answer_as, turn_as, step_as}
+use Rattle.design_laws.proofs.RenamedLoops.{same_taken, same_loop_turns}
+use Rattle.design_laws.proofs.RenamedNames.{declared_so, with_turn_so, item_names_so, own_names_so}
+use Rattle.design_laws.proofs.RenamedTold.{SameTold, Follows, under, step_so, quiet_so, done_so, said_so, say_so, each_so, same_fault}
+use Rattle.design_laws.proofs.RenamedValues.{same_evaluated, same_type}
 
 -- ---- parameters
 

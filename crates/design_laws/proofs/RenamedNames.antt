@@ -17,7 +17,7 @@ use Rattle.gen_unroll.specs.Reaches.{Reach, reach_in, blocks_around, scope_aroun
 use Rattle.gen_unroll.specs.Steps.{LoopTurn, ModuleStep, Listed, Port, Parameter, Item, Labelled, Opened, Closed}
 use Rattle.gen_unroll.specs.Unrolled.{in_turn, with_turn, nowhere, own_names}
 use Rattle.gen_unroll.specs.Values.{ConstantValue}
-use Rattle.unroll_laws.specs.Renaming.{KeepsApart, MeanSame, SameReach, turn_as, step_as}
+use Rattle.design_laws.specs.Renaming.{KeepsApart, MeanSame, SameReach, turn_as, step_as}
 
 -- ---- names
 

@@ -1,0 +1,9 @@
+// Modules and designs under other names.
+//
+// `laws` says that names may change: an unrolled module (the definitions of `gen_unroll`), and the instances of a design (those of
+// `elaborate`). It is over definitions alone, so there is nothing to run here.
+#![tactic(auto)]
+
+mod laws;
+
+pub use laws::{names_may_change_in_designs, names_may_change_in_modules};
