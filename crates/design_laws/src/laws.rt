@@ -2,10 +2,12 @@
 ghost use Rattle.std.specs.Prelude.{◌≡◌, ℕ, List, Option, map};
 ghost use Rattle.std.specs.Option.{option_map};
 ghost use Rattle.ls_text.specs.declared.name_id.NameId.{NameId};
-ghost use Rattle.verilog_ast.specs.Declarations.{RangeBounds};
+ghost use Rattle.verilog_ast.specs.declared.identifier.Identifier.{Identifier};
+ghost use Rattle.verilog_ast.specs.Declarations.{RangeBounds, PortList};
 ghost use Rattle.verilog_ast.specs.Expressions.{Expression};
-ghost use Rattle.verilog_ast.specs.Items.{ModuleDeclaration};
-ghost use Rattle.verilog_ast.specs.Renaming.{expression_as, range_as, declaration_as};
+ghost use Rattle.verilog_ast.specs.Items.{ConnectionList, ModuleDeclaration};
+ghost use Rattle.verilog_ast.specs.Renamed.{renamed_identifier};
+ghost use Rattle.verilog_ast.specs.Renaming.{expression_as, range_as, ports_as, connections_as, declaration_as};
 ghost use Rattle.width_rules.specs.Renaming.{MeansSame, fault_as};
 ghost use Rattle.width_rules.specs.Scopes.{Scope};
 ghost use Rattle.gen_unroll.specs.Declarations.{range_value};
@@ -15,9 +17,12 @@ ghost use Rattle.gen_unroll.specs.Steps.{GenerateBlock, ModuleStep, blocks_in};
 ghost use Rattle.gen_unroll.specs.Told.{fault_in};
 ghost use Rattle.gen_unroll.specs.Unrolled.{unrolled_module};
 ghost use Rattle.gen_unroll.specs.Values.{ConstantValue, evaluated};
+ghost use Rattle.module_names.specs.Modules.{module_named, parameters_of, header_ports, is_input_of};
 ghost use Rattle.elaborate.specs.declared.limits.Limits.{Limits};
 ghost use Rattle.elaborate.specs.Checks.{checked};
+ghost use Rattle.elaborate.specs.Connections.{connected};
 ghost use Rattle.elaborate.specs.Elaborated.{top_of, elaborated};
+ghost use Rattle.elaborate.specs.Overrides.{overridden};
 ghost use Rattle.elaborate.specs.Trees.{tree};
 ghost use Rattle.elaborate.specs.Visits.{visited};
 ghost use Rattle.design_laws.specs.Findings.{number_as, found_as, checked_as, clock_as, visited_as, standing_as, seen_instance_as};
@@ -42,6 +47,23 @@ pub fn names_may_change_in_modules()
         → range_value other (range_as f r) ≡ answer_as f (range_value scope r) }
     ensures texts { (f : NameId → NameId) (texts others : List (List ℕ)) (blocks : List GenerateBlock) (k : Option ℕ) (n : NameId) → SpellsSame f texts others
         → spoken others (map (block_as f) blocks) k (f n).0 ≡ spoken texts blocks k n.0 }
+{}
+
+/// What an instance has to know of the module that it instantiates is the same under other names, of which no two become one: which module
+/// has a name, its parameters and ports in their order, and whether a port is an input; so are the overrides of the parameters, and the first
+/// fault of these and of connections.
+#[tactic(none)]
+pub fn names_may_change_in_headers()
+    ensures modules { (f : NameId → NameId) (name : ℕ) (ms : List ModuleDeclaration) → KeepsApart f
+        → module_named (number_as f name) (map (declaration_as f) ms) ≡ option_map (declaration_as f) (module_named name ms) }
+    ensures parameters { (f : NameId → NameId) (m : ModuleDeclaration) → parameters_of (declaration_as f m) ≡ map (renamed_identifier f) (parameters_of m) }
+    ensures ports { (f : NameId → NameId) (ps : PortList) → header_ports (ports_as f ps) ≡ map (renamed_identifier f) (header_ports ps) }
+    ensures inputs { (f : NameId → NameId) (m : ModuleDeclaration) (name : ℕ) → KeepsApart f
+        → is_input_of (declaration_as f m) (number_as f name) ≡ is_input_of m name }
+    ensures overrides { (f : NameId → NameId) (scope other : Scope) (names : List Identifier) (xs : Option ConnectionList) → KeepsApart f → MeansSame f scope other
+        → overridden other (map (renamed_identifier f) names) (option_map (connections_as f) xs) ≡ answer_as f (overridden scope names xs) }
+    ensures connections { (f : NameId → NameId) (ports : List Identifier) (xs : ConnectionList) → KeepsApart f
+        → connected (map (renamed_identifier f) ports) (connections_as f xs) ≡ answer_as f (connected ports xs) }
 {}
 
 /// A design under other names, of which no two become one, has the same instances in the same order under these names, or the same first
