@@ -20,16 +20,16 @@ use Rattle.elaborate.specs.Checks.{Checked, ModuleChild, nothing_checked, declar
 use Rattle.elaborate.specs.Connections.{connected}
 use Rattle.elaborate.specs.Overrides.{overridden}
 use Rattle.elaborate.specs.Tables.{Table}
-use Rattle.design_laws.specs.Renaming.{KeepsApart, SameReach, answer_as, step_as}
-use Rattle.design_laws.proofs.RenamedNames.{same_beginning, same_reach}
-use Rattle.design_laws.proofs.RenamedTold.{SameEnd, SameTold}
-use Rattle.design_laws.proofs.RenamedUnrolled.{same_module}
-use Rattle.design_laws.specs.Findings.{found_as, table_as, child_as, checked_as}
+use Rattle.design_laws.specs.Findings.{table_as, child_as, checked_as}
+use Rattle.design_laws.specs.Renaming.{KeepsApart, SameReach, found_as, answer_as, step_as}
 use Rattle.design_laws.proofs.RenamedAnswers.{found_so, value_so, if_answer}
 use Rattle.design_laws.proofs.RenamedDeclarations.{each_so, plain_so, list_port_so, header_port_so, inputs_so, outputs_so, wires_so, regs_so, genvars_so, parameter_so}
 use Rattle.design_laws.proofs.RenamedModules.{same_named, same_parameters, same_ports}
+use Rattle.design_laws.proofs.RenamedNames.{same_beginning, same_reach}
 use Rattle.design_laws.proofs.RenamedOverrides.{same_overridden, same_connected}
 use Rattle.design_laws.proofs.RenamedTables.{same_declared}
+use Rattle.design_laws.proofs.RenamedTold.{SameEnd, SameTold}
+use Rattle.design_laws.proofs.RenamedUnrolled.{same_module}
 
 -- ---- instances
 

@@ -19,13 +19,12 @@ use Rattle.module_names.specs.Listings.{is_listed}
 use Rattle.module_names.specs.Modules.{module_named, header_ports}
 use Rattle.elaborate.specs.Clocks.{clock_free, declared_free, reg_free, assignment_free, take_clock, connect, connection, clock_by_name, next_port, ports_behind, clock_by_order, clock_of, clocks_of, clocks_in, unless_misused, clock_item, clock_step, clock_steps, is_one_bit_input, clock_port, own_clock, top_clock}
 use Rattle.elaborate.specs.Tables.{Table}
-use Rattle.design_laws.specs.Renaming.{KeepsApart, SameReach, answer_as, step_as}
-use Rattle.design_laws.proofs.RenamedNames.{same_reach}
-use Rattle.design_laws.proofs.RenamedValues.{bind_so}
-use Rattle.design_laws.specs.Findings.{number_as, found_as, clock_as, table_as}
-use Rattle.design_laws.proofs.RenamedAnswers.{found_so, value_so, if_found, if_answer, same_number}
+use Rattle.design_laws.specs.Findings.{clock_as, table_as}
+use Rattle.design_laws.specs.Renaming.{KeepsApart, SameReach, number_as, found_as, answer_as, step_as}
+use Rattle.design_laws.proofs.RenamedAnswers.{bind_so, found_so, value_so, if_found, if_answer}
 use Rattle.design_laws.proofs.RenamedClocks.{same_clock, same_posedge, same_free, same_all, same_statement, same_value_free, same_assignment, same_port}
 use Rattle.design_laws.proofs.RenamedModules.{same_listed, same_named, same_ports, same_input_of}
+use Rattle.design_laws.proofs.RenamedNames.{same_reach, same_number}
 use Rattle.design_laws.proofs.RenamedTables.{same_declared}
 
 -- ---- instances

@@ -14,11 +14,10 @@ use Rattle.width_rules.specs.Renaming.{MeansSame}
 use Rattle.width_rules.specs.Scopes.{Meaning, Scope}
 use Rattle.gen_unroll.specs.Reaches.{Reach}
 use Rattle.elaborate.specs.Clocks.{clock_net, is_clock, with_clock, name_free, clock_free, target_free, label_free, all_free, statement_free, value_free, assignment_free, port_free, posedge}
-use Rattle.design_laws.specs.Renaming.{KeepsApart, SameReach, answer_as}
-use Rattle.design_laws.proofs.RenamedNames.{same_test}
-use Rattle.design_laws.proofs.RenamedValues.{bind_so}
 use Rattle.design_laws.specs.Findings.{clock_as}
-use Rattle.design_laws.proofs.RenamedAnswers.{if_answer}
+use Rattle.design_laws.specs.Renaming.{KeepsApart, SameReach, answer_as}
+use Rattle.design_laws.proofs.RenamedAnswers.{bind_so, if_answer}
+use Rattle.design_laws.proofs.RenamedNames.{same_test}
 
 -- the clock is known under its other name
 pub clock_known : (f : NameId → NameId) (clock : Option ℕ) (here there : Reach) → KeepsApart f → SameReach f here there

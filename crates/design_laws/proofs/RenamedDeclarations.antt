@@ -21,13 +21,13 @@ use Rattle.elaborate.specs.declared.declaration_kind.DeclarationKind.{Declaratio
 use Rattle.elaborate.specs.declared.declaration_kind.DeclarationKind.TheVariants as kind
 use Rattle.elaborate.specs.Checks.{Checked, declaration, each, range_or_none, range_of_kind, plain, list_port, header_net, declare_port, header_port, body_port, variable, wire, reg, inputs, outputs, wires, regs, genvar, with_parameter, parameter}
 use Rattle.elaborate.specs.Tables.{Declaration, declare, declare_net, kind_of_net}
-use Rattle.design_laws.specs.Renaming.{KeepsApart, SameReach, answer_as}
-use Rattle.design_laws.proofs.RenamedNames.{names_so}
-use Rattle.design_laws.proofs.RenamedValues.{bind_so, same_range_value}
-use Rattle.design_laws.specs.Findings.{found_as, table_as, checked_as}
-use Rattle.design_laws.proofs.RenamedAnswers.{found_so, value_so, if_found}
+use Rattle.design_laws.specs.Findings.{table_as, checked_as}
+use Rattle.design_laws.specs.Renaming.{KeepsApart, SameReach, found_as, answer_as}
+use Rattle.design_laws.proofs.RenamedAnswers.{bind_so, found_so, value_so, if_found}
 use Rattle.design_laws.proofs.RenamedModules.{same_listed}
+use Rattle.design_laws.proofs.RenamedNames.{names_so}
 use Rattle.design_laws.proofs.RenamedTables.{same_declare, same_initial, same_declare_net}
+use Rattle.design_laws.proofs.RenamedValues.{same_range_value}
 
 -- one after another
 pub each_so : {A : Type 0} (f : NameId → NameId) (moved : A → A) (step steps : A → Checked → Result Checked Fault)

@@ -13,12 +13,13 @@ use Rattle.elaborate.specs.Checks.{ModuleChild}
 use Rattle.elaborate.specs.Clocks.{top_clock}
 use Rattle.elaborate.specs.Elaborated.{Standing, Step, unless_there, named_once, none_more, few_modules, top_module, standing, is_on, first_clock, clocks_behind, each_child, within, of_module, child_at, top_standing, from_top, top_of, elaborated}
 use Rattle.elaborate.specs.Visits.{Visited}
-use Rattle.design_laws.specs.Renaming.{KeepsApart, answer_as}
-use Rattle.design_laws.specs.Findings.{number_as, found_as, child_as, clock_as, visited_as, standing_as}
-use Rattle.design_laws.proofs.RenamedAnswers.{found_so, value_so, if_found, same_number}
+use Rattle.design_laws.specs.Findings.{child_as, clock_as, visited_as, standing_as}
+use Rattle.design_laws.specs.Renaming.{KeepsApart, number_as, found_as, answer_as}
+use Rattle.design_laws.proofs.RenamedAnswers.{found_so, value_so, if_found}
 use Rattle.design_laws.proofs.RenamedChecks.{same_module_of}
 use Rattle.design_laws.proofs.RenamedClockPorts.{same_top_clock}
 use Rattle.design_laws.proofs.RenamedModules.{same_named}
+use Rattle.design_laws.proofs.RenamedNames.{same_number}
 use Rattle.design_laws.proofs.RenamedVisits.{same_visited}
 
 -- ---- the modules

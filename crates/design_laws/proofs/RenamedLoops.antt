@@ -1,7 +1,6 @@
 -- Conditions and loops under other names: the same turns, and the same faults with their other names.
-use Rattle.std.proofs.Common.{◌≡◌, ℕ, zero, suc, ◌==◌, Bool, true, false, if◌then◌else◌, Option, Some, None, Result, Ok, Err, refl, ◌∙◌, ap}
+use Rattle.std.proofs.Common.{◌≡◌, ℕ, zero, suc, Option, Some, None, refl, ◌∙◌, ap}
 use Rattle.std.specs.Option.{option_map}
-use Rattle.ls_text.specs.declared.fault.Fault.{Fault}
 use Rattle.ls_text.specs.declared.name_id.NameId.{NameId}
 use Rattle.ls_text.specs.declared.place.Place.{Place}
 use Rattle.verilog_ast.specs.declared.identifier.Identifier.{Identifier}
@@ -9,15 +8,15 @@ use Rattle.verilog_ast.specs.Expressions.{Expression}
 use Rattle.verilog_ast.specs.Items.{LoopHead}
 use Rattle.verilog_ast.specs.Renamed.{renamed_identifier}
 use Rattle.verilog_ast.specs.Renaming.{expression_as, head_as}
-use Rattle.width_rules.specs.Faults.{fault_at}
 use Rattle.width_rules.specs.Renaming.{MeansSame}
 use Rattle.width_rules.specs.Scopes.{Meaning, Signal, Constant, Turn, Genvar, Unknown, Scope}
 use Rattle.gen_unroll.specs.Declarations.{declared}
 use Rattle.gen_unroll.specs.Unrolled.{holds, is_taken, assignable, assigned, genvar_value, in_turn, turns_from, turns, loop_turns}
 use Rattle.gen_unroll.specs.Values.{ConstantValue}
 use Rattle.design_laws.specs.Renaming.{KeepsApart, answer_as}
+use Rattle.design_laws.proofs.RenamedAnswers.{bind_so, if_answer}
 use Rattle.design_laws.proofs.RenamedNames.{same_test, declared_so, turn_so}
-use Rattle.design_laws.proofs.RenamedValues.{bind_so, same_evaluated}
+use Rattle.design_laws.proofs.RenamedValues.{same_evaluated}
 
 -- ---- conditions
 
@@ -42,32 +41,22 @@ assignable_so : (f : NameId → NameId) (scope other : Scope) (n : Identifier) �
     → assignable (renamed_identifier f n) (other (f n.name).0) ≡ answer_as f (assignable n (scope n.name.0))
 assignable_so f scope other n same = ap (assignable (renamed_identifier f n)) (same n.name) ∙ assignable_moves f n (scope n.name.0)
 
-one_name : (f : NameId → NameId) (b : Bool) (n : Identifier)
-    → (if b then Ok tt else Err (fault_at 33 (renamed_identifier f n))) ≡ answer_as {A = Unit {0}} f (if b then Ok tt else Err (fault_at 33 n))
-one_name f true n = refl
-one_name f false n = refl
-
 same_assigned : (f : NameId → NameId) (scope other : Scope) (h : LoopHead) → KeepsApart f → MeansSame f scope other → assigned other (head_as f h) ≡ answer_as f (assigned scope h)
 unfolding assigned
 same_assigned f scope other h apart same =
     bind_so f _ _ _ _ (assignable_so f scope other h.start.name same) (λ _. bind_so f _ _ _ _ (assignable_so f scope other h.step.name same)
-    (λ _. ap (λ (b : Bool). if b then Ok tt else Err (fault_at 33 (renamed_identifier f h.step.name))) (same_test f h.start.name.name h.step.name.name apart)
-    ∙ one_name f (h.start.name.name.0 == h.step.name.name.0) h.step.name))
+    (λ _. if_answer f _ _ _ _ _ _ (same_test f h.start.name.name h.step.name.name apart) refl refl))
 
 -- ---- turns
-
-if_so : {A : Type 0} (f : NameId → NameId) (b : Bool) (p q r s : Result A Fault) → p ≡ answer_as f r → q ≡ answer_as f s → (if b then p else q) ≡ answer_as f (if b then r else s)
-if_so f true p q r s first second = first
-if_so f false p q r s first second = second
 
 same_turns_from : (f : NameId → NameId) (scope other : Scope) (at : Place) (h : LoopHead) (left : ℕ) (v : ConstantValue) → KeepsApart f → MeansSame f scope other
     → turns_from at (head_as f h) other left v ≡ answer_as f (turns_from at h scope left v)
 same_turns_from f scope other at h zero v apart same =
     bind_so f _ _ _ _ (same_holds f (in_turn scope h.start.name v) (in_turn other (renamed_identifier f h.start.name) v) h.condition (turn_so f scope other h.start.name v apart same))
-    (λ more. if_so f more _ _ _ _ refl refl)
+    (λ more. if_answer f more more _ _ _ _ refl refl refl)
 same_turns_from f scope other at h (suc left) v apart same =
     bind_so f _ _ _ _ (same_holds f (in_turn scope h.start.name v) (in_turn other (renamed_identifier f h.start.name) v) h.condition (turn_so f scope other h.start.name v apart same))
-    (λ more. if_so f more _ _ _ _
+    (λ more. if_answer f more more _ _ _ _ refl
     (bind_so f _ _ _ _ (same_evaluated f (in_turn scope h.start.name v) (in_turn other (renamed_identifier f h.start.name) v) h.step.value (turn_so f scope other h.start.name v apart same))
     (λ w. bind_so f _ _ _ _ (same_turns_from f scope other at h left (genvar_value w) apart same) (λ vs. refl)))
     refl)

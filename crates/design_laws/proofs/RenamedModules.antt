@@ -11,10 +11,8 @@ use Rattle.verilog_ast.specs.Renamed.{renamed_identifier}
 use Rattle.verilog_ast.specs.Renaming.{parameter_as, header_parameter_as, port_as, ports_as, item_as, declaration_as}
 use Rattle.module_names.specs.Listings.{is_listed}
 use Rattle.module_names.specs.Modules.{module_named, assigned_name, header_parameter_name, item_parameters, parameters_of, port_name, header_ports, is_input, name_if, declared_inputs, header_inputs, item_inputs, inputs_of, is_input_of}
-use Rattle.design_laws.specs.Renaming.{KeepsApart}
-use Rattle.design_laws.proofs.RenamedNames.{names_so}
-use Rattle.design_laws.specs.Findings.{number_as}
-use Rattle.design_laws.proofs.RenamedAnswers.{same_number}
+use Rattle.design_laws.specs.Renaming.{KeepsApart, number_as}
+use Rattle.design_laws.proofs.RenamedNames.{names_so, same_number}
 
 -- ---- by name
 

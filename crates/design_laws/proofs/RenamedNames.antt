@@ -17,7 +17,7 @@ use Rattle.gen_unroll.specs.Reaches.{Reach, reach_in, blocks_around, scope_aroun
 use Rattle.gen_unroll.specs.Steps.{LoopTurn, ModuleStep, Listed, Port, Parameter, Item, Labelled, Opened, Closed}
 use Rattle.gen_unroll.specs.Unrolled.{in_turn, with_turn, nowhere, own_names}
 use Rattle.gen_unroll.specs.Values.{ConstantValue}
-use Rattle.design_laws.specs.Renaming.{KeepsApart, MeanSame, SameReach, turn_as, step_as}
+use Rattle.design_laws.specs.Renaming.{KeepsApart, MeanSame, SameReach, number_as, turn_as, step_as}
 
 -- ---- names
 
@@ -34,6 +34,9 @@ same_test f m n apart = by_cases (m.0 == n.0)
     (λ u. by_cases ((f m).0 == (f n).0)
     (λ t. absurd (true≢false (sym (eq-eqb m.0 n.0 (ap (λ (x : NameId). x.0) (apart m n (same_name (f m) (f n) (eqb-true (f m).0 (f n).0 t))))) ∙ u)))
     (λ g. g ∙ sym u))
+
+pub same_number : (f : NameId → NameId) (m n : ℕ) → KeepsApart f → (number_as f m == number_as f n) ≡ (m == n)
+same_number f m n apart = same_test f (record { 0 = m }) (record { 0 = n }) apart
 
 -- ---- scopes
 

@@ -15,11 +15,12 @@ use Rattle.width_rules.proofs.RenamedFaults.{fault_of_so}
 use Rattle.gen_unroll.specs.Values.{ConstantValue}
 use Rattle.elaborate.specs.Connections.{named, name_more, all_named, too_many, all_ordered, is_missing, is_empty_place, connected}
 use Rattle.elaborate.specs.Overrides.{if_left, one_by_order, names_behind, by_order, Given, given_to, if_none, if_free, one_by_name, by_name, value_given, overridden}
-use Rattle.design_laws.specs.Renaming.{KeepsApart, answer_as}
-use Rattle.design_laws.proofs.RenamedValues.{bind_so, same_evaluated}
-use Rattle.design_laws.specs.Findings.{number_as, found_as, given_as}
-use Rattle.design_laws.proofs.RenamedAnswers.{found_so, value_so, plain_so, if_answer, if_found, same_number}
+use Rattle.design_laws.specs.Findings.{given_as}
+use Rattle.design_laws.specs.Renaming.{KeepsApart, number_as, found_as, answer_as}
+use Rattle.design_laws.proofs.RenamedAnswers.{bind_so, found_so, value_so, plain_so, if_answer, if_found}
 use Rattle.design_laws.proofs.RenamedModules.{same_listed}
+use Rattle.design_laws.proofs.RenamedNames.{same_number}
+use Rattle.design_laws.proofs.RenamedValues.{same_evaluated}
 
 -- ---- overrides by order
 

@@ -9,9 +9,10 @@ use Rattle.verilog_ast.specs.Renamed.{renamed_identifier}
 use Rattle.verilog_ast.specs.Renaming.{expression_as}
 use Rattle.elaborate.specs.declared.declaration_kind.DeclarationKind.{DeclarationKind}
 use Rattle.elaborate.specs.Tables.{NameIn, Declaration, Table, same_block, is_same_name, declared_as, with_declaration, name_in, once, declare, is_input, completes, net_over, initial, declare_net}
-use Rattle.design_laws.specs.Renaming.{KeepsApart, answer_as}
-use Rattle.design_laws.specs.Findings.{found_as, name_in_as, entry_as, table_as}
-use Rattle.design_laws.proofs.RenamedAnswers.{value_so, if_answer, same_number}
+use Rattle.design_laws.specs.Findings.{name_in_as, entry_as, table_as}
+use Rattle.design_laws.specs.Renaming.{KeepsApart, found_as, answer_as}
+use Rattle.design_laws.proofs.RenamedAnswers.{value_so, if_answer}
+use Rattle.design_laws.proofs.RenamedNames.{same_number}
 
 same_is_name : (f : NameId → NameId) (a b : NameIn) → KeepsApart f → is_same_name (name_in_as f a) (name_in_as f b) ≡ is_same_name a b
 same_is_name f a b apart = ap (λ (c : Bool). same_block a.block b.block && c) (same_number f a.name b.name apart)

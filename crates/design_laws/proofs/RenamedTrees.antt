@@ -8,11 +8,11 @@ use Rattle.gen_unroll.specs.Steps.{GenerateBlock}
 use Rattle.elaborate.specs.declared.limits.Limits.{Limits}
 use Rattle.elaborate.specs.Elaborated.{Standing}
 use Rattle.elaborate.specs.Trees.{TreeInstance, blocks_of, blocks_around, called, seen_as, seen, tree}
-use Rattle.design_laws.specs.Renaming.{KeepsApart, SpellsSame, block_as}
-use Rattle.design_laws.proofs.RenamedTexts.{same_spoken}
-use Rattle.design_laws.specs.Findings.{number_as, found_as, standing_as, seen_instance_as}
+use Rattle.design_laws.specs.Findings.{standing_as, seen_instance_as}
+use Rattle.design_laws.specs.Renaming.{KeepsApart, SpellsSame, number_as, found_as, block_as}
 use Rattle.design_laws.proofs.RenamedAnswers.{found_so}
 use Rattle.design_laws.proofs.RenamedDesigns.{same_elaborated}
+use Rattle.design_laws.proofs.RenamedTexts.{same_spoken}
 
 blocks_so : (f : NameId → NameId) (all : List Standing) (k : ℕ) → blocks_of (map (standing_as f) all) k ≡ map (block_as f) (blocks_of all k)
 blocks_so f [] k = refl

@@ -1,5 +1,5 @@
 -- Constants, ranges and types of parameters under other names: the same values, and the same faults with their other names.
-use Rattle.std.proofs.Common.{◌≡◌, ℕ, nat_lt, Bool, not, List, [], ◌∷◌, map, Option, Some, None, Result, Ok, Err, refl, ◌∙◌, ap, ap₂}
+use Rattle.std.proofs.Common.{◌≡◌, ℕ, nat_lt, Bool, not, List, [], ◌∷◌, map, Option, Some, None, refl, ◌∙◌, ap, ap₂}
 use Rattle.std.specs.Option.{option_map}
 use Rattle.ls_text.specs.declared.fault.Fault.{Fault}
 use Rattle.ls_text.specs.declared.name_id.NameId.{NameId}
@@ -14,8 +14,9 @@ use Rattle.width_rules.specs.Scopes.{Scope}
 use Rattle.width_rules.proofs.RenamedSizes.{same_sign, same_length, same_value, same_worth}
 use Rattle.width_rules.proofs.RenamedFaults.{both_so, if_so, fault_of_so, same_between, same_faults}
 use Rattle.gen_unroll.specs.Declarations.{BitRange, is_range, lower_bound, range_faults, range_value, parameter_type, typed_by}
-use Rattle.gen_unroll.specs.Values.{ConstantValue, unless, evaluated, ◌>>=◌}
+use Rattle.gen_unroll.specs.Values.{ConstantValue, unless, evaluated}
 use Rattle.design_laws.specs.Renaming.{answer_as}
+use Rattle.design_laws.proofs.RenamedAnswers.{bind_so}
 
 -- ---- answers
 
@@ -25,16 +26,6 @@ unless_moves f (e ∷ es) x = refl
 
 unless_so : {A : Type 0} (f : NameId → NameId) (xs ys : List Fault) (x y : A) → ys ≡ map (fault_as f) xs → y ≡ x → unless ys y ≡ answer_as f (unless xs x)
 unless_so {A} f xs ys x y faults values = ap₂ (λ (zs : List Fault) (z : A). unless zs z) faults values ∙ unless_moves f xs x
-
-bind_moves : {A B : Type 0} (f : NameId → NameId) (r : Result A Fault) (g h : A → Result B Fault) → ((x : A) → h x ≡ answer_as f (g x))
-    → (answer_as f r >>= h) ≡ answer_as f (r >>= g)
-bind_moves f (Ok x) g h next = next x
-bind_moves f (Err e) g h next = refl
-
--- a step and the next one
-pub bind_so : {A B : Type 0} (f : NameId → NameId) (r q : Result A Fault) (g h : A → Result B Fault) → q ≡ answer_as f r → ((x : A) → h x ≡ answer_as f (g x))
-    → (q >>= h) ≡ answer_as f (r >>= g)
-bind_so {A} {B} f r q g h same next = ap (λ (p : Result A Fault). p >>= h) same ∙ bind_moves f r g h next
 
 -- ---- constants
 

@@ -16,17 +16,17 @@ use Rattle.elaborate.specs.Clocks.{with_clock, own_clock}
 use Rattle.elaborate.specs.Ports.{PortOutline, outline, port_outline, port_outlines}
 use Rattle.elaborate.specs.Tables.{Declaration, Table, declared_as}
 use Rattle.elaborate.specs.Visits.{Visited, none_beyond, few_ports, clocked, with_clocks, visited}
-use Rattle.design_laws.specs.Renaming.{KeepsApart, answer_as, step_as}
-use Rattle.design_laws.proofs.RenamedNames.{same_beginning}
-use Rattle.design_laws.proofs.RenamedTold.{same_blocks}
-use Rattle.design_laws.proofs.RenamedUnrolled.{same_steps}
-use Rattle.design_laws.specs.Findings.{found_as, table_as, checked_as, clock_as, outline_as, visited_as}
+use Rattle.design_laws.specs.Findings.{table_as, checked_as, clock_as, outline_as, visited_as}
+use Rattle.design_laws.specs.Renaming.{KeepsApart, found_as, answer_as, step_as}
 use Rattle.design_laws.proofs.RenamedAnswers.{found_so, value_so}
 use Rattle.design_laws.proofs.RenamedChecks.{same_checked}
-use Rattle.design_laws.proofs.RenamedClocks.{clock_known}
 use Rattle.design_laws.proofs.RenamedClockPorts.{same_clock_steps, same_own_clock}
+use Rattle.design_laws.proofs.RenamedClocks.{clock_known}
 use Rattle.design_laws.proofs.RenamedModules.{same_ports}
+use Rattle.design_laws.proofs.RenamedNames.{same_beginning}
 use Rattle.design_laws.proofs.RenamedTables.{same_declared}
+use Rattle.design_laws.proofs.RenamedTold.{same_blocks}
+use Rattle.design_laws.proofs.RenamedUnrolled.{same_steps}
 
 -- ---- ports
 

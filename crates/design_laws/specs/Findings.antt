@@ -1,11 +1,8 @@
 -- What elaboration finds, under other names.
-use Rattle.std.specs.Prelude.{ℕ, map, Option, Result, Ok, Err}
+use Rattle.std.specs.Prelude.{ℕ, map, Option}
 use Rattle.std.specs.Option.{option_map}
-use Rattle.ls_text.specs.declared.fault.Fault.{Fault}
 use Rattle.ls_text.specs.declared.name_id.NameId.{NameId}
 use Rattle.verilog_ast.specs.Renamed.{renamed_identifier}
-use Rattle.width_rules.specs.Renaming.{fault_as}
-use Rattle.design_laws.specs.Renaming.{block_as}
 use Rattle.elaborate.specs.Checks.{ModuleChild, Checked}
 use Rattle.elaborate.specs.Elaborated.{Standing}
 use Rattle.elaborate.specs.Overrides.{Given}
@@ -13,14 +10,7 @@ use Rattle.elaborate.specs.Ports.{PortOutline}
 use Rattle.elaborate.specs.Tables.{NameIn, Declaration, Table}
 use Rattle.elaborate.specs.Trees.{TreeInstance}
 use Rattle.elaborate.specs.Visits.{Visited}
-
-abbrev pub number_as : (NameId → NameId) → ℕ → ℕ
-number_as f n = (f (record { 0 = n })).0
-
--- what is found, or a fault, each under other names
-abbrev pub found_as : {A : Type 0} → (NameId → NameId) → (A → A) → Result A Fault → Result A Fault
-found_as f moved (Ok x) = Ok (moved x)
-found_as f moved (Err e) = Err (fault_as f e)
+use Rattle.design_laws.specs.Renaming.{number_as, block_as}
 
 -- ---- a module
 

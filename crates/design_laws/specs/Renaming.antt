@@ -15,6 +15,10 @@ use Rattle.gen_unroll.specs.Steps.{LoopTurn, GenerateBlock, ModuleStep, Listed, 
 abbrev pub KeepsApart : (NameId → NameId) → Type 0
 KeepsApart f = (m n : NameId) → f m ≡ f n → m ≡ n
 
+-- the number of a name, under its other name
+abbrev pub number_as : (NameId → NameId) → ℕ → ℕ
+number_as f n = (f (record { 0 = n })).0
+
 -- ---- what is told
 
 abbrev pub turn_as : (NameId → NameId) → LoopTurn → LoopTurn
@@ -32,10 +36,14 @@ step_as f (Labelled n) = Labelled (renamed_identifier f n)
 step_as f (Opened b items) = Opened (block_as f b) (item_as f items)
 step_as f Closed = Closed
 
--- a value without names stays, and a fault shows other names
+-- what is found, or a fault, each under other names
+abbrev pub found_as : {A : Type 0} → (NameId → NameId) → (A → A) → Result A Fault → Result A Fault
+found_as f moved (Ok x) = Ok (moved x)
+found_as f moved (Err e) = Err (fault_as f e)
+
+-- a value without names stays
 abbrev pub answer_as : {A : Type 0} → (NameId → NameId) → Result A Fault → Result A Fault
-answer_as f (Ok x) = Ok x
-answer_as f (Err e) = Err (fault_as f e)
+answer_as f = found_as f (λ x. x)
 
 -- ---- names in reach
 

@@ -25,8 +25,8 @@ ghost use Rattle.elaborate.specs.Elaborated.{top_of, elaborated};
 ghost use Rattle.elaborate.specs.Overrides.{overridden};
 ghost use Rattle.elaborate.specs.Trees.{tree};
 ghost use Rattle.elaborate.specs.Visits.{visited};
-ghost use Rattle.design_laws.specs.Findings.{number_as, found_as, checked_as, clock_as, visited_as, standing_as, seen_instance_as};
-ghost use Rattle.design_laws.specs.Renaming.{KeepsApart, SameReach, SpellsSame, answer_as, block_as, step_as};
+ghost use Rattle.design_laws.specs.Findings.{checked_as, clock_as, visited_as, standing_as, seen_instance_as};
+ghost use Rattle.design_laws.specs.Renaming.{KeepsApart, SameReach, SpellsSame, number_as, found_as, answer_as, block_as, step_as};
 
 /// A module under other names, of which no two become one, is unrolled into the same steps under these names, with the same blocks, values
 /// and order, and its first fault is the same under these names. Behind each step the names in reach mean what they meant, and a name within
