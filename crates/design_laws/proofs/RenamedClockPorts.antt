@@ -6,24 +6,25 @@ use Rattle.ls_text.specs.declared.fault.Fault.{Fault}
 use Rattle.ls_text.specs.declared.name_id.NameId.{NameId}
 use Rattle.verilog_ast.specs.declared.identifier.Identifier.{Identifier}
 use Rattle.verilog_ast.specs.Expressions.{Expression, Literal, Whole, BitSelect, PartSelect, UpwardSelect, DownwardSelect, Unary, Binary, Conditional, Concatenation, Replication, Bracketed, NoPart, Parts}
+use Rattle.verilog_ast.specs.Declarations.{PortDeclaration}
 use Rattle.verilog_ast.specs.Items as i
 use Rattle.verilog_ast.specs.Items.{ConnectionByName, ConnectionByOrder, ConnectionList, ByName, ByOrder, ModuleInstance, ModuleItem, ModuleDeclaration}
 use Rattle.verilog_ast.specs.Renamed.{renamed_identifier}
-use Rattle.verilog_ast.specs.Renaming.{expression_as, declared_as, declared_reg_as, by_name_as, by_order_as, connections_as, instance_as, assignment_as, item_as, declaration_as}
+use Rattle.verilog_ast.specs.Renaming.{expression_as, declared_as, declared_reg_as, port_as, by_name_as, by_order_as, connections_as, instance_as, assignment_as, item_as, declaration_as}
 use Rattle.width_rules.specs.Renaming.{MeansSame}
 use Rattle.width_rules.specs.Scopes.{Scope}
 use Rattle.gen_unroll.specs.Reaches.{Reach, in_reach}
 use Rattle.gen_unroll.specs.Steps.{ModuleStep, Listed, Port, Parameter, Item, Labelled, Opened, Closed}
 use Rattle.gen_unroll.specs.Values.{◌>>=◌}
 use Rattle.module_names.specs.Listings.{is_listed}
-use Rattle.module_names.specs.Modules.{module_named, header_ports}
-use Rattle.elaborate.specs.Clocks.{clock_free, declared_free, reg_free, assignment_free, take_clock, connect, connection, clock_by_name, next_port, ports_behind, clock_by_order, clock_of, clocks_of, clocks_in, unless_misused, clock_item, clock_step, clock_steps, is_one_bit_input, clock_port, own_clock, top_clock}
+use Rattle.module_names.specs.Modules.{module_named, port_name, header_ports}
+use Rattle.elaborate.specs.Clocks.{clock_free, declared_free, reg_free, assignment_free, take_clock, connect, connection, clock_by_name, next_port, ports_behind, clock_by_order, clock_of, clocks_of, clocks_in, unless_misused, clock_item, clock_step, clock_steps, is_one_bit_input, own_port, own_clock, declared_port, top_clock}
 use Rattle.elaborate.specs.Tables.{Table}
 use Rattle.design_laws.specs.Findings.{clock_as, table_as}
 use Rattle.design_laws.specs.Renaming.{KeepsApart, SameReach, number_as, found_as, answer_as, step_as}
 use Rattle.design_laws.proofs.RenamedAnswers.{bind_so, found_so, value_so, if_found, if_answer}
 use Rattle.design_laws.proofs.RenamedClocks.{same_clock, same_posedge, same_free, same_all, same_statement, same_value_free, same_assignment, same_port}
-use Rattle.design_laws.proofs.RenamedModules.{same_listed, same_named, same_ports, same_input_of}
+use Rattle.design_laws.proofs.RenamedModules.{same_listed, same_named, same_port_name, same_ports, same_input_of}
 use Rattle.design_laws.proofs.RenamedNames.{same_reach, same_number}
 use Rattle.design_laws.proofs.RenamedTables.{same_declared}
 
@@ -106,6 +107,27 @@ clocks_in_so : (f : NameId → NameId) (m : Option ModuleDeclaration) (scope oth
 clocks_in_so f None scope other xs ks apart same = refl
 clocks_in_so f (Some m) scope other xs ks apart same = clocks_of_so f m scope other xs ks apart same
 
+-- ---- the module itself
+
+own_port_so : (f : NameId → NameId) (clock : Option ℕ) (t : Table) (p : Identifier) → KeepsApart f
+    → own_port (clock_as f clock) (table_as f t) (renamed_identifier f p) ≡ answer_as f (own_port clock t p)
+own_port_so f None t p apart = refl
+own_port_so f (Some name) t p apart =
+    if_answer f _ _ _ _ _ _ (same_number f name p.name.0 apart)
+    (if_answer f _ _ _ _ _ _ (ap is_one_bit_input (same_declared f (record { block = None; name = p.name.0 }) t apart)) refl refl)
+    refl
+
+pub same_own_clock : (f : NameId → NameId) (clock : Option ℕ) (ps : List Identifier) (t : Table) → KeepsApart f
+    → own_clock (clock_as f clock) (map (renamed_identifier f) ps) (table_as f t) ≡ answer_as f (own_clock clock ps t)
+same_own_clock f clock ps t apart =
+    same_all f (renamed_identifier f) (own_port clock t) (own_port (clock_as f clock) (table_as f t)) (λ p. own_port_so f clock t p apart) ps
+
+declared_port_so : (f : NameId → NameId) (clock : Option ℕ) (t : Table) (scope other : Scope) (p : PortDeclaration) → KeepsApart f → MeansSame f scope other
+    → declared_port (clock_as f clock) (table_as f t) other (port_as f p) ≡ answer_as f (declared_port clock t scope p)
+declared_port_so f clock t scope other p apart same =
+    bind_so f _ _ _ _ (ap (own_port (clock_as f clock) (table_as f t)) (same_port_name f p) ∙ own_port_so f clock t (port_name p) apart)
+    (λ _. same_port f scope other p same)
+
 -- ---- steps
 
 unless_so : (f : NameId → NameId) (r q : Result (Unit {0}) Fault) (ks : List (Option ℕ)) → q ≡ answer_as f r
@@ -139,37 +161,26 @@ item_so f ms scope other (i.Branch at c label xs) ks apart same = refl
 item_so f ms scope other i.NoItem ks apart same = refl
 item_so f ms scope other (i.Items x xs) ks apart same = refl
 
-step_so : (f : NameId → NameId) (ms : List ModuleDeclaration) (scope other : Scope) (s : ModuleStep) (ks : List (Option ℕ)) → KeepsApart f → MeansSame f scope other
-    → clock_step (map (declaration_as f) ms) other (step_as f s) (map (clock_as f) ks) ≡ found_as f (map (clock_as f)) (clock_step ms scope s ks)
-step_so f ms scope other (Listed n) ks apart same = refl
-step_so f ms scope other (Port p) ks apart same = unless_so f _ _ ks (same_port f scope other p same)
-step_so f ms scope other (Parameter s n v) ks apart same = refl
-step_so f ms scope other (Item x) ks apart same = item_so f ms scope other x ks apart same
-step_so f ms scope other (Labelled n) ks apart same = refl
-step_so f ms scope other (Opened b items) ks apart same = refl
-step_so f ms scope other Closed ks apart same = refl
+step_so : (f : NameId → NameId) (ms : List ModuleDeclaration) (clock : Option ℕ) (t : Table) (scope other : Scope) (s : ModuleStep) (ks : List (Option ℕ)) → KeepsApart f → MeansSame f scope other
+    → clock_step (map (declaration_as f) ms) (clock_as f clock) (table_as f t) other (step_as f s) (map (clock_as f) ks) ≡ found_as f (map (clock_as f)) (clock_step ms clock t scope s ks)
+step_so f ms clock t scope other (Listed n) ks apart same = unless_so f _ _ ks (own_port_so f clock t n apart)
+step_so f ms clock t scope other (Port p) ks apart same = unless_so f _ _ ks (declared_port_so f clock t scope other p apart same)
+step_so f ms clock t scope other (Parameter s n v) ks apart same = refl
+step_so f ms clock t scope other (Item x) ks apart same = item_so f ms scope other x ks apart same
+step_so f ms clock t scope other (Labelled n) ks apart same = refl
+step_so f ms clock t scope other (Opened b items) ks apart same = refl
+step_so f ms clock t scope other Closed ks apart same = refl
 
-pub same_clock_steps : (f : NameId → NameId) (ms : List ModuleDeclaration) (here there : Reach) (steps : List ModuleStep) (ks : List (Option ℕ)) → KeepsApart f → SameReach f here there
-    → clock_steps (map (declaration_as f) ms) there (map (step_as f) steps) (map (clock_as f) ks) ≡ found_as f (map (clock_as f)) (clock_steps ms here steps ks)
-same_clock_steps f ms here there [] ks apart same = refl
-same_clock_steps f ms here there (s ∷ ss) ks apart same =
-    found_so f (map (clock_as f)) (map (clock_as f)) _ _ _ _ (step_so f ms here.scope there.scope s ks apart same.names)
-    (λ more. same_clock_steps f ms (in_reach s here) (in_reach (step_as f s) there) ss more apart (same_reach f s here there apart same))
+pub same_clock_steps : (f : NameId → NameId) (ms : List ModuleDeclaration) (clock : Option ℕ) (t : Table) (here there : Reach) (steps : List ModuleStep) (ks : List (Option ℕ))
+    → KeepsApart f → SameReach f here there
+    → clock_steps (map (declaration_as f) ms) (clock_as f clock) (table_as f t) there (map (step_as f) steps) (map (clock_as f) ks)
+    ≡ found_as f (map (clock_as f)) (clock_steps ms clock t here steps ks)
+same_clock_steps f ms clock t here there [] ks apart same = refl
+same_clock_steps f ms clock t here there (s ∷ ss) ks apart same =
+    found_so f (map (clock_as f)) (map (clock_as f)) _ _ _ _ (step_so f ms clock t here.scope there.scope s ks apart same.names)
+    (λ more. same_clock_steps f ms clock t (in_reach s here) (in_reach (step_as f s) there) ss more apart (same_reach f s here there apart same))
 
--- ---- the module itself
-
-port_so : (f : NameId → NameId) (name : ℕ) (ps : List Identifier) (t : Table) → KeepsApart f
-    → clock_port (number_as f name) (map (renamed_identifier f) ps) (table_as f t) ≡ answer_as f (clock_port name ps t)
-port_so f name [] t apart = refl
-port_so f name (p ∷ ps) t apart =
-    if_answer f _ _ _ _ _ _ (same_number f name p.name.0 apart)
-    (if_answer f _ _ _ _ _ _ (ap is_one_bit_input (same_declared f (record { block = None; name = p.name.0 }) t apart)) refl refl)
-    (port_so f name ps t apart)
-
-pub same_own_clock : (f : NameId → NameId) (clock : Option ℕ) (ps : List Identifier) (t : Table) → KeepsApart f
-    → own_clock (clock_as f clock) (map (renamed_identifier f) ps) (table_as f t) ≡ answer_as f (own_clock clock ps t)
-same_own_clock f None ps t apart = refl
-same_own_clock f (Some name) ps t apart = port_so f name ps t apart
+-- ---- the top
 
 one_or_none : (f : NameId → NameId) (b : Bool) (clock : ℕ) → (if b then Some (number_as f clock) else None) ≡ clock_as f (if b then Some clock else None)
 one_or_none f true clock = refl

@@ -64,7 +64,7 @@ same_parameters f m =
 
 -- ---- ports
 
-same_port_name : (f : NameId → NameId) (p : PortDeclaration) → port_name (port_as f p) ≡ renamed_identifier f (port_name p)
+pub same_port_name : (f : NameId → NameId) (p : PortDeclaration) → port_name (port_as f p) ≡ renamed_identifier f (port_name p)
 same_port_name f (InputPort at net k n) = refl
 same_port_name f (OutputPort at net k x) = refl
 same_port_name f (NextPort x) = refl

@@ -12,13 +12,13 @@ use Rattle.gen_unroll.specs.Unrolled.{unrolled_module}
 use Rattle.gen_unroll.specs.Values.{ConstantValue}
 use Rattle.module_names.specs.Modules.{header_ports}
 use Rattle.elaborate.specs.Checks.{Checked}
-use Rattle.elaborate.specs.Clocks.{with_clock, own_clock}
+use Rattle.elaborate.specs.Clocks.{with_clock}
 use Rattle.elaborate.specs.Ports.{PortOutline, outline, port_outline, port_outlines}
 use Rattle.elaborate.specs.Tables.{Declaration, Table, declared_as}
-use Rattle.elaborate.specs.Visits.{Visited, none_beyond, few_ports, clocked, with_clocks, visited}
+use Rattle.elaborate.specs.Visits.{Visited, none_beyond, top_ports, clocked, with_clocks, visited}
 use Rattle.design_laws.specs.Findings.{table_as, checked_as, clock_as, outline_as, visited_as}
 use Rattle.design_laws.specs.Renaming.{KeepsApart, found_as, answer_as, step_as}
-use Rattle.design_laws.proofs.RenamedAnswers.{found_so, value_so}
+use Rattle.design_laws.proofs.RenamedAnswers.{found_so, value_so, bind_so}
 use Rattle.design_laws.proofs.RenamedChecks.{same_checked}
 use Rattle.design_laws.proofs.RenamedClockPorts.{same_clock_steps, same_own_clock}
 use Rattle.design_laws.proofs.RenamedClocks.{clock_known}
@@ -48,20 +48,21 @@ beyond_so : (f : NameId → NameId) (ps : List Identifier) → none_beyond (map 
 beyond_so f [] = refl
 beyond_so f (p ∷ ps) = refl
 
-few_ports_so : (f : NameId → NameId) (most : Option ℕ) (ps : List Identifier) → few_ports most (map (renamed_identifier f) ps) ≡ answer_as f (few_ports most ps)
-few_ports_so f None ps = refl
-few_ports_so f (Some most) ps = ap none_beyond (drop-map (renamed_identifier f) most ps) ∙ beyond_so f (drop most ps)
-
 -- ---- the clock
+
+top_ports_so : (f : NameId → NameId) (most clock : Option ℕ) (ps : List Identifier) (t : Table) → KeepsApart f
+    → top_ports most (clock_as f clock) (map (renamed_identifier f) ps) (table_as f t) ≡ answer_as f (top_ports most clock ps t)
+top_ports_so f None clock ps t apart = refl
+top_ports_so f (Some most) clock ps t apart =
+    bind_so f _ _ _ _ (ap none_beyond (drop-map (renamed_identifier f) most ps) ∙ beyond_so f (drop most ps)) (λ _. same_own_clock f clock ps t apart)
 
 clocked_so : (f : NameId → NameId) (ms : List ModuleDeclaration) (m : ModuleDeclaration) (said : List ModuleStep) (most clock : Option ℕ) (t : Table) → KeepsApart f
     → clocked (map (declaration_as f) ms) (declaration_as f m) (map (step_as f) said) most (clock_as f clock) (table_as f t) ≡ found_as f (map (clock_as f)) (clocked ms m said most clock t)
 clocked_so f ms m said most clock t apart =
-    value_so f (map (clock_as f)) _ _ _ _ (ap (few_ports most) (same_ports f m.ports) ∙ few_ports_so f most (header_ports m.ports))
-    (λ _. value_so f (map (clock_as f)) _ _ _ _
-    (ap (λ (ps : List Identifier). own_clock (clock_as f clock) ps (table_as f t)) (same_ports f m.ports) ∙ same_own_clock f clock (header_ports m.ports) t apart)
-    (λ _. same_clock_steps f ms (with_clock clock (reach_in m)) (with_clock (clock_as f clock) (reach_in (declaration_as f m))) said [] apart
-    (clock_known f clock (reach_in m) (reach_in (declaration_as f m)) apart (same_beginning f m apart))))
+    value_so f (map (clock_as f)) _ _ _ _
+    (ap (λ (ps : List Identifier). top_ports most (clock_as f clock) ps (table_as f t)) (same_ports f m.ports) ∙ top_ports_so f most clock (header_ports m.ports) t apart)
+    (λ _. same_clock_steps f ms clock t (with_clock clock (reach_in m)) (with_clock (clock_as f clock) (reach_in (declaration_as f m))) said [] apart
+    (clock_known f clock (reach_in m) (reach_in (declaration_as f m)) apart (same_beginning f m apart)))
 
 -- ---- a visit
 
