@@ -36,7 +36,7 @@ pub fn push_fault(
     Ok(())
 }
 
-// A parameter: ` WIDTH'VALUE`, or ` WIDTH'sVALUE`.
+// A parameter: ` WIDTH'VALUE`, or ` WIDTH'sVALUE`, of which the value is that of its lowest 64 bits.
 fn push_parameter(out: &mut Vec<u8>, value: Const) -> Result<(), NoMemory> {
     out.push(b' ')?;
     push_decimal(out, u64::from(value.bits.width()))?;
@@ -44,7 +44,7 @@ fn push_parameter(out: &mut Vec<u8>, value: Const) -> Result<(), NoMemory> {
     if value.signed {
         out.push(b's')?;
     }
-    push_decimal(out, value.bits.value() as u64)
+    push_decimal(out, (value.bits.value() & u128::from(u64::MAX)) as u64)
 }
 
 // A port: ` <NAME:WIDTH` of an input, ` >NAME:WIDTH` of an output; an `s` behind it where it is signed.
