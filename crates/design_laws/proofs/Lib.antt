@@ -1,0 +1,17 @@
+pub mod RenamedValues
+pub mod RenamedNames
+pub mod RenamedTold
+pub mod RenamedLoops
+pub mod RenamedUnrolled
+pub mod RenamedTexts
+pub mod RenamedAnswers
+pub mod RenamedTables
+pub mod RenamedModules
+pub mod RenamedOverrides
+pub mod RenamedClocks
+pub mod RenamedClockPorts
+pub mod RenamedDeclarations
+pub mod RenamedChecks
+pub mod RenamedVisits
+pub mod RenamedDesigns
+pub mod RenamedTrees

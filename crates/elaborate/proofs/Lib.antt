@@ -1,0 +1,11 @@
+pub mod Finding
+pub mod Endings
+pub mod Kept
+pub mod GivenValues
+pub mod Instantiated
+pub mod Dropping
+pub mod Levels
+pub mod Stood
+pub mod Beyond
+pub mod DepthFirst
+pub mod Instances

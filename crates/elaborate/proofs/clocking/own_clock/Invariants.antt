@@ -1,0 +1,9 @@
+use Rattle.std.proofs.Common.{◌≡◌, drop}
+use Rattle.elaborate.specs.Clocks.{all_free, own_port}
+use Rattle.elaborate.specs.Views.{clock_view, table_of}
+use Rattle.elaborate.proofs.clocking.own_clock.Given as goal
+
+abbrev pub invariant-loop-port : goal.invariant-loop-port
+invariant-loop-port l =
+    all_free (own_port (clock_view l.clock) (table_of l.table)) (drop l.port-index l.ports)
+    ≡ all_free (own_port (clock_view l.clock) (table_of l.table)) l.ports

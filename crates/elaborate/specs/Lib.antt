@@ -1,0 +1,12 @@
+pub mod Tables
+pub mod Overrides
+pub mod Connections
+pub mod Checks
+pub mod Clocks
+pub mod Ports
+pub mod Visits
+pub mod Elaborated
+pub mod Trees
+pub mod TreeViews
+pub mod Views
+pub mod Jobs

@@ -1,0 +1,40 @@
+// Modules to the tree of instances of a design, or its first fault.
+//
+// `designing` has the modules by their names and finds the top, `elaborating` goes from the top down to its instances, depth first, and
+// `jobs` has each module visited once under the same overrides and with the same clock. `visiting` is such a visit: `checks` goes over the
+// steps of the unrolled module with the names in reach, where `header` and `body` declare names (`declaring`, in `tables`) and give
+// instances their overrides (`overriding`, `giving`) and connections (`connecting`); `clocking` goes over them once more for the clock, where
+// it stands (`clock_free`), and which port of an instance it reaches. `tree` is what the designs above see of it.
+#![tactic(auto)]
+
+mod body;
+mod checking;
+mod checks;
+mod child_instance;
+mod clock_free;
+mod clocking;
+mod connecting;
+mod declaration;
+mod declaration_kind;
+mod declarations;
+mod declared_name;
+mod declaring;
+mod designing;
+mod elaborating;
+mod given_parameters;
+mod giving;
+mod growing;
+mod header;
+mod job;
+mod jobs;
+mod limits;
+mod overriding;
+mod standing;
+mod tables;
+mod tree;
+mod visit_key;
+mod visited;
+mod visiting;
+
+pub use limits::Limits;
+pub use tree::{elaborate, tree_within};
