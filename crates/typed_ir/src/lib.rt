@@ -81,7 +81,7 @@ pub use stmt::Stmt;
 pub use target::{Target, span_of};
 pub use target_form::TargetForm;
 pub use touch::Touch;
-pub use touching::{drives_of, reads_of, touches_of};
+pub use touching::{drives_of, reads_of, run_mask, touches_of};
 pub use typed::{Typed, fits, value};
 pub use unary_operator::UnaryOperator;
 pub use update::Update;

@@ -23,8 +23,8 @@ use crate::touch::Touch;
 use no_memory::NoMemory;
 use std::alloc::Global;
 
-// The bits of a run, of which only those below 128 have a place in a mask.
-fn run_mask(low: u8, width: u8) -> u128
+/// So many bits from a lowest one on as a mask. Only those below 128 have a place in it.
+pub fn run_mask(low: u8, width: u8) -> u128
     ensures { (i : ℕ) → i < 128 → has_bit result i ≡ (nat_le low i && nat_lt i (low + width)) }
 {
     if low >= 128 || width == 0 {
