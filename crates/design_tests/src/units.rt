@@ -1,6 +1,6 @@
 // A node that is shifted, lists that give back what they were made from, and tables that fit.
 use bits::Bits;
-use ls_text::{NameId, file_start};
+use ls_text::NameId;
 use no_memory::NoMemory;
 use std::alloc::Global;
 use std::test::Fail;
@@ -8,7 +8,7 @@ use typed_ir::{
     Const, ConstList, Form, InstanceId, InstanceName, InstanceTable, Lane, Node, SignalId, Span,
     TargetForm, Typed,
 };
-use unit_ir::{ItemPlaces, RegShape, Regs, ShapeList, TypedItems, UnitParts, shifted_node};
+use unit_ir::{RegShape, Regs, shifted_node};
 
 // Whether a node drives bit 3 of signal 6 with signal 7, as a bit.
 fn drives_from_seven(node: &Node) -> bool {
@@ -105,33 +105,5 @@ fn tables_of_registers(rt: HostRuntime) -> Result<(), Fail> {
     assert!(rt; !is_table(alloc, &[None, Some(2), Some(0)], 0)?);
     assert!(rt; !is_table(alloc, &[Some(0)], 0)?);
     assert!(rt; !is_table(alloc, &[None, None], 0)?);
-    Ok(())
-}
-
-// Whether so many places of nodes stand beside no node.
-fn are_beside_none(alloc: Global, count: u8) -> Result<bool, NoMemory> {
-    let parts = UnitParts {
-        signals: Vec::new(alloc),
-        registers: Vec::new(alloc),
-        inputs: Vec::new(alloc),
-        nodes: Vec::new(alloc),
-        clocked: Vec::new(alloc),
-        shapes: ShapeList::new(Vec::new(alloc)),
-    };
-    let mut nodes = Vec::new(alloc);
-    for _node in 0..count {
-        nodes.push(ItemPlaces {
-            at: file_start(0),
-            targets: Vec::new(alloc),
-            reads: Vec::new(alloc),
-        })?;
-    }
-    Ok(TypedItems::new(parts, Vec::new(alloc), nodes, Vec::new(alloc)).is_some())
-}
-
-#[test]
-fn places_beside_items(rt: HostRuntime) -> Result<(), Fail> {
-    assert!(rt; are_beside_none(rt.alloc(), 0)?);
-    assert!(rt; !are_beside_none(rt.alloc(), 1)?);
     Ok(())
 }

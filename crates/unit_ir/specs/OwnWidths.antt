@@ -6,6 +6,7 @@ use Rattle.unit_ir.specs.declared.child_shape.ChildShape.{ChildShape}
 use Rattle.unit_ir.specs.declared.unit_parts.UnitParts.{UnitParts}
 use Rattle.unit_ir.specs.Trees.{UnitNode, Own, Into, From, unit_widths, is_legal_unit_node, is_legal_block}
 use Rattle.unit_ir.specs.Units.{sized_unit}
+use Rattle.unit_ir.specs.Shapes.{goes_into_input}
 
 -- the ports of an instance are its first signals
 abbrev pub port_widths : ChildShape → List ℕ
@@ -20,8 +21,10 @@ names_child count (Own node) = true
 names_child count (Into child form lanes e) = nat_lt child count
 names_child count (From child form lanes e) = nat_lt child count
 
--- what is written and read lies in the unit's own signals and in the ports of its instances, and the widths agree with theirs
+-- what is written and read lies in the unit's own signals and in the ports of its instances, and the widths agree with theirs; of the
+-- ports, only data inputs are written
 pub record IsSized (parts : UnitParts) : Type 0 where
   pub nodes : Each (λ x. is_legal_unit_node (unit_widths (sized_unit parts)) (child_widths parts.shapes) x ≡ true) (sized_unit parts).nodes
   pub blocks : Each (λ st. is_legal_block (unit_widths (sized_unit parts)) st ≡ true) (sized_unit parts).clocked
   pub children : Each (λ x. names_child (length parts.shapes) x ≡ true) (sized_unit parts).nodes
+  pub into : Each (λ x. goes_into_input parts.shapes x ≡ true) (sized_unit parts).nodes

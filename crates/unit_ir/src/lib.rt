@@ -1,8 +1,8 @@
 // Modules by numbers of their own: the items of a module with their places, its unit, the instances of a design; copies by other
 // numbers, and the law that the design of a tree of sound units is sound.
 //
-// Types alone, of what others make: `unit_parts` are the items of a module, `typed_items` these with their places, `unit` those that are
-// sound and sized; `shape_list` and `port_list` are a module as it is seen from above, `instance_tree` the instances of a design, `regs`
+// Types alone, of what others make: `typed_items` are the items of a module with their places, `unit_parts` these without, `unit` those that
+// are sound and sized; `shape_list` and `port_list` are a module as it is seen from above, `instance_tree` the instances of a design, `regs`
 // its registers. `making` puts lists together where they fit, and `shifting` copies an expression, a statement or a node to other numbers of
 // signals, as linking does for each instance. `laws` says what the definition of linking keeps.
 #![tactic(auto)]
@@ -11,9 +11,11 @@ mod child_id;
 mod child_shape;
 mod instance;
 mod instance_tree;
+mod item_body;
 mod item_places;
 mod laws;
 mod making;
+mod mention;
 mod port_list;
 mod port_shape;
 mod reg_op;
@@ -21,8 +23,9 @@ mod reg_shape;
 mod regs;
 mod shape_list;
 mod shifting;
+mod signal_declaration;
 mod signal_kind;
-mod signal_place;
+mod typed_item;
 mod typed_items;
 mod unit;
 mod unit_node;
@@ -33,8 +36,10 @@ pub use child_id::ChildId;
 pub use child_shape::ChildShape;
 pub use instance::Instance;
 pub use instance_tree::InstanceTree;
+pub use item_body::ItemBody;
 pub use item_places::ItemPlaces;
 pub use laws::linking_is_sound;
+pub use mention::Mention;
 pub use port_list::PortList;
 pub use port_shape::PortShape;
 pub use reg_op::RegOp;
@@ -42,8 +47,9 @@ pub use reg_shape::RegShape;
 pub use regs::Regs;
 pub use shape_list::ShapeList;
 pub use shifting::{shifted_form, shifted_node, shifted_stmt, shifted_typed};
+pub use signal_declaration::SignalDeclaration;
 pub use signal_kind::SignalKind;
-pub use signal_place::SignalPlace;
+pub use typed_item::TypedItem;
 pub use typed_items::TypedItems;
 pub use unit::Unit;
 pub use unit_node::UnitNode;

@@ -1,18 +1,22 @@
 // The sized items of a module, with their places.
-ghost use Rattle.std.specs.Prelude.{◌≡◌, length};
+use crate::shape_list::ShapeList;
+use crate::signal_declaration::SignalDeclaration;
+use crate::typed_item::TypedItem;
+use crate::unit_signal::UnitSignal;
+use typed_ir::SignalId;
 
-use crate::item_places::ItemPlaces;
-use crate::signal_place::SignalPlace;
-use crate::unit_parts::UnitParts;
-
-/// The sized items of a module, and beside each list of them the places of its members: a unit is handed out of it unchanged.
+/// The sized items of a module in the order of its text, with their places, over its own numbers of signals, its ports first, in
+/// header order: what a unit is made of when its bits are found to be driven well.
 #[derive(Drop)]
 pub struct TypedItems {
-    pub parts: UnitParts,
-    pub signals: Vec<SignalPlace>,
-    pub nodes: Vec<ItemPlaces>,
-    pub clocked: Vec<ItemPlaces>,
-    ghost signals_fit: { length signals.items ≡ length parts.signals.items },
-    ghost nodes_fit: { length nodes.items ≡ length parts.nodes.items },
-    ghost clocked_fit: { length clocked.items ≡ length parts.clocked.items },
+    pub signals: Vec<UnitSignal>,
+    /// Of each signal, what it is declared as.
+    pub declarations: Vec<SignalDeclaration>,
+    /// The signals that are registers, in order.
+    pub registers: Vec<SignalId>,
+    /// The data inputs.
+    pub inputs: Vec<SignalId>,
+    pub items: Vec<TypedItem>,
+    /// The instances, in item order.
+    pub shapes: ShapeList,
 }

@@ -1,0 +1,14 @@
+// Sized items of a module.
+use crate::unit_node::UnitNode;
+use typed_ir::{SignalId, Stmt};
+
+/// A sized item of a module.
+#[derive(Drop)]
+pub enum ItemBody {
+    /// A continuous assignment, a combinational block, or a connection of an instance.
+    Node(UnitNode),
+    /// A clocked block.
+    Clocked(Stmt),
+    /// The declaration of a variable with an initial value.
+    Initial(SignalId),
+}
