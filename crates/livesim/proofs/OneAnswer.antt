@@ -5,7 +5,7 @@ use Rattle.verilog_lex.specs.declared.token.Token.{Token}
 use Rattle.verilog_lex.specs.Tokens.{Said}
 use Rattle.verilog_lex.specs.Views.{said}
 use Rattle.verilog_expr.specs.Shown.{at_fault}
-use Rattle.verilog_parse.proofs.RenamedText.{same_modules, same_fault, not_both}
+use Rattle.grammar_laws.proofs.RenamedText.{same_modules, same_fault, not_both}
 use Rattle.livesim.specs.Script.{BlockText}
 use Rattle.livesim.specs.Texts.{text_tokens}
 use Rattle.livesim.specs.Designs.{Answer}

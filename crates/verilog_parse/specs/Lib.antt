@@ -1,5 +1,4 @@
 pub mod Items
 pub mod Generates
 pub mod Modules
-pub mod Lasts
 pub mod Files

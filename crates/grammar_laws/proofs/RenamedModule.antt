@@ -10,7 +10,7 @@ use Rattle.verilog_expr.specs.Renamed.{retokens}
 use Rattle.verilog_expr.proofs.RenamedTokens.{at_next, takes_so}
 use Rattle.verilog_parse.specs.Modules.{Phrase, Spells, AModule, AHeader, ParameterHeader, AShapedParameter, AHeaderParameter, HeaderParametersBehind, OtherHeaderParameters, PortHeader, PortList, DeclaredPorts, HeaderPortsBehind, OtherHeaderPorts, AHeaderPort, NextHeaderPort, Items, AnItem, module_, header, no_parameters, some_parameters, shaped, with_shape, without_shape, header_parameters_behind, no_header_parameter, another_header_parameter, no_ports, some_ports, empty_list, name_list, input_list, output_list, declared, header_ports_behind, no_header_port, another_header_port, input_port, output_port, next_name, next_port, no_item, another_item, input_item, output_item, parameter_item, region, other_item}
 use Rattle.verilog_decl.proofs.RenamedDeclaration.{declaration_so}
-use Rattle.verilog_parse.proofs.RenamedGenerate.{generate_so}
+use Rattle.grammar_laws.proofs.RenamedGenerate.{generate_so}
 
 abbrev pub renamed_phrase : (NameId → NameId) → Phrase → Phrase
 renamed_phrase f (AModule x) = AModule (renamed_body f x)

@@ -18,7 +18,7 @@ use Rattle.verilog_expr.proofs.Refusals.{stuck_not_ok}
 use Rattle.verilog_spelling.specs.Spellings.{spelling}
 use Rattle.verilog_parse.specs.Files.{file, IsSpelledAs, SpellsAll, no_module, another_module, Stands}
 use Rattle.verilog_expr.proofs.OneToken.{no_kind}
-use Rattle.verilog_parse.proofs.OneModule.{one_module}
+use Rattle.grammar_laws.proofs.OneModule.{one_module}
 
 -- ---- modules
 

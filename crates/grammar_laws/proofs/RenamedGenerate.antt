@@ -12,9 +12,9 @@ use Rattle.verilog_expr.specs.Renamed.{retokens}
 use Rattle.verilog_expr.proofs.RenamedTokens.{at_next, takes_so}
 use Rattle.verilog_expr.proofs.RenamedSpells.{spells_so}
 use Rattle.verilog_parse.specs.Generates.{Phrase, Spells, GenerateItems, AGenerateItem, ALoop, ALoopHead, ABlock, ABranch, AnOtherwise, BranchesBehind, OtherBranches, no_item, another_item, loop_item, if_item, plain_item, generate_loop, loop_head, block, branch, otherwise, branches_behind, no_branch, another_branch, last_branch}
-use Rattle.verilog_parse.proofs.RenamedTrees.{plain_so, loop_so, branches_so, branch_so}
+use Rattle.grammar_laws.proofs.RenamedTrees.{plain_so, loop_so, branches_so, branch_so}
 use Rattle.verilog_decl.proofs.RenamedDeclaration.{declaration_so}
-use Rattle.verilog_parse.proofs.RenamedItem.{item_so}
+use Rattle.grammar_laws.proofs.RenamedItem.{item_so}
 
 abbrev pub renamed_phrase : (NameId → NameId) → Phrase → Phrase
 renamed_phrase f (GenerateItems x) = GenerateItems (map (renamed_generate_item f) x)

@@ -31,7 +31,7 @@ ghost use Rattle.verilog_decl.specs.Apart.{StandApart};
 ghost use Rattle.verilog_parse.specs.Files.{file, IsSpelled, Stands};
 ghost use Rattle.verilog_parse.specs.Generates as generates;
 ghost use Rattle.verilog_parse.specs.Items as items;
-ghost use Rattle.verilog_parse.specs.Lasts.{StandsLast};
+ghost use Rattle.grammar_laws.specs.Lasts.{StandsLast};
 ghost use Rattle.verilog_parse.specs.Modules as modules;
 
 /// A text has at most one list of modules and at most one fault, and not both. What modules spell has no fault but 16: the

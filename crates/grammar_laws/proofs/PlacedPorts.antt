@@ -14,7 +14,7 @@ use Rattle.verilog_expr.proofs.Placed.{token_place}
 use Rattle.verilog_expr.proofs.Fronts.{Leaves, leaves_all, leaves_then, leaves_token, leaves}
 use Rattle.verilog_decl.specs.Declarations as d
 use Rattle.verilog_parse.specs.Modules as m
-use Rattle.verilog_parse.specs.Lasts.{StandsLast}
+use Rattle.grammar_laws.specs.Lasts.{StandsLast}
 
 -- ---- what stands before the name
 

@@ -17,7 +17,7 @@ use Rattle.verilog_parse.specs.Generates.{no_item, another_item, loop_item, if_i
 use Rattle.verilog_expr.proofs.OneToken.{kind_of, same_token, two_kinds, no_kind, no_beginning}
 use Rattle.verilog_expr.proofs.SameReadings.{same_expression}
 use Rattle.verilog_decl.proofs.OneDeclaration.{one_parameter}
-use Rattle.verilog_parse.proofs.OneItem.{one_plain_item}
+use Rattle.grammar_laws.proofs.OneItem.{one_plain_item}
 
 one_loop_head : {x y : Loop} {s q r p : List Token} → Spells (ALoopHead x) s r → Spells (ALoopHead y) q p → s ≡ q → (x ≡ y) × (r ≡ p)
 one_loop_head (loop_head x t y u z) (loop_head x' t' y' u' z') same =

@@ -21,8 +21,8 @@ use Rattle.verilog_expr.proofs.RenamedRun.{run_so}
 use Rattle.verilog_parse.specs.Modules.{Spells, AModule}
 use Rattle.verilog_parse.specs.Files.{file, SpellsAll, no_module, another_module, Stands}
 use Rattle.verilog_expr.proofs.OneToken.{no_kind}
-use Rattle.verilog_parse.proofs.OneModule.{one_module}
-use Rattle.verilog_parse.proofs.RenamedModule.{module_so}
+use Rattle.grammar_laws.proofs.OneModule.{one_module}
+use Rattle.grammar_laws.proofs.RenamedModule.{module_so}
 
 -- modules without their spellings, up to what is none
 data Bodies : List ModuleBody → List Token → List Token → Type 0 where

@@ -1,5 +1,5 @@
-use Rattle.verilog_parse.proofs.RenamedText.{same_declarations, same_fault, not_both}
-use Rattle.verilog_parse.proofs.laws.names_may_change.Goals as goal
+use Rattle.grammar_laws.proofs.RenamedText.{same_declarations, same_fault, not_both}
+use Rattle.grammar_laws.proofs.laws.names_may_change.Goals as goal
 
 pub returns-clause-modules : goal.returns-clause-modules
 returns-clause-modules c = same_declarations

@@ -1,7 +1,7 @@
-use Rattle.verilog_parse.proofs.OneText.{one_text, one_fault, not_both}
+use Rattle.grammar_laws.proofs.OneText.{one_text, one_fault, not_both}
 use Rattle.verilog_expr.specs.Shown.{Refuses, at_fault}
 use Rattle.verilog_parse.proofs.Wholes.{spelled_only}
-use Rattle.verilog_parse.proofs.laws.texts_are_read_in_one_way.Goals as goal
+use Rattle.grammar_laws.proofs.laws.texts_are_read_in_one_way.Goals as goal
 
 pub returns-clause-modules : goal.returns-clause-modules
 returns-clause-modules c = one_text

@@ -22,7 +22,7 @@ use Rattle.verilog_parse.specs.Modules.{Spells, AModule, AHeader, ParameterHeade
 use Rattle.verilog_parse.specs.Modules.{module_, header, no_parameters, some_parameters, shaped, with_shape, without_shape, header_parameters_behind, no_header_parameter, another_header_parameter, no_ports, some_ports, empty_list, name_list, input_list, output_list, declared, header_ports_behind, no_header_port, another_header_port, input_port, output_port, next_name, next_port, no_item, another_item, input_item, output_item, parameter_item, region, other_item}
 use Rattle.verilog_expr.proofs.OneToken.{kind_of, same_token, two_kinds, no_kind, no_beginning}
 use Rattle.verilog_decl.proofs.OneDeclaration.{one_shape, one_optional_wire, one_optional_net, one_names, one_variable, one_variables, one_parameter, one_parameters}
-use Rattle.verilog_parse.proofs.OneGenerate.{one_generate_items, one_generate_item}
+use Rattle.grammar_laws.proofs.OneGenerate.{one_generate_items, one_generate_item}
 
 -- ---- headers
 

@@ -1,5 +1,5 @@
-use Rattle.verilog_parse.proofs.PlacedItems.{generate_placed, module_placed}
-use Rattle.verilog_parse.proofs.laws.items_have_places.Goals as goal
+use Rattle.grammar_laws.proofs.PlacedItems.{generate_placed, module_placed}
+use Rattle.grammar_laws.proofs.laws.items_have_places.Goals as goal
 
 pub returns-clause-items : goal.returns-clause-items
 returns-clause-items c x s r h = module_placed h

@@ -1,6 +1,6 @@
-use Rattle.verilog_parse.proofs.PlacedItems.{item_placed, generate_placed, module_placed}
-use Rattle.verilog_parse.proofs.PlacedPorts.{input_last}
-use Rattle.verilog_parse.proofs.laws.names_have_places.Goals as goal
+use Rattle.grammar_laws.proofs.PlacedItems.{item_placed, generate_placed, module_placed}
+use Rattle.grammar_laws.proofs.PlacedPorts.{input_last}
+use Rattle.grammar_laws.proofs.laws.names_have_places.Goals as goal
 
 pub returns-clause-modules : goal.returns-clause-modules
 returns-clause-modules c x s r h = module_placed h

@@ -1,5 +1,5 @@
-use Rattle.verilog_parse.proofs.PlacedItems.{item_placed, module_placed}
-use Rattle.verilog_parse.proofs.laws.parts_of_items_have_places.Goals as goal
+use Rattle.grammar_laws.proofs.PlacedItems.{item_placed, module_placed}
+use Rattle.grammar_laws.proofs.laws.parts_of_items_have_places.Goals as goal
 
 pub returns-clause-assignments : goal.returns-clause-assignments
 returns-clause-assignments c x s r h = item_placed h

@@ -1,0 +1,11 @@
+pub mod OneItem
+pub mod OneGenerate
+pub mod OneModule
+pub mod OneText
+pub mod RenamedTrees
+pub mod RenamedItem
+pub mod RenamedGenerate
+pub mod RenamedModule
+pub mod RenamedText
+pub mod PlacedItems
+pub mod PlacedPorts
