@@ -1,0 +1,4 @@
+mod Masks
+mod Knowing
+mod Whole
+mod Leading
