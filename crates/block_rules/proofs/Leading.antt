@@ -1,17 +1,19 @@
 -- Tables that take bits, and give them back.
-use Rattle.std.proofs.Common.{◌≡◌, ℕ, zero, suc, ◌+◌, ◌<◌, ◌≤◌, Bool, true, false, ◌||◌, ◌&&◌, not, ◌==◌, nat_lt, List, [], ◌∷◌, ◌++◌, length, Option, Some, None, refl, sym, ◌∙◌, ap, ap₂, subst, arith, true≢false}
+use Rattle.std.proofs.Common.{◌≡◌, ℕ, zero, suc, ◌+◌, ◌<◌, ◌≤◌, Bool, true, false, ◌||◌, ◌&&◌, not, ◌==◌, nat_lt, List, [], ◌∷◌, ◌++◌, length, get_or, drop, Option, Some, None, refl, sym, ◌∙◌, ap, ap₂, subst, arith, true≢false}
 use Rattle.std.specs.Prelude.{bit_xor, slice_index}
 use Rattle.std.specs.declared.vec.Vec.{Vec}
 use Rattle.std.specs.Global.{Global}
 use Rattle.std.proofs.Math.Bool.{or-false, or_assoc, and-false}
 use Rattle.std.proofs.Math.Path.{fun_ext}
 use Rattle.std.proofs.lemmas.Bool.{eqb-true, lt-ltb, or_left}
+use Rattle.std.proofs.lemmas.List.{at_drop_all}
 use Rattle.bits.proofs.Runs.{by_order}
 use Rattle.typed_ir.specs.declared.touch.Touch.{Touch}
 use Rattle.typed_ir.specs.Valuations.{Places, nowhere}
 use Rattle.typed_ir.specs.Stmts.{SizedStmt, known_after}
 use Rattle.typed_ir.specs.Touches.{has_bit, touched, Adds}
 use Rattle.typed_ir.proofs.Cases.{by_cases}
+use Rattle.typed_ir.proofs.Lists.{drop_read}
 use Rattle.typed_ir.proofs.Masks.{adds_one}
 use Rattle.block_rules.specs.declared.bit_table.BitTable.{BitTable}
 use Rattle.block_rules.specs.Tables.{size, bits_of, SameBelow, Leads, common_of, candidates}
@@ -195,4 +197,46 @@ pub alike_tables : (written k0 k1 : BitTable) (xs ys : List Touch) (w : Places) 
 alike_tables written k0 k1 xs ys w long h = record {
   writes = λ s i small. refl;
   knows = λ s i small is. h.same s i (subst (λ n. s < n) long (bit_inside written.masks.items s i is)) small;
+}
+
+-- ---- bits of a list, one after another
+
+pub learn_next : {A : Type 0} (rest : List A → Places) (one : A → Places) (xs : List A) (k : ℕ) (x : A) (a b c : BitTable) (ts us vs : List Touch) (w : Places)
+    → k < length xs → x ≡ get_or xs k x → ((ys : List A) (s i : ℕ) → rest (x ∷ ys) s i ≡ (one x s i || rest ys s i))
+    → Leads a b ts us (λ s i. bits_of b s i || rest (drop k xs) s i) w → Leads b c us vs (bits_of c) (λ s i. bits_of b s i || one x s i)
+    → Leads a c ts vs (λ s i. bits_of c s i || rest (drop (k + 1) xs) s i) w
+learn_next rest one xs k x a b c ts us vs w less is splits h g =
+    then_leads a b c ts us vs (λ s i. bits_of b s i || rest (drop k xs) s i) w (bits_of c) (λ s i. bits_of b s i || one x s i)
+    (λ s i. bits_of c s i || rest (drop (k + 1) xs) s i) h g
+    (λ s i here small.
+    ap (λ z. z || rest (drop (k + 1) xs) s i) (g.same s i (subst (λ n. s < n) (sym h.size) here) small)
+    ∙ or_assoc (bits_of b s i) (one x s i) (rest (drop (k + 1) xs) s i)
+    ∙ ap (λ z. bits_of b s i || z) (sym (splits (drop (k + 1) xs) s i))
+    ∙ ap (λ zs. bits_of b s i || rest zs s i) (sym (drop_read xs k x less is)))
+
+-- one that brings none
+pub learn_skip : {A : Type 0} (rest : List A → Places) (xs : List A) (k : ℕ) (x : A) (a b : BitTable) (ts us : List Touch) (w : Places)
+    → k < length xs → x ≡ get_or xs k x → ((ys : List A) (s i : ℕ) → rest (x ∷ ys) s i ≡ rest ys s i)
+    → Leads a b ts us (λ s i. bits_of b s i || rest (drop k xs) s i) w
+    → Leads a b ts us (λ s i. bits_of b s i || rest (drop (k + 1) xs) s i) w
+learn_skip rest xs k x a b ts us w less is splits h = record {
+  size = h.size;
+  keeps = h.keeps;
+  news = h.news;
+  same = λ s i here small.
+      ap (λ z. bits_of b s i || z) (sym (splits (drop (k + 1) xs) s i))
+      ∙ ap (λ zs. bits_of b s i || rest zs s i) (sym (drop_read xs k x less is))
+      ∙ h.same s i here small;
+}
+
+pub learn_done : {A : Type 0} (rest : List A → Places) (xs : List A) (k : ℕ) (a b : BitTable) (ts us : List Touch) (w : Places) → length xs ≤ k
+    → ((s i : ℕ) → rest [] s i ≡ false)
+    → Leads a b ts us (λ s i. bits_of b s i || rest (drop k xs) s i) w → Leads a b ts us (bits_of b) w
+learn_done rest xs k a b ts us w past empty h = record {
+  size = h.size;
+  keeps = h.keeps;
+  news = h.news;
+  same = λ s i here small.
+      sym (at_drop_all (λ zs. bits_of b s i || rest zs s i) xs k past ∙ ap (λ z. bits_of b s i || z) (empty s i) ∙ or-false (bits_of b s i))
+      ∙ h.same s i here small;
 }

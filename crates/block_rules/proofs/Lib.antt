@@ -2,3 +2,5 @@ mod Masks
 mod Knowing
 mod Whole
 mod Leading
+mod Finding
+mod Listing

@@ -4,7 +4,7 @@ use Rattle.std.specs.Prelude.{bit_and, bit_or, bit_xor, slice_index}
 use Rattle.std.specs.Int.{bit_at}
 use Rattle.std.proofs.Math.Bool.{or-false, and-false, or_assoc}
 use Rattle.std.proofs.lemmas.Bool.{eqb-true, eqb-false, eq-eqb, ne_eqb, lt-ltb, le-ltb, ltb-true}
-use Rattle.std.proofs.lemmas.List.{get_or-set_same, get_or-set_other, get_or_past}
+use Rattle.std.proofs.lemmas.List.{get_or-set_same, get_or-set_other, get_or_past, get_or_default}
 use Rattle.std.proofs.lemmas.Nat.Bits.{bit_at_and, bit_at_or, bit_at_xor, bit_at-lt, bit_at-zero}
 use Rattle.bits.proofs.Runs.{by_order}
 use Rattle.typed_ir.specs.Touches.{has_bit}
@@ -153,3 +153,7 @@ none_less masks place mask s i past =
     let none : bit_of masks s i ≡ false = past_bit masks s i (omega (arith, e, past)) in
     none ∙ sym (ap (λ b. b && not ((s == place) && has_bit mask i)) none))
     (λ no. sym (ap (λ b. bit_of masks s i && not (b && has_bit mask i)) no ∙ in_all (bit_of masks s i)))
+
+-- what is read from a list of numbers
+pub read_at : (masks : List ℕ) (k old : ℕ) → k < length masks → old ≡ get_or masks k old → old ≡ slice_index masks k
+read_at masks k old inside is = is ∙ get_or_default masks k old 0 inside

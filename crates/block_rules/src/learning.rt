@@ -20,7 +20,7 @@ pub fn learn(
     learned: &mut Vec<Touch>,
 ) -> Result<(), NoMemory>
     ensures { IfOk result (λ _. Leads table.old table.new learned.old.items learned.new.items (bits_of table.new)
-        (λ s i. bits_of table.old s i || ((s == touch.signal) && has_bit touch.mask i))) }
+        (λ s i. bits_of table.old s i || ((s == signal) && has_bit mask i))) }
 {
     let before = table.mask(signal);
     table.add(signal, mask);
