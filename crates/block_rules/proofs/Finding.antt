@@ -4,7 +4,7 @@ use Rattle.std.specs.Prelude.{bit_and, slice_index}
 use Rattle.std.specs.Int.{bit_at}
 use Rattle.std.proofs.Math.Bool.{or-false, or_assoc, and-false}
 use Rattle.std.proofs.lemmas.Bool.{eqb-true, eqb-false, eq-eqb, ne_eqb, or_left, or_right, or_parts, not_from_true, not_from_false}
-use Rattle.std.proofs.lemmas.List.{map-append, at_drop_all}
+use Rattle.std.proofs.lemmas.List.{append-nil, at_drop_all}
 use Rattle.std.proofs.lemmas.Nat.{and_le_l}
 use Rattle.std.proofs.lemmas.Nat.Bits.{bit_at-lt, same_from_bits_below}
 use Rattle.typed_ir.specs.declared.span.Span.{Span}
@@ -15,7 +15,7 @@ use Rattle.typed_ir.proofs.Cases.{by_cases, and_left, and_right}
 use Rattle.typed_ir.proofs.Lists.{drop_read}
 use Rattle.typed_ir.proofs.Masks.{adds_one, touched-append}
 use Rattle.block_rules.specs.declared.bit_table.BitTable.{BitTable}
-use Rattle.block_rules.specs.Paths.{some_below, early, flags_of, is_member, is_open}
+use Rattle.block_rules.specs.Paths.{some_below, early, true_from, is_member, is_open}
 use Rattle.block_rules.specs.Tables.{size, bits_of, is_named}
 use Rattle.block_rules.proofs.Masks.{has_both, no_bit, low_bit}
 use Rattle.block_rules.proofs.Knowing.{some_same}
@@ -94,28 +94,27 @@ open_is written known signal w k is_w is_k =
     (λ i small. ap₂ (λ a b. a && not b) (ap (λ n. has_bit n i) is_w ∙ sym (low_bit written.masks.items signal i small))
     (ap (λ n. has_bit n i) is_k ∙ sym (low_bit known.masks.items signal i small)))
 
--- the flags of one read more
-pub flags_next : (w k : Places) (old mid new : List Bool) (p : Span) (ps : List Span) → mid ≡ old ++ flags_of w (p ∷ []) k → new ≡ mid ++ flags_of w ps k
-    → new ≡ old ++ flags_of w (p ∷ ps) k
-flags_next w k old mid new p ps h g = g ∙ ap (λ xs. xs ++ flags_of w ps k) h ∙ append_assoc old (flags_of w (p ∷ []) k) (flags_of w ps k)
+-- ---- places of flags
 
--- of two lists of reads
-pub flags_then : (w k : Places) (old mid new : List Bool) (ps qs : List Span) → mid ≡ old ++ flags_of w ps k → new ≡ mid ++ flags_of w qs k
-    → new ≡ old ++ flags_of w (ps ++ qs) k
-flags_then w k old mid new ps qs h g =
-    g ∙ ap (λ xs. xs ++ flags_of w qs k) h ∙ append_assoc old (flags_of w ps k) (flags_of w qs k)
-    ∙ ap (λ xs. old ++ xs) (sym (map-append (λ p. early w p k) ps qs))
-
--- one more of a list whose reads these are
-pub flags_step : {A : Type 0} (w k : Places) (reads : List A → List Span) (one : A → List Span) (xs : List A) (n : ℕ) (x : A) (mid new whole : List Bool)
-    → n < length xs → x ≡ get_or xs n x → ((ys : List A) → reads (x ∷ ys) ≡ one x ++ reads ys)
-    → mid ++ flags_of w (reads (drop n xs)) k ≡ whole → new ≡ mid ++ flags_of w (one x) k
-    → new ++ flags_of w (reads (drop (n + 1) xs)) k ≡ whole
-flags_step w k reads one xs n x mid new whole less is splits left more =
-    let rest = reads (drop (n + 1) xs) in
-    flags_then w k mid new (new ++ flags_of w rest k) (one x) rest more refl
-    ∙ ap (λ ps. mid ++ flags_of w ps k) (sym (splits (drop (n + 1) xs)) ∙ ap reads (sym (drop_read xs n x less is)))
+pub true_next : (flags : List Bool) (k : ℕ) (x : Bool) (mid new whole : List ℕ) → k < length flags → x ≡ get_or flags k x
+    → new ≡ mid ++ true_from k (x ∷ []) → mid ++ true_from k (drop k flags) ≡ whole → new ++ true_from (k + 1) (drop (k + 1) flags) ≡ whole
+true_next flags k x mid new whole less is more left =
+    let rest = drop (k + 1) flags in
+    let next : suc k ≡ k + 1 = omega arith in
+    ap (λ xs. xs ++ true_from (k + 1) rest) more
+    ∙ append_assoc mid (true_from k (x ∷ [])) (true_from (k + 1) rest)
+    ∙ ap (λ n. mid ++ (true_from k (x ∷ []) ++ true_from n rest)) (sym next)
+    ∙ ap (λ xs. mid ++ xs) (one_first k x rest)
+    ∙ ap (λ fs. mid ++ true_from k fs) (sym (drop_read flags k x less is))
     ∙ left
+  where
+    one_first : (k : ℕ) (x : Bool) (rest : List Bool) → (true_from k (x ∷ []) ++ true_from (suc k) rest) ≡ true_from k (x ∷ rest)
+    one_first k true rest = refl
+    one_first k false rest = refl
+
+pub true_done : (flags : List Bool) (k : ℕ) (mid whole : List ℕ) → length flags ≤ k → mid ++ true_from k (drop k flags) ≡ whole → mid ≡ whole
+true_done flags k mid whole past left =
+    sym (at_drop_all (λ (fs : List Bool). mid ++ true_from k fs) flags k past ∙ append-nil mid) ∙ left
 
 -- ---- what masks share with a table
 

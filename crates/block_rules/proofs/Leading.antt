@@ -67,6 +67,16 @@ then_leads a b c xs ys zs l w m v l' h k join = record {
   same = λ s i here small. join s i here small ∙ h.same s i here small;
 }
 
+-- two steps, whatever is said of what they lead to
+pub chain_leads : (a b c : BitTable) (xs ys zs : List Touch) (l w m v l' w' : Places) → Leads a b xs ys l w → Leads b c ys zs m v
+    → SameBelow (length a.masks.items) l' w' → Leads a c xs zs l' w'
+chain_leads a b c xs ys zs l w m v l' w' h k join = record {
+  size = k.size ∙ h.size;
+  keeps = λ s i is. k.keeps s i (h.keeps s i is);
+  news = (then_leads a b c xs ys zs l w m v l h k (λ s i here small. refl)).news;
+  same = join;
+}
+
 -- the same in other words
 pub leads_as : (a b : BitTable) (xs ys : List Touch) (l w w' : Places) → Leads a b xs ys l w → SameBelow (length a.masks.items) w w' → Leads a b xs ys l w'
 leads_as a b xs ys l w w' h join = record {

@@ -1,8 +1,12 @@
 -- Parts, statements and arms of lists, taken one by one.
-use Rattle.std.proofs.Common.{◌≡◌, ℕ, ◌+◌, ◌<◌, ◌≤◌, true, Bool, ◌||◌, ◌&&◌, List, [], ◌∷◌, ◌++◌, map, length, get_or, drop, refl, sym, ◌∙◌, ap, ap₂, append_assoc}
+use Rattle.std.proofs.Common.{◌≡◌, ℕ, ◌+◌, ◌<◌, ◌≤◌, true, false, Bool, ◌||◌, ◌&&◌, Box, Global, List, [], ◌∷◌, ◌++◌, map, length, get_or, drop, refl, sym, ◌∙◌, ap, ap₂, subst, append_assoc}
 use Rattle.std.proofs.lemmas.List.{at_drop_all, append-nil, map-append}
 use Rattle.typed_ir.specs.declared.arm.Arm.{Arm as Arm'}
+use Rattle.std.specs.declared.vec.Vec.{Vec}
 use Rattle.typed_ir.specs.declared.stmt.Stmt.{Stmt}
+use Rattle.typed_ir.specs.declared.stmt.Stmt.TheFolds.{fold-roll-Stmt}
+use Rattle.typed_ir.specs.declared.stmt.Stmt.TheOpen.{Stmt-F}
+use Rattle.typed_ir.specs.declared.stmt.Stmt.TheVariants.{Assign as Assign', Later as Later', Case as Case', rolls-Assign, rolls-Later, rolls-Case}
 use Rattle.typed_ir.specs.declared.target.Target.{Target}
 use Rattle.typed_ir.specs.declared.target.Target.TheVariants.{Fixed as Fixed', Moving as Moving'}
 use Rattle.typed_ir.specs.declared.lane.Lane.{Lane}
@@ -11,17 +15,19 @@ use Rattle.typed_ir.specs.declared.typed.Typed.{Typed}
 use Rattle.typed_ir.specs.declared.span.Span.{Span}
 use Rattle.typed_ir.specs.declared.touch.Touch.{Touch}
 use Rattle.typed_ir.specs.Valuations.{Places, within}
-use Rattle.typed_ir.specs.Stmts.{SizedStmt, SizedArms, targets, arm_targets, known_after, known_after_arms}
+use Rattle.typed_ir.specs.Stmts.{SizedTarget, SizedStmt, SizedArms, Assign, Later, If, Case, certain, targets, arm_targets, known_after, known_after_arms}
 use Rattle.typed_ir.specs.Targets.{targets_of}
-use Rattle.typed_ir.specs.Statements.{stmt_of, arm_of, item_of, sequence_of, arms_before}
+use Rattle.typed_ir.specs.Statements.{stmt_step, arm_step, stmt_of, arm_of, item_of, sequence_of, arms_before}
+use Rattle.typed_ir.specs.Sized.{Sized}
 use Rattle.typed_ir.specs.Forms.{sized}
+use Rattle.typed_ir.specs.Touches.{touched}
 use Rattle.typed_ir.proofs.Lists.{drop_read}
 use Rattle.typed_ir.proofs.Listed.{arm_is}
 use Rattle.block_rules.specs.declared.bit_table.BitTable.{BitTable}
-use Rattle.block_rules.specs.Paths.{leaves, item_leaves, flags_of, index_flags, reads_early, arms_early}
+use Rattle.block_rules.specs.Paths.{leaves, index_leaves, item_leaves, flags_of, index_flags, reads_early, arms_early}
 use Rattle.block_rules.specs.Tables.{bits_of, SameBelow, Leads}
-use Rattle.block_rules.proofs.Knowing.{Alike, known_at, index_same, reads_same, arms_same}
-use Rattle.block_rules.proofs.Leading.{alike_tables}
+use Rattle.block_rules.proofs.Knowing.{known_at, known_keeps, index_same, reads_same, arms_same}
+use Rattle.block_rules.proofs.Leading.{alike_tables, chain_leads, leads_as, leads_from, if_same}
 
 -- ---- what is written
 
@@ -78,6 +84,136 @@ pub parts_done : (parts : List Target) (k : ℕ) (w known : Places) (flags whole
     → flags ++ index_flags w (targets_of (drop k parts)) known ≡ whole → flags ≡ whole
 parts_done parts k w known flags whole past left =
     sym (at_drop_all (λ (zs : List Target). flags ++ index_flags w (targets_of zs) known) parts k past ∙ append-nil flags) ∙ left
+
+pub fixed_part : (parts : List Target) (k : ℕ) (x : Target) (lane : Lane) (written start mid new known : BitTable) (us vs learned : List Touch) (old flags whole : List Bool)
+    → k < length parts → x ≡ get_or parts k x → x ≡ Fixed' lane → length written.masks.items ≡ length start.masks.items
+    → Leads start mid [] us (bits_of mid) (bits_of mid) × (old ++ index_flags (bits_of written) (targets_of (drop k parts)) (bits_of mid) ≡ whole)
+    → Leads mid new us vs (bits_of new) (λ s i. bits_of mid s i || within lane.span s i)
+    → known ≡ new → flags ≡ old → learned ≡ vs
+    → Leads start known [] learned (bits_of known) (bits_of known)
+    × (flags ++ index_flags (bits_of written) (targets_of (drop (k + 1) parts)) (bits_of known) ≡ whole)
+fixed_part parts k x lane written start mid new known us vs learned old flags whole less is kind long h g same_known same_flags same_learned =
+    let step : Leads start new [] vs (bits_of new) (bits_of new) =
+    chain_leads start mid new [] us vs (bits_of mid) (bits_of mid) (bits_of new) (λ s i. bits_of mid s i || within lane.span s i) (bits_of new) (bits_of new)
+    h.0 g (λ s i here small. refl) in
+    let reads : old ++ index_flags (bits_of written) (targets_of (drop (k + 1) parts)) (bits_of new) ≡ whole =
+    fixed_next parts k x lane written mid new us vs old whole less is kind (long ∙ sym h.0.size) g h.1 in
+    (subst (λ t. Leads start t [] learned (bits_of t) (bits_of t)) (sym same_known)
+    (subst (λ ts. Leads start new [] ts (bits_of new) (bits_of new)) (sym same_learned) step),
+    ap₂ (λ fs t. fs ++ index_flags (bits_of written) (targets_of (drop (k + 1) parts)) (bits_of t)) same_flags same_known ∙ reads)
+
+pub moving_part : (parts : List Target) (k : ℕ) (x : Target) (reach : Reach) (index : Typed) (w : Places) (start mid known : BitTable) (us learned : List Touch) (old new flags whole : List Bool)
+    → k < length parts → x ≡ get_or parts k x → x ≡ Moving' reach index
+    → Leads start mid [] us (bits_of mid) (bits_of mid) × (old ++ index_flags w (targets_of (drop k parts)) (bits_of mid) ≡ whole)
+    → new ≡ old ++ flags_of w (leaves (sized index.form)) (bits_of mid)
+    → known ≡ mid → flags ≡ new → learned ≡ us
+    → Leads start known [] learned (bits_of known) (bits_of known) × (flags ++ index_flags w (targets_of (drop (k + 1) parts)) (bits_of known) ≡ whole)
+moving_part parts k x reach index w start mid known us learned old new flags whole less is kind h more same_known same_flags same_learned =
+    let reads : new ++ index_flags w (targets_of (drop (k + 1) parts)) (bits_of mid) ≡ whole =
+    moving_next parts k x reach index w (bits_of mid) old new whole less is kind more h.1 in
+    (subst (λ t. Leads start t [] learned (bits_of t) (bits_of t)) (sym same_known)
+    (subst (λ ts. Leads start mid [] ts (bits_of mid) (bits_of mid)) (sym same_learned) h.0),
+    ap₂ (λ fs t. fs ++ index_flags w (targets_of (drop (k + 1) parts)) (bits_of t)) same_flags same_known ∙ reads)
+
+-- ---- statements by their kinds
+
+pub assign_is : (parts : Vec Target Global) (e : Typed) → stmt_of (Assign' parts e) ≡ Assign (targets_of parts.items) (sized e.form)
+assign_is parts e = ap stmt_of (sym (rolls-Assign parts e)) ∙ fold-roll-Stmt SizedStmt (SizedArms → SizedArms) stmt_step arm_step (Stmt-F.Assign parts e)
+
+pub later_is : (parts : Vec Target Global) (e : Typed) → stmt_of (Later' parts e) ≡ Later (targets_of parts.items) (sized e.form)
+later_is parts e = ap stmt_of (sym (rolls-Later parts e)) ∙ fold-roll-Stmt SizedStmt (SizedArms → SizedArms) stmt_step arm_step (Stmt-F.Later parts e)
+
+pub case_is : (e : Typed) (arms : Vec Arm' Global) (otherwise : Box Stmt Global)
+    → stmt_of (Case' e arms otherwise) ≡ Case (sized e.form) (arms_before (map arm_of arms.items) (stmt_of otherwise.value))
+case_is e arms otherwise =
+    ap stmt_of (sym (rolls-Case e arms otherwise)) ∙ fold-roll-Stmt SizedStmt (SizedArms → SizedArms) stmt_step arm_step (Stmt-F.Case e arms otherwise)
+
+pub assign_leads : (k0 k1 k2 : BitTable) (ts us : List Touch) (parts : List SizedTarget) (e : Sized) (st : SizedStmt) → st ≡ Assign parts e
+    → bits_of k1 ≡ bits_of k0 → length k1.masks.items ≡ length k0.masks.items
+    → Leads k1 k2 ts us (bits_of k2) (λ s i. bits_of k1 s i || certain parts s i)
+    → Leads k0 k2 ts us (bits_of k2) (known_after st (bits_of k0))
+assign_leads k0 k1 k2 ts us parts e st kind same long h =
+    subst (λ z. Leads k0 k2 ts us (bits_of k2) (known_after z (bits_of k0))) (sym kind)
+    (leads_as k0 k2 ts us (bits_of k2) (λ s i. bits_of k1 s i || certain parts s i) (λ s i. bits_of k0 s i || certain parts s i)
+    (leads_from k0 k1 k2 ts us (bits_of k2) (λ s i. bits_of k1 s i || certain parts s i) same long h)
+    (λ s i here small. ap (λ p. p s i || certain parts s i) same))
+
+pub assign_reads : (w : Places) (k0 k1 : BitTable) (f0 f1 f2 : List Bool) (parts : List SizedTarget) (e : Sized) (st : SizedStmt) → st ≡ Assign parts e
+    → bits_of k1 ≡ bits_of k0 → f1 ≡ f0 ++ index_flags w parts (bits_of k0) → f2 ≡ f1 ++ flags_of w (leaves e) (bits_of k1)
+    → f2 ≡ f0 ++ reads_early w st (bits_of k0)
+assign_reads w k0 k1 f0 f1 f2 parts e st kind same first second =
+    second ∙ ap₂ (λ fs p. fs ++ flags_of w (leaves e) p) first same
+    ∙ append_assoc f0 (index_flags w parts (bits_of k0)) (flags_of w (leaves e) (bits_of k0))
+    ∙ ap (λ z. f0 ++ reads_early w z (bits_of k0)) (sym kind)
+
+pub later_reads : (w known : Places) (f0 f1 f2 : List Bool) (parts : List SizedTarget) (e : Sized) (st : SizedStmt) → st ≡ Later parts e
+    → f1 ≡ f0 ++ flags_of w (index_leaves parts) known → f2 ≡ f1 ++ flags_of w (leaves e) known
+    → f2 ≡ f0 ++ reads_early w st known
+later_reads w known f0 f1 f2 parts e st kind first second =
+    second ∙ ap (λ fs. fs ++ flags_of w (leaves e) known) first
+    ∙ append_assoc f0 (flags_of w (index_leaves parts) known) (flags_of w (leaves e) known)
+    ∙ ap (λ z. f0 ++ reads_early w z known) (sym kind)
+
+pub case_reads : (w known : Places) (f0 f1 f2 : List Bool) (e : Sized) (arms : SizedArms) (st : SizedStmt) → st ≡ Case e arms
+    → f1 ≡ f0 ++ flags_of w (leaves e) known → f2 ≡ f1 ++ arms_early w arms known → f2 ≡ f0 ++ reads_early w st known
+case_reads w known f0 f1 f2 e arms st kind first second =
+    second ∙ ap (λ fs. fs ++ arms_early w arms known) first
+    ∙ append_assoc f0 (flags_of w (leaves e) known) (arms_early w arms known)
+    ∙ ap (λ z. f0 ++ reads_early w z known) (sym kind)
+
+-- the condition, and two branches from tables with the same bits
+pub if_reads : (w : Places) (k0 k1 : BitTable) (f0 f1 f2 f3 : List Bool) (c : Sized) (a b st : SizedStmt) → st ≡ If c a b → bits_of k1 ≡ bits_of k0
+    → f1 ≡ f0 ++ flags_of w (leaves c) (bits_of k0) → f2 ≡ f1 ++ reads_early w a (bits_of k0) → f3 ≡ f2 ++ reads_early w b (bits_of k1)
+    → f3 ≡ f0 ++ reads_early w st (bits_of k0)
+if_reads w k0 k1 f0 f1 f2 f3 c a b st kind same first second third =
+    let x = flags_of w (leaves c) (bits_of k0) in
+    let y = reads_early w a (bits_of k0) in
+    let z = reads_early w b (bits_of k0) in
+    third ∙ ap₂ (λ fs p. fs ++ reads_early w b p) (second ∙ ap (λ fs. fs ++ y) first) same
+    ∙ append_assoc (f0 ++ x) y z ∙ append_assoc f0 x (y ++ z)
+    ∙ ap (λ t. f0 ++ reads_early w t (bits_of k0)) (sym kind)
+
+pub if_leads : (k0 k1 k2 k3 : BitTable) (ts us first both : List Touch) (c : Sized) (a b st : SizedStmt) → st ≡ If c a b
+    → length k1.masks.items ≡ length k0.masks.items → bits_of k1 ≡ bits_of k0 → length k2.masks.items ≡ length k1.masks.items → bits_of k2 ≡ bits_of k1
+    → SameBelow (length k0.masks.items) (λ s i. bits_of k0 s i || touched first s i) (λ s i. bits_of k0 s i || (true && known_after a (bits_of k0) s i))
+    → SameBelow (length k1.masks.items) (λ s i. bits_of k1 s i || touched both s i) (λ s i. bits_of k1 s i || (touched first s i && known_after b (bits_of k1) s i))
+    → Leads k2 k3 ts us (bits_of k3) (λ s i. bits_of k2 s i || touched both s i)
+    → Leads k0 k3 ts us (bits_of k3) (known_after st (bits_of k0))
+if_leads k0 k1 k2 k3 ts us first both c a b st kind long same long' same' one two h =
+    subst (λ z. Leads k0 k3 ts us (bits_of k3) (known_after z (bits_of k0))) (sym kind)
+    (leads_as k0 k3 ts us (bits_of k3) (λ s i. bits_of k2 s i || touched both s i) (λ s i. known_after a (bits_of k0) s i && known_after b (bits_of k0) s i)
+    (leads_from k0 k2 k3 ts us (bits_of k3) (λ s i. bits_of k2 s i || touched both s i) (same' ∙ same) (long' ∙ long) h)
+    (λ s i here small.
+    ap (λ p. p s i || touched both s i) (same' ∙ same)
+    ∙ if_same (length k0.masks.items) (bits_of k0) (touched first) (touched both) (known_after a (bits_of k0)) (known_after b (bits_of k0))
+    (known_keeps a (bits_of k0)) (known_keeps b (bits_of k0)) one next s i here small))
+  where
+    next : SameBelow (length k0.masks.items) (λ s i. bits_of k0 s i || touched both s i) (λ s i. bits_of k0 s i || (touched first s i && known_after b (bits_of k0) s i))
+    next s i here small =
+        ap (λ p. p s i || touched both s i) (sym same)
+        ∙ two s i (subst (λ n. s < n) (sym long) here) small
+        ∙ ap (λ p. p s i || (touched first s i && known_after b p s i)) same
+
+-- all branches of a case
+pub arms_lead : (k0 k1 k2 k3 : BitTable) (ts us both : List Touch) (common all after : Places)
+    → length k1.masks.items ≡ length k0.masks.items → bits_of k1 ≡ bits_of k0 → length k2.masks.items ≡ length k1.masks.items → bits_of k2 ≡ bits_of k1
+    → ((s i : ℕ) → bits_of k0 s i ≡ true → all s i ≡ true)
+    → SameBelow (length k1.masks.items) (λ s i. bits_of k1 s i || touched both s i) (λ s i. bits_of k0 s i || (common s i && after s i))
+    → SameBelow (length k0.masks.items) (λ s i. bits_of k0 s i || (common s i && after s i)) (λ s i. bits_of k0 s i || all s i)
+    → Leads k2 k3 ts us (bits_of k3) (λ s i. bits_of k2 s i || touched both s i)
+    → Leads k0 k3 ts us (bits_of k3) all
+arms_lead k0 k1 k2 k3 ts us both common all after long same long' same' keeps last left h =
+    leads_as k0 k3 ts us (bits_of k3) (λ s i. bits_of k2 s i || touched both s i) all
+    (leads_from k0 k2 k3 ts us (bits_of k3) (λ s i. bits_of k2 s i || touched both s i) (same' ∙ same) (long' ∙ long) h)
+    (λ s i here small.
+    ap (λ p. p s i || touched both s i) same'
+    ∙ last s i (subst (λ n. s < n) (sym long) here) small
+    ∙ left s i here small
+    ∙ kept (bits_of k0 s i) (all s i) (keeps s i))
+  where
+    kept : (a b : Bool) → (a ≡ true → b ≡ true) → (a || b) ≡ b
+    kept true b h = sym (h refl)
+    kept false b h = refl
 
 -- ---- statements one after another
 

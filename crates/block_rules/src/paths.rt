@@ -1,7 +1,7 @@
 // A combinational block to the reads that come before it has written what they read, and the signals with a latch.
-ghost use Rattle.std.specs.Prelude.{◌≡◌, ◌&&◌, ◌||◌, ◌==◌, ℕ, IfOk};
+ghost use Rattle.std.specs.Prelude.{◌++◌, ◌∷◌, [], ◌≡◌, ◌&&◌, ◌||◌, ◌==◌, ℕ, IfOk};
 ghost use Rattle.typed_ir.specs.Statements.{stmt_of};
-ghost use Rattle.block_rules.specs.Paths.{flags_of_block, places_of_true, is_member, is_open, unwritten, AreHere};
+ghost use Rattle.block_rules.specs.Paths.{flags_of_block, places_of_true, true_from, is_member, is_open, unwritten, AreHere};
 ghost use Rattle.block_rules.specs.Tables.{bits_of, is_named, signals_of, AreBlank};
 
 use crate::bit_table::BitTable;
@@ -24,15 +24,23 @@ pub struct Paths {
     pub unwritten: Vec<SignalId>,
 }
 
+// Adds a place where its flag is true.
+fn add_true(flag: bool, place: usize, places: &mut Vec<usize>) -> Result<(), NoMemory>
+    ensures { IfOk result (λ _. places.new.items ≡ places.old.items ++ true_from place (flag ∷ [])) }
+{
+    if flag {
+        places.push(place)?;
+    }
+    Ok(())
+}
+
 // The places of the flags that are true.
 fn true_places(alloc: Global, flags: &[bool]) -> Result<Vec<usize>, NoMemory>
     ensures { IfOk result (λ places. places.items ≡ places_of_true flags.now) }
 {
     let mut places = Vec::new(alloc);
     for place in 0..flags.len() {
-        if flags[place] {
-            places.push(place)?;
-        }
+        add_true(flags[place], place, &mut places)?;
     }
     Ok(places)
 }
