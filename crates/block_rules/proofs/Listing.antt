@@ -27,7 +27,7 @@ use Rattle.block_rules.specs.declared.bit_table.BitTable.{BitTable}
 use Rattle.block_rules.specs.Paths.{leaves, index_leaves, item_leaves, flags_of, index_flags, reads_early, arms_early}
 use Rattle.block_rules.specs.Tables.{bits_of, SameBelow, Leads}
 use Rattle.block_rules.proofs.Knowing.{known_at, known_keeps, index_same, reads_same, arms_same}
-use Rattle.block_rules.proofs.Leading.{alike_tables, chain_leads, leads_as, leads_from, if_same}
+use Rattle.block_rules.proofs.Leading.{alike_tables, chain_leads, leads_as, leads_from, if_same, arm_same}
 
 -- ---- what is written
 
@@ -97,10 +97,11 @@ fixed_part parts k x lane written start mid new known us vs learned old flags wh
     chain_leads start mid new [] us vs (bits_of mid) (bits_of mid) (bits_of new) (λ s i. bits_of mid s i || within lane.span s i) (bits_of new) (bits_of new)
     h.0 g (λ s i here small. refl) in
     let reads : old ++ index_flags (bits_of written) (targets_of (drop (k + 1) parts)) (bits_of new) ≡ whole =
-    fixed_next parts k x lane written mid new us vs old whole less is kind (long ∙ sym h.0.size) g h.1 in
-    (subst (λ t. Leads start t [] learned (bits_of t) (bits_of t)) (sym same_known)
-    (subst (λ ts. Leads start new [] ts (bits_of new) (bits_of new)) (sym same_learned) step),
-    ap₂ (λ fs t. fs ++ index_flags (bits_of written) (targets_of (drop (k + 1) parts)) (bits_of t)) same_flags same_known ∙ reads)
+    fixed_next parts k x lane written mid new us vs old whole less is kind (long ∙ sym h.0.size) g h.1 in (
+      subst (λ t. Leads start t [] learned (bits_of t) (bits_of t)) (sym same_known)
+          (subst (λ ts. Leads start new [] ts (bits_of new) (bits_of new)) (sym same_learned) step),
+      ap₂ (λ fs t. fs ++ index_flags (bits_of written) (targets_of (drop (k + 1) parts)) (bits_of t)) same_flags same_known ∙ reads,
+    )
 
 pub moving_part : (parts : List Target) (k : ℕ) (x : Target) (reach : Reach) (index : Typed) (w : Places) (start mid known : BitTable) (us learned : List Touch) (old new flags whole : List Bool)
     → k < length parts → x ≡ get_or parts k x → x ≡ Moving' reach index
@@ -110,10 +111,11 @@ pub moving_part : (parts : List Target) (k : ℕ) (x : Target) (reach : Reach) (
     → Leads start known [] learned (bits_of known) (bits_of known) × (flags ++ index_flags w (targets_of (drop (k + 1) parts)) (bits_of known) ≡ whole)
 moving_part parts k x reach index w start mid known us learned old new flags whole less is kind h more same_known same_flags same_learned =
     let reads : new ++ index_flags w (targets_of (drop (k + 1) parts)) (bits_of mid) ≡ whole =
-    moving_next parts k x reach index w (bits_of mid) old new whole less is kind more h.1 in
-    (subst (λ t. Leads start t [] learned (bits_of t) (bits_of t)) (sym same_known)
-    (subst (λ ts. Leads start mid [] ts (bits_of mid) (bits_of mid)) (sym same_learned) h.0),
-    ap₂ (λ fs t. fs ++ index_flags w (targets_of (drop (k + 1) parts)) (bits_of t)) same_flags same_known ∙ reads)
+    moving_next parts k x reach index w (bits_of mid) old new whole less is kind more h.1 in (
+      subst (λ t. Leads start t [] learned (bits_of t) (bits_of t)) (sym same_known)
+          (subst (λ ts. Leads start mid [] ts (bits_of mid) (bits_of mid)) (sym same_learned) h.0),
+      ap₂ (λ fs t. fs ++ index_flags w (targets_of (drop (k + 1) parts)) (bits_of t)) same_flags same_known ∙ reads,
+    )
 
 -- ---- statements by their kinds
 
@@ -275,3 +277,21 @@ arm_known arms otherwise k x known s i less is =
 pub arms_end : {B : Type 0} (f : SizedArms → B) (arms : List Arm') (otherwise : SizedStmt) (k : ℕ) → length arms ≤ k
     → f (arms_before (map arm_of (drop k arms)) otherwise) ≡ f (arms_before [] otherwise)
 arms_end f arms otherwise k past = at_drop_all (λ (zs : List Arm'). f (arms_before (map arm_of zs) otherwise)) arms k past
+
+-- one more arm, walked from a table with the same bits
+pub arm_so : (arms : List Arm') (otherwise : SizedStmt) (k : ℕ) (x : Arm') (k0 k1 : BitTable) (both : List Touch) (common all : Places)
+    → k < length arms → x ≡ get_or arms k x → length k1.masks.items ≡ length k0.masks.items → bits_of k1 ≡ bits_of k0
+    → SameBelow (length k1.masks.items) (λ s i. bits_of k1 s i || touched both s i) (λ s i. bits_of k1 s i || (common s i && known_after (stmt_of x.body) (bits_of k1) s i))
+    → SameBelow (length k0.masks.items)
+    (λ s i. bits_of k0 s i || (common s i && known_after_arms (arms_before (map arm_of (drop k arms)) otherwise) (bits_of k0) s i)) all
+    → SameBelow (length k0.masks.items)
+    (λ s i. bits_of k0 s i || (touched both s i && known_after_arms (arms_before (map arm_of (drop (k + 1) arms)) otherwise) (bits_of k0) s i)) all
+arm_so arms otherwise k x k0 k1 both common all less is long same one left =
+    arm_same (length k0.masks.items) (bits_of k0) (touched both) common (known_after (stmt_of x.body) (bits_of k0))
+    (known_after_arms (arms_before (map arm_of (drop (k + 1) arms)) otherwise) (bits_of k0)) all
+    (λ s i here small.
+    ap (λ p. p s i || touched both s i) (sym same)
+    ∙ one s i (subst (λ n. s < n) (sym long) here) small
+    ∙ ap (λ p. p s i || (common s i && known_after (stmt_of x.body) p s i)) same)
+    (λ s i here small.
+    ap (λ b. bits_of k0 s i || (common s i && b)) (sym (arm_known arms otherwise k x (bits_of k0) s i less is)) ∙ left s i here small)
