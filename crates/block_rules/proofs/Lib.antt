@@ -4,3 +4,4 @@ mod Whole
 mod Leading
 mod Finding
 mod Listing
+mod Called
