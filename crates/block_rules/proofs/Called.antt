@@ -1,6 +1,6 @@
 -- What the tables say at the end of a walk is what the definitions say of the block.
-use Rattle.std.proofs.Common.{◌≡◌, ℕ, ◌+◌, ◌<◌, ◌≤◌, Bool, true, false, ◌||◌, ◌&&◌, not, ◌==◌, List, [], ◌∷◌, ◌++◌, length, refl, sym, ◌∙◌, ap, ap₂, subst, arith, true≢false}
-use Rattle.std.proofs.lemmas.Bool.{or_left, or_right, and_right, and_from}
+use Rattle.std.proofs.Common.{◌≡◌, ℕ, ◌<◌, ◌≤◌, Bool, true, false, ◌||◌, ◌&&◌, not, ◌==◌, List, [], ◌∷◌, length, refl, sym, ◌∙◌, ap, ap₂, subst, arith, true≢false}
+use Rattle.std.proofs.lemmas.Bool.{or_left, or_right, and_from}
 use Rattle.bits.proofs.Runs.{by_order}
 use Rattle.typed_ir.specs.declared.touch.Touch.{Touch}
 use Rattle.typed_ir.specs.Valuations.{Places, any_within, nowhere}
@@ -8,7 +8,7 @@ use Rattle.typed_ir.specs.Stmts.{SizedStmt, targets, known_after}
 use Rattle.typed_ir.specs.Touches.{has_bit, touched}
 use Rattle.typed_ir.proofs.Cases.{by_cases, and_left, only_right}
 use Rattle.block_rules.specs.declared.bit_table.BitTable.{BitTable}
-use Rattle.block_rules.specs.Paths.{some_below, is_member, is_open, reads_early, flags_of_block, unwritten, AreHere}
+use Rattle.block_rules.specs.Paths.{is_open, reads_early, flags_of_block, unwritten, AreHere}
 use Rattle.block_rules.specs.Tables.{bits_of, Leads, is_named}
 use Rattle.block_rules.proofs.Masks.{past_bit}
 use Rattle.block_rules.proofs.Knowing.{some_same, reads_same}

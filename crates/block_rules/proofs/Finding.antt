@@ -1,9 +1,9 @@
 -- Masks that have a bit that others lack, and the flag of a read.
-use Rattle.std.proofs.Common.{◌≡◌, ℕ, zero, suc, ◌+◌, ◌^◌, ◌<◌, ◌≤◌, Bool, true, false, ◌||◌, ◌&&◌, not, ◌==◌, nat_le, nat_lt, List, [], ◌∷◌, ◌++◌, map, length, get_or, drop, refl, sym, ◌∙◌, ap, ap₂, arith, true≢false, append_assoc}
+use Rattle.std.proofs.Common.{◌≡◌, ℕ, zero, suc, ◌+◌, ◌^◌, ◌<◌, ◌≤◌, Bool, true, false, ◌||◌, ◌&&◌, not, ◌==◌, nat_le, nat_lt, List, [], ◌∷◌, ◌++◌, length, get_or, drop, refl, sym, ◌∙◌, ap, ap₂, arith, true≢false, append_assoc}
 use Rattle.std.specs.Prelude.{bit_and, slice_index}
 use Rattle.std.specs.Int.{bit_at}
 use Rattle.std.proofs.Math.Bool.{or-false, or_assoc, and-false}
-use Rattle.std.proofs.lemmas.Bool.{eqb-true, eqb-false, eq-eqb, ne_eqb, or_left, or_right, or_parts, not_from_true, not_from_false}
+use Rattle.std.proofs.lemmas.Bool.{eqb-true, eq-eqb, ne_eqb}
 use Rattle.std.proofs.lemmas.List.{append-nil, at_drop_all}
 use Rattle.std.proofs.lemmas.Nat.{and_le_l}
 use Rattle.std.proofs.lemmas.Nat.Bits.{bit_at-lt, same_from_bits_below}
@@ -11,12 +11,12 @@ use Rattle.typed_ir.specs.declared.span.Span.{Span}
 use Rattle.typed_ir.specs.declared.touch.Touch.{Touch}
 use Rattle.typed_ir.specs.Valuations.{Places, within}
 use Rattle.typed_ir.specs.Touches.{has_bit, touched, Adds}
-use Rattle.typed_ir.proofs.Cases.{by_cases, and_left, and_right}
+use Rattle.typed_ir.proofs.Cases.{by_cases}
 use Rattle.typed_ir.proofs.Lists.{drop_read}
-use Rattle.typed_ir.proofs.Masks.{adds_one, touched-append}
+use Rattle.typed_ir.proofs.Masks.{adds_one}
 use Rattle.block_rules.specs.declared.bit_table.BitTable.{BitTable}
 use Rattle.block_rules.specs.Paths.{some_below, early, true_from, is_member, is_open}
-use Rattle.block_rules.specs.Tables.{size, bits_of, is_named}
+use Rattle.block_rules.specs.Tables.{bits_of, is_named}
 use Rattle.block_rules.proofs.Masks.{has_both, no_bit, low_bit}
 use Rattle.block_rules.proofs.Knowing.{some_same}
 use Rattle.block_rules.proofs.Whole.{none_below}

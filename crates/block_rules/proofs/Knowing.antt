@@ -1,11 +1,9 @@
 -- What is known, and which reads come too early, depends on the bits that may be read alone.
-use Rattle.std.proofs.Common.{◌≡◌, ℕ, zero, suc, ◌+◌, ◌<◌, ◌≤◌, Bool, true, false, ◌||◌, ◌&&◌, not, ◌==◌, nat_le, nat_lt, List, [], ◌∷◌, ◌++◌, map, refl, sym, ◌∙◌, ap, ap₂, arith, true≢false}
+use Rattle.std.proofs.Common.{◌≡◌, ℕ, zero, suc, ◌<◌, Bool, true, false, ◌||◌, ◌&&◌, not, List, [], ◌∷◌, ◌++◌, refl, ap, ap₂, arith}
 use Rattle.std.proofs.lemmas.Bool.{or_left, and_from}
 use Rattle.typed_ir.specs.declared.span.Span.{Span}
-use Rattle.typed_ir.specs.Valuations.{Places, within, any_within, nowhere}
-use Rattle.typed_ir.specs.Sized.{Sized}
-use Rattle.typed_ir.specs.Stmts.{SizedTarget, Fixed, Moving, SizedItem, SizedStmt, SizedArms, Skip, Assign, Later, Then, If, Case, Arm, Default, certain, known_after, known_after_arms}
-use Rattle.typed_ir.proofs.Cases.{by_cases}
+use Rattle.typed_ir.specs.Valuations.{Places, within}
+use Rattle.typed_ir.specs.Stmts.{SizedTarget, Fixed, Moving, SizedStmt, SizedArms, Skip, Assign, Later, Then, If, Case, Arm, Default, certain, known_after, known_after_arms}
 use Rattle.block_rules.specs.Paths.{leaves, index_leaves, item_leaves, some_below, early, flags_of, index_flags, reads_early, arms_early}
 
 -- ---- bit by bit

@@ -1,5 +1,5 @@
 -- Tables that take bits, and give them back.
-use Rattle.std.proofs.Common.{◌≡◌, ℕ, zero, suc, ◌+◌, ◌<◌, ◌≤◌, Bool, true, false, ◌||◌, ◌&&◌, not, ◌==◌, nat_lt, List, [], ◌∷◌, ◌++◌, length, get_or, drop, Option, Some, None, refl, sym, ◌∙◌, ap, ap₂, subst, arith, true≢false}
+use Rattle.std.proofs.Common.{◌≡◌, ℕ, ◌+◌, ◌<◌, ◌≤◌, Bool, true, false, ◌||◌, ◌&&◌, not, ◌==◌, nat_lt, List, [], ◌∷◌, ◌++◌, length, get_or, drop, Option, Some, None, refl, sym, ◌∙◌, ap, ap₂, subst, true≢false}
 use Rattle.std.specs.Prelude.{bit_xor, slice_index}
 use Rattle.std.specs.declared.vec.Vec.{Vec}
 use Rattle.std.specs.Global.{Global}
@@ -9,16 +9,15 @@ use Rattle.std.proofs.lemmas.Bool.{eqb-true, lt-ltb, or_left}
 use Rattle.std.proofs.lemmas.List.{at_drop_all}
 use Rattle.bits.proofs.Runs.{by_order}
 use Rattle.typed_ir.specs.declared.touch.Touch.{Touch}
-use Rattle.typed_ir.specs.Valuations.{Places, nowhere}
-use Rattle.typed_ir.specs.Stmts.{SizedStmt, known_after}
+use Rattle.typed_ir.specs.Valuations.{Places}
 use Rattle.typed_ir.specs.Touches.{has_bit, touched, Adds}
 use Rattle.typed_ir.proofs.Cases.{by_cases}
 use Rattle.typed_ir.proofs.Lists.{drop_read}
 use Rattle.typed_ir.proofs.Masks.{adds_one}
 use Rattle.block_rules.specs.declared.bit_table.BitTable.{BitTable}
-use Rattle.block_rules.specs.Tables.{size, bits_of, SameBelow, Leads, common_of, candidates}
-use Rattle.block_rules.proofs.Masks.{low_bit, high_bit, bit_small, bit_inside, has_one, but_new}
-use Rattle.block_rules.proofs.Knowing.{Alike, known_at, known_keeps}
+use Rattle.block_rules.specs.Tables.{bits_of, SameBelow, Leads, common_of, candidates}
+use Rattle.block_rules.proofs.Masks.{low_bit, high_bit, bit_small, bit_inside, has_one, but_new, no_bit}
+use Rattle.block_rules.proofs.Knowing.{Alike}
 
 -- ---- tests
 
@@ -127,19 +126,16 @@ one_fresh before after signal mask m n s i is_m is_n bits keeps small = by_cases
     ∙ none (bits_of before s i)))
 
 -- the bits of one mask
-pub learn_leads : (before after : BitTable) (old new : List Touch) (signal mask m n : ℕ)
-    → m ≡ slice_index before.masks.items signal → n ≡ slice_index after.masks.items signal
+one_leads : (before after : BitTable) (old new : List Touch) (signal mask : ℕ)
     → length after.masks.items ≡ length before.masks.items
     → ((s i : ℕ) → i < 128
     → bits_of after s i ≡ (bits_of before s i || (nat_lt s (length before.masks.items) && ((s == signal) && has_bit mask i))))
-    → new ≡ old ++ record { signal = signal; mask = bit_xor n m } ∷ []
+    → (((s i : ℕ) → bits_of before s i ≡ true → bits_of after s i ≡ true) → Adds old new (fresh before after))
     → Leads before after old new (bits_of after) (λ s i. bits_of before s i || ((s == signal) && has_bit mask i))
-learn_leads before after old new signal mask m n is_m is_n long bits is = record {
+one_leads before after old new signal mask long bits adds = record {
   size = long;
   keeps = keeps;
-  news = subst (λ ts. Adds old ts (fresh before after)) (sym is)
-      (adds_one old (record { signal = signal; mask = bit_xor n m }) (fresh before after)
-      (λ s i small. one_fresh before after signal mask m n s i is_m is_n (bits s i small) (keeps s i) small));
+  news = adds keeps;
   same = λ s i here small. bits s i small ∙ ap (λ b. bits_of before s i || (b && ((s == signal) && has_bit mask i))) (lt-ltb s (length before.masks.items) here);
 }
   where
@@ -147,6 +143,37 @@ learn_leads before after old new signal mask m n is_m is_n long bits is = record
     keeps s i h =
         bits s i (bit_small before.masks.items s i h)
         ∙ or_left (bits_of before s i) (nat_lt s (length before.masks.items) && ((s == signal) && has_bit mask i)) h
+
+pub learn_leads : (before after : BitTable) (old new : List Touch) (signal mask m n : ℕ)
+    → m ≡ slice_index before.masks.items signal → n ≡ slice_index after.masks.items signal
+    → length after.masks.items ≡ length before.masks.items
+    → ((s i : ℕ) → i < 128
+    → bits_of after s i ≡ (bits_of before s i || (nat_lt s (length before.masks.items) && ((s == signal) && has_bit mask i))))
+    → new ≡ old ++ record { signal = signal; mask = bit_xor n m } ∷ []
+    → Leads before after old new (bits_of after) (λ s i. bits_of before s i || ((s == signal) && has_bit mask i))
+learn_leads before after old new signal mask m n is_m is_n long bits is =
+    one_leads before after old new signal mask long bits
+    (λ keeps. subst (λ ts. Adds old ts (fresh before after)) (sym is)
+    (adds_one old (record { signal = signal; mask = bit_xor n m }) (fresh before after)
+    (λ s i small. one_fresh before after signal mask m n s i is_m is_n (bits s i small) (keeps s i) small)))
+
+-- where none of them is new
+pub none_learnt : (before after : BitTable) (old : List Touch) (signal mask m n : ℕ)
+    → m ≡ slice_index before.masks.items signal → n ≡ slice_index after.masks.items signal
+    → length after.masks.items ≡ length before.masks.items
+    → ((s i : ℕ) → i < 128
+    → bits_of after s i ≡ (bits_of before s i || (nat_lt s (length before.masks.items) && ((s == signal) && has_bit mask i))))
+    → bit_xor n m ≡ 0
+    → Leads before after old old (bits_of after) (λ s i. bits_of before s i || ((s == signal) && has_bit mask i))
+none_learnt before after old signal mask m n is_m is_n long bits is =
+    one_leads before after old old signal mask long bits
+    (λ keeps. record {
+      says = λ s i small.
+          sym (or-false (touched old s i))
+          ∙ ap (λ b. touched old s i || b)
+          (sym (and-false (s == signal)) ∙ ap (λ b. (s == signal) && b) (sym (no_bit i)) ∙ ap (λ x. (s == signal) && has_bit x i) (sym is)
+          ∙ one_fresh before after signal mask m n s i is_m is_n (bits s i small) (keeps s i) small);
+    })
 
 -- ---- and gives back
 

@@ -1,6 +1,6 @@
 -- Parts, statements and arms of lists, taken one by one.
 use Rattle.std.proofs.Common.{◌≡◌, ℕ, ◌+◌, ◌<◌, ◌≤◌, true, false, Bool, ◌||◌, ◌&&◌, Box, Global, List, [], ◌∷◌, ◌++◌, map, length, get_or, drop, refl, sym, ◌∙◌, ap, ap₂, subst, append_assoc}
-use Rattle.std.proofs.lemmas.List.{at_drop_all, append-nil, map-append}
+use Rattle.std.proofs.lemmas.List.{at_drop_all, append-nil}
 use Rattle.typed_ir.specs.declared.arm.Arm.{Arm as Arm'}
 use Rattle.std.specs.declared.vec.Vec.{Vec}
 use Rattle.typed_ir.specs.declared.stmt.Stmt.{Stmt}
@@ -26,7 +26,7 @@ use Rattle.typed_ir.proofs.Listed.{arm_is}
 use Rattle.block_rules.specs.declared.bit_table.BitTable.{BitTable}
 use Rattle.block_rules.specs.Paths.{leaves, index_leaves, item_leaves, flags_of, index_flags, reads_early, arms_early}
 use Rattle.block_rules.specs.Tables.{bits_of, SameBelow, Leads}
-use Rattle.block_rules.proofs.Knowing.{known_at, known_keeps, index_same, reads_same, arms_same}
+use Rattle.block_rules.proofs.Knowing.{known_at, known_keeps, index_same, reads_same}
 use Rattle.block_rules.proofs.Leading.{alike_tables, chain_leads, leads_as, leads_from, if_same, arm_same}
 
 -- ---- what is written

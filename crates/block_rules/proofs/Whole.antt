@@ -1,15 +1,15 @@
 -- A block of which no read comes too early and no signal has a latch.
-use Rattle.std.proofs.Common.{◌≡◌, ℕ, zero, suc, ◌+◌, ◌<◌, ◌≤◌, Bool, true, false, ◌||◌, ◌&&◌, not, ◌==◌, nat_le, nat_lt, List, [], ◌∷◌, ◌++◌, map, length, All, refl, sym, ◌∙◌, ap, ap₂, arith, true≢false, cond}
-use Rattle.std.proofs.Math.Bool.{or-false, or_assoc, and-false}
-use Rattle.std.proofs.lemmas.Bool.{eqb-true, eq-eqb, ltb-true, lt-ltb, le-leb, or_parts, or_from, and_from}
+use Rattle.std.proofs.Common.{◌≡◌, ℕ, zero, suc, ◌+◌, ◌<◌, ◌≤◌, Bool, true, false, ◌||◌, ◌&&◌, not, ◌==◌, nat_le, nat_lt, List, [], ◌∷◌, ◌++◌, length, All, refl, sym, ◌∙◌, ap, ap₂, arith, true≢false}
+use Rattle.std.proofs.Math.Bool.{or-false}
+use Rattle.std.proofs.lemmas.Bool.{eqb-true, eq-eqb, ltb-true, lt-ltb, le-leb, or_parts, or_from}
 use Rattle.bits.proofs.Runs.{by_order}
 use Rattle.typed_ir.specs.declared.span.Span.{Span}
 use Rattle.typed_ir.specs.Valuations.{Places, within, any_within, nowhere}
 use Rattle.typed_ir.specs.Sized.{Sized, Constant, Name, Part, Pick, Unary, Binary, Choice, Concat, Repeat, Resized, reads}
-use Rattle.typed_ir.specs.Stmts.{SizedTarget, Fixed, Moving, SizedItem, SizedStmt, SizedArms, Skip, Assign, Later, Then, If, Case, Arm, Default, targets, known_after, index_reads, open_indices, item_reads, open_reads, open_arm_reads, IsWhole, WritesFirst}
+use Rattle.typed_ir.specs.Stmts.{SizedTarget, Fixed, Moving, SizedItem, SizedStmt, SizedArms, Skip, Assign, Later, Then, If, Case, Arm, Default, targets, known_after, index_reads, open_indices, item_reads, open_reads, open_arm_reads}
 use Rattle.typed_ir.proofs.Cases.{by_cases, and_left, and_right, only_right}
 use Rattle.typed_ir.proofs.Locals.{any_within-append}
-use Rattle.block_rules.specs.Paths.{whole_signal, leaves, index_leaves, item_leaves, some_below, early, flags_of, index_flags, reads_early, arms_early, true_from, flags_of_block, unwritten, AreNarrow, BlocksAreWhole}
+use Rattle.block_rules.specs.Paths.{whole_signal, leaves, index_leaves, item_leaves, some_below, early, flags_of, index_flags, reads_early, arms_early, true_from, flags_of_block, BlocksAreWhole}
 
 -- ---- no flag
 

@@ -24,10 +24,13 @@ pub fn learn(
 {
     let before = table.mask(signal);
     table.add(signal, mask);
-    let after = table.mask(signal);
+    let gained = table.mask(signal) ^ before;
+    if gained == 0 {
+        return Ok(());
+    }
     learned.push(Touch {
         signal,
-        mask: after ^ before,
+        mask: gained,
     })?;
     Ok(())
 }

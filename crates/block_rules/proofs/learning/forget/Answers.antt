@@ -1,4 +1,4 @@
-use Rattle.std.proofs.Common.{◌∙◌, ◌&&◌, not, refl}
+use Rattle.std.proofs.Common.{◌∙◌, ◌&&◌, not}
 use Rattle.typed_ir.specs.Touches.{touched}
 use Rattle.block_rules.specs.Tables.{bits_of}
 use Rattle.block_rules.proofs.Finding.{forget_next, forget_done}

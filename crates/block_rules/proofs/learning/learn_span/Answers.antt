@@ -1,4 +1,4 @@
-use Rattle.std.proofs.Common.{◌&&◌, ◌||◌, ◌==◌, ◌<◌, ap}
+use Rattle.std.proofs.Common.{◌&&◌, ◌||◌, ◌==◌, ap}
 use Rattle.typed_ir.specs.Valuations.{within}
 use Rattle.typed_ir.specs.Touches.{has_bit}
 use Rattle.typed_ir.proofs.Listed.{if_ok}

@@ -1,6 +1,5 @@
-use Rattle.std.proofs.Common.{List, ◌||◌, ◌<◌, refl}
-use Rattle.typed_ir.specs.declared.span.Span.{Span}
-use Rattle.typed_ir.specs.Valuations.{Places, within, any_within}
+use Rattle.std.proofs.Common.{◌||◌, refl}
+use Rattle.typed_ir.specs.Valuations.{within, any_within}
 use Rattle.block_rules.specs.Tables.{bits_of}
 use Rattle.block_rules.proofs.Leading.{leads_none, learn_next, learn_done}
 use Rattle.block_rules.proofs.learning.learn_spans.Goals as goal

@@ -1,5 +1,5 @@
 use Rattle.std.proofs.Common.{◌≡◌, ◌++◌, ◌∙◌, map, ap, ap₂, sym, append_assoc}
-use Rattle.typed_ir.specs.Stmts.{SizedStmt, targets, arm_targets}
+use Rattle.typed_ir.specs.Stmts.{targets, arm_targets}
 use Rattle.typed_ir.specs.Statements.{stmt_of, arm_of, arms_before}
 use Rattle.typed_ir.proofs.Listed.{if_ok, if_is}
 use Rattle.block_rules.proofs.Listing.{spans_next, arm_spans_next, arm_spans_done}

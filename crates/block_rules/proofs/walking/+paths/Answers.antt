@@ -1,11 +1,11 @@
-use Rattle.std.proofs.Common.{◌≡◌, ◌++◌, ◌||◌, ◌&&◌, ◌<◌, ◌∙◌, ◌+◌, map, drop, ap, ap₂, refl, sym, subst}
+use Rattle.std.proofs.Common.{◌≡◌, ◌++◌, ◌||◌, ◌&&◌, ◌<◌, ◌∙◌, ◌+◌, map, drop, ap, ap₂, sym, subst}
 use Rattle.typed_ir.specs.Stmts.{Assign, Later, If, Case, certain, known_after, known_after_arms}
 use Rattle.typed_ir.specs.Forms.{sized}
 use Rattle.typed_ir.specs.Targets.{targets_of}
 use Rattle.typed_ir.specs.Statements.{stmt_of, arm_of, item_of, sequence_of, arms_before}
 use Rattle.typed_ir.proofs.Listed.{if_ok, if_is}
 use Rattle.block_rules.specs.Paths.{item_leaves, flags_of, reads_early, arms_early}
-use Rattle.block_rules.specs.Tables.{bits_of, Leads, common_of}
+use Rattle.block_rules.specs.Tables.{size, bits_of, Leads, common_of}
 use Rattle.typed_ir.specs.Touches.{touched}
 use Rattle.block_rules.proofs.Knowing.{known_arms_keep}
 use Rattle.block_rules.proofs.Leading.{then_leads}
@@ -158,9 +158,11 @@ walk_arms-loop-arm-preserved t c =
     let k0 = c.args.known.now in
     let k1 = c.loop-arm.known in
     let same = c.loop-arm.invariant.1 in
-    let all = arms_before (map arm_of arms) otherwise in (
-      c.in_ok-branch.ensures.size ∙ c.loop-arm.invariant.0,
-      c.in_ok-branch.ensures.known ∙ same,
+    let all = arms_before (map arm_of arms) otherwise in
+    let long : size c.branch-alloc.new.known ≡ size k0 = c.in_ok-branch.ensures.size ∙ c.loop-arm.invariant.0 in
+    let bits : bits_of c.branch-alloc.new.known ≡ bits_of k0 = c.in_ok-branch.ensures.known ∙ same in (
+      long,
+      bits,
       arm_so arms otherwise k x k0 k1 c.in_ok-branch.field-0.items (common_of c.loop-arm.common)
           (λ s i. bits_of k0 s i || known_after_arms all (bits_of k0) s i) c.loop-arm-test.true c.arm-item.is c.loop-arm.invariant.0 same
           c.in_ok-branch.ensures.common c.loop-arm.invariant.2,

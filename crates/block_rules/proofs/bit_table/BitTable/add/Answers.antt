@@ -1,4 +1,4 @@
-use Rattle.std.proofs.Common.{◌≡◌, ◌<◌, ◌&&◌, ◌||◌, ◌==◌, ◌∙◌, nat_lt, length, arith, rules, subst, set, sym}
+use Rattle.std.proofs.Common.{◌≡◌, ◌<◌, ◌&&◌, ◌||◌, ◌==◌, nat_lt, length, rules, subst, set}
 use Rattle.std.specs.Prelude.{bit_or}
 use Rattle.typed_ir.specs.Touches.{has_bit}
 use Rattle.block_rules.proofs.Masks.{bit_of, more_bits, read_at}

@@ -1,4 +1,4 @@
-use Rattle.std.proofs.Common.{◌≡◌, ◌<◌, ◌&&◌, ◌==◌, ◌∙◌, not, length, rules, subst, set}
+use Rattle.std.proofs.Common.{◌≡◌, ◌<◌, ◌&&◌, ◌==◌, not, length, rules, subst, set}
 use Rattle.std.specs.Prelude.{bit_and, bit_xor}
 use Rattle.typed_ir.specs.Touches.{has_bit}
 use Rattle.block_rules.proofs.Masks.{bit_of, less_bits, read_at}
