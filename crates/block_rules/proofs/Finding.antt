@@ -1,0 +1,230 @@
+-- Masks that have a bit that others lack, and the flag of a read.
+use Rattle.std.proofs.Common.{◌≡◌, ℕ, zero, suc, ◌+◌, ◌^◌, ◌<◌, ◌≤◌, Bool, true, false, ◌||◌, ◌&&◌, not, ◌==◌, nat_le, nat_lt, List, [], ◌∷◌, ◌++◌, length, get_or, drop, refl, sym, ◌∙◌, ap, ap₂, arith, true≢false, append_assoc}
+use Rattle.std.specs.Prelude.{bit_and, slice_index}
+use Rattle.std.specs.Int.{bit_at}
+use Rattle.std.proofs.Math.Bool.{or-false, or_assoc, and-false}
+use Rattle.std.proofs.lemmas.Bool.{eqb-true, eq-eqb, ne_eqb}
+use Rattle.std.proofs.lemmas.List.{append-nil, at_drop_all}
+use Rattle.std.proofs.lemmas.Nat.{and_le_l}
+use Rattle.std.proofs.lemmas.Nat.Bits.{bit_at-lt, same_from_bits_below}
+use Rattle.typed_ir.specs.declared.span.Span.{Span}
+use Rattle.typed_ir.specs.declared.touch.Touch.{Touch}
+use Rattle.typed_ir.specs.Valuations.{Places, within}
+use Rattle.typed_ir.specs.Touches.{has_bit, touched, Adds}
+use Rattle.typed_ir.proofs.Cases.{by_cases}
+use Rattle.typed_ir.proofs.Lists.{drop_read}
+use Rattle.typed_ir.proofs.Masks.{adds_one}
+use Rattle.block_rules.specs.declared.bit_table.BitTable.{BitTable}
+use Rattle.block_rules.specs.Paths.{some_below, early, true_from, is_member, is_open}
+use Rattle.block_rules.specs.Tables.{bits_of, is_named}
+use Rattle.block_rules.proofs.Masks.{has_both, no_bit, low_bit}
+use Rattle.block_rules.proofs.Knowing.{some_same}
+use Rattle.block_rules.proofs.Whole.{none_below}
+
+-- ---- one mask against another
+
+pub some_at : (n : ℕ) (test : ℕ → Bool) → some_below n test ≡ true → (i : ℕ) × (i < n) × (test i ≡ true)
+unfolding some_below
+some_at zero test h = absurd (true≢false (sym h))
+some_at (suc n) test h = by_cases (test n)
+    (λ yes. (n, omega arith, yes))
+    (λ out. let f : (i : ℕ) × (i < n) × (test i ≡ true) = some_at n test (sym (ap (λ b. b || some_below n test) out) ∙ h) in
+    let less : f.0 < n = f.1 in
+    (f.0, omega (arith, less), f.2))
+
+bit_same : (a b : ℕ) → a < 2 → b < 2 → (a == 1) ≡ (b == 1) → a ≡ b
+bit_same zero zero h k e = refl
+bit_same zero (suc zero) h k e = absurd (true≢false (sym e))
+bit_same (suc zero) zero h k e = absurd (true≢false e)
+bit_same (suc zero) (suc zero) h k e = refl
+bit_same (suc (suc a)) b h k e = absurd (omega (arith, h))
+bit_same zero (suc (suc b)) h k e = absurd (omega (arith, k))
+bit_same (suc zero) (suc (suc b)) h k e = absurd (omega (arith, k))
+
+kept_bit : (m k : Bool) → (m && not k) ≡ false → (m && k) ≡ m
+kept_bit true true h = refl
+kept_bit true false h = absurd (true≢false h)
+kept_bit false k h = refl
+
+lost_bit : (m k : Bool) → (m && not k) ≡ true → (m && k) ≡ m → ⊥
+lost_bit true true h e = true≢false (sym h)
+lost_bit true false h e = true≢false (sym e)
+lost_bit false k h e = true≢false (sym h)
+
+pub open_bits : (m k : ℕ) → m < 2 ^ 128 → not (bit_and m k == m) ≡ some_below 128 (λ i. has_bit m i && not (has_bit k i))
+open_bits m k small =
+    let test : ℕ → Bool = λ i. has_bit m i && not (has_bit k i) in
+    by_cases (some_below 128 test)
+    (λ yes. let f : (i : ℕ) × (i < 128) × (test i ≡ true) = some_at 128 test yes in
+    ap not (ne_eqb (bit_and m k) m (λ e. lost_bit (has_bit m f.0) (has_bit k f.0) f.2 (sym (has_both m k f.0) ∙ ap (λ n. has_bit n f.0) e)))
+    ∙ sym yes)
+    (λ out. let below : bit_and m k ≤ m = and_le_l m k in
+    ap not (eq-eqb (bit_and m k) m
+    (same_from_bits_below 128 (bit_and m k) m (omega (arith, below, small)) small
+    (λ i less. bit_same (bit_at (bit_and m k) i) (bit_at m i) (bit_at-lt (bit_and m k) i) (bit_at-lt m i)
+    (has_both m k i ∙ kept_bit (has_bit m i) (has_bit k i) (none_below 128 i test out less)))))
+    ∙ sym out)
+
+-- ---- the flag of a read
+
+regrouped : (e a b c : Bool) → e ≡ true → ((a && b) && c) ≡ ((e && a) && (b && c))
+regrouped true true b c h = refl
+regrouped true false b c h = refl
+regrouped false a b c h = absurd (true≢false (sym h))
+
+pub early_is : (p : Span) (written known : BitTable) (run w k : ℕ)
+    → ((i : ℕ) → i < 128 → has_bit run i ≡ (nat_le p.low i && nat_lt i (p.low + p.width)))
+    → w ≡ slice_index written.masks.items p.signal → k ≡ slice_index known.masks.items p.signal
+    → some_below 128 (λ i. has_bit (bit_and run w) i && not (has_bit k i)) ≡ early (bits_of written) p (bits_of known)
+early_is p written known run w k is_run is_w is_k =
+    some_same 128 (λ i. has_bit (bit_and run w) i && not (has_bit k i))
+    (λ i. within p p.signal i && (bits_of written p.signal i && not (bits_of known p.signal i)))
+    (λ i small.
+    ap (λ b. b && not (has_bit k i)) (has_both run w i ∙ ap₂ (λ a b. a && b) (is_run i small) (ap (λ n. has_bit n i) is_w ∙ sym (low_bit written.masks.items p.signal i small)))
+    ∙ ap (λ b. ((nat_le p.low i && nat_lt i (p.low + p.width)) && bits_of written p.signal i) && not b)
+    (ap (λ n. has_bit n i) is_k ∙ sym (low_bit known.masks.items p.signal i small))
+    ∙ regrouped (p.signal == p.signal) (nat_le p.low i && nat_lt i (p.low + p.width)) (bits_of written p.signal i) (not (bits_of known p.signal i))
+    (eq-eqb p.signal p.signal refl))
+
+-- a signal's masks against each other
+pub open_is : (written known : BitTable) (signal w k : ℕ) → w ≡ slice_index written.masks.items signal → k ≡ slice_index known.masks.items signal
+    → some_below 128 (λ i. has_bit w i && not (has_bit k i)) ≡ is_open (bits_of written) (bits_of known) signal
+open_is written known signal w k is_w is_k =
+    some_same 128 (λ i. has_bit w i && not (has_bit k i)) (λ i. bits_of written signal i && not (bits_of known signal i))
+    (λ i small. ap₂ (λ a b. a && not b) (ap (λ n. has_bit n i) is_w ∙ sym (low_bit written.masks.items signal i small))
+    (ap (λ n. has_bit n i) is_k ∙ sym (low_bit known.masks.items signal i small)))
+
+-- ---- places of flags
+
+pub true_next : (flags : List Bool) (k : ℕ) (x : Bool) (mid new whole : List ℕ) → k < length flags → x ≡ get_or flags k x
+    → new ≡ mid ++ true_from k (x ∷ []) → mid ++ true_from k (drop k flags) ≡ whole → new ++ true_from (k + 1) (drop (k + 1) flags) ≡ whole
+true_next flags k x mid new whole less is more left =
+    let rest = drop (k + 1) flags in
+    let next : suc k ≡ k + 1 = omega arith in
+    ap (λ xs. xs ++ true_from (k + 1) rest) more
+    ∙ append_assoc mid (true_from k (x ∷ [])) (true_from (k + 1) rest)
+    ∙ ap (λ n. mid ++ (true_from k (x ∷ []) ++ true_from n rest)) (sym next)
+    ∙ ap (λ xs. mid ++ xs) (one_first k x rest)
+    ∙ ap (λ fs. mid ++ true_from k fs) (sym (drop_read flags k x less is))
+    ∙ left
+  where
+    one_first : (k : ℕ) (x : Bool) (rest : List Bool) → (true_from k (x ∷ []) ++ true_from (suc k) rest) ≡ true_from k (x ∷ rest)
+    one_first k true rest = refl
+    one_first k false rest = refl
+
+pub true_done : (flags : List Bool) (k : ℕ) (mid whole : List ℕ) → length flags ≤ k → mid ++ true_from k (drop k flags) ≡ whole → mid ≡ whole
+true_done flags k mid whole past left =
+    sym (at_drop_all (λ (fs : List Bool). mid ++ true_from k fs) flags k past ∙ append-nil mid) ∙ left
+
+-- ---- what masks share with a table
+
+shared_bit : (both m : ℕ) (table : BitTable) (signal mask s i : ℕ) → both ≡ bit_and mask m → m ≡ slice_index table.masks.items signal → i < 128
+    → ((s == signal) && has_bit both i) ≡ (((s == signal) && has_bit mask i) && bits_of table s i)
+shared_bit both m table signal mask s i is_both is_m small = by_cases (s == signal)
+    (λ yes. let e : s ≡ signal = eqb-true s signal yes in
+    ap (λ b. b && has_bit both i) yes ∙ ap (λ n. has_bit n i) is_both ∙ has_both mask m i
+    ∙ ap (λ b. has_bit mask i && b) (ap (λ n. has_bit n i) (is_m ∙ ap (slice_index table.masks.items) (sym e)) ∙ sym (low_bit table.masks.items s i small))
+    ∙ sym (ap (λ b. (b && has_bit mask i) && bits_of table s i) yes))
+    (λ out. ap (λ b. b && has_bit both i) out ∙ sym (ap (λ b. (b && has_bit mask i) && bits_of table s i) out))
+
+pub none_shared : (kept : List Touch) (both m : ℕ) (table : BitTable) (signal mask : ℕ) → both ≡ 0 → both ≡ bit_and mask m → m ≡ slice_index table.masks.items signal
+    → Adds kept kept (λ s i. ((s == signal) && has_bit mask i) && bits_of table s i)
+none_shared kept both m table signal mask is_none is_both is_m = record {
+  says = λ s i small.
+      sym (or-false (touched kept s i))
+      ∙ ap (λ b. touched kept s i || b)
+      (sym (sym (shared_bit both m table signal mask s i is_both is_m small) ∙ ap (λ n. (s == signal) && has_bit n i) is_none
+      ∙ ap (λ b. (s == signal) && b) (no_bit i) ∙ and-false (s == signal)));
+}
+
+pub one_shared : (kept : List Touch) (both m : ℕ) (table : BitTable) (signal mask : ℕ) → both ≡ bit_and mask m → m ≡ slice_index table.masks.items signal
+    → Adds kept (kept ++ record { signal = signal; mask = both } ∷ []) (λ s i. ((s == signal) && has_bit mask i) && bits_of table s i)
+one_shared kept both m table signal mask is_both is_m =
+    adds_one kept (record { signal = signal; mask = both }) (λ s i. ((s == signal) && has_bit mask i) && bits_of table s i)
+    (λ s i small. shared_bit both m table signal mask s i is_both is_m small)
+
+one_and_rest : (k t r b : Bool) → ((k || (t && b)) || (r && b)) ≡ (k || ((t || r) && b))
+one_and_rest true t r b = refl
+one_and_rest false true r true = refl
+one_and_rest false true true false = refl
+one_and_rest false true false false = refl
+one_and_rest false false r b = refl
+
+pub shared_next : (touches : List Touch) (k : ℕ) (x : Touch) (table : BitTable) (mid new : List Touch) (s i : ℕ) → k < length touches → x ≡ get_or touches k x
+    → i < 128 → Adds mid new (λ s i. ((s == x.signal) && has_bit x.mask i) && bits_of table s i)
+    → (touched new s i || (touched (drop (k + 1) touches) s i && bits_of table s i)) ≡ (touched mid s i || (touched (drop k touches) s i && bits_of table s i))
+shared_next touches k x table mid new s i less is small adds =
+    let rest = touched (drop (k + 1) touches) s i in
+    ap (λ b. b || (rest && bits_of table s i)) (adds.says s i small)
+    ∙ one_and_rest (touched mid s i) ((s == x.signal) && has_bit x.mask i) rest (bits_of table s i)
+    ∙ ap (λ ts. touched mid s i || (touched ts s i && bits_of table s i)) (sym (drop_read touches k x less is))
+
+-- ---- bits that are taken out
+
+but_either : (k t r : Bool) → ((k && not t) && not r) ≡ (k && not (t || r))
+but_either true true r = refl
+but_either true false r = refl
+but_either false t r = refl
+
+pub forget_next : (touches : List Touch) (k : ℕ) (x : Touch) (mid new : BitTable) (s i : ℕ) → k < length touches → x ≡ get_or touches k x
+    → bits_of new s i ≡ (bits_of mid s i && not ((s == x.signal) && has_bit x.mask i))
+    → (bits_of new s i && not (touched (drop (k + 1) touches) s i)) ≡ (bits_of mid s i && not (touched (drop k touches) s i))
+forget_next touches k x mid new s i less is took =
+    let rest = touched (drop (k + 1) touches) s i in
+    ap (λ b. b && not rest) took
+    ∙ but_either (bits_of mid s i) ((s == x.signal) && has_bit x.mask i) rest
+    ∙ ap (λ ts. bits_of mid s i && not (touched ts s i)) (sym (drop_read touches k x less is))
+
+pub forget_done : (touches : List Touch) (k : ℕ) (table : BitTable) (whole : Bool) (s i : ℕ) → length touches ≤ k
+    → (bits_of table s i && not (touched (drop k touches) s i)) ≡ whole → bits_of table s i ≡ whole
+forget_done touches k table whole s i h left =
+    sym (all_of (bits_of table s i)) ∙ sym (at_drop_all (λ (ts : List Touch). bits_of table s i && not (touched ts s i)) touches k h) ∙ left
+  where
+    all_of : (b : Bool) → (b && not false) ≡ b
+    all_of true = refl
+    all_of false = refl
+
+-- ---- signals that are found
+
+pub found_push : (s signal : ℕ) (xs : List ℕ) → is_member s (xs ++ signal ∷ []) ≡ (is_member s xs || (s == signal))
+found_push s signal [] = or-false (s == signal)
+found_push s signal (x ∷ xs) = ap (λ b. (s == x) || b) (found_push s signal xs) ∙ sym (or_assoc (s == x) (is_member s xs) (s == signal))
+
+same_signal : (s signal : ℕ) (w k : Places) → ((s == signal) && is_open w k signal) ≡ ((s == signal) && is_open w k s)
+same_signal s signal w k = by_cases (s == signal)
+    (λ yes. ap (λ n. (s == signal) && is_open w k n) (sym (eqb-true s signal yes)))
+    (λ out. ap (λ b. b && is_open w k signal) out ∙ sym (ap (λ b. b && is_open w k s) out))
+
+-- a signal that has such a bit joins
+pub found_open : (old : List ℕ) (signal : ℕ) (w k : Places) (s : ℕ) → is_open w k signal ≡ true
+    → is_member s (old ++ signal ∷ []) ≡ (is_member s old || ((s == signal) && is_open w k s))
+found_open old signal w k s has =
+    found_push s signal old
+    ∙ ap (λ b. is_member s old || b) (sym (ap (λ b. (s == signal) && b) has ∙ all_of (s == signal)) ∙ same_signal s signal w k)
+  where
+    all_of : (b : Bool) → (b && true) ≡ b
+    all_of true = refl
+    all_of false = refl
+
+-- and one that has none doesn't
+pub found_none : (old : List ℕ) (signal : ℕ) (w k : Places) (s : ℕ) → is_open w k signal ≡ false
+    → is_member s old ≡ (is_member s old || ((s == signal) && is_open w k s))
+found_none old signal w k s out =
+    sym (or-false (is_member s old))
+    ∙ ap (λ b. is_member s old || b) (sym (and-false (s == signal)) ∙ sym (ap (λ b. (s == signal) && b) out) ∙ same_signal s signal w k)
+
+of_both : (f n r o : Bool) → ((f || (n && o)) || (r && o)) ≡ (f || ((n || r) && o))
+of_both true n r o = refl
+of_both false true r true = refl
+of_both false true true false = refl
+of_both false true false false = refl
+of_both false false r o = refl
+
+pub found_next : (touches : List Touch) (k : ℕ) (x : Touch) (w n : Places) (mid new : List ℕ) (s : ℕ) → k < length touches → x ≡ get_or touches k x
+    → is_member s new ≡ (is_member s mid || ((s == x.signal) && is_open w n s))
+    → (is_member s new || (is_named (drop (k + 1) touches) s && is_open w n s)) ≡ (is_member s mid || (is_named (drop k touches) s && is_open w n s))
+found_next touches k x w n mid new s less is more =
+    let rest = is_named (drop (k + 1) touches) s in
+    ap (λ b. b || (rest && is_open w n s)) more
+    ∙ of_both (is_member s mid) (s == x.signal) rest (is_open w n s)
+    ∙ ap (λ ts. is_member s mid || (is_named ts s && is_open w n s)) (sym (drop_read touches k x less is))

@@ -1,0 +1,7 @@
+mod Masks
+mod Knowing
+mod Whole
+mod Leading
+mod Finding
+mod Listing
+mod Called

@@ -1,0 +1,109 @@
+// A combinational block to the reads that come before it has written what they read, and the signals with a latch.
+ghost use Rattle.std.specs.Prelude.{◌++◌, ◌∷◌, [], ◌≡◌, ◌&&◌, ◌||◌, ◌==◌, ℕ, IfOk};
+ghost use Rattle.typed_ir.specs.Statements.{stmt_of};
+ghost use Rattle.block_rules.specs.Paths.{flags_of_block, places_of_true, true_from, is_member, is_open, unwritten, AreHere};
+ghost use Rattle.block_rules.specs.Tables.{bits_of, is_named, signals_of, AreBlank};
+
+use crate::bit_table::BitTable;
+use crate::learning::{forget, learn_spans};
+use crate::path_tables::PathTables;
+use crate::reading::is_open;
+use crate::targets::targets_in;
+use crate::walking::walk;
+use no_memory::NoMemory;
+use std::alloc::Global;
+use typed_ir::{SignalId, Stmt, Touch};
+
+/// What is wrong with a combinational block.
+#[derive(Debug, Drop)]
+pub struct Paths {
+    /// The numbers of the reads of bits that the block writes and that aren't written on every path to the read, rising; a block's reads
+    /// are numbered from 0 in the order of its text.
+    pub early: Vec<usize>,
+    /// The signals of which the block doesn't write each bit on every path that it writes at all.
+    pub unwritten: Vec<SignalId>,
+}
+
+// Adds a place where its flag is true.
+fn add_true(flag: bool, place: usize, places: &mut Vec<usize>) -> Result<(), NoMemory>
+    ensures { IfOk result (λ _. places.new.items ≡ places.old.items ++ true_from place (flag ∷ [])) }
+{
+    if flag {
+        places.push(place)?;
+    }
+    Ok(())
+}
+
+// The places of the flags that are true.
+fn true_places(alloc: Global, flags: &[bool]) -> Result<Vec<usize>, NoMemory>
+    ensures { IfOk result (λ places. places.items ≡ places_of_true flags.now) }
+{
+    let mut places = Vec::new(alloc);
+    for place in 0..flags.len() {
+        add_true(flags[place], place, &mut places)?;
+    }
+    Ok(places)
+}
+
+// Adds a signal where it has a bit that is written and not known.
+fn add_open(
+    signal: SignalId,
+    written: &BitTable,
+    known: &BitTable,
+    found: &mut Vec<SignalId>,
+) -> Result<(), NoMemory>
+    ensures { IfOk result (λ _. (s : ℕ) → is_member s found.new.items
+        ≡ (is_member s found.old.items || ((s == signal) && is_open (bits_of written.now) (bits_of known.now) s))) }
+{
+    if is_open(written.mask(signal), known.mask(signal)) {
+        found.push(signal)?;
+    }
+    Ok(())
+}
+
+// The signals of masks that have such a bit.
+fn open_signals(
+    alloc: Global,
+    touches: &[Touch],
+    written: &BitTable,
+    known: &BitTable,
+) -> Result<Vec<SignalId>, NoMemory>
+    ensures { IfOk result (λ found. (s : ℕ) → is_member s found.items
+        ≡ (is_named touches.now s && is_open (bits_of written.now) (bits_of known.now) s)) }
+{
+    let mut found = Vec::new(alloc);
+    for touch in touches {
+        add_open(touch.signal, written, known, &mut found)?;
+    }
+    Ok(found)
+}
+
+/// What is wrong with a combinational block, whose targets are signals of the tables. It takes time by the length of the block and the
+/// nesting of its branches alone. Want of memory is `NoMemory`; the tables may then have any bits and are not to be used again.
+pub fn paths_of(alloc: Global, tables: &mut PathTables, body: &Stmt) -> Result<Paths, NoMemory>
+    requires blank { AreBlank tables.old }
+    requires here { AreHere (signals_of tables.old) (stmt_of body.now) }
+    ensures early { IfOk result (λ paths. paths.early.items ≡ places_of_true (flags_of_block (stmt_of body.now))) }
+    ensures unwritten { IfOk result (λ paths. (s : ℕ) → is_member s paths.unwritten.items ≡ unwritten (stmt_of body.now) s) }
+    ensures signals { IfOk result (λ _. signals_of tables.new ≡ signals_of tables.old) }
+    ensures blank { IfOk result (λ _. AreBlank tables.new) }
+{
+    let spans = targets_in(alloc, body)?;
+    let mut touches = Vec::new(alloc);
+    learn_spans(&spans, &mut tables.written, &mut touches)?;
+    let mut flags = Vec::new(alloc);
+    let mut learned = Vec::new(alloc);
+    walk(
+        alloc,
+        body,
+        &tables.written,
+        &mut tables.known,
+        &mut flags,
+        &mut learned,
+    )?;
+    let unwritten = open_signals(alloc, &touches, &tables.written, &tables.known)?;
+    let early = true_places(alloc, &flags)?;
+    forget(&touches, &mut tables.written);
+    forget(&learned, &mut tables.known);
+    Ok(Paths { early, unwritten })
+}
