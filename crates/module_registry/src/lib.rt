@@ -5,6 +5,7 @@ mod build_job;
 mod constant_names;
 mod digests;
 mod ensured;
+mod ensuring;
 mod forge;
 mod holding;
 mod key;
