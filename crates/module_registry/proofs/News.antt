@@ -36,10 +36,11 @@ neither a b p q = ap (λ (c : Bool). cond c true b) p ∙ q
 -- one key more behind those that these keys are apart from
 apart_more : (done : List KeyData) (k : KeyData) (ks : List KeyData) → AreApart done ks → AllByRecursion (λ y. same k y ≡ false) ks → AreApart (done ++ k ∷ []) ks
 apart_more done k [] apart others = tt
-apart_more done k (y ∷ ys) apart others =
-    ( among_both y done (k ∷ [])
-    ∙ neither (is_among y done) (cond (same y k) true false) apart.0 (ap (λ (b : Bool). cond b true false) (same_laws.symm y k ∙ others.0)),
-      apart_more done k ys apart.1 others.1)
+apart_more done k (y ∷ ys) apart others = (
+  among_both y done (k ∷ [])
+      ∙ neither (is_among y done) (cond (same y k) true false) apart.0 (ap (λ (b : Bool). cond b true false) (same_laws.symm y k ∙ others.0)),
+  apart_more done k ys apart.1 others.1,
+)
 
 -- whether the first key is held or not, the missing keys are new where the rest of them are
 first_or_not : (held done : List KeyData) (k : KeyData) (ms : List KeyData) (b : Bool) → is_among k held ≡ b → is_among k done ≡ false → are_new (held ++ done) ms ≡ true → are_new (held ++ (done ++ k ∷ [])) ms ≡ true
@@ -122,3 +123,31 @@ gone old whole now ks (u ∷ us) none going = absurd (omega (arith, none))
 -- where the keys end
 pub all_gone : (old whole now : List Entry) (us : List Built) → IsGoing old whole now [] us → now ≡ whole
 all_gone old whole now us going = sym (append-nil now) ∙ going.joined
+
+-- ---- a copy
+
+-- the copy so far, and what is left to copy
+pub record IsCopying (whole now left : List Entry) : Type 0 where
+  pub joined : now ++ left ≡ whole
+  pub new : are_new (keys_of now) (keys_of left) ≡ true
+
+none_missing : (ks : List KeyData) → missing [] ks ≡ ks
+none_missing [] = refl
+none_missing (k ∷ ks) = ap (λ (ms : List KeyData). k ∷ ms) (none_missing ks)
+
+pub copying_first : (whole now : List Entry) → now ≡ [] → IsDistinct same (keys_of whole) → IsCopying whole now whole
+copying_first whole now empty distinct =
+    subst (λ (es : List Entry). IsCopying whole es whole) (sym empty) (record {
+      joined = refl;
+      new = ap (λ (ks : List KeyData). are_new [] ks) (sym (none_missing (keys_of whole))) ∙ missing_new [] (keys_of whole) distinct;
+    })
+
+pub copying_on : (whole now next left : List Entry) (e : Entry) → IsCopying whole now (e ∷ left) → next ≡ now ++ e ∷ [] → IsCopying whole next left
+copying_on whole now next left e copying is =
+    subst (λ (es : List Entry). IsCopying whole es left) (sym is) (record {
+      joined = append_assoc now (e ∷ []) left ∙ copying.joined;
+      new = ap (λ (hs : List KeyData). are_new hs (keys_of left)) (keys_more now e) ∙ rest_new (keys_of now) e.key (keys_of left) copying.new;
+    })
+
+pub copied : (whole now left : List Entry) → left ≡ [] → IsCopying whole now left → now ≡ whole
+copied whole now left none copying = sym (append-nil now) ∙ sym (ap (λ (es : List Entry). now ++ es) none) ∙ copying.joined

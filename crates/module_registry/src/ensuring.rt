@@ -1,9 +1,9 @@
 // Units for keys: those that are held, and those that are made.
-ghost use Rattle.std.specs.Prelude.{◌≡◌, ◌++◌, ◌∷◌, ◌+◌, ◌≤◌, [], true, false, map, take, length, Ok, IfOk, IfErr, OnOk, OnErr};
+ghost use Rattle.std.specs.Prelude.{◌≡◌, ◌++◌, ◌+◌, map, length, Ok, IfOk, IfErr, OnOk, OnErr};
 ghost use Rattle.std.specs.List.{IsDistinct};
 ghost use Rattle.module_registry.specs.Building.{Refuses};
 ghost use Rattle.module_registry.specs.Keys.{same, jobs_of};
-ghost use Rattle.module_registry.specs.Entries.{keys_of, is_among, if_missing, missing, are_new, entries, ensured, MadeAt, Holds};
+ghost use Rattle.module_registry.specs.Entries.{keys_of, if_missing, missing, ensured, MadeAt, Holds};
 ghost use Rattle.module_registry.specs.UnitViews.{built_of, shared_unit};
 ghost use Rattle.module_registry.specs.Views.{entries_of};
 
@@ -11,7 +11,6 @@ use crate::ensured::Ensured;
 use crate::forge::Forge;
 use crate::key::Key;
 use crate::registry::Registry;
-use indexmap::IndexMap;
 use ls_text::{NoMemory, Refusal};
 use std::alloc::Global;
 use std::sync::Arc;
@@ -61,49 +60,6 @@ impl Registry {
             self.add_missing(&mut missing, key)?;
         }
         Ok(missing)
-    }
-
-    // One unit more, behind the others. Want of memory is `NoMemory`: then the units stay.
-    fn add(&mut self, key: &Key, unit: &Arc<Unit, Global>) -> Result<(), NoMemory>
-        requires { is_among key.now (keys_of (entries_of self.old)) ≡ false }
-        ensures more { OnOk result (entries_of self.new ≡ entries_of self.old ++ record { key = key.now; unit = shared_unit unit.now } ∷ []) }
-        ensures same { OnErr result (entries_of self.new ≡ entries_of self.old) }
-    {
-        self.units.insert(key.clone()?, unit.clone()?)?;
-        Ok(())
-    }
-
-    // Units of these keys more, behind the others; at want of memory, some of them.
-    fn add_all(&mut self, keys: &[Key], units: &[Arc<Unit, Global>]) -> Result<(), NoMemory>
-        requires { are_new (keys_of (entries_of self.old)) keys.now ≡ true }
-        ensures more { OnOk result (entries_of self.new ≡ entries_of self.old ++ entries keys.now (map shared_unit units.now)) }
-        ensures begins { take (length (entries_of self.old)) (entries_of self.new) ≡ entries_of self.old }
-    {
-        let mut rest = units;
-        for key in keys {
-            let Some((unit, behind)) = rest.split_first() else {
-                return Ok(());
-            };
-            self.add(key, unit)?;
-            rest = behind;
-        }
-        Ok(())
-    }
-
-    // Units of these keys more, behind the others. Want of memory is `NoMemory`: then the units stay.
-    fn add_or_cut(&mut self, keys: &[Key], units: &[Arc<Unit, Global>]) -> Result<(), NoMemory>
-        requires { are_new (keys_of (entries_of self.old)) keys.now ≡ true }
-        ensures more { OnOk result (entries_of self.new ≡ entries_of self.old ++ entries keys.now (map shared_unit units.now)) }
-        ensures same { OnErr result (entries_of self.new ≡ entries_of self.old) }
-    {
-        let len = self.len();
-        match self.add_all(keys, units) {
-            Ok(()) => Ok(()),
-            Err(refused) => {
-                self.cut(len);
-                Err(refused)
-            }
-        }
     }
 
     /// Makes the units of those of these distinct keys that aren't held, in their order, and holds them behind the others.

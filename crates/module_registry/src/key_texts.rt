@@ -52,11 +52,7 @@ fn push_shape(text: &mut Vec<u8>, width: u8, signed: bool) -> Result<(), NoMemor
 }
 
 // A name, or `-` where there is none.
-fn push_clock(
-    text: &mut Vec<u8>,
-    names: &Names,
-    clock: Option<NameId>,
-) -> Result<(), NoMemory>
+fn push_clock(text: &mut Vec<u8>, names: &Names, clock: Option<NameId>) -> Result<(), NoMemory>
     ensures { OnOk result (text.new.items ≡ text.old.items ++ clock_text names.now clock) }
 {
     text.extend_from_slice(match clock {
@@ -105,11 +101,7 @@ fn push_parameters(
 }
 
 // `clock NAME`, or `clock -`
-fn push_clock_line(
-    text: &mut Vec<u8>,
-    names: &Names,
-    clock: Option<NameId>,
-) -> Result<(), NoMemory>
+fn push_clock_line(text: &mut Vec<u8>, names: &Names, clock: Option<NameId>) -> Result<(), NoMemory>
     ensures { OnOk result (text.new.items ≡ text.old.items ++ clock_line names.now clock) }
 {
     text.extend_from_slice(b"clock ")?;
@@ -150,11 +142,7 @@ fn push_child(text: &mut Vec<u8>, names: &Names, child: &ChildShape) -> Result<(
     push_ports(text, names, child.ports.as_slice())
 }
 
-fn push_children(
-    text: &mut Vec<u8>,
-    names: &Names,
-    children: &[ChildShape],
-) -> Result<(), NoMemory>
+fn push_children(text: &mut Vec<u8>, names: &Names, children: &[ChildShape]) -> Result<(), NoMemory>
     ensures { OnOk result (text.new.items ≡ text.old.items ++ flat_map (child_lines names.now) children.now) }
 {
     for child in children {

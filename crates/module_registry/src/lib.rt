@@ -1,6 +1,7 @@
 // What is built for each module as it is used, kept by the text of what it was built from.
 #![tactic(auto)]
 
+mod adding;
 mod build_job;
 mod constant_names;
 mod digests;
