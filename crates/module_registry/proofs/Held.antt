@@ -71,6 +71,16 @@ held k (e ∷ es) =
     some_chosen (same k e.0) e.1 (lookup (same k) es)
     ∙ ap (λ (b : Bool). cond (same k e.0) true b) (held k es)
 
+some_shared : (o : Option Shared) (r : Option (Bor Shared)) → option_copied r ≡ o → is_some r ≡ is_some o
+some_shared o None is = ap is_some is
+some_shared o (Some b) is = ap is_some is
+
+pub found_held : (k : KeyData) (es : Stored) (r : Option (Bor Shared)) (kept : Bor Shared) → r ≡ Some kept → option_copied r ≡ lookup (same k) es → true ≡ is_among k (keys_of (map entry_of es))
+found_held k es r kept is value = sym (ap is_some is) ∙ some_shared (lookup (same k) es) r value ∙ held k es
+
+pub not_held : (k : KeyData) (es : Stored) (r : Option (Bor Shared)) → r ≡ None → option_copied r ≡ lookup (same k) es → false ≡ is_among k (keys_of (map entry_of es))
+not_held k es r is value = sym (ap is_some is) ∙ some_shared (lookup (same k) es) r value ∙ held k es
+
 -- ---- cutting
 
 pub cut_entries : (n : ℕ) (es new : Stored) → new ≡ take n es → map entry_of new ≡ take n (map entry_of es)

@@ -26,7 +26,7 @@ either : (a b c : Bool) → cond a true (cond b true c) ≡ cond (cond a true b)
 either true b c = refl
 either false b c = refl
 
-among_both : (k : KeyData) (hs gs : List KeyData) → is_among k (hs ++ gs) ≡ cond (is_among k hs) true (is_among k gs)
+pub among_both : (k : KeyData) (hs gs : List KeyData) → is_among k (hs ++ gs) ≡ cond (is_among k hs) true (is_among k gs)
 among_both k [] gs = refl
 among_both k (h ∷ hs) gs = ap (λ (b : Bool). cond (same k h) true b) (among_both k hs gs) ∙ either (same k h) (is_among k hs) (is_among k gs)
 

@@ -1,9 +1,9 @@
 // Units for keys: those that are held, and those that are made.
-ghost use Rattle.std.specs.Prelude.{◌≡◌, ◌++◌, ◌+◌, map, length, Ok, IfOk, IfErr, OnOk, OnErr};
-ghost use Rattle.std.specs.List.{IsDistinct};
+ghost use Rattle.std.specs.Prelude.{◌≡◌, ◌++◌, ◌+◌, true, map, length, Ok, IfOk, IfErr, OnOk, OnErr};
+ghost use Rattle.std.specs.List.{IsDistinct, All};
 ghost use Rattle.module_registry.specs.Building.{Refuses};
 ghost use Rattle.module_registry.specs.Keys.{same, jobs_of};
-ghost use Rattle.module_registry.specs.Entries.{keys_of, if_missing, missing, ensured, MadeAt, Holds};
+ghost use Rattle.module_registry.specs.Entries.{keys_of, is_among, if_missing, missing, ensured, MadeAt, Holds};
 ghost use Rattle.module_registry.specs.UnitViews.{built_of, shared_unit};
 ghost use Rattle.module_registry.specs.Views.{entries_of};
 
@@ -81,6 +81,7 @@ impl Registry {
         ensures made_at { IfErr result (λ e. MadeAt e (F.made forge.old) (jobs_of (missing (keys_of (entries_of self.old)) keys.now)) (F.made forge.new)) }
         ensures built { IfOk result (λ n. n.built ≡ length (missing (keys_of (entries_of self.old)) keys.now)) }
         ensures kept { IfOk result (λ n. n.kept + n.built ≡ length keys.now) }
+        ensures all { OnOk result (All (λ k. is_among k (keys_of (entries_of self.new)) ≡ true) keys.now) }
         ensures holds { Holds F.builds (entries_of self.old) → Holds F.builds (entries_of self.new) }
     {
         let asked = count(keys)?;

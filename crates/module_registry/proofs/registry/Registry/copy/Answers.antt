@@ -9,4 +9,4 @@ loop-key-init c =
     let held = entries_of c.args.self.now in
     let begun = map entry_of c.reserve.new.self.entries in
     subst (λ (es : Stored). IsCopying held begun (map entry_of es)) (sym c.into_iter-key-iterator.ensures.into_iter_gives.0)
-    (copying_first held begun (ap (λ (es : Stored). map entry_of es) c.reserve.ensures.entries ∙ c.new-copy.ensures) (once c.args.self.now.units.entries c.len.ensures.unique))
+    (copying_first held begun (ap (λ (es : Stored). map entry_of es) c.reserve.ensures.entries ∙ c.new-copy.ensures.empty) (once c.args.self.now.units.entries c.len.ensures.unique))

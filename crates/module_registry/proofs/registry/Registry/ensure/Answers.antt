@@ -5,7 +5,7 @@ use Rattle.module_registry.specs.Entries.{Entry, keys_of, are_new, missing, entr
 use Rattle.module_registry.specs.UnitViews.{shared_unit}
 use Rattle.module_registry.specs.Views.{entries_of}
 use Rattle.module_registry.proofs.News.{missing_new}
-use Rattle.module_registry.proofs.Making.{made_within, more_hold}
+use Rattle.module_registry.proofs.Making.{made_within, all_held, more_hold}
 use Rattle.module_registry.proofs.registry.Registry.ensure.Goals as goal
 
 pub add_or_cut-requires : goal.add_or_cut-requires
@@ -32,4 +32,10 @@ pub returns-clause-holds : goal.returns-clause-holds
 returns-clause-holds g c =
     more_hold g.F.Forge.builds (entries_of c.args.self.now) (entries_of c.add_or_cut.new.self) c.deref.result.now c.deref-2.result.now _ (map shared_unit c.deref-3.result.now)
     c.in_ok-units.ensures.units (c.deref-2.ensures.value ∙ sym c.deref.ensures.value)
+    (ap (map shared_unit) c.deref-3.ensures.value ∙ c.in_ok-units-2.ensures) c.in_ok-add_or_cut.ensures.more
+
+pub returns-clause-all : goal.returns-clause-all
+returns-clause-all g c =
+    all_held g.F.Forge.builds (entries_of c.args.self.now) (entries_of c.add_or_cut.new.self) c.args.keys.now c.deref.result.now c.deref-2.result.now _ (map shared_unit c.deref-3.result.now)
+    c.in_ok-units.ensures.units (c.deref.ensures.value ∙ c.in_ok-missing.ensures) (c.deref-2.ensures.value ∙ sym c.deref.ensures.value)
     (ap (map shared_unit) c.deref-3.ensures.value ∙ c.in_ok-units-2.ensures) c.in_ok-add_or_cut.ensures.more
