@@ -1,0 +1,9 @@
+pub mod Constants
+pub mod KeyTexts
+pub mod Jobs
+pub mod Keys
+pub mod KeyLaws
+pub mod Building
+pub mod Entries
+pub mod UnitViews
+pub mod Views
