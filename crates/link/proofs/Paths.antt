@@ -56,6 +56,7 @@ walked : (paths : List (List ℕ)) (parent : Option ℕ) (index : ℕ) (path : L
     → length paths ≡ index → path_above paths parent ≡ path → IsThere index parent
     → final ≡ paths_from paths (map row_of (listed parent index tree) ++ rest)
     → Walked paths parent index path tree rest final
+unfolding IsThere
 walked paths parent index path Nothing rest final long above there is = record {
   behind = paths;
   left = is;

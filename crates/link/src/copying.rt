@@ -25,17 +25,22 @@ fn behind(first: u32, signal: SignalId) -> Result<SignalId, NoMemory>
     }
 }
 
+fn copied_span(span: Span, first: u32) -> Result<Span, NoMemory>
+    ensures { IfOk result (λ p. p ≡ shifted_span first span) }
+{
+    Ok(Span {
+        signal: behind(first, span.signal)?,
+        low: span.low,
+        width: span.width,
+    })
+}
+
 fn copied_lane(lane: Lane, first: u32) -> Result<Lane, NoMemory>
     ensures { IfOk result (λ l. l ≡ shifted_lane first lane) }
 {
-    let signal = behind(first, lane.span.signal)?;
     Ok(Lane {
         shift: lane.shift,
-        span: Span {
-            signal,
-            low: lane.span.low,
-            width: lane.span.width,
-        },
+        span: copied_span(lane.span, first)?,
     })
 }
 
