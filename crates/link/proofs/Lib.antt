@@ -6,3 +6,5 @@ pub mod Copied
 pub mod Reaching
 pub mod Sound
 pub mod Walking
+pub mod Forests
+pub mod Making

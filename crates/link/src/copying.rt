@@ -1,7 +1,7 @@
 // What a unit gives, by its own numbers, to what it gives where an instance stands.
-ghost use Rattle.std.specs.Prelude.{◌≡◌, ◌++◌, ◌+◌, IfOk, List, ℕ, map, slice_index};
+ghost use Rattle.std.specs.Prelude.{◌≡◌, ◌++◌, ◌+◌, ◌<◌, IfOk, List, ℕ, map, slice_index};
 ghost use Rattle.typed_ir.specs.declared.instance_name.InstanceName.{InstanceName};
-ghost use Rattle.typed_ir.specs.Flats.{signal_of};
+ghost use Rattle.typed_ir.specs.Flats.{signal_of, are_within};
 ghost use Rattle.typed_ir.specs.FlatNodes.{node_of};
 ghost use Rattle.typed_ir.specs.Statements.{stmt_of};
 ghost use Rattle.unit_ir.specs.Shifts.{shifted_span, shifted_lane, shifted_stmt};
@@ -158,7 +158,8 @@ pub fn add_registers(
 }
 
 fn copied_signal(x: UnitSignal, instance: InstanceId) -> Signal
-    ensures { (rows : List InstanceName) → signal_of rows result ≡ signal_there (path_at rows instance) (signal_within x) }
+    ensures signal { (rows : List InstanceName) → signal_of rows result ≡ signal_there (path_at rows instance) (signal_within x) }
+    ensures there { result.instance ≡ instance }
 {
     Signal {
         in_module: x.in_module,
@@ -177,11 +178,13 @@ pub fn add_signals(
     instance: InstanceId,
     signals: &mut Vec<Signal>,
 ) -> Result<(), NoMemory>
-    ensures { IfOk result (λ _. (rows : List InstanceName) → map (signal_of rows) signals.new.items
+    ensures signals { IfOk result (λ _. (rows : List InstanceName) → map (signal_of rows) signals.new.items
         ≡ map (signal_of rows) signals.old.items ++ map (signal_there (path_at rows instance)) (map signal_within own.now)) }
+    ensures there { IfOk result (λ _. (count : ℕ) → instance < count → are_within signals.new.items count ≡ are_within signals.old.items count) }
 {
     for x in own {
-        signals.push(copied_signal(*x, instance))?;
+        let copy = copied_signal(*x, instance);
+        signals.push(copy)?;
     }
     Ok(())
 }

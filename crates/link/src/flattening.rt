@@ -1,7 +1,7 @@
 // The units of a tree of instances to the flat design of all.
-ghost use Rattle.std.specs.Prelude.{◌≡◌, ◌≤◌, ◌<◌, ◌^◌, IfOk, List, ℕ, map, length, nat_le};
+ghost use Rattle.std.specs.Prelude.{◌≡◌, true, IfOk, List, ℕ, map, length, nat_le};
 ghost use Rattle.typed_ir.specs.declared.instance_name.InstanceName.{InstanceName};
-ghost use Rattle.typed_ir.specs.Flats.{signal_of};
+ghost use Rattle.typed_ir.specs.Flats.{signal_of, are_within};
 ghost use Rattle.typed_ir.specs.FlatNodes.{node_of};
 ghost use Rattle.typed_ir.specs.Linkeds.{flat};
 ghost use Rattle.typed_ir.specs.Statements.{stmt_of};
@@ -51,6 +51,7 @@ fn copies_of(
 ) -> Result<Copies, NoMemory>
     ensures signals { IfOk result (λ c. (rows : List InstanceName) → map (signal_of rows) c.signals.items
         ≡ copied_from signals_at (path_at rows) (row_in kids.now) 0 0 (all_sized (all_parts units.now))) }
+    ensures there { IfOk result (λ c. are_within c.signals.items (length units.now) ≡ true) }
     ensures registers { IfOk result (λ c. (path : ℕ → List ℕ) → c.registers.items
         ≡ copied_from registers_at path (row_in kids.now) 0 0 (all_sized (all_parts units.now))) }
     ensures nodes { IfOk result (λ c. (path : ℕ → List ℕ) → map node_of c.nodes.items

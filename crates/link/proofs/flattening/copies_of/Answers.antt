@@ -1,4 +1,4 @@
-use Rattle.std.proofs.Common.{◌≡◌, ◌+◌, ◌++◌, ℕ, List, map, length, slice_index, sym, ◌∙◌, ap}
+use Rattle.std.proofs.Common.{◌≡◌, ◌+◌, ◌++◌, ℕ, List, map, length, slice_index, ◌<◌, sym, ◌∙◌, ap, arith}
 use Rattle.typed_ir.specs.declared.instance_name.InstanceName.{InstanceName}
 use Rattle.typed_ir.specs.declared.signal.Signal.{Signal}
 use Rattle.typed_ir.specs.declared.stmt.Stmt.{Stmt}
@@ -32,10 +32,11 @@ loop-i-preserved c =
     record {
       signals_left = λ rows. unit_stepped signals_at (path_at rows) kids units i first next x (map (signal_of rows) c.loop-i.signals.items) (map (signal_of rows) c.add_signals.new.signals.items) _
           c.loop-i-test.true c.index-units-i.is next_is
-          (c.in_ok-add_signals.ensures rows
+          (c.in_ok-add_signals.ensures.signals rows
           ∙ ap (λ (k : ℕ). map (signal_of rows) c.loop-i.signals.items ++ map (signal_there (path_at rows k)) (map signal_within c.deref-in-loop-i.result.now)) c.in_ok-instance.ensures
           ∙ ap (λ (zs : List UnitSignal). map (signal_of rows) c.loop-i.signals.items ++ map (signal_there (path_at rows i)) (map signal_within zs)) signals)
           (c.loop-i.invariant.signals_left rows);
+      there = c.in_ok-add_signals.ensures.there (length units) (omega (arith, c.in_ok-instance.ensures, c.loop-i-test.true)) ∙ c.loop-i.invariant.there;
       registers_left = λ path. unit_stepped registers_at path kids units i first next x c.loop-i.registers.items c.add_registers.new.registers.items _
           c.loop-i-test.true c.index-units-i.is next_is
           (c.in_ok-add_registers.ensures ∙ ap (λ (zs : List ℕ). c.loop-i.registers.items ++ map (λ s. first + s) zs) registers)

@@ -1,6 +1,6 @@
-use Rattle.std.proofs.Common.{◌≡◌, ◌++◌, ℕ, List, map, drop}
+use Rattle.std.proofs.Common.{◌≡◌, ◌++◌, ℕ, true, List, map, length, drop}
 use Rattle.typed_ir.specs.declared.instance_name.InstanceName.{InstanceName}
-use Rattle.typed_ir.specs.Flats.{signal_of}
+use Rattle.typed_ir.specs.Flats.{signal_of, are_within}
 use Rattle.typed_ir.specs.FlatNodes.{node_of}
 use Rattle.typed_ir.specs.Statements.{stmt_of}
 use Rattle.unit_ir.specs.Trees.{signals_at, registers_at, nodes_at, blocks_at}
@@ -14,6 +14,7 @@ invariant-loop-i l = record {
   signals_left : (rows : List InstanceName) →
       map (signal_of rows) l.signals.items ++ copied_from signals_at (path_at rows) (row_in l.kids) l.i l.first (all_sized (all_parts (drop l.i l.units)))
       ≡ copied_from signals_at (path_at rows) (row_in l.kids) 0 0 (all_sized (all_parts l.units));
+  there : are_within l.signals.items (length l.units) ≡ true;
   registers_left : (path : ℕ → List ℕ) →
       l.registers.items ++ copied_from registers_at path (row_in l.kids) l.i l.first (all_sized (all_parts (drop l.i l.units)))
       ≡ copied_from registers_at path (row_in l.kids) 0 0 (all_sized (all_parts l.units));
