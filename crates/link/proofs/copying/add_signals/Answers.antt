@@ -13,14 +13,14 @@ loop-x-preserved c =
     let old = c.loop-x.signals.items in
     let new = c.push.new.self.items in
     let x = c.x-item.result in
-    let copy = c.copied_signal.result in
+    let copy = c.copied_signal-copy.result in
     record {
       left = λ rows.
           let F = λ (zs : List UnitSignal). map (signal_there (path_at rows c.args.instance)) (map signal_within zs) in
           let y = signal_there (path_at rows c.args.instance) (signal_within x) in
           stepped F F c.args.own.now c.loop-x.x-index x (y ∷ []) (map (signal_of rows) old) (map (signal_of rows) new) _
           c.loop-x-test.true c.x-item.is refl
-          (pushed (signal_of rows) old new copy y c.in_ok-push.ensures.items (c.copied_signal.ensures.signal rows)) (c.loop-x.invariant.left rows);
+          (pushed (signal_of rows) old new copy y c.in_ok-push.ensures.items (c.copied_signal-copy.ensures.signal rows)) (c.loop-x.invariant.left rows);
       there = λ count h. ap (λ zs. are_within zs count) c.in_ok-push.ensures.items
-          ∙ within_more old copy count (omega (arith, c.copied_signal.ensures.there, h)) ∙ c.loop-x.invariant.there count h;
+          ∙ within_more old copy count (omega (arith, c.copied_signal-copy.ensures.there, h)) ∙ c.loop-x.invariant.there count h;
     }
