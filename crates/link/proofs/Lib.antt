@@ -8,3 +8,4 @@ pub mod Sound
 pub mod Walking
 pub mod Forests
 pub mod Making
+pub mod First

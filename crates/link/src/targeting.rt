@@ -55,8 +55,9 @@ fn first_in_all(list: &[Stmt]) -> Option<Span>
     ensures { result ≡ first_of (targets (sequence_of (map stmt_of list.now))) }
 {
     for st in list {
-        if let Some(span) = first_in(st) {
-            return Some(span);
+        match first_in(st) {
+            Some(span) => return Some(span),
+            None => {}
         }
     }
     None
@@ -67,8 +68,9 @@ fn first_in_arms(arms: &[Arm], otherwise: &Stmt) -> Option<Span>
     ensures { result ≡ first_of (arm_targets (arms_before (map arm_of arms.now) (stmt_of otherwise.now))) }
 {
     for arm in arms {
-        if let Some(span) = first_in(&arm.body) {
-            return Some(span);
+        match first_in(&arm.body) {
+            Some(span) => return Some(span),
+            None => {}
         }
     }
     first_in(otherwise)
