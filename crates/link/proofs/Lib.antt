@@ -9,3 +9,4 @@ pub mod Walking
 pub mod Forests
 pub mod Making
 pub mod First
+pub mod Spelled

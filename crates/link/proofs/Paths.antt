@@ -15,20 +15,20 @@ HasPaths at path index Nothing = Unit {0}
 HasPaths at path index (One name u within after) =
     (at index ≡ path ++ name ∷ []) × HasPaths at (path ++ name ∷ []) (suc index) within × HasPaths at path (suc index + instances_in within) after
 
-record Longer (old new : List (List ℕ)) : Type 0 where
-  more : List (List ℕ)
-  begins : new ≡ old ++ more
+pub record Longer (old new : List (List ℕ)) : Type 0 where
+  pub more : List (List ℕ)
+  pub begins : new ≡ old ++ more
 
 longer_on : (a b c : List (List ℕ)) → Longer a b → Longer b c → Longer a c
 longer_on a b c g h = record { more = g.more ++ h.more; begins = h.begins ∙ ap (λ t. t ++ h.more) g.begins ∙ append_assoc a g.more h.more }
 
-paths_longer : (paths : List (List ℕ)) (rows : List InstanceName) → Longer paths (paths_from paths rows)
+pub paths_longer : (paths : List (List ℕ)) (rows : List InstanceName) → Longer paths (paths_from paths rows)
 paths_longer paths [] = record { more = []; begins = sym (append-nil paths) }
 paths_longer paths (x ∷ xs) =
     let one = path_next paths x.parent x.name.0 ∷ [] in
     longer_on paths (paths ++ one) (paths_from (paths ++ one) xs) (record { more = one; begins = refl }) (paths_longer (paths ++ one) xs)
 
-longer_keeps : (old new : List (List ℕ)) (k : ℕ) → Longer old new → k < length old → slice_index_or new k [] ≡ slice_index_or old k []
+pub longer_keeps : (old new : List (List ℕ)) (k : ℕ) → Longer old new → k < length old → slice_index_or new k [] ≡ slice_index_or old k []
 longer_keeps old new k g h = ap (λ t. slice_index_or t k []) g.begins ∙ get_or_append_left old g.more [] k h
 
 IsThere : ℕ → Option ℕ → Type 0

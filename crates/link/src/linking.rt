@@ -25,6 +25,7 @@ use unit_ir::{InstanceTree, Unit};
 pub const NODE_LIMIT: usize = 1_048_576;
 
 // The fault of a loop of these nodes.
+#[tactic(none)]
 fn loop_fault(
     alloc: Global,
     names: &mut Names,
@@ -46,6 +47,7 @@ fn loop_fault(
 }
 
 // The design with an order of its nodes, or the fault of their loop.
+#[tactic(none)]
 fn in_order(alloc: Global, names: &mut Names, design: Flat) -> Result<Linked, Refusal>
     ensures design { IfOk result (λ linked. linked.design ≡ design) }
     ensures exactly { MatchResult result (λ _. HasNoLoop (NodeBefore (flat design).nodes) (length (flat design).nodes))
@@ -63,6 +65,7 @@ fn in_order(alloc: Global, names: &mut Names, design: Flat) -> Result<Linked, Re
 }
 
 /// The same as `link`, with at most so many nodes.
+#[tactic(none)]
 pub fn link_within(
     alloc: Global,
     names: &mut Names,

@@ -4,33 +4,35 @@ ghost use Rattle.ls_text.specs.Texts.{Grows};
 ghost use Rattle.typed_ir.specs.FlatNodes.{node_of};
 ghost use Rattle.typed_ir.specs.Flats.{signal_of};
 ghost use Rattle.typed_ir.specs.Linkeds.{flat};
-ghost use Rattle.link.specs.Copies.{path_at};
+ghost use Rattle.typed_ir.specs.Paths.{path_above, paths_of};
 ghost use Rattle.link.specs.Names.{dotted, form_of, node_text, select_text, target_text, text_items, text_of};
 
 use crate::targeting::first_target;
 use ls_text::{NameId, Names, push_decimal};
 use no_memory::NoMemory;
 use std::alloc::Global;
-use typed_ir::{Flat, InstanceId, InstanceName, Node, NodeId, Span, TargetForm};
+use typed_ir::{Flat, InstanceId, InstanceName, Node, NodeId, Signal, Span, TargetForm};
 
-// The path of an instance, each of its names with a dot behind it.
+// The path of an instance, each of its names with a dot behind it; nothing above the top.
 fn push_path(
     out: &mut Vec<u8>,
     names: &Names,
     rows: &[InstanceName],
-    instance: InstanceId,
+    instance: Option<InstanceId>,
 ) -> Result<(), NoMemory>
-    ensures { OnOk result (out.new.items ≡ out.old.items ++ dotted names.now (path_at rows.now instance)) }
+    ensures { OnOk result (out.new.items ≡ out.old.items ++ dotted names.now (path_above (paths_of rows.now) instance)) }
 {
-    let at = instance.index();
+    let number = match instance {
+        None => return Ok(()),
+        Some(number) => number,
+    };
+    let at = number.index();
     if at >= rows.len() {
         return Ok(());
     }
     let (earlier, _) = rows.split_at(at);
     let this = rows[at];
-    if let Some(parent) = this.parent {
-        push_path(out, names, earlier, parent)?;
-    }
+    push_path(out, names, earlier, this.parent)?;
     out.extend_from_slice(names.text(this.name))?;
     out.push(b'.')?;
     Ok(())
@@ -66,27 +68,30 @@ fn push_select(
     }
 }
 
-// Bits of a signal of the design: its path, its name, and the bits.
+// Bits of a signal of a design: its path, its name, and the bits.
 fn push_target(
     out: &mut Vec<u8>,
     names: &Names,
-    design: &Flat,
+    rows: &[InstanceName],
+    signals: &[Signal],
     form: TargetForm,
     target: Option<Span>,
 ) -> Result<(), NoMemory>
-    ensures { OnOk result (out.new.items ≡ out.old.items ++ target_text names.now (flat design.now).signals form target) }
+    ensures { OnOk result (out.new.items ≡ out.old.items ++ target_text names.now (map (signal_of rows.now) signals.now) form target) }
 {
-    let Some(span) = target else {
-        return Ok(());
+    let span = match target {
+        None => return Ok(()),
+        Some(span) => span,
     };
     let at = span.signal.index();
-    if at >= design.signals.len() {
+    if at >= signals.len() {
         return Ok(());
     }
-    let x = design.signals[at];
-    push_path(out, names, &design.instances.rows, x.instance)?;
+    let x = signals[at];
+    push_path(out, names, rows, Some(x.instance))?;
     out.extend_from_slice(names.text(x.name))?;
-    push_select(out, form, x.lsb, span)
+    push_select(out, form, x.lsb, span)?;
+    Ok(())
 }
 
 fn form_of(node: &Node) -> TargetForm
@@ -97,8 +102,8 @@ fn form_of(node: &Node) -> TargetForm
     }
 }
 
-/// What a node is called.
-pub fn text_of_node(
+// What a node is called.
+fn text_of_node(
     alloc: Global,
     names: &Names,
     design: &Flat,
@@ -107,12 +112,20 @@ pub fn text_of_node(
     ensures { IfOk result (λ text. text.items ≡ node_text names.now (flat design.now) node) }
 {
     let mut text = Vec::new(alloc);
+    let nodes: &[Node] = &design.nodes;
     let at = node.index();
-    if at >= design.nodes.len() {
+    if at >= nodes.len() {
         return Ok(text);
     }
-    let node = &design.nodes[at];
-    push_target(&mut text, names, design, form_of(node), first_target(node))?;
+    let this = &nodes[at];
+    push_target(
+        &mut text,
+        names,
+        &design.instances.rows,
+        &design.signals,
+        form_of(this),
+        first_target(this),
+    )?;
     Ok(text)
 }
 
