@@ -10,3 +10,5 @@ pub mod Forests
 pub mod Making
 pub mod First
 pub mod Spelled
+pub mod Faulty
+pub mod Alone

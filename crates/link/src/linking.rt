@@ -25,7 +25,7 @@ use unit_ir::{InstanceTree, Unit};
 pub const NODE_LIMIT: usize = 1_048_576;
 
 // The fault of a loop of these nodes.
-#[tactic(none)]
+#[tactic(auto, using(crate::proofs::Faulty::grows_none))]
 fn loop_fault(
     alloc: Global,
     names: &mut Names,
@@ -47,7 +47,7 @@ fn loop_fault(
 }
 
 // The design with an order of its nodes, or the fault of their loop.
-#[tactic(none)]
+#[tactic(auto, using(crate::proofs::Faulty::grows_none, crate::proofs::Faulty::no_memory_left))]
 fn in_order(alloc: Global, names: &mut Names, design: Flat) -> Result<Linked, Refusal>
     ensures design { IfOk result (λ linked. linked.design ≡ design) }
     ensures exactly { MatchResult result (λ _. HasNoLoop (NodeBefore (flat design).nodes) (length (flat design).nodes))
@@ -57,15 +57,17 @@ fn in_order(alloc: Global, names: &mut Names, design: Flat) -> Result<Linked, Re
     match order(alloc, &design) {
         Ok(order) => Ok(Linked { design, order }),
         Err(OrderRefusal::Loop(circle)) => {
-            let fault = loop_fault(alloc, names, &design, circle.nodes())?;
-            Err(Refusal::Fault(fault))
+            match loop_fault(alloc, names, &design, circle.nodes()) {
+                Ok(fault) => Err(Refusal::Fault(fault)),
+                Err(_) => Err(Refusal::NoMemory),
+            }
         }
         Err(OrderRefusal::NoMemory) => Err(Refusal::NoMemory),
     }
 }
 
 /// The same as `link`, with at most so many nodes.
-#[tactic(none)]
+#[tactic(auto, using(crate::proofs::Faulty::grows_none, crate::proofs::Faulty::no_memory_left))]
 pub fn link_within(
     alloc: Global,
     names: &mut Names,
@@ -89,7 +91,10 @@ pub fn link_within(
             names: NameList::new(Vec::new(alloc)),
         }));
     }
-    let design = flattened(alloc, tree, units)?;
+    let design = match flattened(alloc, tree, units) {
+        Ok(design) => design,
+        Err(_) => return Err(Refusal::NoMemory),
+    };
     in_order(alloc, names, design)
 }
 
