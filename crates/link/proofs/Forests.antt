@@ -52,8 +52,8 @@ closed_headed p [] h = absurd (omega (arith, h))
 closed_headed p (q ∷ qs) h = by_cases (p == q)
     (λ yes. record { rest = qs; is = ap (λ b. cond b (q ∷ qs) (closed_to p qs)) yes ∙ ap (λ n. n ∷ qs) (sym (eqb-true p q yes)) })
     (λ no. let same : closed_to p (q ∷ qs) ≡ closed_to p qs = ap (λ b. cond b (q ∷ qs) (closed_to p qs)) no in
-      let inner = closed_headed p qs (subst (λ zs. 0 < length zs) same h) in
-      record { rest = inner.rest; is = same ∙ inner.is })
+    let inner = closed_headed p qs (subst (λ zs. 0 < length zs) same h) in
+    record { rest = inner.rest; is = same ∙ inner.is })
 
 -- one more instance, before what stands in it and what comes after it
 one_joined : (p k name : ℕ) (u : SizedUnit) (rest : List ℕ) (es : List Entry) (fs : List Instances)

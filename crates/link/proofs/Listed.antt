@@ -162,9 +162,11 @@ has_kids_in {A = A} give all parent index first (One name u within after) out sa
     let past : suc index ≤ i → suc index + instances_in within ≤ i = λ (g : suc index ≤ i). h in
     let there : index ≤ i = omega arith in
     cut i there (omega arith)
-    ∙ ap (λ zs. zs ++ kids_by give i third a) (kids_none give i second (Some index) (suc index) within (other i index (omega arith)) past)) in
-    (mine, has_kids_in give all (Some index) (suc index) second within out_within same_within,
-      has_kids_in give all parent next third after out_after same_after)
+    ∙ ap (λ zs. zs ++ kids_by give i third a) (kids_none give i second (Some index) (suc index) within (other i index (omega arith)) past)) in (
+      mine,
+      has_kids_in give all (Some index) (suc index) second within out_within same_within,
+      has_kids_in give all parent next third after out_after same_after,
+    )
 
 pub has_kids : {A : Type 0} (give : ℕ → Entry → A) (tree : Instances) → HasKids give (listed None 0 tree) 0 0 tree
 has_kids give tree = has_kids_in give (listed None 0 tree) None 0 0 tree (λ i h. refl) (λ i h k. refl)

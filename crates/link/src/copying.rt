@@ -66,12 +66,7 @@ fn first_of(kids: &[u32], child: ChildId) -> u32
     kids[index]
 }
 
-fn copied_node(
-    alloc: Global,
-    node: &UnitNode,
-    first: u32,
-    kids: &[u32],
-) -> Result<Node, NoMemory>
+fn copied_node(alloc: Global, node: &UnitNode, first: u32, kids: &[u32]) -> Result<Node, NoMemory>
     ensures { IfOk result (λ to. node_of to ≡ node_there first (slice_index kids.now) (unit_node_of node.now)) }
 {
     match node {

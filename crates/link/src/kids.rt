@@ -33,11 +33,7 @@ fn empty_rows(alloc: Global, count: usize) -> Result<Vec<Vec<u32>>, NoMemory>
 }
 
 // One more instance in the one that it stands in.
-fn note_kid(
-    rows: &mut [Vec<u32>],
-    parent: Option<InstanceId>,
-    first: u32,
-) -> Result<(), NoMemory>
+fn note_kid(rows: &mut [Vec<u32>], parent: Option<InstanceId>, first: u32) -> Result<(), NoMemory>
     ensures { IfOk result (λ _. (k : ℕ) → k < length rows.old
         → row_in rows.new k ≡ row_in rows.old k ++ (if stands_in k parent then first ∷ [] else [])) }
 {

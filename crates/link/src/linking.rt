@@ -81,7 +81,7 @@ pub fn link_within(
     ensures exactly { MatchResult result
         (λ _. (t : Instances) → IsTreeOf tree.now.instances.items (all_parts units.now) t → HasNoLinkFault most (flat_of_tree t))
         (λ refusal. (t : Instances) → IsTreeOf tree.now.instances.items (all_parts units.now) t
-            → IsLinkFault most names.old names.new (flat_of_tree t) refusal) }
+        → IsLinkFault most names.old names.new (flat_of_tree t) refusal) }
     ensures grows { Grows names.old names.new }
 {
     if !are_few(units, most) {
@@ -115,7 +115,7 @@ pub fn link(
     ensures exactly { MatchResult result
         (λ _. (t : Instances) → IsTreeOf tree.now.instances.items (all_parts units.now) t → HasNoLinkFault 1048576 (flat_of_tree t))
         (λ refusal. (t : Instances) → IsTreeOf tree.now.instances.items (all_parts units.now) t
-            → IsLinkFault 1048576 names.old names.new (flat_of_tree t) refusal) }
+        → IsLinkFault 1048576 names.old names.new (flat_of_tree t) refusal) }
     ensures grows { Grows names.old names.new }
 {
     link_within(alloc, names, NODE_LIMIT, tree, units)

@@ -39,12 +39,7 @@ fn push_path(
 }
 
 // Bits of a signal, counted with the lower bound of its range: `[3]` or `[7:0]`; nothing where the name alone is shown.
-fn push_select(
-    out: &mut Vec<u8>,
-    form: TargetForm,
-    lsb: u32,
-    span: Span,
-) -> Result<(), NoMemory>
+fn push_select(out: &mut Vec<u8>, form: TargetForm, lsb: u32, span: Span) -> Result<(), NoMemory>
     ensures { OnOk result (out.new.items ≡ out.old.items ++ select_text form lsb span) }
 {
     let low = u64::from(lsb) + u64::from(span.low);
@@ -147,11 +142,7 @@ pub fn texts_of(
 }
 
 /// The names of these texts, which the table has afterwards.
-pub fn named(
-    alloc: Global,
-    names: &mut Names,
-    texts: &[Vec<u8>],
-) -> Result<Vec<NameId>, NoMemory>
+pub fn named(alloc: Global, names: &mut Names, texts: &[Vec<u8>]) -> Result<Vec<NameId>, NoMemory>
     ensures texts { IfOk result (λ ids. map (text_of names.new) ids.items ≡ map text_items texts.now) }
     ensures within { IfOk result (λ ids. All (λ id. id.0 < length names.new) ids.items) }
     ensures grows { Grows names.old names.new }

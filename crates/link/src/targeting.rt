@@ -45,7 +45,9 @@ fn first_in(st: &Stmt) -> Option<Span>
             None => first_in(alternative),
         },
         Stmt::Case {
-            arms, otherwise, ..
+            arms,
+            otherwise,
+            ..
         } => first_in_arms(arms, otherwise),
     }
 }
