@@ -1,6 +1,6 @@
 -- A table of instances is that of one tree alone.
-use Rattle.std.proofs.Common.{◌≡◌, ℕ, suc, ◌+◌, ◌<◌, ◌≤◌, List, [], ◌∷◌, ◌++◌, length, get_or, drop, Option, Some, None, is_some, true≢false, append_assoc, append-nil, refl, sym, ◌∙◌, ap, ap₂, subst, arith}
-use Rattle.unit_ir.specs.Trees.{SizedUnit, Instances, Nothing, One}
+use Rattle.std.proofs.Common.{◌≡◌, ℕ, suc, ◌+◌, ◌≤◌, List, [], ◌∷◌, ◌++◌, length, get_or, drop, Option, Some, None, is_some, true≢false, append_assoc, append-nil, refl, sym, ◌∙◌, ap, ap₂, arith}
+use Rattle.unit_ir.specs.Trees.{Instances, Nothing, One}
 use Rattle.link.specs.Listings.{Entry, instances_in, listed}
 
 number : Option ℕ → ℕ

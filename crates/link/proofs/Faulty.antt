@@ -1,5 +1,5 @@
 -- Faults, from what the calls below say.
-use Rattle.std.proofs.Common.{◌≡◌, ℕ, ◌<◌, ◌≤◌, true, false, nat_le, List, [], ◌∷◌, ◌++◌, map, length, All, Result, Ok, Err, MatchResult, IfOk, inl, inr, ◌⊎◌, true≢false, append-nil, refl, sym, ◌∙◌, ap, subst, leb-true, le-leb, arith}
+use Rattle.std.proofs.Common.{◌≡◌, ℕ, ◌<◌, ◌≤◌, true, false, nat_le, List, [], map, length, All, Result, Ok, Err, MatchResult, IfOk, inl, inr, ◌⊎◌, true≢false, append-nil, sym, ◌∙◌, ap, subst, leb-true, le-leb}
 use Rattle.std.proofs.lemmas.Bool.{cases_lt}
 use Rattle.ls_text.specs.declared.at.At.TheVariants.{Edit}
 use Rattle.ls_text.specs.declared.fault.Fault.{Fault as Fault'}

@@ -1,5 +1,5 @@
 -- The first target of statements and arms, one by one.
-use Rattle.std.proofs.Common.{◌≡◌, ℕ, ◌+◌, ◌<◌, ◌≤◌, List, [], ◌∷◌, ◌++◌, map, length, get_or, drop, Option, Some, None, is_some, true≢false, refl, sym, ◌∙◌, ap}
+use Rattle.std.proofs.Common.{◌≡◌, ℕ, ◌+◌, ◌<◌, ◌≤◌, List, [], ◌∷◌, ◌++◌, map, length, get_or, drop, Some, None, is_some, true≢false, refl, sym, ◌∙◌, ap}
 use Rattle.std.proofs.lemmas.List.{at_drop_all}
 use Rattle.typed_ir.specs.declared.arm.Arm.{Arm as Arm'}
 use Rattle.typed_ir.specs.declared.span.Span.{Span}

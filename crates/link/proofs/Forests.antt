@@ -1,5 +1,5 @@
 -- A table of instances that is depth first is that of a tree.
-use Rattle.std.proofs.Common.{◌≡◌, ℕ, suc, ◌+◌, ◌<◌, Bool, true, false, ◌&&◌, ◌==◌, nat_lt, List, [], ◌∷◌, ◌++◌, map, length, cond, Option, Some, None, append_assoc, true≢false, refl, sym, ◌∙◌, ap, ap₂, subst, ltb-true, lt-ltb, eqb-true, arith}
+use Rattle.std.proofs.Common.{◌≡◌, ℕ, suc, ◌+◌, ◌<◌, true, ◌&&◌, ◌==◌, nat_lt, List, [], ◌∷◌, ◌++◌, map, length, cond, Option, Some, None, append_assoc, true≢false, refl, sym, ◌∙◌, ap, subst, ltb-true, lt-ltb, eqb-true, arith}
 use Rattle.std.proofs.lemmas.Bool.{and_from}
 use Rattle.typed_ir.specs.declared.instance_name.InstanceName.{InstanceName}
 use Rattle.typed_ir.specs.Orders.{Each}
@@ -11,7 +11,7 @@ use Rattle.unit_ir.specs.Instances.{parent_of, closed_to, goes_down, is_depth_fi
 use Rattle.unit_ir.specs.Trees.{SizedUnit, Instances, Nothing, One}
 use Rattle.unit_ir.specs.Units.{sized_unit}
 use Rattle.link.specs.Copies.{places_of}
-use Rattle.link.specs.Listings.{Entry, instances_in, listed, entry_of, entries_of, IsTreeOf}
+use Rattle.link.specs.Listings.{Entry, instances_in, listed, entries_of, IsTreeOf}
 
 -- ---- forests, one for each instance that is open, the innermost first
 

@@ -1,8 +1,7 @@
 -- What all units give where they stand makes the flat design of their tree, and such a design keeps what it has to.
-use Rattle.std.proofs.Common.{◌≡◌, ℕ, suc, ◌+◌, ◌-◌, ◌<◌, ◌≤◌, ◌^◌, Bool, true, false, ◌&&◌, nat_lt, nat_le, List, [], ◌∷◌, ◌++◌, map, length, slice_index, Option, Some, None, Global, Vec, refl, sym, ◌∙◌, ap, ap₂, subst, lt-ltb, leb-true, arith}
+use Rattle.std.proofs.Common.{◌≡◌, ℕ, suc, ◌-◌, ◌<◌, ◌^◌, true, ◌&&◌, nat_lt, nat_le, List, [], ◌∷◌, ◌++◌, map, length, None, Global, Vec, refl, sym, ◌∙◌, ap, subst, lt-ltb, leb-true, arith}
 use Rattle.std.specs.declared.sync.Arc.{Arc}
 use Rattle.std.proofs.Math.Logic.{∥∥₁_elim, ∥∥₁_prop}
-use Rattle.std.proofs.Props.{props}
 use Rattle.std.proofs.lemmas.Bool.{and_from}
 use Rattle.std.proofs.lemmas.List.{length-map}
 use Rattle.typed_ir.specs.declared.instance_name.InstanceName.{InstanceName}
@@ -14,7 +13,6 @@ use Rattle.typed_ir.specs.FlatNodes.{node_of}
 use Rattle.typed_ir.specs.Flats.{signal_of, signal_widths, flat_from, are_clocked, are_below, are_within, IsFlat}
 use Rattle.typed_ir.specs.Nodes.{FlatNode, are_legal}
 use Rattle.typed_ir.specs.Orders.{Each}
-use Rattle.typed_ir.specs.Paths.{paths_from}
 use Rattle.typed_ir.specs.Statements.{stmt_of}
 use Rattle.typed_ir.specs.Stmts.{SizedStmt, is_legal, is_clocked}
 use Rattle.unit_ir.specs.declared.instance.Instance.{Instance}
@@ -22,11 +20,11 @@ use Rattle.unit_ir.specs.declared.unit.Unit.{Unit as Unit'}
 use Rattle.unit_ir.specs.declared.unit_parts.UnitParts.{UnitParts}
 use Rattle.unit_ir.specs.Instances.{parent_of, is_depth_first}
 use Rattle.unit_ir.specs.Shapes.{AreOf}
-use Rattle.unit_ir.specs.Trees.{SizedUnit, Instances, Nothing, One, is_legal_block, flat_of_tree, top_inputs, copied_out, signals_at, registers_at, nodes_at, blocks_at}
+use Rattle.unit_ir.specs.Trees.{Instances, Nothing, One, is_legal_block, flat_of_tree, top_inputs, copied_out, signals_at, registers_at, nodes_at, blocks_at}
 use Rattle.unit_ir.proofs.Linking.{flat_sound}
 use Rattle.unit_ir.proofs.Widths.{flat_legal, flat_clocked, flat_registers, flat_inputs}
 use Rattle.link.specs.Copies.{all_sized, copied_from, first_inputs, kids_in, nodes_in, path_at, places_of, row_in}
-use Rattle.link.specs.Listings.{Entry, entries_of, listed, instances_in, IsTreeOf, all_parts}
+use Rattle.link.specs.Listings.{Entry, entries_of, instances_in, IsTreeOf, all_parts}
 use Rattle.link.proofs.Copied.{units_within, listed_long, copied_all, nodes_counted}
 use Rattle.link.proofs.Forests.{tree_of}
 use Rattle.link.proofs.Paths.{HasPaths, has_paths, row_of}

@@ -1,5 +1,5 @@
 -- The paths of the instances of a tree, by their table.
-use Rattle.std.proofs.Common.{◌≡◌, ℕ, suc, ◌+◌, ◌<◌, List, [], ◌∷◌, ◌++◌, map, length, Option, Some, None, append_assoc, append-nil, refl, sym, ◌∙◌, ap, ap₂, subst, arith}
+use Rattle.std.proofs.Common.{◌≡◌, ℕ, suc, ◌+◌, ◌<◌, List, [], ◌∷◌, ◌++◌, map, length, Option, Some, None, append_assoc, append-nil, refl, sym, ◌∙◌, ap, subst, arith}
 use Rattle.std.specs.Prelude.{slice_index_or}
 use Rattle.std.proofs.lemmas.List.{length-append, map-append, get_or_append_left, get_or-append-add}
 use Rattle.typed_ir.specs.declared.instance_name.InstanceName.{InstanceName}
@@ -90,7 +90,7 @@ walked paths parent index path (One name u within after) rest final long above t
       behind = later.behind;
       left = later.left;
       longer = longer_on paths third later.behind grown later.longer;
-      long = later.long ∙ omega arith;
+      long = omega (arith, later.long);
       has = (longer_keeps second final index whole inside ∙ mine, inner.has, later.has);
     }
 

@@ -1,5 +1,5 @@
 -- Widths of ports against those of a whole unit, and the inputs that connections go into.
-use Rattle.std.proofs.Common.{◌≡◌, ℕ, zero, suc, ◌+◌, ◌<◌, ◌≤◌, ◌==◌, Bool, true, false, ◌&&◌, ◌||◌, inl, inr, List, [], ◌∷◌, map, length, take, min, slice_index, cond, nat_le, nat_lt, Option, refl, sym, ◌∙◌, ap, subst, ltb-true, lt-ltb, eqb-true, true≢false, arith}
+use Rattle.std.proofs.Common.{◌≡◌, ℕ, zero, suc, ◌+◌, ◌<◌, ◌==◌, Bool, true, false, ◌&&◌, inl, inr, List, [], ◌∷◌, length, take, slice_index, cond, nat_le, nat_lt, Option, refl, sym, ◌∙◌, ap, subst, ltb-true, lt-ltb, eqb-true, true≢false, arith}
 use Rattle.std.proofs.Math.Nat.{min-le_left, min-le_right}
 use Rattle.std.proofs.lemmas.Bool.{and_from}
 use Rattle.std.proofs.lemmas.List.{length-take, get_or-take}

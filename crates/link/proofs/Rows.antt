@@ -1,5 +1,5 @@
 -- Lists of lists, by number.
-use Rattle.std.proofs.Common.{◌≡◌, ◌≢◌, ℕ, zero, suc, ◌<◌, ◌≤◌, false, List, [], ◌∷◌, ◌++◌, ◌==◌, length, get_or, set, cond, Vec, append-nil, refl, sym, ◌∙◌, ap, eqb-true, arith}
+use Rattle.std.proofs.Common.{◌≡◌, ◌≢◌, ℕ, zero, suc, ◌<◌, ◌≤◌, List, [], ◌∷◌, ◌++◌, ◌==◌, length, get_or, set, cond, Vec, append-nil, refl, sym, ◌∙◌, ap, eqb-true, arith}
 use Rattle.std.proofs.lemmas.Bool.{eqb-false}
 use Rattle.std.specs.Global.{Global}
 use Rattle.typed_ir.proofs.Cases.{by_cases}

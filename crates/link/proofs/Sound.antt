@@ -1,5 +1,5 @@
 -- Units that stand in a tree of instances are sound and legal there.
-use Rattle.std.proofs.Common.{◌≡◌, ℕ, zero, suc, ◌+◌, ◌<◌, ◌≤◌, ◌^◌, Bool, true, false, ◌&&◌, List, [], ◌∷◌, ◌++◌, map, length, slice_index, take, cond, Option, Some, None, Global, append_assoc, append-nil, refl, sym, ◌∙◌, ap, subst, true≢false, arith}
+use Rattle.std.proofs.Common.{◌≡◌, ℕ, zero, suc, ◌+◌, ◌<◌, ◌≤◌, Bool, true, false, List, [], ◌∷◌, ◌++◌, map, length, slice_index, take, cond, Option, Some, None, Global, append_assoc, append-nil, refl, sym, ◌∙◌, ap, subst, true≢false, arith}
 use Rattle.std.specs.declared.sync.Arc.{Arc}
 use Rattle.std.proofs.Math.Logic.{∥∥₁_elim, ∥∥₁_prop}
 use Rattle.std.proofs.lemmas.Bool.{and_from}
@@ -8,7 +8,7 @@ use Rattle.typed_ir.specs.declared.lane.Lane.{Lane}
 use Rattle.typed_ir.specs.declared.target_form.TargetForm.{TargetForm}
 use Rattle.typed_ir.specs.Cycles.{Signal}
 use Rattle.typed_ir.specs.Orders.{Each, Member, at_or}
-use Rattle.typed_ir.specs.Sized.{Sized, Constant}
+use Rattle.typed_ir.specs.Sized.{Constant}
 use Rattle.typed_ir.specs.Stmts.{is_sized}
 use Rattle.typed_ir.specs.Nodes.{Drive, node_drives, lane_spans, are_lanes, is_legal_node}
 use Rattle.typed_ir.specs.Valuations.{any_within}
@@ -16,12 +16,11 @@ use Rattle.typed_ir.proofs.Cases.{and_left, and_right}
 use Rattle.typed_ir.proofs.Mentions.{drives_small}
 use Rattle.unit_ir.specs.declared.child_shape.ChildShape.{ChildShape}
 use Rattle.unit_ir.specs.declared.instance.Instance.{Instance}
-use Rattle.unit_ir.specs.declared.port_shape.PortShape.{PortShape}
 use Rattle.unit_ir.specs.declared.unit.Unit.{Unit as Unit'}
 use Rattle.unit_ir.specs.declared.unit_parts.UnitParts.{UnitParts}
 use Rattle.unit_ir.specs.declared.unit_signal.UnitSignal.{UnitSignal}
 use Rattle.unit_ir.specs.OwnWidths.{IsSized, child_widths, port_widths}
-use Rattle.unit_ir.specs.Shapes.{AreOf, none, more, HasPorts, children_of, data_inputs, goes_into_input, are_inputs_of, shape_of, stands_in}
+use Rattle.unit_ir.specs.Shapes.{AreOf, none, more, HasPorts, children_of, goes_into_input, are_inputs_of, shape_of, stands_in}
 use Rattle.unit_ir.specs.Trees.{UnitNode, Own, Into, From, SizedUnit, Instances, Nothing, One, signals_in, IsUnit, IsFit, IsSoundUnit, IsLegalUnit, AreSound, AreLegal, unit_widths, kid_widths, is_kid_input, is_legal_unit_node}
 use Rattle.unit_ir.specs.Units.{sized_unit, signal_within}
 use Rattle.link.specs.Copies.{all_sized}

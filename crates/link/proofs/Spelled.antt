@@ -1,14 +1,14 @@
 -- Names of instances, signals and nodes, piece by piece.
-use Rattle.std.proofs.Common.{◌≡◌, ℕ, zero, suc, ◌+◌, ◌<◌, ◌≤◌, List, [], ◌∷◌, ◌++◌, map, length, get_or, take, drop, All, Option, Some, None, append_assoc, append-nil, refl, sym, ◌∙◌, ap, ap₂, subst, arith}
+use Rattle.std.proofs.Common.{◌≡◌, ℕ, zero, suc, ◌+◌, ◌<◌, ◌≤◌, List, [], ◌∷◌, ◌++◌, map, length, get_or, take, drop, All, append_assoc, refl, sym, ◌∙◌, ap, ap₂, subst, arith}
 use Rattle.std.specs.Prelude.{codes, slice_index_or}
-use Rattle.std.proofs.lemmas.List.{length-append, length-take-le, take-append-drop, get_or-append-add, get_or_append_left, map_push}
+use Rattle.std.proofs.lemmas.List.{length-append, length-take-le, take-append-drop, get_or-append-add, map_push}
 use Rattle.std.proofs.lemmas.List.Elements.{All-head, All-tail, All-push}
 use Rattle.ls_text.specs.declared.name_id.NameId.{NameId}
 use Rattle.ls_text.specs.Texts.{Grows, IsIdOf, text_at}
 use Rattle.ls_text.proofs.Growth.{grown_text, grown_id}
 use Rattle.typed_ir.specs.declared.instance_name.InstanceName.{InstanceName}
 use Rattle.typed_ir.specs.Orders.{at_or}
-use Rattle.typed_ir.specs.Paths.{path_above, path_next, paths_from, paths_of}
+use Rattle.typed_ir.specs.Paths.{path_next, paths_from, paths_of}
 use Rattle.typed_ir.proofs.Lists.{drop_read}
 use Rattle.link.specs.Copies.{path_at}
 use Rattle.link.specs.Names.{dotted, joined, text_of}

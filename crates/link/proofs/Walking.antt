@@ -1,5 +1,5 @@
 -- One unit more, in the loops over all units.
-use Rattle.std.proofs.Common.{◌≡◌, ℕ, suc, ◌+◌, ◌-◌, ◌<◌, ◌≤◌, true, false, nat_le, List, [], ◌∷◌, ◌++◌, map, length, get_or, drop, Global, true≢false, refl, sym, ◌∙◌, ap, ap₂, leb-true, le-leb, arith}
+use Rattle.std.proofs.Common.{◌≡◌, ℕ, suc, ◌+◌, ◌-◌, ◌<◌, ◌≤◌, false, nat_le, List, ◌++◌, map, length, get_or, drop, Global, true≢false, sym, ◌∙◌, ap, ap₂, leb-true, le-leb, arith}
 use Rattle.std.specs.declared.sync.Arc.{Arc}
 use Rattle.std.proofs.lemmas.List.{length-map}
 use Rattle.typed_ir.proofs.Cases.{by_cases}

@@ -1,5 +1,5 @@
 -- What a node is called: by its first target, with the path of its signal (IEEE Std 1364-2005, 12.4); how a select is shown is this project's own.
-use Rattle.std.specs.Prelude.{ℕ, zero, suc, ◌+◌, ◌-◌, codes, decimal, List, [], ◌∷◌, ◌++◌, map, Option, Some, None}
+use Rattle.std.specs.Prelude.{ℕ, ◌+◌, ◌-◌, codes, decimal, List, [], ◌∷◌, ◌++◌, Option, Some, None}
 use Rattle.std.specs.Global.{Global}
 use Rattle.std.specs.declared.vec.Vec.{Vec}
 use Rattle.ls_text.specs.declared.name_id.NameId.{NameId}

@@ -1,4 +1,4 @@
-use Rattle.std.proofs.Common.{◌<◌, List, ◌∷◌, [], map, refl, ◌∙◌, ap, arith}
+use Rattle.std.proofs.Common.{List, ◌∷◌, [], map, refl, ◌∙◌, ap, arith}
 use Rattle.typed_ir.specs.Flats.{signal_of, are_within}
 use Rattle.unit_ir.specs.declared.unit_signal.UnitSignal.{UnitSignal}
 use Rattle.unit_ir.specs.Trees.{signal_there}

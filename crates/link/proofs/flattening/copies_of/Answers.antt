@@ -1,6 +1,4 @@
-use Rattle.std.proofs.Common.{◌≡◌, ◌+◌, ◌++◌, ℕ, List, map, length, slice_index, ◌<◌, sym, ◌∙◌, ap, arith}
-use Rattle.typed_ir.specs.declared.instance_name.InstanceName.{InstanceName}
-use Rattle.typed_ir.specs.declared.signal.Signal.{Signal}
+use Rattle.std.proofs.Common.{◌≡◌, ◌+◌, ◌++◌, ℕ, List, map, length, slice_index, ◌∙◌, ap, arith}
 use Rattle.typed_ir.specs.declared.stmt.Stmt.{Stmt}
 use Rattle.typed_ir.specs.Flats.{signal_of}
 use Rattle.typed_ir.specs.FlatNodes.{node_of}

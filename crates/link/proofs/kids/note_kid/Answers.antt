@@ -1,4 +1,4 @@
-use Rattle.std.proofs.Common.{◌++◌, ◌∷◌, [], ◌≡◌, ℕ, Some, Option, cond, ap, sym, ◌∙◌}
+use Rattle.std.proofs.Common.{◌++◌, ◌∷◌, [], ℕ, Some, Option, cond, ap, sym, ◌∙◌}
 use Rattle.unit_ir.specs.Shapes.{stands_in}
 use Rattle.link.specs.Copies.{row_in}
 use Rattle.link.proofs.Rows.{row_pushed}

@@ -1,4 +1,4 @@
-use Rattle.std.proofs.Common.{◌≡◌, ◌++◌, ◌<◌, ◌≤◌, ℕ, List, Option, Some, [], ◌∷◌, length, take, append_assoc, append-nil, sym, ◌∙◌, ap, rules}
+use Rattle.std.proofs.Common.{◌≡◌, ◌++◌, ◌<◌, ◌≤◌, ℕ, List, Option, [], ◌∷◌, length, take, append_assoc, append-nil, sym, ◌∙◌, ap, rules}
 use Rattle.std.specs.Prelude.{codes}
 use Rattle.ls_text.specs.Texts.{text_at}
 use Rattle.typed_ir.specs.declared.instance_name.InstanceName.{InstanceName}

@@ -1,4 +1,4 @@
-use Rattle.std.proofs.Common.{◌≡◌, ◌∷◌, [], ℕ, List, Global, Vec, map, refl, subst}
+use Rattle.std.proofs.Common.{◌∷◌, [], ℕ, List, Global, Vec, map, refl, subst}
 use Rattle.ls_text.specs.Texts.{IsIdOf}
 use Rattle.ls_text.proofs.Growth.{grows_on}
 use Rattle.link.specs.Names.{text_items, text_of}

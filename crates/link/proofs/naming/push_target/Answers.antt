@@ -1,6 +1,5 @@
-use Rattle.std.proofs.Common.{◌≡◌, ◌++◌, ◌<◌, ◌≤◌, [], ◌∷◌, ℕ, List, Option, Some, None, map, length, append-nil, sym, ◌∙◌, ap, rules}
+use Rattle.std.proofs.Common.{◌≡◌, ◌++◌, ◌<◌, ◌≤◌, [], ◌∷◌, map, length, append-nil, sym, ◌∙◌, ap, rules}
 use Rattle.ls_text.specs.Texts.{text_at}
-use Rattle.typed_ir.specs.declared.span.Span.{Span}
 use Rattle.typed_ir.specs.Cycles.{Signal}
 use Rattle.typed_ir.specs.Flats.{signal_of}
 use Rattle.typed_ir.specs.Orders.{at_or}
