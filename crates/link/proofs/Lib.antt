@@ -1,0 +1,14 @@
+pub mod Listed
+pub mod Steps
+pub mod Rows
+pub mod Paths
+pub mod Copied
+pub mod Reaching
+pub mod Sound
+pub mod Walking
+pub mod Forests
+pub mod Making
+pub mod First
+pub mod Spelled
+pub mod Faulty
+pub mod Alone

@@ -1,0 +1,4 @@
+pub mod Listings
+pub mod Copies
+pub mod Names
+pub mod Faults

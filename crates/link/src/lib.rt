@@ -1,0 +1,18 @@
+// The units of a tree of instances to the one flat design that they make, in order; or the fault: too many nodes, or a loop of them.
+//
+// `kids` finds the first signals of the instances within each instance, `copying` copies what a unit gives to where it stands, and `flattening`
+// does so for each instance. `naming` says what a node is called, by its first target (`targeting`), and `linking` orders the nodes or names
+// the loop. `laws` says that each table of instances is that of one tree.
+#![tactic(auto)]
+
+mod copies;
+mod copying;
+mod flattening;
+mod kids;
+mod laws;
+mod linking;
+mod naming;
+mod targeting;
+
+pub use laws::trees_of_tables;
+pub use linking::{NODE_LIMIT, link, link_within};
