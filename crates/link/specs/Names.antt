@@ -38,7 +38,7 @@ abbrev pub target_text : List (List ℕ) → List Signal → TargetForm → Opti
 target_text texts signals form None = []
 target_text texts signals form (Some p) = at_or (λ (x : Signal). joined texts x.path ++ select_text form x.lsb p) [] signals p.signal
 
--- the first target of an assignment, and of a block in the order of its text
+-- the first target of an assignment, and of a block in the order of its sized statement, where the default of a case comes last
 abbrev pub first_target : FlatNode → Option Span
 first_target (Drive form lanes e) = first_of (lane_spans lanes)
 first_target (Block form body) = first_of (targets body)
