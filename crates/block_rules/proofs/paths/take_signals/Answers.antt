@@ -13,7 +13,7 @@ loop-touch-preserved c =
       c.in_ok-take_open.ensures.taken,
       c.in_ok-take_open.ensures.size ∙ c.loop-touch.invariant.1,
       (λ s. taken_next touches k x old new (bits_of c.args.known.now) c.loop-touch.found.items c.take_open.new.found.items s
-      c.loop-touch-test.true c.touch-item.is (c.in_ok-take_open.ensures.found s) c.in_ok-take_open.ensures.bits
-      ∙ c.loop-touch.invariant.2 s),
+          c.loop-touch-test.true c.touch-item.is (c.in_ok-take_open.ensures.found s) c.in_ok-take_open.ensures.bits
+          ∙ c.loop-touch.invariant.2 s),
       (λ s i. cleared_next touches k x old new s i c.loop-touch-test.true c.touch-item.is (c.in_ok-take_open.ensures.bits s i) ∙ c.loop-touch.invariant.3 s i),
     )
