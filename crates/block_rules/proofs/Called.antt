@@ -1,6 +1,8 @@
 -- What the tables say at the end of a walk is what the definitions say of the block.
 use Rattle.std.proofs.Common.{◌≡◌, ℕ, ◌<◌, ◌≤◌, Bool, true, false, ◌||◌, ◌&&◌, not, ◌==◌, List, [], ◌∷◌, length, refl, sym, ◌∙◌, ap, ap₂, subst, arith, true≢false}
 use Rattle.std.proofs.lemmas.Bool.{or_left, or_right, and_from}
+use Rattle.std.proofs.Math.Bool.{and-false}
+use Rattle.std.proofs.Math.Path.{fun_ext}
 use Rattle.bits.proofs.Runs.{by_order}
 use Rattle.typed_ir.specs.declared.touch.Touch.{Touch}
 use Rattle.typed_ir.specs.Valuations.{Places, any_within, nowhere}
@@ -10,7 +12,7 @@ use Rattle.typed_ir.proofs.Cases.{by_cases, and_left, only_right}
 use Rattle.block_rules.specs.declared.bit_table.BitTable.{BitTable}
 use Rattle.block_rules.specs.Paths.{is_open, reads_early, flags_of_block, unwritten, AreHere}
 use Rattle.block_rules.specs.Tables.{bits_of, Leads, is_named}
-use Rattle.block_rules.proofs.Masks.{past_bit}
+use Rattle.block_rules.proofs.Masks.{past_bit, bit_small}
 use Rattle.block_rules.proofs.Knowing.{some_same, reads_same}
 use Rattle.block_rules.proofs.Whole.{here_below}
 use Rattle.block_rules.proofs.Finding.{some_at}
@@ -80,3 +82,14 @@ latches_are w0 w1 k0 k1 touches learned l w st long writes none blank g h s =
         touched_named touches s f.0
         (g.news.says s f.0 f.1
         ∙ and_from (bits_of w1 s f.0) (not (bits_of w0 s f.0)) (and_left (bits_of w1 s f.0) (not (bits_of k1 s f.0)) f.2) (ap (λ p. not (p s f.0)) none))
+
+-- where its signals are taken out of it, the table of what is written is blank again
+pub emptied : (w0 w1 w2 : BitTable) (touches : List Touch) (l w : Places) → bits_of w0 ≡ nowhere → Leads w0 w1 [] touches l w
+    → ((s i : ℕ) → bits_of w2 s i ≡ (bits_of w1 s i && not (is_named touches s))) → bits_of w2 ≡ nowhere
+emptied w0 w1 w2 touches l w none h taken = fun_ext (λ (s : ℕ). fun_ext (λ (i : ℕ). by_cases (bits_of w1 s i)
+    (λ is. taken s i ∙ ap (λ b. bits_of w1 s i && not b)
+    (touched_named touches s i
+    (h.news.says s i (bit_small w1.masks.items s i is)
+    ∙ and_from (bits_of w1 s i) (not (bits_of w0 s i)) is (ap (λ p. not (p s i)) none)))
+    ∙ and-false (bits_of w1 s i))
+    (λ out. taken s i ∙ ap (λ b. b && not (is_named touches s)) out)))

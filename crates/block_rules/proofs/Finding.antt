@@ -1,23 +1,24 @@
 -- Masks that have a bit that others lack, and the flag of a read.
-use Rattle.std.proofs.Common.{◌≡◌, ℕ, zero, suc, ◌+◌, ◌^◌, ◌<◌, ◌≤◌, Bool, true, false, ◌||◌, ◌&&◌, not, ◌==◌, nat_le, nat_lt, List, [], ◌∷◌, ◌++◌, length, get_or, drop, refl, sym, ◌∙◌, ap, ap₂, arith, true≢false, append_assoc}
+use Rattle.std.proofs.Common.{◌≡◌, ℕ, zero, suc, ◌+◌, ◌-◌, ◌^◌, ◌<◌, ◌≤◌, Bool, true, false, ◌||◌, ◌&&◌, not, ◌==◌, nat_le, nat_lt, List, [], ◌∷◌, ◌++◌, length, get_or, drop, refl, sym, ◌∙◌, ap, ap₂, arith, true≢false}
 use Rattle.std.specs.Prelude.{bit_and, slice_index}
 use Rattle.std.specs.Int.{bit_at}
 use Rattle.std.proofs.Math.Bool.{or-false, or_assoc, and-false}
-use Rattle.std.proofs.lemmas.Bool.{eqb-true, eq-eqb, ne_eqb}
-use Rattle.std.proofs.lemmas.List.{append-nil, at_drop_all}
+use Rattle.std.proofs.lemmas.Bool.{eqb-true, eq-eqb, ne_eqb, or_parts, or_from, and_from, not-true, not_from_false}
+use Rattle.bits.proofs.Runs.{by_order}
+use Rattle.std.proofs.lemmas.List.{at_drop_all}
 use Rattle.std.proofs.lemmas.Nat.{and_le_l}
 use Rattle.std.proofs.lemmas.Nat.Bits.{bit_at-lt, same_from_bits_below}
 use Rattle.typed_ir.specs.declared.span.Span.{Span}
 use Rattle.typed_ir.specs.declared.touch.Touch.{Touch}
 use Rattle.typed_ir.specs.Valuations.{Places, within}
 use Rattle.typed_ir.specs.Touches.{has_bit, touched, Adds}
-use Rattle.typed_ir.proofs.Cases.{by_cases}
+use Rattle.typed_ir.proofs.Cases.{by_cases, and_left, and_right, turned}
 use Rattle.typed_ir.proofs.Lists.{drop_read}
-use Rattle.typed_ir.proofs.Masks.{adds_one}
+use Rattle.typed_ir.proofs.Masks.{adds_one, whole_mask}
 use Rattle.block_rules.specs.declared.bit_table.BitTable.{BitTable}
-use Rattle.block_rules.specs.Paths.{some_below, early, true_from, is_member, is_open}
-use Rattle.block_rules.specs.Tables.{bits_of, is_named}
-use Rattle.block_rules.proofs.Masks.{has_both, no_bit, low_bit}
+use Rattle.block_rules.specs.Paths.{some_below, early, is_member, are_distinct, is_open}
+use Rattle.block_rules.specs.Tables.{bits_of, is_named, AreTaken}
+use Rattle.block_rules.proofs.Masks.{has_both, no_bit, low_bit, high_bit}
 use Rattle.block_rules.proofs.Knowing.{some_same}
 use Rattle.block_rules.proofs.Whole.{none_below}
 
@@ -93,28 +94,6 @@ open_is written known signal w k is_w is_k =
     some_same 128 (λ i. has_bit w i && not (has_bit k i)) (λ i. bits_of written signal i && not (bits_of known signal i))
     (λ i small. ap₂ (λ a b. a && not b) (ap (λ n. has_bit n i) is_w ∙ sym (low_bit written.masks.items signal i small))
     (ap (λ n. has_bit n i) is_k ∙ sym (low_bit known.masks.items signal i small)))
-
--- ---- places of flags
-
-pub true_next : (flags : List Bool) (k : ℕ) (x : Bool) (mid new whole : List ℕ) → k < length flags → x ≡ get_or flags k x
-    → new ≡ mid ++ true_from k (x ∷ []) → mid ++ true_from k (drop k flags) ≡ whole → new ++ true_from (k + 1) (drop (k + 1) flags) ≡ whole
-true_next flags k x mid new whole less is more left =
-    let rest = drop (k + 1) flags in
-    let next : suc k ≡ k + 1 = omega arith in
-    ap (λ xs. xs ++ true_from (k + 1) rest) more
-    ∙ append_assoc mid (true_from k (x ∷ [])) (true_from (k + 1) rest)
-    ∙ ap (λ n. mid ++ (true_from k (x ∷ []) ++ true_from n rest)) (sym next)
-    ∙ ap (λ xs. mid ++ xs) (one_first k x rest)
-    ∙ ap (λ fs. mid ++ true_from k fs) (sym (drop_read flags k x less is))
-    ∙ left
-  where
-    one_first : (k : ℕ) (x : Bool) (rest : List Bool) → (true_from k (x ∷ []) ++ true_from (suc k) rest) ≡ true_from k (x ∷ rest)
-    one_first k true rest = refl
-    one_first k false rest = refl
-
-pub true_done : (flags : List Bool) (k : ℕ) (mid whole : List ℕ) → length flags ≤ k → mid ++ true_from k (drop k flags) ≡ whole → mid ≡ whole
-true_done flags k mid whole past left =
-    sym (at_drop_all (λ (fs : List Bool). mid ++ true_from k fs) flags k past ∙ append-nil mid) ∙ left
 
 -- ---- what masks share with a table
 
@@ -213,18 +192,99 @@ found_none old signal w k s out =
     sym (or-false (is_member s old))
     ∙ ap (λ b. is_member s old || b) (sym (and-false (s == signal)) ∙ sym (ap (λ b. (s == signal) && b) out) ∙ same_signal s signal w k)
 
-of_both : (f n r o : Bool) → ((f || (n && o)) || (r && o)) ≡ (f || ((n || r) && o))
+-- ---- and taken out of the table
+
+none_some : (n : ℕ) (test : ℕ → Bool) → ((i : ℕ) → i < n → test i ≡ false) → some_below n test ≡ false
+unfolding some_below
+none_some zero test h = refl
+none_some (suc n) test h = ap₂ (λ a b. a || b) (h n (omega arith)) (none_some n test (λ i k. h i (omega (arith, k))))
+
+kept_all : (b : Bool) → (b && not false) ≡ b
+kept_all true = refl
+kept_all false = refl
+
+pub cleared : (old new : BitTable) (signal : ℕ)
+    → ((s i : ℕ) → bits_of new s i ≡ (bits_of old s i && not ((s == signal) && has_bit (2 ^ 128 - 1) i)))
+    → (s i : ℕ) → bits_of new s i ≡ (bits_of old s i && not (s == signal))
+cleared old new signal h s i = by_order i 128
+    (λ small. h s i ∙ ap (λ b. bits_of old s i && not b) (whole_mask signal s i small))
+    (λ big. high_bit new.masks.items s i big ∙ sym (ap (λ b. b && not (s == signal)) (high_bit old.masks.items s i big)))
+
+open_cleared : (old new : BitTable) (signal : ℕ) (k : Places) → ((s i : ℕ) → bits_of new s i ≡ (bits_of old s i && not (s == signal)))
+    → (s : ℕ) → is_open (bits_of new) k s ≡ (is_open (bits_of old) k s && not (s == signal))
+open_cleared old new signal k h s = by_cases (s == signal)
+    (λ same. none_some 128 (λ i. bits_of new s i && not (k s i))
+    (λ i less. ap (λ b. b && not (k s i)) (h s i ∙ ap (λ b. bits_of old s i && not b) same ∙ and-false (bits_of old s i)))
+    ∙ sym (ap (λ b. is_open (bits_of old) k s && not b) same ∙ and-false (is_open (bits_of old) k s)))
+    (λ other. some_same 128 (λ i. bits_of new s i && not (k s i)) (λ i. bits_of old s i && not (k s i))
+    (λ i less. ap (λ b. b && not (k s i)) (h s i ∙ ap (λ b. bits_of old s i && not b) other ∙ kept_all (bits_of old s i)))
+    ∙ sym (ap (λ b. is_open (bits_of old) k s && not b) other ∙ kept_all (is_open (bits_of old) k s)))
+
+distinct_push : (x : ℕ) (xs : List ℕ) → are_distinct xs ≡ true → is_member x xs ≡ false → are_distinct (xs ++ x ∷ []) ≡ true
+distinct_push x [] h out = refl
+distinct_push x (y ∷ xs) h out =
+    and_from (not (is_member y (xs ++ x ∷ []))) (are_distinct (xs ++ x ∷ []))
+    (not_from_false (is_member y (xs ++ x ∷ []))
+    (found_push y x xs
+    ∙ or_from (is_member y xs) (y == x) (not-true (is_member y xs) (and_left (not (is_member y xs)) (are_distinct xs) h))
+    (turned y x ∙ (or_parts (x == y) (is_member x xs) out).0)))
+    (distinct_push x xs (and_right (not (is_member y xs)) (are_distinct xs) h) (or_parts (x == y) (is_member x xs) out).1)
+
+still_closed : (a b : Bool) → a ≡ false → (a && b) ≡ false
+still_closed a b h = ap (λ x. x && b) h
+
+-- a signal that had such a bit
+pub taken_open : (found : List ℕ) (signal : ℕ) (old new known : BitTable) → AreTaken found old known → is_open (bits_of old) (bits_of known) signal ≡ true
+    → ((s i : ℕ) → bits_of new s i ≡ (bits_of old s i && not (s == signal))) → AreTaken (found ++ signal ∷ []) new known
+taken_open found signal old new known h some bits = record {
+  once = distinct_push signal found h.once
+      (by_cases (is_member signal found) (λ is. absurd (true≢false (sym some ∙ h.done signal is))) (λ out. out));
+  done = λ s is.
+      open_cleared old new signal (bits_of known) bits s
+      ∙ by_cases (s == signal)
+      (λ same. ap (λ b. is_open (bits_of old) (bits_of known) s && not b) same ∙ and-false (is_open (bits_of old) (bits_of known) s))
+      (λ other. still_closed (is_open (bits_of old) (bits_of known) s) (not (s == signal))
+      (h.done s (before s other (sym (found_push s signal found) ∙ is))));
+}
+  where
+    before : (s : ℕ) → (s == signal) ≡ false → (is_member s found || (s == signal)) ≡ true → is_member s found ≡ true
+    before s other is = sym (ap (λ b. is_member s found || b) other ∙ or-false (is_member s found)) ∙ is
+
+-- a signal that had none
+pub taken_none : (found : List ℕ) (signal : ℕ) (old new known : BitTable) → AreTaken found old known
+    → ((s i : ℕ) → bits_of new s i ≡ (bits_of old s i && not (s == signal))) → AreTaken found new known
+taken_none found signal old new known h bits = record {
+  once = h.once;
+  done = λ s is.
+      open_cleared old new signal (bits_of known) bits s
+      ∙ still_closed (is_open (bits_of old) (bits_of known) s) (not (s == signal)) (h.done s is);
+}
+
+of_both : (f n r o : Bool) → ((f || (n && o)) || (r && (o && not n))) ≡ (f || ((n || r) && o))
 of_both true n r o = refl
-of_both false true r true = refl
+of_both false true true true = refl
+of_both false true false true = refl
 of_both false true true false = refl
 of_both false true false false = refl
-of_both false false r o = refl
+of_both false false r true = refl
+of_both false false true false = refl
+of_both false false false false = refl
 
-pub found_next : (touches : List Touch) (k : ℕ) (x : Touch) (w n : Places) (mid new : List ℕ) (s : ℕ) → k < length touches → x ≡ get_or touches k x
-    → is_member s new ≡ (is_member s mid || ((s == x.signal) && is_open w n s))
-    → (is_member s new || (is_named (drop (k + 1) touches) s && is_open w n s)) ≡ (is_member s mid || (is_named (drop k touches) s && is_open w n s))
-found_next touches k x w n mid new s less is more =
+pub taken_next : (touches : List Touch) (k : ℕ) (x : Touch) (old new : BitTable) (n : Places) (mid more : List ℕ) (s : ℕ) → k < length touches → x ≡ get_or touches k x
+    → is_member s more ≡ (is_member s mid || ((s == x.signal) && is_open (bits_of old) n s))
+    → ((s i : ℕ) → bits_of new s i ≡ (bits_of old s i && not (s == x.signal)))
+    → (is_member s more || (is_named (drop (k + 1) touches) s && is_open (bits_of new) n s)) ≡ (is_member s mid || (is_named (drop k touches) s && is_open (bits_of old) n s))
+taken_next touches k x old new n mid more s less is step bits =
     let rest = is_named (drop (k + 1) touches) s in
-    ap (λ b. b || (rest && is_open w n s)) more
-    ∙ of_both (is_member s mid) (s == x.signal) rest (is_open w n s)
-    ∙ ap (λ ts. is_member s mid || (is_named ts s && is_open w n s)) (sym (drop_read touches k x less is))
+    ap₂ (λ a b. a || (rest && b)) step (open_cleared old new x.signal n bits s)
+    ∙ of_both (is_member s mid) (s == x.signal) rest (is_open (bits_of old) n s)
+    ∙ ap (λ ts. is_member s mid || (is_named ts s && is_open (bits_of old) n s)) (sym (drop_read touches k x less is))
+
+pub cleared_next : (touches : List Touch) (k : ℕ) (x : Touch) (mid new : BitTable) (s i : ℕ) → k < length touches → x ≡ get_or touches k x
+    → bits_of new s i ≡ (bits_of mid s i && not (s == x.signal))
+    → (bits_of new s i && not (is_named (drop (k + 1) touches) s)) ≡ (bits_of mid s i && not (is_named (drop k touches) s))
+cleared_next touches k x mid new s i less is took =
+    let rest = is_named (drop (k + 1) touches) s in
+    ap (λ b. b && not rest) took
+    ∙ but_either (bits_of mid s i) (s == x.signal) rest
+    ∙ ap (λ ts. bits_of mid s i && not (is_named ts s)) (sym (drop_read touches k x less is))

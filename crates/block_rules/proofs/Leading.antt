@@ -251,21 +251,6 @@ learn_next rest one xs k x a b c ts us vs w less is splits h g =
     ∙ ap (λ z. bits_of b s i || z) (sym (splits (drop (k + 1) xs) s i))
     ∙ ap (λ zs. bits_of b s i || rest zs s i) (sym (drop_read xs k x less is)))
 
--- one that brings none
-pub learn_skip : {A : Type 0} (rest : List A → Places) (xs : List A) (k : ℕ) (x : A) (a b : BitTable) (ts us : List Touch) (w : Places)
-    → k < length xs → x ≡ get_or xs k x → ((ys : List A) (s i : ℕ) → rest (x ∷ ys) s i ≡ rest ys s i)
-    → Leads a b ts us (λ s i. bits_of b s i || rest (drop k xs) s i) w
-    → Leads a b ts us (λ s i. bits_of b s i || rest (drop (k + 1) xs) s i) w
-learn_skip rest xs k x a b ts us w less is splits h = record {
-  size = h.size;
-  keeps = h.keeps;
-  news = h.news;
-  same = λ s i here small.
-      ap (λ z. bits_of b s i || z) (sym (splits (drop (k + 1) xs) s i))
-      ∙ ap (λ zs. bits_of b s i || rest zs s i) (sym (drop_read xs k x less is))
-      ∙ h.same s i here small;
-}
-
 pub learn_done : {A : Type 0} (rest : List A → Places) (xs : List A) (k : ℕ) (a b : BitTable) (ts us : List Touch) (w : Places) → length xs ≤ k
     → ((s i : ℕ) → rest [] s i ≡ false)
     → Leads a b ts us (λ s i. bits_of b s i || rest (drop k xs) s i) w → Leads a b ts us (bits_of b) w

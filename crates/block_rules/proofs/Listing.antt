@@ -1,6 +1,6 @@
 -- Parts, statements and arms of lists, taken one by one.
 use Rattle.std.proofs.Common.{◌≡◌, ℕ, ◌+◌, ◌<◌, ◌≤◌, true, false, Bool, ◌||◌, ◌&&◌, Box, Global, List, [], ◌∷◌, ◌++◌, map, length, get_or, drop, refl, sym, ◌∙◌, ap, ap₂, subst, append_assoc}
-use Rattle.std.proofs.lemmas.List.{at_drop_all, append-nil}
+use Rattle.std.proofs.lemmas.List.{at_drop_all}
 use Rattle.typed_ir.specs.declared.arm.Arm.{Arm as Arm'}
 use Rattle.std.specs.declared.vec.Vec.{Vec}
 use Rattle.typed_ir.specs.declared.stmt.Stmt.{Stmt}
@@ -79,11 +79,6 @@ moving_next parts k x reach index w known mid new whole less is kind more left =
     ∙ ap (λ z. mid ++ index_flags w (targets_of (z ∷ drop (k + 1) parts)) known) (sym kind)
     ∙ ap (λ zs. mid ++ index_flags w (targets_of zs) known) (sym (drop_read parts k x less is))
     ∙ left
-
-pub parts_done : (parts : List Target) (k : ℕ) (w known : Places) (flags whole : List Bool) → length parts ≤ k
-    → flags ++ index_flags w (targets_of (drop k parts)) known ≡ whole → flags ≡ whole
-parts_done parts k w known flags whole past left =
-    sym (at_drop_all (λ (zs : List Target). flags ++ index_flags w (targets_of zs) known) parts k past ∙ append-nil flags) ∙ left
 
 pub fixed_part : (parts : List Target) (k : ℕ) (x : Target) (lane : Lane) (written start mid new known : BitTable) (us vs learned : List Touch) (old flags whole : List Bool)
     → k < length parts → x ≡ get_or parts k x → x ≡ Fixed' lane → length written.masks.items ≡ length start.masks.items
@@ -242,9 +237,6 @@ reads_next list k x written mid new ts us flags more whole less is long h one le
     ∙ append_assoc flags first (reads_early w rest after)
     ∙ ap (λ zs. flags ++ reads_early w (sequence_of (map stmt_of zs)) (bits_of mid)) (sym (drop_read list k x less is))
     ∙ left
-
-pub list_done : {B : Type 0} (f : SizedStmt → B) (list : List Stmt) (k : ℕ) → length list ≤ k → f (sequence_of (map stmt_of (drop k list))) ≡ f (sequence_of [])
-list_done f list k past = at_drop_all (λ (zs : List Stmt). f (sequence_of (map stmt_of zs))) list k past
 
 -- ---- arms
 

@@ -145,15 +145,6 @@ less_bits masks place mask old s i inside is =
     ap (λ b. nat_lt i 128 && b) (less_at masks place mask old s i inside is)
     ∙ out_of (nat_lt i 128) (has_bit (slice_index masks s) i) ((s == place) && has_bit mask i)
 
--- a place that the table doesn't have
-pub none_less : (masks : List ℕ) (place mask s i : ℕ) → length masks ≤ place → bit_of masks s i ≡ (bit_of masks s i && not ((s == place) && has_bit mask i))
-none_less masks place mask s i past =
-    by_cases (s == place)
-    (λ yes. let e : s ≡ place = eqb-true s place yes in
-    let none : bit_of masks s i ≡ false = past_bit masks s i (omega (arith, e, past)) in
-    none ∙ sym (ap (λ b. b && not ((s == place) && has_bit mask i)) none))
-    (λ no. sym (ap (λ b. bit_of masks s i && not (b && has_bit mask i)) no ∙ in_all (bit_of masks s i)))
-
 -- what is read from a list of numbers
 pub read_at : (masks : List ℕ) (k old : ℕ) → k < length masks → old ≡ get_or masks k old → old ≡ slice_index masks k
 read_at masks k old inside is = is ∙ get_or_default masks k old 0 inside

@@ -1,5 +1,5 @@
 -- Tables of bits, a mask for each signal, and what a walk adds to them.
-use Rattle.std.specs.Prelude.{◌≡◌, ◌<◌, ℕ, Bool, true, not, ◌&&◌, nat_lt, List, length, map, slice_index, Option, Some, None}
+use Rattle.std.specs.Prelude.{false, ◌≡◌, ◌<◌, ℕ, Bool, true, not, ◌&&◌, nat_lt, List, length, map, slice_index, Option, Some, None}
 use Rattle.std.specs.declared.vec.Vec.{Vec}
 use Rattle.std.specs.Global.{Global}
 use Rattle.typed_ir.specs.declared.touch.Touch.{Touch}
@@ -7,7 +7,7 @@ use Rattle.typed_ir.specs.Valuations.{Places, nowhere}
 use Rattle.typed_ir.specs.Touches.{has_bit, touched, Adds}
 use Rattle.block_rules.specs.declared.bit_table.BitTable.{BitTable}
 use Rattle.block_rules.specs.declared.path_tables.PathTables.{PathTables}
-use Rattle.block_rules.specs.Paths.{is_member}
+use Rattle.block_rules.specs.Paths.{is_member, are_distinct, is_open}
 
 -- for so many signals
 abbrev pub size : BitTable → ℕ
@@ -51,3 +51,8 @@ pub record AreBlank (tables : PathTables) : Type 0 where
   pub written : bits_of tables.written ≡ nowhere
   pub known : bits_of tables.known ≡ nowhere
   pub same : length tables.written.masks.items ≡ length tables.known.masks.items
+
+-- no signal stands twice, and none of them has a bit left that is written and not known
+pub record AreTaken (found : List ℕ) (written known : BitTable) : Type 0 where
+  pub once : are_distinct found ≡ true
+  pub done : (s : ℕ) → is_member s found ≡ true → is_open (bits_of written) (bits_of known) s ≡ false

@@ -1,8 +1,8 @@
 // A combinational block to the reads that come before it has written what they read, and the signals with a latch.
-ghost use Rattle.std.specs.Prelude.{◌++◌, ◌∷◌, [], ◌≡◌, ◌&&◌, ◌||◌, ◌==◌, ℕ, IfOk};
+ghost use Rattle.std.specs.Prelude.{◌++◌, ◌∷◌, [], ◌≡◌, ◌&&◌, ◌||◌, ◌==◌, ℕ, IsTrue, IfOk, not};
 ghost use Rattle.typed_ir.specs.Statements.{stmt_of};
-ghost use Rattle.block_rules.specs.Paths.{flags_of_block, places_of_true, true_from, is_member, is_open, unwritten, AreHere};
-ghost use Rattle.block_rules.specs.Tables.{bits_of, is_named, signals_of, AreBlank};
+ghost use Rattle.block_rules.specs.Paths.{flags_of_block, places_of_true, true_from, is_member, are_distinct, is_open, unwritten, AreHere};
+ghost use Rattle.block_rules.specs.Tables.{size, bits_of, is_named, signals_of, AreBlank, AreTaken};
 
 use crate::bit_table::BitTable;
 use crate::learning::{forget, learn_spans};
@@ -20,7 +20,7 @@ pub struct Paths {
     /// The numbers of the reads of bits that the block writes and that aren't written on every path to the read, rising; a block's reads
     /// are numbered from 0 in the order of its text.
     pub early: Vec<usize>,
-    /// The signals of which the block doesn't write each bit on every path that it writes at all.
+    /// The signals of which the block doesn't write each bit on every path that it writes at all, each once.
     pub unwritten: Vec<SignalId>,
 }
 
@@ -45,35 +45,44 @@ fn true_places(alloc: Global, flags: &[bool]) -> Result<Vec<usize>, NoMemory>
     Ok(places)
 }
 
-// Adds a signal where it has a bit that is written and not known.
-fn add_open(
+// Takes a signal out of the table of what is written, and adds it where it has a bit there that isn't known.
+fn take_open(
     signal: SignalId,
-    written: &BitTable,
+    written: &mut BitTable,
     known: &BitTable,
     found: &mut Vec<SignalId>,
 ) -> Result<(), NoMemory>
-    ensures { IfOk result (λ _. (s : ℕ) → is_member s found.new.items
-        ≡ (is_member s found.old.items || ((s == signal) && is_open (bits_of written.now) (bits_of known.now) s))) }
+    requires { AreTaken found.old.items written.old known.now }
+    ensures taken { IfOk result (λ _. AreTaken found.new.items written.new known.now) }
+    ensures found { IfOk result (λ _. (s : ℕ) → is_member s found.new.items
+        ≡ (is_member s found.old.items || ((s == signal) && is_open (bits_of written.old) (bits_of known.now) s))) }
+    ensures size { IfOk result (λ _. size written.new ≡ size written.old) }
+    ensures bits { IfOk result (λ _. (s i : ℕ) → bits_of written.new s i ≡ (bits_of written.old s i && not (s == signal))) }
 {
-    if is_open(written.mask(signal), known.mask(signal)) {
+    let open = is_open(written.mask(signal), known.mask(signal));
+    written.take(signal, u128::MAX);
+    if open {
         found.push(signal)?;
     }
     Ok(())
 }
 
-// The signals of masks that have such a bit.
-fn open_signals(
+// Takes the signals of masks out of the table of what is written: the answer has those with a bit there that isn't known.
+fn take_signals(
     alloc: Global,
     touches: &[Touch],
-    written: &BitTable,
+    written: &mut BitTable,
     known: &BitTable,
 ) -> Result<Vec<SignalId>, NoMemory>
-    ensures { IfOk result (λ found. (s : ℕ) → is_member s found.items
-        ≡ (is_named touches.now s && is_open (bits_of written.now) (bits_of known.now) s)) }
+    ensures once { IfOk result (λ found. IsTrue (are_distinct found.items)) }
+    ensures found { IfOk result (λ found. (s : ℕ) → is_member s found.items
+        ≡ (is_named touches.now s && is_open (bits_of written.old) (bits_of known.now) s)) }
+    ensures size { IfOk result (λ _. size written.new ≡ size written.old) }
+    ensures bits { IfOk result (λ _. (s i : ℕ) → bits_of written.new s i ≡ (bits_of written.old s i && not (is_named touches.now s))) }
 {
     let mut found = Vec::new(alloc);
     for touch in touches {
-        add_open(touch.signal, written, known, &mut found)?;
+        take_open(touch.signal, written, known, &mut found)?;
     }
     Ok(found)
 }
@@ -85,6 +94,7 @@ pub fn paths_of(alloc: Global, tables: &mut PathTables, body: &Stmt) -> Result<P
     requires here { AreHere (signals_of tables.old) (stmt_of body.now) }
     ensures early { IfOk result (λ paths. paths.early.items ≡ places_of_true (flags_of_block (stmt_of body.now))) }
     ensures unwritten { IfOk result (λ paths. (s : ℕ) → is_member s paths.unwritten.items ≡ unwritten (stmt_of body.now) s) }
+    ensures once { IfOk result (λ paths. IsTrue (are_distinct paths.unwritten.items)) }
     ensures signals { IfOk result (λ _. signals_of tables.new ≡ signals_of tables.old) }
     ensures blank { IfOk result (λ _. AreBlank tables.new) }
 {
@@ -101,9 +111,8 @@ pub fn paths_of(alloc: Global, tables: &mut PathTables, body: &Stmt) -> Result<P
         &mut flags,
         &mut learned,
     )?;
-    let unwritten = open_signals(alloc, &touches, &tables.written, &tables.known)?;
     let early = true_places(alloc, &flags)?;
-    forget(&touches, &mut tables.written);
+    let unwritten = take_signals(alloc, &touches, &mut tables.written, &tables.known)?;
     forget(&learned, &mut tables.known);
     Ok(Paths { early, unwritten })
 }

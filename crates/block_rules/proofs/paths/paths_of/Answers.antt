@@ -7,7 +7,7 @@ use Rattle.typed_ir.specs.Touches.{touched}
 use Rattle.block_rules.specs.Paths.{places_of_true, reads_early, is_open}
 use Rattle.block_rules.specs.Tables.{bits_of, is_named, Leads}
 use Rattle.block_rules.proofs.Leading.{back}
-use Rattle.block_rules.proofs.Called.{written_is, flags_are, latches_are}
+use Rattle.block_rules.proofs.Called.{written_is, flags_are, latches_are, emptied}
 use Rattle.block_rules.proofs.paths.paths_of.Goals as goal
 
 -- what the walk over the targets and the walk through the block lead to, from the call on
@@ -39,7 +39,7 @@ returns-clause-early c =
     let k0 = c.args.tables.now.known in
     c.in_ok-early.ensures
     ∙ ap places_of_true
-    (c.deref-3.ensures.value ∙ c.in_ok-walk.ensures.flags
+    (c.deref-2.ensures.value ∙ c.in_ok-walk.ensures.flags
     ∙ ap (λ (fs : List Bool). fs ++ reads_early (bits_of w1) st (bits_of k0)) c.new-flags.ensures.items
     ∙ flags_are w1 k0 st (writes c) c.requires.blank.known)
 
@@ -51,8 +51,8 @@ returns-clause-unwritten c = λ s.
     let k0 = c.args.tables.now.known in
     let k1 = c.walk.new.known in
     let touches = c.learn_spans.new.learned.items in
-    c.in_ok-unwritten.ensures s
-    ∙ ap (λ (ts : List Touch). is_named ts s && is_open (bits_of w1) (bits_of k1) s) c.deref-2.ensures.value
+    c.in_ok-unwritten.ensures.found s
+    ∙ ap (λ (ts : List Touch). is_named ts s && is_open (bits_of w1) (bits_of k1) s) c.deref-3.ensures.value
     ∙ latches_are w0 w1 k0 k1 touches c.walk.new.learned.items (bits_of w1) (λ s i. bits_of w0 s i || any_within (targets st) s i) st
     ((written_leads c).size ∙ c.requires.blank.same) (writes c) c.requires.blank.written c.requires.blank.known (written_leads c) (known_leads c) s
 
@@ -63,14 +63,14 @@ returns-clause-blank c =
     let w1 = c.learn_spans.new.table in
     let k0 = c.args.tables.now.known in
     let k1 = c.walk.new.known in
-    let w2 = c.forget.new.table in
-    let k2 = c.forget-2.new.table in
+    let w2 = c.take_signals.new.written in
+    let k2 = c.forget.new.table in
     record {
-      written = back w0 w1 w2 c.learn_spans.new.learned.items (bits_of w1) (λ s i. bits_of w0 s i || any_within (targets st) s i) (written_leads c)
-          (λ s i. c.forget.ensures.bits s i ∙ ap (λ (ts : List Touch). bits_of w1 s i && not (touched ts s i)) c.deref-4.ensures.value)
-          ∙ c.requires.blank.written;
+      written = emptied w0 w1 w2 c.learn_spans.new.learned.items (bits_of w1) (λ s i. bits_of w0 s i || any_within (targets st) s i) c.requires.blank.written
+          (written_leads c)
+          (λ s i. c.in_ok-unwritten.ensures.bits s i ∙ ap (λ (ts : List Touch). bits_of w1 s i && not (is_named ts s)) c.deref-3.ensures.value);
       known = back k0 k1 k2 c.walk.new.learned.items (bits_of k1) (known_after st (bits_of k0)) (known_leads c)
-          (λ s i. c.forget-2.ensures.bits s i ∙ ap (λ (ts : List Touch). bits_of k1 s i && not (touched ts s i)) c.deref-5.ensures.value)
+          (λ s i. c.forget.ensures.bits s i ∙ ap (λ (ts : List Touch). bits_of k1 s i && not (touched ts s i)) c.deref-4.ensures.value)
           ∙ c.requires.blank.known;
-      same = c.forget.ensures.size ∙ (written_leads c).size ∙ c.requires.blank.same ∙ sym (c.forget-2.ensures.size ∙ (known_leads c).size);
+      same = c.in_ok-unwritten.ensures.size ∙ (written_leads c).size ∙ c.requires.blank.same ∙ sym (c.forget.ensures.size ∙ (known_leads c).size);
     }

@@ -160,17 +160,18 @@ walk_arms-loop-arm-preserved t c =
     let same = c.loop-arm.invariant.1 in
     let all = arms_before (map arm_of arms) otherwise in
     let long : size c.branch-alloc.new.known ≡ size k0 = c.in_ok-branch.ensures.size ∙ c.loop-arm.invariant.0 in
-    let bits : bits_of c.branch-alloc.new.known ≡ bits_of k0 = c.in_ok-branch.ensures.known ∙ same in (
+    let bits : bits_of c.branch-alloc.new.known ≡ bits_of k0 = c.in_ok-branch.ensures.known ∙ same in
+    let items : c.flag_items.new.flags.items ≡ c.loop-arm.flags.items ++ flags_of w (item_leaves (map item_of x.items.items)) (bits_of k0) =
+    c.in_ok-flag_items.ensures ∙ ap₂ (λ xs p. c.loop-arm.flags.items ++ flags_of w (item_leaves (map item_of xs)) p) c.deref.ensures.value same in
+    let body : c.branch-alloc.new.flags.items ≡ c.flag_items.new.flags.items ++ reads_early w (stmt_of x.body) (bits_of k0) =
+    c.in_ok-branch.ensures.flags ∙ ap (λ p. c.flag_items.new.flags.items ++ reads_early w (stmt_of x.body) p) same in (
       long,
       bits,
       arm_so arms otherwise k x k0 k1 c.in_ok-branch.field-0.items (common_of c.loop-arm.common)
           (λ s i. bits_of k0 s i || known_after_arms all (bits_of k0) s i) c.loop-arm-test.true c.arm-item.is c.loop-arm.invariant.0 same
           c.in_ok-branch.ensures.common c.loop-arm.invariant.2,
       arm_reads_next arms otherwise k x w (bits_of k0) c.loop-arm.flags.items c.flag_items.new.flags.items c.branch-alloc.new.flags.items
-          (c.args.flags.now.items ++ arms_early w all (bits_of k0)) c.loop-arm-test.true c.arm-item.is
-          (c.in_ok-flag_items.ensures ∙ ap₂ (λ xs p. c.loop-arm.flags.items ++ flags_of w (item_leaves (map item_of xs)) p) c.deref.ensures.value same)
-          (c.in_ok-branch.ensures.flags ∙ ap (λ p. c.flag_items.new.flags.items ++ reads_early w (stmt_of x.body) p) same)
-          c.loop-arm.invariant.3,
+          (c.args.flags.now.items ++ arms_early w all (bits_of k0)) c.loop-arm-test.true c.arm-item.is items body c.loop-arm.invariant.3,
     )
 
 pub walk_arms-returns-clause-known : goal.walk_arms-returns-clause-known
