@@ -52,7 +52,7 @@ is_too_many most texts names xs us t long is many none =
     subst (λ z. IsLinkFault most texts texts (flat_of_tree t) (Fault (record { code = 40; at = Edit; names = z }))) (sym none)
     (too_many (subst (λ n. most < n) (sym (nodes_of_tree xs us t long is)) (over (nodes_in (all_sized us)) most many)))
 
-pub are_within_limit : (most : ℕ) (xs : List Instance) (us : List UnitParts) (t : Instances)
+are_within_limit : (most : ℕ) (xs : List Instance) (us : List UnitParts) (t : Instances)
     → length us ≡ length xs → IsTreeOf xs us t → nat_le (nodes_in (all_sized us)) most ≡ true → length (flat_of_tree t).nodes ≤ most
 are_within_limit most xs us t long is few =
     subst (λ n. n ≤ most) (sym (nodes_of_tree xs us t long is)) (leb-true (nodes_in (all_sized us)) most few)

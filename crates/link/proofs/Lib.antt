@@ -12,3 +12,4 @@ pub mod First
 pub mod Spelled
 pub mod Faulty
 pub mod Alone
+pub mod Circles

@@ -225,7 +225,7 @@ same_long all k [] (u ∷ us) are = elim are [ ]
 same_long all k (x ∷ xs) [] are = elim are [ ]
 same_long all k (x ∷ xs) (u ∷ us) (more ports shapes rest) = ap suc (same_long all (suc k) xs us rest)
 
-pub units_are : (xs : List Instance) (us : List UnitParts) → length us ≡ length xs → map unit_of (entries_of xs us) ≡ all_sized us
+units_are : (xs : List Instance) (us : List UnitParts) → length us ≡ length xs → map unit_of (entries_of xs us) ≡ all_sized us
 units_are [] [] h = refl
 units_are [] (u ∷ us) h = absurd (omega (arith, h))
 units_are (x ∷ xs) [] h = absurd (omega (arith, h))

@@ -81,7 +81,7 @@ at_beyond f d g (y ∷ ys) (suc k) h = at_beyond f d g ys k (omega (arith, h))
 
 -- ---- pieces behind one another
 
-pub two_pieces : (old a b mid new : List ℕ) → mid ≡ old ++ a → new ≡ mid ++ b → new ≡ old ++ (a ++ b)
+two_pieces : (old a b mid new : List ℕ) → mid ≡ old ++ a → new ≡ mid ++ b → new ≡ old ++ (a ++ b)
 two_pieces old a b mid new one two = two ∙ ap (λ zs. zs ++ b) one ∙ append_assoc old a b
 
 pub three_pieces : (old a b c one two new : List ℕ) → one ≡ old ++ a → two ≡ one ++ b → new ≡ two ++ c → new ≡ old ++ ((a ++ b) ++ c)

@@ -1,6 +1,6 @@
 -- Loops over a list, part by part.
-use Rattle.std.proofs.Common.{◌≡◌, ℕ, ◌+◌, ◌<◌, ◌≤◌, List, [], ◌∷◌, ◌++◌, map, length, get_or, drop, append_assoc, append-nil, sym, ◌∙◌, ap}
-use Rattle.std.proofs.lemmas.List.{map-append, at_drop_all}
+use Rattle.std.proofs.Common.{◌≡◌, ℕ, ◌+◌, ◌<◌, List, [], ◌∷◌, ◌++◌, map, length, get_or, drop, append_assoc, sym, ◌∙◌, ap}
+use Rattle.std.proofs.lemmas.List.{map-append}
 use Rattle.typed_ir.proofs.Lists.{drop_read}
 
 -- F is what the list gives from x on, G what it gives after x
@@ -13,11 +13,6 @@ stepped F G xs k x part mid new whole h is cut new_is left =
     ∙ append_assoc mid part (G (drop (k + 1) xs))
     ∙ ap (λ zs. mid ++ zs) (sym (ap F (drop_read xs k x h is) ∙ cut))
     ∙ left
-
--- at the end
-pub ended : {X A : Type 0} (F : List X → List A) (xs : List X) (k : ℕ) (mid whole : List A)
-    → length xs ≤ k → F [] ≡ [] → mid ++ F (drop k xs) ≡ whole → mid ≡ whole
-ended F xs k mid whole h none left = sym (append-nil mid) ∙ ap (λ zs. mid ++ zs) (sym (at_drop_all F xs k h ∙ none)) ∙ left
 
 -- one value pushed
 pub pushed : {X A : Type 0} (f : X → A) (old new : List X) (x : X) (y : A) → new ≡ old ++ x ∷ [] → f x ≡ y → map f new ≡ map f old ++ y ∷ []

@@ -1,5 +1,5 @@
 -- What a node is called: by its first target, with the path of its signal (IEEE Std 1364-2005, 12.4); how a select is shown is this project's own.
-use Rattle.std.specs.Prelude.{ℕ, ◌+◌, ◌-◌, codes, decimal, List, [], ◌∷◌, ◌++◌, Option, Some, None}
+use Rattle.std.specs.Prelude.{ℕ, ◌+◌, ◌-◌, codes, decimal, Bool, is_some, List, [], ◌∷◌, ◌++◌, Option, Some, None}
 use Rattle.std.specs.Global.{Global}
 use Rattle.std.specs.declared.vec.Vec.{Vec}
 use Rattle.ls_text.specs.declared.name_id.NameId.{NameId}
@@ -42,6 +42,9 @@ target_text texts signals form (Some p) = at_or (λ (x : Signal). joined texts x
 abbrev pub first_target : FlatNode → Option Span
 first_target (Drive form lanes e) = first_of (lane_spans lanes)
 first_target (Block form body) = first_of (targets body)
+
+abbrev pub has_target : FlatNode → Bool
+has_target n = is_some (first_target n)
 
 abbrev pub form_of : FlatNode → TargetForm
 form_of (Drive form lanes e) = form

@@ -2,7 +2,7 @@
 //
 // `kids` finds the first signals of the instances within each instance, `copying` copies what a unit gives to where it stands, and `flattening`
 // does so for each instance. `naming` says what a node is called, by its first target (`targeting`), and `linking` orders the nodes or names
-// the loop. `laws` says that each table of instances is that of one tree.
+// the loop. `laws` says that each table of instances is that of one tree, and that each node of a loop has a target.
 #![tactic(auto)]
 
 mod copies;
@@ -14,5 +14,5 @@ mod linking;
 mod naming;
 mod targeting;
 
-pub use laws::trees_of_tables;
+pub use laws::{loops_are_named, trees_of_tables};
 pub use linking::{NODE_LIMIT, link, link_within};
