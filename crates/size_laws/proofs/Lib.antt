@@ -1,0 +1,4 @@
+pub mod Bounds
+pub mod Lengths
+pub mod Operands
+pub mod Forms

@@ -1,0 +1,3 @@
+pub mod Written
+pub mod Fitting
+pub mod Renumbering

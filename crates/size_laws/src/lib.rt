@@ -1,0 +1,6 @@
+// What is sized without a fault fits the signals of its scope.
+#![tactic(auto)]
+
+mod laws;
+
+pub use laws::sized_text_fits;
