@@ -21,7 +21,7 @@ use Rattle.size_laws.specs.Fitting.{FitsMeaning, FitsScope}
 use Rattle.size_laws.specs.Written.{IsWritten}
 use Rattle.size_laws.proofs.Bounds.{IsLong, long_from, width_from, long_if, few_if, literal_least, max_long, run_none, third_none}
 
-one_long : IsLong 1
+pub one_long : IsLong 1
 one_long = record { least = omega arith; most = omega arith }
 
 pub name_long : (m : Meaning) (widths : List ℕ) (due : Due) (n : Identifier) → FitsMeaning m widths → name_faults m due n ≡ [] → IsLong (name_length m)

@@ -2,3 +2,6 @@ pub mod Bounds
 pub mod Lengths
 pub mod Operands
 pub mod Forms
+pub mod Targets
+pub mod Statements
+pub mod Drives

@@ -1,15 +1,21 @@
 // What is sized without a fault fits the signals of its scope.
 ghost use Rattle.std.specs.Prelude.{◌≡◌, ◌≤◌, ℕ, Bool, true, List, []};
 ghost use Rattle.typed_ir.specs.Sized.{is_width, width_of};
-ghost use Rattle.typed_ir.specs.Stmts.{is_sized};
-ghost use Rattle.verilog_ast.specs.Expressions.{Expression};
+ghost use Rattle.typed_ir.specs.Stmts.{is_sized, are_targets, is_legal};
+ghost use Rattle.verilog_ast.specs.Expressions.{Expression, Target};
+ghost use Rattle.verilog_ast.specs.Items.{ContinuousAssignment};
+ghost use Rattle.verilog_ast.specs.Statements.{Statement};
 ghost use Rattle.width_rules.specs.declared.due.Due.{Due};
+ghost use Rattle.width_rules.specs.declared.writer.Writer.{Writer};
 ghost use Rattle.width_rules.specs.Faults.{faults};
 ghost use Rattle.width_rules.specs.Opened.{own};
 ghost use Rattle.width_rules.specs.Scopes.{Scope};
 ghost use Rattle.width_rules.specs.Sizes.{length, push};
-ghost use Rattle.size_laws.specs.Fitting.{FitsScope};
-ghost use Rattle.size_laws.specs.Written.{IsWritten};
+ghost use Rattle.statement_rules.specs.Drives.{assign_faults};
+ghost use Rattle.statement_rules.specs.Statements.{sized_statement, statement_faults};
+ghost use Rattle.statement_rules.specs.Targets.{parts, target_faults, kind_faults};
+ghost use Rattle.size_laws.specs.Fitting.{FitsScope, FitDrives};
+ghost use Rattle.size_laws.specs.Written.{IsWritten, IsTargetWritten, IsStatementWritten, AreAssignsWritten};
 
 /// Under a scope that fits the widths of signals, what has no fault and is sized has widths that agree, and reads and writes these signals alone.
 #[tactic(none)]
@@ -24,4 +30,10 @@ pub fn sized_text_fits()
         → is_sized (own scope e) widths ≡ true }
     ensures own_widths { (scope : Scope) (widths : List ℕ) (due : Due) (e : Expression) → FitsScope scope widths → IsWritten e → faults scope due e ≡ []
         → width_of (own scope e) ≡ length scope e }
+    ensures targets { (scope : Scope) (widths : List ℕ) (due : Due) (by : Writer) (t : Target) → FitsScope scope widths → IsTargetWritten t → target_faults scope due t ≡ []
+        → kind_faults scope by t ≡ [] → are_targets (parts scope 0 t) widths ≡ true }
+    ensures statements { (scope : Scope) (widths : List ℕ) (by : Writer) (x : Statement) → FitsScope scope widths → IsStatementWritten x → statement_faults scope by x ≡ []
+        → is_legal (sized_statement scope by x) widths ≡ true }
+    ensures drives { (scope : Scope) (widths : List ℕ) (xs : List ContinuousAssignment) → FitsScope scope widths → AreAssignsWritten xs → assign_faults scope xs ≡ []
+        → FitDrives scope xs widths }
 {}

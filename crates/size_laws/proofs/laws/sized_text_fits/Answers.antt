@@ -1,5 +1,8 @@
 use Rattle.size_laws.proofs.Forms.{form_sized, form_width, own_sized, own_width}
 use Rattle.size_laws.proofs.Lengths.{width_is}
+use Rattle.size_laws.proofs.Drives.{drives_fit}
+use Rattle.size_laws.proofs.Statements.{legal}
+use Rattle.size_laws.proofs.Targets.{target_parts}
 use Rattle.size_laws.proofs.laws.sized_text_fits.Goals as goal
 
 pub returns-clause-lengths : goal.returns-clause-lengths
@@ -16,3 +19,12 @@ returns-clause-own c = own_sized
 
 pub returns-clause-own_widths : goal.returns-clause-own_widths
 returns-clause-own_widths c = own_width
+
+pub returns-clause-targets : goal.returns-clause-targets
+returns-clause-targets c = target_parts
+
+pub returns-clause-statements : goal.returns-clause-statements
+returns-clause-statements c = legal
+
+pub returns-clause-drives : goal.returns-clause-drives
+returns-clause-drives c = drives_fit
