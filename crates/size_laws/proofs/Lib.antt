@@ -5,3 +5,4 @@ pub mod Forms
 pub mod Targets
 pub mod Statements
 pub mod Drives
+pub mod RenumberedForms

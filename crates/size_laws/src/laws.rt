@@ -7,14 +7,17 @@ ghost use Rattle.verilog_ast.specs.Items.{ContinuousAssignment};
 ghost use Rattle.verilog_ast.specs.Statements.{Statement};
 ghost use Rattle.width_rules.specs.declared.due.Due.{Due};
 ghost use Rattle.width_rules.specs.declared.writer.Writer.{Writer};
+ghost use Rattle.width_rules.specs.Constants.{integer};
 ghost use Rattle.width_rules.specs.Faults.{faults};
 ghost use Rattle.width_rules.specs.Opened.{own};
 ghost use Rattle.width_rules.specs.Scopes.{Scope};
-ghost use Rattle.width_rules.specs.Sizes.{length, push};
+ghost use Rattle.width_rules.specs.Signs.{is_signed};
+ghost use Rattle.width_rules.specs.Sizes.{length, push, is_constant};
 ghost use Rattle.statement_rules.specs.Drives.{assign_faults};
 ghost use Rattle.statement_rules.specs.Statements.{sized_statement, statement_faults};
 ghost use Rattle.statement_rules.specs.Targets.{parts, target_faults, kind_faults};
 ghost use Rattle.size_laws.specs.Fitting.{FitsScope, FitDrives};
+ghost use Rattle.size_laws.specs.Renumbering.{renumbered, numbered_as};
 ghost use Rattle.size_laws.specs.Written.{IsWritten, IsTargetWritten, IsStatementWritten, AreAssignsWritten};
 
 /// Under a scope that fits the widths of signals, what has no fault and is sized has widths that agree, and reads and writes these signals alone.
@@ -36,4 +39,15 @@ pub fn sized_text_fits()
         → is_legal (sized_statement scope by x) widths ≡ true }
     ensures drives { (scope : Scope) (widths : List ℕ) (xs : List ContinuousAssignment) → FitsScope scope widths → AreAssignsWritten xs → assign_faults scope xs ≡ []
         → FitDrives scope xs widths }
+{}
+
+/// Under a scope whose signals have other numbers, expressions, targets, statements and continuous assignments have the same sized form under
+/// these numbers, and the same lengths, signs, constants and faults.
+#[tactic(none)]
+pub fn signals_may_be_renumbered()
+    ensures signs { (g : ℕ → ℕ) (scope : Scope) (e : Expression) → is_signed (renumbered g scope) e ≡ is_signed scope e }
+    ensures lengths { (g : ℕ → ℕ) (scope : Scope) (e : Expression) → length (renumbered g scope) e ≡ length scope e }
+    ensures known { (g : ℕ → ℕ) (scope : Scope) (e : Expression) → is_constant (renumbered g scope) e ≡ is_constant scope e }
+    ensures values { (g : ℕ → ℕ) (scope : Scope) (e : Expression) → integer (renumbered g scope) e ≡ integer scope e }
+    ensures forms { (g : ℕ → ℕ) (scope : Scope) (e : Expression) (l : ℕ) (t : Bool) → push (renumbered g scope) e l t ≡ numbered_as g (push scope e l t) }
 {}
