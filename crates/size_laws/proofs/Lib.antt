@@ -6,3 +6,6 @@ pub mod Targets
 pub mod Statements
 pub mod Drives
 pub mod RenumberedForms
+pub mod RenumberedFaults
+pub mod RenumberedTargets
+pub mod RenumberedStatements

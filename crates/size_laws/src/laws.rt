@@ -1,5 +1,5 @@
 // What is sized without a fault fits the signals of its scope.
-ghost use Rattle.std.specs.Prelude.{◌≡◌, ◌≤◌, ℕ, Bool, true, List, []};
+ghost use Rattle.std.specs.Prelude.{◌≡◌, ◌≤◌, ℕ, Bool, true, List, [], map};
 ghost use Rattle.typed_ir.specs.Sized.{is_width, width_of};
 ghost use Rattle.typed_ir.specs.Stmts.{is_sized, are_targets, is_legal};
 ghost use Rattle.verilog_ast.specs.Expressions.{Expression, Target};
@@ -7,17 +7,18 @@ ghost use Rattle.verilog_ast.specs.Items.{ContinuousAssignment};
 ghost use Rattle.verilog_ast.specs.Statements.{Statement};
 ghost use Rattle.width_rules.specs.declared.due.Due.{Due};
 ghost use Rattle.width_rules.specs.declared.writer.Writer.{Writer};
+ghost use Rattle.width_rules.specs.declared.writer.Writer.TheVariants.{Continuous};
 ghost use Rattle.width_rules.specs.Constants.{integer};
 ghost use Rattle.width_rules.specs.Faults.{faults};
 ghost use Rattle.width_rules.specs.Opened.{own};
 ghost use Rattle.width_rules.specs.Scopes.{Scope};
 ghost use Rattle.width_rules.specs.Signs.{is_signed};
 ghost use Rattle.width_rules.specs.Sizes.{length, push, is_constant};
-ghost use Rattle.statement_rules.specs.Drives.{assign_faults};
-ghost use Rattle.statement_rules.specs.Statements.{sized_statement, statement_faults};
-ghost use Rattle.statement_rules.specs.Targets.{parts, target_faults, kind_faults};
+ghost use Rattle.statement_rules.specs.Drives.{sized_drive, assign_faults};
+ghost use Rattle.statement_rules.specs.Statements.{sized_statement, item_faults, statement_faults};
+ghost use Rattle.statement_rules.specs.Targets.{target_length, parts, target_faults, kind_faults};
 ghost use Rattle.size_laws.specs.Fitting.{FitsScope, FitDrives};
-ghost use Rattle.size_laws.specs.Renumbering.{renumbered, numbered_as};
+ghost use Rattle.size_laws.specs.Renumbering.{renumbered, numbered_as, target_as, statement_as, drive_as};
 ghost use Rattle.size_laws.specs.Written.{IsWritten, IsTargetWritten, IsStatementWritten, AreAssignsWritten};
 
 /// Under a scope that fits the widths of signals, what has no fault and is sized has widths that agree, and reads and writes these signals alone.
@@ -50,4 +51,16 @@ pub fn signals_may_be_renumbered()
     ensures known { (g : ℕ → ℕ) (scope : Scope) (e : Expression) → is_constant (renumbered g scope) e ≡ is_constant scope e }
     ensures values { (g : ℕ → ℕ) (scope : Scope) (e : Expression) → integer (renumbered g scope) e ≡ integer scope e }
     ensures forms { (g : ℕ → ℕ) (scope : Scope) (e : Expression) (l : ℕ) (t : Bool) → push (renumbered g scope) e l t ≡ numbered_as g (push scope e l t) }
+    ensures faults { (g : ℕ → ℕ) (scope : Scope) (due : Due) (e : Expression) → faults (renumbered g scope) due e ≡ faults scope due e }
+    ensures targets { (g : ℕ → ℕ) (scope : Scope) (by : Writer) (shift : ℕ) (t : Target) → IsTargetWritten t → kind_faults scope by t ≡ []
+        → parts (renumbered g scope) shift t ≡ map (target_as g) (parts scope shift t) }
+    ensures target_lengths { (g : ℕ → ℕ) (scope : Scope) (t : Target) → target_length (renumbered g scope) t ≡ target_length scope t }
+    ensures target_faults { (g : ℕ → ℕ) (scope : Scope) (due : Due) (t : Target) → target_faults (renumbered g scope) due t ≡ target_faults scope due t }
+    ensures kinds { (g : ℕ → ℕ) (scope : Scope) (by : Writer) (t : Target) → kind_faults (renumbered g scope) by t ≡ kind_faults scope by t }
+    ensures statements { (g : ℕ → ℕ) (scope : Scope) (by : Writer) (x : Statement) → IsStatementWritten x → item_faults scope by x ≡ []
+        → sized_statement (renumbered g scope) by x ≡ statement_as g (sized_statement scope by x) }
+    ensures statement_faults { (g : ℕ → ℕ) (scope : Scope) (by : Writer) (x : Statement) → statement_faults (renumbered g scope) by x ≡ statement_faults scope by x }
+    ensures drives { (g : ℕ → ℕ) (scope : Scope) (x : ContinuousAssignment) → IsTargetWritten x.target → kind_faults scope Continuous x.target ≡ []
+        → sized_drive (renumbered g scope) x ≡ drive_as g (sized_drive scope x) }
+    ensures drive_faults { (g : ℕ → ℕ) (scope : Scope) (xs : List ContinuousAssignment) → assign_faults (renumbered g scope) xs ≡ assign_faults scope xs }
 {}
