@@ -9,3 +9,4 @@ pub mod RenumberedForms
 pub mod RenumberedFaults
 pub mod RenumberedTargets
 pub mod RenumberedStatements
+pub mod Trees

@@ -2,12 +2,17 @@
 ghost use Rattle.std.specs.Prelude.{◌≡◌, ◌≤◌, ℕ, Bool, true, List, [], map};
 ghost use Rattle.typed_ir.specs.Sized.{is_width, width_of};
 ghost use Rattle.typed_ir.specs.Stmts.{is_sized, are_targets, is_legal};
+ghost use Rattle.verilog_ast.specs.declared.continuous.Continuous.{Continuous};
+ghost use Rattle.verilog_ast.specs.declared.expression.Expr.{Expr};
+ghost use Rattle.verilog_ast.specs.declared.statement.Stmt.{Stmt};
+ghost use Rattle.verilog_ast.specs.declared.target.Lhs.{Lhs};
 ghost use Rattle.verilog_ast.specs.Expressions.{Expression, Target};
 ghost use Rattle.verilog_ast.specs.Items.{ContinuousAssignment};
 ghost use Rattle.verilog_ast.specs.Statements.{Statement};
+ghost use Rattle.verilog_ast.specs.Views.{expression_of, target_of, statement_of, assignment_of};
 ghost use Rattle.width_rules.specs.declared.due.Due.{Due};
 ghost use Rattle.width_rules.specs.declared.writer.Writer.{Writer};
-ghost use Rattle.width_rules.specs.declared.writer.Writer.TheVariants.{Continuous};
+ghost use Rattle.width_rules.specs.declared.writer.Writer.TheVariants as writer;
 ghost use Rattle.width_rules.specs.Constants.{integer};
 ghost use Rattle.width_rules.specs.Faults.{faults};
 ghost use Rattle.width_rules.specs.Opened.{own};
@@ -60,7 +65,16 @@ pub fn signals_may_be_renumbered()
     ensures statements { (g : ℕ → ℕ) (scope : Scope) (by : Writer) (x : Statement) → IsStatementWritten x → item_faults scope by x ≡ []
         → sized_statement (renumbered g scope) by x ≡ statement_as g (sized_statement scope by x) }
     ensures statement_faults { (g : ℕ → ℕ) (scope : Scope) (by : Writer) (x : Statement) → statement_faults (renumbered g scope) by x ≡ statement_faults scope by x }
-    ensures drives { (g : ℕ → ℕ) (scope : Scope) (x : ContinuousAssignment) → IsTargetWritten x.target → kind_faults scope Continuous x.target ≡ []
+    ensures drives { (g : ℕ → ℕ) (scope : Scope) (x : ContinuousAssignment) → IsTargetWritten x.target → kind_faults scope writer.Continuous x.target ≡ []
         → sized_drive (renumbered g scope) x ≡ drive_as g (sized_drive scope x) }
     ensures drive_faults { (g : ℕ → ℕ) (scope : Scope) (xs : List ContinuousAssignment) → assign_faults (renumbered g scope) xs ≡ assign_faults scope xs }
+{}
+
+/// What a tree of the code is as plain data is written as a parser writes it.
+#[tactic(none)]
+pub fn trees_are_written()
+    ensures expressions { (x : Expr) → IsWritten (expression_of x) }
+    ensures targets { (x : Lhs) → IsTargetWritten (target_of x) }
+    ensures statements { (x : Stmt) → IsStatementWritten (statement_of x) }
+    ensures assignments { (xs : List Continuous) → AreAssignsWritten (map assignment_of xs) }
 {}

@@ -3,4 +3,4 @@
 
 mod laws;
 
-pub use laws::{signals_may_be_renumbered, sized_text_fits};
+pub use laws::{signals_may_be_renumbered, sized_text_fits, trees_are_written};
