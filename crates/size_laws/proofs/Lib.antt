@@ -10,3 +10,4 @@ pub mod RenumberedFaults
 pub mod RenumberedTargets
 pub mod RenumberedStatements
 pub mod Trees
+pub mod Example

@@ -11,8 +11,9 @@ ghost use Rattle.verilog_ast.specs.Items.{ContinuousAssignment};
 ghost use Rattle.verilog_ast.specs.Statements.{Statement};
 ghost use Rattle.verilog_ast.specs.Views.{expression_of, target_of, statement_of, assignment_of};
 ghost use Rattle.width_rules.specs.declared.due.Due.{Due};
+ghost use Rattle.width_rules.specs.declared.due.Due.TheVariants.{AnyValue};
 ghost use Rattle.width_rules.specs.declared.writer.Writer.{Writer};
-ghost use Rattle.width_rules.specs.declared.writer.Writer.TheVariants as writer;
+ghost use Rattle.width_rules.specs.declared.writer.Writer.TheVariants.{Combinational, Continuous as ByAssign};
 ghost use Rattle.width_rules.specs.Constants.{integer};
 ghost use Rattle.width_rules.specs.Faults.{faults};
 ghost use Rattle.width_rules.specs.Opened.{own};
@@ -22,6 +23,7 @@ ghost use Rattle.width_rules.specs.Sizes.{length, push, is_constant};
 ghost use Rattle.statement_rules.specs.Drives.{sized_drive, assign_faults};
 ghost use Rattle.statement_rules.specs.Statements.{sized_statement, item_faults, statement_faults};
 ghost use Rattle.statement_rules.specs.Targets.{target_length, parts, target_faults, kind_faults};
+ghost use Rattle.size_laws.specs.Examples.{scope, widths, expression, statement, assignments};
 ghost use Rattle.size_laws.specs.Fitting.{FitsScope, FitDrives};
 ghost use Rattle.size_laws.specs.Renumbering.{renumbered, numbered_as, target_as, statement_as, drive_as};
 ghost use Rattle.size_laws.specs.Written.{IsWritten, IsTargetWritten, IsStatementWritten, AreAssignsWritten};
@@ -45,6 +47,9 @@ pub fn sized_text_fits()
         → is_legal (sized_statement scope by x) widths ≡ true }
     ensures drives { (scope : Scope) (widths : List ℕ) (xs : List ContinuousAssignment) → FitsScope scope widths → AreAssignsWritten xs → assign_faults scope xs ≡ []
         → FitDrives scope xs widths }
+    ensures example { FitsScope scope widths × (IsWritten expression × (faults scope AnyValue expression ≡ []))
+        × (IsStatementWritten statement × (statement_faults scope Combinational statement ≡ []))
+        × (AreAssignsWritten assignments × (assign_faults scope assignments ≡ [])) }
 {}
 
 /// Under a scope whose signals have other numbers, expressions, targets, statements and continuous assignments have the same sized form under
@@ -65,7 +70,7 @@ pub fn signals_may_be_renumbered()
     ensures statements { (g : ℕ → ℕ) (scope : Scope) (by : Writer) (x : Statement) → IsStatementWritten x → item_faults scope by x ≡ []
         → sized_statement (renumbered g scope) by x ≡ statement_as g (sized_statement scope by x) }
     ensures statement_faults { (g : ℕ → ℕ) (scope : Scope) (by : Writer) (x : Statement) → statement_faults (renumbered g scope) by x ≡ statement_faults scope by x }
-    ensures drives { (g : ℕ → ℕ) (scope : Scope) (x : ContinuousAssignment) → IsTargetWritten x.target → kind_faults scope writer.Continuous x.target ≡ []
+    ensures drives { (g : ℕ → ℕ) (scope : Scope) (x : ContinuousAssignment) → IsTargetWritten x.target → kind_faults scope ByAssign x.target ≡ []
         → sized_drive (renumbered g scope) x ≡ drive_as g (sized_drive scope x) }
     ensures drive_faults { (g : ℕ → ℕ) (scope : Scope) (xs : List ContinuousAssignment) → assign_faults (renumbered g scope) xs ≡ assign_faults scope xs }
 {}

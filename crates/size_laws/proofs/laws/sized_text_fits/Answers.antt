@@ -1,3 +1,4 @@
+use Rattle.size_laws.proofs.Example.{scope_fits, expression_written, expression_right, statement_written, statement_right, assignments_written, assignments_right}
 use Rattle.size_laws.proofs.Forms.{form_sized, form_width, own_sized, own_width}
 use Rattle.size_laws.proofs.Lengths.{width_is}
 use Rattle.size_laws.proofs.Drives.{drives_fit}
@@ -28,3 +29,7 @@ returns-clause-statements c = legal
 
 pub returns-clause-drives : goal.returns-clause-drives
 returns-clause-drives c = drives_fit
+
+pub returns-clause-example : goal.returns-clause-example
+returns-clause-example c =
+    (scope_fits, (expression_written, expression_right), (statement_written, statement_right), (assignments_written, assignments_right))
