@@ -1,7 +1,7 @@
 -- Numbers of 1 to 128, tests of widths, and tests of faults that are none.
-use Rattle.std.proofs.Common.{◌≡◌, ℕ, zero, suc, ◌+◌, ◌*◌, ◌≤◌, ◌<◌, ◌==◌, ◌&&◌, max, Bool, true, false, not, List, [], ◌∷◌, ◌++◌, nat_le, nat_lt, refl, sym, ◌∙◌, ap, subst, true≢false, leb-true, le-leb, eqb-true, eq-eqb, arith}
-use Rattle.std.proofs.lemmas.Bool.{and_from, leb-false, ltb-false, cond-true, cond-false}
-use Rattle.std.proofs.Math.Nat.{le-max_left, le-max_right}
+use Rattle.std.proofs.Common.{◌≡◌, ℕ, zero, suc, ◌≤◌, ◌==◌, max, Bool, true, false, not, List, [], ◌∷◌, ◌++◌, nat_le, nat_lt, refl, sym, ap, subst, true≢false, leb-true, le-leb, arith}
+use Rattle.std.proofs.lemmas.Bool.{and_from, ltb-false, cond-true, cond-false}
+use Rattle.std.proofs.Math.Nat.{le-max_left}
 use Rattle.typed_ir.proofs.Cases.{by_cases, and_left, and_right}
 use Rattle.ls_text.specs.declared.fault.Fault.{Fault}
 use Rattle.typed_ir.specs.Sized.{is_width}

@@ -57,11 +57,11 @@ reference_fixed scope shift (PartSelect n x y) h = range_fixed (scope n.name.0) 
 reference_fixed scope shift (UpwardSelect n x y) h =
     run_fixed (scope n.name.0) shift (count_of (integer scope y)) 0 (is_constant scope x) (integer scope x) (is_signed scope x) (own scope x)
     (due_constant scope x (run_none (target_name_faults (scope n.name.0) n) (faults scope ConstantOnly x) (faults scope ConstantOnly y) (width_faults n y (count_of (integer scope y)))
-        (run_faults (scope n.name.0) (is_constant scope x) (integer scope x) (count_of (integer scope y)) 0 n) h).index)
+    (run_faults (scope n.name.0) (is_constant scope x) (integer scope x) (count_of (integer scope y)) 0 n) h).index)
 reference_fixed scope shift (DownwardSelect n x y) h =
     run_fixed (scope n.name.0) shift (count_of (integer scope y)) (count_of (integer scope y) - 1) (is_constant scope x) (integer scope x) (is_signed scope x) (own scope x)
     (due_constant scope x (run_none (target_name_faults (scope n.name.0) n) (faults scope ConstantOnly x) (faults scope ConstantOnly y) (width_faults n y (count_of (integer scope y)))
-        (run_faults (scope n.name.0) (is_constant scope x) (integer scope x) (count_of (integer scope y)) (count_of (integer scope y) - 1) n) h).index)
+    (run_faults (scope n.name.0) (is_constant scope x) (integer scope x) (count_of (integer scope y)) (count_of (integer scope y) - 1) n) h).index)
 reference_fixed scope shift other h = refl
 
 fixed_more : (xs ys : List SizedTarget) → are_fixed xs ≡ true → are_fixed ys ≡ true → are_fixed (xs ++ ys) ≡ true
@@ -99,7 +99,7 @@ each_fits scope widths (x ∷ xs) ok w h k = (
   drive_fits scope widths x ok w.0.0 w.0.1 (left_none (drive_faults scope x) (all_drive_faults scope xs) h)
       (left_none (kind_faults scope writer.Continuous x.target) (all_kind_faults scope xs) k),
   each_fits scope widths xs ok w.1 (right_none (drive_faults scope x) (all_drive_faults scope xs) h)
-      (right_none (kind_faults scope writer.Continuous x.target) (all_kind_faults scope xs) k)
+      (right_none (kind_faults scope writer.Continuous x.target) (all_kind_faults scope xs) k),
 )
 
 pub drives_fit : (scope : Scope) (widths : List ℕ) (xs : List ContinuousAssignment) → FitsScope scope widths → AreAssignsWritten xs → assign_faults scope xs ≡ []

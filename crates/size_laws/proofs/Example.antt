@@ -1,6 +1,5 @@
 -- That the texts of the example are without a fault in its scope.
-use Rattle.std.proofs.Common.{◌≡◌, ℕ, zero, suc, ◌<◌, ◌^◌, List, [], refl, ltb-true, arith}
-use Rattle.ls_text.specs.declared.fault.Fault.{Fault}
+use Rattle.std.proofs.Common.{◌≡◌, zero, suc, ◌^◌, [], refl, ltb-true}
 use Rattle.width_rules.specs.declared.due.Due.TheVariants.{AnyValue}
 use Rattle.width_rules.specs.declared.writer.Writer.TheVariants.{Combinational}
 use Rattle.width_rules.specs.Faults.{faults}

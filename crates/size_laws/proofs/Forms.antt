@@ -1,7 +1,6 @@
 -- An expression without a fault, sized, fits the signals of its scope.
-use Rattle.std.proofs.Common.{◌≡◌, ℕ, zero, suc, ◌+◌, ◌-◌, ◌*◌, ◌%◌, ◌^◌, ◌≤◌, ◌==◌, max, Bool, true, List, [], ◌++◌, ℤ, refl, sym, ◌∙◌, ap, subst, arith}
+use Rattle.std.proofs.Common.{◌≡◌, ℕ, zero, suc, ◌+◌, ◌-◌, ◌*◌, ◌%◌, ◌^◌, ◌≤◌, ◌==◌, Bool, true, List, [], ◌++◌, arith}
 use Rattle.std.proofs.Math.Nat.{le-max_left, le-max_right}
-use Rattle.ls_text.specs.declared.fault.Fault.{Fault}
 use Rattle.typed_ir.specs.Sized as s
 use Rattle.typed_ir.specs.Sized.{Sized, width_of}
 use Rattle.typed_ir.specs.Stmts.{is_sized}
@@ -9,18 +8,18 @@ use Rattle.verilog_ast.specs.Expressions.{Expression, Literal, Whole, BitSelect,
 use Rattle.width_rules.specs.declared.due.Due.{Due}
 use Rattle.width_rules.specs.declared.due.Due.TheVariants.{ConstantOnly}
 use Rattle.width_rules.specs.Constants.{integer}
-use Rattle.width_rules.specs.Faults.{faults, fault_at, fault_if, fault_of, name_faults, run_faults, range_faults, part_faults, width_faults, total_faults}
+use Rattle.width_rules.specs.Faults.{faults, fault_if, fault_of, name_faults, run_faults, part_faults, width_faults, total_faults}
 use Rattle.width_rules.specs.Opened.{own}
 use Rattle.width_rules.specs.Operators.{unary_kind, operator_of}
 use Rattle.width_rules.specs.Scopes.{Scope}
 use Rattle.width_rules.specs.Signs.{is_signed}
-use Rattle.width_rules.specs.Sizes.{Operand, length, push, joined, beside, literal_length, is_constant, count_of, bits_between, bits_at, bits_from, extended}
+use Rattle.width_rules.specs.Sizes.{Operand, length, push, joined, beside, literal_length, is_constant, count_of, bits_between, bits_at, bits_from}
 use Rattle.width_rules.proofs.Reading.{left_none, right_none}
 use Rattle.size_laws.specs.Fitting.{FitsScope}
 use Rattle.size_laws.specs.Written.{IsWritten, ArePartsWritten}
 use Rattle.size_laws.proofs.Bounds.{IsLong, some_if, run_none, third_none}
 use Rattle.size_laws.proofs.Lengths.{one_long, is_long, part_long, part_place, run_long, total_long}
-use Rattle.size_laws.proofs.Operands.{Fits, constant_fits, extended_fits, name_fits, bits_sized, range_sized, alone_fits, unary_fits, binary_fits, choice_fits, above_fits, repeated_sized}
+use Rattle.size_laws.proofs.Operands.{Fits, constant_fits, extended_fits, name_fits, bits_sized, range_sized, alone_fits, unary_fits, binary_fits, choice_fits, above_fits, repeated_sized, same_long}
 
 abbrev seen : Scope → Expression → Operand
 seen scope x = record { own = length scope x; sign = is_signed scope x; at = push scope x }
@@ -36,9 +35,6 @@ one_least n (suc w) h = omega arith
 one_most : (n w : ℕ) → 1 ≤ n → n * w ≤ 128 → w ≤ 128
 one_most zero w h k = omega (arith, h)
 one_most (suc n) w h k = omega (arith, k)
-
-same_long : (n : ℕ) → n ≤ n
-same_long n = omega arith
 
 at_least : (a l : ℕ) → IsLong a → a ≤ l → l ≤ 128 → IsLong l
 at_least a l long h k = record { least = omega (arith, long.least, h); most = k }
@@ -62,7 +58,7 @@ mutual
   form_fits scope widths due (PartSelect n x y) l t ok w h least most =
       let width : ℕ = bits_between (integer scope x) (integer scope y) in
       let none : part_faults (scope n.name.0) (integer scope y) width n ≡ [] =
-          third_none (name_faults (scope n.name.0) due n) (faults scope ConstantOnly x) (faults scope ConstantOnly y) (part_faults (scope n.name.0) (integer scope y) width n) h in
+      third_none (name_faults (scope n.name.0) due n) (faults scope ConstantOnly x) (faults scope ConstantOnly y) (part_faults (scope n.name.0) (integer scope y) width n) h in
       let long : IsLong width = part_long (scope n.name.0) (integer scope y) width n none in
       extended_fits (bits_from (scope n.name.0) (integer scope y) width) l t widths
       (range_sized (scope n.name.0) widths (integer scope y) width n (ok n.name.0) long (part_place (scope n.name.0) (integer scope y) width n none))
@@ -70,7 +66,7 @@ mutual
   form_fits scope widths due (UpwardSelect n x y) l t ok w h least most =
       let width : ℕ = count_of (integer scope y) in
       let none = run_none (name_faults (scope n.name.0) due n) (faults scope due x) (faults scope ConstantOnly y) (width_faults n y width)
-          (run_faults (scope n.name.0) (is_constant scope x) (integer scope x) width 0 n) h in
+      (run_faults (scope n.name.0) (is_constant scope x) (integer scope x) width 0 n) h in
       let long : IsLong width = run_long n y width none.width in
       extended_fits (bits_at (scope n.name.0) width 0 (is_constant scope x) (integer scope x) (is_signed scope x) (own scope x)) l t widths
       (bits_sized (scope n.name.0) widths width 0 (is_constant scope x) (integer scope x) (is_signed scope x) (own scope x) n (ok n.name.0) long
@@ -79,7 +75,7 @@ mutual
   form_fits scope widths due (DownwardSelect n x y) l t ok w h least most =
       let width : ℕ = count_of (integer scope y) in
       let none = run_none (name_faults (scope n.name.0) due n) (faults scope due x) (faults scope ConstantOnly y) (width_faults n y width)
-          (run_faults (scope n.name.0) (is_constant scope x) (integer scope x) width (width - 1) n) h in
+      (run_faults (scope n.name.0) (is_constant scope x) (integer scope x) width (width - 1) n) h in
       let long : IsLong width = run_long n y width none.width in
       extended_fits (bits_at (scope n.name.0) width (width - 1) (is_constant scope x) (integer scope x) (is_signed scope x) (own scope x)) l t widths
       (bits_sized (scope n.name.0) widths width (width - 1) (is_constant scope x) (integer scope x) (is_signed scope x) (own scope x) n (ok n.name.0) long
@@ -136,8 +132,8 @@ mutual
       let some : wide ≤ 128 = omega (arith, most) in
       let q : Fits (own scope x) (length scope x) widths = alone_fits (seen scope x) widths (is_long scope widths due x ok w.0 (left_none (faults scope due x) (faults scope due xs) h)) (λ i u. form_fits scope widths due x i u ok w.0 (left_none (faults scope due x) (faults scope due xs) h)) in
       let r : Fits (beside scope wide (s.Concat wide before (own scope x)) xs) (wide + length scope xs) widths =
-          beside_fits scope widths due wide (s.Concat wide before (own scope x)) xs ok w.1 (right_none (faults scope due x) (faults scope due xs) h)
-          (above_fits before (own scope x) width (length scope x) widths p q some) (omega (arith, most)) in
+      beside_fits scope widths due wide (s.Concat wide before (own scope x)) xs ok w.1 (right_none (faults scope due x) (faults scope due xs) h)
+      (above_fits before (own scope x) width (length scope x) widths p q some) (omega (arith, most)) in
       record { sized = r.sized; width = omega (arith, r.width) }
   beside_fits scope widths due width before other ok w h p most = absurd w
 

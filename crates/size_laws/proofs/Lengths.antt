@@ -1,6 +1,5 @@
 -- An expression without a fault has 1 to 128 bits.
-use Rattle.std.proofs.Common.{◌≡◌, ℕ, ◌+◌, ◌-◌, ◌*◌, ◌≤◌, ◌==◌, max, Bool, true, List, [], ◌++◌, nat_lt, ℤ, refl, arith}
-use Rattle.ls_text.specs.declared.fault.Fault.{Fault}
+use Rattle.std.proofs.Common.{◌≡◌, ℕ, ◌-◌, ◌*◌, ◌==◌, true, List, [], ◌++◌, nat_lt, ℤ, arith}
 use Rattle.ls_text.specs.declared.place.Place.{Place}
 use Rattle.typed_ir.specs.Sized.{is_width}
 use Rattle.typed_ir.specs.declared.binary_operator.BinaryOperator.{BinaryOperator as Operator}
@@ -76,15 +75,15 @@ is_long scope widths due (BitSelect n x) ok w h = one_long
 is_long scope widths due (PartSelect n x y) ok w h =
     part_long (scope n.name.0) (integer scope y) (bits_between (integer scope x) (integer scope y)) n
     (third_none (name_faults (scope n.name.0) due n) (faults scope ConstantOnly x) (faults scope ConstantOnly y)
-        (part_faults (scope n.name.0) (integer scope y) (bits_between (integer scope x) (integer scope y)) n) h)
+    (part_faults (scope n.name.0) (integer scope y) (bits_between (integer scope x) (integer scope y)) n) h)
 is_long scope widths due (UpwardSelect n x y) ok w h =
     run_long n y (count_of (integer scope y))
     (run_none (name_faults (scope n.name.0) due n) (faults scope due x) (faults scope ConstantOnly y) (width_faults n y (count_of (integer scope y)))
-        (run_faults (scope n.name.0) (is_constant scope x) (integer scope x) (count_of (integer scope y)) 0 n) h).width
+    (run_faults (scope n.name.0) (is_constant scope x) (integer scope x) (count_of (integer scope y)) 0 n) h).width
 is_long scope widths due (DownwardSelect n x y) ok w h =
     run_long n y (count_of (integer scope y))
     (run_none (name_faults (scope n.name.0) due n) (faults scope due x) (faults scope ConstantOnly y) (width_faults n y (count_of (integer scope y)))
-        (run_faults (scope n.name.0) (is_constant scope x) (integer scope x) (count_of (integer scope y)) (count_of (integer scope y) - 1) n) h).width
+    (run_faults (scope n.name.0) (is_constant scope x) (integer scope x) (count_of (integer scope y)) (count_of (integer scope y) - 1) n) h).width
 is_long scope widths due (Unary at op x) ok w h = unary_long (unary_kind op) (length scope x) (is_long scope widths due x ok w h)
 is_long scope widths due (Binary op x y) ok w h =
     binary_long (operator_of op) (length scope x) (length scope y)

@@ -5,6 +5,7 @@ pub mod Forms
 pub mod Targets
 pub mod Statements
 pub mod Drives
+pub mod Lanes
 pub mod RenumberedForms
 pub mod RenumberedFaults
 pub mod RenumberedTargets

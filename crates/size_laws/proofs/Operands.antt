@@ -1,15 +1,14 @@
 -- Names, selects and operators whose operands fit the signals fit them.
-use Rattle.std.proofs.Common.{◌≡◌, ℕ, ◌+◌, ◌-◌, ◌*◌, ◌%◌, ◌^◌, ◌≤◌, ◌<◌, ◌==◌, ◌&&◌, max, Bool, true, false, not, List, [], ◌∷◌, slice_index, nat_le, nat_lt, ℤ, pos, negsuc, refl, sym, ◌∙◌, ap, subst, true≢false, leb-true, le-leb, lt-ltb, eqb-true, eq-eqb, arith}
+use Rattle.std.proofs.Common.{◌≡◌, ℕ, ◌+◌, ◌-◌, ◌*◌, ◌^◌, ◌≤◌, ◌<◌, ◌==◌, ◌&&◌, max, Bool, true, false, List, [], slice_index, nat_le, nat_lt, ℤ, pos, negsuc, refl, sym, ◌∙◌, ap, subst, true≢false, leb-true, le-leb, lt-ltb, eqb-true, eq-eqb, arith}
 use Rattle.std.specs.Prelude.{length as count}
 use Rattle.std.proofs.lemmas.Bool.{and_from, cond-true, cond-false}
 use Rattle.std.proofs.Math.Nat.{le-max_left, le-max_right}
-use Rattle.bits.specs.Values.{wrapped, resized, signed_of}
+use Rattle.bits.specs.Values.{wrapped, resized}
 use Rattle.bits.proofs.Runs.{below_pow}
 use Rattle.typed_ir.proofs.Cases.{by_cases, and_left, and_right}
-use Rattle.typed_ir.specs.declared.unary_operator.UnaryOperator.TheVariants.{Inverse, Negative}
+use Rattle.typed_ir.specs.declared.unary_operator.UnaryOperator.TheVariants.{Inverse}
 use Rattle.typed_ir.specs.declared.binary_operator.BinaryOperator.{BinaryOperator as Operator}
 use Rattle.typed_ir.specs.declared.binary_operator.BinaryOperator.TheVariants.{Arithmetic, Compare, Logical, Shift}
-use Rattle.typed_ir.specs.declared.span.Span.{Span}
 use Rattle.typed_ir.specs.Sized as s
 use Rattle.typed_ir.specs.Sized.{Sized, agrees, fits_signals, is_signal, is_span, is_width, takes_widths, width_of}
 use Rattle.typed_ir.specs.Stmts.{is_sized}
@@ -17,10 +16,10 @@ use Rattle.verilog_ast.specs.declared.identifier.Identifier.{Identifier}
 use Rattle.width_rules.specs.declared.due.Due.{Due}
 use Rattle.width_rules.specs.declared.kinds.UnaryKind.{UnaryKind}
 use Rattle.width_rules.specs.declared.kinds.UnaryKind.TheVariants.{Kept, Negated, Inverted, OneBit, Complement}
-use Rattle.width_rules.specs.Faults.{fault_at, fault_if, lies, name_faults, run_faults, range_faults}
+use Rattle.width_rules.specs.Faults.{fault_at, lies, name_faults, run_faults, range_faults}
 use Rattle.width_rules.specs.Operators.{arithmetic_with, comparison_with, shift_with}
 use Rattle.width_rules.specs.Scopes.{Meaning, Signal, Constant, Turn, Genvar, Unknown}
-use Rattle.width_rules.specs.Sizes.{Operand, self_determined, unary_at, binary_at, unary_length, binary_length, extended, constant_at, name_at, name_length, bits_at, bits_from, low_of}
+use Rattle.width_rules.specs.Sizes.{Operand, self_determined, unary_at, binary_at, unary_length, binary_length, extended, constant_at, name_at, bits_at, bits_from, low_of}
 use Rattle.size_laws.specs.Fitting.{FitsMeaning}
 use Rattle.size_laws.proofs.Bounds.{IsLong, long_from, width_from, nothing_first, holds_if, max_most}
 
@@ -34,13 +33,6 @@ agreeing x widths h = and_left (agrees x) (fits_signals x widths) h
 
 pub signals_in : (x : Sized) (widths : List ℕ) → is_sized x widths ≡ true → fits_signals x widths ≡ true
 signals_in x widths h = and_right (agrees x) (fits_signals x widths) h
-
-pub both_sized : (x y : Sized) (widths : List ℕ) → is_sized x widths ≡ true → is_sized y widths ≡ true
-    → ((agrees x && agrees y) && (fits_signals x widths && fits_signals y widths)) ≡ true
-both_sized x y widths h k =
-    and_from (agrees x && agrees y) (fits_signals x widths && fits_signals y widths)
-    (and_from (agrees x) (agrees y) (agreeing x widths h) (agreeing y widths k))
-    (and_from (fits_signals x widths) (fits_signals y widths) (signals_in x widths h) (signals_in y widths k))
 
 -- ---- simple operands
 
@@ -58,13 +50,13 @@ constant_fits own value l t widths long = record {
 pub extended_fits : (x : Sized) (l : ℕ) (t : Bool) (widths : List ℕ) → is_sized x widths ≡ true → IsLong l → Fits (extended x l t) l widths
 extended_fits x l t widths h long = by_cases (width_of x == l)
     (λ y. subst (λ z. Fits z l widths) (sym (cond-true (width_of x == l) x (s.Resized x l t) y))
-        (record { sized = h; width = eqb-true (width_of x) l y }))
+    (record { sized = h; width = eqb-true (width_of x) l y }))
     (λ n. subst (λ z. Fits z l widths) (sym (cond-false (width_of x == l) x (s.Resized x l t) n))
-        (record {
-          sized = and_from (is_width l && agrees x) (fits_signals x widths)
-              (and_from (is_width l) (agrees x) (width_from l long) (agreeing x widths h)) (signals_in x widths h);
-          width = refl;
-        }))
+    (record {
+      sized = and_from (is_width l && agrees x) (fits_signals x widths)
+          (and_from (is_width l) (agrees x) (width_from l long) (agreeing x widths h)) (signals_in x widths h);
+      width = refl;
+    }))
 
 pub whole_sized : (signal width : ℕ) (widths : List ℕ) → is_width width ≡ true → is_signal signal width widths ≡ true → is_sized (s.Name signal width) widths ≡ true
 whole_sized signal width widths h k = and_from (is_width width) (is_signal signal width widths) h k
@@ -91,7 +83,7 @@ pub span_in : (signal low width total : ℕ) (widths : List ℕ) → is_signal s
     → is_span (record { signal = signal; low = low; width = width }) widths ≡ true
 span_in signal low width total widths there least most =
     let same : slice_index widths signal ≡ total =
-        eqb-true (slice_index widths signal) total (and_right (nat_lt signal (count widths)) (slice_index widths signal == total) there) in
+    eqb-true (slice_index widths signal) total (and_right (nat_lt signal (count widths)) (slice_index widths signal == total) there) in
     and_from (nat_lt signal (count widths)) (nat_le 1 width && nat_le (low + width) (slice_index widths signal)) (signal_there signal total widths there)
     (and_from (nat_le 1 width) (nat_le (low + width) (slice_index widths signal)) (le-leb 1 width least)
     (subst (λ z. nat_le (low + width) z ≡ true) (sym same) (le-leb (low + width) total most)))
@@ -101,7 +93,7 @@ part_sized : (signal low width total : ℕ) (widths : List ℕ) → is_width tot
 part_sized signal low width total widths wide there least most =
     and_from (nat_le 1 width && nat_le (low + width) 128) _
     (and_from (nat_le 1 width) (nat_le (low + width) 128) (le-leb 1 width least)
-        (le-leb (low + width) 128 (omega (arith, most, (long_from total wide).most))))
+    (le-leb (low + width) 128 (omega (arith, most, (long_from total wide).most))))
     (span_in signal low width total widths there least most)
 
 pick_sized : (signal width total below : ℕ) (signed : Bool) (index : Sized) (widths : List ℕ) → is_signal signal total widths ≡ true → IsLong width → is_sized index widths ≡ true
@@ -139,7 +131,7 @@ range_sized Unknown widths low width n fits long none = nothing_first (fault_at 
 abbrev pub FitsAt : Operand → List ℕ → Type 0
 FitsAt x widths = (l : ℕ) (t : Bool) → x.own ≤ l → l ≤ 128 → Fits (x.at l t) l widths
 
-same_long : (n : ℕ) → n ≤ n
+pub same_long : (n : ℕ) → n ≤ n
 same_long n = omega arith
 
 pub alone_fits : (x : Operand) (widths : List ℕ) → IsLong x.own → FitsAt x widths → Fits (self_determined x) x.own widths
@@ -211,7 +203,7 @@ pub above_fits : (a b : Sized) (v w : ℕ) (widths : List ℕ) → Fits a v widt
 above_fits a b v w widths p q most = record {
   sized = and_from (((v + w) == width_of a + width_of b) && (nat_le (v + w) 128 && (agrees a && agrees b))) (fits_signals a widths && fits_signals b widths)
       (and_from ((v + w) == width_of a + width_of b) (nat_le (v + w) 128 && (agrees a && agrees b))
-          (eq-eqb (v + w) (width_of a + width_of b) (omega (arith, p.width, q.width)))
+      (eq-eqb (v + w) (width_of a + width_of b) (omega (arith, p.width, q.width)))
       (and_from (nat_le (v + w) 128) (agrees a && agrees b) (le-leb (v + w) 128 most)
       (and_from (agrees a) (agrees b) (agreeing a widths p.sized) (agreeing b widths q.sized))))
       (and_from (fits_signals a widths) (fits_signals b widths) (signals_in a widths p.sized) (signals_in b widths q.sized));
@@ -222,7 +214,7 @@ pub repeated_sized : (count w : ℕ) (a : Sized) (widths : List ℕ) → 1 ≤ c
 repeated_sized count w a widths least most p =
     and_from (((count * w) == count * width_of a) && (nat_le 1 count && (nat_le (count * w) 128 && agrees a))) (fits_signals a widths)
     (and_from ((count * w) == count * width_of a) (nat_le 1 count && (nat_le (count * w) 128 && agrees a))
-        (eq-eqb (count * w) (count * width_of a) (ap (λ (z : ℕ). count * z) (sym p.width)))
+    (eq-eqb (count * w) (count * width_of a) (ap (λ (z : ℕ). count * z) (sym p.width)))
     (and_from (nat_le 1 count) (nat_le (count * w) 128 && agrees a) (le-leb 1 count least)
     (and_from (nat_le (count * w) 128) (agrees a) (le-leb (count * w) 128 most) (agreeing a widths p.sized))))
     (signals_in a widths p.sized)

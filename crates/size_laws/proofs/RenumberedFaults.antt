@@ -1,5 +1,5 @@
 -- Expressions and targets in a scope whose signals have other numbers: the same faults.
-use Rattle.std.proofs.Common.{◌≡◌, ℕ, ◌+◌, ◌-◌, ◌*◌, ◌==◌, not, Bool, List, [], ◌++◌, ℤ, refl, ◌∙◌, ap, ap₂}
+use Rattle.std.proofs.Common.{◌≡◌, ℕ, ◌+◌, ◌-◌, ◌*◌, ◌==◌, not, Bool, List, ◌++◌, ℤ, refl, ◌∙◌, ap, ap₂}
 use Rattle.ls_text.specs.declared.fault.Fault.{Fault}
 use Rattle.verilog_ast.specs.declared.identifier.Identifier.{Identifier}
 use Rattle.verilog_ast.specs.Expressions.{Expression, Literal, Whole, BitSelect, PartSelect, UpwardSelect, DownwardSelect, Unary, Binary, Conditional, Concatenation, Replication, Bracketed, NoPart, Parts, Target, Reference, Joined, NoTarget, Targets}
@@ -10,7 +10,7 @@ use Rattle.width_rules.specs.Constants.{integer}
 use Rattle.width_rules.specs.Faults.{faults, fault_at, fault_if, fault_of, name_faults, run_faults, part_faults, width_faults, total_faults}
 use Rattle.width_rules.specs.References.{target_name_faults, reference_faults}
 use Rattle.width_rules.specs.Scopes.{Meaning, Signal, Constant, Turn, Genvar, Unknown, Scope}
-use Rattle.width_rules.specs.Sizes.{length, is_constant, count_of, bits_between}
+use Rattle.width_rules.specs.Sizes.{is_constant, count_of, bits_between}
 use Rattle.statement_rules.specs.Targets.{target_length, target_faults, may_write, kind_fault, reference_kind, kind_faults}
 use Rattle.size_laws.specs.Renumbering.{meaning_as, renumbered}
 use Rattle.size_laws.proofs.RenumberedForms.{long_as, fixed_as, integer_as}
@@ -77,7 +77,7 @@ range_so g scope n x y names others ps qs xs ys first second third =
 
 run_so : (g : ℕ → ℕ) (scope : Scope) (n : Identifier) (x y : Expression) (d e : ℕ) (names others ps qs xs ys : List Fault) → names ≡ others → ps ≡ xs → qs ≡ ys → d ≡ e
     → names ++ (ps ++ (qs ++ (width_faults n y (count_of (integer (renumbered g scope) y))
-        ++ run_faults (meaning_as g (scope n.name.0)) (is_constant (renumbered g scope) x) (integer (renumbered g scope) x) (count_of (integer (renumbered g scope) y)) d n)))
+    ++ run_faults (meaning_as g (scope n.name.0)) (is_constant (renumbered g scope) x) (integer (renumbered g scope) x) (count_of (integer (renumbered g scope) y)) d n)))
     ≡ others ++ (xs ++ (ys ++ (width_faults n y (count_of (integer scope y)) ++ run_faults (scope n.name.0) (is_constant scope x) (integer scope x) (count_of (integer scope y)) e n)))
 run_so g scope n x y d e names others ps qs xs ys first second third ds =
     let wide = ap count_of (integer_as g scope y) in

@@ -1,5 +1,5 @@
 -- Expressions in a scope whose signals have other numbers: the same signs, lengths and values, and the sized form under these numbers.
-use Rattle.std.proofs.Common.{◌≡◌, ℕ, ◌+◌, ◌-◌, ◌*◌, ◌/◌, ◌%◌, ◌^◌, ◌==◌, ◌&&◌, max, not, Bool, true, false, List, [], cond, slice_index, if◌then◌else◌, ℤ, refl, sym, ◌∙◌, ap, ap₂}
+use Rattle.std.proofs.Common.{◌≡◌, ℕ, ◌+◌, ◌-◌, ◌*◌, ◌/◌, ◌%◌, ◌^◌, ◌==◌, ◌&&◌, max, not, Bool, true, false, cond, if◌then◌else◌, ℤ, refl, sym, ◌∙◌, ap, ap₂}
 use Rattle.std.proofs.Math.Path.{fun_ext}
 use Rattle.bits.specs.Values.{resized}
 use Rattle.bits.specs.Runs.{selected}
@@ -17,7 +17,7 @@ use Rattle.width_rules.specs.Opened.{own}
 use Rattle.width_rules.specs.Operators.{unary_kind, operator_of, comparison_with}
 use Rattle.width_rules.specs.Scopes.{Meaning, Signal, Constant, Turn, Genvar, Unknown, Scope, is_signal}
 use Rattle.width_rules.specs.Signs.{is_signed, name_signed, unary_signed, binary_signed}
-use Rattle.width_rules.specs.Sizes.{Operand, self_determined, length, push, joined, beside, is_constant, integer_of, read_as, count_of, bits_between, bits_at, bits_from, extended, constant_at, name_length, name_at, unary_length, binary_length, unary_at, binary_at, no_signals}
+use Rattle.width_rules.specs.Sizes.{Operand, self_determined, length, push, joined, beside, is_constant, integer_of, read_as, count_of, bits_between, bits_at, bits_from, extended, name_length, name_at, unary_length, binary_length, unary_at, binary_at, no_signals}
 use Rattle.size_laws.specs.Renumbering.{meaning_as, renumbered, numbered_as}
 
 -- ---- widths and values

@@ -102,7 +102,7 @@ mutual
       ∙ ap₂ s.Case
       (form_as g scope x (max (length scope x) (items_length scope items)) (is_signed scope x && items_signed scope items))
       (ap (λ (z : SizedStmt). sized_arms (renumbered g scope) by (max (length scope x) (items_length scope items)) (is_signed scope x && items_signed scope items) z items)
-          (same_default g scope by false items w.1 h)
+      (same_default g scope by false items w.1 h)
       ∙ same_arms g scope by (max (length scope x) (items_length scope items)) (is_signed scope x && items_signed scope items) false (sized_default scope by items) items w.1 h)
   same_statement g scope by (Assignment t x) w h =
       ap₂ (assignment by) (parts_as g scope by 0 t w.0 h) (assigned_as g scope (target_length (renumbered g scope) t) (target_length scope t) x (target_long_as g scope t))
@@ -119,7 +119,7 @@ mutual
       → sized_arms (renumbered g scope) by width signed (statement_as g otherwise) x ≡ arms_as g (sized_arms scope by width signed otherwise x)
   same_arms g scope by width signed seen otherwise (Statements x xs) w h =
       let rest : item_faults scope by x ++ arm_faults scope by (is_default_or seen x) xs ≡ [] =
-          right_none (second_default seen x) (item_faults scope by x ++ arm_faults scope by (is_default_or seen x) xs) h in
+      right_none (second_default seen x) (item_faults scope by x ++ arm_faults scope by (is_default_or seen x) xs) h in
       ap₂ (item_before (renumbered g scope) width signed x)
       (same_statement g scope by x w.0 (left_none (item_faults scope by x) (arm_faults scope by (is_default_or seen x) xs) rest))
       (same_arms g scope by width signed (is_default_or seen x) otherwise xs w.1 (right_none (item_faults scope by x) (arm_faults scope by (is_default_or seen x) xs) rest))
@@ -130,7 +130,7 @@ mutual
       → sized_default (renumbered g scope) by x ≡ statement_as g (sized_default scope by x)
   same_default g scope by seen (Statements x xs) w h =
       let rest : item_faults scope by x ++ arm_faults scope by (is_default_or seen x) xs ≡ [] =
-          right_none (second_default seen x) (item_faults scope by x ++ arm_faults scope by (is_default_or seen x) xs) h in
+      right_none (second_default seen x) (item_faults scope by x ++ arm_faults scope by (is_default_or seen x) xs) h in
       ap₂ (default_or x)
       (same_statement g scope by x w.0 (left_none (item_faults scope by x) (arm_faults scope by (is_default_or seen x) xs) rest))
       (same_default g scope by (is_default_or seen x) xs w.1 (right_none (item_faults scope by x) (arm_faults scope by (is_default_or seen x) xs) rest))

@@ -1,36 +1,33 @@
 -- Targets in a scope whose signals have other numbers: where only signals are written, the same parts under these numbers.
-use Rattle.std.proofs.Common.{◌≡◌, ℕ, ◌+◌, ◌-◌, not, Bool, true, false, List, [], ◌∷◌, ◌++◌, map, ℤ, refl, sym, ◌∙◌, ap, ap₂}
+use Rattle.std.proofs.Common.{◌≡◌, ℕ, ◌+◌, ◌-◌, Bool, true, false, List, [], ◌∷◌, ◌++◌, map, ℤ, refl, sym, ◌∙◌, ap, ap₂}
 use Rattle.std.proofs.lemmas.List.{map-append}
-use Rattle.ls_text.specs.declared.fault.Fault.{Fault}
 use Rattle.typed_ir.specs.Sized.{Sized}
 use Rattle.typed_ir.specs.Stmts.{SizedTarget}
 use Rattle.verilog_ast.specs.declared.identifier.Identifier.{Identifier}
 use Rattle.verilog_ast.specs.Expressions.{Expression, Whole, BitSelect, PartSelect, UpwardSelect, DownwardSelect, Target, Reference, Joined, NoTarget, Targets}
 use Rattle.width_rules.specs.declared.writer.Writer.{Writer}
 use Rattle.width_rules.specs.Constants.{integer}
-use Rattle.width_rules.specs.Faults.{fault_at, fault_if}
+use Rattle.width_rules.specs.Faults.{fault_at}
 use Rattle.width_rules.specs.References.{whole_part, part_at, part_from, reference_part}
 use Rattle.width_rules.specs.Scopes.{Meaning, Signal, Constant, Turn, Genvar, Unknown, Scope}
-use Rattle.width_rules.specs.Sizes.{is_constant, count_of, bits_between}
-use Rattle.statement_rules.specs.Targets.{target_length, parts, may_write, reference_kind, kind_faults}
+use Rattle.width_rules.specs.Sizes.{count_of, bits_between}
+use Rattle.statement_rules.specs.Targets.{target_length, parts, reference_kind, kind_faults}
 use Rattle.width_rules.proofs.Reading.{left_none, right_none}
 use Rattle.size_laws.specs.Renumbering.{meaning_as, renumbered, numbered_as, target_as}
 use Rattle.size_laws.specs.Written.{IsReference, IsTargetWritten, AreTargetsWritten}
 use Rattle.size_laws.proofs.Bounds.{nothing_first}
 use Rattle.size_laws.proofs.RenumberedFaults.{target_long_as}
 use Rattle.size_laws.proofs.RenumberedForms.{sign_as, fixed_as, integer_as, own_as}
+use Rattle.size_laws.proofs.Targets.{wrong_kind}
 
-abbrev KindFault : Writer → Meaning → Identifier → List Fault
-KindFault by m n = fault_if (not (may_write by m)) (fault_at 33 n)
-
-whole_as : (g : ℕ → ℕ) (m : Meaning) (by : Writer) (n : Identifier) (shift : ℕ) → KindFault by m n ≡ [] → whole_part (meaning_as g m) shift ≡ target_as g (whole_part m shift)
+whole_as : (g : ℕ → ℕ) (m : Meaning) (by : Writer) (n : Identifier) (shift : ℕ) → wrong_kind by m n ≡ [] → whole_part (meaning_as g m) shift ≡ target_as g (whole_part m shift)
 whole_as g (Signal signal width lsb signed writer) by n shift h = refl
 whole_as g (Constant width value signed) by n shift h = nothing_first (fault_at 33 n) [] h
 whole_as g (Turn width value signed) by n shift h = nothing_first (fault_at 33 n) [] h
 whole_as g Genvar by n shift h = nothing_first (fault_at 33 n) [] h
 whole_as g Unknown by n shift h = nothing_first (fault_at 33 n) [] h
 
-part_as : (g : ℕ → ℕ) (m : Meaning) (by : Writer) (n : Identifier) (shift width down : ℕ) (known : Bool) (at : ℤ) (signed : Bool) (index : Sized) → KindFault by m n ≡ []
+part_as : (g : ℕ → ℕ) (m : Meaning) (by : Writer) (n : Identifier) (shift width down : ℕ) (known : Bool) (at : ℤ) (signed : Bool) (index : Sized) → wrong_kind by m n ≡ []
     → part_at (meaning_as g m) shift width down known at signed (numbered_as g index) ≡ target_as g (part_at m shift width down known at signed index)
 part_as g (Signal signal total lsb sign writer) by n shift width down true at signed index h = refl
 part_as g (Signal signal total lsb sign writer) by n shift width down false at signed index h = refl
@@ -39,7 +36,7 @@ part_as g (Turn own value sign) by n shift width down known at signed index h = 
 part_as g Genvar by n shift width down known at signed index h = nothing_first (fault_at 33 n) [] h
 part_as g Unknown by n shift width down known at signed index h = nothing_first (fault_at 33 n) [] h
 
-range_as : (g : ℕ → ℕ) (m : Meaning) (by : Writer) (n : Identifier) (shift : ℕ) (low : ℤ) (width : ℕ) → KindFault by m n ≡ []
+range_as : (g : ℕ → ℕ) (m : Meaning) (by : Writer) (n : Identifier) (shift : ℕ) (low : ℤ) (width : ℕ) → wrong_kind by m n ≡ []
     → part_from (meaning_as g m) shift low width ≡ target_as g (part_from m shift low width)
 range_as g (Signal signal total lsb sign writer) by n shift low width h = refl
 range_as g (Constant own value sign) by n shift low width h = nothing_first (fault_at 33 n) [] h
@@ -47,7 +44,7 @@ range_as g (Turn own value sign) by n shift low width h = nothing_first (fault_a
 range_as g Genvar by n shift low width h = nothing_first (fault_at 33 n) [] h
 range_as g Unknown by n shift low width h = nothing_first (fault_at 33 n) [] h
 
-part_so : (g : ℕ → ℕ) (m : Meaning) (by : Writer) (n : Identifier) (shift v w d e : ℕ) (b c : Bool) (i j : ℤ) (p q : Bool) (x y : Sized) → KindFault by m n ≡ []
+part_so : (g : ℕ → ℕ) (m : Meaning) (by : Writer) (n : Identifier) (shift v w d e : ℕ) (b c : Bool) (i j : ℤ) (p q : Bool) (x y : Sized) → wrong_kind by m n ≡ []
     → v ≡ w → d ≡ e → b ≡ c → i ≡ j → p ≡ q → x ≡ numbered_as g y
     → part_at (meaning_as g m) shift v d b i p x ≡ target_as g (part_at m shift w e c j q y)
 part_so g m by n shift v w d e b c i j p q x y h vs ds bs is ps xs =
@@ -85,7 +82,7 @@ mutual
   all_as g scope by shift (Targets t ts) w h =
       ap₂ (λ (ps qs : List SizedTarget). ps ++ qs)
       (ap (λ (n : ℕ). parts (renumbered g scope) (shift + n) t) (target_long_as g scope ts)
-          ∙ parts_as g scope by (shift + target_length scope ts) t w.0 (left_none (kind_faults scope by t) (kind_faults scope by ts) h))
+      ∙ parts_as g scope by (shift + target_length scope ts) t w.0 (left_none (kind_faults scope by t) (kind_faults scope by ts) h))
       (all_as g scope by shift ts w.1 (right_none (kind_faults scope by t) (kind_faults scope by ts) h))
       ∙ sym (map-append (target_as g) (parts scope (shift + target_length scope ts) t) (parts scope shift ts))
   all_as g scope by shift other w h = absurd w

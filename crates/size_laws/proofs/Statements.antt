@@ -1,5 +1,5 @@
 -- A statement without a fault, sized, is legal for the signals of its scope.
-use Rattle.std.proofs.Common.{◌≡◌, ℕ, zero, ◌+◌, ◌%◌, ◌^◌, ◌≤◌, ◌&&◌, max, Bool, true, false, List, [], ◌∷◌, ◌++◌, map, refl, arith}
+use Rattle.std.proofs.Common.{◌≡◌, ℕ, ◌%◌, ◌^◌, ◌≤◌, ◌&&◌, max, Bool, true, false, List, [], ◌∷◌, ◌++◌, map, refl, arith}
 use Rattle.std.proofs.lemmas.Bool.{and_from}
 use Rattle.std.proofs.Math.Nat.{le-max_left, le-max_right}
 use Rattle.typed_ir.specs.Sized.{Sized}
@@ -15,13 +15,13 @@ use Rattle.width_rules.specs.Faults.{faults}
 use Rattle.width_rules.specs.Opened.{own}
 use Rattle.width_rules.specs.Scopes.{Scope}
 use Rattle.width_rules.specs.Signs.{is_signed}
-use Rattle.width_rules.specs.Sizes.{length, push, literal_length, constant_at}
+use Rattle.width_rules.specs.Sizes.{length, push, literal_length}
 use Rattle.statement_rules.specs.Statements.{assigned, assignment, label_length, labels_length, items_length, items_signed, label_at, item_before, default_or, sized_statement, sized_arms, sized_default, label_faults, labels_faults, expression_faults, second_default, is_default_or, item_faults, arm_faults, statement_faults}
-use Rattle.statement_rules.specs.Targets.{target_length, parts, target_faults, kind_faults}
+use Rattle.statement_rules.specs.Targets.{target_length, parts, target_faults}
 use Rattle.width_rules.proofs.Reading.{left_none, right_none}
 use Rattle.size_laws.specs.Fitting.{FitsScope}
-use Rattle.size_laws.specs.Written.{IsWritten, IsTargetWritten, IsLabelWritten, AreLabelsWritten, IsStatementWritten}
-use Rattle.size_laws.proofs.Bounds.{IsLong, max_most, max_long}
+use Rattle.size_laws.specs.Written.{IsWritten, IsLabelWritten, AreLabelsWritten, IsStatementWritten}
+use Rattle.size_laws.proofs.Bounds.{IsLong, max_most}
 use Rattle.size_laws.proofs.Forms.{form_sized, own_sized}
 use Rattle.size_laws.proofs.Lengths.{is_long, total_long}
 use Rattle.size_laws.proofs.Operands.{constant_fits}
@@ -75,9 +75,9 @@ labels_sized scope widths width signed [] ok w h long fits = refl
 labels_sized scope widths width signed (l ∷ ls) ok w h long fits =
     and_from (is_sized (label_at scope width signed l).item widths) (are_items (map (label_at scope width signed) ls) widths)
     (label_sized scope widths width signed l ok w.0 (left_none (label_faults scope l) (labels_faults scope ls) h) long
-        (omega (arith, fits, le-max_left (label_length scope l) (labels_length scope ls))))
+    (omega (arith, fits, le-max_left (label_length scope l) (labels_length scope ls))))
     (labels_sized scope widths width signed ls ok w.1 (right_none (label_faults scope l) (labels_faults scope ls) h) long
-        (omega (arith, fits, le-max_right (label_length scope l) (labels_length scope ls))))
+    (omega (arith, fits, le-max_right (label_length scope l) (labels_length scope ls))))
 
 -- ---- the items of a case
 
@@ -144,7 +144,7 @@ mutual
       → are_legal_arms (sized_arms scope by width signed otherwise x) widths ≡ true
   arms_legal scope widths by width signed seen otherwise (Statements x xs) ok w h k long fits p =
       let rest : item_faults scope by x ++ arm_faults scope by (is_default_or seen x) xs ≡ [] =
-          right_none (second_default seen x) (item_faults scope by x ++ arm_faults scope by (is_default_or seen x) xs) k in
+      right_none (second_default seen x) (item_faults scope by x ++ arm_faults scope by (is_default_or seen x) xs) k in
       let first : expression_faults scope x ≡ [] = left_none (expression_faults scope x) (expression_faults scope xs) h in
       before_legal scope widths width signed x (sized_statement scope by x) (sized_arms scope by width signed otherwise xs) ok w.0 first long
       (omega (arith, fits, le-max_left (items_length scope x) (items_length scope xs)))
@@ -158,7 +158,7 @@ mutual
       → arm_faults scope by seen x ≡ [] → is_legal (sized_default scope by x) widths ≡ true
   default_legal scope widths by seen (Statements x xs) ok w h k =
       let rest : item_faults scope by x ++ arm_faults scope by (is_default_or seen x) xs ≡ [] =
-          right_none (second_default seen x) (item_faults scope by x ++ arm_faults scope by (is_default_or seen x) xs) k in
+      right_none (second_default seen x) (item_faults scope by x ++ arm_faults scope by (is_default_or seen x) xs) k in
       or_legal x (sized_statement scope by x) (sized_default scope by xs) widths
       (statement_legal scope widths by x ok w.0 (left_none (expression_faults scope x) (expression_faults scope xs) h) (left_none (item_faults scope by x) (arm_faults scope by (is_default_or seen x) xs) rest))
       (default_legal scope widths by (is_default_or seen x) xs ok w.1 (right_none (expression_faults scope x) (expression_faults scope xs) h)

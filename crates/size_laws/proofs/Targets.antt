@@ -1,10 +1,10 @@
 -- The parts of a target without a fault lie in signals of its scope.
-use Rattle.std.proofs.Common.{◌≡◌, ℕ, ◌+◌, ◌-◌, ◌≤◌, ◌<◌, ◌==◌, ◌&&◌, Bool, true, false, not, List, [], ◌∷◌, ◌++◌, nat_lt, ℤ, refl, sym, true≢false, lt-ltb, arith}
+use Rattle.std.proofs.Common.{◌≡◌, ℕ, ◌+◌, ◌-◌, ◌≤◌, ◌&&◌, Bool, true, false, not, List, [], ◌∷◌, ◌++◌, nat_lt, ℤ, refl, lt-ltb, arith}
 use Rattle.std.proofs.lemmas.Bool.{and_from}
 use Rattle.typed_ir.proofs.Cases.{and_left, and_right}
 use Rattle.ls_text.specs.declared.fault.Fault.{Fault}
 use Rattle.typed_ir.specs.Sized.{Sized, is_signal, is_span, is_width}
-use Rattle.typed_ir.specs.Stmts.{SizedTarget, Fixed, Moving, is_sized, is_target, are_targets}
+use Rattle.typed_ir.specs.Stmts.{SizedTarget, Moving, is_sized, is_target, are_targets}
 use Rattle.verilog_ast.specs.declared.identifier.Identifier.{Identifier}
 use Rattle.verilog_ast.specs.Expressions.{Expression, Whole, BitSelect, PartSelect, UpwardSelect, DownwardSelect, Target, Reference, Joined, NoTarget, Targets}
 use Rattle.width_rules.specs.declared.due.Due.{Due}
@@ -17,7 +17,7 @@ use Rattle.width_rules.specs.References.{known_part, whole_part, part_at, part_f
 use Rattle.width_rules.specs.Scopes.{Meaning, Signal, Constant, Turn, Genvar, Unknown, Scope}
 use Rattle.width_rules.specs.Signs.{is_signed}
 use Rattle.width_rules.specs.Sizes.{length, name_length, is_constant, count_of, bits_between, low_of}
-use Rattle.statement_rules.specs.Targets.{target_length, parts, target_faults, may_write, kind_fault, reference_kind, kind_faults}
+use Rattle.statement_rules.specs.Targets.{target_length, parts, target_faults, may_write, reference_kind, kind_faults}
 use Rattle.width_rules.proofs.Reading.{left_none, right_none}
 use Rattle.size_laws.specs.Fitting.{FitsMeaning, FitsScope}
 use Rattle.size_laws.specs.Written.{IsReference, IsTargetWritten, AreTargetsWritten}
@@ -42,22 +42,23 @@ moving_fits : (shift signal width total below : ℕ) (signed : Bool) (index : Si
 moving_fits shift signal width total below signed index widths wide there long h most =
     and_from (nat_lt shift 128 && (is_width width && is_width total)) (is_signal signal total widths && is_sized index widths)
     (and_from (nat_lt shift 128) (is_width width && is_width total) (shift_below shift width long most)
-        (and_from (is_width width) (is_width total) (width_from width long) wide))
+    (and_from (is_width width) (is_width total) (width_from width long) wide))
     (and_from (is_signal signal total widths) (is_sized index widths) there h)
 
 -- ---- names and selects; what may be written is a signal
 
-abbrev KindFault : Writer → Meaning → Identifier → List Fault
-KindFault by m n = fault_if (not (may_write by m)) (fault_at 33 n)
+-- where this assignment doesn't write what the name means
+abbrev pub wrong_kind : Writer → Meaning → Identifier → List Fault
+wrong_kind by m n = fault_if (not (may_write by m)) (fault_at 33 n)
 
-written_long : (m : Meaning) (widths : List ℕ) (by : Writer) (n : Identifier) → FitsMeaning m widths → KindFault by m n ≡ [] → IsLong (name_length m)
+written_long : (m : Meaning) (widths : List ℕ) (by : Writer) (n : Identifier) → FitsMeaning m widths → wrong_kind by m n ≡ [] → IsLong (name_length m)
 written_long (Signal signal width lsb signed writer) widths by n fits h = long_from width fits.0
 written_long (Constant width value signed) widths by n fits h = long_from width fits.0
 written_long (Turn width value signed) widths by n fits h = long_from width fits.0
 written_long Genvar widths by n fits h = one_long
 written_long Unknown widths by n fits h = one_long
 
-whole_fits : (m : Meaning) (widths : List ℕ) (by : Writer) (n : Identifier) (shift : ℕ) → FitsMeaning m widths → KindFault by m n ≡ [] → shift + name_length m ≤ 128
+whole_fits : (m : Meaning) (widths : List ℕ) (by : Writer) (n : Identifier) (shift : ℕ) → FitsMeaning m widths → wrong_kind by m n ≡ [] → shift + name_length m ≤ 128
     → is_target (whole_part m shift) widths ≡ true
 whole_fits (Signal signal width lsb signed writer) widths by n shift fits h most =
     known_fits shift signal 0 width width widths fits.1 (long_from width fits.0) (omega arith) most
@@ -96,15 +97,15 @@ reference_long scope widths due by (BitSelect n x) ok w h k = one_long
 reference_long scope widths due by (PartSelect n x y) ok w h k =
     part_long (scope n.name.0) (integer scope y) (bits_between (integer scope x) (integer scope y)) n
     (third_none (target_name_faults (scope n.name.0) n) (faults scope ConstantOnly x) (faults scope ConstantOnly y)
-        (part_faults (scope n.name.0) (integer scope y) (bits_between (integer scope x) (integer scope y)) n) h)
+    (part_faults (scope n.name.0) (integer scope y) (bits_between (integer scope x) (integer scope y)) n) h)
 reference_long scope widths due by (UpwardSelect n x y) ok w h k =
     run_long n y (count_of (integer scope y))
     (run_none (target_name_faults (scope n.name.0) n) (faults scope due x) (faults scope ConstantOnly y) (width_faults n y (count_of (integer scope y)))
-        (run_faults (scope n.name.0) (is_constant scope x) (integer scope x) (count_of (integer scope y)) 0 n) h).width
+    (run_faults (scope n.name.0) (is_constant scope x) (integer scope x) (count_of (integer scope y)) 0 n) h).width
 reference_long scope widths due by (DownwardSelect n x y) ok w h k =
     run_long n y (count_of (integer scope y))
     (run_none (target_name_faults (scope n.name.0) n) (faults scope due x) (faults scope ConstantOnly y) (width_faults n y (count_of (integer scope y)))
-        (run_faults (scope n.name.0) (is_constant scope x) (integer scope x) (count_of (integer scope y)) (count_of (integer scope y) - 1) n) h).width
+    (run_faults (scope n.name.0) (is_constant scope x) (integer scope x) (count_of (integer scope y)) (count_of (integer scope y) - 1) n) h).width
 reference_long scope widths due by other ok w h k = absurd w
 
 reference_fits : (scope : Scope) (widths : List ℕ) (due : Due) (by : Writer) (shift : ℕ) (x : Expression) → FitsScope scope widths → IsReference x → reference_faults scope due x ≡ []
@@ -120,19 +121,19 @@ reference_fits scope widths due by shift (BitSelect n x) ok w h k most =
 reference_fits scope widths due by shift (PartSelect n x y) ok w h k most =
     let width : ℕ = bits_between (integer scope x) (integer scope y) in
     let none : part_faults (scope n.name.0) (integer scope y) width n ≡ [] =
-        third_none (target_name_faults (scope n.name.0) n) (faults scope ConstantOnly x) (faults scope ConstantOnly y) (part_faults (scope n.name.0) (integer scope y) width n) h in
+    third_none (target_name_faults (scope n.name.0) n) (faults scope ConstantOnly x) (faults scope ConstantOnly y) (part_faults (scope n.name.0) (integer scope y) width n) h in
     range_fits (scope n.name.0) widths shift (integer scope y) width n (ok n.name.0) (part_long (scope n.name.0) (integer scope y) width n none)
     (part_place (scope n.name.0) (integer scope y) width n none) most
 reference_fits scope widths due by shift (UpwardSelect n x y) ok w h k most =
     let width : ℕ = count_of (integer scope y) in
     let none = run_none (target_name_faults (scope n.name.0) n) (faults scope due x) (faults scope ConstantOnly y) (width_faults n y width)
-        (run_faults (scope n.name.0) (is_constant scope x) (integer scope x) width 0 n) h in
+    (run_faults (scope n.name.0) (is_constant scope x) (integer scope x) width 0 n) h in
     run_fits (scope n.name.0) widths shift width 0 (is_constant scope x) (integer scope x) (is_signed scope x) (own scope x) n (ok n.name.0) (run_long n y width none.width)
     (own_fits scope widths due x ok w.0 none.index).sized none.place most
 reference_fits scope widths due by shift (DownwardSelect n x y) ok w h k most =
     let width : ℕ = count_of (integer scope y) in
     let none = run_none (target_name_faults (scope n.name.0) n) (faults scope due x) (faults scope ConstantOnly y) (width_faults n y width)
-        (run_faults (scope n.name.0) (is_constant scope x) (integer scope x) width (width - 1) n) h in
+    (run_faults (scope n.name.0) (is_constant scope x) (integer scope x) width (width - 1) n) h in
     run_fits (scope n.name.0) widths shift width (width - 1) (is_constant scope x) (integer scope x) (is_signed scope x) (own scope x) n (ok n.name.0) (run_long n y width none.width)
     (own_fits scope widths due x ok w.0 none.index).sized none.place most
 reference_fits scope widths due by shift other ok w h k most = absurd w
@@ -168,9 +169,9 @@ mutual
   all_fit scope widths due by shift (Targets t ts) ok w h k most =
       targets_more (parts scope (shift + target_length scope ts) t) (parts scope shift ts) widths
       (parts_fit scope widths due by (shift + target_length scope ts) t ok w.0 (left_none (target_faults scope due t) (target_faults scope due ts) h)
-          (left_none (kind_faults scope by t) (kind_faults scope by ts) k) (omega (arith, most)))
+      (left_none (kind_faults scope by t) (kind_faults scope by ts) k) (omega (arith, most)))
       (all_fit scope widths due by shift ts ok w.1 (right_none (target_faults scope due t) (target_faults scope due ts) h)
-          (right_none (kind_faults scope by t) (kind_faults scope by ts) k) (omega (arith, most)))
+      (right_none (kind_faults scope by t) (kind_faults scope by ts) k) (omega (arith, most)))
   all_fit scope widths due by shift other ok w h k most = absurd w
 
 pub target_parts : (scope : Scope) (widths : List ℕ) (due : Due) (by : Writer) (t : Target) → FitsScope scope widths → IsTargetWritten t → target_faults scope due t ≡ []

@@ -1,5 +1,5 @@
 -- Texts as a parser writes them: an operand is an expression, lists stand in braces alone, and what is written is a name with its select
--- or without (IEEE Std 1364-2005, A.8.3 to A.8.5, A.6.2 to A.6.7).
+-- or without (IEEE Std 1364-2005, A.6.2 to A.6.7, A.8.1 to A.8.5).
 use Rattle.std.specs.Prelude.{⊤, List, [], ◌∷◌}
 use Rattle.verilog_ast.specs.Expressions.{Expression, Literal, Whole, BitSelect, PartSelect, UpwardSelect, DownwardSelect, Unary, Binary, Conditional, Concatenation, Replication, Bracketed, NoPart, Parts, Target, Reference, Joined, NoTarget, Targets}
 use Rattle.verilog_ast.specs.Items.{ContinuousAssignment}

@@ -1,7 +1,9 @@
 // What is sized without a fault fits the signals of its scope.
 ghost use Rattle.std.specs.Prelude.{◌≡◌, ◌≤◌, ℕ, Bool, true, List, [], map};
-ghost use Rattle.typed_ir.specs.Sized.{is_width, width_of};
-ghost use Rattle.typed_ir.specs.Stmts.{is_sized, are_targets, is_legal};
+ghost use Rattle.typed_ir.specs.declared.lane.Lane.{Lane};
+ghost use Rattle.typed_ir.specs.Nodes.{are_lanes};
+ghost use Rattle.typed_ir.specs.Sized.{is_width, is_signal, width_of};
+ghost use Rattle.typed_ir.specs.Stmts.{Fixed, is_sized, are_targets, is_legal};
 ghost use Rattle.verilog_ast.specs.declared.continuous.Continuous.{Continuous};
 ghost use Rattle.verilog_ast.specs.declared.expression.Expr.{Expr};
 ghost use Rattle.verilog_ast.specs.declared.statement.Stmt.{Stmt};
@@ -14,7 +16,7 @@ ghost use Rattle.width_rules.specs.declared.due.Due.{Due};
 ghost use Rattle.width_rules.specs.declared.due.Due.TheVariants.{AnyValue};
 ghost use Rattle.width_rules.specs.declared.writer.Writer.{Writer};
 ghost use Rattle.width_rules.specs.declared.writer.Writer.TheVariants.{Combinational, Continuous as ByAssign};
-ghost use Rattle.width_rules.specs.Constants.{integer};
+ghost use Rattle.width_rules.specs.Constants.{constant, integer};
 ghost use Rattle.width_rules.specs.Faults.{faults};
 ghost use Rattle.width_rules.specs.Opened.{own};
 ghost use Rattle.width_rules.specs.Scopes.{Scope};
@@ -47,6 +49,7 @@ pub fn sized_text_fits()
         → is_legal (sized_statement scope by x) widths ≡ true }
     ensures drives { (scope : Scope) (widths : List ℕ) (xs : List ContinuousAssignment) → FitsScope scope widths → AreAssignsWritten xs → assign_faults scope xs ≡ []
         → FitDrives scope xs widths }
+    ensures lanes { (lanes : List Lane) (widths : List ℕ) → are_targets (map Fixed lanes) widths ≡ are_lanes lanes widths }
     ensures example { FitsScope scope widths × (IsWritten expression × (faults scope AnyValue expression ≡ []))
         × (IsStatementWritten statement × (statement_faults scope Combinational statement ≡ []))
         × (AreAssignsWritten assignments × (assign_faults scope assignments ≡ [])) }
@@ -56,10 +59,13 @@ pub fn sized_text_fits()
 /// these numbers, and the same lengths, signs, constants and faults.
 #[tactic(none)]
 pub fn signals_may_be_renumbered()
+    ensures scopes { (g : ℕ → ℕ) (scope : Scope) (widths others : List ℕ) → ((s w : ℕ) → is_signal s w widths ≡ true → is_signal (g s) w others ≡ true)
+        → FitsScope scope widths → FitsScope (renumbered g scope) others }
     ensures signs { (g : ℕ → ℕ) (scope : Scope) (e : Expression) → is_signed (renumbered g scope) e ≡ is_signed scope e }
     ensures lengths { (g : ℕ → ℕ) (scope : Scope) (e : Expression) → length (renumbered g scope) e ≡ length scope e }
     ensures known { (g : ℕ → ℕ) (scope : Scope) (e : Expression) → is_constant (renumbered g scope) e ≡ is_constant scope e }
     ensures values { (g : ℕ → ℕ) (scope : Scope) (e : Expression) → integer (renumbered g scope) e ≡ integer scope e }
+    ensures constants { (g : ℕ → ℕ) (scope : Scope) (e : Expression) → constant (renumbered g scope) e ≡ constant scope e }
     ensures forms { (g : ℕ → ℕ) (scope : Scope) (e : Expression) (l : ℕ) (t : Bool) → push (renumbered g scope) e l t ≡ numbered_as g (push scope e l t) }
     ensures faults { (g : ℕ → ℕ) (scope : Scope) (due : Due) (e : Expression) → faults (renumbered g scope) due e ≡ faults scope due e }
     ensures targets { (g : ℕ → ℕ) (scope : Scope) (by : Writer) (shift : ℕ) (t : Target) → IsTargetWritten t → kind_faults scope by t ≡ []

@@ -1,5 +1,6 @@
+use Rattle.size_laws.proofs.Lanes.{scope_fits}
 use Rattle.size_laws.proofs.RenumberedFaults.{faults_as, target_long_as, target_faults_as, kinds_as}
-use Rattle.size_laws.proofs.RenumberedForms.{sign_as, long_as, fixed_as, integer_as, form_as}
+use Rattle.size_laws.proofs.RenumberedForms.{sign_as, long_as, fixed_as, integer_as, constant_as, form_as}
 use Rattle.size_laws.proofs.RenumberedStatements.{same_statement, statement_faults_as, same_drive, assign_faults_as}
 use Rattle.size_laws.proofs.RenumberedTargets.{parts_as}
 use Rattle.size_laws.proofs.laws.signals_may_be_renumbered.Goals as goal
@@ -45,3 +46,9 @@ returns-clause-drives c = same_drive
 
 pub returns-clause-drive_faults : goal.returns-clause-drive_faults
 returns-clause-drive_faults c = assign_faults_as
+
+pub returns-clause-scopes : goal.returns-clause-scopes
+returns-clause-scopes c = scope_fits
+
+pub returns-clause-constants : goal.returns-clause-constants
+returns-clause-constants c = constant_as

@@ -1,5 +1,6 @@
 use Rattle.size_laws.proofs.Example.{scope_fits, expression_written, expression_right, statement_written, statement_right, assignments_written, assignments_right}
 use Rattle.size_laws.proofs.Forms.{form_sized, form_width, own_sized, own_width}
+use Rattle.size_laws.proofs.Lanes.{lanes_fit}
 use Rattle.size_laws.proofs.Lengths.{width_is}
 use Rattle.size_laws.proofs.Drives.{drives_fit}
 use Rattle.size_laws.proofs.Statements.{legal}
@@ -33,3 +34,6 @@ returns-clause-drives c = drives_fit
 pub returns-clause-example : goal.returns-clause-example
 returns-clause-example c =
     (scope_fits, (expression_written, expression_right), (statement_written, statement_right), (assignments_written, assignments_right))
+
+pub returns-clause-lanes : goal.returns-clause-lanes
+returns-clause-lanes c = lanes_fit
