@@ -1,0 +1,14 @@
+pub mod Bounds
+pub mod Lengths
+pub mod Operands
+pub mod Forms
+pub mod Targets
+pub mod Statements
+pub mod Drives
+pub mod Lanes
+pub mod RenumberedForms
+pub mod RenumberedFaults
+pub mod RenumberedTargets
+pub mod RenumberedStatements
+pub mod Trees
+pub mod Example
