@@ -1,0 +1,5 @@
+mod Walked
+mod Sooner
+mod Lists
+mod Walks
+mod Runs
