@@ -68,8 +68,8 @@ masks_meet m n small = by_cases (bit_and m n == 0)
     (λ no. ap not no ∙ sym (found no))
   where
     found : (bit_and m n == 0) ≡ false → some_below 128 (λ i. has_bit m i && has_bit n i) ≡ true
-    found no = by_cases (some_below 128 (λ i. has_bit m i && has_bit n i)) (λ yes. yes)
-        (λ none. absurd (eqb-false (bit_and m n) 0 no (same_from_bits_below 128 (bit_and m n) 0 small (pow_pos 128)
+    found other = by_cases (some_below 128 (λ i. has_bit m i && has_bit n i)) (λ yes. yes)
+        (λ none. absurd (eqb-false (bit_and m n) 0 other (same_from_bits_below 128 (bit_and m n) 0 small (pow_pos 128)
         (λ i k. let bit = eqb-false (bit_at (bit_and m n) i) 1 (has_both m n i ∙ none_below 128 (λ j. has_bit m j && has_bit n j) none i k) in
         let two : bit_at (bit_and m n) i < 2 = bit_at-lt (bit_and m n) i in
         let z : bit_at 0 i ≡ 0 = bit_at-zero i in

@@ -3,3 +3,7 @@ mod Sooner
 mod Lists
 mod Walks
 mod Runs
+mod Bits
+mod Doubles
+mod Taken
+mod Declared

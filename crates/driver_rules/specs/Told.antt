@@ -1,5 +1,5 @@
 -- Which item drives or writes a bit, as the list of drivers tells it.
-use Rattle.std.specs.Prelude.{◌≡◌, ◌<◌, ◌≤◌, ℕ, suc, ◌+◌, Bool, true, false, not, ◌&&◌, ◌==◌, nat_le, nat_lt, List, [], slice_index, if◌then◌else◌}
+use Rattle.std.specs.Prelude.{◌≡◌, ◌<◌, ◌≤◌, ℕ, suc, ◌+◌, Bool, true, false, not, ◌&&◌, ◌||◌, ◌==◌, nat_le, nat_lt, List, [], slice_index, if◌then◌else◌}
 use Rattle.typed_ir.specs.Valuations.{Places, any_within}
 use Rattle.typed_ir.specs.Cycles.{block_writes}
 use Rattle.typed_ir.specs.Touches.{has_bit}
@@ -72,3 +72,8 @@ pub record Puts (by : DriverId) (before after : List Driver) (places : Places) :
 -- the bits that joined a table
 abbrev pub joined : List ℕ → List ℕ → Places
 joined old new = λ s i. marked new s i && not (marked old s i)
+
+-- these bits joined the table, and the new ones among them went to the list
+pub record Grows (by : DriverId) (table new : List ℕ) (before after : List Driver) (places : Places) : Type 0 where
+  pub taken : (s i : ℕ) → i < 128 → marked new s i ≡ (marked table s i || places s i)
+  pub puts : Puts by before after (joined table new)

@@ -151,6 +151,7 @@ fn check_item(
 }
 
 // The same of all items.
+#[tactic(auto, using(width_rules::proofs::Firsts::earlier, width_rules::proofs::Firsts::later, width_rules::proofs::Firsts::neither, crate::proofs::Walks::block_ahead, crate::proofs::Walks::block_fault))]
 fn check_items(
     alloc: Global,
     tables: &mut PathTables,

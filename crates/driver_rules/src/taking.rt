@@ -7,7 +7,7 @@ ghost use Rattle.typed_ir.specs.Touches.{has_bit};
 ghost use Rattle.block_rules.specs.Paths.{places_of_true, some_below};
 ghost use Rattle.driver_rules.specs.Writes.{writes, spans_of, AreWithin, AreItemsWithin};
 ghost use Rattle.driver_rules.specs.Doubles.{meets, overlaps, doubles, item_doubles, double_faults};
-ghost use Rattle.driver_rules.specs.Told.{marked, joined, Puts, AreTold};
+ghost use Rattle.driver_rules.specs.Told.{marked, Grows, AreTold};
 
 use crate::driver::Driver;
 use crate::driver_id::DriverId;
@@ -49,13 +49,12 @@ fn take_part(
     drivers: &mut Vec<Driver>,
 ) -> Result<(), NoMemory>
     requires { span.signal < length taken.old }
-    ensures taken { IfOk result (λ _. (s i : ℕ) → i < 128 → marked taken.new s i ≡ (marked taken.old s i || within span s i)) }
-    ensures puts { IfOk result (λ _. Puts by.now drivers.old.items drivers.new.items (joined taken.old taken.new)) }
+    ensures { IfOk result (λ _. Grows by.now taken.old taken.new drivers.old.items drivers.new.items (within span)) }
 {
     let signal = span.signal.index();
     let old = taken[signal];
-    add_runs(old, span, by, drivers)?;
     let mask = run_mask(span.low, span.width);
+    add_runs(old, span, by, drivers)?;
     taken[signal] = old | mask;
     Ok(())
 }
@@ -68,8 +67,7 @@ fn take_parts(
     drivers: &mut Vec<Driver>,
 ) -> Result<(), NoMemory>
     requires { AreWithin (length taken.old) spans.now }
-    ensures taken { IfOk result (λ _. (s i : ℕ) → i < 128 → marked taken.new s i ≡ (marked taken.old s i || any_within spans.now s i)) }
-    ensures puts { IfOk result (λ _. Puts by.now drivers.old.items drivers.new.items (joined taken.old taken.new)) }
+    ensures { IfOk result (λ _. Grows by.now taken.old taken.new drivers.old.items drivers.new.items (any_within spans.now)) }
 {
     for span in spans {
         take_part(taken, *span, by, drivers)?;
@@ -100,8 +98,7 @@ fn take_apart(
 ) -> Result<Vec<usize>, NoMemory>
     requires { AreWithin (length taken.old) spans.now }
     ensures bad { IfOk result (λ bad. bad.items ≡ places_of_true (overlaps (marked taken.old) spans.now)) }
-    ensures taken { IfOk result (λ _. (s i : ℕ) → i < 128 → marked taken.new s i ≡ (marked taken.old s i || any_within spans.now s i)) }
-    ensures puts { IfOk result (λ _. Puts by.now drivers.old.items drivers.new.items (joined taken.old taken.new)) }
+    ensures grows { IfOk result (λ _. Grows by.now taken.old taken.new drivers.old.items drivers.new.items (any_within spans.now)) }
 {
     let mut bad = Vec::new(alloc);
     for k in 0..spans.len() {
@@ -123,8 +120,7 @@ fn take_spans(
 ) -> Result<Vec<usize>, NoMemory>
     requires { AreWithin (length taken.old) spans.now }
     ensures bad { IfOk result (λ bad. bad.items ≡ places_of_true (doubles (marked taken.old) writer spans.now)) }
-    ensures taken { IfOk result (λ _. (s i : ℕ) → i < 128 → marked taken.new s i ≡ (marked taken.old s i || any_within spans.now s i)) }
-    ensures puts { IfOk result (λ _. Puts by.now drivers.old.items drivers.new.items (joined taken.old taken.new)) }
+    ensures grows { IfOk result (λ _. Grows by.now taken.old taken.new drivers.old.items drivers.new.items (any_within spans.now)) }
 {
     match writer {
         Writer::Continuous => take_apart(alloc, taken, spans, by, drivers),
@@ -146,8 +142,7 @@ fn take_item(
 ) -> Result<(), Refusal>
     requires { AreWithin (length taken.old) (spans_of (item_of item.now).body) }
     ensures faultless { IfOk result (λ _. item_doubles (marked taken.old) (item_of item.now) ≡ []) }
-    ensures taken { IfOk result (λ _. (s i : ℕ) → i < 128 → marked taken.new s i ≡ (marked taken.old s i || writes (item_of item.now) s i)) }
-    ensures puts { IfOk result (λ _. Puts by.now drivers.old.items drivers.new.items (joined taken.old taken.new)) }
+    ensures grows { IfOk result (λ _. Grows by.now taken.old taken.new drivers.old.items drivers.new.items (writes (item_of item.now))) }
     ensures fault { IfErr result (IsFirst (item_doubles (marked taken.old) (item_of item.now))) }
 {
     let spans = spans_of(alloc, &item.body)?;
@@ -158,6 +153,7 @@ fn take_item(
 }
 
 // Takes the bits of all items, one after another, into a table that has none.
+#[tactic(auto, using(width_rules::proofs::Firsts::earlier, width_rules::proofs::Firsts::later, width_rules::proofs::Firsts::neither, crate::proofs::Taken::double_fault))]
 fn take_items(
     alloc: Global,
     taken: &mut [u128],

@@ -1,0 +1,7 @@
+use Rattle.std.proofs.Common.{take}
+use Rattle.block_rules.specs.Paths.{is_member}
+use Rattle.driver_rules.proofs.Declared.{IsBest}
+use Rattle.driver_rules.proofs.pathing.first_declared.Given as goal
+
+abbrev pub invariant-loop-signal : goal.invariant-loop-signal
+invariant-loop-signal l = IsBest l.declarations (λ t. is_member t (take l.signal-index l.signals)) l.found
