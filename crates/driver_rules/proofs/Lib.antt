@@ -7,3 +7,5 @@ mod Bits
 mod Doubles
 mod Taken
 mod Declared
+mod Empty
+mod Wholes

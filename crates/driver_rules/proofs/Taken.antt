@@ -194,7 +194,7 @@ pub record State (done : List PlacedItem) (k : Numbers) (table : List ℕ) (ds :
   pub once : (s i : ℕ) → i < 128 → count (covers s i) ds ≡ cond (marked table s i) 1 0
   pub ranges : Each IsRange ds
 
-abbrev flag_number : Bool → ℕ
+abbrev pub flag_number : Bool → ℕ
 flag_number b = cond b 1 0
 
 pub no_items : (k : Numbers) (table : List ℕ) → k.nodes ≡ 0 → k.blocks ≡ 0 → ((s i : ℕ) → marked table s i ≡ false) → State [] k table []
@@ -210,7 +210,7 @@ no_items k table none no_block blank = record {
     nothing (id.Node n) s i = refl
     nothing (id.Clocked n) s i = refl
 
-sum_flags : (d e : Bool) → (d ≡ true → e ≡ false) → flag_number d + flag_number e ≡ flag_number (d || e)
+pub sum_flags : (d e : Bool) → (d ≡ true → e ≡ false) → flag_number d + flag_number e ≡ flag_number (d || e)
 sum_flags true true h = absurd (true≢false (h refl))
 sum_flags true false h = refl
 sum_flags false true h = refl
@@ -260,7 +260,7 @@ next_item done x k table more ds after state apart grows = record {
     joins : (s i : ℕ) → i < 128 → joined table more s i ≡ writes x s i
     joins s i small = ap (λ b. b && not (marked table s i)) (grows.taken s i small) ∙ new_is (marked table s i) (writes x s i) (apart s i small)
 
-at_most_one : (b : Bool) → flag_number b ≤ 1
+pub at_most_one : (b : Bool) → flag_number b ≤ 1
 at_most_one true = omega arith
 at_most_one false = omega arith
 
