@@ -1,18 +1,19 @@
 -- What it says of items that no fault is found in their targets.
-use Rattle.std.proofs.Common.{◌≡◌, ◌<◌, ◌≤◌, ◌+◌, ◌&&◌, ◌||◌, ℕ, zero, suc, Bool, true, false, not, List, [], ◌∷◌, ◌++◌, map, length, refl, sym, ◌∙◌, ap, ap₂, arith, true≢false}
-use Rattle.std.proofs.Math.Bool.{and-false}
+use Rattle.std.proofs.Common.{◌≡◌, ◌<◌, ◌≤◌, ◌+◌, ◌&&◌, ◌||◌, ℕ, zero, suc, Bool, true, false, not, nat_lt, List, [], ◌∷◌, ◌++◌, map, length, refl, sym, ◌∙◌, ap, ap₂, arith, true≢false}
+use Rattle.std.proofs.lemmas.Bool.{lt-ltb}
 use Rattle.ls_text.specs.declared.fault.Fault.{Fault}
 use Rattle.typed_ir.specs.declared.span.Span.{Span}
 use Rattle.typed_ir.specs.Orders.{Each, at_or}
 use Rattle.typed_ir.proofs.Cases.{and_left}
 use Rattle.unit_ir.specs.declared.signal_declaration.SignalDeclaration.{SignalDeclaration}
-use Rattle.unit_ir.specs.Items.{SizedBody, Node, Clocked, Initial, PlacedItem}
+use Rattle.unit_ir.specs.declared.typed_item.TypedItem.{TypedItem}
+use Rattle.unit_ir.specs.Items.{SizedBody, Node, Clocked, Initial, PlacedItem, item_of}
 use Rattle.width_rules.specs.declared.writer.Writer.{Writer}
 use Rattle.width_rules.specs.declared.writer.Writer.TheVariants as writer
 use Rattle.block_rules.specs.Paths.{places_of_true}
 use Rattle.driver_rules.specs.Mentioned.{earliest, shown_faults}
 use Rattle.driver_rules.specs.Writes.{node_spans, spans_of, written, AreWithin, AreItemsWithin}
-use Rattle.driver_rules.specs.Targets.{is_net_kind, is_variable_kind, is_variable, writer_of, may_write, target_faults, all_target_faults}
+use Rattle.driver_rules.specs.Targets.{flag_at, is_settled, is_net_kind, is_variable_kind, is_variable, writer_of, may_write, target_faults, all_target_faults}
 use Rattle.driver_rules.proofs.Sooner.{none_shown}
 use Rattle.driver_rules.proofs.Lists.{all_false, each_mapped, at_or_past}
 use Rattle.driver_rules.proofs.Runs.{by_order}
@@ -109,3 +110,15 @@ targets_same ds f g (x ∷ xs) h =
     ap₂ (λ (one rest : List Fault). one ++ rest)
     (ap (λ flags. shown_faults 33 (earliest (places_of_true flags) x.targets x.at)) (flags_same ds f g (writer_of x.body) (written x.body) h))
     (targets_same ds f g xs h)
+
+-- what the check says of slices and flags, of the items themselves
+pub checked_is : (ds ds' : List SignalDeclaration) (flags flags' : List Bool) (xs ys zs : List TypedItem) (n : ℕ)
+    → ds' ≡ ds → flags' ≡ flags → ys ≡ xs → zs ≡ xs → n ≡ length ds
+    → ((s : ℕ) → flag_at flags s ≡ (nat_lt s n && is_settled (map item_of ys) s))
+    → all_target_faults ds' (flag_at flags') (map item_of zs) ≡ all_target_faults ds (is_settled (map item_of xs)) (map item_of xs)
+checked_is ds ds' flags flags' xs ys zs n d f y z many flag =
+    ap₂ (λ (e : List SignalDeclaration) (g : List Bool). all_target_faults e (flag_at g) (map item_of zs)) d f
+    ∙ ap (λ (vs : List TypedItem). all_target_faults ds (flag_at flags) (map item_of vs)) z
+    ∙ targets_same ds (flag_at flags) (is_settled (map item_of xs)) (map item_of xs)
+    (λ t low. flag t ∙ ap (λ b. b && is_settled (map item_of ys) t) (lt-ltb t n (omega (arith, low, many)))
+    ∙ ap (λ (vs : List TypedItem). is_settled (map item_of vs) t) y)

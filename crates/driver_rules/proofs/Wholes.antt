@@ -30,7 +30,7 @@ use Rattle.driver_rules.specs.DriverFaults.{driver_faults}
 use Rattle.driver_rules.specs.Driven.{AreNarrowItems, is_input_kind, is_input, HasRoles, IsDriven}
 use Rattle.driver_rules.proofs.Sooner.{none_shown}
 use Rattle.driver_rules.proofs.Runs.{by_order}
-use Rattle.driver_rules.proofs.Taken.{own_is, item_apart, sum_flags, at_most_one}
+use Rattle.driver_rules.proofs.Taken.{own_is, item_apart, flag_number, sum_flags, at_most_one}
 use Rattle.driver_rules.proofs.Declared.{IsBest, declared_best, each_all, unwritten_here}
 use Rattle.driver_rules.proofs.Empty.{empty_left, empty_right, no_first, each_map, each_both, each_signal, MayWrite, items_may, all_within}
 
@@ -47,14 +47,14 @@ items_once taken (x ∷ xs) s i none small =
     let after : Places = λ t j. taken t j || writes x t j in
     let rest : count (λ (y : PlacedItem). writes y s i) xs + cond (after s i) 1 0 ≤ 1 =
     items_once after xs s i (empty_right (item_doubles taken x) (double_faults after xs) none) small in
-    let both : cond (taken s i) 1 0 + cond (writes x s i) 1 0 ≡ cond (after s i) 1 0 =
+    let both : flag_number (taken s i) + flag_number (writes x s i) ≡ flag_number (after s i) =
     sum_flags (taken s i) (writes x s i) (λ held. by_cases (writes x s i)
     (λ w. absurd (true≢false (sym held ∙ item_apart taken x s i (empty_left (item_doubles taken x) (double_faults after xs) none) small w)))
     (λ out. out)) in
     omega (arith, rest, both)
 
 node_le : (body : SizedBody) (s i : ℕ) → count (own_drives s i) (node_in body) ≤ cond (any_within (spans_of body) s i) 1 0
-node_le (Node node) s i = let e : cond (own_drives s i node) 1 0 ≡ cond (any_within (node_spans node) s i) 1 0 = ap (λ (b : Bool). cond b 1 0) (own_is node s i) in omega (arith, e)
+node_le (Node node) s i = let e : flag_number (own_drives s i node) ≡ flag_number (any_within (node_spans node) s i) = ap flag_number (own_is node s i) in omega (arith, e)
 node_le (Clocked st) s i = omega arith
 node_le (Initial signal) s i = omega arith
 
@@ -89,7 +89,7 @@ narrow_items : (xs : List PlacedItem) (s i : ℕ) → Each (λ (x : PlacedItem).
     → count (λ (x : PlacedItem). writes x s i) xs ≡ 0
 narrow_items [] s i all far = refl
 narrow_items (x ∷ xs) s i all far =
-    let one : cond (writes x s i) 1 0 ≡ cond false 1 0 = ap (λ (b : Bool). cond b 1 0) (narrow_spans (spans_of x.body) s i all.0 far) in
+    let one : flag_number (writes x s i) ≡ flag_number false = ap flag_number (narrow_spans (spans_of x.body) s i all.0 far) in
     omega (arith, one, narrow_items xs s i all.1 far)
 
 at_most : (p : PlacedItems) (s i : ℕ) → double_faults nowhere p.items ≡ [] → AreNarrowItems p → count (λ (x : PlacedItem). writes x s i) p.items ≤ 1
@@ -152,7 +152,7 @@ each_node P (x ∷ xs) h = each_append P (node_in x.body) (nodes_in xs) h.0 (eac
 none_driven : (s i : ℕ) (nodes : List UnitNode) → Each (λ node. own_drives s i node ≡ false) nodes → count (own_drives s i) nodes ≡ 0
 none_driven s i [] h = refl
 none_driven s i (x ∷ xs) h =
-    let one : cond (own_drives s i x) 1 0 ≡ cond false 1 0 = ap (λ (b : Bool). cond b 1 0) h.0 in
+    let one : flag_number (own_drives s i x) ≡ flag_number false = ap flag_number h.0 in
     omega (arith, one, none_driven s i xs h.1)
 
 input_body : (ds : List SignalDeclaration) (f : ℕ → Bool) (s i : ℕ) (body : SizedBody)

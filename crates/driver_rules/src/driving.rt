@@ -1,10 +1,17 @@
 // The items of a module to what drives or writes each of its bits, or to the first fault.
-ghost use Rattle.std.specs.Prelude.{◌≡◌, [], IfOk, IfErr};
-ghost use Rattle.unit_ir.specs.Items.{items_of};
+ghost use Rattle.std.specs.Prelude.{◌≡◌, [], length, IfOk, IfErr, OnOk};
+ghost use Rattle.typed_ir.specs.Valuations.{nowhere};
+ghost use Rattle.unit_ir.specs.Items.{items_of, unit_of};
 ghost use Rattle.width_rules.specs.Faults.{IsFirst};
+ghost use Rattle.driver_rules.specs.Writes.{AreItemsWithin};
+ghost use Rattle.driver_rules.specs.Targets.{is_settled, all_target_faults};
+ghost use Rattle.driver_rules.specs.Doubles.{double_faults};
+ghost use Rattle.driver_rules.specs.Blocks.{block_faults};
 ghost use Rattle.driver_rules.specs.DriverFaults.{driver_faults};
-ghost use Rattle.driver_rules.specs.Told.{IsTold};
+ghost use Rattle.driver_rules.specs.Driven.{AreNarrowItems, HasRoles, IsDriven};
+ghost use Rattle.driver_rules.specs.Told.{AreTold, IsTold};
 
+use block_rules::whole_blocks;
 use crate::driver::Driver;
 use crate::pathing::check_blocks;
 use crate::settling::settled_signals;
@@ -13,6 +20,34 @@ use crate::targeting::check_targets;
 use ls_text::Refusal;
 use std::alloc::Global;
 use unit_ir::TypedItems;
+
+// What may be written by what, over all items.
+fn check_written(alloc: Global, items: &TypedItems) -> Result<(), Refusal>
+    ensures faultless { OnOk result (all_target_faults (items_of items.now).declarations (is_settled (items_of items.now).items) (items_of items.now).items ≡ []) }
+    ensures fault { IfErr result (IsFirst (all_target_faults (items_of items.now).declarations (is_settled (items_of items.now).items) (items_of items.now).items)) }
+{
+    let settled = settled_signals(alloc, &items.items, items.declarations.len())?;
+    check_targets(alloc, &items.declarations, &settled, &items.items)
+}
+
+// The bits with what drives or writes them, once all that is written has a declaration.
+fn take_bits(alloc: Global, items: &TypedItems) -> Result<Vec<Driver>, Refusal>
+    requires { AreItemsWithin (length (items_of items.now).declarations) (items_of items.now).items }
+    ensures faultless { IfOk result (λ _. double_faults nowhere (items_of items.now).items ≡ []) }
+    ensures told { IfOk result (λ drivers. AreTold (items_of items.now).items drivers.items) }
+    ensures fault { IfErr result (IsFirst (double_faults nowhere (items_of items.now).items)) }
+{
+    driven_bits(alloc, items.declarations.len(), &items.items)
+}
+
+// The paths of the combinational blocks, likewise.
+fn check_paths(alloc: Global, items: &TypedItems) -> Result<(), Refusal>
+    requires { AreItemsWithin (length (items_of items.now).declarations) (items_of items.now).items }
+    ensures faultless { OnOk result (block_faults (items_of items.now).signals (items_of items.now).declarations (items_of items.now).items ≡ []) }
+    ensures fault { IfErr result (IsFirst (block_faults (items_of items.now).signals (items_of items.now).declarations (items_of items.now).items)) }
+{
+    check_blocks(alloc, &items.signals, &items.declarations, &items.items)
+}
 
 /// The bits that the items of a module drive or write, each with its item, in item order.
 ///
@@ -24,10 +59,11 @@ pub fn drivers(alloc: Global, items: &TypedItems) -> Result<Vec<Driver>, Refusal
     ensures faultless { IfOk result (λ _. driver_faults (items_of items.now) ≡ []) }
     ensures fault { IfErr result (IsFirst (driver_faults (items_of items.now))) }
     ensures told { IfOk result (λ drivers. IsTold (items_of items.now) drivers.items) }
+    ensures unit { IfOk result (λ _. AreNarrowItems (items_of items.now) → HasRoles (items_of items.now) → IsDriven (unit_of (items_of items.now))) }
 {
-    let settled = settled_signals(alloc, &items.items, items.declarations.len())?;
-    check_targets(alloc, &items.declarations, &settled, &items.items)?;
-    let drivers = driven_bits(alloc, items.declarations.len(), &items.items)?;
-    check_blocks(alloc, &items.signals, &items.declarations, &items.items)?;
+    check_written(alloc, items)?;
+    let drivers = take_bits(alloc, items)?;
+    check_paths(alloc, items)?;
+    whole_blocks();
     Ok(drivers)
 }

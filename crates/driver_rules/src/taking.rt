@@ -102,8 +102,8 @@ fn take_apart(
 {
     let mut bad = Vec::new(alloc);
     for k in 0..spans.len() {
-        let fault = meets(taken, spans[k]);
-        note_if(fault, k, &mut bad)?;
+        let double = meets(taken, spans[k]);
+        note_if(double, k, &mut bad)?;
         take_part(taken, spans[k], by, drivers)?;
     }
     Ok(bad)

@@ -14,8 +14,8 @@ loop-k-init c = record {
   grows = grows_none c.args.by.now c.args.taken.now c.args.drivers.now.items;
 }
 
-pub meets-fault-requires : goal.meets-fault-requires
-meets-fault-requires c =
+pub meets-double-requires : goal.meets-double-requires
+meets-double-requires c =
     subst (λ (n : ℕ). c.index-spans-k.result.signal < n) (sym c.loop-k.auto.taken)
     (each_read (λ (p : Span). p.signal < length c.args.taken.now) c.args.spans.now c.loop-k.k c.index-spans-k.result c.requires c.loop-k-test.true c.index-spans-k.is)
 
@@ -33,8 +33,8 @@ loop-k-preserved c =
     let grows : Grows c.args.by.now c.loop-k.taken c.take_part.new.taken c.loop-k.drivers.items c.take_part.new.drivers.items (within x) =
     subst (λ (p : Span). Grows c.args.by.now c.loop-k.taken c.take_part.new.taken c.loop-k.drivers.items c.take_part.new.drivers.items (within p)) same c.in_ok-take_part.ensures in
     record {
-      bad = overlap_next spans k x c.meets-fault.result c.loop-k.bad.items c.note_if.new.found.items c.loop-k.taken c.take_part.new.taken
-          c.loop-k-test.true c.index-spans-k.is c.meets-fault.ensures c.in_ok-note_if.ensures grows.taken
+      bad = overlap_next spans k x c.meets-double.result c.loop-k.bad.items c.note_if.new.found.items c.loop-k.taken c.take_part.new.taken
+          c.loop-k-test.true c.index-spans-k.is c.meets-double.ensures c.in_ok-note_if.ensures grows.taken
           ∙ c.loop-k.invariant.bad;
       grows = grows_next c.args.by.now c.args.taken.now c.loop-k.taken c.take_part.new.taken c.args.drivers.now.items c.loop-k.drivers.items c.take_part.new.drivers.items
           spans k x c.loop-k-test.true c.index-spans-k.is c.loop-k.invariant.grows grows;
