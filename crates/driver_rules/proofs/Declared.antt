@@ -25,8 +25,10 @@ to_lex ds s t h = by_cases (nat_lt (order_at ds s) (order_at ds t))
     (λ yes. inl (ltb-true (order_at ds s) (order_at ds t) yes))
     (λ out. let both : ((order_at ds s == order_at ds t) && nat_le s t) ≡ true =
     only_right (nat_lt (order_at ds s) (order_at ds t)) ((order_at ds s == order_at ds t) && nat_le s t) out h in
-    inr (eqb-true (order_at ds s) (order_at ds t) (and_left (order_at ds s == order_at ds t) (nat_le s t) both),
-    leb-true s t (and_right (order_at ds s == order_at ds t) (nat_le s t) both)))
+    inr (
+      eqb-true (order_at ds s) (order_at ds t) (and_left (order_at ds s == order_at ds t) (nat_le s t) both),
+      leb-true s t (and_right (order_at ds s == order_at ds t) (nat_le s t) both),
+    ))
 
 of_lex : (ds : List SignalDeclaration) (s t : ℕ) → Lex ds s t → comes_before ds s t ≡ true
 of_lex ds s t (inl h) = left_or (nat_lt (order_at ds s) (order_at ds t)) ((order_at ds s == order_at ds t) && nat_le s t) (lt-ltb (order_at ds s) (order_at ds t) h)
@@ -69,20 +71,23 @@ best_same ds f g (Some s) e h = (sym (e s) ∙ h.0, λ t is. h.1 t (e t ∙ is))
 
 -- one more
 pub best_next : (ds : List SignalDeclaration) (f : ℕ → Bool) (r : Option ℕ) (x : ℕ) → IsBest ds f r → IsBest ds (λ t. f t || (t == x)) (Some (nearer ds r x))
-best_next ds f None x h =
-    (right_or (f x) (x == x) (eq-eqb x x refl),
-    λ t is. let e : t ≡ x = eqb-true t x (only_right (f t) (t == x) (h t) is) in
-    ap (comes_before ds x) e ∙ same_lex ds x)
+best_next ds f None x h = (
+  right_or (f x) (x == x) (eq-eqb x x refl),
+  λ t is. let e : t ≡ x = eqb-true t x (only_right (f t) (t == x) (h t) is) in
+      ap (comes_before ds x) e ∙ same_lex ds x,
+)
 best_next ds f (Some s) x h = by_cases (comes_before ds s x)
-    (λ first. subst (λ (n : ℕ). IsBest ds (λ t. f t || (t == x)) (Some n)) (sym (ap (λ (b : Bool). cond b s x) first))
-    (left_or (f s) (s == x) h.0,
-    λ t is. by_cases (f t) (λ yes. h.1 t yes)
-    (λ out. let e : t ≡ x = eqb-true t x (only_right (f t) (t == x) out is) in ap (comes_before ds s) e ∙ first)))
-    (λ later. subst (λ (n : ℕ). IsBest ds (λ t. f t || (t == x)) (Some n)) (sym (ap (λ (b : Bool). cond b s x) later))
-    (right_or (f x) (x == x) (eq-eqb x x refl),
-    λ t is. by_cases (f t)
-    (λ yes. of_lex ds x t (lex_trans ds x s t (to_lex ds x s (other_lex ds s x later)) (to_lex ds s t (h.1 t yes))))
-    (λ out. let e : t ≡ x = eqb-true t x (only_right (f t) (t == x) out is) in ap (comes_before ds x) e ∙ same_lex ds x)))
+    (λ first. subst (λ (n : ℕ). IsBest ds (λ t. f t || (t == x)) (Some n)) (sym (ap (λ (b : Bool). cond b s x) first)) (
+      left_or (f s) (s == x) h.0,
+      λ t is. by_cases (f t) (λ yes. h.1 t yes)
+          (λ out. let e : t ≡ x = eqb-true t x (only_right (f t) (t == x) out is) in ap (comes_before ds s) e ∙ first),
+    ))
+    (λ later. subst (λ (n : ℕ). IsBest ds (λ t. f t || (t == x)) (Some n)) (sym (ap (λ (b : Bool). cond b s x) later)) (
+      right_or (f x) (x == x) (eq-eqb x x refl),
+      λ t is. by_cases (f t)
+          (λ yes. of_lex ds x t (lex_trans ds x s t (to_lex ds x s (other_lex ds s x later)) (to_lex ds s t (h.1 t yes))))
+          (λ out. let e : t ≡ x = eqb-true t x (only_right (f t) (t == x) out is) in ap (comes_before ds x) e ∙ same_lex ds x),
+    ))
 
 -- there is one answer
 pub best_is : (ds : List SignalDeclaration) (f : ℕ → Bool) (r q : Option ℕ) → IsBest ds f r → IsBest ds f q → r ≡ q

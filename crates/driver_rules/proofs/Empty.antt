@@ -57,9 +57,10 @@ item_may ds f x none =
 
 pub items_may : (ds : List SignalDeclaration) (f : ℕ → Bool) (xs : List PlacedItem) → all_target_faults ds f xs ≡ [] → Each (MayWrite ds f) xs
 items_may ds f [] none = tt
-items_may ds f (x ∷ xs) none =
-    (item_may ds f x (empty_left (target_faults ds f x) (all_target_faults ds f xs) none),
-    items_may ds f xs (empty_right (target_faults ds f x) (all_target_faults ds f xs) none))
+items_may ds f (x ∷ xs) none = (
+  item_may ds f x (empty_left (target_faults ds f x) (all_target_faults ds f xs) none),
+  items_may ds f xs (empty_right (target_faults ds f x) (all_target_faults ds f xs) none),
+)
 
 -- what may be written is declared
 inside : (g : SignalDeclaration → Bool) (ds : List SignalDeclaration) (s : ℕ) → at_or g false ds s ≡ true → s < length ds

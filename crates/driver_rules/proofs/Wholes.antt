@@ -158,12 +158,14 @@ none_driven s i (x ∷ xs) h =
 input_body : (ds : List SignalDeclaration) (f : ℕ → Bool) (s i : ℕ) (body : SizedBody)
     → Each (λ (t : ℕ). may_write ds f (writer_of body) t ≡ true) (written body) → is_input ds s ≡ true
     → Each (λ node. own_drives s i node ≡ false) (node_in body)
-input_body ds f s i (Node node) may is =
-    (by_cases (own_drives s i node)
-    (λ yes. absurd (no_input ds f (node_writer node) s
-    (each_member (λ (t : ℕ). may_write ds f (node_writer node) t ≡ true) (written (Node node)) s may
-    (span_member (node_spans node) s i (sym (own_is node s i) ∙ yes))) is))
-    (λ out. out), tt)
+input_body ds f s i (Node node) may is = (
+  by_cases (own_drives s i node)
+      (λ yes. absurd (no_input ds f (node_writer node) s
+      (each_member (λ (t : ℕ). may_write ds f (node_writer node) t ≡ true) (written (Node node)) s may
+      (span_member (node_spans node) s i (sym (own_is node s i) ∙ yes))) is))
+      (λ out. out),
+  tt,
+)
 input_body ds f s i (Clocked st) may is = tt
 input_body ds f s i (Initial signal) may is = tt
 
@@ -266,9 +268,11 @@ clocked_body : (ds : List SignalDeclaration) (f : ℕ → Bool) (registers : Lis
     → Each (λ (t : ℕ). may_write ds f (writer_of body) t ≡ true) (written body) → WritesRegisters registers rest
     → WritesRegisters registers (block_in body ++ rest)
 clocked_body ds f registers (Node node) rest all may done = done
-clocked_body ds f registers (Clocked st) rest all may done =
-    (each_signal (λ (s : ℕ). Member s registers) (later_targets st)
-    (each_map (λ (t : ℕ). may_write ds f writer.Clocked t ≡ true) (λ (s : ℕ). Member s registers) (map (λ (p : Span). p.signal) (later_targets st)) all may), done)
+clocked_body ds f registers (Clocked st) rest all may done = (
+  each_signal (λ (s : ℕ). Member s registers) (later_targets st)
+      (each_map (λ (t : ℕ). may_write ds f writer.Clocked t ≡ true) (λ (s : ℕ). Member s registers) (map (λ (p : Span). p.signal) (later_targets st)) all may),
+  done,
+)
 clocked_body ds f registers (Initial signal) rest all may done = done
 
 clocked_items : (ds : List SignalDeclaration) (f : ℕ → Bool) (registers : List ℕ) (xs : List PlacedItem)

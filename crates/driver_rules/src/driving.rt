@@ -11,12 +11,12 @@ ghost use Rattle.driver_rules.specs.DriverFaults.{driver_faults};
 ghost use Rattle.driver_rules.specs.Driven.{AreNarrowItems, HasRoles, IsDriven};
 ghost use Rattle.driver_rules.specs.Told.{AreTold, IsTold};
 
-use block_rules::whole_blocks;
 use crate::driver::Driver;
 use crate::pathing::check_blocks;
 use crate::settling::settled_signals;
 use crate::taking::driven_bits;
 use crate::targeting::check_targets;
+use block_rules::whole_blocks;
 use ls_text::Refusal;
 use std::alloc::Global;
 use unit_ir::TypedItems;

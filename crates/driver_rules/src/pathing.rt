@@ -9,9 +9,9 @@ ghost use Rattle.width_rules.specs.Faults.{IsFirst};
 ghost use Rattle.driver_rules.specs.Writes.{AreItemsWithin, AreWithin, spans_of, blocks_of};
 ghost use Rattle.driver_rules.specs.Blocks.{order_at, name_at, comes_before, nearer, first_declared, latched, read_faults, latch_faults, path_faults, block_faults};
 
-use block_rules::{PathTables, paths_of};
 use crate::showing::{check_shown, earliest};
 use crate::spanning::block_of;
+use block_rules::{PathTables, paths_of};
 use ls_text::{NameId, Place, Refusal};
 use std::alloc::Global;
 use typed_ir::{SignalId, Stmt};
@@ -40,11 +40,7 @@ fn is_before(declarations: &[SignalDeclaration], first: SignalId, second: Signal
 }
 
 // Of a signal and what was found so far the one that is declared first.
-fn nearer(
-    declarations: &[SignalDeclaration],
-    found: Option<SignalId>,
-    signal: SignalId,
-) -> SignalId
+fn nearer(declarations: &[SignalDeclaration], found: Option<SignalId>, signal: SignalId) -> SignalId
     ensures { result ≡ nearer declarations.now found signal }
 {
     match found {
@@ -60,10 +56,7 @@ fn nearer(
 }
 
 // Of some signals the one that is declared first, of equals the one with the lowest number.
-fn first_declared(
-    declarations: &[SignalDeclaration],
-    signals: &[SignalId],
-) -> Option<SignalId>
+fn first_declared(declarations: &[SignalDeclaration], signals: &[SignalId]) -> Option<SignalId>
     requires { (s : ℕ) → is_member s signals.now ≡ true → s < length declarations.now }
     ensures { result ≡ first_declared declarations.now (λ s. is_member s signals.now) (length declarations.now) }
 {

@@ -180,11 +180,7 @@ fn take_items(
 
 /// The bits that items drive or write, of so many signals, each with its item; or 34 MultipleDrivers at the first item, and there at the
 /// earliest part, with a bit that an earlier item or, in an assignment or a connection, a part left of it has. Else want of memory.
-pub fn driven_bits(
-    alloc: Global,
-    count: usize,
-    items: &[TypedItem],
-) -> Result<Vec<Driver>, Refusal>
+pub fn driven_bits(alloc: Global, count: usize, items: &[TypedItem]) -> Result<Vec<Driver>, Refusal>
     requires { AreItemsWithin count (map item_of items.now) }
     ensures faultless { IfOk result (λ _. double_faults nowhere (map item_of items.now) ≡ []) }
     ensures told { IfOk result (λ drivers. AreTold (map item_of items.now) drivers.items) }
