@@ -1,6 +1,7 @@
 mod Masks
 mod Knowing
 mod Whole
+mod Legal
 mod Leading
 mod Finding
 mod Listing
