@@ -19,16 +19,19 @@ use Rattle.driver_rules.proofs.Runs.{by_order}
 -- ---- one test of a bit for each
 
 pub some_same : (n : ℕ) (f g : ℕ → Bool) → ((i : ℕ) → i < n → f i ≡ g i) → some_below n f ≡ some_below n g
+unfolding some_below
 some_same zero f g h = refl
 some_same (suc n) f g h = ap₂ (λ a b. a || b) (h n (omega arith)) (some_same n f g (λ i k. h i (omega (arith, k))))
 
 pub none_below : (n : ℕ) (f : ℕ → Bool) → some_below n f ≡ false → (i : ℕ) → i < n → f i ≡ false
+unfolding some_below
 none_below zero f h i k = absurd (omega (arith, k))
 none_below (suc n) f h i k = by_cases (i == n)
     (λ yes. ap f (eqb-true i n yes) ∙ or_left (f n) (some_below n f) h)
     (λ no. none_below n f (or_right (f n) (some_below n f) h) i (let apart : i ≡ n → ⊥ = eqb-false i n no in omega (arith, k, apart)))
 
 pub some_none : (n : ℕ) (f : ℕ → Bool) → ((i : ℕ) → i < n → f i ≡ false) → some_below n f ≡ false
+unfolding some_below
 some_none zero f h = refl
 some_none (suc n) f h = ap₂ (λ a b. a || b) (h n (omega arith)) (some_none n f (λ i k. h i (omega (arith, k))))
 
