@@ -6,6 +6,7 @@ pub mod Targets
 pub mod Statements
 pub mod Drives
 pub mod Lanes
+pub mod Entries
 pub mod RenumberedForms
 pub mod RenumberedFaults
 pub mod RenumberedTargets

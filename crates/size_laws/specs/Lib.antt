@@ -1,4 +1,5 @@
 pub mod Written
 pub mod Fitting
+pub mod Entries
 pub mod Renumbering
 pub mod Examples

@@ -1,5 +1,6 @@
 // What is sized without a fault fits the signals of its scope.
 ghost use Rattle.std.specs.Prelude.{◌≡◌, ◌≤◌, ℕ, Bool, true, List, [], map};
+ghost use Rattle.ls_text.specs.declared.name_id.NameId.{NameId};
 ghost use Rattle.typed_ir.specs.declared.lane.Lane.{Lane};
 ghost use Rattle.typed_ir.specs.Nodes.{are_lanes};
 ghost use Rattle.typed_ir.specs.Sized.{is_width, is_signal, width_of};
@@ -14,10 +15,12 @@ ghost use Rattle.verilog_ast.specs.Statements.{Statement};
 ghost use Rattle.verilog_ast.specs.Views.{expression_of, target_of, statement_of, assignment_of};
 ghost use Rattle.width_rules.specs.declared.due.Due.{Due};
 ghost use Rattle.width_rules.specs.declared.due.Due.TheVariants.{AnyValue};
+ghost use Rattle.width_rules.specs.declared.entry.Entry.{Entry};
 ghost use Rattle.width_rules.specs.declared.writer.Writer.{Writer};
 ghost use Rattle.width_rules.specs.declared.writer.Writer.TheVariants.{Combinational, Continuous as ByAssign};
 ghost use Rattle.width_rules.specs.Constants.{constant, integer};
 ghost use Rattle.width_rules.specs.Faults.{faults};
+ghost use Rattle.width_rules.specs.Found.{found};
 ghost use Rattle.width_rules.specs.Opened.{own};
 ghost use Rattle.width_rules.specs.Scopes.{Scope};
 ghost use Rattle.width_rules.specs.Signs.{is_signed};
@@ -25,6 +28,7 @@ ghost use Rattle.width_rules.specs.Sizes.{length, push, is_constant};
 ghost use Rattle.statement_rules.specs.Drives.{sized_drive, assign_faults};
 ghost use Rattle.statement_rules.specs.Statements.{sized_statement, item_faults, statement_faults};
 ghost use Rattle.statement_rules.specs.Targets.{target_length, parts, target_faults, kind_faults};
+ghost use Rattle.size_laws.specs.Entries.{are_there};
 ghost use Rattle.size_laws.specs.Examples.{scope, widths, expression, statement, assignments};
 ghost use Rattle.size_laws.specs.Fitting.{FitsScope, FitDrives};
 ghost use Rattle.size_laws.specs.Renumbering.{renumbered, numbered_as, target_as, statement_as, drive_as};
@@ -33,6 +37,7 @@ ghost use Rattle.size_laws.specs.Written.{IsWritten, IsTargetWritten, IsStatemen
 /// Under a scope that fits the widths of signals, what has no fault and is sized has widths that agree, and reads and writes these signals alone.
 #[tactic(none)]
 pub fn sized_text_fits()
+    ensures entries { (entries : List (NameId × Entry)) (widths : List ℕ) → are_there entries widths ≡ true → FitsScope (found entries) widths }
     ensures lengths { (scope : Scope) (widths : List ℕ) (due : Due) (e : Expression) → FitsScope scope widths → IsWritten e → faults scope due e ≡ []
         → is_width (length scope e) ≡ true }
     ensures forms { (scope : Scope) (widths : List ℕ) (due : Due) (e : Expression) (l : ℕ) (t : Bool) → FitsScope scope widths → IsWritten e → faults scope due e ≡ []

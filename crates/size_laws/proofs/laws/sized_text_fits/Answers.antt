@@ -1,3 +1,4 @@
+use Rattle.size_laws.proofs.Entries.{entries_fit}
 use Rattle.size_laws.proofs.Example.{scope_fits, expression_written, expression_right, statement_written, statement_right, assignments_written, assignments_right}
 use Rattle.size_laws.proofs.Forms.{form_sized, form_width, own_sized, own_width}
 use Rattle.size_laws.proofs.Lanes.{lanes_fit}
@@ -37,3 +38,6 @@ returns-clause-example c =
 
 pub returns-clause-lanes : goal.returns-clause-lanes
 returns-clause-lanes c = lanes_fit
+
+pub returns-clause-entries : goal.returns-clause-entries
+returns-clause-entries c = entries_fit
