@@ -36,4 +36,5 @@ is_sized p is = ∣ record {
   nodes = each_of_none _ (sized_unit p).nodes (ap (λ (u : SizedUnit). u.nodes) is);
   blocks = each_of_none _ (sized_unit p).clocked (ap (λ (u : SizedUnit). u.clocked) is);
   children = each_of_none _ (sized_unit p).nodes (ap (λ (u : SizedUnit). u.nodes) is);
+  into = each_of_none _ (sized_unit p).nodes (ap (λ (u : SizedUnit). u.nodes) is);
 } ∣₁
