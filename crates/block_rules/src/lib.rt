@@ -3,8 +3,7 @@
 //
 // `targets` lists what a block may write. `bit_table` has a mask for each signal, `learning` adds bits to one and lists the new ones, so
 // that a branch can be taken back. `reading` flags the reads of an expression, `walking` goes through a statement path by path, and
-// `paths` is the call. `laws` says what the absence of both means, and of
-// which blocks this can be asked.
+// `paths` is the call. `laws` says what the absence of both means, and of which blocks this can be asked.
 #![tactic(auto)]
 
 mod bit_table;
@@ -20,3 +19,4 @@ pub use bit_table::BitTable;
 pub use laws::{legal_blocks, whole_blocks};
 pub use path_tables::PathTables;
 pub use paths::{Paths, paths_of};
+pub use targets::targets_in;

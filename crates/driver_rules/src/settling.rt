@@ -4,7 +4,8 @@ ghost use Rattle.unit_ir.specs.Items.{item_of, body_of};
 ghost use Rattle.driver_rules.specs.Writes.{blocks_of};
 ghost use Rattle.driver_rules.specs.Targets.{flag_at, names, block_names, is_settled};
 
-use crate::spanning::{block_of, target_spans};
+use crate::spanning::block_of;
+use block_rules::targets_in;
 use no_memory::NoMemory;
 use std::alloc::Global;
 use typed_ir::{SignalId, Span};
@@ -38,7 +39,7 @@ fn flag_block(alloc: Global, flags: &mut [bool], body: &ItemBody) -> Result<(), 
     match block_of(body) {
         None => Ok(()),
         Some(st) => {
-            let spans = target_spans(alloc, st)?;
+            let spans = targets_in(alloc, st)?;
             flag_names(flags, &spans);
             Ok(())
         }

@@ -1,4 +1,4 @@
-use Rattle.std.proofs.Common.{◌≡◌, ◌++◌, ◌||◌, ◌&&◌, ◌<◌, ◌∙◌, ◌+◌, map, drop, ap, ap₂, sym, subst}
+use Rattle.std.proofs.Common.{Bool, List, ◌≡◌, ◌++◌, ◌||◌, ◌&&◌, ◌<◌, ◌∙◌, ◌+◌, map, drop, ap, ap₂, sym, subst}
 use Rattle.typed_ir.specs.Stmts.{Assign, Later, If, Case, certain, known_after, known_after_arms}
 use Rattle.typed_ir.specs.Forms.{sized}
 use Rattle.typed_ir.specs.Targets.{targets_of}
@@ -162,9 +162,9 @@ walk_arms-loop-arm-preserved t c =
     let long : size c.branch-alloc.new.known ≡ size k0 = c.in_ok-branch.ensures.size ∙ c.loop-arm.invariant.0 in
     let bits : bits_of c.branch-alloc.new.known ≡ bits_of k0 = c.in_ok-branch.ensures.known ∙ same in
     let items : c.flag_items.new.flags.items ≡ c.loop-arm.flags.items ++ flags_of w (item_leaves (map item_of x.items.items)) (bits_of k0) =
-    c.in_ok-flag_items.ensures ∙ ap₂ (λ xs p. c.loop-arm.flags.items ++ flags_of w (item_leaves (map item_of xs)) p) c.deref.ensures.value same in
+    ◌∙◌ {A = List Bool} c.in_ok-flag_items.ensures (ap₂ (λ xs p. c.loop-arm.flags.items ++ flags_of w (item_leaves (map item_of xs)) p) c.deref.ensures.value same) in
     let body : c.branch-alloc.new.flags.items ≡ c.flag_items.new.flags.items ++ reads_early w (stmt_of x.body) (bits_of k0) =
-    c.in_ok-branch.ensures.flags ∙ ap (λ p. c.flag_items.new.flags.items ++ reads_early w (stmt_of x.body) p) same in (
+    ◌∙◌ {A = List Bool} c.in_ok-branch.ensures.flags (ap (λ p. c.flag_items.new.flags.items ++ reads_early w (stmt_of x.body) p) same) in (
       long,
       bits,
       arm_so arms otherwise k x k0 k1 c.in_ok-branch.field-0.items (common_of c.loop-arm.common)
