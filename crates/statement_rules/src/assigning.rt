@@ -3,7 +3,7 @@ ghost use Rattle.std.specs.Prelude.{◌≡◌, ◌≤◌, ◌++◌, [], true, fa
 ghost use Rattle.typed_ir.specs.Forms.{sized};
 ghost use Rattle.typed_ir.specs.Stmts.{Fixed};
 ghost use Rattle.typed_ir.specs.Targets.{targets_of as parts_of};
-ghost use Rattle.verilog_ast.specs.Views.{expression_of, assignment_of};
+ghost use Rattle.verilog_ast.specs.Views.{expression_of, target_of, assignment_of};
 ghost use Rattle.statement_rules.specs.Drives.{sized_drive, drive_of, drive_faults, all_drive_faults, all_kind_faults, assign_faults, are_fixed};
 ghost use Rattle.width_rules.specs.declared.due.Due.TheVariants.{AnyValue};
 ghost use Rattle.width_rules.specs.Entries.{scope_of};
@@ -18,7 +18,7 @@ use ls_text::Refusal;
 use no_memory::NoMemory;
 use std::alloc::Global;
 use typed_ir::{Lane, Target, Typed};
-use verilog_ast::{Continuous, Expr};
+use verilog_ast::{Continuous, Expr, Lhs};
 use width_rules::{Due, Scope, Writer, close, measure};
 
 /// The value of an assignment to a target of so many bits, 1 to 128: at the larger of both lengths, by its own sign; or its first
@@ -50,19 +50,20 @@ fn lanes_of(alloc: Global, parts: Vec<Target>) -> Result<Vec<Lane>, NoMemory>
     Ok(lanes)
 }
 
-// A continuous assignment; or the first fault of its expressions, or want of memory.
-fn size_drive(alloc: Global, scope: &Scope, assignment: &Continuous) -> Result<Drive, Refusal>
-    ensures faultless { IfOk result (λ _. drive_faults (scope_of scope.now) (assignment_of assignment.now) ≡ []) }
-    ensures drive { IfOk result (λ x. drive_of x ≡ sized_drive (scope_of scope.now) (assignment_of assignment.now)) }
-    ensures fault { IfErr result (IsFirst (drive_faults (scope_of scope.now) (assignment_of assignment.now))) }
+/// A continuous assignment of a value to a target: the value at the larger of both lengths, by its own sign; or the first fault of its
+/// expressions, or want of memory. Who may write the target is `check_target`'s question.
+pub fn size_drive(
+    alloc: Global,
+    scope: &Scope,
+    target: &Lhs,
+    value: &Expr,
+) -> Result<Drive, Refusal>
+    ensures faultless { IfOk result (λ _. drive_faults (scope_of scope.now) (record { target = target_of target.now; value = expression_of value.now }) ≡ []) }
+    ensures drive { IfOk result (λ x. drive_of x ≡ sized_drive (scope_of scope.now) (record { target = target_of target.now; value = expression_of value.now })) }
+    ensures fault { IfErr result (IsFirst (drive_faults (scope_of scope.now) (record { target = target_of target.now; value = expression_of value.now }))) }
 {
-    let SizedTarget { parts, width } = size_target(
-        alloc,
-        scope,
-        Due::ConstantOnly,
-        &assignment.target,
-    )?;
-    let value = assigned(alloc, scope, width, assignment.value.get())?;
+    let SizedTarget { parts, width } = size_target(alloc, scope, Due::ConstantOnly, target)?;
+    let value = assigned(alloc, scope, width, value)?;
     let lanes = lanes_of(alloc, parts)?;
     Ok(Drive { lanes, value })
 }
@@ -76,7 +77,7 @@ fn size_drives(alloc: Global, scope: &Scope, list: &[Continuous]) -> Result<Vec<
 {
     let mut drives = Vec::new(alloc);
     for assignment in list {
-        let drive = size_drive(alloc, scope, assignment)?;
+        let drive = size_drive(alloc, scope, &assignment.target, assignment.value.get())?;
         drives.push(drive)?;
     }
     Ok(drives)

@@ -21,10 +21,10 @@ mod statements;
 mod target_kinds;
 mod targeting;
 
-pub use assigning::size_assign;
+pub use assigning::{assigned, size_assign, size_drive};
 pub use blocks::size_stmt;
 pub use drive::Drive;
 pub use laws::names_may_change;
 pub use sized_target::SizedTarget;
 pub use target_kinds::check_target;
-pub use targeting::size_target;
+pub use targeting::{lay, size_target};

@@ -7,4 +7,4 @@ use Rattle.statement_rules.proofs.assigning.size_drive.Goals as goal
 
 pub lanes_of-requires : goal.lanes_of-requires
 lanes_of-requires c =
-    ap are_fixed c.in_ok-parts.ensures.parts ∙ fixed (scope_of c.args.scope.now) 0 (target_of c.args.assignment.now.target) c.in_ok-parts.ensures.faultless
+    ap are_fixed c.in_ok-parts.ensures.parts ∙ fixed (scope_of c.args.scope.now) 0 (target_of c.args.target.now) c.in_ok-parts.ensures.faultless
