@@ -1,0 +1,4 @@
+pub mod Names
+pub mod Mentions
+pub mod Forms
+pub mod Adding
