@@ -1,3 +1,4 @@
 pub mod Noted
 pub mod Told
 pub mod Listing
+pub mod Shown

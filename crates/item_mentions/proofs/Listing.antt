@@ -3,12 +3,14 @@ use Rattle.std.proofs.Common.{◌≡◌, ◌<◌, ◌≤◌, ℕ, ◌+◌, Bool,
 use Rattle.typed_ir.proofs.Lists.{drop_read}
 use Rattle.verilog_ast.specs.declared.expression.Expr.{Expr}
 use Rattle.verilog_ast.specs.declared.identifier.Identifier.{Identifier}
+use Rattle.verilog_ast.specs.declared.label.Label.{Label}
 use Rattle.verilog_ast.specs.declared.target.Lhs.{Lhs}
-use Rattle.verilog_ast.specs.Views.{expression_of, parts_of, target_of, targets_of}
+use Rattle.verilog_ast.specs.Views.{expression_of, parts_of, label_of, target_of, targets_of}
 use Rattle.unit_ir.specs.declared.mention.Mention.{Mention}
 use Rattle.width_rules.specs.Scopes.{Scope}
 use Rattle.width_rules.specs.Sizes.{is_constant}
 use Rattle.item_mentions.specs.Adding.{Notes, NamesLeft}
+use Rattle.item_mentions.specs.Mentions.{Listing, label_names, labels_names}
 use Rattle.item_mentions.specs.Names.{expression_names, index_names, target_names, expression_targets}
 use Rattle.item_mentions.proofs.Noted.{element_after, elements_done}
 
@@ -69,3 +71,15 @@ pub targets_read : (scope : Scope) (xs : List Lhs) (i : ℕ) (old now : List Men
     → NamesLeft old now from next (index_names scope (targets_of (map target_of xs))) (index_names scope (targets_of (map target_of (drop i xs))))
     → Notes old now from next (index_names scope (targets_of (map target_of xs)))
 targets_read scope = elements_done (λ ys. index_names scope (targets_of (map target_of ys))) refl
+
+-- ---- labels
+
+pub label_listed : (w : Listing) (xs : List Label) (i : ℕ) (x : Label) (old now new : List Mention) (from next after : ℕ) (all : List Identifier) → i < length xs → x ≡ get_or xs i x
+    → NamesLeft old now from next all (labels_names w (map label_of (drop i xs))) → Notes now new next after (label_names w (label_of x))
+    → NamesLeft old new from after all (labels_names w (map label_of (drop (i + 1) xs)))
+label_listed w = element_after (λ ys. labels_names w (map label_of ys)) (λ y. label_names w (label_of y)) (λ y ys. refl)
+
+pub labels_listed : (w : Listing) (xs : List Label) (i : ℕ) (old now : List Mention) (from next : ℕ) → length xs ≤ i
+    → NamesLeft old now from next (labels_names w (map label_of xs)) (labels_names w (map label_of (drop i xs)))
+    → Notes old now from next (labels_names w (map label_of xs))
+labels_listed w = elements_done (λ ys. labels_names w (map label_of ys)) refl

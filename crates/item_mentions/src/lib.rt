@@ -1,17 +1,24 @@
+// What an item mentions: the names of its targets and of its reads where they stand in the text, in the order of its sized form.
+//
+// `constants` tells whether an index is a constant. `reading` walks an expression and `targeting` a target, each adding what it meets to a
+// list (`noting`); `walking` does so for a statement, once for its targets and once for its reads (`asked`, `asking`). `blocks` is the call
+// for a block. `forms` says in which form a target is shown.
 #![tactic(auto)]
 
 mod arm_end;
 mod asked;
-mod block_mentions;
+mod asking;
+mod blocks;
 mod constants;
+mod forms;
+mod mention_lists;
 mod noting;
 mod reading;
 mod targeting;
+mod walking;
 
-pub use arm_end::ArmEnd;
-pub use asked::Asked;
-pub use block_mentions::BlockMentions;
+pub use blocks::block_mentions;
 pub use constants::is_constant;
+pub use forms::{reference_form, statement_form, target_form};
+pub use mention_lists::BlockMentions;
 pub use targeting::{connection_mentions, target_mentions};
-pub use targeting::{read_indices, write};
-pub use reading::read;

@@ -17,12 +17,7 @@ use width_rules::Scope;
 /// Adds the names that an expression reads, with their numbers from this one on, and answers the next number.
 #[tactic(auto, using(crate::proofs::Noted::notes_two, crate::proofs::Noted::notes_none))]
 #[cycle(reading)]
-pub fn read(
-    scope: &Scope,
-    e: &Expr,
-    from: u32,
-    list: &mut Vec<Mention>,
-) -> Result<u32, NoMemory>
+pub fn read(scope: &Scope, e: &Expr, from: u32, list: &mut Vec<Mention>) -> Result<u32, NoMemory>
     ensures { IfOk result (λ next. Notes list.old.items list.new.items from next (expression_names (scope_of scope.now) (expression_of e.now))) }
 {
     match e {
