@@ -4,3 +4,4 @@ pub mod Forms
 pub mod Adding
 pub mod Leaves
 pub mod Placed
+pub mod Example

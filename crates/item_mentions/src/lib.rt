@@ -21,6 +21,6 @@ mod walking;
 pub use blocks::block_mentions;
 pub use constants::is_constant;
 pub use forms::{reference_form, statement_form, target_form};
-pub use laws::mentions_are_of_leaves;
+pub use laws::{default_comes_last, mentions_are_of_leaves};
 pub use mention_lists::BlockMentions;
 pub use targeting::{connection_mentions, target_mentions};
