@@ -7,3 +7,4 @@ pub mod TargetLeaves
 pub mod StatementLeaves
 pub mod Flags
 pub mod Trees
+pub mod Connections

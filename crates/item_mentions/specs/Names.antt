@@ -69,3 +69,10 @@ abbrev pub expression_targets : Expression → List Identifier
 expression_targets (Concatenation at xs) = expression_targets xs
 expression_targets (Parts x xs) = expression_targets x ++ expression_targets xs
 expression_targets other = reference_name other
+
+-- the expression that a target is in a connection
+abbrev pub written_as : Target → Expression
+written_as (Reference x) = x
+written_as (Joined at ts) = Concatenation at (written_as ts)
+written_as NoTarget = NoPart
+written_as (Targets t ts) = Parts (written_as t) (written_as ts)

@@ -15,7 +15,7 @@ ghost use Rattle.item_mentions.specs.Example.{scope as names, statement, reads, 
 ghost use Rattle.item_mentions.specs.Forms.{statement_form};
 ghost use Rattle.item_mentions.specs.Leaves.{statement_leaves, signals_of, signals_named};
 ghost use Rattle.item_mentions.specs.Mentions.{numbered, statement_reads, statement_targets};
-ghost use Rattle.item_mentions.specs.Names.{target_names};
+ghost use Rattle.item_mentions.specs.Names.{target_names, expression_targets, written_as};
 
 /// What a tree mentions are the signals of its sized form, one by one: its reads those of the leaves that `block_rules` flags, its targets
 /// those of the parts that it writes. A name that is no signal counts as signal 0, as in the sized form.
@@ -25,6 +25,7 @@ pub fn mentions_are_of_leaves()
     ensures targets { (scope : Scope) (x : Stmt) → signals_of (targets (sized_statement scope Combinational (statement_of x))) ≡ signals_named scope (statement_targets 0 (statement_of x)) }
     ensures later_targets { (scope : Scope) (x : Stmt) → signals_of (later_targets (sized_statement scope Clocked (statement_of x))) ≡ signals_named scope (statement_targets 0 (statement_of x)) }
     ensures parts { (scope : Scope) (t : Lhs) → signals_of (map span_of (parts scope 0 (target_of t))) ≡ signals_named scope (numbered 0 (target_names (target_of t))) }
+    ensures connections { (t : Lhs) → expression_targets (written_as (target_of t)) ≡ target_names (target_of t) }
     ensures flags { (st : SizedStmt) → length (flags_of_block st) ≡ length (statement_leaves st) }
     ensures so_many_reads { (scope : Scope) (x : Stmt) → length (flags_of_block (sized_statement scope Combinational (statement_of x))) ≡ length (statement_reads scope 0 (statement_of x)) }
     ensures so_many_targets { (scope : Scope) (x : Stmt) → length (targets (sized_statement scope Combinational (statement_of x))) ≡ length (statement_targets 0 (statement_of x)) }

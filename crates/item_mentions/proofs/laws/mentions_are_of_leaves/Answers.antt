@@ -11,6 +11,7 @@ use Rattle.size_laws.proofs.Trees.{target_is_written, statement_is_written}
 use Rattle.item_mentions.specs.Leaves.{statement_leaves, number_of, signals_of, signals_named}
 use Rattle.item_mentions.specs.Mentions.{statement_reads, statement_targets}
 use Rattle.item_mentions.specs.Names.{target_names}
+use Rattle.item_mentions.proofs.Connections.{target_same}
 use Rattle.item_mentions.proofs.Flags.{block_flags}
 use Rattle.item_mentions.proofs.StatementLeaves.{numbered_same, reads_same, targets_same, later_same}
 use Rattle.item_mentions.proofs.TargetLeaves.{target_named}
@@ -33,6 +34,9 @@ returns-clause-later_targets c scope x = later_same scope 0 (statement_of x) (st
 
 pub returns-clause-parts : goal.returns-clause-parts
 returns-clause-parts c scope t = target_named scope 0 (target_of t) (target_is_written t) ∙ sym (numbered_same scope 0 (target_names (target_of t)))
+
+pub returns-clause-connections : goal.returns-clause-connections
+returns-clause-connections c t = target_same (target_of t) (target_is_written t)
 
 pub returns-clause-flags : goal.returns-clause-flags
 returns-clause-flags c = block_flags
