@@ -1,5 +1,5 @@
 -- Names that go to a list one after another.
-use Rattle.std.proofs.Common.{◌≡◌, ◌<◌, ◌≤◌, ℕ, ◌+◌, List, [], ◌∷◌, ◌++◌, map, drop, length, get_or, refl, sym, ◌∙◌, ap, ap₂, subst, append-nil, append_assoc, length-append, arith}
+use Rattle.std.proofs.Common.{◌≡◌, ◌<◌, ◌≤◌, ℕ, ◌+◌, List, [], ◌∷◌, ◌++◌, drop, length, get_or, refl, sym, ◌∙◌, ap, ap₂, subst, append-nil, append_assoc, length-append, arith}
 use Rattle.std.proofs.lemmas.List.{at_drop_all}
 use Rattle.typed_ir.proofs.Lists.{drop_read}
 use Rattle.verilog_ast.specs.declared.identifier.Identifier.{Identifier}

@@ -1,6 +1,6 @@
 -- A case whose default stands first, and what it mentions by hand. The signals a, b, c, d, y have the names 0 to 4, the parameter p is 5:
 --     case (a) default: y[b] = {c, p}; 3, d: begin y[p -: 2] = c[b]; {y, c} = a ? b : d; end default: y = d; endcase
-use Rattle.std.specs.Prelude.{ℕ, zero, suc, false, true, Option, None, List, [], ◌∷◌}
+use Rattle.std.specs.Prelude.{ℕ, zero, suc, false, true, None, List, [], ◌∷◌}
 use Rattle.ls_text.specs.declared.place.Place.{Place}
 use Rattle.verilog_ast.specs.declared.case_kind.CaseKind.TheVariants.{Case as Plain}
 use Rattle.verilog_ast.specs.declared.identifier.Identifier.{Identifier}

@@ -15,7 +15,7 @@ use verilog_ast::{Expr, Identifier, Reference};
 use width_rules::Scope;
 
 /// Adds the names that an expression reads, with their numbers from this one on, and answers the next number.
-#[tactic(auto, using(crate::proofs::Noted::notes_two, crate::proofs::Noted::notes_none))]
+#[tactic(auto, using(crate::proofs::Noted::notes_none))]
 #[cycle(reading)]
 pub fn read(scope: &Scope, e: &Expr, from: u32, list: &mut Vec<Mention>) -> Result<u32, NoMemory>
     ensures { IfOk result (λ next. Notes list.old.items list.new.items from next (expression_names (scope_of scope.now) (expression_of e.now))) }
@@ -33,7 +33,6 @@ pub fn read(scope: &Scope, e: &Expr, from: u32, list: &mut Vec<Mention>) -> Resu
 }
 
 // Those of two expressions.
-#[tactic(auto, using(crate::proofs::Noted::notes_two))]
 #[cycle(reading)]
 fn read_both(
     scope: &Scope,
@@ -50,7 +49,6 @@ fn read_both(
 }
 
 // Those of a condition and of what it chooses from.
-#[tactic(auto, using(crate::proofs::Noted::notes_two))]
 #[cycle(reading)]
 fn read_three(
     scope: &Scope,
@@ -70,7 +68,7 @@ fn read_three(
 }
 
 // Those of the parts of a concatenation.
-#[tactic(auto, using(crate::proofs::Noted::left_all, crate::proofs::Listing::part_read, crate::proofs::Listing::parts_read))]
+#[tactic(auto, using(crate::proofs::Noted::left_all, crate::proofs::Listing::parts_read))]
 #[cycle(reading)]
 fn read_parts(
     scope: &Scope,
@@ -107,7 +105,6 @@ fn read_reference(
 }
 
 // Those of a name and its index.
-#[tactic(auto, using(crate::proofs::Noted::notes_two))]
 #[cycle(reading)]
 fn read_select(
     scope: &Scope,

@@ -61,7 +61,7 @@ pub fn write(target: &Lhs, from: u32, list: &mut Vec<Mention>) -> Result<u32, No
 }
 
 // Those of targets one after another.
-#[tactic(auto, using(crate::proofs::Noted::left_all, crate::proofs::Listing::target_written, crate::proofs::Listing::targets_written))]
+#[tactic(auto, using(crate::proofs::Noted::left_all, crate::proofs::Listing::targets_written))]
 #[cycle(write)]
 fn write_all(targets: &[Lhs], from: u32, list: &mut Vec<Mention>) -> Result<u32, NoMemory>
     ensures { IfOk result (λ next. Notes list.old.items list.new.items from next (target_names (targets_of (map target_of targets.now)))) }
@@ -109,7 +109,7 @@ fn connect_reference(
 }
 
 // Those of expressions one after another.
-#[tactic(auto, using(crate::proofs::Noted::left_all, crate::proofs::Listing::part_written, crate::proofs::Listing::parts_written))]
+#[tactic(auto, using(crate::proofs::Noted::left_all, crate::proofs::Listing::parts_written))]
 #[cycle(connect)]
 fn connect_all(parts: &[Expr], from: u32, list: &mut Vec<Mention>) -> Result<u32, NoMemory>
     ensures { IfOk result (λ next. Notes list.old.items list.new.items from next (expression_targets (parts_of (map expression_of parts.now)))) }
@@ -157,7 +157,7 @@ pub fn read_indices(
 }
 
 // Those of targets one after another.
-#[tactic(auto, using(crate::proofs::Noted::left_all, crate::proofs::Listing::target_read, crate::proofs::Listing::targets_read))]
+#[tactic(auto, using(crate::proofs::Noted::left_all, crate::proofs::Listing::targets_read))]
 #[cycle(indices)]
 fn read_all(
     scope: &Scope,

@@ -161,7 +161,7 @@ fn walk_case(
 }
 
 // Those of the items of a case, its first default at last.
-#[tactic(auto, using(crate::proofs::Told::all_left, crate::proofs::Told::arm_told, crate::proofs::Told::default_kept, crate::proofs::Told::arms_told))]
+#[tactic(auto, using(crate::proofs::Told::arms_told))]
 #[cycle(walk)]
 fn walk_arms(
     alloc: Global,

@@ -1,5 +1,5 @@
 -- The walk goes down the depth of an expression; what is done with parts stands between it and its parts.
-use Rattle.std.proofs.Common.{◌≡◌, ◌+◌, ◌*◌, max, map, drop}
+use Rattle.std.proofs.Common.{◌+◌, ◌*◌, max, map, drop}
 use Rattle.verilog_ast.proofs.expression.Expr.TheLaws.{the_size}
 use Rattle.verilog_ast.specs.Views.{expression_of, parts_of}
 use Rattle.width_rules.specs.Entries.{scope_of}

@@ -1,5 +1,5 @@
 -- The walk goes down the depth of an expression.
-use Rattle.std.proofs.Common.{◌≡◌, ◌+◌, ◌*◌, map, drop}
+use Rattle.std.proofs.Common.{◌+◌, ◌*◌, map, drop}
 use Rattle.verilog_ast.specs.Views.{expression_of, parts_of}
 use Rattle.item_mentions.specs.Adding.{NamesLeft}
 use Rattle.item_mentions.specs.Names.{expression_targets}

@@ -1,5 +1,5 @@
 -- The walk goes down the depth of a target.
-use Rattle.std.proofs.Common.{◌≡◌, ◌+◌, ◌*◌, map, drop}
+use Rattle.std.proofs.Common.{◌+◌, ◌*◌, map, drop}
 use Rattle.verilog_ast.specs.Views.{target_of, targets_of}
 use Rattle.width_rules.specs.Entries.{scope_of}
 use Rattle.item_mentions.specs.Adding.{NamesLeft}

@@ -1,8 +1,8 @@
-use Rattle.std.proofs.Common.{ℕ, ◌+◌, ◌++◌, length, map, refl}
-use Rattle.verilog_ast.specs.Views.{expression_of, label_of, statement_of, arm_of, statements_of}
+use Rattle.std.proofs.Common.{ℕ, ◌+◌, ◌++◌, map, refl}
+use Rattle.verilog_ast.specs.Views.{statement_of, arm_of, statements_of}
 use Rattle.width_rules.specs.Entries.{scope_of}
-use Rattle.item_mentions.specs.Mentions.{listing_of, numbered, count, mentions, arm_mentions, default_mentions, labels_names}
-use Rattle.item_mentions.proofs.Told.{names_told, then_told, statement_told, all_left, arm_told, default_kept, arms_told}
+use Rattle.item_mentions.specs.Mentions.{listing_of, count, mentions, arm_mentions, default_mentions}
+use Rattle.item_mentions.proofs.Told.{names_told, then_told, statement_told, all_left, arm_told, default_kept}
 use Rattle.item_mentions.proofs.walking.+walk.Goals as goal
 
 pub walk_if-returns : goal.walk_if-returns
