@@ -1,0 +1,88 @@
+-- The first of a list that shows a form, for the walks over targets, statements and items of a case.
+use Rattle.std.proofs.Common.{◌≡◌, ◌<◌, ℕ, ◌+◌, List, ◌∷◌, map, drop, length, get_or, refl, sym, ◌∙◌, ap}
+use Rattle.std.specs.Prelude.{Option, Some, None}
+use Rattle.typed_ir.proofs.Lists.{drop_read}
+use Rattle.typed_ir.specs.declared.target_form.TargetForm.{TargetForm}
+use Rattle.verilog_ast.specs.declared.statement.Arm.{Arm}
+use Rattle.verilog_ast.specs.declared.statement.Stmt.{Stmt}
+use Rattle.verilog_ast.specs.declared.target.Lhs.{Lhs}
+use Rattle.verilog_ast.specs.Statements.{Statement, Block, If, IfElse, Case, Assignment, Null, Default, Match, NoStatement, Statements}
+use Rattle.verilog_ast.specs.Views.{target_of, targets_of, statement_of, arm_of, statements_of}
+use Rattle.width_rules.specs.Scopes.{Scope}
+use Rattle.item_mentions.specs.Forms.{first_or, first_part, first_target, first_of_arms, first_of_default}
+use Rattle.item_mentions.specs.Mentions.{match_or, default_or}
+
+here : {A : Type 0} (all : List A → Option TargetForm) (one : A → Option TargetForm) → ((y : A) (ys : List A) → all (y ∷ ys) ≡ first_or (one y) (all ys))
+    → (xs : List A) (k : ℕ) (x : A) (f : TargetForm) (whole : Option TargetForm) → k < length xs → x ≡ get_or xs k x → one x ≡ Some f
+    → all (drop k xs) ≡ whole → Some f ≡ whole
+here all one step xs k x f whole h is shown left =
+    sym (ap (λ (o : Option TargetForm). first_or o (all (drop (k + 1) xs))) shown) ∙ sym (ap all (drop_read xs k x h is) ∙ step x (drop (k + 1) xs)) ∙ left
+
+later : {A : Type 0} (all : List A → Option TargetForm) (one : A → Option TargetForm) → ((y : A) (ys : List A) → all (y ∷ ys) ≡ first_or (one y) (all ys))
+    → (xs : List A) (k : ℕ) (x : A) (whole : Option TargetForm) → k < length xs → x ≡ get_or xs k x → one x ≡ None
+    → all (drop k xs) ≡ whole → all (drop (k + 1) xs) ≡ whole
+later all one step xs k x whole h is nothing left =
+    sym (ap (λ (o : Option TargetForm). first_or o (all (drop (k + 1) xs))) nothing) ∙ sym (ap all (drop_read xs k x h is) ∙ step x (drop (k + 1) xs)) ∙ left
+
+pub part_here : (scope : Scope) (xs : List Lhs) (k : ℕ) (x : Lhs) (f : TargetForm) (whole : Option TargetForm) → k < length xs → x ≡ get_or xs k x → first_part scope (target_of x) ≡ Some f
+    → first_part scope (targets_of (map target_of (drop k xs))) ≡ whole → Some f ≡ whole
+part_here scope = here (λ ys. first_part scope (targets_of (map target_of ys))) (λ y. first_part scope (target_of y)) (λ y ys. refl)
+
+pub part_later : (scope : Scope) (xs : List Lhs) (k : ℕ) (x : Lhs) (whole : Option TargetForm) → k < length xs → x ≡ get_or xs k x → first_part scope (target_of x) ≡ None
+    → first_part scope (targets_of (map target_of (drop k xs))) ≡ whole → first_part scope (targets_of (map target_of (drop (k + 1) xs))) ≡ whole
+part_later scope = later (λ ys. first_part scope (targets_of (map target_of ys))) (λ y. first_part scope (target_of y)) (λ y ys. refl)
+
+pub target_here : (scope : Scope) (xs : List Stmt) (k : ℕ) (x : Stmt) (f : TargetForm) (whole : Option TargetForm) → k < length xs → x ≡ get_or xs k x → first_target scope (statement_of x) ≡ Some f
+    → first_target scope (statements_of (map statement_of (drop k xs))) ≡ whole → Some f ≡ whole
+target_here scope = here (λ ys. first_target scope (statements_of (map statement_of ys))) (λ y. first_target scope (statement_of y)) (λ y ys. refl)
+
+pub target_later : (scope : Scope) (xs : List Stmt) (k : ℕ) (x : Stmt) (whole : Option TargetForm) → k < length xs → x ≡ get_or xs k x → first_target scope (statement_of x) ≡ None
+    → first_target scope (statements_of (map statement_of (drop k xs))) ≡ whole → first_target scope (statements_of (map statement_of (drop (k + 1) xs))) ≡ whole
+target_later scope = later (λ ys. first_target scope (statements_of (map statement_of ys))) (λ y. first_target scope (statement_of y)) (λ y ys. refl)
+
+pub arm_here : (scope : Scope) (xs : List Arm) (k : ℕ) (x : Arm) (f : TargetForm) (whole : Option TargetForm) → k < length xs → x ≡ get_or xs k x
+    → match_or (arm_of x) (first_target scope (arm_of x)) None ≡ Some f
+    → first_of_arms scope (statements_of (map arm_of (drop k xs))) ≡ whole → Some f ≡ whole
+arm_here scope = here (λ ys. first_of_arms scope (statements_of (map arm_of ys))) (λ y. match_or (arm_of y) (first_target scope (arm_of y)) None) (λ y ys. refl)
+
+pub arm_later : (scope : Scope) (xs : List Arm) (k : ℕ) (x : Arm) (whole : Option TargetForm) → k < length xs → x ≡ get_or xs k x
+    → match_or (arm_of x) (first_target scope (arm_of x)) None ≡ None
+    → first_of_arms scope (statements_of (map arm_of (drop k xs))) ≡ whole → first_of_arms scope (statements_of (map arm_of (drop (k + 1) xs))) ≡ whole
+arm_later scope = later (λ ys. first_of_arms scope (statements_of (map arm_of ys))) (λ y. match_or (arm_of y) (first_target scope (arm_of y)) None) (λ y ys. refl)
+
+-- ---- the first default
+
+abbrev default_first : Option (Option TargetForm) → Option TargetForm → Option TargetForm
+default_first None rest = rest
+default_first (Some o) rest = o
+
+split : (x : Statement) (o rest : Option TargetForm) → default_or x o rest ≡ default_first (default_or x (Some o) None) rest
+split (Default at body) o rest = refl
+split (Match ls body) o rest = refl
+split (Block at label body) o rest = refl
+split (If at c x) o rest = refl
+split (IfElse at c x y) o rest = refl
+split (Case at kind x items) o rest = refl
+split (Assignment written x) o rest = refl
+split (Null at) o rest = refl
+split NoStatement o rest = refl
+split (Statements x xs) o rest = refl
+
+default_is : (scope : Scope) (xs : List Arm) (k : ℕ) (x : Arm) (o : Option (Option TargetForm)) (whole : Option TargetForm) → k < length xs → x ≡ get_or xs k x
+    → default_or (arm_of x) (Some (first_target scope (arm_of x))) None ≡ o
+    → first_of_default scope (statements_of (map arm_of (drop k xs))) ≡ whole
+    → default_first o (first_of_default scope (statements_of (map arm_of (drop (k + 1) xs)))) ≡ whole
+default_is scope xs k x o whole h is shown left =
+    let rest = first_of_default scope (statements_of (map arm_of (drop (k + 1) xs))) in
+    sym (ap (λ (p : Option (Option TargetForm)). default_first p rest) shown)
+    ∙ sym (ap (λ ys. first_of_default scope (statements_of (map arm_of ys))) (drop_read xs k x h is) ∙ split (arm_of x) (first_target scope (arm_of x)) rest) ∙ left
+
+pub default_here : (scope : Scope) (xs : List Arm) (k : ℕ) (x : Arm) (f whole : Option TargetForm) → k < length xs → x ≡ get_or xs k x
+    → default_or (arm_of x) (Some (first_target scope (arm_of x))) None ≡ Some f
+    → first_of_default scope (statements_of (map arm_of (drop k xs))) ≡ whole → f ≡ whole
+default_here scope xs k x f whole = default_is scope xs k x (Some f) whole
+
+pub default_later : (scope : Scope) (xs : List Arm) (k : ℕ) (x : Arm) (whole : Option TargetForm) → k < length xs → x ≡ get_or xs k x
+    → default_or (arm_of x) (Some (first_target scope (arm_of x))) None ≡ None
+    → first_of_default scope (statements_of (map arm_of (drop k xs))) ≡ whole → first_of_default scope (statements_of (map arm_of (drop (k + 1) xs))) ≡ whole
+default_later scope xs k x whole = default_is scope xs k x None whole

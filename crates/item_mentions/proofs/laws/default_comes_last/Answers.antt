@@ -1,0 +1,11 @@
+use Rattle.std.proofs.Common.{refl}
+use Rattle.item_mentions.proofs.laws.default_comes_last.Goals as goal
+
+pub returns-clause-reads : goal.returns-clause-reads
+returns-clause-reads c = refl
+
+pub returns-clause-targets : goal.returns-clause-targets
+returns-clause-targets c = refl
+
+pub returns-clause-form : goal.returns-clause-form
+returns-clause-form c = refl

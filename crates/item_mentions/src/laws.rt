@@ -1,0 +1,41 @@
+// What a block mentions, against its sized form.
+ghost use Rattle.std.specs.Prelude.{◌≡◌, length, map};
+ghost use Rattle.typed_ir.specs.Stmts.{SizedStmt, span_of, targets, later_targets};
+ghost use Rattle.typed_ir.specs.declared.target_form.TargetForm.TheVariants.{Range};
+ghost use Rattle.verilog_ast.specs.declared.statement.Stmt.{Stmt};
+ghost use Rattle.verilog_ast.specs.declared.target.Lhs.{Lhs};
+ghost use Rattle.verilog_ast.specs.Views.{statement_of, target_of};
+ghost use Rattle.width_rules.specs.declared.writer.Writer.{Writer};
+ghost use Rattle.width_rules.specs.declared.writer.Writer.TheVariants.{Clocked, Combinational};
+ghost use Rattle.width_rules.specs.Scopes.{Scope};
+ghost use Rattle.statement_rules.specs.Statements.{sized_statement};
+ghost use Rattle.statement_rules.specs.Targets.{parts};
+ghost use Rattle.block_rules.specs.Paths.{flags_of_block};
+ghost use Rattle.item_mentions.specs.Example.{scope as names, statement, reads, targets as written};
+ghost use Rattle.item_mentions.specs.Forms.{statement_form};
+ghost use Rattle.item_mentions.specs.Leaves.{statement_leaves, signals_of, signals_named};
+ghost use Rattle.item_mentions.specs.Mentions.{numbered, statement_reads, statement_targets};
+ghost use Rattle.item_mentions.specs.Names.{target_names, expression_targets, written_as};
+
+/// What a tree mentions are the signals of its sized form, one by one: its reads those of the leaves that `block_rules` flags, its targets
+/// those of the parts that it writes. A name that is no signal counts as signal 0, as in the sized form.
+#[tactic(none)]
+pub fn mentions_are_of_leaves()
+    ensures reads { (scope : Scope) (by : Writer) (x : Stmt) → signals_of (statement_leaves (sized_statement scope by (statement_of x))) ≡ signals_named scope (statement_reads scope 0 (statement_of x)) }
+    ensures targets { (scope : Scope) (x : Stmt) → signals_of (targets (sized_statement scope Combinational (statement_of x))) ≡ signals_named scope (statement_targets 0 (statement_of x)) }
+    ensures later_targets { (scope : Scope) (x : Stmt) → signals_of (later_targets (sized_statement scope Clocked (statement_of x))) ≡ signals_named scope (statement_targets 0 (statement_of x)) }
+    ensures parts { (scope : Scope) (t : Lhs) → signals_of (map span_of (parts scope 0 (target_of t))) ≡ signals_named scope (numbered 0 (target_names (target_of t))) }
+    ensures connections { (t : Lhs) → expression_targets (written_as (target_of t)) ≡ target_names (target_of t) }
+    ensures flags { (st : SizedStmt) → length (flags_of_block st) ≡ length (statement_leaves st) }
+    ensures so_many_reads { (scope : Scope) (x : Stmt) → length (flags_of_block (sized_statement scope Combinational (statement_of x))) ≡ length (statement_reads scope 0 (statement_of x)) }
+    ensures so_many_targets { (scope : Scope) (x : Stmt) → length (targets (sized_statement scope Combinational (statement_of x))) ≡ length (statement_targets 0 (statement_of x)) }
+    ensures so_many_later { (scope : Scope) (x : Stmt) → length (later_targets (sized_statement scope Clocked (statement_of x))) ≡ length (statement_targets 0 (statement_of x)) }
+{}
+
+/// A case whose default stands first, by hand: its default comes last, with the numbers that it has in the text.
+#[tactic(none)]
+pub fn default_comes_last()
+    ensures reads { statement_reads names 0 statement ≡ reads }
+    ensures targets { statement_targets 0 statement ≡ written }
+    ensures form { statement_form names statement ≡ Range }
+{}
