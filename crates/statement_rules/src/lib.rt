@@ -27,4 +27,4 @@ pub use drive::Drive;
 pub use laws::names_may_change;
 pub use sized_target::SizedTarget;
 pub use target_kinds::check_target;
-pub use targeting::size_target;
+pub use targeting::{lay, size_target};

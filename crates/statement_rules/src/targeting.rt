@@ -120,8 +120,8 @@ fn shift(target: Target, by: u8) -> Target
     }
 }
 
-// Parts that take so many bits together, each where the bits of those right of it stand below it.
-fn lay(alloc: Global, parts: Vec<TargetPart>, width: u8) -> Result<Vec<Target>, NoMemory>
+/// Parts that take so many bits together, each where the bits of those right of it stand below it.
+pub fn lay(alloc: Global, parts: Vec<TargetPart>, width: u8) -> Result<Vec<Target>, NoMemory>
     requires { width ≡ bits_of (map leaf_of parts.items) }
     ensures { IfOk result (λ targets. parts_of targets.items ≡ laid 0 (map leaf_of parts.items)) }
 {
