@@ -1,5 +1,5 @@
 // The connections of an instance in the order of the text, each with its port.
-ghost use Rattle.std.specs.Prelude.{◌≡◌, ◌++◌, map, slice_get, OnOk, IfOk};
+ghost use Rattle.std.specs.Prelude.{◌≡◌, ◌++◌, map, OnOk, IfOk};
 ghost use Rattle.std.specs.Option.{option_map};
 ghost use Rattle.unit_ir.specs.Shapes.{is_clock};
 ghost use Rattle.verilog_ast.specs.Views.{expression_of, by_name_of, by_order_of, connections_of};
@@ -59,15 +59,14 @@ fn add<'a>(
 ) -> Result<(), NoMemory>
     ensures { OnOk result (map connected_of found.new.items ≡ map connected_of found.old.items ++ to_port child.now port (option_map expression_of value.now)) }
 {
-    match child.ports.as_slice().get(port) {
-        None => Ok(()),
-        Some(shape) => {
-            if port > u32::MAX as usize {
-                return Err(NoMemory);
-            }
-            add_if(found, child.clock, port as u32, *shape, value)
-        }
+    let ports = child.ports.as_slice();
+    if port >= ports.len() {
+        return Ok(());
     }
+    if port > u32::MAX as usize {
+        return Err(NoMemory);
+    }
+    add_if(found, child.clock, port as u32, ports[port], value)
 }
 
 // The same of a port that was found by its name.

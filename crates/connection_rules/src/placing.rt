@@ -8,7 +8,7 @@ ghost use Rattle.width_rules.specs.Faults.{IsFirst};
 ghost use Rattle.connection_rules.specs.Connections.{all_connection_faults};
 ghost use Rattle.connection_rules.specs.ConnectionNodes.{connection_item};
 ghost use Rattle.connection_rules.specs.Instances.{port_items};
-ghost use Rattle.connection_rules.specs.Slots.{put_at, put_all, listed};
+ghost use Rattle.connection_rules.specs.Slots.{first_or, put_at, put_all, listed};
 ghost use Rattle.connection_rules.specs.Views.{connected_of};
 
 use crate::connection::Connection;
@@ -30,17 +30,32 @@ fn no_items(alloc: Global, ports: &[PortShape]) -> Result<Vec<Option<TypedItem>>
     Ok(places)
 }
 
-// Puts an item into the place of its port, where none stands there.
-fn put(places: &mut Vec<Option<TypedItem>>, port: usize, item: TypedItem)
-    ensures { map (option_map item_of) places.new.items ≡ put_at port 0 (item_of item) (map (option_map item_of) places.old.items) }
+// Lets an item go.
+fn let_go(_item: TypedItem) {}
+
+// Puts an item into a place, unless one stands there.
+fn fill(place: &mut Option<TypedItem>, item: TypedItem)
+    ensures { option_map item_of place.new ≡ first_or (option_map item_of place.old) (item_of item) }
 {
-    if port < places.len() && places[port].is_none() {
-        places[port] = Some(item);
+    match place {
+        None => *place = Some(item),
+        Some(_) => let_go(item),
     }
 }
 
+// Puts an item into the place of its port, unless one stands there.
+fn put(places: &mut Vec<Option<TypedItem>>, port: usize, item: TypedItem)
+    ensures { map (option_map item_of) places.new.items ≡ put_at port 0 (item_of item) (map (option_map item_of) places.old.items) }
+{
+    if port >= places.len() {
+        let_go(item);
+        return;
+    }
+    fill(&mut places[port], item);
+}
+
 // Puts the items of connections into the places of their ports.
-#[tactic(auto, using(width_rules::proofs::Firsts::earlier, width_rules::proofs::Firsts::later, width_rules::proofs::Firsts::neither, crate::proofs::Listing::sized_ahead, crate::proofs::Listing::sized_fault))]
+#[tactic(auto, using(width_rules::proofs::Firsts::earlier, width_rules::proofs::Firsts::later, width_rules::proofs::Firsts::neither, crate::proofs::Listing::sized_ahead, crate::proofs::Listing::sized_fault, crate::proofs::Placed::put_ahead))]
 fn put_all(
     alloc: Global,
     scope: &Scope,
