@@ -1,3 +1,4 @@
 pub mod Listing
 pub mod Ports
 pub mod Placed
+pub mod Endings

@@ -6,7 +6,7 @@ use Rattle.typed_ir.proofs.Lists.{drop_read}
 use Rattle.unit_ir.specs.declared.child_shape.ChildShape.{ChildShape}
 use Rattle.unit_ir.specs.declared.port_shape.PortShape.{PortShape}
 use Rattle.verilog_ast.specs.Expressions.{Expression}
-use Rattle.connection_rules.specs.Connections.{Connected, port_number, connection_if, connection_at, to_port}
+use Rattle.connection_rules.specs.Connections.{port_number, connection_if, connection_at, to_port}
 
 -- the names from a port on
 pub number_step : (q : ℕ) (ps : List PortShape) (i : ℕ) (p : PortShape) → i < length ps → p ≡ get_or ps i p

@@ -1,12 +1,9 @@
 use Rattle.std.proofs.Common.{◌≡◌, ◌∙◌, ◌++◌, List, map, sym, ap}
-use Rattle.typed_ir.specs.Stmts.{SizedTarget}
-use Rattle.typed_ir.specs.Targets.{targets_of}
 use Rattle.verilog_ast.specs.Views.{expression_of}
 use Rattle.width_rules.specs.declared.target_part.TargetPart.{TargetPart}
 use Rattle.width_rules.specs.Entries.{scope_of}
 use Rattle.statement_rules.specs.Drives.{are_fixed}
 use Rattle.statement_rules.specs.Leaves.{leaf_of, leaves, bits_of, laid}
-use Rattle.statement_rules.specs.Targets.{parts}
 use Rattle.statement_rules.proofs.Laying.{leaves_bits, leaves_laid}
 use Rattle.statement_rules.proofs.Placing.{fixed}
 use Rattle.connection_rules.specs.Outputs.{target_at, known_lanes}

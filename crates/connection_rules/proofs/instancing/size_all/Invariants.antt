@@ -10,5 +10,5 @@ invariant-loop-instance l = record {
   ahead : instance_faults (scope_of l.scope) l.left (map instance_of (drop l.instance-index l.instances))
       ≡ instance_faults (scope_of l.scope) l.shapes (map instance_of l.instances);
   kept : map item_of l.items.items ++ instance_items (scope_of l.scope) l.child l.left (map instance_of (drop l.instance-index l.instances))
-      ≡ instance_items (scope_of l.scope) l.first l.shapes (map instance_of l.instances);
+      ≡ instance_items (scope_of l.scope) l.fn.first l.shapes (map instance_of l.instances);
 }

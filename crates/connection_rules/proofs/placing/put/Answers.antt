@@ -1,4 +1,4 @@
-use Rattle.std.proofs.Common.{◌≡◌, ◌<◌, ◌∙◌, length, ap, arith}
+use Rattle.std.proofs.Common.{◌∙◌, ap, arith}
 use Rattle.std.specs.Prelude.{Option}
 use Rattle.std.specs.Option.{option_map}
 use Rattle.unit_ir.specs.declared.typed_item.TypedItem.{TypedItem}

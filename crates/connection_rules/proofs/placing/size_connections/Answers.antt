@@ -1,6 +1,5 @@
-use Rattle.std.proofs.Common.{◌≡◌, ◌++◌, ◌∙◌, List, map, ap}
+use Rattle.std.proofs.Common.{◌++◌, ◌∙◌, List, map, ap}
 use Rattle.std.specs.Prelude.{Option}
-use Rattle.std.specs.Option.{option_map}
 use Rattle.unit_ir.specs.Items.{PlacedItem, item_of}
 use Rattle.width_rules.specs.Entries.{scope_of}
 use Rattle.connection_rules.specs.ConnectionNodes.{connection_item}
