@@ -2,3 +2,4 @@ pub mod Listing
 pub mod Ports
 pub mod Placed
 pub mod Endings
+pub mod Standing

@@ -1,0 +1,11 @@
+use Rattle.connection_rules.proofs.Standing.{once, none_before, none_behind}
+use Rattle.connection_rules.proofs.laws.connections_stand.Goals as goal
+
+pub returns-clause-once : goal.returns-clause-once
+returns-clause-once c = λ scope first shapes instances child s i. once child s i first scope shapes instances
+
+pub returns-clause-before : goal.returns-clause-before
+returns-clause-before c = λ scope first shapes instances child s i. none_before child s i first scope shapes instances
+
+pub returns-clause-behind : goal.returns-clause-behind
+returns-clause-behind c = λ scope first shapes instances child s i. none_behind child s i first scope shapes instances
