@@ -1,13 +1,17 @@
 // Where the nodes of connections stand.
-ghost use Rattle.std.specs.Prelude.{◌≡◌, ◌≤◌, ◌<◌, ◌+◌, ℕ, List, length};
+ghost use Rattle.std.specs.Prelude.{◌≡◌, ◌≤◌, ◌<◌, ◌+◌, ◌++◌, ℕ, true, List, length};
 ghost use Rattle.unit_ir.specs.declared.child_shape.ChildShape.{ChildShape};
+ghost use Rattle.typed_ir.specs.Orders.{Each};
 ghost use Rattle.unit_ir.specs.Items.{nodes_in};
+ghost use Rattle.unit_ir.specs.OwnWidths.{names_child};
+ghost use Rattle.unit_ir.specs.Shapes.{goes_into_input};
 ghost use Rattle.unit_ir.specs.Trees.{count, port_drives};
 ghost use Rattle.verilog_ast.specs.Items.{ModuleInstance};
 ghost use Rattle.width_rules.specs.Scopes.{Scope};
 ghost use Rattle.connection_rules.specs.Instances.{instance_items};
 
-/// Of the nodes of the instances of one item at most one drives a bit of a port, and none a port of another item's instances.
+/// The nodes of the instances of one item are of these instances, each input goes into a data input, and at most one drives a bit of a
+/// port, none that of a port of other instances.
 #[tactic(none)]
 pub fn connections_stand()
     ensures once { (scope : Scope) (first : ℕ) (shapes : List ChildShape) (instances : List ModuleInstance) (c s i : ℕ)
@@ -16,4 +20,8 @@ pub fn connections_stand()
         → count (port_drives c s i) (nodes_in (instance_items scope first shapes instances)) ≡ 0 }
     ensures behind { (scope : Scope) (first : ℕ) (shapes : List ChildShape) (instances : List ModuleInstance) (c s i : ℕ) → first + length shapes ≤ c
         → count (port_drives c s i) (nodes_in (instance_items scope first shapes instances)) ≡ 0 }
+    ensures children { (scope : Scope) (first total : ℕ) (shapes : List ChildShape) (instances : List ModuleInstance) → first + length shapes ≤ total
+        → Each (λ n. names_child total n ≡ true) (nodes_in (instance_items scope first shapes instances)) }
+    ensures into { (scope : Scope) (first : ℕ) (before shapes after : List ChildShape) (instances : List ModuleInstance) → length before ≡ first
+        → Each (λ n. goes_into_input (before ++ (shapes ++ after)) n ≡ true) (nodes_in (instance_items scope first shapes instances)) }
 {}
