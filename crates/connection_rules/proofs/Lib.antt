@@ -3,3 +3,4 @@ pub mod Ports
 pub mod Placed
 pub mod Endings
 pub mod Standing
+pub mod ChildWidths

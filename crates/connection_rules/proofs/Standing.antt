@@ -204,7 +204,7 @@ children_so total first scope (shape ∷ ss) (x ∷ xs) h =
 -- ---- inputs go into data inputs
 
 -- a connection is to a port that there is, and not to the clock
-record IsPort (child : ChildShape) (c : Connected) : Type 0 where
+pub record IsPort (child : ChildShape) (c : Connected) : Type 0 where
   pub there : slice_get child.ports c.port ≡ Some c.shape
   pub free : is_clock child.clock c.shape.name ≡ false
 
@@ -238,7 +238,7 @@ by_orders child k (x ∷ xs) =
     each_append (IsPort child) (to_port child k x.value) (connected_by_order child (suc k) xs)
     (port_at child k (slice_get child.ports k) refl x.value) (by_orders child (suc k) xs)
 
-ports_so : (child : ChildShape) (l : ConnectionList) → Each (IsPort child) (connected_to child l)
+pub ports_so : (child : ChildShape) (l : ConnectionList) → Each (IsPort child) (connected_to child l)
 ports_so child (ByName xs) = by_names child xs
 ports_so child (ByOrder xs) = by_orders child 0 xs
 

@@ -1,3 +1,4 @@
+use Rattle.connection_rules.proofs.ChildWidths.{lanes_lie, values_lie}
 use Rattle.connection_rules.proofs.Standing.{once, none_before, none_behind, children_so, into_among}
 use Rattle.connection_rules.proofs.laws.connections_stand.Goals as goal
 
@@ -15,3 +16,9 @@ returns-clause-children c = λ scope first total shapes instances h. children_so
 
 pub returns-clause-into : goal.returns-clause-into
 returns-clause-into c = λ scope first before shapes after instances h. into_among before after first scope shapes instances h
+
+pub returns-clause-lanes : goal.returns-clause-lanes
+returns-clause-lanes c = lanes_lie
+
+pub returns-clause-values : goal.returns-clause-values
+returns-clause-values c = values_lie
