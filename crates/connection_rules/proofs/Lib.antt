@@ -1,0 +1,6 @@
+pub mod Listing
+pub mod Ports
+pub mod Placed
+pub mod Endings
+pub mod Standing
+pub mod ChildWidths

@@ -1,0 +1,115 @@
+-- What an output connection drives: it stands there as an expression (IEEE Std 1364-2005, 12.3.9, A.4.1).
+use Rattle.std.specs.Prelude.{ℕ, suc, Bool, true, false, ◌&&◌, if◌then◌else◌, List, [], ◌∷◌, ◌++◌, Option, Some, None}
+use Rattle.ls_text.specs.declared.fault.Fault.{Fault}
+use Rattle.typed_ir.specs.declared.lane.Lane.{Lane}
+use Rattle.typed_ir.specs.declared.target_form.TargetForm.{TargetForm}
+use Rattle.typed_ir.specs.declared.target_form.TargetForm.TheVariants.{Name, Bit, Range}
+use Rattle.typed_ir.specs.Stmts.{SizedTarget, Fixed, Moving}
+use Rattle.unit_ir.specs.declared.mention.Mention.{Mention}
+use Rattle.verilog_ast.specs.declared.identifier.Identifier.{Identifier}
+use Rattle.verilog_ast.specs.Expressions as e
+use Rattle.verilog_ast.specs.Expressions.{Expression, Target, Reference, Joined, NoTarget, Targets}
+use Rattle.width_rules.specs.declared.writer.Writer.TheVariants as writer
+use Rattle.width_rules.specs.declared.due.Due.TheVariants.{AnyValue, ConstantOnly}
+use Rattle.width_rules.specs.Scopes.{Scope}
+use Rattle.width_rules.specs.Faults.{faults, fault_of}
+use Rattle.statement_rules.specs.Targets.{target_faults, kind_faults}
+
+-- ---- an expression as a target: a name, a select, or a concatenation of such
+
+abbrev pub is_target : Expression → Bool
+is_target (e.Literal at x) = false
+is_target (e.Whole n) = true
+is_target (e.BitSelect n x) = true
+is_target (e.PartSelect n x y) = true
+is_target (e.UpwardSelect n x y) = true
+is_target (e.DownwardSelect n x y) = true
+is_target (e.Unary at op x) = false
+is_target (e.Binary op x y) = false
+is_target (e.Conditional c x y) = false
+is_target (e.Concatenation at xs) = is_target xs
+is_target (e.Replication at c xs) = false
+is_target (e.Bracketed at x) = false
+is_target e.NoPart = true
+is_target (e.Parts x xs) = is_target x && is_target xs
+
+-- what it is left of an assignment; what is no target is none
+abbrev pub target_at : Expression → Target
+target_at (e.Literal at x) = NoTarget
+target_at (e.Whole n) = Reference (e.Whole n)
+target_at (e.BitSelect n x) = Reference (e.BitSelect n x)
+target_at (e.PartSelect n x y) = Reference (e.PartSelect n x y)
+target_at (e.UpwardSelect n x y) = Reference (e.UpwardSelect n x y)
+target_at (e.DownwardSelect n x y) = Reference (e.DownwardSelect n x y)
+target_at (e.Unary at op x) = NoTarget
+target_at (e.Binary op x y) = NoTarget
+target_at (e.Conditional c x y) = NoTarget
+target_at (e.Concatenation at xs) = Joined at (target_at xs)
+target_at (e.Replication at c xs) = NoTarget
+target_at (e.Bracketed at x) = NoTarget
+target_at e.NoPart = NoTarget
+target_at (e.Parts x xs) = Targets (target_at x) (target_at xs)
+
+abbrev pub as_target : Expression → Option Target
+as_target x = if is_target x then Some (target_at x) else None
+
+-- ---- what may be wrong with it
+
+-- its names and selects, whose indices have to be constant; what is no target is read as any expression
+abbrev pub written_faults : Scope → Expression → Option Target → List Fault
+written_faults scope x None = faults scope AnyValue x
+written_faults scope x (Some t) = target_faults scope ConstantOnly t
+
+abbrev pub output_faults : Scope → Expression → List Fault
+output_faults scope x = written_faults scope x (as_target x)
+
+-- 33: it is no target, or no continuous assignment may write it
+abbrev pub written_kinds : Scope → Expression → Option Target → List Fault
+written_kinds scope x None = fault_of 33 x ∷ []
+written_kinds scope x (Some t) = kind_faults scope writer.Continuous t
+
+abbrev pub output_kinds : Scope → Expression → List Fault
+output_kinds scope x = written_kinds scope x (as_target x)
+
+-- ---- how it is shown
+
+abbrev pub reference_form : Expression → TargetForm
+reference_form (e.Whole n) = Name
+reference_form (e.BitSelect n x) = Bit
+reference_form other = Range
+
+-- by its first part
+abbrev pub output_form : Target → TargetForm
+output_form (Reference x) = reference_form x
+output_form (Joined at ts) = output_form ts
+output_form NoTarget = Name
+output_form (Targets t ts) = output_form t
+
+abbrev pub written_name : Expression → List Identifier
+written_name (e.Whole n) = n ∷ []
+written_name (e.BitSelect n x) = n ∷ []
+written_name (e.PartSelect n x y) = n ∷ []
+written_name (e.UpwardSelect n x y) = n ∷ []
+written_name (e.DownwardSelect n x y) = n ∷ []
+written_name other = []
+
+-- the names of its parts from left to right
+abbrev pub output_names : Target → List Identifier
+output_names (Reference x) = written_name x
+output_names (Joined at ts) = output_names ts
+output_names NoTarget = []
+output_names (Targets t ts) = output_names t ++ output_names ts
+
+abbrev pub mentioned_from : ℕ → List Identifier → List Mention
+mentioned_from k [] = []
+mentioned_from k (n ∷ ns) = record { name = n.name; at = n.at; order = k } ∷ mentioned_from (suc k) ns
+
+abbrev pub output_mentions : Target → List Mention
+output_mentions t = mentioned_from 0 (output_names t)
+
+-- ---- its lanes: the bits of all parts are known where its indices are constant
+
+abbrev pub known_lanes : List SizedTarget → List Lane
+known_lanes [] = []
+known_lanes (Fixed lane ∷ ts) = lane ∷ known_lanes ts
+known_lanes (Moving reach index ∷ ts) = known_lanes ts
