@@ -1,10 +1,12 @@
 pub mod OneItem
 pub mod OneGenerate
+pub mod OneHeader
 pub mod OneModule
 pub mod OneText
 pub mod RenamedTrees
 pub mod RenamedItem
 pub mod RenamedGenerate
+pub mod RenamedHeader
 pub mod RenamedModule
 pub mod RenamedText
 pub mod PlacedItems

@@ -19,8 +19,8 @@ use Rattle.verilog_ast.specs.declared.plain_item.PlainItem.{PlainItem}
 use Rattle.verilog_ast.specs.declared.plain_item.PlainItem.TheVariants as item
 use Rattle.verilog_ast.proofs.Equal.{ap₃}
 use Rattle.verilog_expr.specs.Tokens.{next, identifier_of}
-use Rattle.verilog_parse.specs.Items.{Spells, APlainItem, AnEvent, Trigger, EdgeEnd, Assignments, AssignmentsBehind, OtherAssignments, AContinuous}
-use Rattle.verilog_parse.specs.Items.{wire_item, reg_item, local_item, genvar_item, assign_item, always_item, instances_item, at_all, at_bracket, at_inputs, at_edge, edge_end, assignments, assignments_behind, no_assignment, another_assignment, continuous}
+use Rattle.verilog_item.specs.Items.{Spells, APlainItem, AnEvent, Trigger, EdgeEnd, Assignments, AssignmentsBehind, OtherAssignments, AContinuous}
+use Rattle.verilog_item.specs.Items.{wire_item, reg_item, local_item, genvar_item, assign_item, always_item, instances_item, at_all, at_bracket, at_inputs, at_edge, edge_end, assignments, assignments_behind, no_assignment, another_assignment, continuous}
 use Rattle.verilog_expr.proofs.OneToken.{kind_of, same_token, two_kinds, no_kind}
 use Rattle.verilog_expr.proofs.SameReadings.{same_expression}
 use Rattle.verilog_stmt.proofs.OneStatement.{one_target, one_statement}

@@ -4,14 +4,13 @@ use Rattle.ls_text.specs.declared.place.Place.{Place}
 use Rattle.verilog_lex.specs.declared.token.Token.{Token}
 use Rattle.verilog_ast.specs.declared.plain_item.PlainItem.{PlainItem}
 use Rattle.verilog_ast.specs.declared.plain_item.PlainItem.TheVariants as item
-use Rattle.verilog_ast.specs.declared.ports.Ports.TheVariants as ports
-use Rattle.verilog_ast.specs.Places.{target_place, port_place, item_place}
-use Rattle.verilog_ast.specs.Views.{target_of, port_of, plain_item_of, items_of, generate_item_of, branch_of, item_of}
+use Rattle.verilog_ast.specs.Places.{target_place, item_place}
+use Rattle.verilog_ast.specs.Views.{target_of, plain_item_of, items_of, generate_item_of, branch_of, item_of}
 use Rattle.verilog_ast.proofs.Seen as seen
 use Rattle.verilog_expr.specs.Tokens.{place_at}
 use Rattle.verilog_expr.proofs.Placed.{token_place}
 use Rattle.verilog_decl.specs.Apart.{StandApart}
-use Rattle.verilog_parse.specs.Items as i
+use Rattle.verilog_item.specs.Items as i
 use Rattle.verilog_parse.specs.Generates as g
 use Rattle.verilog_parse.specs.Modules as m
 use Rattle.verilog_decl.proofs.PlacedDeclarations.{behind, second_place, dropped, declaration_placed}
@@ -100,23 +99,15 @@ generate_placed (g.otherwise h) = (generate_placed h).0
 generate_placed (g.branches_behind {x = x} h) = ap item_place (seen.branch_seen x)
 generate_placed _ = tt
 
--- ---- ports and items of modules
+-- ---- items of modules
 
 abbrev pub IsPlacedModule : m.Phrase → List Token → Type 0
 IsPlacedModule (m.AModule x) s = x.name.at ≡ place_at (drop 1 s)
-IsPlacedModule (m.PortList (ports.Names xs)) s = StandApart xs s
-IsPlacedModule (m.AHeaderPort x) s = port_place (port_of x) ≡ place_at s
-IsPlacedModule (m.NextHeaderPort x) s = port_place (port_of x) ≡ place_at s
 IsPlacedModule (m.AnItem x) s = item_place (item_of x) ≡ place_at s
 IsPlacedModule phrase s = Unit {0}
 
 pub module_placed : {phrase : m.Phrase} {s r : List Token} → m.Spells phrase s r → IsPlacedModule phrase s
 module_placed (m.module_ h t x y u) = second_place h t
-module_placed (m.name_list is h) = declaration_placed h
-module_placed (m.input_port h x y t) = token_place h
-module_placed (m.output_port h x y z) = token_place h
-module_placed (m.next_name is h) = declaration_placed h
-module_placed (m.next_port free h) = module_placed h
 module_placed (m.input_item h x y z t) = token_place h
 module_placed (m.output_item h x y z t) = token_place h
 module_placed (m.parameter_item h x y t) = token_place h

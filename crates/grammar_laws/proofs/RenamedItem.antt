@@ -8,7 +8,7 @@ use Rattle.verilog_ast.specs.Renamed.{renamed_continuous, renamed_plain_item}
 use Rattle.verilog_expr.specs.Renamed.{retokens}
 use Rattle.verilog_expr.proofs.RenamedTokens.{at_next, takes_so}
 use Rattle.verilog_expr.proofs.RenamedSpells.{spells_so}
-use Rattle.verilog_parse.specs.Items.{Phrase, Spells, APlainItem, AnEvent, Trigger, EdgeEnd, Assignments, AssignmentsBehind, OtherAssignments, AContinuous, wire_item, reg_item, local_item, genvar_item, assign_item, always_item, instances_item, at_all, at_bracket, at_inputs, at_edge, edge_end, assignments, assignments_behind, no_assignment, another_assignment, continuous}
+use Rattle.verilog_item.specs.Items.{Phrase, Spells, APlainItem, AnEvent, Trigger, EdgeEnd, Assignments, AssignmentsBehind, OtherAssignments, AContinuous, wire_item, reg_item, local_item, genvar_item, assign_item, always_item, instances_item, at_all, at_bracket, at_inputs, at_edge, edge_end, assignments, assignments_behind, no_assignment, another_assignment, continuous}
 use Rattle.verilog_decl.proofs.RenamedDeclaration.{declaration_so}
 use Rattle.verilog_stmt.proofs.RenamedStatement.{statement_so}
 

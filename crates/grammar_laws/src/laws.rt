@@ -28,9 +28,10 @@ ghost use Rattle.verilog_expr.specs.Renamed.{retokens};
 ghost use Rattle.verilog_expr.specs.Shown.{Refuses};
 ghost use Rattle.verilog_expr.specs.Tokens.{place_at};
 ghost use Rattle.verilog_decl.specs.Apart.{StandApart};
+ghost use Rattle.verilog_header.specs.Headers as headers;
 ghost use Rattle.verilog_parse.specs.Files.{file, IsSpelled, Stands};
 ghost use Rattle.verilog_parse.specs.Generates as generates;
-ghost use Rattle.verilog_parse.specs.Items as items;
+ghost use Rattle.verilog_item.specs.Items as items;
 ghost use Rattle.grammar_laws.specs.Lasts.{StandsLast};
 ghost use Rattle.verilog_parse.specs.Modules as modules;
 
@@ -62,7 +63,7 @@ pub fn names_may_change()
 pub fn parts_of_items_have_places()
     ensures assignments { (x : Continuous) (s r : List Token) → items.Spells (items.AContinuous x) s r
         → target_place (target_of x.target) ≡ place_at s }
-    ensures ports { (x : HeaderPort) (s r : List Token) → modules.Spells (modules.NextHeaderPort x) s r → port_place (port_of x) ≡ place_at s }
+    ensures ports { (x : HeaderPort) (s r : List Token) → headers.Spells (headers.NextHeaderPort x) s r → port_place (port_of x) ≡ place_at s }
 {}
 
 /// An item has the place of the first token that it stands for: instances that of their module's name, an `if` that of its first
@@ -82,9 +83,9 @@ pub fn items_have_places()
 #[tactic(none)]
 pub fn names_have_places()
     ensures modules { (x : ModuleBody) (s r : List Token) → modules.Spells (modules.AModule x) s r → x.name.at ≡ place_at (drop 1 s) }
-    ensures ports { (xs : List Identifier) (s r : List Token) → modules.Spells (modules.PortList (ports.Names xs)) s r → StandApart xs s }
+    ensures ports { (xs : List Identifier) (s r : List Token) → headers.Spells (headers.PortList (ports.Names xs)) s r → StandApart xs s }
     ensures inputs { (at : Place) (net : PortNet) (x : Shape) (name : Identifier) (s r : List Token)
-        → modules.Spells (modules.AHeaderPort (port.Input at net x name)) s r → StandsLast name s r }
+        → headers.Spells (headers.AHeaderPort (port.Input at net x name)) s r → StandsLast name s r }
     ensures genvars { (at : Place) (xs : List Identifier) (s r : List Token) → items.Spells (items.APlainItem (plain.Genvar at xs)) s r
         → StandApart xs (drop 1 s) }
     ensures clocks { (at : Place) (clock : Identifier) (x : Stmt) (s r : List Token)

@@ -1,7 +1,7 @@
 // Laws of the grammar that verilog_parse reads.
 //
-// `laws` says of the relation `Spells` that a text is read in one way, that trees and names have the places of their tokens, and
-// that names may change. It is over definitions alone, so there is nothing to run here.
+// `laws` says of its relations `Spells`, those of verilog_header and verilog_item too, that a text is read in one way, that trees and
+// names have the places of their tokens, and that names may change. It is over definitions alone, so there is nothing to run here.
 #![tactic(auto)]
 
 mod laws;

@@ -7,42 +7,11 @@ use Rattle.verilog_expr.specs.Grammar.{N}
 use Rattle.verilog_expr.proofs.Entries as e
 use Rattle.verilog_expr.proofs.Complete.{Gets, gets_end, gets_token, gets_at, gets_skip, enters, ◌⊳◌}
 use Rattle.verilog_expr.proofs.Complete as expressions
-use Rattle.verilog_stmt.proofs.Complete.{statement}
 use Rattle.verilog_decl.proofs.Complete.{seen, declaration}
-use Rattle.verilog_parse.specs.Items as i
+use Rattle.verilog_header.proofs.Complete.{header}
+use Rattle.verilog_item.proofs.Complete.{plain_item}
 use Rattle.verilog_parse.specs.Generates as b
 use Rattle.verilog_parse.specs.Modules as m
-
--- ---- plain items
-
-abbrev MeetsItem : i.Phrase → ℕ → List Token → List Token → Type 0
-MeetsItem (i.APlainItem x) w a r = Gets (N g.APlainItem w ∷ []) a r
-MeetsItem (i.AnEvent at x) w a r = Gets (N g.AnEvent w ∷ []) a r
-MeetsItem (i.Trigger at x) w a r = Gets (N g.Trigger w ∷ []) a r
-MeetsItem i.EdgeEnd w a r = Gets (N g.EdgeEnd w ∷ []) a r
-MeetsItem (i.Assignments xs) w a r = Gets (N g.Assignments w ∷ []) a r
-MeetsItem (i.AssignmentsBehind x xs) w a r = Gets (N g.MoreAssignments w ∷ []) a r
-MeetsItem (i.OtherAssignments xs) w a r = Gets (N g.MoreAssignments w ∷ []) a r
-MeetsItem (i.AContinuous x) w a r = Gets (N g.AContinuous w ∷ []) a r
-
-pub plain_item : {p : i.Phrase} {a r : List Token} → i.Spells p a r → (w : ℕ) → MeetsItem p w a r
-plain_item (i.wire_item t x xs u) w = gets_at t refl (gets_token t ⊳ declaration x w ⊳ declaration xs w ⊳ gets_token u ⊳ gets_end)
-plain_item (i.reg_item t x xs u) w = gets_at t refl (gets_token t ⊳ declaration x w ⊳ declaration xs w ⊳ gets_token u ⊳ gets_end)
-plain_item (i.local_item t x xs u) w = gets_at t refl (gets_token t ⊳ declaration x w ⊳ declaration xs w ⊳ gets_token u ⊳ gets_end)
-plain_item (i.genvar_item t xs u) w = gets_at t refl (gets_token t ⊳ declaration xs w ⊳ gets_token u ⊳ gets_end)
-plain_item (i.assign_item t xs u) w = gets_at t refl (gets_token t ⊳ plain_item xs w ⊳ gets_token u ⊳ gets_end)
-plain_item (i.always_item t u x) w = gets_at t refl (gets_token t ⊳ gets_token u ⊳ plain_item x w ⊳ gets_end)
-plain_item (i.instances_item t x xs u) w = gets_at t refl (gets_token t ⊳ declaration x w ⊳ declaration xs w ⊳ gets_token u ⊳ gets_end)
-plain_item (i.at_all t x) w = gets_at t refl (gets_token t ⊳ statement x w ⊳ gets_end)
-plain_item (i.at_bracket t x) w = gets_at t refl (gets_token t ⊳ plain_item x w ⊳ gets_end)
-plain_item (i.at_inputs t u x) w = gets_at t refl (gets_token t ⊳ gets_token u ⊳ statement x w ⊳ gets_end)
-plain_item (i.at_edge t u x y) w = gets_at t refl (gets_token t ⊳ gets_token u ⊳ plain_item x (w + 1) ⊳ statement y w ⊳ gets_end)
-plain_item (i.edge_end t) w = gets_at t refl (gets_token t ⊳ gets_end)
-plain_item (i.assignments x xs) w = enters refl (plain_item x w ⊳ plain_item xs w ⊳ gets_end)
-plain_item (i.assignments_behind h) w = plain_item h w
-plain_item (i.no_assignment free) w = gets_skip (e.more_assignments_skips w _ free) gets_end
-plain_item (i.another_assignment t x xs) w = gets_at t refl (gets_token t ⊳ plain_item x w ⊳ plain_item xs w ⊳ gets_end)
-plain_item (i.continuous x t y) w = enters refl (statement x w ⊳ gets_token t ⊳ expressions.complete y w ⊳ gets_end)
 
 -- ---- generate blocks
 
@@ -77,47 +46,11 @@ block (b.last_branch t not_if x) w = gets_at t refl (gets_token t ⊳ enters (e.
 
 abbrev MeetsModule : m.Phrase → ℕ → List Token → List Token → Type 0
 MeetsModule (m.AModule x) w a r = Gets (N g.AModule w ∷ []) a r
-MeetsModule (m.AHeader xs y) w a r = Gets (N g.AHeader w ∷ []) a r
-MeetsModule (m.ParameterHeader xs) w a r = Gets (N g.ParameterHeader w ∷ []) a r
-MeetsModule (m.AShapedParameter x) w a r = Gets (N g.AShapedParameter w ∷ []) a r
-MeetsModule (m.AHeaderParameter x) w a r = Gets (N g.AHeaderParameter w ∷ []) a r
-MeetsModule (m.HeaderParametersBehind x xs) w a r = Gets (N g.MoreHeaderParameters w ∷ []) a r
-MeetsModule (m.OtherHeaderParameters xs) w a r = Gets (N g.MoreHeaderParameters w ∷ []) a r
-MeetsModule (m.PortHeader x) w a r = Gets (N g.PortHeader w ∷ []) a r
-MeetsModule (m.PortList x) w a r = Gets (N g.PortList w ∷ []) a r
-MeetsModule (m.DeclaredPorts xs) w a r = Gets (N g.DeclaredPorts w ∷ []) a r
-MeetsModule (m.HeaderPortsBehind x xs) w a r = Gets (N g.MoreHeaderPorts w ∷ []) a r
-MeetsModule (m.OtherHeaderPorts xs) w a r = Gets (N g.MoreHeaderPorts w ∷ []) a r
-MeetsModule (m.AHeaderPort x) w a r = Gets (N g.AHeaderPort w ∷ []) a r
-MeetsModule (m.NextHeaderPort x) w a r = Gets (N g.NextHeaderPort w ∷ []) a r
 MeetsModule (m.Items xs) w a r = Gets (N g.Items w ∷ []) a r
 MeetsModule (m.AnItem x) w a r = Gets (N g.AnItem w ∷ []) a r
 
 pub module_ : {p : m.Phrase} {a r : List Token} → m.Spells p a r → (w : ℕ) → MeetsModule p w a r
-module_ (m.module_ t u x xs v) w = enters refl (gets_token t ⊳ gets_token u ⊳ module_ x w ⊳ module_ xs w ⊳ gets_token v ⊳ gets_end)
-module_ (m.header x y t) w = enters refl (module_ x w ⊳ module_ y w ⊳ gets_token t ⊳ gets_end)
-module_ (m.no_parameters free) w = gets_skip (e.parameter_header_skips w _ free) gets_end
-module_ (m.some_parameters t u x xs v) w = gets_at t refl (gets_token t ⊳ gets_token u ⊳ module_ x (w + 1) ⊳ module_ xs (w + 1) ⊳ gets_token v ⊳ gets_end)
-module_ (m.shaped t x y) w = enters refl (gets_token t ⊳ declaration x w ⊳ declaration y w ⊳ gets_end)
-module_ (m.with_shape is x) w = seen is refl (module_ x w ⊳ gets_end)
-module_ (m.without_shape free x) w = enters (e.header_parameter_alone w _ free) (declaration x w ⊳ gets_end)
-module_ (m.header_parameters_behind h) w = module_ h w
-module_ (m.no_header_parameter free) w = gets_skip (e.more_header_parameters_skips w _ free) gets_end
-module_ (m.another_header_parameter t x xs) w = gets_at t refl (gets_token t ⊳ module_ x w ⊳ module_ xs w ⊳ gets_end)
-module_ (m.no_ports free) w = gets_skip (e.port_header_skips w _ free) gets_end
-module_ (m.some_ports t x u) w = gets_at t refl (gets_token t ⊳ module_ x (w + 1) ⊳ gets_token u ⊳ gets_end)
-module_ (m.empty_list a c d) w = gets_skip (e.port_list_skips w _ a c d) gets_end
-module_ (m.name_list is x) w = seen is refl (declaration x w ⊳ gets_end)
-module_ (m.input_list is x) w = seen is refl (module_ x w ⊳ gets_end)
-module_ (m.output_list is x) w = seen is refl (module_ x w ⊳ gets_end)
-module_ (m.declared x xs) w = enters refl (module_ x w ⊳ module_ xs w ⊳ gets_end)
-module_ (m.header_ports_behind h) w = module_ h w
-module_ (m.no_header_port free) w = gets_skip (e.more_header_ports_skip w _ free) gets_end
-module_ (m.another_header_port t x xs) w = gets_at t refl (gets_token t ⊳ module_ x w ⊳ module_ xs w ⊳ gets_end)
-module_ (m.input_port t x y u) w = gets_at t refl (gets_token t ⊳ declaration x w ⊳ declaration y w ⊳ gets_token u ⊳ gets_end)
-module_ (m.output_port t x y z) w = gets_at t refl (gets_token t ⊳ declaration x w ⊳ declaration y w ⊳ declaration z w ⊳ gets_end)
-module_ (m.next_name is x) w = seen is refl (declaration x w ⊳ gets_end)
-module_ (m.next_port free x) w = enters (e.next_header_port_declared w _ free) (module_ x w ⊳ gets_end)
+module_ (m.module_ t u x xs v) w = enters refl (gets_token t ⊳ gets_token u ⊳ header x w ⊳ module_ xs w ⊳ gets_token v ⊳ gets_end)
 module_ (m.no_item {s = a} free) w = gets_skip (e.items_skip w (next a) free) gets_end
 module_ (m.another_item {s = a} go x xs) w = enters (e.items_go w (next a) go) (module_ x w ⊳ module_ xs w ⊳ gets_end)
 module_ (m.input_item t x y z u) w = gets_at t refl (gets_token t ⊳ declaration x w ⊳ declaration y w ⊳ declaration z w ⊳ gets_token u ⊳ gets_end)

@@ -3,61 +3,25 @@ use Rattle.std.proofs.Common.{◌<◌, ℕ, List, flat_map, All}
 use Rattle.ls_text.specs.declared.name_id.NameId.{NameId}
 use Rattle.verilog_lex.specs.declared.token.Token.{Token}
 use Rattle.verilog_ast.specs.declared.module.Module.{Module}
-use Rattle.verilog_ast.specs.Names.{names_of_header_parameter, names_of_header_port, names_of_ports, names_of_item, names_of_body, names_of_modules}
-use Rattle.verilog_ast.proofs.Within.{IsWithin, no_name, one_more, one_name, ◌⊕◌}
+use Rattle.verilog_ast.specs.Names.{names_of_item, names_of_body, names_of_modules}
+use Rattle.verilog_ast.proofs.Within.{IsWithin, no_name, one_more, ◌⊕◌}
 use Rattle.verilog_expr.proofs.Named.{AreWithin, took}
 use Rattle.verilog_parse.specs.Modules as p
 use Rattle.verilog_parse.specs.Files.{SpellsAll, no_module, another_module, Stands}
 use Rattle.verilog_decl.proofs.NamedDeclarations.{declaration}
+use Rattle.verilog_header.proofs.NamedHeaders.{header}
 use Rattle.verilog_parse.proofs.NamedGenerates.{generate}
 
 -- The names of a phrase are below the bound, where those of what stands before it are.
 abbrev pub IsNamed : ℕ → p.Phrase → Type 0
 IsNamed n (p.AModule x) = IsWithin n (names_of_body x)
-IsNamed n (p.AHeader xs y) = IsWithin n (flat_map names_of_header_parameter xs) × IsWithin n (names_of_ports y)
-IsNamed n (p.ParameterHeader xs) = IsWithin n (flat_map names_of_header_parameter xs)
-IsNamed n (p.AShapedParameter x) = IsWithin n (names_of_header_parameter x)
-IsNamed n (p.AHeaderParameter x) = IsWithin n (names_of_header_parameter x)
-IsNamed n (p.HeaderParametersBehind x xs) = IsWithin n (names_of_header_parameter x) → IsWithin n (flat_map names_of_header_parameter xs)
-IsNamed n (p.OtherHeaderParameters xs) = IsWithin n (flat_map names_of_header_parameter xs)
-IsNamed n (p.PortHeader x) = IsWithin n (names_of_ports x)
-IsNamed n (p.PortList x) = IsWithin n (names_of_ports x)
-IsNamed n (p.DeclaredPorts xs) = IsWithin n (flat_map names_of_header_port xs)
-IsNamed n (p.HeaderPortsBehind x xs) = IsWithin n (names_of_header_port x) → IsWithin n (flat_map names_of_header_port xs)
-IsNamed n (p.OtherHeaderPorts xs) = IsWithin n (flat_map names_of_header_port xs)
-IsNamed n (p.AHeaderPort x) = IsWithin n (names_of_header_port x)
-IsNamed n (p.NextHeaderPort x) = IsWithin n (names_of_header_port x)
 IsNamed n (p.Items xs) = IsWithin n (flat_map names_of_item xs)
 IsNamed n (p.AnItem x) = IsWithin n (names_of_item x)
 
 pub body : {n : ℕ} {q : p.Phrase} {s r : List Token} → p.Spells q s r → AreWithin n s → IsNamed n q × AreWithin n r
 body (p.module_ t u h i v) w =
-    let a = took t w in let b = took u a.1 in let c = body h b.1 in let d = body i c.1 in let e = took v d.1 in
+    let a = took t w in let b = took u a.1 in let c = header h b.1 in let d = body i c.1 in let e = took v d.1 in
     (one_more b.0 (c.0.0 ⊕ c.0.1 ⊕ d.0), e.1)
-body (p.header h i t) w = let a = body h w in let b = body i a.1 in let c = took t b.1 in ((a.0, b.0), c.1)
-body (p.no_parameters free) w = (no_name, w)
-body (p.some_parameters t u h i v) w =
-    let a = took t w in let b = took u a.1 in let c = body h b.1 in let d = body i c.1 in let e = took v d.1 in (d.0 c.0, e.1)
-body (p.shaped t h i) w = let a = took t w in let b = declaration h a.1 in let c = declaration i b.1 in (b.0 ⊕ c.0, c.1)
-body (p.with_shape is h) w = let a = body h w in (a.0, a.1)
-body (p.without_shape free h) w = let a = declaration h w in (a.0, a.1)
-body (p.header_parameters_behind h) w = let a = body h w in (λ x. x ⊕ a.0, a.1)
-body (p.no_header_parameter free) w = (no_name, w)
-body (p.another_header_parameter t h i) w = let a = took t w in let b = body h a.1 in let c = body i b.1 in (b.0 ⊕ c.0, c.1)
-body (p.no_ports free) w = (no_name, w)
-body (p.some_ports t h u) w = let a = took t w in let b = body h a.1 in let c = took u b.1 in (b.0, c.1)
-body (p.empty_list free clear bare) w = (no_name, w)
-body (p.name_list is h) w = let a = declaration h w in (a.0, a.1)
-body (p.input_list is h) w = let a = body h w in (a.0, a.1)
-body (p.output_list is h) w = let a = body h w in (a.0, a.1)
-body (p.declared h i) w = let a = body h w in let b = body i a.1 in (b.0 a.0, b.1)
-body (p.header_ports_behind h) w = let a = body h w in (λ x. x ⊕ a.0, a.1)
-body (p.no_header_port free) w = (no_name, w)
-body (p.another_header_port t h i) w = let a = took t w in let b = body h a.1 in let c = body i b.1 in (b.0 ⊕ c.0, c.1)
-body (p.input_port t h i u) w = let a = took t w in let b = declaration h a.1 in let c = declaration i b.1 in let d = took u c.1 in (c.0 ⊕ one_name d.0, d.1)
-body (p.output_port t h i j) w = let a = took t w in let b = declaration h a.1 in let c = declaration i b.1 in let d = declaration j c.1 in (c.0 ⊕ d.0, d.1)
-body (p.next_name is h) w = let a = declaration h w in (a.0, a.1)
-body (p.next_port free h) w = let a = body h w in (a.0, a.1)
 body (p.no_item free) w = (no_name, w)
 body (p.another_item go h i) w = let a = body h w in let b = body i a.1 in (a.0 ⊕ b.0, b.1)
 body (p.input_item t h i j u) w =

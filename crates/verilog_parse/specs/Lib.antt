@@ -1,4 +1,3 @@
-pub mod Items
 pub mod Generates
 pub mod Modules
 pub mod Files

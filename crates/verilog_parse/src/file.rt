@@ -1,5 +1,5 @@
 // Whole texts.
-#![tactic(auto)]
+#![tactic(auto, using(verilog_expr::proofs::Runs::runs, verilog_expr::proofs::Runs::loops, verilog_expr::proofs::Entries::module_entries))]
 
 ghost use Rattle.std.specs.Prelude.{◌≡◌, ◌<◌, ◌≤◌, [], ◌∷◌, length, All, IfOk, IfErr, OnOk};
 ghost use Rattle.verilog_lex.specs.Ends.{EndsOnce};
@@ -17,7 +17,6 @@ use verilog_lex::{Kind, Token};
 use verilog_spelling::spelling;
 
 // A module with its spelling.
-#[tactic(auto, using(crate::proofs::Steps::steps, verilog_expr::proofs::Runs::reads_memory))]
 fn spelled_module(p: &mut Parser<'_>, names: &Names) -> Result<Module, ParseError>
     requires { All (λ t. t.text.0 < length names.now) p.old }
     ensures machine { Reads (N grammar.AModule 0 ∷ []) p.old result p.new }
@@ -36,7 +35,6 @@ fn spelled_module(p: &mut Parser<'_>, names: &Names) -> Result<Module, ParseErro
 }
 
 // Modules up to what is none.
-#[tactic(auto, using(crate::proofs::Steps::steps, verilog_expr::proofs::Runs::reads_memory, verilog_expr::proofs::Runs::loops, verilog_expr::proofs::Runs::skip_at, verilog_expr::proofs::Entries::modules_skip))]
 fn modules(p: &mut Parser<'_>, names: &Names) -> Result<Vec<Module>, ParseError>
     requires { All (λ t. t.text.0 < length names.now) p.old }
     ensures machine { Reads (N grammar.Modules 0 ∷ []) p.old result p.new }
@@ -50,7 +48,6 @@ fn modules(p: &mut Parser<'_>, names: &Names) -> Result<Vec<Module>, ParseError>
 }
 
 /// The modules of all the tokens.
-#[tactic(auto, using(crate::proofs::Steps::steps, verilog_expr::proofs::Runs::reads_memory, verilog_expr::proofs::Runs::loops))]
 pub fn whole_file(alloc: Global, names: &Names, tokens: &[Token]) -> Result<Vec<Module>, ParseError>
     requires ends { EndsOnce tokens.now }
     requires named { All (λ t. t.text.0 < length names.now) tokens.now }

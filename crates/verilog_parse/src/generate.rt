@@ -1,5 +1,5 @@
 // Items of generate blocks, by recursive descent: a chain of `else if` is a loop.
-#![tactic(auto)]
+#![tactic(auto, using(verilog_expr::proofs::Runs::runs, verilog_expr::proofs::Runs::loops, verilog_expr::proofs::Entries::module_entries, crate::proofs::ModuleTrees::generate_trees))]
 
 ghost use Rattle.std.specs.Prelude.{◌≡◌, ◌≤◌, ◌<◌, ◌+◌, ◌^◌, [], ◌∷◌, length, OnOk, IfOk, MatchBool, true, false};
 ghost use Rattle.verilog_expr.specs.Tokens.{next};
@@ -9,11 +9,11 @@ ghost use Rattle.verilog_expr.specs.Reads.{Reads};
 ghost use Rattle.verilog_parse.specs.Generates as spells;
 ghost use Rattle.verilog_parse.specs.Generates.{Spells};
 
-use crate::plain_item::plain_item;
 use ls_text::Place;
 use verilog_ast::{Branch, Child, Children, GenerateItem, Identifier, Loop};
 use verilog_decl::parameter;
 use verilog_expr::{ParseError, Parser, identifier};
+use verilog_item::plain_item;
 use verilog_lex::Kind;
 
 fn at_generate_item(p: &Parser<'_>) -> bool
@@ -35,7 +35,6 @@ fn at_generate_item(p: &Parser<'_>) -> bool
 
 /// Items up to what begins none.
 #[cycle(generate)]
-#[tactic(auto, using(crate::proofs::Steps::steps, verilog_expr::proofs::Runs::reads_memory, verilog_expr::proofs::Runs::loops, verilog_expr::proofs::Runs::skip_at, verilog_expr::proofs::Runs::other_at, verilog_expr::proofs::Runs::fails_other, verilog_expr::proofs::Entries::generate_items_skip, verilog_expr::proofs::Entries::generate_items_go))]
 pub fn generate_items(p: &mut Parser<'_>, weight: u32) -> Result<Children<GenerateItem>, ParseError>
     requires { weight < 2 ^ 29 }
     ensures machine { Reads (N grammar.GenerateItems weight ∷ []) p.old result p.new }
@@ -51,7 +50,6 @@ pub fn generate_items(p: &mut Parser<'_>, weight: u32) -> Result<Children<Genera
 
 /// An item that may stand in a generate block.
 #[cycle(generate)]
-#[tactic(auto, using(crate::proofs::Steps::steps, verilog_expr::proofs::Runs::alone, verilog_expr::proofs::Entries::generate_item_plain, crate::specs::Generates::loop_item, crate::specs::Generates::if_item, crate::specs::Generates::plain_item))]
 pub fn generate_item(p: &mut Parser<'_>, weight: u32) -> Result<GenerateItem, ParseError>
     requires { weight < 2 ^ 29 }
     ensures machine { Reads (N grammar.AGenerateItem weight ∷ []) p.old result p.new }
@@ -72,7 +70,6 @@ pub fn generate_item(p: &mut Parser<'_>, weight: u32) -> Result<GenerateItem, Pa
 
 // A generate loop.
 #[cycle(generate)]
-#[tactic(auto, using(crate::proofs::Steps::steps, crate::specs::Generates::generate_loop))]
 fn generate_loop(p: &mut Parser<'_>, weight: u32) -> Result<GenerateItem, ParseError>
     requires { weight < 2 ^ 29 }
     ensures machine { Reads (N grammar.ALoop weight ∷ []) p.old result p.new }
@@ -88,7 +85,6 @@ fn generate_loop(p: &mut Parser<'_>, weight: u32) -> Result<GenerateItem, ParseE
 }
 
 // The start, the condition and the step of a generate loop.
-#[tactic(auto, using(crate::proofs::Steps::steps, verilog_expr::proofs::Runs::reads_memory, crate::specs::Generates::loop_head))]
 fn loop_head(p: &mut Parser<'_>, weight: u32) -> Result<Loop, ParseError>
     requires { weight < 2 ^ 30 }
     ensures machine { Reads (N grammar.ALoopHead weight ∷ []) p.old result p.new }
@@ -109,7 +105,6 @@ fn loop_head(p: &mut Parser<'_>, weight: u32) -> Result<Loop, ParseError>
 
 // A labelled block: the place of its `begin`, its label and its items.
 #[cycle(generate)]
-#[tactic(auto, using(crate::proofs::Steps::steps, crate::specs::Generates::block))]
 fn block(
     p: &mut Parser<'_>,
     weight: u32,
@@ -129,7 +124,6 @@ fn block(
 
 // A condition and its block.
 #[cycle(generate)]
-#[tactic(auto, using(crate::proofs::Steps::steps, verilog_expr::proofs::Runs::reads_memory, crate::specs::Generates::branch))]
 fn branch(p: &mut Parser<'_>, weight: u32) -> Result<Branch, ParseError>
     requires { weight < 2 ^ 29 }
     ensures machine { Reads (N grammar.ABranch weight ∷ []) p.old result p.new }
@@ -151,7 +145,6 @@ fn branch(p: &mut Parser<'_>, weight: u32) -> Result<Branch, ParseError>
 
 // The block of an `else` without a condition.
 #[cycle(generate)]
-#[tactic(auto, using(crate::proofs::Steps::steps, crate::specs::Generates::otherwise))]
 fn otherwise(p: &mut Parser<'_>, weight: u32) -> Result<Branch, ParseError>
     requires { weight < 2 ^ 29 }
     ensures machine { Reads (N grammar.AnOtherwise weight ∷ []) p.old result p.new }
@@ -169,7 +162,6 @@ fn otherwise(p: &mut Parser<'_>, weight: u32) -> Result<Branch, ParseError>
 
 // Further branches, each after an `else`, behind the first; one without a condition is the last.
 #[cycle(generate)]
-#[tactic(auto, using(crate::proofs::Steps::steps, verilog_expr::proofs::Runs::reads_memory, verilog_expr::proofs::Runs::loops, verilog_expr::proofs::Runs::skip_at, verilog_expr::proofs::Runs::alone, verilog_expr::proofs::Entries::other_branches_skip, verilog_expr::proofs::Entries::last_branch_otherwise, crate::specs::Generates::last_branch))]
 fn other_branches(
     p: &mut Parser<'_>,
     first: Branch,

@@ -1,5 +1,5 @@
 // Modules and their items.
-#![tactic(auto)]
+#![tactic(auto, using(verilog_expr::proofs::Runs::runs, verilog_expr::proofs::Runs::loops, verilog_expr::proofs::Entries::module_entries, crate::proofs::ModuleTrees::module_trees))]
 
 ghost use Rattle.std.specs.Prelude.{◌≡◌, ◌≤◌, ◌<◌, ◌+◌, ◌^◌, [], ◌∷◌, length, OnOk, IfOk, MatchBool, true, false};
 ghost use Rattle.verilog_lex.specs.declared.kind.Kind.TheVariants.{EndGenerate, Generate, Input, Output, Parameter, Semicolon};
@@ -11,14 +11,13 @@ ghost use Rattle.verilog_parse.specs.Modules as spells;
 ghost use Rattle.verilog_parse.specs.Modules.{Spells};
 
 use crate::generate::{generate_item, generate_items};
-use crate::header::header;
 use verilog_ast::{Children, Item, ModuleBody};
 use verilog_decl::{names, optional_net, optional_wire, parameters, shape, variables};
 use verilog_expr::{ParseError, Parser, identifier};
+use verilog_header::header;
 use verilog_lex::Kind;
 
 /// A module without its spelling.
-#[tactic(auto, using(crate::proofs::Steps::steps, crate::specs::Modules::module_))]
 pub fn module(p: &mut Parser<'_>, weight: u32) -> Result<ModuleBody, ParseError>
     requires { weight < 2 ^ 28 }
     ensures machine { Reads (N grammar.AModule weight ∷ []) p.old result p.new }
@@ -60,7 +59,6 @@ fn at_item(p: &Parser<'_>) -> bool
 }
 
 // Items up to what begins none.
-#[tactic(auto, using(crate::proofs::Steps::steps, verilog_expr::proofs::Runs::reads_memory, verilog_expr::proofs::Runs::loops, verilog_expr::proofs::Runs::skip_at, verilog_expr::proofs::Runs::other_at, verilog_expr::proofs::Runs::fails_other, verilog_expr::proofs::Entries::items_skip, verilog_expr::proofs::Entries::items_go))]
 fn items(p: &mut Parser<'_>, weight: u32) -> Result<Children<Item>, ParseError>
     requires { weight < 2 ^ 28 }
     ensures machine { Reads (N grammar.Items weight ∷ []) p.old result p.new }
@@ -74,7 +72,6 @@ fn items(p: &mut Parser<'_>, weight: u32) -> Result<Children<Item>, ParseError>
     Ok(all)
 }
 
-#[tactic(auto, using(crate::proofs::Steps::steps, verilog_expr::proofs::Runs::alone, verilog_expr::proofs::Entries::item_generates, crate::specs::Modules::other_item))]
 fn item(p: &mut Parser<'_>, weight: u32) -> Result<Item, ParseError>
     requires { weight < 2 ^ 28 }
     ensures machine { Reads (N grammar.AnItem weight ∷ []) p.old result p.new }
@@ -106,7 +103,6 @@ fn item(p: &mut Parser<'_>, weight: u32) -> Result<Item, ParseError>
 }
 
 // `input` and what it declares.
-#[tactic(auto, using(crate::proofs::Steps::steps, crate::specs::Modules::input_item))]
 fn input_item(p: &mut Parser<'_>, weight: u32) -> Result<Item, ParseError>
     requires { weight < 2 ^ 28 }
     ensures machine { Reads (T Input weight ∷ N grammar.OptionalWire weight ∷ N grammar.AShape weight ∷ N grammar.Names weight ∷ T Semicolon weight ∷ []) p.old result p.new }
@@ -122,7 +118,6 @@ fn input_item(p: &mut Parser<'_>, weight: u32) -> Result<Item, ParseError>
 }
 
 // `output` and what it declares.
-#[tactic(auto, using(crate::proofs::Steps::steps, crate::specs::Modules::output_item))]
 fn output_item(p: &mut Parser<'_>, weight: u32) -> Result<Item, ParseError>
     requires { weight < 2 ^ 28 }
     ensures machine { Reads (T Output weight ∷ N grammar.OptionalNet weight ∷ N grammar.AShape weight ∷ N grammar.Variables weight ∷ T Semicolon weight ∷ []) p.old result p.new }
@@ -138,7 +133,6 @@ fn output_item(p: &mut Parser<'_>, weight: u32) -> Result<Item, ParseError>
 }
 
 // `parameter` and what it declares.
-#[tactic(auto, using(crate::proofs::Steps::steps, crate::specs::Modules::parameter_item))]
 fn parameter_item(p: &mut Parser<'_>, weight: u32) -> Result<Item, ParseError>
     requires { weight < 2 ^ 28 }
     ensures machine { Reads (T Parameter weight ∷ N grammar.AShape weight ∷ N grammar.Parameters weight ∷ T Semicolon weight ∷ []) p.old result p.new }
@@ -153,7 +147,6 @@ fn parameter_item(p: &mut Parser<'_>, weight: u32) -> Result<Item, ParseError>
 }
 
 // A generate region: `generate` and its items.
-#[tactic(auto, using(crate::proofs::Steps::steps, crate::specs::Modules::region))]
 fn region(p: &mut Parser<'_>, weight: u32) -> Result<Item, ParseError>
     requires { weight < 2 ^ 28 }
     ensures machine { Reads (T Generate weight ∷ N grammar.GenerateItems weight ∷ T EndGenerate weight ∷ []) p.old result p.new }

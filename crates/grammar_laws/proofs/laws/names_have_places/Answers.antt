@@ -1,12 +1,12 @@
 use Rattle.grammar_laws.proofs.PlacedItems.{item_placed, generate_placed, module_placed}
-use Rattle.grammar_laws.proofs.PlacedPorts.{input_last}
+use Rattle.grammar_laws.proofs.PlacedPorts.{header_placed, input_last}
 use Rattle.grammar_laws.proofs.laws.names_have_places.Goals as goal
 
 pub returns-clause-modules : goal.returns-clause-modules
 returns-clause-modules c x s r h = module_placed h
 
 pub returns-clause-ports : goal.returns-clause-ports
-returns-clause-ports c xs s r h = module_placed h
+returns-clause-ports c xs s r h = header_placed h
 
 pub returns-clause-inputs : goal.returns-clause-inputs
 returns-clause-inputs c at net x name s r h = input_last h

@@ -1,5 +1,5 @@
 use Rattle.grammar_laws.proofs.OneText.{one_text, one_fault, not_both}
-use Rattle.verilog_expr.specs.Shown.{Refuses, at_fault}
+use Rattle.verilog_expr.specs.Shown.{at_fault}
 use Rattle.verilog_parse.proofs.Wholes.{spelled_only}
 use Rattle.grammar_laws.proofs.laws.texts_are_read_in_one_way.Goals as goal
 

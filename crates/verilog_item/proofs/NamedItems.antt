@@ -5,7 +5,7 @@ use Rattle.verilog_ast.specs.Names.{names_of_continuous, names_of_plain_item}
 use Rattle.verilog_ast.proofs.Within.{IsWithin, no_name, one_more, ◌⊕◌}
 use Rattle.verilog_expr.proofs.Named.{AreWithin, took}
 use Rattle.verilog_expr.proofs.Named as expressions
-use Rattle.verilog_parse.specs.Items as p
+use Rattle.verilog_item.specs.Items as p
 use Rattle.verilog_decl.proofs.NamedDeclarations.{declaration}
 use Rattle.verilog_stmt.proofs.NamedStatements.{statement}
 

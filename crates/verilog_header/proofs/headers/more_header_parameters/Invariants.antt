@@ -3,9 +3,9 @@ use Rattle.verilog_expr.specs.Grammar as grammar
 use Rattle.verilog_expr.specs.Grammar.{N}
 use Rattle.verilog_expr.specs.Reads.{Leads}
 use Rattle.verilog_expr.proofs.Lists.{Grows}
-use Rattle.verilog_parse.specs.Modules as spells
-use Rattle.verilog_parse.specs.Modules.{Spells}
-use Rattle.verilog_parse.proofs.header.more_header_parameters.Given as goal
+use Rattle.verilog_header.specs.Headers as spells
+use Rattle.verilog_header.specs.Headers.{Spells}
+use Rattle.verilog_header.proofs.headers.more_header_parameters.Given as goal
 
 abbrev pub invariant-items : goal.invariant-items
 invariant-items l = record {

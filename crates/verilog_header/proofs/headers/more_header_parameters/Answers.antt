@@ -1,9 +1,9 @@
 use Rattle.std.proofs.Common.{◌≡◌, [], ◌∷◌, ◌++◌, subst, sym, rules, arith}
 use Rattle.verilog_expr.proofs.Lists.{grows_more, grows_end}
 use Rattle.verilog_expr.proofs.Runs.{then, expand_at}
-use Rattle.verilog_parse.specs.Modules as spells
-use Rattle.verilog_parse.specs.Modules.{Spells, header_parameters_behind, another_header_parameter, no_header_parameter}
-use Rattle.verilog_parse.proofs.header.more_header_parameters.Goals as goal
+use Rattle.verilog_header.specs.Headers as spells
+use Rattle.verilog_header.specs.Headers.{Spells, header_parameters_behind, another_header_parameter, no_header_parameter}
+use Rattle.verilog_header.proofs.headers.more_header_parameters.Goals as goal
 
 pub items-init : goal.items-init
 items-init c = let first : c.push.new.self ≡ c.args.first ∷ [] = search rules in record {

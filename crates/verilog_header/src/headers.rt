@@ -1,12 +1,12 @@
 // The header of a module.
-#![tactic(auto)]
+#![tactic(auto, using(verilog_expr::proofs::Runs::runs, verilog_expr::proofs::Runs::loops, verilog_expr::proofs::Entries::module_entries, crate::proofs::HeaderTrees::header_trees))]
 
 ghost use Rattle.std.specs.Prelude.{◌≡◌, ◌≤◌, ◌<◌, ◌+◌, ◌^◌, [], ◌∷◌, length, OnOk, IfOk};
 ghost use Rattle.verilog_expr.specs.Grammar as grammar;
 ghost use Rattle.verilog_expr.specs.Grammar.{N};
 ghost use Rattle.verilog_expr.specs.Reads.{Reads};
-ghost use Rattle.verilog_parse.specs.Modules as spells;
-ghost use Rattle.verilog_parse.specs.Modules.{Spells};
+ghost use Rattle.verilog_header.specs.Headers as spells;
+ghost use Rattle.verilog_header.specs.Headers.{Spells};
 
 use verilog_ast::{Children, HeaderParameter, HeaderPort, Ports};
 use verilog_decl::{names, optional_net, optional_wire, parameter, shape, variable};
@@ -14,7 +14,6 @@ use verilog_expr::{ParseError, Parser, identifier};
 use verilog_lex::Kind;
 
 /// What follows the name of a module: its parameters and its ports.
-#[tactic(auto, using(crate::proofs::Steps::steps, crate::specs::Modules::header))]
 pub fn header(
     p: &mut Parser<'_>,
     weight: u32,
@@ -30,7 +29,6 @@ pub fn header(
     Ok((parameters, ports))
 }
 
-#[tactic(auto, using(crate::proofs::Steps::steps, verilog_expr::proofs::Runs::skip_at, verilog_expr::proofs::Entries::parameter_header_skips, crate::specs::Modules::no_parameters, crate::specs::Modules::some_parameters))]
 fn parameter_header(
     p: &mut Parser<'_>,
     weight: u32,
@@ -52,7 +50,6 @@ fn parameter_header(
 }
 
 // A parameter of a header with its `parameter`.
-#[tactic(auto, using(crate::proofs::Steps::steps, crate::specs::Modules::shaped))]
 fn shaped_parameter(p: &mut Parser<'_>, weight: u32) -> Result<HeaderParameter, ParseError>
     requires { weight < 2 ^ 30 }
     ensures machine { Reads (N grammar.AShapedParameter weight ∷ []) p.old result p.new }
@@ -69,7 +66,6 @@ fn shaped_parameter(p: &mut Parser<'_>, weight: u32) -> Result<HeaderParameter, 
 }
 
 // Further parameters of a header, each after a comma, behind the first.
-#[tactic(auto, using(crate::proofs::Steps::steps, verilog_expr::proofs::Runs::reads_memory, verilog_expr::proofs::Runs::loops, verilog_expr::proofs::Runs::skip_at, verilog_expr::proofs::Entries::more_header_parameters_skips))]
 fn more_header_parameters(
     p: &mut Parser<'_>,
     first: HeaderParameter,
@@ -89,7 +85,6 @@ fn more_header_parameters(
     Ok(all)
 }
 
-#[tactic(auto, using(crate::proofs::Steps::steps, verilog_expr::proofs::Runs::alone, verilog_expr::proofs::Entries::header_parameter_alone, crate::specs::Modules::with_shape, crate::specs::Modules::without_shape))]
 fn header_parameter(p: &mut Parser<'_>, weight: u32) -> Result<HeaderParameter, ParseError>
     requires { weight < 2 ^ 30 }
     ensures machine { Reads (N grammar.AHeaderParameter weight ∷ []) p.old result p.new }
@@ -106,7 +101,6 @@ fn header_parameter(p: &mut Parser<'_>, weight: u32) -> Result<HeaderParameter, 
     })
 }
 
-#[tactic(auto, using(crate::proofs::Steps::steps, verilog_expr::proofs::Runs::skip_at, verilog_expr::proofs::Entries::port_header_skips, crate::specs::Modules::no_ports, crate::specs::Modules::some_ports))]
 fn port_header(p: &mut Parser<'_>, weight: u32) -> Result<Ports, ParseError>
     requires { weight < 2 ^ 30 }
     ensures machine { Reads (N grammar.PortHeader weight ∷ []) p.old result p.new }
@@ -123,7 +117,6 @@ fn port_header(p: &mut Parser<'_>, weight: u32) -> Result<Ports, ParseError>
 }
 
 // Names alone, or declarations, or nothing.
-#[tactic(auto, using(crate::proofs::Steps::steps, verilog_expr::proofs::Runs::skip_at, verilog_expr::proofs::Entries::port_list_skips, crate::specs::Modules::empty_list, crate::specs::Modules::name_list, crate::specs::Modules::input_list, crate::specs::Modules::output_list))]
 fn port_list(p: &mut Parser<'_>, weight: u32) -> Result<Ports, ParseError>
     requires { weight < 2 ^ 30 }
     ensures machine { Reads (N grammar.PortList weight ∷ []) p.old result p.new }
@@ -145,7 +138,6 @@ fn port_list(p: &mut Parser<'_>, weight: u32) -> Result<Ports, ParseError>
     Ok(Ports::Nothing)
 }
 
-#[tactic(auto, using(crate::proofs::Steps::steps, crate::specs::Modules::declared))]
 fn declared_ports(p: &mut Parser<'_>, weight: u32) -> Result<Children<HeaderPort>, ParseError>
     requires { weight < 2 ^ 30 }
     ensures machine { Reads (N grammar.DeclaredPorts weight ∷ []) p.old result p.new }
@@ -158,7 +150,6 @@ fn declared_ports(p: &mut Parser<'_>, weight: u32) -> Result<Children<HeaderPort
 }
 
 // Further ports, each after a comma, behind the first.
-#[tactic(auto, using(crate::proofs::Steps::steps, verilog_expr::proofs::Runs::reads_memory, verilog_expr::proofs::Runs::loops, verilog_expr::proofs::Runs::skip_at, verilog_expr::proofs::Entries::more_header_ports_skip))]
 fn more_header_ports(
     p: &mut Parser<'_>,
     first: HeaderPort,
@@ -179,7 +170,6 @@ fn more_header_ports(
 }
 
 // A port with its direction.
-#[tactic(auto, using(crate::proofs::Steps::steps, verilog_expr::proofs::Runs::refuse_at, verilog_expr::proofs::Entries::header_port_refuses, crate::specs::Modules::input_port, crate::specs::Modules::output_port))]
 fn header_port(p: &mut Parser<'_>, weight: u32) -> Result<HeaderPort, ParseError>
     requires { weight < 2 ^ 30 }
     ensures machine { Reads (N grammar.AHeaderPort weight ∷ []) p.old result p.new }
@@ -206,7 +196,6 @@ fn header_port(p: &mut Parser<'_>, weight: u32) -> Result<HeaderPort, ParseError
 }
 
 // A further port: a name alone has the declaration of the port before.
-#[tactic(auto, using(crate::proofs::Steps::steps, verilog_expr::proofs::Runs::alone, verilog_expr::proofs::Entries::next_header_port_declared, crate::specs::Modules::next_name, crate::specs::Modules::next_port))]
 fn next_header_port(p: &mut Parser<'_>, weight: u32) -> Result<HeaderPort, ParseError>
     requires { weight < 2 ^ 30 }
     ensures machine { Reads (N grammar.NextHeaderPort weight ∷ []) p.old result p.new }

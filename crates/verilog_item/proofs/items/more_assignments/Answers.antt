@@ -1,9 +1,9 @@
 use Rattle.std.proofs.Common.{◌≡◌, [], ◌∷◌, ◌++◌, subst, sym, rules, arith}
 use Rattle.verilog_expr.proofs.Lists.{grows_more, grows_end}
 use Rattle.verilog_expr.proofs.Runs.{then, expand_at}
-use Rattle.verilog_parse.specs.Items as spells
-use Rattle.verilog_parse.specs.Items.{Spells, assignments_behind, another_assignment, no_assignment}
-use Rattle.verilog_parse.proofs.plain_item.more_assignments.Goals as goal
+use Rattle.verilog_item.specs.Items as spells
+use Rattle.verilog_item.specs.Items.{Spells, assignments_behind, another_assignment, no_assignment}
+use Rattle.verilog_item.proofs.items.more_assignments.Goals as goal
 
 pub items-init : goal.items-init
 items-init c = let first : c.push.new.self ≡ c.args.first ∷ [] = search rules in record {

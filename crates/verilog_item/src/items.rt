@@ -1,13 +1,13 @@
 // Items without a generate construct.
-#![tactic(auto)]
+#![tactic(auto, using(verilog_expr::proofs::Runs::runs, verilog_expr::proofs::Runs::loops, verilog_expr::proofs::Entries::plain_entries, crate::proofs::ItemTrees::item_trees))]
 
 ghost use Rattle.std.specs.Prelude.{◌≡◌, ◌≤◌, ◌<◌, ◌+◌, ◌^◌, [], ◌∷◌, length, OnOk, IfOk};
 ghost use Rattle.verilog_lex.specs.declared.kind.Kind.TheVariants.{Always, Assign, AtSign, Genvar, LocalParam, Reg, Semicolon, Wire, Word};
 ghost use Rattle.verilog_expr.specs.Grammar as grammar;
 ghost use Rattle.verilog_expr.specs.Grammar.{N, T};
 ghost use Rattle.verilog_expr.specs.Reads.{Reads};
-ghost use Rattle.verilog_parse.specs.Items as spells;
-ghost use Rattle.verilog_parse.specs.Items.{Spells};
+ghost use Rattle.verilog_item.specs.Items as spells;
+ghost use Rattle.verilog_item.specs.Items.{Spells};
 
 use ls_text::Place;
 use verilog_ast::{Child, Children, Continuous, PlainItem, Sign};
@@ -17,7 +17,6 @@ use verilog_lex::Kind;
 use verilog_stmt::{statement, target};
 
 /// An item without a generate construct.
-#[tactic(auto, using(crate::proofs::Steps::steps, verilog_expr::proofs::Runs::refuse_at, verilog_expr::proofs::Entries::plain_item_refuses))]
 pub fn plain_item(p: &mut Parser<'_>, weight: u32) -> Result<PlainItem, ParseError>
     requires { weight < 2 ^ 30 }
     ensures machine { Reads (N grammar.APlainItem weight ∷ []) p.old result p.new }
@@ -58,7 +57,6 @@ pub fn plain_item(p: &mut Parser<'_>, weight: u32) -> Result<PlainItem, ParseErr
 }
 
 // `wire` and what it declares.
-#[tactic(auto, using(crate::proofs::Steps::steps, crate::specs::Items::wire_item))]
 fn wire_item(p: &mut Parser<'_>, weight: u32) -> Result<PlainItem, ParseError>
     requires { weight < 2 ^ 30 }
     ensures machine { Reads (T Wire weight ∷ N grammar.AShape weight ∷ N grammar.Variables weight ∷ T Semicolon weight ∷ []) p.old result p.new }
@@ -73,7 +71,6 @@ fn wire_item(p: &mut Parser<'_>, weight: u32) -> Result<PlainItem, ParseError>
 }
 
 // `reg` and what it declares.
-#[tactic(auto, using(crate::proofs::Steps::steps, crate::specs::Items::reg_item))]
 fn reg_item(p: &mut Parser<'_>, weight: u32) -> Result<PlainItem, ParseError>
     requires { weight < 2 ^ 30 }
     ensures machine { Reads (T Reg weight ∷ N grammar.AShape weight ∷ N grammar.Variables weight ∷ T Semicolon weight ∷ []) p.old result p.new }
@@ -88,7 +85,6 @@ fn reg_item(p: &mut Parser<'_>, weight: u32) -> Result<PlainItem, ParseError>
 }
 
 // `localparam` and what it declares.
-#[tactic(auto, using(crate::proofs::Steps::steps, crate::specs::Items::local_item))]
 fn local_parameter_item(p: &mut Parser<'_>, weight: u32) -> Result<PlainItem, ParseError>
     requires { weight < 2 ^ 30 }
     ensures machine { Reads (T LocalParam weight ∷ N grammar.AShape weight ∷ N grammar.Parameters weight ∷ T Semicolon weight ∷ []) p.old result p.new }
@@ -103,7 +99,6 @@ fn local_parameter_item(p: &mut Parser<'_>, weight: u32) -> Result<PlainItem, Pa
 }
 
 // `genvar` and its names.
-#[tactic(auto, using(crate::proofs::Steps::steps, crate::specs::Items::genvar_item))]
 fn genvar_item(p: &mut Parser<'_>, weight: u32) -> Result<PlainItem, ParseError>
     requires { weight < 2 ^ 30 }
     ensures machine { Reads (T Genvar weight ∷ N grammar.Names weight ∷ T Semicolon weight ∷ []) p.old result p.new }
@@ -117,7 +112,6 @@ fn genvar_item(p: &mut Parser<'_>, weight: u32) -> Result<PlainItem, ParseError>
 }
 
 // `assign` and its assignments.
-#[tactic(auto, using(crate::proofs::Steps::steps, crate::specs::Items::assign_item))]
 fn assign_item(p: &mut Parser<'_>, weight: u32) -> Result<PlainItem, ParseError>
     requires { weight < 2 ^ 30 }
     ensures machine { Reads (T Assign weight ∷ N grammar.Assignments weight ∷ T Semicolon weight ∷ []) p.old result p.new }
@@ -131,7 +125,6 @@ fn assign_item(p: &mut Parser<'_>, weight: u32) -> Result<PlainItem, ParseError>
 }
 
 // `always` and its event.
-#[tactic(auto, using(crate::proofs::Steps::steps, crate::specs::Items::always_item))]
 fn always_item(p: &mut Parser<'_>, weight: u32) -> Result<PlainItem, ParseError>
     requires { weight < 2 ^ 30 }
     ensures machine { Reads (T Always weight ∷ T AtSign weight ∷ N grammar.AnEvent weight ∷ []) p.old result p.new }
@@ -144,7 +137,6 @@ fn always_item(p: &mut Parser<'_>, weight: u32) -> Result<PlainItem, ParseError>
 }
 
 // The name of a module and its instances.
-#[tactic(auto, using(crate::proofs::Steps::steps, crate::specs::Items::instances_item))]
 fn instances_item(p: &mut Parser<'_>, weight: u32) -> Result<PlainItem, ParseError>
     requires { weight < 2 ^ 30 }
     ensures machine { Reads (T Word weight ∷ N grammar.Overrides weight ∷ N grammar.Instances weight ∷ T Semicolon weight ∷ []) p.old result p.new }
@@ -159,7 +151,6 @@ fn instances_item(p: &mut Parser<'_>, weight: u32) -> Result<PlainItem, ParseErr
 }
 
 // What follows `always @`.
-#[tactic(auto, using(crate::proofs::Steps::steps, verilog_expr::proofs::Runs::reads_memory, verilog_expr::proofs::Runs::refuse_at, verilog_expr::proofs::Entries::event_refuses, crate::specs::Items::at_all, crate::specs::Items::at_bracket))]
 fn event(p: &mut Parser<'_>, at: Place, weight: u32) -> Result<PlainItem, ParseError>
     requires { weight < 2 ^ 30 }
     ensures machine { Reads (N grammar.AnEvent weight ∷ []) p.old result p.new }
@@ -182,7 +173,6 @@ fn event(p: &mut Parser<'_>, at: Place, weight: u32) -> Result<PlainItem, ParseE
 }
 
 // What follows `always @ (`: all inputs, or the edge of one name.
-#[tactic(auto, using(crate::proofs::Steps::steps, verilog_expr::proofs::Runs::reads_memory, verilog_expr::proofs::Runs::refuse_at, verilog_expr::proofs::Runs::outside_at, verilog_expr::proofs::Entries::trigger_refuses, verilog_expr::proofs::Entries::trigger_word, crate::specs::Items::at_inputs, crate::specs::Items::at_edge))]
 fn trigger(p: &mut Parser<'_>, at: Place, weight: u32) -> Result<PlainItem, ParseError>
     requires { weight < 2 ^ 30 }
     ensures machine { Reads (N grammar.Trigger weight ∷ []) p.old result p.new }
@@ -209,7 +199,6 @@ fn trigger(p: &mut Parser<'_>, at: Place, weight: u32) -> Result<PlainItem, Pars
 }
 
 // The bracket after the name of an edge: a further event is outside of this language.
-#[tactic(auto, using(crate::proofs::Steps::steps, verilog_expr::proofs::Runs::refuse_at, verilog_expr::proofs::Runs::outside_at, verilog_expr::proofs::Entries::edge_end_refuses, verilog_expr::proofs::Entries::edge_end_comma, crate::specs::Items::edge_end))]
 fn edge_end(p: &mut Parser<'_>, weight: u32) -> Result<(), ParseError>
     requires { weight < 2 ^ 30 }
     ensures machine { Reads (N grammar.EdgeEnd weight ∷ []) p.old result p.new }
@@ -227,7 +216,6 @@ fn edge_end(p: &mut Parser<'_>, weight: u32) -> Result<(), ParseError>
 }
 
 // Continuous assignments with commas between.
-#[tactic(auto, using(crate::proofs::Steps::steps, crate::specs::Items::assignments))]
 fn assignments(p: &mut Parser<'_>, weight: u32) -> Result<Children<Continuous>, ParseError>
     requires { weight < 2 ^ 30 }
     ensures machine { Reads (N grammar.Assignments weight ∷ []) p.old result p.new }
@@ -240,7 +228,6 @@ fn assignments(p: &mut Parser<'_>, weight: u32) -> Result<Children<Continuous>, 
 }
 
 // Further continuous assignments, behind the first.
-#[tactic(auto, using(crate::proofs::Steps::steps, verilog_expr::proofs::Runs::reads_memory, verilog_expr::proofs::Runs::loops, verilog_expr::proofs::Runs::skip_at, verilog_expr::proofs::Entries::more_assignments_skips))]
 fn more_assignments(
     p: &mut Parser<'_>,
     first: Continuous,
@@ -260,7 +247,6 @@ fn more_assignments(
     Ok(all)
 }
 
-#[tactic(auto, using(crate::proofs::Steps::steps, verilog_expr::proofs::Runs::reads_memory, crate::specs::Items::continuous))]
 fn continuous(p: &mut Parser<'_>, weight: u32) -> Result<Continuous, ParseError>
     requires { weight < 2 ^ 30 }
     ensures machine { Reads (N grammar.AContinuous weight ∷ []) p.old result p.new }

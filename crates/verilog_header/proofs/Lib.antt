@@ -1,0 +1,3 @@
+pub mod HeaderTrees
+pub mod Complete
+pub mod NamedHeaders

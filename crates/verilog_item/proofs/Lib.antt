@@ -1,0 +1,3 @@
+pub mod ItemTrees
+pub mod Complete
+pub mod NamedItems
