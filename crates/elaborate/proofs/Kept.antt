@@ -16,7 +16,8 @@ use Rattle.elaborate.specs.declared.visit_key.VisitKey.{VisitKey}
 use Rattle.elaborate.specs.declared.visited.Visited.{Visited as Found}
 use Rattle.elaborate.specs.Jobs.{IsOf, IsJob, AreJobs, kept_job}
 use Rattle.module_names.specs.Modules.{module_named}
-use Rattle.elaborate.specs.Views.{clock_view, visited_of}
+use Rattle.clock_rules.specs.Views.{clock_view}
+use Rattle.elaborate.specs.Views.{visited_of}
 use Rattle.elaborate.specs.Visits.{visited}
 
 abbrev pub Entries : Type 0

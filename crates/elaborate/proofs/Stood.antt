@@ -19,7 +19,9 @@ use Rattle.elaborate.specs.declared.standing.StandingInstance.{StandingInstance}
 use Rattle.elaborate.specs.declared.visited.Visited.{Visited as Found}
 use Rattle.elaborate.specs.Elaborated.{Standing, standing, top_standing, within, of_module, child_at, from_top}
 use Rattle.elaborate.specs.Jobs.{IsOf, job_view, standing_of}
-use Rattle.elaborate.specs.Views.{child_of, clock_view, id_of, visited_of, Leads}
+use Rattle.clock_rules.specs.Answers.{Leads}
+use Rattle.clock_rules.specs.Views.{clock_view, id_of}
+use Rattle.elaborate.specs.Views.{child_of, visited_of}
 use Rattle.elaborate.specs.Visits.{Visited, visited}
 
 -- ---- a refusal is handed on

@@ -9,7 +9,8 @@ ghost use Rattle.gen_unroll.specs.Values.{Answers};
 ghost use Rattle.gen_unroll.specs.ReachViews.{reach_of};
 ghost use Rattle.gen_unroll.specs.Views.{override_view, step_of};
 ghost use Rattle.elaborate.specs.Checks as c;
-ghost use Rattle.elaborate.specs.Views.{checked_of, declaration_of, table_of, Leads};
+ghost use Rattle.clock_rules.specs.Answers.{Leads};
+ghost use Rattle.elaborate.specs.Views.{checked_of, declaration_of, table_of};
 ghost use Rattle.module_names.specs.Views.{modules_of};
 
 use crate::body::check_step;

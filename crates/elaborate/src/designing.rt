@@ -8,7 +8,7 @@ ghost use Rattle.module_names.specs.Views.{modules_of};
 ghost use Rattle.elaborate.specs.Clocks.{top_clock};
 ghost use Rattle.elaborate.specs.Elaborated as e;
 ghost use Rattle.elaborate.specs.Jobs.{all_view};
-ghost use Rattle.elaborate.specs.Views.{clock_view};
+ghost use Rattle.clock_rules.specs.Views.{clock_view};
 
 use crate::elaborating::from_top;
 use crate::limits::Limits;

@@ -6,7 +6,9 @@ ghost use Rattle.module_names.specs.Modules as m;
 ghost use Rattle.module_names.specs.Views.{modules_of};
 ghost use Rattle.elaborate.specs.Elaborated as e;
 ghost use Rattle.elaborate.specs.Jobs.{AreJobs, Keeps, standing_of, all_view};
-ghost use Rattle.elaborate.specs.Views.{clock_view, clocks_view, child_of, id_of, visited_of, Leads};
+ghost use Rattle.clock_rules.specs.Answers.{Leads};
+ghost use Rattle.clock_rules.specs.Views.{clock_view, clocks_view, id_of};
+ghost use Rattle.elaborate.specs.Views.{child_of, visited_of};
 
 use crate::child_instance::ChildInstance;
 use crate::growing::Growing;

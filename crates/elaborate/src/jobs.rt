@@ -7,7 +7,7 @@ ghost use Rattle.verilog_ast.specs.Views.{declaration_of as plain_module};
 ghost use Rattle.module_names.specs.Modules as m;
 ghost use Rattle.module_names.specs.Views.{modules_of};
 ghost use Rattle.elaborate.specs.Jobs.{IsOf, AreJobs, job_view};
-ghost use Rattle.elaborate.specs.Views.{clock_view};
+ghost use Rattle.clock_rules.specs.Views.{clock_view};
 ghost use Rattle.elaborate.specs.Visits.{visited};
 
 use crate::job::Job;

@@ -7,7 +7,8 @@ ghost use Rattle.gen_unroll.specs.Views.{bit_range_of, override_view, step_of};
 ghost use Rattle.elaborate.specs.Clocks as k;
 ghost use Rattle.elaborate.specs.Visits as v;
 ghost use Rattle.elaborate.specs.Ports as p;
-ghost use Rattle.elaborate.specs.Views.{declaration_of, table_of, clock_view, clocks_view, port_of, visited_of};
+ghost use Rattle.clock_rules.specs.Views.{clock_view, clocks_view};
+ghost use Rattle.elaborate.specs.Views.{declaration_of, table_of, port_of, visited_of};
 ghost use Rattle.module_names.specs.Views.{modules_of};
 
 use crate::checks::check;

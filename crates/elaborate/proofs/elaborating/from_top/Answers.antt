@@ -3,7 +3,8 @@ use Rattle.verilog_ast.specs.Views.{declaration_of as plain_module}
 use Rattle.module_names.specs.Views.{modules_of}
 use Rattle.gen_unroll.specs.Views.{override_view}
 use Rattle.elaborate.specs.Jobs.{standing_of, all_view}
-use Rattle.elaborate.specs.Views.{clock_view, visited_of}
+use Rattle.clock_rules.specs.Views.{clock_view}
+use Rattle.elaborate.specs.Views.{visited_of}
 use Rattle.elaborate.specs.Visits.{visited}
 use Rattle.elaborate.proofs.Stood.{top_into, answers_on}
 use Rattle.elaborate.proofs.elaborating.from_top.Goals as goal
