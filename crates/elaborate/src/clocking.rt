@@ -175,6 +175,25 @@ fn mark_clock(here: &mut Reach, clock: Option<NameId>) -> Result<(), NoMemory>
     }
 }
 
+// The clock ports of the instances, with the names in reach before the first step.
+fn clocks_along(
+    alloc: Global,
+    modules: &Modules<'_>,
+    clock: Option<NameId>,
+    table: &Declarations,
+    here: &mut Reach,
+    steps: &[Step<'_>],
+) -> Result<Vec<Option<NameId>>, Refusal>
+    requires { IsEven (reach_of here.old) }
+    ensures { Answers result (λ ks. clocks_view ks.items)
+        (k.clock_steps (modules_of modules.now) (clock_view clock) (table_of table.now) (k.with_clock (clock_view clock) (reach_of here.old)) (map step_of steps.now) []) }
+{
+    mark_clock(here, clock)?;
+    let mut clocks = Vec::new(alloc);
+    clock_steps(alloc, modules, clock, table, here, steps, &mut clocks)?;
+    Ok(clocks)
+}
+
 /// The clock ports of the instances of a module, whose clock port this is; 37 ClockMisuse where the clock, or an event of a block, stands
 /// where it may not.
 pub fn clocks(
@@ -189,8 +208,5 @@ pub fn clocks(
         (k.clock_steps (modules_of modules.now) (clock_view clock) (table_of table.now) (k.with_clock (clock_view clock) (reach_in (declaration_of of.now.body.now))) (map step_of steps.now) []) }
 {
     let mut here = Reach::new(alloc, of.body)?;
-    mark_clock(&mut here, clock)?;
-    let mut clocks = Vec::new(alloc);
-    clock_steps(alloc, modules, clock, table, &mut here, steps, &mut clocks)?;
-    Ok(clocks)
+    clocks_along(alloc, modules, clock, table, &mut here, steps)
 }

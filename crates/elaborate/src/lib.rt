@@ -12,6 +12,7 @@ mod checking;
 mod checks;
 mod child_instance;
 mod clocking;
+mod clocks_and_ports;
 mod declaration;
 mod declaration_kind;
 mod declarations;
