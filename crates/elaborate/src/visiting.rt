@@ -16,8 +16,8 @@ ghost use Rattle.module_names.specs.Modules.{header_ports};
 ghost use Rattle.module_names.specs.Views.{modules_of};
 
 use crate::checks::check;
-use crate::clocks_and_ports::ClocksAndPorts;
 use crate::clocking::{clocks, own_clock, width_of};
+use crate::clocks_and_ports::ClocksAndPorts;
 use crate::declaration::Declaration;
 use crate::declarations::Declarations;
 use crate::declaring::is_input;
@@ -154,8 +154,15 @@ fn visit_unrolled(
         (v.visited turns (modules_of modules.now) most (plain_module of.now.body.now) (map override_view overrides.now) (clock_view clock)) }
 {
     let checks = check(alloc, turns, modules, of, overrides, steps, fault)?;
-    let ClocksAndPorts { clocks, ports } =
-        clocks_and_ports(alloc, modules, of, steps, most, clock, &checks.declared)?;
+    let ClocksAndPorts { clocks, ports } = clocks_and_ports(
+        alloc,
+        modules,
+        of,
+        steps,
+        most,
+        clock,
+        &checks.declared,
+    )?;
     Ok(Visited {
         checks,
         clocks,
