@@ -17,7 +17,7 @@ use Rattle.gen_unroll.specs.Values.{ConstantValue, ◌>>=◌}
 use Rattle.module_names.specs.Modules.{module_named, parameters_of, header_ports}
 use Rattle.elaborate.specs.declared.declaration_kind.DeclarationKind.TheVariants as kind
 use Rattle.elaborate.specs.Checks.{Checked, ModuleChild, nothing_checked, declaration, or_no_module, one_instance, instances, check_item, check_step, check_steps, is_declared_port, ports_declared, ended, check_told, checked}
-use Rattle.elaborate.specs.Connections.{connected}
+use Rattle.clock_rules.specs.Connections.{connected}
 use Rattle.elaborate.specs.Overrides.{overridden}
 use Rattle.elaborate.specs.Tables.{Table}
 use Rattle.design_laws.specs.Findings.{table_as, child_as, checked_as}

@@ -18,7 +18,8 @@ use Rattle.gen_unroll.specs.Steps.{ModuleStep, Listed, Port, Parameter, Item, La
 use Rattle.gen_unroll.specs.Values.{◌>>=◌}
 use Rattle.module_names.specs.Listings.{is_listed}
 use Rattle.module_names.specs.Modules.{module_named, port_name, header_ports}
-use Rattle.elaborate.specs.Clocks.{clock_free, declared_free, reg_free, assignment_free, take_clock, connect, connection, clock_by_name, next_port, ports_behind, clock_by_order, clock_of, clocks_of, clocks_in, unless_misused, clock_item, clock_step, clock_steps, is_one_bit_input, own_port, own_clock, declared_port, top_clock}
+use Rattle.clock_rules.specs.Clocks.{clock_free, declared_free, reg_free, assignment_free, take_clock, connect, connection, clock_by_name, next_port, ports_behind, clock_by_order, clock_of, clocks_of, clocks_in, unless_misused, clock_item}
+use Rattle.elaborate.specs.Clocks.{clock_step, clock_steps, is_one_bit_input, own_port, own_clock, declared_port, top_clock}
 use Rattle.elaborate.specs.Tables.{Table}
 use Rattle.design_laws.specs.Findings.{clock_as, table_as}
 use Rattle.design_laws.specs.Renaming.{KeepsApart, SameReach, number_as, found_as, answer_as, step_as}

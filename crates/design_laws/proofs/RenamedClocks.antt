@@ -13,7 +13,8 @@ use Rattle.verilog_ast.specs.Renaming.{expression_as, target_as, label_as, state
 use Rattle.width_rules.specs.Renaming.{MeansSame}
 use Rattle.width_rules.specs.Scopes.{Meaning, Scope}
 use Rattle.gen_unroll.specs.Reaches.{Reach}
-use Rattle.elaborate.specs.Clocks.{clock_net, is_clock, with_clock, name_free, clock_free, target_free, label_free, all_free, statement_free, value_free, assignment_free, port_free, posedge}
+use Rattle.clock_rules.specs.Clocks.{clock_net, is_clock, name_free, clock_free, target_free, label_free, all_free, statement_free, value_free, assignment_free, port_free, posedge}
+use Rattle.elaborate.specs.Clocks.{with_clock}
 use Rattle.design_laws.specs.Findings.{clock_as}
 use Rattle.design_laws.specs.Renaming.{KeepsApart, SameReach, answer_as}
 use Rattle.design_laws.proofs.RenamedAnswers.{bind_so, if_answer}

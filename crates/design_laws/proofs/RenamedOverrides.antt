@@ -13,7 +13,7 @@ use Rattle.width_rules.specs.Renaming.{MeansSame, fault_as}
 use Rattle.width_rules.specs.Scopes.{Scope}
 use Rattle.width_rules.proofs.RenamedFaults.{fault_of_so}
 use Rattle.gen_unroll.specs.Values.{ConstantValue}
-use Rattle.elaborate.specs.Connections.{named, name_more, all_named, too_many, all_ordered, is_missing, is_empty_place, connected}
+use Rattle.clock_rules.specs.Connections.{named, name_more, all_named, too_many, all_ordered, is_missing, is_empty_place, connected}
 use Rattle.elaborate.specs.Overrides.{if_left, one_by_order, names_behind, by_order, Given, given_to, if_none, if_free, one_by_name, by_name, value_given, overridden}
 use Rattle.design_laws.specs.Findings.{given_as}
 use Rattle.design_laws.specs.Renaming.{KeepsApart, number_as, found_as, answer_as}

@@ -20,7 +20,7 @@ ghost use Rattle.gen_unroll.specs.Values.{ConstantValue, evaluated};
 ghost use Rattle.module_names.specs.Modules.{module_named, parameters_of, header_ports, is_input_of};
 ghost use Rattle.elaborate.specs.declared.limits.Limits.{Limits};
 ghost use Rattle.elaborate.specs.Checks.{checked};
-ghost use Rattle.elaborate.specs.Connections.{connected};
+ghost use Rattle.clock_rules.specs.Connections.{connected};
 ghost use Rattle.elaborate.specs.Elaborated.{top_of, elaborated};
 ghost use Rattle.elaborate.specs.Overrides.{overridden};
 ghost use Rattle.elaborate.specs.Trees.{tree};

@@ -1,5 +1,5 @@
 -- What a list has from a place on.
-use Rattle.std.proofs.Common.{◌≡◌, ℕ, ◌+◌, ◌<◌, ◌≤◌, List, [], ◌∷◌, map, length, get_or, drop, sym, ◌∙◌, ap, subst}
+use Rattle.std.proofs.Common.{◌≡◌, ℕ, ◌+◌, ◌<◌, ◌≤◌, List, [], ◌∷◌, map, length, get_or, drop, ◌∙◌, ap}
 use Rattle.std.proofs.lemmas.List.{drop-map, drop_all}
 use Rattle.typed_ir.proofs.Lists.{drop_read}
 

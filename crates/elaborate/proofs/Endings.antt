@@ -10,16 +10,17 @@ use Rattle.gen_unroll.specs.Steps.{ModuleStep}
 use Rattle.gen_unroll.specs.Told.{Told, fault_in}
 use Rattle.gen_unroll.specs.Unrolled.{State}
 use Rattle.gen_unroll.specs.Values.{◌>>=◌, Answers}
-use Rattle.elaborate.specs.declared.checking.Checking.{Checking}
+use Rattle.clock_rules.specs.Answers.{Leads}
 use Rattle.elaborate.specs.Checks.{Checked, check_steps, check_told, ended, nothing_checked, ports_declared}
 use Rattle.module_names.specs.Modules.{header_ports}
-use Rattle.elaborate.specs.Views.{checked_of}
 
 -- with what the steps give
-told : (ms : List ModuleDeclaration) (m : ModuleDeclaration) (t : Told State) (said : List ModuleStep) (r : Result Checked Fault)
-    → said ≡ t.said → check_steps ms (reach_in m) said nothing_checked ≡ r → check_told ms m t ≡ ended m r t.ending
-told ms m t said r same is =
-    ap (λ zs. ended m (check_steps ms (reach_in m) zs nothing_checked) t.ending) (sym same) ∙ ap (λ x. ended m x t.ending) is
+told : (ms : List ModuleDeclaration) (m : ModuleDeclaration) (t : Told State) (said : List ModuleStep) (start : Checked) (r : Result Checked Fault)
+    → start ≡ nothing_checked → said ≡ t.said → check_steps ms (reach_in m) said start ≡ r → check_told ms m t ≡ ended m r t.ending
+told ms m t said start r begun same is =
+    ap (λ zs. ended m (check_steps ms (reach_in m) zs nothing_checked) t.ending) (sym same)
+    ∙ ap (λ (s : Checked). ended m (check_steps ms (reach_in m) said s) t.ending) (sym begun)
+    ∙ ap (λ x. ended m x t.ending) is
 
 abbrev is_some : Option Fault → Bool
 is_some None = false
@@ -38,34 +39,34 @@ passed (Ok s) x h = refl
 passed (Err g) x h = absurd (true≢false (sym (ap is_some h)))
 
 -- a step is refused
-pub step_refused : (ms : List ModuleDeclaration) (m : ModuleDeclaration) (t : Told State) (said : List ModuleStep) (r : Refusal)
-    → said ≡ t.said → Answers {A = Checking} (Err r) checked_of (check_steps ms (reach_in m) said nothing_checked)
-    → Answers {A = Checking} (Err r) checked_of (check_told ms m t)
-step_refused ms m t said (refusal.Fault f) same bad = told ms m t said (Err f) same bad
-step_refused ms m t said refusal.NoMemory same bad = tt
+pub step_refused : (ms : List ModuleDeclaration) (m : ModuleDeclaration) (t : Told State) (said : List ModuleStep) (start before now : Checked) (r : Refusal)
+    → start ≡ nothing_checked → said ≡ t.said → Leads {A = Unit {0}} (Err r) before (check_steps ms (reach_in m) said start)
+    → Leads {A = Unit {0}} (Err r) now (check_told ms m t)
+step_refused ms m t said start before now (refusal.Fault f) begun same bad = told ms m t said start (Err f) begun same bad
+step_refused ms m t said start before now refusal.NoMemory begun same bad = tt
 
 -- unrolling was refused behind them
-pub unrolling_refused : (ms : List ModuleDeclaration) (m : ModuleDeclaration) (t : Told State) (said : List ModuleStep) (c : Checked) (f : Fault)
-    → said ≡ t.said → check_steps ms (reach_in m) said nothing_checked ≡ Ok c → Some f ≡ fault_in t.ending → check_told ms m t ≡ Err f
-unrolling_refused ms m t said c f same good ends =
-    told ms m t said (Ok c) same good ∙ stopped t.ending f (ports_declared (header_ports m.ports) c.declared >>= λ _. Ok c) ends
+pub unrolling_refused : (ms : List ModuleDeclaration) (m : ModuleDeclaration) (t : Told State) (said : List ModuleStep) (start c : Checked) (f : Fault)
+    → start ≡ nothing_checked → said ≡ t.said → check_steps ms (reach_in m) said start ≡ Ok c → Some f ≡ fault_in t.ending → check_told ms m t ≡ Err f
+unrolling_refused ms m t said start c f begun same good ends =
+    told ms m t said start (Ok c) begun same good ∙ stopped t.ending f (ports_declared (header_ports m.ports) c.declared >>= λ _. Ok c) ends
 
 -- a name of the header is refused
-pub header_refused : (ms : List ModuleDeclaration) (m : ModuleDeclaration) (t : Told State) (said : List ModuleStep) (c : Checked) (r : Refusal)
-    → said ≡ t.said → check_steps ms (reach_in m) said nothing_checked ≡ Ok c → None ≡ fault_in t.ending
+pub header_refused : (ms : List ModuleDeclaration) (m : ModuleDeclaration) (t : Told State) (said : List ModuleStep) (start c now : Checked) (r : Refusal)
+    → start ≡ nothing_checked → said ≡ t.said → check_steps ms (reach_in m) said start ≡ Ok c → None ≡ fault_in t.ending
     → Answers {A = Unit {0}} (Err r) (λ x. x) (ports_declared (header_ports m.ports) c.declared)
-    → Answers {A = Checking} (Err r) checked_of (check_told ms m t)
-header_refused ms m t said c (refusal.Fault f) same good ends bad =
-    told ms m t said (Ok c) same good ∙ passed t.ending (ports_declared (header_ports m.ports) c.declared >>= λ _. Ok c) ends
+    → Leads {A = Unit {0}} (Err r) now (check_told ms m t)
+header_refused ms m t said start c now (refusal.Fault f) begun same good ends bad =
+    told ms m t said start (Ok c) begun same good ∙ passed t.ending (ports_declared (header_ports m.ports) c.declared >>= λ _. Ok c) ends
     ∙ ap (λ (z : Result (Unit {0}) Fault). z >>= λ _. Ok c) bad
-header_refused ms m t said c refusal.NoMemory same good ends bad = tt
+header_refused ms m t said start c now refusal.NoMemory begun same good ends bad = tt
 
 -- nothing is
-pub all_passed : (ms : List ModuleDeclaration) (m : ModuleDeclaration) (t : Told State) (said : List ModuleStep) (c : Checked)
-    → said ≡ t.said → check_steps ms (reach_in m) said nothing_checked ≡ Ok c → None ≡ fault_in t.ending
+pub all_passed : (ms : List ModuleDeclaration) (m : ModuleDeclaration) (t : Told State) (said : List ModuleStep) (start c : Checked)
+    → start ≡ nothing_checked → said ≡ t.said → check_steps ms (reach_in m) said start ≡ Ok c → None ≡ fault_in t.ending
     → ports_declared (header_ports m.ports) c.declared ≡ Ok tt → check_told ms m t ≡ Ok c
-all_passed ms m t said c same good ends fine =
-    told ms m t said (Ok c) same good ∙ passed t.ending (ports_declared (header_ports m.ports) c.declared >>= λ _. Ok c) ends
+all_passed ms m t said start c begun same good ends fine =
+    told ms m t said start (Ok c) begun same good ∙ passed t.ending (ports_declared (header_ports m.ports) c.declared >>= λ _. Ok c) ends
     ∙ ap (λ (z : Result (Unit {0}) Fault). z >>= λ _. Ok c) fine
 
 pub ruleset endings = (step_refused, unrolling_refused, header_refused, all_passed)

@@ -20,7 +20,8 @@ use Rattle.elaborate.specs.Elaborated.{Standing, elaborated}
 use Rattle.elaborate.specs.Jobs.{standing_of}
 use Rattle.elaborate.specs.Trees.{TreeInstance, blocks_of, seen_as, seen_under, called, all_seen}
 use Rattle.elaborate.specs.TreeViews.{instance_view, IsSeen}
-use Rattle.elaborate.specs.Views.{clock_view, port_of}
+use Rattle.clock_rules.specs.Views.{clock_view}
+use Rattle.elaborate.specs.Views.{port_of}
 
 -- the name of an instance is one of so many
 abbrev pub IsNamed : ℕ → Instance → Type 0

@@ -12,7 +12,7 @@ use Rattle.gen_unroll.specs.Values.{ConstantValue, ◌>>=◌, Answers}
 use Rattle.gen_unroll.specs.Views.{override_view}
 use Rattle.elaborate.specs.Checks.{Checked, each, one_instance, instances, or_no_module}
 use Rattle.elaborate.specs.Overrides.{overridden}
-use Rattle.elaborate.specs.Views.{Leads}
+use Rattle.clock_rules.specs.Answers.{Leads}
 use Rattle.module_names.specs.Modules.{module_named, parameters_of}
 
 abbrev pub overrides_view : Vec (Option Const) Global → List (Option ConstantValue)

@@ -1,5 +1,5 @@
 -- Modules that were visited.
-use Rattle.std.proofs.Common.{Bor, ◌≡◌, ℕ, Bool, true, false, cond, List, [], ◌∷◌, map, All, Ok, Global, Vec, sym, ◌∙◌, ap, subst}
+use Rattle.std.proofs.Common.{Bor, ◌≡◌, ℕ, Bool, true, false, cond, List, [], ◌∷◌, map, All, Ok, Global, sym, ◌∙◌, ap, subst}
 use Rattle.std.specs.Prelude.{Option, Some, None}
 use Rattle.std.specs.Option.{option_copied}
 use Rattle.std.specs.Map.{lookup}
@@ -13,10 +13,10 @@ use Rattle.verilog_ast.specs.Items.{ModuleDeclaration}
 use Rattle.gen_unroll.specs.Views.{override_view}
 use Rattle.elaborate.specs.declared.job.Job.{Job}
 use Rattle.elaborate.specs.declared.visit_key.VisitKey.{VisitKey}
-use Rattle.elaborate.specs.declared.visited.Visited.{Visited as Found}
-use Rattle.elaborate.specs.Jobs.{IsOf, IsJob, AreJobs, kept_job}
+use Rattle.elaborate.specs.Jobs.{IsOf, IsJob, AreJobs, kept_job, job_view}
 use Rattle.module_names.specs.Modules.{module_named}
-use Rattle.elaborate.specs.Views.{clock_view, visited_of}
+use Rattle.clock_rules.specs.Views.{clock_view}
+use Rattle.elaborate.specs.Views.{visited_of}
 use Rattle.elaborate.specs.Visits.{visited}
 
 abbrev pub Entries : Type 0
@@ -76,9 +76,6 @@ pub job_more : (turns : ℕ) (ms : List ModuleDeclaration) (E : VisitKey → Vis
     → AreJobs turns ms es → IsJob turns ms job.value → new ≡ insert_entry E es k job → AreJobs turns ms new
 job_more turns ms E es new k job are one is = subst (AreJobs turns ms) (sym is) (record { all = inserted (IsJob turns ms) E es k job are.all one })
 
-pub no_jobs : (turns : ℕ) (ms : List ModuleDeclaration) (es : Entries) → es ≡ [] → AreJobs turns ms es
-no_jobs turns ms es is = subst (AreJobs turns ms) (sym is) (record { all = All-nil (λ (e : VisitKey × Arc Job Global). IsJob turns ms (kept_job e)) })
-
 -- what a visit finds is what is kept of it
 pub new_job : (turns : ℕ) (ms : List ModuleDeclaration) (job : Job) (m : ModuleDeclaration) → module_named job.instantiated.0 ms ≡ Some m
     → visited turns ms None m (map override_view job.overrides.items) (clock_view job.clock) ≡ Ok (visited_of job.visited) → IsJob turns ms job
@@ -87,12 +84,14 @@ new_job turns ms job m there is = record {
 }
 
 -- the one that is kept behind its visit
-pub new_kept : (turns : ℕ) (ms : List ModuleDeclaration) (m : ModuleDeclaration) (name : NameId) (o : Vec (Option Const) Global) (clock : Option NameId) (v : Found) (given : List (Option Const))
-    (job : Job) (copy : Arc Job Global) → copy.value ≡ job → job ≡ record { instantiated = name; overrides = o; clock = clock; visited = v } → o.items ≡ given → module_named name.0 ms ≡ Some m
-    → visited turns ms None m (map override_view given) (clock_view clock) ≡ Ok (visited_of v) → IsJob turns ms copy.value
-new_kept turns ms m name o clock v given job copy copy_is job_is o_is there found =
-    subst (IsJob turns ms) (sym (copy_is ∙ job_is))
-    (new_job turns ms (record { instantiated = name; overrides = o; clock = clock; visited = v }) m there
-    (ap (λ (zs : List (Option Const)). visited turns ms None m (map override_view zs) (clock_view clock)) o_is ∙ found))
+pub new_kept : (turns : ℕ) (ms : List ModuleDeclaration) (m : ModuleDeclaration) (name : NameId) (given : List (Option Const)) (clock : Option NameId) (job copy : Arc Job Global)
+    → copy.value ≡ job.value → IsOf job.value name given clock → module_named name.0 ms ≡ Some m
+    → visited turns ms None m (map override_view given) (clock_view clock) ≡ Ok (job_view job) → IsJob turns ms copy.value
+new_kept turns ms m name given clock job copy copy_is of there found =
+    subst (IsJob turns ms) (sym copy_is)
+    (new_job turns ms job.value m (ap (λ (n : ℕ). module_named n ms) of.named ∙ there)
+    (ap (λ vs. visited turns ms None m vs (clock_view job.value.clock)) of.given
+    ∙ ap (λ k. visited turns ms None m (map override_view given) k) of.clocked
+    ∙ found))
 
 pub ruleset jobs = (job_found, job_more, new_job)

@@ -1,5 +1,5 @@
 -- An instance that was put behind the others, and what is in it.
-use Rattle.std.proofs.Common.{◌≡◌, ℕ, List, [], ◌∷◌, ◌++◌, map, length, Global, Vec, Result, Ok, Err, IsErrAnd, sym, ◌∙◌, ap, subst}
+use Rattle.std.proofs.Common.{◌≡◌, ℕ, List, [], ◌∷◌, ◌++◌, map, length, Global, Result, Ok, Err, IsErrAnd, sym, ◌∙◌, ap, subst}
 use Rattle.std.specs.Prelude.{Option, Some, None}
 use Rattle.std.specs.declared.sync.Arc.{Arc}
 use Rattle.std.proofs.lemmas.List.{map_push, length-map}
@@ -10,16 +10,17 @@ use Rattle.ls_text.specs.declared.refusal.Refusal.TheVariants as refusal
 use Rattle.typed_ir.specs.declared.constant.Const.{Const}
 use Rattle.verilog_ast.specs.declared.identifier.Identifier.{Identifier}
 use Rattle.verilog_ast.specs.Items.{ModuleDeclaration}
-use Rattle.gen_unroll.specs.Values.{◌>>=◌, Answers}
+use Rattle.gen_unroll.specs.Values.{ConstantValue, ◌>>=◌, Answers}
 use Rattle.gen_unroll.specs.Views.{here_of, override_view}
 use Rattle.elaborate.specs.declared.child_instance.ChildInstance.{ChildInstance}
 use Rattle.elaborate.specs.declared.job.Job.{Job}
 use Rattle.elaborate.specs.declared.limits.Limits.{Limits}
 use Rattle.elaborate.specs.declared.standing.StandingInstance.{StandingInstance}
-use Rattle.elaborate.specs.declared.visited.Visited.{Visited as Found}
 use Rattle.elaborate.specs.Elaborated.{Standing, standing, top_standing, within, of_module, child_at, from_top}
 use Rattle.elaborate.specs.Jobs.{IsOf, job_view, standing_of}
-use Rattle.elaborate.specs.Views.{child_of, clock_view, id_of, visited_of, Leads}
+use Rattle.clock_rules.specs.Answers.{Leads}
+use Rattle.clock_rules.specs.Views.{clock_view, id_of}
+use Rattle.elaborate.specs.Views.{child_of, visited_of}
 use Rattle.elaborate.specs.Visits.{Visited, visited}
 
 -- ---- a refusal is handed on
@@ -80,25 +81,29 @@ goes_into l ms m left above here path path2 c k given job copy seen all all2 giv
 abbrev top_as : Identifier → Arc Job Global → StandingInstance
 top_as name copy = record { parent = None; block = None; name = name; job = copy }
 
-abbrev top_job : Identifier → Vec (Option Const) Global → Option NameId → Found → Job
-top_job name o k v = record { instantiated = name.name; overrides = o; clock = k; visited = v }
+-- what it is
+top_stood : (name : Identifier) (k : Option NameId) (job copy : Arc Job Global) → copy.value ≡ job.value → IsOf job.value name.name [] k
+    → standing_of (top_as name copy) ≡ record { parent = None; block = None; name = name; instantiated = name.name.0; overrides = []; clock = clock_view k; visited = job_view job }
+top_stood name k job copy same of =
+    ap (λ (j : Job). record { parent = None; block = None; name = name; instantiated = j.instantiated.0; overrides = map override_view j.overrides.items; clock = clock_view j.clock; visited = visited_of j.visited }) same
+    ∙ ap (λ (n : ℕ). record { parent = None; block = None; name = name; instantiated = n; overrides = map override_view job.value.overrides.items; clock = clock_view job.value.clock; visited = job_view job }) of.named
+    ∙ ap (λ (os : List (Option ConstantValue)). record { parent = None; block = None; name = name; instantiated = name.name.0; overrides = os; clock = clock_view job.value.clock; visited = job_view job }) of.given
+    ∙ ap (λ (q : Option ℕ). record { parent = None; block = None; name = name; instantiated = name.name.0; overrides = []; clock = q; visited = job_view job }) of.clocked
 
 -- the instances in it
-pub top_into : (l : Limits) (ms : List ModuleDeclaration) (m : ModuleDeclaration) (name : Identifier) (k : Option NameId) (given : List (Option Const)) (v : Found) (o : Vec (Option Const) Global)
-    (job seen : Job) (copy : Arc Job Global) (path path2 : List NameId) (all all2 : List StandingInstance)
-    → visited l.turns ms (Some l.top_ports) m (map override_view given) (clock_view k) ≡ Ok (visited_of v) → given ≡ [] → m.name ≡ name
-    → job ≡ top_job name o k v → o.items ≡ [] → copy.value ≡ job → seen ≡ job → path ≡ [] → all ≡ [] → path2 ≡ path ++ name.name ∷ [] → all2 ≡ all ++ top_as name copy ∷ []
+pub top_into : (l : Limits) (ms : List ModuleDeclaration) (m : ModuleDeclaration) (name : Identifier) (k : Option NameId)
+    (job copy : Arc Job Global) (seen : Job) (path path2 : List NameId) (all all2 : List StandingInstance)
+    → visited l.turns ms (Some l.top_ports) m [] (clock_view k) ≡ Ok (job_view job) → IsOf job.value name.name [] k → m.name ≡ name
+    → copy.value ≡ job.value → seen ≡ job.value → path ≡ [] → all ≡ [] → path2 ≡ path ++ name.name ∷ [] → all2 ≡ all ++ top_as name copy ∷ []
     → from_top l ms (clock_view k) m ≡ within (child_at l ms l.levels (map id_of path2) 0) (visited_of seen.visited) (map standing_of all2)
-top_into l ms m name k given v o job seen copy path path2 all all2 found given_is name_is job_is o_is copy_is seen_is path_is all_is path2_is all2_is =
-    let w = visited_of v in
+top_into l ms m name k job copy seen path path2 all all2 found of name_is copy_is seen_is path_is all_is path2_is all2_is =
+    let w = job_view job in
     let alone : List Standing = record { parent = None; block = None; name = name; instantiated = name.name.0; overrides = []; clock = clock_view k; visited = w } ∷ [] in
-    ap (λ (d : Result Visited Fault). d >>= λ x. within (child_at l ms l.levels (m.name.name.0 ∷ []) 0) x (top_standing m (clock_view k) x ∷ []))
-    (ap (λ (zs : List (Option Const)). visited l.turns ms (Some l.top_ports) m (map override_view zs) (clock_view k)) (sym given_is) ∙ found)
+    ap (λ (d : Result Visited Fault). d >>= λ x. within (child_at l ms l.levels (m.name.name.0 ∷ []) 0) x (top_standing m (clock_view k) x ∷ [])) found
     ∙ ap (λ (n : Identifier). within (child_at l ms l.levels (n.name.0 ∷ []) 0) w (record { parent = None; block = None; name = n; instantiated = n.name.0; overrides = []; clock = clock_view k; visited = w } ∷ [])) name_is
     ∙ ap (λ (ps : List ℕ). within (child_at l ms l.levels ps 0) w alone)
     (sym (ap (λ (ns : List NameId). map id_of ns) path2_is ∙ ap (λ (ns : List NameId). map id_of (ns ++ name.name ∷ [])) path_is))
     ∙ ap (λ (xs : List Standing). within (child_at l ms l.levels (map id_of path2) 0) w xs)
     (sym (ap (λ (xs : List StandingInstance). map standing_of xs) all2_is ∙ ap (λ (xs : List StandingInstance). map standing_of (xs ++ top_as name copy ∷ [])) all_is
-    ∙ ap (λ (j : Job). record { parent = None; block = None; name = name; instantiated = j.instantiated.0; overrides = map override_view j.overrides.items; clock = clock_view j.clock; visited = visited_of j.visited } ∷ []) (copy_is ∙ job_is)
-    ∙ ap (λ (os : List (Option Const)). record { parent = None; block = None; name = name; instantiated = name.name.0; overrides = map override_view os; clock = clock_view k; visited = w } ∷ []) o_is))
-    ∙ ap (λ (j : Job). within (child_at l ms l.levels (map id_of path2) 0) (visited_of j.visited) (map standing_of all2)) (sym (seen_is ∙ job_is))
+    ∙ ap (λ (s : Standing). s ∷ []) (top_stood name k job copy copy_is of)))
+    ∙ ap (λ (j : Job). within (child_at l ms l.levels (map id_of path2) 0) (visited_of j.visited) (map standing_of all2)) (sym seen_is)

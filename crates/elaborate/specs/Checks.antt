@@ -20,7 +20,7 @@ use Rattle.gen_unroll.specs.Unrolled.{State, unrolled_module}
 use Rattle.gen_unroll.specs.Values.{ConstantValue, ◌>>=◌}
 use Rattle.elaborate.specs.declared.declaration_kind.DeclarationKind.{DeclarationKind}
 use Rattle.elaborate.specs.declared.declaration_kind.DeclarationKind.TheVariants as kind
-use Rattle.elaborate.specs.Connections.{connected}
+use Rattle.clock_rules.specs.Connections.{connected}
 use Rattle.module_names.specs.Listings.{is_listed}
 use Rattle.module_names.specs.Modules.{module_named, parameters_of, header_ports}
 use Rattle.elaborate.specs.Overrides.{overridden}

@@ -1,5 +1,5 @@
 -- The instances of a design: which module is the top, and from the top down each instance with those within it (IEEE Std 1364-2005, 12.1).
-use Rattle.std.specs.Prelude.{ℕ, zero, suc, Bool, true, false, ◌==◌, ◌||◌, nat_le, if◌then◌else◌, List, [], ◌∷◌, ◌++◌, drop, length, Option, Some, None, Result, Ok, Err}
+use Rattle.std.specs.Prelude.{ℕ, zero, suc, Bool, true, false, ◌==◌, nat_le, if◌then◌else◌, List, [], ◌∷◌, ◌++◌, drop, length, Option, Some, None, Result, Ok, Err}
 use Rattle.ls_text.specs.declared.at.At.TheVariants.{Edit}
 use Rattle.ls_text.specs.declared.fault.Fault.{Fault}
 use Rattle.verilog_ast.specs.declared.identifier.Identifier.{Identifier}
@@ -9,7 +9,6 @@ use Rattle.gen_unroll.specs.Values.{ConstantValue, ◌>>=◌}
 use Rattle.elaborate.specs.declared.limits.Limits.{Limits}
 use Rattle.elaborate.specs.Checks.{ModuleChild, or_no_module}
 use Rattle.elaborate.specs.Clocks.{top_clock}
-use Rattle.module_names.specs.Listings.{is_listed}
 use Rattle.module_names.specs.Modules.{module_named}
 use Rattle.elaborate.specs.Visits.{Visited, visited}
 

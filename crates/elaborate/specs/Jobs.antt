@@ -13,7 +13,8 @@ use Rattle.elaborate.specs.declared.visit_key.VisitKey.{VisitKey}
 use Rattle.elaborate.specs.declared.standing.StandingInstance.{StandingInstance}
 use Rattle.elaborate.specs.Elaborated.{Standing}
 use Rattle.module_names.specs.Modules.{module_named}
-use Rattle.elaborate.specs.Views.{clock_view, visited_of}
+use Rattle.clock_rules.specs.Views.{clock_view}
+use Rattle.elaborate.specs.Views.{visited_of}
 use Rattle.elaborate.specs.Visits.{Visited, visited}
 
 abbrev pub job_view : Arc Job Global → Visited

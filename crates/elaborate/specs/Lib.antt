@@ -1,6 +1,5 @@
 pub mod Tables
 pub mod Overrides
-pub mod Connections
 pub mod Checks
 pub mod Clocks
 pub mod Ports

@@ -1,5 +1,5 @@
 -- The ports of a module as its instances see them, in the order of its header (IEEE Std 1364-2005, 12.3).
-use Rattle.std.specs.Prelude.{ℕ, Bool, true, false, List, [], ◌∷◌, map, Option, Some, None}
+use Rattle.std.specs.Prelude.{ℕ, Bool, false, List, map, Option, Some, None}
 use Rattle.verilog_ast.specs.declared.identifier.Identifier.{Identifier}
 use Rattle.elaborate.specs.Clocks.{width_of}
 use Rattle.elaborate.specs.Tables.{Declaration, Table, declared_as, is_input}

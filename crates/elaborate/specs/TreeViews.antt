@@ -9,7 +9,8 @@ use Rattle.gen_unroll.specs.Values.{constant_of}
 use Rattle.elaborate.specs.declared.limits.Limits.{Limits}
 use Rattle.elaborate.specs.Elaborated.{Standing}
 use Rattle.elaborate.specs.Trees.{TreeInstance, seen_as}
-use Rattle.elaborate.specs.Views.{clock_view, port_of}
+use Rattle.clock_rules.specs.Views.{clock_view}
+use Rattle.elaborate.specs.Views.{port_of}
 
 abbrev pub text_items : Vec ℕ Global → List ℕ
 text_items t = t.items

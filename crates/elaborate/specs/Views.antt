@@ -1,16 +1,12 @@
 -- What the types of the code mean.
-use Rattle.std.specs.Prelude.{◌≡◌, ⊤, ℕ, List, map, Option, Result, Ok, Err}
+use Rattle.std.specs.Prelude.{List, map}
 use Rattle.std.specs.Option.{option_map}
-use Rattle.ls_text.specs.declared.fault.Fault.{Fault}
-use Rattle.ls_text.specs.declared.refusal.Refusal.{Refusal}
-use Rattle.ls_text.specs.declared.refusal.Refusal.TheVariants as refusal
 use Rattle.ls_text.specs.declared.name_id.NameId.{NameId}
-use Rattle.ls_text.specs.declared.place.Place.{Place}
-use Rattle.verilog_ast.specs.declared.identifier.Identifier.{Identifier}
 use Rattle.typed_ir.specs.declared.constant.Const.{Const}
 use Rattle.unit_ir.specs.declared.port_shape.PortShape.{PortShape}
 use Rattle.gen_unroll.specs.Values.{constant_of}
 use Rattle.gen_unroll.specs.Views.{bit_range_of, override_view, here_of, block_of}
+use Rattle.clock_rules.specs.Views.{clocks_view}
 use Rattle.elaborate.specs.declared.checking.Checking.{Checking}
 use Rattle.elaborate.specs.declared.child_instance.ChildInstance.{ChildInstance}
 use Rattle.elaborate.specs.declared.given_parameters.GivenParameters.{GivenParameters}
@@ -36,12 +32,6 @@ entry_of e = (key_of e.0, declaration_of e.1)
 abbrev pub table_of : Declarations → Table
 table_of t = map entry_of t.names.entries
 
--- a call leads to what the definition says, or memory ran out
-abbrev pub Leads : {A B : Type 0} → Result A Refusal → B → Result B Fault → Type 0
-Leads (Ok x) new d = d ≡ Ok new
-Leads (Err (refusal.Fault f)) new d = d ≡ Err f
-Leads (Err refusal.NoMemory) new d = ⊤
-
 abbrev pub given_entry : NameId × Const → Given
 given_entry e = record { name = e.0.0; value = constant_of e.1 }
 
@@ -59,16 +49,6 @@ checked_of c = record {
   declared = table_of c.declared;
   children = map child_of c.children.items;
 }
-
--- the name of a clock port, and those of instances
-abbrev pub id_of : NameId → ℕ
-id_of n = n.0
-
-abbrev pub clock_view : Option NameId → Option ℕ
-clock_view = option_map id_of
-
-abbrev pub clocks_view : List (Option NameId) → List (Option ℕ)
-clocks_view = map clock_view
 
 abbrev pub port_of : PortShape → PortOutline
 port_of p = record { name = p.name.0; input = p.input; width = p.width; signed = p.signed }

@@ -9,7 +9,8 @@ ghost use Rattle.gen_unroll.specs.Values.{Answers};
 ghost use Rattle.gen_unroll.specs.ReachViews.{reach_of};
 ghost use Rattle.gen_unroll.specs.Views.{override_view, step_of};
 ghost use Rattle.elaborate.specs.Checks as c;
-ghost use Rattle.elaborate.specs.Views.{checked_of, declaration_of, table_of, Leads};
+ghost use Rattle.clock_rules.specs.Answers.{Leads};
+ghost use Rattle.elaborate.specs.Views.{checked_of, declaration_of, table_of};
 ghost use Rattle.module_names.specs.Views.{modules_of};
 
 use crate::body::check_step;
@@ -91,21 +92,42 @@ fn ports_declared(alloc: Global, ports: &[Identifier], table: &Declarations) -> 
 
 // Steps of a module from its first one on.
 fn all_steps(
-    alloc: Global,
+    check: &mut Checking,
     modules: &Modules<'_>,
     of: &ModuleNames<'_>,
     steps: &[Step<'_>],
-) -> Result<Checking, Refusal>
-    ensures { Answers result checked_of (c.check_steps (modules_of modules.now) (reach_in (plain_module of.now.body.now)) (map step_of steps.now) c.nothing_checked) }
+) -> Result<(), Refusal>
+    ensures { Leads result (checked_of check.new) (c.check_steps (modules_of modules.now) (reach_in (plain_module of.now.body.now)) (map step_of steps.now) (checked_of check.old)) }
 {
-    let mut check = begin(alloc);
-    let mut here = Reach::new(alloc, of.body)?;
-    check_steps(&mut check, modules, &mut here, steps)?;
-    Ok(check)
+    let mut here = Reach::new(check.alloc, of.body)?;
+    check_steps(check, modules, &mut here, steps)
+}
+
+// The checks of a module, from nothing on.
+#[tactic(auto, unfolding(crate::specs::Checks::checked), using(crate::proofs::Endings::endings))]
+fn check_unrolled(
+    check: &mut Checking,
+    turns: u32,
+    modules: &Modules<'_>,
+    of: &ModuleNames<'_>,
+    overrides: &[Option<Const>],
+    steps: &[Step<'_>],
+    fault: Option<Fault>,
+) -> Result<(), Refusal>
+    requires begun { checked_of check.old ≡ c.nothing_checked }
+    requires said { map step_of steps.now ≡ (unrolled_module turns (map override_view overrides.now) (plain_module of.now.body.now)).said }
+    requires ends { fault ≡ fault_in (unrolled_module turns (map override_view overrides.now) (plain_module of.now.body.now)).ending }
+    ensures { Leads result (checked_of check.new) (c.checked turns (modules_of modules.now) (plain_module of.now.body.now) (map override_view overrides.now)) }
+{
+    all_steps(check, modules, of, steps)?;
+    if let Some(fault) = fault {
+        return Err(Refusal::Fault(fault));
+    }
+    ports_declared(check.alloc, of.ports.as_slice(), &check.declared)?;
+    Ok(())
 }
 
 /// What the checks of a module find under these overrides, of which these are the steps and the first fault of its unrolling.
-#[tactic(auto, unfolding(crate::specs::Checks::checked), using(crate::proofs::Endings::endings))]
 pub fn check(
     alloc: Global,
     turns: u32,
@@ -119,10 +141,7 @@ pub fn check(
     requires ends { fault ≡ fault_in (unrolled_module turns (map override_view overrides.now) (plain_module of.now.body.now)).ending }
     ensures { Answers result checked_of (c.checked turns (modules_of modules.now) (plain_module of.now.body.now) (map override_view overrides.now)) }
 {
-    let check = all_steps(alloc, modules, of, steps)?;
-    if let Some(fault) = fault {
-        return Err(Refusal::Fault(fault));
-    }
-    ports_declared(alloc, of.ports.as_slice(), &check.declared)?;
+    let mut check = begin(alloc);
+    check_unrolled(&mut check, turns, modules, of, overrides, steps, fault)?;
     Ok(check)
 }

@@ -5,7 +5,8 @@ ghost use Rattle.verilog_ast.specs.Views.{expression_of};
 ghost use Rattle.gen_unroll.specs.Values.{Answers};
 ghost use Rattle.gen_unroll.specs.Views.{bit_range_of, here_of};
 ghost use Rattle.elaborate.specs.Tables as t;
-ghost use Rattle.elaborate.specs.Views.{declaration_of, table_of, Leads};
+ghost use Rattle.clock_rules.specs.Answers.{Leads};
+ghost use Rattle.elaborate.specs.Views.{declaration_of, table_of};
 
 use crate::declaration::Declaration;
 use crate::declaration_kind::DeclarationKind;

@@ -1,5 +1,5 @@
 // The modules of a design, and its top.
-ghost use Rattle.std.specs.Prelude.{◌≡◌, [], None, Some, IfOk};
+ghost use Rattle.std.specs.Prelude.{◌≡◌, [], ◌++◌, None, Some, Ok, IfOk, OnOk};
 ghost use Rattle.ls_text.specs.declared.at.At.TheVariants.{Edit};
 ghost use Rattle.ls_text.specs.declared.refusal.Refusal.TheVariants as refusal;
 ghost use Rattle.verilog_ast.specs.Views.{declaration_of as plain_module, declarations_of};
@@ -8,7 +8,8 @@ ghost use Rattle.module_names.specs.Views.{modules_of};
 ghost use Rattle.elaborate.specs.Clocks.{top_clock};
 ghost use Rattle.elaborate.specs.Elaborated as e;
 ghost use Rattle.elaborate.specs.Jobs.{all_view};
-ghost use Rattle.elaborate.specs.Views.{clock_view};
+ghost use Rattle.clock_rules.specs.Answers.{Leads};
+ghost use Rattle.clock_rules.specs.Views.{clock_view};
 
 use crate::elaborating::from_top;
 use crate::limits::Limits;
@@ -19,12 +20,11 @@ use std::alloc::Global;
 use verilog_ast::Module;
 use width_rules::refused_at;
 
-// The modules by their names; 21 at a name a second time.
-fn named_once<'a>(alloc: Global, all: &'a [Module]) -> Result<Modules<'a>, Refusal>
-    ensures answer { Answers result modules_of (e.named_once [] (declarations_of all.now)) }
-    ensures all { IfOk result (λ ms. modules_of ms ≡ declarations_of all.now) }
+// Modules behind the others; 21 at a name a second time.
+fn add_all<'a>(alloc: Global, modules: &mut Modules<'a>, all: &'a [Module]) -> Result<(), Refusal>
+    ensures answer { Leads result (modules_of modules.new) (e.named_once (modules_of modules.old) (declarations_of all.now)) }
+    ensures all { OnOk result (modules_of modules.new ≡ modules_of modules.old ++ declarations_of all.now) }
 {
-    let mut modules = Modules::new(alloc);
     for one in all {
         let name = one.body.name;
         if modules.find(name.name).is_some() {
@@ -32,6 +32,16 @@ fn named_once<'a>(alloc: Global, all: &'a [Module]) -> Result<Modules<'a>, Refus
         }
         modules.add(one)?;
     }
+    Ok(())
+}
+
+// The modules by their names; 21 at a name a second time.
+fn named_once<'a>(alloc: Global, all: &'a [Module]) -> Result<Modules<'a>, Refusal>
+    ensures answer { Answers result modules_of (e.named_once [] (declarations_of all.now)) }
+    ensures all { IfOk result (λ ms. modules_of ms ≡ declarations_of all.now) }
+{
+    let mut modules = Modules::new(alloc);
+    add_all(alloc, &mut modules, all)?;
     Ok(modules)
 }
 
@@ -70,6 +80,27 @@ fn top_clock(clock: NameId, of: &ModuleNames<'_>) -> Option<NameId>
     }
 }
 
+// The instances of a design of these modules.
+#[tactic(auto, unfolding(crate::specs::Elaborated::elaborated, crate::specs::Elaborated::top_of))]
+fn from_modules(
+    alloc: Global,
+    limits: Limits,
+    all: &[Module],
+    modules: &Modules<'_>,
+    top: NameId,
+    clock: NameId,
+) -> Result<Vec<StandingInstance>, Refusal>
+    requires once { e.named_once [] (declarations_of all.now) ≡ Ok (modules_of modules.now) }
+    requires all { modules_of modules.now ≡ declarations_of all.now }
+    ensures { Answers result all_view (e.elaborated limits (declarations_of all.now) top.0 clock.0) }
+{
+    few_modules(alloc, limits.modules, all)?;
+    match modules.find(top) {
+        None => Err(no_top(alloc)),
+        Some(of) => from_top(alloc, limits, modules, of, top_clock(clock, of)),
+    }
+}
+
 /// The instances of a design, depth first: the top, and each other behind the one that it stands in.
 ///
 /// Faults: 21 TwoModules, 40 TooMany at a module beyond the limit, 22 NoTop; then those of the top and of what stands below it. Else want
@@ -85,9 +116,5 @@ pub fn elaborate_within(
     ensures { Answers result all_view (e.elaborated limits (declarations_of all.now) top.0 clock.0) }
 {
     let modules = named_once(alloc, all)?;
-    few_modules(alloc, limits.modules, all)?;
-    match modules.find(top) {
-        None => Err(no_top(alloc)),
-        Some(of) => from_top(alloc, limits, &modules, of, top_clock(clock, of)),
-    }
+    from_modules(alloc, limits, all, &modules, top, clock)
 }

@@ -1,21 +1,23 @@
 // From the top of a design down to its instances, depth first.
-ghost use Rattle.std.specs.Prelude.{◌≡◌, [], ◌∷◌, ◌++◌, length, map, nat_le, if◌then◌else◌, None, Some, OnOk};
+ghost use Rattle.std.specs.Prelude.{◌≡◌, [], ◌∷◌, ◌++◌, length, map, nat_le, if◌then◌else◌, None, Some, Ok, OnOk};
 ghost use Rattle.verilog_ast.specs.Views.{declaration_of as plain_module};
 ghost use Rattle.gen_unroll.specs.Values.{Answers};
 ghost use Rattle.module_names.specs.Modules as m;
 ghost use Rattle.module_names.specs.Views.{modules_of};
 ghost use Rattle.elaborate.specs.Elaborated as e;
-ghost use Rattle.elaborate.specs.Jobs.{AreJobs, Keeps, standing_of, all_view};
-ghost use Rattle.elaborate.specs.Views.{clock_view, clocks_view, child_of, id_of, visited_of, Leads};
+ghost use Rattle.elaborate.specs.Jobs.{AreJobs, IsOf, Keeps, standing_of, all_view, job_view};
+ghost use Rattle.elaborate.specs.Visits.{visited};
+ghost use Rattle.clock_rules.specs.Answers.{Leads};
+ghost use Rattle.clock_rules.specs.Views.{clock_view, clocks_view, id_of};
+ghost use Rattle.elaborate.specs.Views.{child_of, visited_of};
 
 use crate::child_instance::ChildInstance;
 use crate::growing::Growing;
 use crate::job::Job;
-use crate::jobs::job;
+use crate::jobs::{job, new_job};
 use crate::limits::Limits;
 use crate::standing::StandingInstance;
 use crate::visited::Visited;
-use crate::visiting::visit;
 use indexmap::IndexMap;
 use ls_text::{NameId, Refusal};
 use module_names::{ModuleNames, Modules};
@@ -169,6 +171,32 @@ fn instance(
     }
 }
 
+// The top, whose visit this is, and its instances.
+fn below_top(
+    t: &mut Growing,
+    modules: &Modules<'_>,
+    of: &ModuleNames<'_>,
+    clock: Option<NameId>,
+    job: &Arc<Job, Global>,
+) -> Result<(), Refusal>
+    requires jobs { AreJobs t.old.limits.turns (modules_of modules.now) t.old.jobs.entries }
+    requires all { t.old.all.items ≡ [] }
+    requires path { t.old.path.items ≡ [] }
+    requires of { IsOf job.now.value of.now.body.now.name.name [] clock }
+    requires found { visited t.old.limits.turns (modules_of modules.now) (Some t.old.limits.top_ports) (plain_module of.now.body.now) [] (clock_view clock) ≡ Ok (job_view job.now) }
+    ensures { Leads result (map standing_of t.new.all.items) (e.from_top t.old.limits (modules_of modules.now) (clock_view clock) (plain_module of.now.body.now)) }
+{
+    let name = of.body.name;
+    t.all.push(StandingInstance {
+        parent: None,
+        block: None,
+        name,
+        job: job.clone()?,
+    })?;
+    t.path.push(name.name)?;
+    within(t, modules, t.limits.levels, InstanceId(0), &job.visited)
+}
+
 /// The instances of a design whose top is this one, depth first: the top, and each other behind the one that it stands in.
 ///
 /// Faults: those of the top's visit, and of its instances in item order, each 23 RecursiveInstance, 40 TooMany, and then its visit. Else
@@ -183,17 +211,8 @@ pub fn from_top(
     ensures { Answers result all_view (e.from_top limits (modules_of modules.now) (clock_view clock) (plain_module of.now.body.now)) }
 {
     let most = Some(limits.top_ports);
-    let visited = visit(alloc, limits.turns, modules, most, of, &[], clock)?;
-    let name = of.body.name;
-    let job = Arc::new(
-        alloc,
-        Job {
-            instantiated: name.name,
-            overrides: Vec::new(alloc),
-            clock,
-            visited,
-        },
-    )?;
+    let name = of.body.name.name;
+    let job = new_job(alloc, limits.turns, modules, most, of, name, &[], clock)?;
     let mut t = Growing {
         alloc,
         limits,
@@ -201,13 +220,6 @@ pub fn from_top(
         all: Vec::new(alloc),
         path: Vec::new(alloc),
     };
-    t.all.push(StandingInstance {
-        parent: None,
-        block: None,
-        name,
-        job: job.clone()?,
-    })?;
-    t.path.push(name.name)?;
-    within(&mut t, modules, limits.levels, InstanceId(0), &job.visited)?;
+    below_top(&mut t, modules, of, clock, &job)?;
     Ok(t.all)
 }

@@ -8,7 +8,8 @@ ghost use Rattle.gen_unroll.specs.ReachViews.{reach_of};
 ghost use Rattle.gen_unroll.specs.Views.{bit_range_of};
 ghost use Rattle.elaborate.specs.Checks as c;
 ghost use Rattle.elaborate.specs.Tables as t;
-ghost use Rattle.elaborate.specs.Views.{declaration_of, checked_of, Leads};
+ghost use Rattle.clock_rules.specs.Answers.{Leads};
+ghost use Rattle.elaborate.specs.Views.{declaration_of, checked_of};
 
 use crate::checking::Checking;
 use crate::declaration::Declaration;

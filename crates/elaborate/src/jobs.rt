@@ -7,7 +7,7 @@ ghost use Rattle.verilog_ast.specs.Views.{declaration_of as plain_module};
 ghost use Rattle.module_names.specs.Modules as m;
 ghost use Rattle.module_names.specs.Views.{modules_of};
 ghost use Rattle.elaborate.specs.Jobs.{IsOf, AreJobs, job_view};
-ghost use Rattle.elaborate.specs.Views.{clock_view};
+ghost use Rattle.clock_rules.specs.Views.{clock_view};
 ghost use Rattle.elaborate.specs.Visits.{visited};
 
 use crate::job::Job;
@@ -96,6 +96,32 @@ fn digest(overrides: &[Option<Const>]) -> u64 {
     digest
 }
 
+/// A new visit of a module under these overrides and with this clock port; a top has at most so many ports.
+pub fn new_job(
+    alloc: Global,
+    turns: u32,
+    modules: &Modules<'_>,
+    most: Option<usize>,
+    of: &ModuleNames<'_>,
+    name: NameId,
+    overrides: &[Option<Const>],
+    clock: Option<NameId>,
+) -> Result<Arc<Job, Global>, Refusal>
+    ensures of { IfOk result (λ job. IsOf job.value name overrides.now clock) }
+    ensures answer { Answers result job_view
+        (visited turns (modules_of modules.now) most (plain_module of.now.body.now) (map override_view overrides.now) (clock_view clock)) }
+{
+    let given = Vec::from_slice(alloc, overrides)?;
+    let visited = visit(alloc, turns, modules, most, of, overrides, clock)?;
+    let job = Job {
+        instantiated: name,
+        overrides: given,
+        clock,
+        visited,
+    };
+    Ok(Arc::new(alloc, job)?)
+}
+
 /// The visit of a module under these overrides and with this clock port: the one that is kept, or a new one, which is kept then.
 #[tactic(auto, using(crate::proofs::Kept::jobs))]
 pub fn job(
@@ -125,17 +151,7 @@ pub fn job(
             return Ok(kept.clone()?);
         }
     }
-    let visited = visit(alloc, turns, modules, None, of, overrides, clock)?;
-    let overrides = Vec::from_slice(alloc, overrides)?;
-    let job = Arc::new(
-        alloc,
-        Job {
-            instantiated: name,
-            overrides,
-            clock,
-            visited,
-        },
-    )?;
+    let job = new_job(alloc, turns, modules, None, of, name, overrides, clock)?;
     jobs.insert(key, job.clone()?)?;
     Ok(job)
 }

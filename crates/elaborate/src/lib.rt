@@ -3,17 +3,16 @@
 // `designing` has the modules by their names and finds the top, `elaborating` goes from the top down to its instances, depth first, and
 // `jobs` has each module visited once under the same overrides and with the same clock. `visiting` is such a visit: `checks` goes over the
 // steps of the unrolled module with the names in reach, where `header` and `body` declare names (`declaring`, in `tables`) and give
-// instances their overrides (`overriding`, `giving`) and connections (`connecting`); `clocking` goes over them once more for the clock, where
-// it stands (`clock_free`), and which port of an instance it reaches. `tree` is what the designs above see of it.
+// instances their overrides (`overriding`, `giving`) and connections (`clock_rules`); `clocking` goes over them once more for the clock: where
+// it may stand, and which port of an instance it reaches, is of `clock_rules`. `tree` is what the designs above see of it.
 #![tactic(auto)]
 
 mod body;
 mod checking;
 mod checks;
 mod child_instance;
-mod clock_free;
 mod clocking;
-mod connecting;
+mod clocks_and_ports;
 mod declaration;
 mod declaration_kind;
 mod declarations;

@@ -6,7 +6,8 @@ ghost use Rattle.width_rules.specs.Entries.{scope_of};
 ghost use Rattle.gen_unroll.specs.Values.{Answers, constant_of};
 ghost use Rattle.gen_unroll.specs.Views.{override_view};
 ghost use Rattle.elaborate.specs.Overrides as o;
-ghost use Rattle.elaborate.specs.Views.{given_of, Leads};
+ghost use Rattle.clock_rules.specs.Answers.{Leads};
+ghost use Rattle.elaborate.specs.Views.{given_of};
 
 use crate::given_parameters::GivenParameters;
 use gen_unroll::evaluated;

@@ -2,7 +2,7 @@
 use ls_text::NameId;
 
 /// A module, a clock port, and a number that equal overrides share; others may share it too.
-#[derive(Clone, Copy, Debug, PartialEq, Eq, Hash)]
+#[derive(Clone, Copy, PartialEq, Eq, Hash)]
 pub struct VisitKey {
     pub instantiated: NameId,
     pub clock: Option<NameId>,

@@ -3,7 +3,8 @@ use Rattle.gen_unroll.specs.Reaches.{IsEven}
 use Rattle.gen_unroll.specs.ReachViews.{reach_of}
 use Rattle.gen_unroll.specs.Views.{step_of}
 use Rattle.elaborate.specs.Clocks.{clock_steps}
-use Rattle.elaborate.specs.Views.{clock_view, clocks_view, table_of}
+use Rattle.clock_rules.specs.Views.{clock_view, clocks_view}
+use Rattle.elaborate.specs.Views.{table_of}
 use Rattle.module_names.specs.Views.{modules_of}
 use Rattle.elaborate.proofs.clocking.clock_steps.Given as goal
 

@@ -1,6 +1,8 @@
 use Rattle.std.proofs.Common.{◌≡◌, drop}
-use Rattle.elaborate.specs.Clocks.{all_free, own_port}
-use Rattle.elaborate.specs.Views.{clock_view, table_of}
+use Rattle.clock_rules.specs.Clocks.{all_free}
+use Rattle.elaborate.specs.Clocks.{own_port}
+use Rattle.clock_rules.specs.Views.{clock_view}
+use Rattle.elaborate.specs.Views.{table_of}
 use Rattle.elaborate.proofs.clocking.own_clock.Given as goal
 
 abbrev pub invariant-loop-port : goal.invariant-loop-port

@@ -3,7 +3,8 @@ use Rattle.std.proofs.Common.{◌≡◌, ◌+◌, ◌*◌, map, drop}
 use Rattle.module_names.specs.Views.{modules_of}
 use Rattle.elaborate.specs.Elaborated.{each_child, child_at, within}
 use Rattle.elaborate.specs.Jobs.{Keeps, standing_of}
-use Rattle.elaborate.specs.Views.{child_of, clocks_view, id_of, visited_of}
+use Rattle.clock_rules.specs.Views.{clocks_view, id_of}
+use Rattle.elaborate.specs.Views.{child_of, visited_of}
 use Rattle.elaborate.proofs.elaborating.+visit.Given as goal
 
 abbrev pub decreases-instance : goal.decreases-instance

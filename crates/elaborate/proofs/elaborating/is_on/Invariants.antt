@@ -1,6 +1,6 @@
 use Rattle.std.proofs.Common.{◌≡◌, map, drop}
 use Rattle.elaborate.specs.Elaborated.{is_on}
-use Rattle.elaborate.specs.Views.{id_of}
+use Rattle.clock_rules.specs.Views.{id_of}
 use Rattle.elaborate.proofs.elaborating.is_on.Given as goal
 
 abbrev pub invariant-loop-one : goal.invariant-loop-one

@@ -9,6 +9,6 @@ returns-clause-kept c =
     let ms = modules_of c.args.modules.now in
     let copy : c.in_ok-clone-2.field-0.value ≡ c.in_ok-job.job.value = search rules in
     job_more c.args.turns ms _ c.args.jobs.now.entries c.insert.new.self.entries _ c.in_ok-clone-2.field-0 c.requires.jobs
-    (new_kept c.args.turns ms (plain_module c.args.of.now.body.now) c.args.name c.in_ok-overrides.overrides c.args.clock c.in_ok-visited.visited c.args.overrides.now
-    c.in_ok-job.job.value c.in_ok-clone-2.field-0 copy c.in_ok-job.ensures.ok c.in_ok-overrides.ensures.items c.requires.module c.in_ok-visited.ensures)
+    (new_kept c.args.turns ms (plain_module c.args.of.now.body.now) c.args.name c.args.overrides.now c.args.clock c.in_ok-job.job c.in_ok-clone-2.field-0 copy
+    c.in_ok-job.ensures.of c.requires.module c.in_ok-job.ensures.answer)
     c.in_ok-insert.ensures.entries

@@ -1,0 +1,4 @@
+pub mod Answers
+pub mod Views
+pub mod Clocks
+pub mod Connections

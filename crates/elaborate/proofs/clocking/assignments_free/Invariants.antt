@@ -1,9 +1,0 @@
-use Rattle.std.proofs.Common.{◌≡◌, map, drop}
-use Rattle.verilog_ast.specs.Views.{assignment_of}
-use Rattle.width_rules.specs.Entries.{scope_of}
-use Rattle.elaborate.specs.Clocks.{all_free, assignment_free}
-use Rattle.elaborate.proofs.clocking.assignments_free.Given as goal
-
-abbrev pub invariant-loop-one : goal.invariant-loop-one
-invariant-loop-one l =
-    all_free (assignment_free (scope_of l.scope)) (map assignment_of (drop l.one-index l.all)) ≡ all_free (assignment_free (scope_of l.scope)) (map assignment_of l.all)
