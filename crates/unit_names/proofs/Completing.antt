@@ -4,10 +4,10 @@ use Rattle.std.specs.Prelude.{Some}
 use Rattle.std.proofs.lemmas.List.{map-set, length-map, get_or-map}
 use Rattle.verilog_ast.specs.declared.port_net.PortNet.{PortNet}
 use Rattle.unit_names.specs.declared.named_signal.NamedSignal.{NamedSignal as Named}
-use Rattle.unit_names.specs.Numbers.{place_where}
+use Rattle.unit_names.specs.Numbers.{place_where, first_where}
 use Rattle.unit_names.specs.Signals.{NamedSignal, is_port_named, completes, completed, put}
 use Rattle.unit_names.specs.SignalViews.{signal_of}
-use Rattle.unit_names.proofs.Searching.{place_within, place_kept, put_there}
+use Rattle.unit_names.proofs.Searching.{place_within, place_kept, put_there, first_there}
 
 -- the port of the code and that of the definition
 same_port : (xs : List Named) (k : ℕ) (x y : Named) (by : PortNet) → k < length (map signal_of xs) → x ≡ get_or xs k x → signal_of y ≡ completed by (signal_of x)
@@ -31,3 +31,12 @@ pub completed_kept : (xs : List Named) (k : ℕ) (x y : Named) (by : PortNet) (q
 completed_kept xs k x y by q h is new =
     ap (place_where (is_port_named q)) (map-set signal_of xs k y)
     ∙ place_kept (is_port_named q) (map signal_of xs) k (signal_of y) (signal_of x) (ap (is_port_named q) (same_port xs k x y by h is new))
+
+-- the port of a name, where it stands
+pub port_there : (xs : List Named) (k : ℕ) (x : Named) (q : ℕ) → place_where (is_port_named q) (map signal_of xs) ≡ Some k → x ≡ get_or xs k x
+    → first_where (is_port_named q) (map signal_of xs) ≡ Some (signal_of x)
+port_there xs k x q there is =
+    let below = place_within (is_port_named q) (map signal_of xs) k there in
+    let same = length-map xs signal_of in
+    first_there (is_port_named q) (map signal_of xs) k (signal_of x) there
+    ∙ ap Some (get_or-map signal_of xs k x (signal_of x) (omega (arith, below, same)) ∙ ap signal_of (sym is))

@@ -1,3 +1,4 @@
 pub mod Searching
 pub mod Completing
 pub mod Rowing
+pub mod Growth

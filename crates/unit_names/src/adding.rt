@@ -108,5 +108,6 @@ pub fn add(alloc: Global, numbering: &mut Numbering, signal: NamedSignal) -> Res
             number: SignalId(number),
             signal,
         },
-    )
+    )?;
+    Ok(())
 }
