@@ -2,3 +2,4 @@ pub mod Searching
 pub mod Completing
 pub mod Rowing
 pub mod Growth
+pub mod Ordering

@@ -8,3 +8,5 @@ pub mod SignalViews
 pub mod TableViews
 pub mod Rows
 pub mod NumberingViews
+pub mod ModuleViews
+pub mod UnitReachViews

@@ -22,9 +22,12 @@ abbrev pub lsb_of : Option BitRange → ℕ
 lsb_of None = 0
 lsb_of (Some r) = r.low
 
+abbrev pub signal_meaning : ℕ → Option BitRange → Bool → Writer → Meaning
+signal_meaning k range signed writer = Signal k (width_of range) (lsb_of range) signed writer
+
 -- what its name stands for, where w says what may write the k-th signal
 abbrev pub meaning_of_signal : (ℕ → Writer) → ℕ → NamedSignal → Meaning
-meaning_of_signal w k x = Signal k (width_of x.range) (lsb_of x.range) x.signed (w k)
+meaning_of_signal w k x = signal_meaning k x.range x.signed (w k)
 
 abbrev pub all_signals : (ℕ → Writer) → List NumberedSignal → Scope → Scope
 all_signals w [] scope = scope

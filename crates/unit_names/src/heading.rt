@@ -146,6 +146,16 @@ pub fn number_all(alloc: Global, table: &Table, ports: &Ports) -> Result<Numberi
     Ok(numbering)
 }
 
+// A number, if there is one.
+fn push_any(declared: &mut Vec<SignalId>, found: Option<u32>) -> Result<(), NoMemory>
+    ensures { OnOk result (declared.new.items ≡ declared.old.items ++ n.if_any found) }
+{
+    if let Some(number) = found {
+        declared.push(SignalId(number))?;
+    }
+    Ok(())
+}
+
 /// The numbers of the signals in the order of their declarations, of which there are so many.
 pub fn in_order(
     alloc: Global,
@@ -157,9 +167,8 @@ pub fn in_order(
 {
     let mut declared = Vec::new(alloc);
     for k in 0..count {
-        if let Some(number) = numbering.orders.find(k as u64) {
-            declared.push(SignalId(number))?;
-        }
+        let found = numbering.orders.find(k as u64);
+        push_any(&mut declared, found)?;
     }
     Ok(declared)
 }
