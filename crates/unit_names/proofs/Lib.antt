@@ -3,3 +3,4 @@ pub mod Completing
 pub mod Rowing
 pub mod Growth
 pub mod Ordering
+pub mod Entered

@@ -39,6 +39,14 @@ row_found [] k d h = absurd (omega (arith, h))
 row_found (x ∷ xs) zero d h = refl
 row_found (x ∷ xs) (suc k) d h = row_found xs k d (omega (arith, h))
 
+pub row_read : (rows : List Row) (k : ℕ) (r : Row) → k < length rows → r ≡ get_or rows k r → row_in rows k ≡ map numbered_of r.items
+row_read rows k r h is = row_found rows k r h ∙ ap (λ (z : Row). map numbered_of z.items) (sym is)
+
+pub row_none : (rows : List Row) (k : ℕ) → length rows ≤ k → row_in rows k ≡ []
+row_none [] k h = refl
+row_none (x ∷ xs) zero h = absurd (omega (arith, h))
+row_none (x ∷ xs) (suc k) h = row_none xs k (omega (arith, h))
+
 -- one signal more in one row
 pub row_pushed : (rows : List Row) (k : ℕ) (x : BlockSignal) (d new : Row) → k < length rows → new.items ≡ (get_or rows k d).items ++ x ∷ []
     → (b : ℕ) → row_in (set rows k new) b ≡ row_in rows b ++ cond (k == b) (numbered_of x ∷ []) []

@@ -1,5 +1,5 @@
 // Signals with their numbers among the names in reach.
-ghost use Rattle.std.specs.Prelude.{◌≡◌, ◌∷◌, [], Some, None, map, OnOk};
+ghost use Rattle.std.specs.Prelude.{◌≡◌, ◌<◌, ◌^◌, ◌∷◌, [], length, Some, None, map, OnOk};
 ghost use Rattle.std.specs.Option.{option_map};
 ghost use Rattle.width_rules.specs.Entries.{scope_of, around};
 ghost use Rattle.width_rules.specs.Found.{meaning_of};
@@ -147,6 +147,23 @@ fn enter_if_own(
     }
 }
 
+// Those of these signals that are the module's own.
+fn enter_outermost(
+    scope: &mut Scope,
+    signals: &[NamedSignal],
+    settled: &[bool],
+) -> Result<(), NoMemory>
+    requires { length signals.now < 2 ^ 32 }
+    ensures names { OnOk result (scope_of scope.new
+        ≡ u.all_signals (u.writer_of (u.is_settled settled.now) (map signal_of signals.now)) (in_block_from 0 None (map signal_of signals.now)) (scope_of scope.old)) }
+    ensures around { OnOk result (around scope.new ≡ around scope.old) }
+{
+    for k in 0..signals.len() {
+        enter_if_own(scope, signals, settled, SignalId(k as u32), &signals[k])?;
+    }
+    Ok(())
+}
+
 /// The signals of the module itself.
 pub fn enter_own(
     scope: &mut Scope,
@@ -157,9 +174,5 @@ pub fn enter_own(
         ≡ u.with_signals (u.writer_of (u.is_settled settled.now) (signals_in of.now)) (signals_in of.now) None (scope_of scope.old)) }
     ensures around { OnOk result (around scope.new ≡ around scope.old) }
 {
-    let signals = of.signals.as_slice();
-    for k in 0..signals.len() {
-        enter_if_own(scope, signals, settled, SignalId(k as u32), &signals[k])?;
-    }
-    Ok(())
+    enter_outermost(scope, &of.signals, settled)
 }

@@ -4,7 +4,7 @@ use Rattle.width_rules.specs.Entries.{scope_of, around}
 use Rattle.unit_names.specs.Numbers.{in_block_from}
 use Rattle.unit_names.specs.SignalViews.{signal_of}
 use Rattle.unit_names.specs.UnitReaches.{all_signals, is_settled, writer_of}
-use Rattle.unit_names.proofs.entering.enter_own.Given as goal
+use Rattle.unit_names.proofs.entering.enter_outermost.Given as goal
 
 abbrev pub invariant-loop-k : goal.invariant-loop-k
 invariant-loop-k l = record {
