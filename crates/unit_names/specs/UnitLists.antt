@@ -21,12 +21,19 @@ signal_called m n x = record {
   initial = 0;
 }
 
--- a name of the module itself is its own; those within blocks are called by these names, one after another (by their own behind the last one)
+-- a signal of the module itself is called by its own name, those within blocks by these names, one after another (by their own behind the
+-- last one)
+abbrev pub called_by : (names : List NameId) → NamedSignal → ℕ
+called_by [] x = x.name.name.0
+called_by (n ∷ ns) x = if is_outermost x.block then x.name.name.0 else n.0
+
+abbrev pub names_behind : (names : List NameId) → NamedSignal → List NameId
+names_behind [] x = []
+names_behind (n ∷ ns) x = if is_outermost x.block then n ∷ ns else ns
+
 abbrev pub unit_signals : (in_module : ℕ) → (names : List NameId) → List NamedSignal → List Signal
 unit_signals m names [] = []
-unit_signals m [] (x ∷ xs) = signal_called m x.name.name.0 x ∷ unit_signals m [] xs
-unit_signals m (n ∷ ns) (x ∷ xs) =
-    if is_outermost x.block then signal_called m x.name.name.0 x ∷ unit_signals m (n ∷ ns) xs else signal_called m n.0 x ∷ unit_signals m ns xs
+unit_signals m names (x ∷ xs) = signal_called m (called_by names x) x ∷ unit_signals m (names_behind names x) xs
 
 abbrev pub declaration_of_signal : NamedSignal → SignalDeclaration
 declaration_of_signal x = record { kind = x.kind; order = x.order }

@@ -36,8 +36,8 @@ fn writer_by(settled: bool, kind: SignalKind) -> Writer
     }
 }
 
-// Whether a signal is settled.
-fn is_settled(settled: &[bool], signal: SignalId) -> bool
+/// Whether a signal is settled; one that the list doesn't have is not.
+pub fn is_settled(settled: &[bool], signal: SignalId) -> bool
     ensures { result ≡ u.is_settled settled.now signal }
 {
     let place = signal.index();

@@ -14,6 +14,7 @@ mod entering;
 mod finding;
 mod first_places;
 mod heading;
+mod listing;
 mod making;
 
 mod named_signal;
@@ -25,6 +26,7 @@ mod stepping;
 mod table;
 mod unit_reach;
 
+pub use listing::{data_inputs, declarations, registers, unit_signals};
 pub use making::{module_signals, number_of_name};
 pub use signal_table::ModuleSignals;
 pub use named_signal::NamedSignal;
