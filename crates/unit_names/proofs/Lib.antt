@@ -4,3 +4,5 @@ pub mod Rowing
 pub mod Growth
 pub mod Ordering
 pub mod Entered
+pub mod Numbered
+pub mod Fitting

@@ -95,6 +95,7 @@ put_last n (x ∷ xs) h = by (completes n.block n.name.name.0 x) (put_last n xs)
     none_left : (p : Option ℕ) → None ≡ option_map suc p → None ≡ p
     none_left None e = refl
     none_left (Some j) e = absurd (none-some (suc j) e)
+
     by : (b : Bool) → (None ≡ place_where (completes n.block n.name.name.0) xs → put n xs ≡ xs ++ n ∷ []) → None ≡ cond b (Some 0) (option_map suc (place_where (completes n.block n.name.name.0) xs))
         → cond b (completed n.net x ∷ xs) (x ∷ put n xs) ≡ x ∷ (xs ++ n ∷ [])
     by true rest is = absurd (none-some 0 is)
@@ -128,6 +129,7 @@ first_nowhere test (x ∷ xs) h = by (test x) (first_nowhere test xs) h
     none_left : (p : Option ℕ) → None ≡ option_map suc p → None ≡ p
     none_left None e = refl
     none_left (Some j) e = absurd (none-some (suc j) e)
+
     by : (b : Bool) → (None ≡ place_where test xs → first_where test xs ≡ None) → None ≡ cond b (Some 0) (option_map suc (place_where test xs))
         → cond b (Some x) (first_where test xs) ≡ None
     by true rest is = absurd (none-some 0 is)

@@ -10,3 +10,4 @@ pub mod Rows
 pub mod NumberingViews
 pub mod ModuleViews
 pub mod UnitReachViews
+pub mod Sound

@@ -74,11 +74,7 @@ fn note_block(
 }
 
 // The number of a name of the module itself.
-fn note_own(
-    names: &mut FirstPlaces,
-    signal: &NamedSignal,
-    number: u32,
-) -> Result<(), NoMemory>
+fn note_own(names: &mut FirstPlaces, signal: &NamedSignal, number: u32) -> Result<(), NoMemory>
     ensures { OnOk result ((q : ℕ) → place_in names.new q ≡ first_of (place_in names.old q) (is_own_named q (signal_of signal.now)) number) }
 {
     match signal.block {

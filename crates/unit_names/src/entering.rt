@@ -11,8 +11,8 @@ ghost use Rattle.unit_names.specs.SignalViews.{signal_of, numbered_of};
 ghost use Rattle.unit_names.specs.UnitReaches as u;
 
 use crate::block_signal::BlockSignal;
-use crate::signal_table::ModuleSignals;
 use crate::named_signal::NamedSignal;
+use crate::signal_table::ModuleSignals;
 use gen_unroll::{BitRange, BlockId};
 use no_memory::NoMemory;
 use typed_ir::SignalId;
@@ -165,11 +165,7 @@ fn enter_outermost(
 }
 
 /// The signals of the module itself.
-pub fn enter_own(
-    scope: &mut Scope,
-    of: &ModuleSignals,
-    settled: &[bool],
-) -> Result<(), NoMemory>
+pub fn enter_own(scope: &mut Scope, of: &ModuleSignals, settled: &[bool]) -> Result<(), NoMemory>
     ensures names { OnOk result (scope_of scope.new
         ≡ u.with_signals (u.writer_of (u.is_settled settled.now) (signals_in of.now)) (signals_in of.now) None (scope_of scope.old)) }
     ensures around { OnOk result (around scope.new ≡ around scope.old) }

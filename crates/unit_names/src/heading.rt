@@ -102,11 +102,7 @@ fn add_header(
 }
 
 // A signal that is no port.
-fn add_other(
-    alloc: Global,
-    numbering: &mut Numbering,
-    signal: &NamedSignal,
-) -> Result<(), NoMemory>
+fn add_other(alloc: Global, numbering: &mut Numbering, signal: &NamedSignal) -> Result<(), NoMemory>
     requires { IsNumbered numbering.old }
     ensures signals { OnOk result (numbered_in numbering.new ≡ numbered_in numbering.old ++ filter n.is_no_port (signal_of signal.now ∷ [])) }
     ensures numbered { OnOk result (IsNumbered numbering.new) }

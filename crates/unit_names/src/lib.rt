@@ -4,7 +4,7 @@
 // completes the port that has its name, and `naming` those of one declaration. `heading` gives them their numbers, the ports of the header
 // first, one by one (`adding`, in `numbering`), and `making` puts all together, as `signal_table`; `finding` has the first place of each
 // key, by its hash. `reaching` follows the steps with the names in reach (`unit_reach`), in which `entering` declares the signals, and
-// `listing` makes the lists that a unit has.
+// `listing` makes the lists that a unit has; `laws` says what it relies on of the numbers.
 #![tactic(auto)]
 
 mod adding;
@@ -14,9 +14,9 @@ mod entering;
 mod finding;
 mod first_places;
 mod heading;
+mod laws;
 mod listing;
 mod making;
-
 mod named_signal;
 mod naming;
 mod numbering;
@@ -26,8 +26,9 @@ mod stepping;
 mod table;
 mod unit_reach;
 
+pub use laws::{names_fit, numbers_are_sound};
 pub use listing::{data_inputs, declarations, registers, unit_signals};
 pub use making::{module_signals, number_of_name};
-pub use signal_table::ModuleSignals;
 pub use named_signal::NamedSignal;
+pub use signal_table::ModuleSignals;
 pub use unit_reach::UnitReach;

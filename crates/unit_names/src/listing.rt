@@ -110,10 +110,7 @@ fn declared(alloc: Global, signals: &[NamedSignal]) -> Result<Vec<SignalDeclarat
 }
 
 /// What the signals are declared as, by their numbers.
-pub fn declarations(
-    alloc: Global,
-    of: &ModuleSignals,
-) -> Result<Vec<SignalDeclaration>, NoMemory>
+pub fn declarations(alloc: Global, of: &ModuleSignals) -> Result<Vec<SignalDeclaration>, NoMemory>
     ensures { IfOk result (λ ds. ds.items ≡ u.declarations_of (signals_in of.now)) }
 {
     declared(alloc, &of.signals)

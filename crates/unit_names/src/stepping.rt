@@ -17,7 +17,9 @@ use gen_unroll::{BitRange, Reach, Step, range_value};
 use ls_text::Refusal;
 use std::alloc::Global;
 use unit_ir::SignalKind;
-use verilog_ast::{HeaderPort, Identifier, ModuleBody, PlainItem, PortNet, Range, RegVariable, Shape, Variable};
+use verilog_ast::{
+    HeaderPort, Identifier, ModuleBody, PlainItem, PortNet, Range, RegVariable, Shape, Variable,
+};
 use width_rules::Scope;
 
 fn range_of(alloc: Global, scope: &Scope, range: &Range) -> Result<Option<BitRange>, Refusal>
@@ -72,12 +74,28 @@ fn header_port(
     match port {
         HeaderPort::Input(_, net, shape, name) => {
             let range = range_in(alloc, &here.scope, shape)?;
-            declare_port(table, block, SignalKind::Input, header_net(*net), range, shape.signed, *name)?;
+            declare_port(
+                table,
+                block,
+                SignalKind::Input,
+                header_net(*net),
+                range,
+                shape.signed,
+                *name,
+            )?;
             Ok(())
         }
         HeaderPort::Output(_, net, shape, variable) => {
             let range = range_in(alloc, &here.scope, shape)?;
-            declare_port(table, block, kind_of_net(*net), header_net(*net), range, shape.signed, variable.name)?;
+            declare_port(
+                table,
+                block,
+                kind_of_net(*net),
+                header_net(*net),
+                range,
+                shape.signed,
+                variable.name,
+            )?;
             Ok(())
         }
         HeaderPort::Next(variable) => {
