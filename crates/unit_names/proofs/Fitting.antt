@@ -1,5 +1,5 @@
 -- Signals that get in reach have the numbers and the widths that they have in the module.
-use Rattle.std.proofs.Common.{◌≡◌, ℕ, zero, suc, ◌+◌, ◌<◌, ◌≤◌, ◌==◌, ◌&&◌, Bool, true, false, cond, nat_lt, nat_le, List, [], ◌∷◌, ◌++◌, length, get_or, map, append_assoc, refl, ap, subst, arith, le-leb, lt-ltb, eq-eqb}
+use Rattle.std.proofs.Common.{◌≡◌, ℕ, zero, suc, ◌<◌, ◌==◌, Bool, true, false, cond, nat_lt, nat_le, List, [], ◌∷◌, ◌++◌, length, get_or, map, append_assoc, refl, ap, subst, arith, le-leb, lt-ltb, eq-eqb}
 use Rattle.std.specs.Prelude.{Option, Some, None, slice_index}
 use Rattle.std.specs.Option.{option_map}
 use Rattle.std.proofs.lemmas.Bool.{and_from}
@@ -43,6 +43,7 @@ width_there before k w after is = and_from (nat_lt k (length (before ++ w ∷ af
     below [] i e = omega (arith, e)
     below (x ∷ xs) zero e = omega arith
     below (x ∷ xs) (suc i) e = let rest = below xs i (omega (arith, e)) in omega (arith, rest)
+
     at : (xs : List ℕ) (i : ℕ) → i ≡ length xs → get_or (xs ++ w ∷ after) i 0 ≡ w
     at [] zero e = refl
     at [] (suc i) e = absurd (omega (arith, e))
@@ -57,12 +58,16 @@ each_one before b k (x ∷ xs) is = by (same_block b (signal_of x).block) (subst
   where
     w : ℕ
     w = width_of (signal_of x).range
+
     ws : List ℕ
     ws = before ++ w ∷ widths_of (map signal_of xs)
+
     moved : (before ++ w ∷ []) ++ widths_of (map signal_of xs) ≡ ws
     moved = append_assoc before (w ∷ []) (widths_of (map signal_of xs))
+
     longer : suc k ≡ length (before ++ w ∷ [])
     longer = let more = length-append before (w ∷ []) in omega (arith, is, more)
+
     by : (t : Bool) → Each (IsOne ws) (in_block_from (suc k) b (map signal_of xs))
         → Each (IsOne ws) (cond t (record { number = k; signal = signal_of x } ∷ in_block_from (suc k) b (map signal_of xs)) (in_block_from (suc k) b (map signal_of xs)))
     by true rest = (record { width = wide x.range; there = width_there before k w (widths_of (map signal_of xs)) is }, rest)

@@ -1,12 +1,12 @@
 -- Numbers of registers and of inputs: each is that of a signal and stands once, and none is of both.
-use Rattle.std.proofs.Common.{◌≡◌, ℕ, zero, suc, ◌+◌, ◌<◌, ◌≤◌, ◌&&◌, ◌==◌, ◌⊎◌, inl, inr, Bool, true, false, cond, not, filter, List, [], ◌∷◌, ◌++◌, length, refl, sym, ◌∙◌, ap, subst, arith, true≢false, eqb-true, Result, Ok, Err}
+use Rattle.std.proofs.Common.{◌≡◌, ℕ, zero, suc, ◌+◌, ◌<◌, ◌≤◌, ◌&&◌, ◌==◌, inl, inr, Bool, true, false, cond, not, filter, List, [], ◌∷◌, ◌++◌, length, refl, sym, ◌∙◌, ap, subst, arith, true≢false, eqb-true, Result, Ok, Err}
 use Rattle.std.specs.Prelude.{Option, Some, None, slice_get}
 use Rattle.std.specs.Option.{option_map}
 use Rattle.std.proofs.lemmas.Option.{none-some, same_Some}
 use Rattle.ls_text.specs.declared.fault.Fault.{Fault}
 use Rattle.ls_text.specs.declared.name_id.NameId.{NameId}
 use Rattle.typed_ir.specs.Orders.{Member, Distinct}
-use Rattle.typed_ir.proofs.Cases.{by_cases, and_left, and_right}
+use Rattle.typed_ir.proofs.Cases.{and_left}
 use Rattle.unit_ir.specs.declared.signal_kind.SignalKind.{SignalKind}
 use Rattle.unit_ir.specs.declared.signal_kind.SignalKind.TheVariants as kind
 use Rattle.unit_ir.specs.Shapes.{is_clock}
@@ -98,6 +98,7 @@ member_filtered test (k ∷ ks) s m = by (test k) refl (member_filtered test ks 
   where
     later : Member s ks × (test s ≡ true) → Member s (k ∷ ks) × (test s ≡ true)
     later h = (inr h.0, h.1)
+
     by : (b : Bool) → test k ≡ b → (Member s (filter test ks) → Member s ks × (test s ≡ true)) → Member s (cond b (k ∷ filter test ks) (filter test ks))
         → Member s (k ∷ ks) × (test s ≡ true)
     by true is rest (inl e) = (inl e, ap test e ∙ is)

@@ -1,5 +1,5 @@
 -- Numbers in the order of declarations, one after another.
-use Rattle.std.proofs.Common.{◌≡◌, ℕ, suc, ◌+◌, ◌-◌, ◌<◌, List, ◌++◌, append_assoc, sym, ◌∙◌, ap, arith}
+use Rattle.std.proofs.Common.{◌≡◌, ℕ, suc, ◌+◌, ◌-◌, ◌<◌, List, ◌++◌, append_assoc, ◌∙◌, ap, arith}
 use Rattle.std.specs.Prelude.{Option}
 use Rattle.unit_names.specs.Numbers.{place_where, has_order, if_any, numbers_from}
 use Rattle.unit_names.specs.Signals.{NamedSignal}

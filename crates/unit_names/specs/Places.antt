@@ -1,5 +1,5 @@
 -- The first of several places.
-use Rattle.std.specs.Prelude.{ℕ, Bool, true, false, if◌then◌else◌, Option, Some, None}
+use Rattle.std.specs.Prelude.{ℕ, Bool, if◌then◌else◌, Option, Some, None}
 
 -- a place that is known stays; else there is this one, where it is one
 abbrev pub first_of : Option ℕ → Bool → ℕ → Option ℕ

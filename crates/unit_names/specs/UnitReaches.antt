@@ -9,7 +9,7 @@ use Rattle.width_rules.specs.declared.writer.Writer.TheVariants as writer
 use Rattle.width_rules.specs.Scopes.{Meaning, Signal, Scope}
 use Rattle.gen_unroll.specs.Declarations.{BitRange, declared}
 use Rattle.gen_unroll.specs.Reaches.{Reach, reach_in, in_reach}
-use Rattle.gen_unroll.specs.Steps.{ModuleStep, Listed, Port, Parameter, Item, Labelled, Opened, Closed}
+use Rattle.gen_unroll.specs.Steps.{ModuleStep, Opened}
 use Rattle.unit_names.specs.Signals.{NamedSignal}
 use Rattle.unit_names.specs.Numbers.{NumberedSignal, in_block}
 

@@ -1,6 +1,4 @@
-use Rattle.std.proofs.Common.{◌≡◌, ◌++◌, map, drop}
-use Rattle.verilog_ast.specs.Views.{port_of}
-use Rattle.gen_unroll.specs.Declarations.{port_name}
+use Rattle.std.proofs.Common.{◌≡◌, ◌++◌, drop}
 use Rattle.unit_names.specs.Numbers.{ports_in}
 use Rattle.unit_names.specs.NumberingViews.{numbered_in, IsNumbered}
 use Rattle.unit_names.specs.TableViews.{signals_of}

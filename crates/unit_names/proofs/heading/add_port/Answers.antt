@@ -1,7 +1,7 @@
-use Rattle.std.proofs.Common.{◌≡◌, ◌++◌, ap, sym, ◌∙◌, append-nil, OnOk, subst, arith, List}
+use Rattle.std.proofs.Common.{◌≡◌, ◌++◌, ap, sym, ◌∙◌, append-nil, OnOk, subst, arith}
 use Rattle.std.specs.Prelude.{Option}
-use Rattle.std.proofs.lemmas.List.{length-map, get_or-map}
-use Rattle.unit_names.specs.Numbers.{first_where, if_any}
+use Rattle.std.proofs.lemmas.List.{length-map}
+use Rattle.unit_names.specs.Numbers.{if_any}
 use Rattle.unit_names.specs.NumberingViews.{numbered_in}
 use Rattle.unit_names.specs.Signals.{NamedSignal, is_port_named}
 use Rattle.unit_names.specs.SignalViews.{signal_of}

@@ -1,11 +1,10 @@
 use Rattle.std.proofs.Common.{◌≡◌, map, drop}
 use Rattle.std.specs.Option.{option_map}
 use Rattle.verilog_ast.specs.declared.port_net.PortNet.TheVariants as net
-use Rattle.verilog_ast.specs.Views.{declared_of, declared_reg_of}
-use Rattle.unit_ir.specs.declared.signal_kind.SignalKind.TheVariants as kind
-use Rattle.gen_unroll.specs.Declarations.{declared_name, declared_reg_name}
+use Rattle.verilog_ast.specs.Views.{declared_of}
+use Rattle.gen_unroll.specs.Declarations.{declared_name}
 use Rattle.gen_unroll.specs.Views.{bit_range_of, here_of}
-use Rattle.unit_names.specs.Signals.{kind_of_net, with_ports, with_nets}
+use Rattle.unit_names.specs.Signals.{with_nets}
 use Rattle.unit_names.specs.TableViews.{signals_of, IsPlaced}
 use Rattle.unit_names.proofs.naming.declare_wires.Given as goal
 
