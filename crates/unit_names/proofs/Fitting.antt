@@ -19,7 +19,7 @@ use Rattle.unit_names.specs.ModuleViews.{signals_in}
 use Rattle.unit_names.specs.Numbers.{NumberedSignal, same_block, in_block_from, in_block}
 use Rattle.unit_names.specs.Signals.{NamedSignal}
 use Rattle.unit_names.specs.SignalViews.{signal_of}
-use Rattle.unit_names.specs.Sound.{IsOneOf, widths_of}
+use Rattle.unit_names.specs.Sound.{IsOneOf, has_name, widths_of}
 use Rattle.unit_names.specs.UnitLists.{unit_signals, names_behind}
 use Rattle.unit_names.specs.UnitReaches.{width_of, lsb_of, meaning_of_signal, all_signals, with_signals}
 
@@ -75,29 +75,29 @@ each_one before b k (x ∷ xs) is = by (same_block b (signal_of x).block) (subst
 
 -- ---- names in reach
 
--- whatever is so of the names in reach, and of each signal of the module with its number and width, is so with the signals of a block
+-- whatever is so of a name in reach that none of these has, and of each signal of the module with its number and width, is so with these
 entered : (P : Meaning → Type 0) (w : ℕ → Writer) (widths : List ℕ)
     → ((k width lsb : ℕ) (signed : Bool) (writer : Writer) → is_width width ≡ true → is_signal k width widths ≡ true → P (Signal k width lsb signed writer))
-    → (ys : List NumberedSignal) → Each (IsOne widths) ys → (scope : Scope) → ((name : ℕ) → P (scope name)) → (name : ℕ) → P (all_signals w ys scope name)
-entered P w widths one [] each scope all = all
-entered P w widths one (y ∷ ys) each scope all = entered P w widths one ys each.1 (declared scope y.signal.name (meaning_of_signal w y.number y.signal)) next
+    → (ys : List NumberedSignal) → Each (IsOne widths) ys → (scope : Scope) (name : ℕ) → (has_name name ys ≡ false → P (scope name)) → P (all_signals w ys scope name)
+entered P w widths one [] each scope name before = before refl
+entered P w widths one (y ∷ ys) each scope name before =
+    entered P w widths one ys each.1 (declared scope y.signal.name (meaning_of_signal w y.number y.signal)) name (by (y.signal.name.name.0 == name) before)
   where
-    next : (name : ℕ) → P (declared scope y.signal.name (meaning_of_signal w y.number y.signal) name)
-    next name = by (y.signal.name.name.0 == name)
-      where
-        by : (t : Bool) → P (cond t (meaning_of_signal w y.number y.signal) (scope name))
-        by true = one y.number (width_of y.signal.range) (lsb_of y.signal.range) y.signal.signed (w y.number) each.0.width each.0.there
-        by false = all name
+    by : (t : Bool) → (cond t true (has_name name ys) ≡ false → P (scope name)) → has_name name ys ≡ false → P (cond t (meaning_of_signal w y.number y.signal) (scope name))
+    by true h none = one y.number (width_of y.signal.range) (lsb_of y.signal.range) y.signal.signed (w y.number) each.0.width each.0.there
+    by false h none = h none
 
 pub entered_fits : (P : Meaning → Type 0) (w : ℕ → Writer) (m : ModuleSignals) (b : Option ℕ)
     → ((k width lsb : ℕ) (signed : Bool) (writer : Writer) → is_width width ≡ true → is_signal k width (widths_of (signals_in m)) ≡ true → P (Signal k width lsb signed writer))
-    → (scope : Scope) → ((name : ℕ) → P (scope name)) → (name : ℕ) → P (with_signals w (signals_in m) b scope name)
-entered_fits P w m b one scope all =
-    entered P w (widths_of (signals_in m)) one (in_block b (signals_in m)) (each_one [] b 0 m.signals.items refl) scope all
+    → (scope : Scope) (name : ℕ) → (has_name name (in_block b (signals_in m)) ≡ false → P (scope name)) → P (with_signals w (signals_in m) b scope name)
+entered_fits P w m b one scope name before =
+    entered P w (widths_of (signals_in m)) one (in_block b (signals_in m)) (each_one [] b 0 m.signals.items refl) scope name before
 
-pub one_of : (m : ModuleSignals) (w : ℕ → Writer) (b : Option ℕ) (scope : Scope) → ((name : ℕ) → IsOneOf (widths_of (signals_in m)) (scope name))
-    → (name : ℕ) → IsOneOf (widths_of (signals_in m)) (with_signals w (signals_in m) b scope name)
-one_of m w b scope all = entered_fits (IsOneOf (widths_of (signals_in m))) w m b (λ k width lsb signed writer wide there. (wide, there)) scope all
+pub one_of : (m : ModuleSignals) (w : ℕ → Writer) (b : Option ℕ) (scope : Scope) (name : ℕ)
+    → (has_name name (in_block b (signals_in m)) ≡ false → IsOneOf (widths_of (signals_in m)) (scope name))
+    → IsOneOf (widths_of (signals_in m)) (with_signals w (signals_in m) b scope name)
+one_of m w b scope name before =
+    entered_fits (IsOneOf (widths_of (signals_in m))) w m b (λ k width lsb signed writer wide there. (wide, there)) scope name before
 
 pub unit_widths : (in_module : ℕ) (names : List NameId) (xs : List NamedSignal) → map (λ (s : UnitSignal). s.width) (unit_signals in_module names xs) ≡ widths_of xs
 unit_widths m names [] = refl

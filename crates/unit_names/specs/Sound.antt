@@ -1,10 +1,10 @@
 -- What a unit relies on of the numbers of its signals.
-use Rattle.std.specs.Prelude.{◌≡◌, ⊤, ℕ, ◌<◌, true, List, map, length}
+use Rattle.std.specs.Prelude.{◌≡◌, ⊤, ℕ, ◌<◌, ◌==◌, Bool, true, false, if◌then◌else◌, List, [], ◌∷◌, map, length}
 use Rattle.typed_ir.specs.Orders.{Member, Distinct}
 use Rattle.typed_ir.specs.Sized.{is_width, is_signal}
 use Rattle.width_rules.specs.Scopes.{Meaning, Signal, Constant, Turn, Genvar, Unknown}
 use Rattle.unit_names.specs.Signals.{NamedSignal}
-use Rattle.unit_names.specs.Numbers.{SignalTable}
+use Rattle.unit_names.specs.Numbers.{SignalTable, NumberedSignal}
 use Rattle.unit_names.specs.UnitReaches.{width_of}
 
 -- the numbers in the order of the declarations are those of signals, each once
@@ -22,6 +22,11 @@ pub record AreApart (registers inputs : List ℕ) (count : ℕ) : Type 0 where
 
 abbrev pub widths_of : List NamedSignal → List ℕ
 widths_of xs = map (λ (x : NamedSignal). width_of x.range) xs
+
+-- whether one of these has the name
+abbrev pub has_name : ℕ → List NumberedSignal → Bool
+has_name name [] = false
+has_name name (x ∷ xs) = if x.signal.name.name.0 == name then true else has_name name xs
 
 -- what is a signal is one of the list, with its width of 1 to 128 bits
 abbrev pub IsOneOf : List ℕ → Meaning → Type 0

@@ -1,10 +1,10 @@
 // What a unit relies on of the numbers of its signals.
-ghost use Rattle.std.specs.Prelude.{◌≡◌, ℕ, Bool, List, map, length, Option, Ok};
+ghost use Rattle.std.specs.Prelude.{◌≡◌, ℕ, Bool, false, List, map, length, Option, Ok};
 ghost use Rattle.ls_text.specs.declared.name_id.NameId.{NameId};
 ghost use Rattle.verilog_ast.specs.Items.{ModuleDeclaration};
 ghost use Rattle.gen_unroll.specs.Steps.{ModuleStep};
-ghost use Rattle.unit_names.specs.Numbers.{SignalTable, module_table};
-ghost use Rattle.unit_names.specs.Sound.{IsOrdered, AreApart, IsOneOf, widths_of};
+ghost use Rattle.unit_names.specs.Numbers.{SignalTable, module_table, in_block};
+ghost use Rattle.unit_names.specs.Sound.{IsOrdered, AreApart, IsOneOf, has_name, widths_of};
 ghost use Rattle.unit_names.specs.UnitLists.{registers, data_inputs, unit_signals};
 ghost use Rattle.unit_names.specs.UnitReaches.{with_signals};
 ghost use Rattle.unit_names.specs.declared.signal_table.ModuleSignals.{ModuleSignals};
@@ -23,11 +23,12 @@ pub fn numbers_are_sound()
         → AreApart (registers settled t) (data_inputs clock t.signals) (length t.signals) }
 {}
 
-/// The signals of a module, or of a block, that get in reach are signals of the module with the widths that they have there, of 1 to 128
-/// bits; and these are the widths of the unit's signals.
+/// A name that a signal of the module, or of a block, has stands for a signal of the module with the width that it has there, of 1 to 128
+/// bits, whatever the name stood for before; and these are the widths of the unit's signals.
 #[tactic(none)]
 pub fn names_fit()
-    ensures scopes { (m : ModuleSignals) (w : ℕ → Writer) (b : Option ℕ) (scope : Scope) → ((name : ℕ) → IsOneOf (widths_of (signals_in m)) (scope name))
-        → (name : ℕ) → IsOneOf (widths_of (signals_in m)) (with_signals w (signals_in m) b scope name) }
+    ensures scopes { (m : ModuleSignals) (w : ℕ → Writer) (b : Option ℕ) (scope : Scope) (name : ℕ)
+        → (has_name name (in_block b (signals_in m)) ≡ false → IsOneOf (widths_of (signals_in m)) (scope name))
+        → IsOneOf (widths_of (signals_in m)) (with_signals w (signals_in m) b scope name) }
     ensures widths { (in_module : ℕ) (names : List NameId) (xs : List NamedSignal) → map (λ (s : Signal). s.width) (unit_signals in_module names xs) ≡ widths_of xs }
 {}
