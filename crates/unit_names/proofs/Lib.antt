@@ -6,3 +6,4 @@ pub mod Ordering
 pub mod Entered
 pub mod Numbered
 pub mod Fitting
+pub mod Placeholders

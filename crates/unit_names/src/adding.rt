@@ -83,7 +83,7 @@ fn note_own(names: &mut FirstPlaces, signal: &NamedSignal, number: u32) -> Resul
     }
 }
 
-/// A signal with the next number. 2^32 - 1 of them are want of memory.
+/// A signal with the next number. 2^32 of them are want of memory.
 pub fn add(alloc: Global, numbering: &mut Numbering, signal: NamedSignal) -> Result<(), NoMemory>
     requires { IsNumbered numbering.old }
     ensures signals { OnOk result (numbered_in numbering.new ≡ numbered_in numbering.old ++ signal_of signal ∷ []) }

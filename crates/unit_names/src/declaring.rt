@@ -47,7 +47,7 @@ pub fn is_port(signal: &NamedSignal) -> bool
     }
 }
 
-// How many signals there are. 2^32 - 1 of them are want of memory.
+// How many signals there are. 2^32 of them are want of memory.
 fn next_order(table: &Table) -> Result<u32, NoMemory>
     ensures { IfOk result (λ n. n ≡ length (signals_of table.now)) }
 {
