@@ -1,6 +1,5 @@
 // The signals of an unrolled module, and one of them by its name.
 ghost use Rattle.std.specs.Prelude.{◌≡◌, map, length, IfOk};
-ghost use Rattle.std.specs.Option.{option_map};
 ghost use Rattle.verilog_ast.specs.Views.{ports_of, declaration_of};
 ghost use Rattle.gen_unroll.specs.Values.{Answers};
 ghost use Rattle.gen_unroll.specs.Views.{step_of};
@@ -50,7 +49,7 @@ pub fn module_signals(
 
 /// The number of a name of the module itself, if it is one of its signals.
 pub fn number_of_name(of: &ModuleSignals, name: NameId) -> Option<SignalId>
-    ensures { option_map (λ s. s) result ≡ n.number_of_name name.0 (signals_in of.now) }
+    ensures { result ≡ n.number_of_name name.0 (signals_in of.now) }
 {
     match of.names.find(name.0) {
         Some(number) => Some(SignalId(number)),
