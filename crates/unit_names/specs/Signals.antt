@@ -112,11 +112,12 @@ range_or_none scope (Some r) = range_of scope r
 abbrev pub range_in : Reach → Kind → Result (Option BitRange) Fault
 range_in here k = range_or_none here.scope k.range
 
+abbrev pub complete_port : Reach → SignalKind → PortNet → Kind → Identifier → List NamedSignal → Result (List NamedSignal) Fault
+complete_port here direction by k n xs = range_in here k >>= λ r. Ok (with_port (innermost here.blocks) direction (header_net by) r k.signed n xs)
+
 abbrev pub header_port : Reach → PortDeclaration → List NamedSignal → Result (List NamedSignal) Fault
-header_port here (InputPort at by k n) xs =
-    range_in here k >>= λ r. Ok (with_port (innermost here.blocks) kind.Input (header_net by) r k.signed n xs)
-header_port here (OutputPort at by k x) xs =
-    range_in here k >>= λ r. Ok (with_port (innermost here.blocks) (kind_of_net by) (header_net by) r k.signed x.name xs)
+header_port here (InputPort at by k n) xs = complete_port here kind.Input by k n xs
+header_port here (OutputPort at by k x) xs = complete_port here (kind_of_net by) by k x.name xs
 header_port here (NextPort x) xs = Ok (with_next (last_of xs) (innermost here.blocks) x.name xs)
 
 abbrev pub inputs : Reach → PortNet → Kind → List Identifier → List NamedSignal → Result (List NamedSignal) Fault

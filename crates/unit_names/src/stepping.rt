@@ -59,6 +59,34 @@ fn header_net(net: PortNet) -> PortNet
     }
 }
 
+// A port that the header declares with a sign and a range of its own.
+fn complete_port(
+    alloc: Global,
+    table: &mut Table,
+    here: &Reach,
+    kind: SignalKind,
+    net: PortNet,
+    shape: &Shape,
+    name: Identifier,
+) -> Result<(), Refusal>
+    requires { IsPlaced table.old }
+    ensures signals { Leads result (signals_of table.new) (s.complete_port (reach_of here.now) kind net (kind_of shape.now) name (signals_of table.old)) }
+    ensures placed { OnOk result (IsPlaced table.new) }
+{
+    let range = range_in(alloc, &here.scope, shape)?;
+    let block = here.block();
+    declare_port(
+        table,
+        block,
+        kind,
+        header_net(net),
+        range,
+        shape.signed,
+        name,
+    )?;
+    Ok(())
+}
+
 // A port that the header declares.
 fn header_port(
     alloc: Global,
@@ -70,36 +98,16 @@ fn header_port(
     ensures signals { Leads result (signals_of table.new) (s.header_port (reach_of here.now) (port_of port.now) (signals_of table.old)) }
     ensures placed { OnOk result (IsPlaced table.new) }
 {
-    let block = here.block();
     match port {
         HeaderPort::Input(_, net, shape, name) => {
-            let range = range_in(alloc, &here.scope, shape)?;
-            declare_port(
-                table,
-                block,
-                SignalKind::Input,
-                header_net(*net),
-                range,
-                shape.signed,
-                *name,
-            )?;
-            Ok(())
+            complete_port(alloc, table, here, SignalKind::Input, *net, shape, *name)
         }
         HeaderPort::Output(_, net, shape, variable) => {
-            let range = range_in(alloc, &here.scope, shape)?;
-            declare_port(
-                table,
-                block,
-                kind_of_net(*net),
-                header_net(*net),
-                range,
-                shape.signed,
-                variable.name,
-            )?;
-            Ok(())
+            let kind = kind_of_net(*net);
+            complete_port(alloc, table, here, kind, *net, shape, variable.name)
         }
         HeaderPort::Next(variable) => {
-            declare_next(table, block, variable.name)?;
+            declare_next(table, here.block(), variable.name)?;
             Ok(())
         }
     }
