@@ -65,11 +65,11 @@ items_other P g u i.NoItem s name none before = before
 
 -- where each net is a signal, no net without a number is left
 pub covered : (m : ModuleSignals) (w : ℕ → Writer) (b : Option ℕ) (items : ModuleItem) (scope : Scope) → HasNets (in_block b (signals_in m)) items
-    → ((name : ℕ) → IsOneOf (widths_of (signals_in m)) (scope name))
-    → (name : ℕ) → IsOneOf (widths_of (signals_in m)) (with_signals w (signals_in m) b (item_names items scope) name)
-covered m w b items scope has before name =
+    → (name : ℕ) → (has_name name (in_block b (signals_in m)) ≡ false → IsOneOf (widths_of (signals_in m)) (scope name))
+    → IsOneOf (widths_of (signals_in m)) (with_signals w (signals_in m) b (item_names items scope) name)
+covered m w b items scope has name before =
     one_of m w b (item_names items scope) name
-    (λ none. items_other (IsOneOf (widths_of (signals_in m))) tt tt items scope name (no_net none) (before name))
+    (λ none. items_other (IsOneOf (widths_of (signals_in m))) tt tt items scope name (no_net none) (before none))
   where
     no_net : has_name name (in_block b (signals_in m)) ≡ false → names_net name items ≡ false
     no_net none = by_cases (names_net name items) (λ yes. absurd (true≢false (sym (has name yes) ∙ none))) (λ no. no)

@@ -33,7 +33,7 @@ pub fn names_fit()
         → (has_name name (in_block b (signals_in m)) ≡ false → IsOneOf (widths_of (signals_in m)) (scope name))
         → IsOneOf (widths_of (signals_in m)) (with_signals w (signals_in m) b scope name) }
     ensures covered { (m : ModuleSignals) (w : ℕ → Writer) (b : Option ℕ) (items : ModuleItem) (scope : Scope) → HasNets (in_block b (signals_in m)) items
-        → ((name : ℕ) → IsOneOf (widths_of (signals_in m)) (scope name))
-        → (name : ℕ) → IsOneOf (widths_of (signals_in m)) (with_signals w (signals_in m) b (item_names items scope) name) }
+        → (name : ℕ) → (has_name name (in_block b (signals_in m)) ≡ false → IsOneOf (widths_of (signals_in m)) (scope name))
+        → IsOneOf (widths_of (signals_in m)) (with_signals w (signals_in m) b (item_names items scope) name) }
     ensures widths { (in_module : ℕ) (names : List NameId) (xs : List NamedSignal) → map (λ (s : Signal). s.width) (unit_signals in_module names xs) ≡ widths_of xs }
 {}
