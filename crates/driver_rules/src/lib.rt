@@ -24,3 +24,4 @@ pub use clocked_id::ClockedId;
 pub use driver::Driver;
 pub use driver_id::DriverId;
 pub use driving::drivers;
+pub use settling::settled_signals;
