@@ -14,6 +14,7 @@ mod entering;
 mod finding;
 mod first_places;
 mod heading;
+mod hiding;
 mod laws;
 mod listing;
 mod making;
