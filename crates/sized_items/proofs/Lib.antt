@@ -1,0 +1,4 @@
+pub mod Names
+pub mod Lanes
+pub mod Constants
+pub mod Listing
