@@ -2,3 +2,4 @@ pub mod Names
 pub mod Lanes
 pub mod Constants
 pub mod Listing
+pub mod Driven

@@ -13,8 +13,10 @@ mod finding;
 mod initial_value;
 mod initials;
 mod item_list;
+mod laws;
 mod sizing;
 
 pub use initial_value::InitialValue;
 pub use item_list::ItemList;
+pub use laws::values_are_drives;
 pub use sizing::{size_outputs, size_plain, size_port};
