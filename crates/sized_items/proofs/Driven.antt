@@ -28,9 +28,10 @@ driven scope x h k net =
 each_driven : (scope : Scope) (xs : List DeclaredValue) → all_value_faults scope xs ≡ [] → all_value_kinds scope xs ≡ []
     → Each (λ x. is_net_value scope x ≡ true → assign_faults scope (as_assignment x ∷ []) ≡ []) xs
 each_driven scope [] h k = tt
-each_driven scope (x ∷ xs) h k =
-    (driven scope x (left_none (value_faults scope x) (all_value_faults scope xs) h) (left_none (value_kinds scope x) (all_value_kinds scope xs) k),
-    each_driven scope xs (right_none (value_faults scope x) (all_value_faults scope xs) h) (right_none (value_kinds scope x) (all_value_kinds scope xs) k))
+each_driven scope (x ∷ xs) h k = (
+  driven scope x (left_none (value_faults scope x) (all_value_faults scope xs) h) (left_none (value_kinds scope x) (all_value_kinds scope xs) k),
+  each_driven scope xs (right_none (value_faults scope x) (all_value_faults scope xs) h) (right_none (value_kinds scope x) (all_value_kinds scope xs) k),
+)
 
 pub nets_driven : (scope : Scope) (xs : List DeclaredValue) → declaration_faults scope xs ≡ []
     → Each (λ x. is_net_value scope x ≡ true → assign_faults scope (as_assignment x ∷ []) ≡ []) xs

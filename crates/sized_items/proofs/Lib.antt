@@ -3,3 +3,4 @@ pub mod Lanes
 pub mod Constants
 pub mod Listing
 pub mod Driven
+pub mod Placed

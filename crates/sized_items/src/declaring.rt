@@ -95,6 +95,7 @@ fn variable_item(alloc: Global, signal: SignalId, name: Identifier) -> Result<Ty
 }
 
 // Adds the item of a net.
+#[tactic(auto, using(width_rules::proofs::Firsts::earlier, width_rules::proofs::Firsts::later, width_rules::proofs::Firsts::neither, crate::proofs::Placed::added))]
 fn size_net(
     alloc: Global,
     scope: &Scope,
@@ -111,6 +112,7 @@ fn size_net(
 }
 
 // Adds the item of a variable, and what it has at the beginning.
+#[tactic(auto, using(width_rules::proofs::Firsts::earlier, width_rules::proofs::Firsts::later, width_rules::proofs::Firsts::neither, crate::proofs::Placed::added))]
 fn size_variable(
     alloc: Global,
     scope: &Scope,
@@ -180,11 +182,7 @@ fn check_value(alloc: Global, scope: &Scope, x: &DeclaredValue<'_>) -> Result<()
 
 // The first one of these; or want of memory.
 #[tactic(auto, using(width_rules::proofs::Firsts::earlier, width_rules::proofs::Firsts::later, width_rules::proofs::Firsts::neither, crate::proofs::Listing::kind_ahead, crate::proofs::Listing::kind_fault))]
-fn check_values(
-    alloc: Global,
-    scope: &Scope,
-    values: &[DeclaredValue<'_>],
-) -> Result<(), Refusal>
+fn check_values(alloc: Global, scope: &Scope, values: &[DeclaredValue<'_>]) -> Result<(), Refusal>
     ensures faultless { OnOk result (all_value_kinds (scope_of scope.now) (map declared_value_of values.now) ≡ []) }
     ensures fault { IfErr result (IsFirst (all_value_kinds (scope_of scope.now) (map declared_value_of values.now))) }
 {

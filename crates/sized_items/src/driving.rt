@@ -9,7 +9,7 @@ ghost use Rattle.sized_items.specs.SizedItems.{drive_item};
 
 use item_mentions::{target_form, target_mentions};
 use ls_text::Refusal;
-use statement_rules::{check_target, size_drive};
+use statement_rules::{Drive, check_target, size_drive};
 use std::alloc::Global;
 use typed_ir::Node;
 use unit_ir::{ItemBody, ItemPlaces, TypedItem, UnitNode};
@@ -30,12 +30,9 @@ pub fn size_pair(
     let targets = target_mentions(alloc, target)?;
     let form = target_form(scope, target);
     let drive = size_drive(alloc, scope, target, value)?;
+    let Drive { lanes, value } = drive;
     Ok(TypedItem {
-        body: ItemBody::Node(UnitNode::Own(Node::Drive {
-            form,
-            lanes: drive.lanes,
-            value: drive.value,
-        })),
+        body: ItemBody::Node(UnitNode::Own(Node::Drive { form, lanes, value })),
         places: ItemPlaces {
             at: target.place(),
             targets,

@@ -51,7 +51,7 @@ fn bits_of(alloc: Global, scope: &Scope, name: Identifier) -> Result<DeclaredBit
 }
 
 // The value of an assignment to so many bits, cut to these bits, where it is constant; or its first fault, or want of memory.
-#[tactic(auto, using(width_rules::proofs::Firsts::earlier, width_rules::proofs::Firsts::later, width_rules::proofs::Firsts::neither, width_rules::proofs::Opening::pushed, crate::proofs::Constants::reads_none))]
+#[tactic(auto, using(width_rules::proofs::Firsts::earlier, width_rules::proofs::Firsts::later, width_rules::proofs::Firsts::neither, width_rules::proofs::Opening::pushed))]
 fn constant(alloc: Global, scope: &Scope, width: u8, value: &Expr) -> Result<u128, Refusal>
     requires some { 1 ≤ width }
     requires few { width ≤ 128 }
@@ -68,11 +68,7 @@ fn constant(alloc: Global, scope: &Scope, width: u8, value: &Expr) -> Result<u12
 
 /// What a variable has at the beginning that is declared with this value: 29 UnknownName at its name, and then the first fault of the value,
 /// which has to be constant (25); or want of memory.
-pub fn initial(
-    alloc: Global,
-    scope: &Scope,
-    x: &DeclaredValue<'_>,
-) -> Result<InitialValue, Refusal>
+pub fn initial(alloc: Global, scope: &Scope, x: &DeclaredValue<'_>) -> Result<InitialValue, Refusal>
     ensures faultless { IfOk result (λ _. target_faults (scope_of scope.now) ConstantOnly (name_of (declared_value_of x.now)) ++ faults (scope_of scope.now) ConstantOnly (declared_value_of x.now).value ≡ []) }
     ensures initial { IfOk result (λ r. initial_of r ≡ initial_value (scope_of scope.now) (declared_value_of x.now)) }
     ensures fault { IfErr result (IsFirst (target_faults (scope_of scope.now) ConstantOnly (name_of (declared_value_of x.now)) ++ faults (scope_of scope.now) ConstantOnly (declared_value_of x.now).value)) }

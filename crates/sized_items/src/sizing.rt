@@ -23,7 +23,12 @@ use width_rules::Scope;
 /// Adds the sized items of a declaration, of the pairs of an `assign`, or of an `always` block, and the values at the beginning.
 /// Instances, genvars and parameters add nothing.
 #[tactic(auto, using(width_rules::proofs::Firsts::earlier, width_rules::proofs::Firsts::later, width_rules::proofs::Firsts::neither, crate::proofs::Listing::nothing_more))]
-pub fn size_plain(alloc: Global, scope: &Scope, item: &PlainItem, list: &mut ItemList) -> Result<(), Refusal>
+pub fn size_plain(
+    alloc: Global,
+    scope: &Scope,
+    item: &PlainItem,
+    list: &mut ItemList,
+) -> Result<(), Refusal>
     ensures faultless { OnOk result (plain_faults (scope_of scope.now) (plain_item_of item.now) ≡ []) }
     ensures items { OnOk result (map item_of list.new.items.items ≡ map item_of list.old.items.items ++ plain_items (scope_of scope.now) (plain_item_of item.now)) }
     ensures initials { OnOk result (map initial_of list.new.initials.items ≡ map initial_of list.old.initials.items ++ plain_initials (scope_of scope.now) (plain_item_of item.now)) }
@@ -66,7 +71,12 @@ fn size_regs(
 }
 
 /// The same of the outputs that a declaration of the body declares.
-pub fn size_outputs(alloc: Global, scope: &Scope, ports: &[Variable], list: &mut ItemList) -> Result<(), Refusal>
+pub fn size_outputs(
+    alloc: Global,
+    scope: &Scope,
+    ports: &[Variable],
+    list: &mut ItemList,
+) -> Result<(), Refusal>
     ensures faultless { OnOk result (declaration_faults (scope_of scope.now) (values_of (map declared_of ports.now)) ≡ []) }
     ensures items { OnOk result (map item_of list.new.items.items
         ≡ map item_of list.old.items.items ++ map (value_item (scope_of scope.now)) (values_of (map declared_of ports.now))) }
@@ -79,7 +89,12 @@ pub fn size_outputs(alloc: Global, scope: &Scope, ports: &[Variable], list: &mut
 }
 
 /// The same of a port that the header declares.
-pub fn size_port(alloc: Global, scope: &Scope, port: &HeaderPort, list: &mut ItemList) -> Result<(), Refusal>
+pub fn size_port(
+    alloc: Global,
+    scope: &Scope,
+    port: &HeaderPort,
+    list: &mut ItemList,
+) -> Result<(), Refusal>
     ensures faultless { OnOk result (declaration_faults (scope_of scope.now) (port_values (port_of port.now)) ≡ []) }
     ensures items { OnOk result (map item_of list.new.items.items
         ≡ map item_of list.old.items.items ++ map (value_item (scope_of scope.now)) (port_values (port_of port.now))) }
