@@ -3,6 +3,8 @@ use Rattle.std.specs.Prelude.{ℕ, ◌%◌, ◌^◌, Bool, true, false, if◌the
 use Rattle.ls_text.specs.declared.fault.Fault.{Fault}
 use Rattle.typed_ir.specs.Sized.{value_of}
 use Rattle.verilog_ast.specs.declared.identifier.Identifier.{Identifier}
+use Rattle.verilog_ast.specs.declared.port_net.PortNet.{PortNet}
+use Rattle.verilog_ast.specs.declared.port_net.PortNet.TheVariants as net
 use Rattle.verilog_ast.specs.Expressions.{Expression, Whole, Target, Reference}
 use Rattle.verilog_ast.specs.Declarations.{Declared, DeclaredReg, PortDeclaration, InputPort, OutputPort, NextPort}
 use Rattle.verilog_ast.specs.Items.{ContinuousAssignment}
@@ -14,30 +16,39 @@ use Rattle.width_rules.specs.Scopes.{Meaning, Signal, Constant, Turn, Genvar, Un
 use Rattle.width_rules.specs.Faults.{faults}
 use Rattle.width_rules.specs.Sizes.{no_signals}
 use Rattle.statement_rules.specs.Statements.{assigned}
+use Rattle.sized_items.specs.declared.value_kind.ValueKind.{ValueKind}
+use Rattle.sized_items.specs.declared.value_kind.ValueKind.TheVariants as kind
 use Rattle.statement_rules.specs.Targets.{target_length, target_faults, kind_faults}
 
 -- ---- the names that are declared with a value
 
 pub record DeclaredValue : Type 0 where
+  pub kind : ValueKind
   pub name : Identifier
   pub value : Expression
 
-abbrev pub value_if : Identifier → Option Expression → List DeclaredValue
-value_if n None = []
-value_if n (Some e) = record { name = n; value = e } ∷ []
+-- an output is a net without `reg`
+abbrev pub kind_of_net : PortNet → ValueKind
+kind_of_net net.Nothing = kind.Net
+kind_of_net net.Wire = kind.Net
+kind_of_net net.Reg = kind.Variable
 
-abbrev pub values_of : List Declared → List DeclaredValue
-values_of [] = []
-values_of (x ∷ xs) = value_if x.name x.value ++ values_of xs
+abbrev pub value_if : ValueKind → Identifier → Option Expression → List DeclaredValue
+value_if k n None = []
+value_if k n (Some e) = record { kind = k; name = n; value = e } ∷ []
+
+abbrev pub values_of : ValueKind → List Declared → List DeclaredValue
+values_of k [] = []
+values_of k (x ∷ xs) = value_if k x.name x.value ++ values_of k xs
 
 abbrev pub reg_values_of : List DeclaredReg → List DeclaredValue
 reg_values_of [] = []
-reg_values_of (x ∷ xs) = value_if x.name x.value ++ reg_values_of xs
+reg_values_of (x ∷ xs) = value_if kind.Variable x.name x.value ++ reg_values_of xs
 
 abbrev pub port_values : PortDeclaration → List DeclaredValue
 port_values (InputPort at net k n) = []
-port_values (OutputPort at net k x) = value_if x.name x.value
-port_values (NextPort x) = value_if x.name x.value
+port_values (OutputPort at net k x) = value_if (kind_of_net net) x.name x.value
+port_values (NextPort x) = value_if kind.AsDeclared x.name x.value
 
 abbrev pub name_of : DeclaredValue → Target
 name_of x = Reference (Whole x.name)
@@ -46,7 +57,7 @@ name_of x = Reference (Whole x.name)
 abbrev pub as_assignment : DeclaredValue → ContinuousAssignment
 as_assignment x = record { target = name_of x; value = x.value }
 
--- ---- what takes it, by what its name stands for
+-- ---- what takes it, by its declaration
 
 -- whether a continuous assignment drives it
 abbrev pub is_driven : Writer → Bool
@@ -62,8 +73,13 @@ is_net (Turn width value signed) = false
 is_net Genvar = false
 is_net Unknown = false
 
+abbrev pub is_net_by : ValueKind → (declared : Bool) → Bool
+is_net_by kind.Net declared = true
+is_net_by kind.Variable declared = false
+is_net_by kind.AsDeclared declared = declared
+
 abbrev pub is_net_value : Scope → DeclaredValue → Bool
-is_net_value scope x = is_net (scope x.name.name.0)
+is_net_value scope x = is_net_by x.kind (is_net (scope x.name.name.0))
 
 abbrev pub signal_in : Meaning → ℕ
 signal_in (Signal signal width lsb signed writer) = signal

@@ -19,7 +19,8 @@ use Rattle.statement_rules.specs.Targets.{target_length, parts}
 use Rattle.item_mentions.specs.Forms.{target_form, statement_form}
 use Rattle.item_mentions.specs.Mentions.{numbered, statement_reads, statement_targets}
 use Rattle.item_mentions.specs.Names.{target_names}
-use Rattle.sized_items.specs.DeclaredValues.{DeclaredValue, InitialValue, values_of, reg_values_of, as_assignment, is_net_value, signal_in, declaration_faults, declaration_initials}
+use Rattle.sized_items.specs.declared.value_kind.ValueKind.TheVariants as kind
+use Rattle.sized_items.specs.DeclaredValues.{kind_of_net, DeclaredValue, InitialValue, values_of, reg_values_of, as_assignment, is_net_value, signal_in, declaration_faults, declaration_initials}
 
 -- the parts of a target whose indices are constant
 abbrev pub fixed_lanes : List SizedTarget → List Lane
@@ -71,8 +72,8 @@ clocked_item scope at body = record {
 -- ---- items; instances have theirs elsewhere
 
 abbrev pub plain_items : Scope → ModuleItem → List PlacedItem
-plain_items scope (i.Outputs at n k xs) = map (value_item scope) (values_of xs)
-plain_items scope (i.Wires at k xs) = map (value_item scope) (values_of xs)
+plain_items scope (i.Outputs at n k xs) = map (value_item scope) (values_of (kind_of_net n) xs)
+plain_items scope (i.Wires at k xs) = map (value_item scope) (values_of kind.Net xs)
 plain_items scope (i.Regs at k xs) = map (value_item scope) (reg_values_of xs)
 plain_items scope (i.Assigns at xs) = map (drive_item scope) xs
 plain_items scope (i.Combinational at body) = combinational_item scope at body ∷ []
@@ -80,14 +81,14 @@ plain_items scope (i.Clocked at n body) = clocked_item scope at body ∷ []
 plain_items scope other = []
 
 abbrev pub plain_initials : Scope → ModuleItem → List InitialValue
-plain_initials scope (i.Outputs at n k xs) = declaration_initials scope (values_of xs)
-plain_initials scope (i.Wires at k xs) = declaration_initials scope (values_of xs)
+plain_initials scope (i.Outputs at n k xs) = declaration_initials scope (values_of (kind_of_net n) xs)
+plain_initials scope (i.Wires at k xs) = declaration_initials scope (values_of kind.Net xs)
 plain_initials scope (i.Regs at k xs) = declaration_initials scope (reg_values_of xs)
 plain_initials scope other = []
 
 abbrev pub plain_faults : Scope → ModuleItem → List Fault
-plain_faults scope (i.Outputs at n k xs) = declaration_faults scope (values_of xs)
-plain_faults scope (i.Wires at k xs) = declaration_faults scope (values_of xs)
+plain_faults scope (i.Outputs at n k xs) = declaration_faults scope (values_of (kind_of_net n) xs)
+plain_faults scope (i.Wires at k xs) = declaration_faults scope (values_of kind.Net xs)
 plain_faults scope (i.Regs at k xs) = declaration_faults scope (reg_values_of xs)
 plain_faults scope (i.Assigns at xs) = assign_faults scope xs
 plain_faults scope (i.Combinational at body) = statement_faults scope writer.Combinational body

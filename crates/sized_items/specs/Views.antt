@@ -5,7 +5,7 @@ use Rattle.sized_items.specs.declared.initial_value.InitialValue.{InitialValue a
 use Rattle.sized_items.specs.DeclaredValues.{DeclaredValue, InitialValue}
 
 abbrev pub declared_value_of : Written → DeclaredValue
-declared_value_of x = record { name = x.name; value = expression_of x.value.now }
+declared_value_of x = record { kind = x.kind; name = x.name; value = expression_of x.value.now }
 
 abbrev pub initial_of : Initial → InitialValue
 initial_of x = record { signal = x.signal; value = x.value }

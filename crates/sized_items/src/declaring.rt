@@ -18,6 +18,7 @@ use crate::declared_value::DeclaredValue;
 use crate::driving::size_pair;
 use crate::initials::initial;
 use crate::item_list::ItemList;
+use crate::value_kind::ValueKind;
 use ls_text::Refusal;
 use no_memory::NoMemory;
 use statement_rules::check_target;
@@ -28,12 +29,23 @@ use verilog_ast::{Identifier, Lhs, Reference};
 use width_rules::{Entry, Scope, Writer};
 
 // Whether a continuous assignment drives what a name stands for.
-fn is_net(scope: &Scope, name: Identifier) -> bool
+fn is_net_name(scope: &Scope, name: Identifier) -> bool
     ensures { result ≡ d.is_net (scope_of scope.now name.name.0) }
 {
     match scope.find(name.name) {
         Entry::Signal(x) => matches!(x.writer, Writer::Continuous),
         Entry::Constant(_) | Entry::Turn(_) | Entry::Genvar | Entry::Unknown => false,
+    }
+}
+
+// Whether a continuous assignment takes the value.
+fn is_net(scope: &Scope, x: &DeclaredValue<'_>) -> bool
+    ensures { result ≡ is_net_value (scope_of scope.now) (declared_value_of x.now) }
+{
+    match x.kind {
+        ValueKind::Net => true,
+        ValueKind::Variable => false,
+        ValueKind::AsDeclared => is_net_name(scope, x.name),
     }
 }
 
@@ -144,7 +156,7 @@ fn size_value(
         ++ (if is_net_value (scope_of scope.now) (declared_value_of x.now) then [] else initial_value (scope_of scope.now) (declared_value_of x.now) ∷ [])) }
     ensures fault { IfErr result (IsFirst (value_faults (scope_of scope.now) (declared_value_of x.now))) }
 {
-    if is_net(scope, x.name) {
+    if is_net(scope, x) {
         size_net(alloc, scope, x, &mut list.items)
     } else {
         size_variable(alloc, scope, x, list)
@@ -175,7 +187,7 @@ fn check_value(alloc: Global, scope: &Scope, x: &DeclaredValue<'_>) -> Result<()
     ensures faultless { OnOk result (value_kinds (scope_of scope.now) (declared_value_of x.now) ≡ []) }
     ensures fault { IfErr result (IsFirst (value_kinds (scope_of scope.now) (declared_value_of x.now))) }
 {
-    let by = writer_by(is_net(scope, x.name));
+    let by = writer_by(is_net(scope, x));
     let target = named(x.name);
     check_target(alloc, scope, by, &target)
 }

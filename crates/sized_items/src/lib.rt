@@ -15,6 +15,7 @@ mod initials;
 mod item_list;
 mod laws;
 mod sizing;
+mod value_kind;
 
 pub use initial_value::InitialValue;
 pub use item_list::ItemList;

@@ -6,4 +6,4 @@ use Rattle.sized_items.proofs.finding.values_of.Given as goal
 
 abbrev pub invariant-loop-variable : goal.invariant-loop-variable
 invariant-loop-variable l =
-    map declared_value_of l.found.items ++ values_of (map declared_of (drop l.variable-index l.variables)) ≡ values_of (map declared_of l.variables)
+    map declared_value_of l.found.items ++ values_of l.kind (map declared_of (drop l.variable-index l.variables)) ≡ values_of l.kind (map declared_of l.variables)
