@@ -1,0 +1,26 @@
+use Rattle.std.proofs.Common.{ap₂}
+use Rattle.typed_ir.specs.declared.target_form.TargetForm.{TargetForm}
+use Rattle.typed_ir.specs.Nodes.{Block}
+use Rattle.typed_ir.specs.Statements.{stmt_of}
+use Rattle.typed_ir.specs.Stmts.{SizedStmt}
+use Rattle.unit_ir.specs.Items.{Node}
+use Rattle.unit_ir.specs.Trees.{Own}
+use Rattle.verilog_ast.specs.Views.{statement_of}
+use Rattle.width_rules.specs.declared.writer.Writer.TheVariants as writer
+use Rattle.width_rules.specs.Entries.{scope_of}
+use Rattle.item_mentions.specs.Forms.{statement_form}
+use Rattle.item_mentions.specs.Mentions.{statement_reads, statement_targets}
+use Rattle.statement_rules.specs.Statements.{sized_statement}
+use Rattle.sized_items.proofs.Placed.{placed_is}
+use Rattle.sized_items.proofs.blocking.size_combinational.Goals as goal
+
+pub returns-clause-item : goal.returns-clause-item
+returns-clause-item c =
+    let scope = scope_of c.args.scope.now in
+    let st = statement_of c.args.body.now in
+    let places = c.in_ok-places.places in
+    placed_is (Node (Own (Block c.statement_form-form.result (stmt_of c.in_ok-body.body))))
+    (Node (Own (Block (statement_form scope st) (sized_statement scope writer.Combinational st)))) places.at c.args.at
+    places.targets.items (statement_targets 0 st) places.reads.items (statement_reads scope 0 st)
+    (ap₂ (λ (f : TargetForm) (s : SizedStmt). Node (Own (Block f s))) c.statement_form-form.ensures c.in_ok-body.ensures.form)
+    c.in_ok-places.ensures.at c.in_ok-places.ensures.targets c.in_ok-places.ensures.reads

@@ -1,0 +1,3 @@
+pub mod DeclaredValues
+pub mod SizedItems
+pub mod Views
