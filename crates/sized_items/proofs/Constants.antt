@@ -4,7 +4,7 @@ use Rattle.typed_ir.specs.Sized.{Sized, fits_signals, value_of}
 use Rattle.verilog_ast.specs.Expressions.{Expression}
 use Rattle.width_rules.specs.declared.due.Due.TheVariants.{ConstantOnly}
 use Rattle.width_rules.specs.Scopes.{Scope}
-use Rattle.width_rules.specs.Sizes.{push, name_length, no_signals}
+use Rattle.width_rules.specs.Sizes.{name_length, no_signals}
 use Rattle.width_rules.specs.Opened.{Opened, closed, open_of}
 use Rattle.width_rules.specs.Faults.{faults}
 use Rattle.width_rules.proofs.Lengths.{whole_is}

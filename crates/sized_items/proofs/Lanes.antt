@@ -1,7 +1,6 @@
 -- The parts of a continuous assignment, of which all bits are known.
 use Rattle.std.proofs.Common.{◌≡◌, List, [], ◌∷◌, map, refl, sym, ◌∙◌, ap}
 use Rattle.typed_ir.specs.declared.lane.Lane.{Lane}
-use Rattle.typed_ir.specs.Sized.{Sized}
 use Rattle.typed_ir.specs.Stmts.{Fixed}
 use Rattle.typed_ir.specs.Forms.{sized}
 use Rattle.statement_rules.specs.declared.drive.Drive.{Drive}

@@ -1,5 +1,5 @@
 -- Declarations with values: of a net a continuous assignment, of a variable what it has at the beginning (IEEE Std 1364-2005, 6.1.1, 6.2.1).
-use Rattle.std.specs.Prelude.{ℕ, ◌%◌, ◌^◌, Bool, true, false, if◌then◌else◌, List, [], ◌∷◌, ◌++◌, map, Option, Some, None}
+use Rattle.std.specs.Prelude.{ℕ, ◌%◌, ◌^◌, Bool, true, false, if◌then◌else◌, List, [], ◌∷◌, ◌++◌, Option, Some, None}
 use Rattle.ls_text.specs.declared.fault.Fault.{Fault}
 use Rattle.typed_ir.specs.Sized.{value_of}
 use Rattle.verilog_ast.specs.declared.identifier.Identifier.{Identifier}

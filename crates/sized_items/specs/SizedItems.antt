@@ -1,5 +1,5 @@
 -- The items of a module but for instances: their sized items with places, and what may be wrong with one (IEEE Std 1364-2005, 6.1, 9.2, 9.9).
-use Rattle.std.specs.Prelude.{ℕ, Bool, if◌then◌else◌, List, [], ◌∷◌, ◌++◌, map}
+use Rattle.std.specs.Prelude.{if◌then◌else◌, List, [], ◌∷◌, map}
 use Rattle.ls_text.specs.declared.fault.Fault.{Fault}
 use Rattle.ls_text.specs.declared.place.Place.{Place}
 use Rattle.typed_ir.specs.declared.lane.Lane.{Lane}
