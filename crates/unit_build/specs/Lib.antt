@@ -1,0 +1,4 @@
+pub mod Parameters
+pub mod Walks
+pub mod Settled
+pub mod Building
