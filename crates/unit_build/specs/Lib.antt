@@ -1,4 +1,6 @@
 pub mod Parameters
 pub mod Walks
+pub mod WalksFrom
+pub mod WalkViews
 pub mod Settled
 pub mod Building

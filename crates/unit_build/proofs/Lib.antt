@@ -1,0 +1,4 @@
+pub mod Marking
+pub mod Overriding
+pub mod Registers
+pub mod Walking
