@@ -1,4 +1,6 @@
 pub mod Marking
 pub mod Overriding
 pub mod Registers
-pub mod Walking
+pub mod Stepped
+pub mod Sound
+pub mod Making

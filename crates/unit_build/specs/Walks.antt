@@ -12,7 +12,7 @@ use Rattle.gen_unroll.specs.Steps.{ModuleStep, Listed, Port, Parameter, Item, La
 use Rattle.unit_names.specs.Signals.{NamedSignal}
 use Rattle.unit_names.specs.UnitReaches.{unit_in_reach}
 use Rattle.connection_rules.specs.Instances.{item_faults, instance_items}
-use Rattle.sized_items.specs.Declared.{InitialValue, port_values, declaration_faults, declaration_initials}
+use Rattle.sized_items.specs.DeclaredValues.{InitialValue, port_values, declaration_faults, declaration_initials}
 use Rattle.sized_items.specs.SizedItems.{value_item, plain_items, plain_initials, plain_faults}
 
 -- ---- instances, and their shapes among those that are left

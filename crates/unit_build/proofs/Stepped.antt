@@ -11,7 +11,7 @@ use Rattle.gen_unroll.specs.declared.step.Step.{Step}
 use Rattle.gen_unroll.specs.Steps.{ModuleStep}
 use Rattle.gen_unroll.specs.Views.{step_of}
 use Rattle.unit_names.specs.Signals.{NamedSignal}
-use Rattle.sized_items.specs.Declared.{InitialValue}
+use Rattle.sized_items.specs.DeclaredValues.{InitialValue}
 use Rattle.unit_build.specs.Walks.{Walk, step_faults, step_items, step_initials, behind, walk_faults, walk_items, walk_initials}
 
 -- a step without a fault leaves the faults of those behind it
