@@ -4,3 +4,4 @@ pub mod Registers
 pub mod Stepped
 pub mod Sound
 pub mod Making
+pub mod Unrolling

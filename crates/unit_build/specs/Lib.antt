@@ -4,3 +4,4 @@ pub mod WalksFrom
 pub mod WalkViews
 pub mod Settled
 pub mod Building
+pub mod FromSteps

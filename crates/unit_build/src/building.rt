@@ -2,7 +2,7 @@
 ghost use Rattle.std.specs.Prelude.{◌≡◌, [], map, Ok, IfOk, IfErr, OnOk};
 ghost use Rattle.driver_rules.specs.DriverFaults.{driver_faults};
 ghost use Rattle.driver_rules.specs.Driven.{AreNarrowItems, HasRoles, IsDriven};
-ghost use Rattle.gen_unroll.specs.Values.{◌>>=◌, Answers};
+ghost use Rattle.gen_unroll.specs.Values.{Answers};
 ghost use Rattle.gen_unroll.specs.Views.{step_of};
 ghost use Rattle.module_registry.specs.UnitViews.{built_of};
 ghost use Rattle.unit_ir.specs.Items.{items_of, unit_of};
@@ -11,6 +11,7 @@ ghost use Rattle.unit_names.specs.ModuleViews.{table_in};
 ghost use Rattle.unit_names.specs.Numbers.{module_table};
 ghost use Rattle.width_rules.specs.Faults.{IsFirst};
 ghost use Rattle.unit_build.specs.Building as b;
+ghost use Rattle.unit_build.specs.FromSteps.{unit_from};
 
 use crate::parameters::overrides_of;
 use crate::placing::place_items;
@@ -91,8 +92,7 @@ fn unit_with(
 
 // The unit of a job with these steps, or the first fault of a range, of an item or of what drives what.
 fn unit_in(alloc: Global, job: &BuildJob, steps: &[Step<'_>]) -> Result<Unit, Refusal>
-    ensures { Answers result built_of (module_table (b.module_of job.now) (map step_of steps.now)
-        >>= λ t. b.unit_with job.now t (b.settled_signals (b.module_of job.now) t (map step_of steps.now)) (map step_of steps.now)) }
+    ensures { Answers result built_of (unit_from job.now (map step_of steps.now)) }
 {
     let module = &job.module;
     let signals = module_signals(alloc, &module.body, steps)?;
@@ -105,7 +105,7 @@ fn unit_in(alloc: Global, job: &BuildJob, steps: &[Step<'_>]) -> Result<Unit, Re
 /// Faults, the first one: those of unrolling and of ranges, which elaboration finds before; then item by item in the order of the text those
 /// of its expressions (29, 25, 26, 31, 32) and only then those of its targets (33) and of a second default (30); then 34 in the order of
 /// the items; then block by block 36 and 35. Else want of memory.
-#[tactic(auto, unfolding(crate::specs::Building::built, crate::specs::Building::job_steps))]
+#[tactic(auto, using(crate::proofs::Unrolling::stops, crate::proofs::Unrolling::goes))]
 pub fn build(alloc: Global, job: &BuildJob) -> Result<Unit, Refusal>
     ensures { Answers result built_of (b.built job.now) }
 {
