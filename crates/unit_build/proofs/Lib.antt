@@ -1,7 +1,6 @@
 pub mod Marking
 pub mod Overriding
 pub mod Registers
-pub mod Stepped
 pub mod Sound
 pub mod Making
 pub mod Unrolling
