@@ -47,7 +47,7 @@ is_sound job m settled steps parts p table none placed driven made =
     let there = placed_items job (table_in m) settled ss in
     let item = none_first (job_faults job (table_in m) settled ss) (driver_faults there) none in
     let goes : AreNarrowItems there → HasRoles there → IsDriven (unit_of there) =
-        subst (λ (q : PlacedItems). AreNarrowItems q → HasRoles q → IsDriven (unit_of q)) placed driven in
+    subst (λ (q : PlacedItems). AreNarrowItems q → HasRoles q → IsDriven (unit_of q)) placed driven in
     subst IsUnit (sym (made ∙ ap unit_of placed)) (unit job m settled steps table (goes (narrow job m settled steps item) (roles job m settled steps table)))
 
 pub is_sized : (job : BuildJob) (m : ModuleSignals) (settled : List Bool) (steps : List Step) (parts : UnitParts) (p : PlacedItems)

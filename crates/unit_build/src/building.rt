@@ -1,12 +1,10 @@
 // The unit of a job.
-ghost use Rattle.std.specs.Prelude.{◌≡◌, [], map, Ok, IfOk, IfErr, OnOk};
-ghost use Rattle.driver_rules.specs.DriverFaults.{driver_faults};
+ghost use Rattle.std.specs.Prelude.{◌≡◌, [], map, Ok, IfOk, IfErr};
 ghost use Rattle.driver_rules.specs.Driven.{AreNarrowItems, HasRoles, IsDriven};
 ghost use Rattle.gen_unroll.specs.Values.{Answers};
 ghost use Rattle.gen_unroll.specs.Views.{step_of};
 ghost use Rattle.module_registry.specs.UnitViews.{built_of};
 ghost use Rattle.unit_ir.specs.Items.{items_of, unit_of};
-ghost use Rattle.unit_ir.specs.Trees.{IsUnit};
 ghost use Rattle.unit_names.specs.ModuleViews.{table_in};
 ghost use Rattle.unit_names.specs.Numbers.{module_table};
 ghost use Rattle.width_rules.specs.Faults.{IsFirst};
@@ -22,7 +20,6 @@ use driver_rules::drivers;
 use gen_unroll::{Step, Unrolled, unroll};
 use ls_text::Refusal;
 use module_registry::BuildJob;
-use no_memory::NoMemory;
 use std::alloc::Global;
 use unit_ir::{TypedItems, Unit};
 use unit_names::{ModuleSignals, module_signals};

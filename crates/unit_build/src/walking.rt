@@ -1,12 +1,12 @@
 // The items of a module step by step.
-ghost use Rattle.std.specs.Prelude.{◌≡◌, ◌++◌, ◌+◌, [], map, length, take, IfOk, OnOk, IfErr};
+ghost use Rattle.std.specs.Prelude.{◌≡◌, ◌++◌, ◌+◌, [], map, IfOk, OnOk, IfErr};
 ghost use Rattle.unit_ir.specs.Items.{item_of};
 ghost use Rattle.verilog_ast.specs.Views.{declaration_of};
 ghost use Rattle.width_rules.specs.Faults.{IsFirst};
 ghost use Rattle.gen_unroll.specs.Reaches.{IsEven};
 ghost use Rattle.gen_unroll.specs.Views.{step_of};
 ghost use Rattle.unit_names.specs.ModuleViews.{signals_in};
-ghost use Rattle.unit_names.specs.UnitReaches.{is_settled, writer_of, unit_reach_in};
+ghost use Rattle.unit_names.specs.UnitReaches.{is_settled, writer_of};
 ghost use Rattle.sized_items.specs.Views.{initial_of};
 ghost use Rattle.unit_build.specs.Walks as w;
 ghost use Rattle.unit_build.specs.WalkViews.{walk_of};
@@ -86,7 +86,14 @@ fn size_all(
     ensures fault { IfErr result (IsFirst (w.walk_faults (writer_of (is_settled settled.now) (signals_in signals.now)) (signals_in signals.now) (walk_of walk.old) (map step_of steps.now))) }
 {
     for step in steps {
-        size_step(alloc, &walk.here.reach.scope, walk.child, walk.left, step, list)?;
+        size_step(
+            alloc,
+            &walk.here.reach.scope,
+            walk.child,
+            walk.left,
+            step,
+            list,
+        )?;
         move_on(walk, signals, settled, step)?;
     }
     Ok(())
