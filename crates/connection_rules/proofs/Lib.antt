@@ -1,4 +1,5 @@
 pub mod Listing
+pub mod Written
 pub mod Ports
 pub mod Placed
 pub mod Endings

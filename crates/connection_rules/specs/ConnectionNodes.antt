@@ -42,11 +42,11 @@ abbrev pub connection_node : Scope → ℕ → Connected → UnitNode
 connection_node scope child c = if c.shape.input then input_node scope child c else output_node scope child c (driven_by c)
 
 -- an input has no target in its module
-abbrev pub connection_mentions : Connected → List Mention
-connection_mentions c = if c.shape.input then [] else output_mentions (driven_by c)
+abbrev pub connected_mentions : Connected → List Mention
+connected_mentions c = if c.shape.input then [] else output_mentions c.value
 
 abbrev pub item_with : UnitNode → List Mention → Connected → PlacedItem
 item_with node targets c = record { body = Node node; at = expression_place c.value; targets = targets; reads = [] }
 
 abbrev pub connection_item : Scope → ℕ → Connected → PlacedItem
-connection_item scope child c = item_with (connection_node scope child c) (connection_mentions c) c
+connection_item scope child c = item_with (connection_node scope child c) (connected_mentions c) c

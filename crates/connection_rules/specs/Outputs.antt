@@ -1,19 +1,22 @@
 -- What an output connection drives: it stands there as an expression (IEEE Std 1364-2005, 12.3.9, A.4.1).
-use Rattle.std.specs.Prelude.{ℕ, suc, Bool, true, false, ◌&&◌, if◌then◌else◌, List, [], ◌∷◌, ◌++◌, Option, Some, None}
+use Rattle.std.specs.Prelude.{Bool, true, false, ◌&&◌, if◌then◌else◌, List, [], ◌∷◌, ◌++◌, Option, Some, None}
 use Rattle.ls_text.specs.declared.fault.Fault.{Fault}
 use Rattle.typed_ir.specs.declared.lane.Lane.{Lane}
 use Rattle.typed_ir.specs.declared.target_form.TargetForm.{TargetForm}
 use Rattle.typed_ir.specs.declared.target_form.TargetForm.TheVariants.{Name, Bit, Range}
 use Rattle.typed_ir.specs.Stmts.{SizedTarget, Fixed, Moving}
 use Rattle.unit_ir.specs.declared.mention.Mention.{Mention}
-use Rattle.verilog_ast.specs.declared.identifier.Identifier.{Identifier}
 use Rattle.verilog_ast.specs.Expressions as e
 use Rattle.verilog_ast.specs.Expressions.{Expression, Target, Reference, Joined, NoTarget, Targets}
 use Rattle.width_rules.specs.declared.writer.Writer.TheVariants as writer
 use Rattle.width_rules.specs.declared.due.Due.TheVariants.{AnyValue, ConstantOnly}
 use Rattle.width_rules.specs.Scopes.{Scope}
-use Rattle.width_rules.specs.Faults.{faults, fault_of}
+use Rattle.width_rules.specs.Sizes.{length}
+use Rattle.width_rules.specs.Faults.{faults, fault_of, total_faults}
+use Rattle.width_rules.specs.References.{reference_faults}
 use Rattle.statement_rules.specs.Targets.{target_faults, kind_faults}
+use Rattle.item_mentions.specs.Names.{expression_targets}
+use Rattle.item_mentions.specs.Mentions.{numbered}
 
 -- ---- an expression as a target: a name, a select, or a concatenation of such
 
@@ -55,17 +58,40 @@ as_target x = if is_target x then Some (target_at x) else None
 
 -- ---- what may be wrong with it
 
--- its names and selects, whose indices have to be constant; what is no target is read as any expression
+-- of what is none, part by part: a name or select as in a target, of a concatenation its width too, and anything else as it is read
+abbrev pub part_faults : Scope → Expression → List Fault
+part_faults scope (e.Whole n) = reference_faults scope ConstantOnly (e.Whole n)
+part_faults scope (e.BitSelect n x) = reference_faults scope ConstantOnly (e.BitSelect n x)
+part_faults scope (e.PartSelect n x y) = reference_faults scope ConstantOnly (e.PartSelect n x y)
+part_faults scope (e.UpwardSelect n x y) = reference_faults scope ConstantOnly (e.UpwardSelect n x y)
+part_faults scope (e.DownwardSelect n x y) = reference_faults scope ConstantOnly (e.DownwardSelect n x y)
+part_faults scope (e.Concatenation at xs) = part_faults scope xs ++ total_faults at (length scope xs)
+part_faults scope e.NoPart = []
+part_faults scope (e.Parts x xs) = part_faults scope x ++ part_faults scope xs
+part_faults scope other = faults scope AnyValue other
+
+-- its names and selects, whose indices have to be constant
 abbrev pub written_faults : Scope → Expression → Option Target → List Fault
-written_faults scope x None = faults scope AnyValue x
+written_faults scope x None = part_faults scope x
 written_faults scope x (Some t) = target_faults scope ConstantOnly t
 
 abbrev pub output_faults : Scope → Expression → List Fault
 output_faults scope x = written_faults scope x (as_target x)
 
--- 33: it is no target, or no continuous assignment may write it
+-- 33 at a part that is no target, or that no continuous assignment may write
+abbrev pub part_kinds : Scope → Expression → List Fault
+part_kinds scope (e.Whole n) = kind_faults scope writer.Continuous (Reference (e.Whole n))
+part_kinds scope (e.BitSelect n x) = kind_faults scope writer.Continuous (Reference (e.BitSelect n x))
+part_kinds scope (e.PartSelect n x y) = kind_faults scope writer.Continuous (Reference (e.PartSelect n x y))
+part_kinds scope (e.UpwardSelect n x y) = kind_faults scope writer.Continuous (Reference (e.UpwardSelect n x y))
+part_kinds scope (e.DownwardSelect n x y) = kind_faults scope writer.Continuous (Reference (e.DownwardSelect n x y))
+part_kinds scope (e.Concatenation at xs) = part_kinds scope xs
+part_kinds scope e.NoPart = []
+part_kinds scope (e.Parts x xs) = part_kinds scope x ++ part_kinds scope xs
+part_kinds scope other = fault_of 33 other ∷ []
+
 abbrev pub written_kinds : Scope → Expression → Option Target → List Fault
-written_kinds scope x None = fault_of 33 x ∷ []
+written_kinds scope x None = part_kinds scope x
 written_kinds scope x (Some t) = kind_faults scope writer.Continuous t
 
 abbrev pub output_kinds : Scope → Expression → List Fault
@@ -85,27 +111,10 @@ output_form (Joined at ts) = output_form ts
 output_form NoTarget = Name
 output_form (Targets t ts) = output_form t
 
-abbrev pub written_name : Expression → List Identifier
-written_name (e.Whole n) = n ∷ []
-written_name (e.BitSelect n x) = n ∷ []
-written_name (e.PartSelect n x y) = n ∷ []
-written_name (e.UpwardSelect n x y) = n ∷ []
-written_name (e.DownwardSelect n x y) = n ∷ []
-written_name other = []
+-- ---- the names of its parts, from left to right
 
--- the names of its parts from left to right
-abbrev pub output_names : Target → List Identifier
-output_names (Reference x) = written_name x
-output_names (Joined at ts) = output_names ts
-output_names NoTarget = []
-output_names (Targets t ts) = output_names t ++ output_names ts
-
-abbrev pub mentioned_from : ℕ → List Identifier → List Mention
-mentioned_from k [] = []
-mentioned_from k (n ∷ ns) = record { name = n.name; at = n.at; order = k } ∷ mentioned_from (suc k) ns
-
-abbrev pub output_mentions : Target → List Mention
-output_mentions t = mentioned_from 0 (output_names t)
+abbrev pub output_mentions : Expression → List Mention
+output_mentions x = if is_target x then numbered 0 (expression_targets x) else []
 
 -- ---- its lanes: the bits of all parts are known where its indices are constant
 

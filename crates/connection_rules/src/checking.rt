@@ -5,13 +5,12 @@ ghost use Rattle.width_rules.specs.declared.writer.Writer.TheVariants as writer;
 ghost use Rattle.width_rules.specs.Entries.{scope_of};
 ghost use Rattle.width_rules.specs.Faults.{IsFirst};
 ghost use Rattle.width_rules.specs.Found.{meaning_of};
-ghost use Rattle.statement_rules.specs.Targets.{may_write, kind_fault, kind_faults};
+ghost use Rattle.statement_rules.specs.Targets.{may_write, kind_fault};
 ghost use Rattle.connection_rules.specs.Connections.{connection_kinds, all_connection_kinds};
-ghost use Rattle.connection_rules.specs.Outputs.{target_at, output_kinds};
+ghost use Rattle.connection_rules.specs.Outputs.{part_kinds, output_kinds};
 ghost use Rattle.connection_rules.specs.Views.{connected_of};
 
 use crate::connection::Connection;
-use crate::shaping::{is_target, name_of};
 use ls_text::Refusal;
 use std::alloc::Global;
 use verilog_ast::{Expr, Identifier, Reference};
@@ -41,8 +40,8 @@ fn check_name(alloc: Global, scope: &Scope, name: Identifier) -> Result<(), Refu
 
 // The same of a name with its select or without.
 fn check_read(alloc: Global, scope: &Scope, read: &Reference) -> Result<(), Refusal>
-    ensures faultless { OnOk result (kind_faults (scope_of scope.now) writer.Continuous (target_at (reference_of read.now)) ≡ []) }
-    ensures fault { IfErr result (IsFirst (kind_faults (scope_of scope.now) writer.Continuous (target_at (reference_of read.now)))) }
+    ensures faultless { OnOk result (part_kinds (scope_of scope.now) (reference_of read.now) ≡ []) }
+    ensures fault { IfErr result (IsFirst (part_kinds (scope_of scope.now) (reference_of read.now))) }
 {
     match read {
         Reference::Whole(name) => check_name(alloc, scope, *name),
@@ -53,47 +52,46 @@ fn check_read(alloc: Global, scope: &Scope, read: &Reference) -> Result<(), Refu
     }
 }
 
-// 33 at the first part of what an expression drives that no continuous assignment may write.
+// 33 at the first part of what an output is connected to that is no target, or that no continuous assignment may write.
 #[cycle(check)]
-fn check_target(alloc: Global, scope: &Scope, e: &Expr) -> Result<(), Refusal>
-    ensures faultless { OnOk result (kind_faults (scope_of scope.now) writer.Continuous (target_at (expression_of e.now)) ≡ []) }
-    ensures fault { IfErr result (IsFirst (kind_faults (scope_of scope.now) writer.Continuous (target_at (expression_of e.now)))) }
+fn check_part(alloc: Global, scope: &Scope, e: &Expr) -> Result<(), Refusal>
+    ensures faultless { OnOk result (part_kinds (scope_of scope.now) (expression_of e.now) ≡ []) }
+    ensures fault { IfErr result (IsFirst (part_kinds (scope_of scope.now) (expression_of e.now))) }
 {
     match e {
         Expr::Read(read) => check_read(alloc, scope, read),
-        Expr::Concatenation(_, parts) => check_targets(alloc, scope, parts.as_slice()),
+        Expr::Concatenation(_, parts) => check_parts(alloc, scope, parts.as_slice()),
         Expr::Number(_, _)
         | Expr::Unary(_, _, _)
         | Expr::Binary(_, _, _)
         | Expr::Conditional(_, _, _)
         | Expr::Replication(_, _, _)
-        | Expr::Bracketed(_, _) => Ok(()),
+        | Expr::Bracketed(_, _) => Err(refused_of(alloc, 33, e)),
     }
 }
 
 // The same of parts one after another.
 #[tactic(auto, using(width_rules::proofs::Firsts::earlier, width_rules::proofs::Firsts::later, width_rules::proofs::Firsts::neither, crate::proofs::Listing::kind_ahead, crate::proofs::Listing::kind_fault))]
 #[cycle(check)]
-fn check_targets(alloc: Global, scope: &Scope, list: &[Expr]) -> Result<(), Refusal>
-    ensures faultless { OnOk result (kind_faults (scope_of scope.now) writer.Continuous (target_at (parts_of (map expression_of list.now))) ≡ []) }
-    ensures fault { IfErr result (IsFirst (kind_faults (scope_of scope.now) writer.Continuous (target_at (parts_of (map expression_of list.now))))) }
+fn check_parts(alloc: Global, scope: &Scope, list: &[Expr]) -> Result<(), Refusal>
+    ensures faultless { OnOk result (part_kinds (scope_of scope.now) (parts_of (map expression_of list.now)) ≡ []) }
+    ensures fault { IfErr result (IsFirst (part_kinds (scope_of scope.now) (parts_of (map expression_of list.now)))) }
 {
     for part in list {
-        check_target(alloc, scope, part)?;
+        check_part(alloc, scope, part)?;
     }
     Ok(())
 }
 
-/// 33 BadTarget at the first token of what an output is connected to where that is no target, or at its first part, from left to right,
-/// that no continuous assignment may write (IEEE Std 1364-2005, 6.1, 12.3.9); or want of memory.
+/// 33 BadTarget at the first part, from left to right, of what an output is connected to that is no target, at its first token, or that no
+/// continuous assignment may write, at its name (IEEE Std 1364-2005, 6.1, 12.3.9); or want of memory. The parts are those of a
+/// concatenation, also of one within another; anything else is one part.
+#[tactic(auto, using(crate::proofs::Written::no_kinds, crate::proofs::Written::first_kind))]
 pub fn check_output(alloc: Global, scope: &Scope, e: &Expr) -> Result<(), Refusal>
     ensures faultless { OnOk result (output_kinds (scope_of scope.now) (expression_of e.now) ≡ []) }
     ensures fault { IfErr result (IsFirst (output_kinds (scope_of scope.now) (expression_of e.now))) }
 {
-    if !is_target(e) {
-        return Err(refused_of(alloc, 33, e));
-    }
-    check_target(alloc, scope, e)
+    check_part(alloc, scope, e)
 }
 
 // The same of a connection; an input has no target.

@@ -1,10 +1,10 @@
 // Expressions as targets: whether one is a target, and how it is shown.
-ghost use Rattle.std.specs.Prelude.{◌≡◌, ◌∷◌, [], true, map};
+ghost use Rattle.std.specs.Prelude.{◌≡◌, true, map};
 ghost use Rattle.verilog_ast.specs.Views.{expression_of, reference_of, parts_of};
 ghost use Rattle.connection_rules.specs.Outputs as o;
 
 use typed_ir::TargetForm;
-use verilog_ast::{Expr, Identifier, Reference};
+use verilog_ast::{Expr, Reference};
 
 // A name, with its select or without, is a target.
 fn is_read(reference: &Reference) -> bool
@@ -48,19 +48,6 @@ fn are_targets(parts: &[Expr]) -> bool
         }
     }
     true
-}
-
-/// The name of a part, as it stands in the text.
-pub fn name_of(reference: &Reference) -> Identifier
-    ensures { result ∷ [] ≡ o.written_name (reference_of reference.now) }
-{
-    match reference {
-        Reference::Whole(name)
-        | Reference::Bit(name, _)
-        | Reference::Part(name, _, _)
-        | Reference::Upward(name, _, _)
-        | Reference::Downward(name, _, _) => *name,
-    }
 }
 
 // How a part is shown.

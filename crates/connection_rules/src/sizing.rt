@@ -144,7 +144,7 @@ fn size_driven(
 ) -> Result<TypedItem, Refusal>
     ensures faultless { IfOk result (λ _. output_faults (scope_of scope.now) (connected_of c.now).value ≡ []) }
     ensures item { IfOk result (λ x. item_of x
-        ≡ item_with (output_node (scope_of scope.now) child (connected_of c.now) (driven_by (connected_of c.now))) (output_mentions (driven_by (connected_of c.now))) (connected_of c.now)) }
+        ≡ item_with (output_node (scope_of scope.now) child (connected_of c.now) (driven_by (connected_of c.now))) (output_mentions (connected_of c.now).value) (connected_of c.now)) }
     ensures fault { IfErr result (IsFirst (output_faults (scope_of scope.now) (connected_of c.now).value)) }
 {
     let SizedOutput {

@@ -4,6 +4,8 @@ pub mod Rowing
 pub mod Growth
 pub mod Ordering
 pub mod Entered
+pub mod Orders
+pub mod Header
 pub mod Numbered
 pub mod Fitting
 pub mod Placeholders

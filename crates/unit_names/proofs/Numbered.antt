@@ -1,5 +1,5 @@
--- Numbers of registers and of inputs: each is that of a signal and stands once, and none is of both.
-use Rattle.std.proofs.Common.{◌≡◌, ℕ, zero, suc, ◌+◌, ◌<◌, ◌≤◌, ◌&&◌, ◌==◌, inl, inr, Bool, true, false, cond, not, filter, List, [], ◌∷◌, ◌++◌, length, refl, sym, ◌∙◌, ap, subst, arith, true≢false, eqb-true, Result, Ok, Err}
+-- Numbers of signals: in the order of the declarations each stands once; those of registers and of inputs stand once, and none is of both.
+use Rattle.std.proofs.Common.{◌≡◌, ℕ, zero, suc, ◌+◌, ◌<◌, ◌≤◌, ◌&&◌, ◌==◌, inl, inr, Bool, true, false, cond, not, filter, List, [], ◌∷◌, ◌++◌, length, refl, sym, ◌∙◌, ap, subst, arith, true≢false, eqb-true, eq-eqb, Result, Ok, Err}
 use Rattle.std.specs.Prelude.{Option, Some, None, slice_get}
 use Rattle.std.specs.Option.{option_map}
 use Rattle.std.proofs.lemmas.Option.{none-some, same_Some}
@@ -18,6 +18,8 @@ use Rattle.unit_names.specs.Numbers.{SignalTable, place_where, has_order, if_any
 use Rattle.unit_names.specs.Signals.{NamedSignal, declared_in}
 use Rattle.unit_names.specs.Sound.{IsOrdered, AreApart}
 use Rattle.unit_names.specs.UnitLists.{is_input, is_variable, is_data_input, data_inputs_from, data_inputs, is_register_at, is_register, registers}
+use Rattle.unit_names.proofs.Orders.{EndInOrder, declared_more}
+use Rattle.unit_names.proofs.Header.{HaveOwnOrders, AreOwn, numbered_own}
 use Rattle.unit_names.proofs.Searching.{suc_some, place_within}
 
 -- ---- the numbers in the order of declarations
@@ -66,8 +68,44 @@ once_from k (suc left) xs = by (place_where (has_order k) xs) refl (later_from (
     by None is later rest = rest
     by (Some j) is later rest = ((λ m. let more = later j m in let same = ordered_at k xs j is in absurd (omega (arith, more, same))), rest)
 
-table_ordered : (names : List NamedSignal) (count : ℕ) → IsOrdered (record { signals = names; declared = numbers_from 0 count names })
-table_ordered names count = record { there = there_from 0 count names; once = once_from 0 count names }
+-- ---- each number is there
+
+member_at : (xs : List NamedSignal) (s : ℕ) → s < length xs → (y : NamedSignal) × Member y xs × (y.order ≡ order_at xs s)
+member_at [] s h = absurd (omega (arith, h))
+member_at (x ∷ xs) zero h = (x, inl refl, refl)
+member_at (x ∷ xs) (suc s) h = let there = member_at xs s (omega (arith, h)) in (there.0, inr there.1, there.2)
+
+own_place : (xs : List NamedSignal) (s : ℕ) → HaveOwnOrders xs → s < length xs → place_where (has_order (order_at xs s)) xs ≡ Some s
+own_place [] s own h = absurd (omega (arith, h))
+own_place (x ∷ xs) zero own h = ap (λ b. cond b (Some 0) (option_map suc (place_where (has_order x.order) xs))) (eq-eqb x.order x.order refl)
+own_place (x ∷ xs) (suc s) own h =
+    by (x.order == order_at xs s) (eqb-true x.order (order_at xs s)) (member_at xs s (omega (arith, h))) (own_place xs s own.1 (omega (arith, h)))
+  where
+    by : (b : Bool) → (b ≡ true → x.order ≡ order_at xs s) → (y : NamedSignal) × Member y xs × (y.order ≡ order_at xs s)
+        → place_where (has_order (order_at xs s)) xs ≡ Some s → cond b (Some 0) (option_map suc (place_where (has_order (order_at xs s)) xs)) ≡ Some (suc s)
+    by true same there rest = absurd (own.0 there.0 there.1 (same refl ∙ sym there.2))
+    by false same there rest = ap (option_map suc) rest
+
+behind : (p : Option ℕ) (ks : List ℕ) (s : ℕ) → Member s ks → Member s (if_any p ++ ks)
+behind None ks s m = m
+behind (Some j) ks s m = inr m
+
+all_from : (later k left : ℕ) (xs : List NamedSignal) (j s : ℕ) → later < left → j ≡ k + later → place_where (has_order j) xs ≡ Some s → Member s (numbers_from k left xs)
+all_from later k zero xs j s h is found = absurd (omega (arith, h))
+all_from zero k (suc left) xs j s h is found =
+    let same : j ≡ k = omega (arith, is) in
+    subst (λ (p : Option ℕ). Member s (if_any p ++ numbers_from (suc k) left xs)) (sym found ∙ ap (λ (i : ℕ). place_where (has_order i) xs) same) (inl refl)
+all_from (suc later) k (suc left) xs j s h is found =
+    behind (place_where (has_order k) xs) (numbers_from (suc k) left xs) s (all_from later (suc k) left xs j s (omega (arith, h)) (omega (arith, is)) found)
+
+all_there : (names : List NamedSignal) (count : ℕ) → AreOwn count names → (s : ℕ) → s < length names → Member s (numbers_from 0 count names)
+all_there names count so s h = all_from (order_at names s) 0 count names (order_at names s) s few (omega arith) (own_place names s so.own h)
+  where
+    few : order_at names s < count
+    few = let there = member_at names s h in subst (λ (k : ℕ). k < count) there.2 (so.below there.0 there.1)
+
+table_ordered : (names : List NamedSignal) (count : ℕ) → AreOwn count names → IsOrdered (record { signals = names; declared = numbers_from 0 count names })
+table_ordered names count so = record { there = there_from 0 count names; all = all_there names count so; once = once_from 0 count names }
 
 ok_same : (x y : SignalTable) → ◌≡◌ {A = Result SignalTable Fault} (Ok x) (Ok y) → x ≡ y
 ok_same x y h = ap or_else h
@@ -78,13 +116,13 @@ ok_same x y h = ap or_else h
 
 pub ordered : (m : ModuleDeclaration) (steps : List ModuleStep) (t : SignalTable) → module_table m steps ≡ Ok t → IsOrdered t
 unfolding module_table
-ordered m steps t is = by (declared_in (reach_in m) steps []) is
+ordered m steps t is = by (declared_in (reach_in m) steps []) (declared_more (reach_in m) steps [] tt) is
   where
-    by : (r : Result (List NamedSignal) Fault) → (r >>= λ xs. Ok (table_of (header_names m.ports) xs)) ≡ Ok t → IsOrdered t
-    by (Ok xs) e =
+    by : (r : Result (List NamedSignal) Fault) → EndInOrder r → (r >>= λ xs. Ok (table_of (header_names m.ports) xs)) ≡ Ok t → IsOrdered t
+    by (Ok xs) so e =
         let names = numbered (header_names m.ports) xs in
-        subst IsOrdered (ok_same (table_of (header_names m.ports) xs) t e) (table_ordered names (length xs))
-    by (Err f) e = absurd (true≢false (sym (ap is_ok e)))
+        subst IsOrdered (ok_same (table_of (header_names m.ports) xs) t e) (table_ordered names (length xs) (numbered_own (header_names m.ports) xs so))
+    by (Err f) so e = absurd (true≢false (sym (ap is_ok e)))
       where
         is_ok : Result SignalTable Fault → Bool
         is_ok (Ok x) = true

@@ -1,5 +1,5 @@
 -- The signals of a module by numbers of their own, its ports first, in the order of the header (IEEE Std 1364-2005, 12.3).
-use Rattle.std.specs.Prelude.{ℕ, zero, suc, Bool, true, false, ◌&&◌, ◌==◌, not, if◌then◌else◌, List, [], ◌∷◌, ◌++◌, map, length, filter, Option, Some, None, Result, Ok}
+use Rattle.std.specs.Prelude.{ℕ, zero, suc, Bool, true, false, ◌&&◌, ◌==◌, not, if◌then◌else◌, List, [], ◌∷◌, ◌++◌, map, length, filter, Option, Some, None, is_some, Result, Ok}
 use Rattle.std.specs.Option.{option_map}
 use Rattle.ls_text.specs.declared.fault.Fault.{Fault}
 use Rattle.verilog_ast.specs.declared.identifier.Identifier.{Identifier}
@@ -30,19 +30,33 @@ abbrev pub if_any : {A : Type 0} → Option A → List A
 if_any None = []
 if_any (Some x) = x ∷ []
 
+-- ---- names of the module itself
+
+abbrev pub is_own_named : ℕ → NamedSignal → Bool
+is_own_named name x = is_outermost x.block && (x.name.name.0 == name)
+
+-- the number that a name of the module itself has
+abbrev pub number_of_name : ℕ → List NamedSignal → Option ℕ
+number_of_name name xs = place_where (is_own_named name) xs
+
 -- ---- numbers
 
--- of each name of the header the first port; a name without one gives nothing
-abbrev pub ports_in : List Identifier → List NamedSignal → List NamedSignal
-ports_in [] xs = []
-ports_in (n ∷ ns) xs = if_any (first_where (is_port_named n.name.0) xs) ++ ports_in ns xs
+-- the first port of a name of the header, behind these; a name counts once, and one without a port gives nothing
+abbrev pub with_header_port : List NamedSignal → Identifier → List NamedSignal → List NamedSignal
+with_header_port xs n out =
+    if is_some (number_of_name n.name.0 out) then out else out ++ if_any (first_where (is_port_named n.name.0) xs)
+
+-- those of all its names, one after another
+abbrev pub ports_onto : List Identifier → (xs out : List NamedSignal) → List NamedSignal
+ports_onto [] xs out = out
+ports_onto (n ∷ ns) xs out = ports_onto ns xs (with_header_port xs n out)
 
 abbrev pub is_no_port : NamedSignal → Bool
 is_no_port x = not (is_port x)
 
 -- the ports in the order of the header, and then all that are none; the number of a signal is its place here
 abbrev pub numbered : List Identifier → List NamedSignal → List NamedSignal
-numbered header xs = ports_in header xs ++ filter is_no_port xs
+numbered header xs = ports_onto header xs [] ++ filter is_no_port xs
 
 -- ---- the order of declarations
 
@@ -66,14 +80,7 @@ table_of header xs = record { signals = numbered header xs; declared = numbers_f
 unfoldable pub module_table : ModuleDeclaration → List ModuleStep → Result SignalTable Fault
 module_table m steps = declared_in (reach_in m) steps [] >>= λ xs. Ok (table_of (header_names m.ports) xs)
 
--- ---- names of the module itself, and those of a block
-
-abbrev pub is_own_named : ℕ → NamedSignal → Bool
-is_own_named name x = is_outermost x.block && (x.name.name.0 == name)
-
--- the number that a name of the module itself has
-abbrev pub number_of_name : ℕ → List NamedSignal → Option ℕ
-number_of_name name xs = place_where (is_own_named name) xs
+-- ---- those of a block
 
 abbrev pub same_block : Option ℕ → Option ℕ → Bool
 same_block None None = true

@@ -7,9 +7,10 @@ use Rattle.unit_names.specs.Signals.{NamedSignal}
 use Rattle.unit_names.specs.Numbers.{SignalTable, NumberedSignal}
 use Rattle.unit_names.specs.UnitReaches.{width_of}
 
--- the numbers in the order of the declarations are those of signals, each once
+-- the numbers in the order of the declarations are those of all signals, each once
 pub record IsOrdered (t : SignalTable) : Type 0 where
   pub there : (s : ℕ) → Member s t.declared → s < length t.signals
+  pub all : (s : ℕ) → s < length t.signals → Member s t.declared
   pub once : Distinct t.declared
 
 -- registers and inputs among so many signals: each is one of them and stands once, and none is both

@@ -18,8 +18,8 @@ use std::alloc::Global;
 use typed_ir::SignalId;
 use verilog_ast::{HeaderPort, Identifier, Ports};
 
-// The port of this name, if there is one.
-fn add_port(
+// The first port of this name, if there is one.
+fn add_first(
     alloc: Global,
     numbering: &mut Numbering,
     table: &Table,
@@ -36,6 +36,24 @@ fn add_port(
     }
 }
 
+// The first port of a name of the header, where the name has no number yet.
+fn add_port(
+    alloc: Global,
+    numbering: &mut Numbering,
+    table: &Table,
+    name: Identifier,
+) -> Result<(), NoMemory>
+    requires numbered { IsNumbered numbering.old }
+    requires placed { IsPlaced table.now }
+    ensures signals { OnOk result (numbered_in numbering.new ≡ n.with_header_port (signals_of table.now) name (numbered_in numbering.old)) }
+    ensures numbered { OnOk result (IsNumbered numbering.new) }
+{
+    match numbering.names.find(name.name.0) {
+        Some(_) => Ok(()),
+        None => add_first(alloc, numbering, table, name),
+    }
+}
+
 // The ports of a header that lists their names.
 fn add_listed(
     alloc: Global,
@@ -45,7 +63,7 @@ fn add_listed(
 ) -> Result<(), NoMemory>
     requires numbered { IsNumbered numbering.old }
     requires placed { IsPlaced table.now }
-    ensures signals { OnOk result (numbered_in numbering.new ≡ numbered_in numbering.old ++ n.ports_in names.now (signals_of table.now)) }
+    ensures signals { OnOk result (numbered_in numbering.new ≡ n.ports_onto names.now (signals_of table.now) (numbered_in numbering.old)) }
     ensures numbered { OnOk result (IsNumbered numbering.new) }
 {
     for name in names {
@@ -73,7 +91,7 @@ fn add_declared(
 ) -> Result<(), NoMemory>
     requires numbered { IsNumbered numbering.old }
     requires placed { IsPlaced table.now }
-    ensures signals { OnOk result (numbered_in numbering.new ≡ numbered_in numbering.old ++ n.ports_in (map port_name (map port_of ports.now)) (signals_of table.now)) }
+    ensures signals { OnOk result (numbered_in numbering.new ≡ n.ports_onto (map port_name (map port_of ports.now)) (signals_of table.now) (numbered_in numbering.old)) }
     ensures numbered { OnOk result (IsNumbered numbering.new) }
 {
     for port in ports {
@@ -91,7 +109,7 @@ fn add_header(
 ) -> Result<(), NoMemory>
     requires numbered { IsNumbered numbering.old }
     requires placed { IsPlaced table.now }
-    ensures signals { OnOk result (numbered_in numbering.new ≡ numbered_in numbering.old ++ n.ports_in (n.header_names (ports_of ports.now)) (signals_of table.now)) }
+    ensures signals { OnOk result (numbered_in numbering.new ≡ n.ports_onto (n.header_names (ports_of ports.now)) (signals_of table.now) (numbered_in numbering.old)) }
     ensures numbered { OnOk result (IsNumbered numbering.new) }
 {
     match ports {

@@ -15,8 +15,8 @@ ghost use Rattle.typed_ir.specs.Cycles.{Signal};
 ghost use Rattle.width_rules.specs.declared.writer.Writer.{Writer};
 ghost use Rattle.width_rules.specs.Scopes.{Scope};
 
-/// The numbers in the order of the declarations are those of signals, each once; so registers and data inputs are signals, each once, and
-/// no register is an input.
+/// The numbers in the order of the declarations are those of all signals, each once; so registers and data inputs are signals, each once,
+/// and no register is an input.
 #[tactic(none)]
 pub fn numbers_are_sound()
     ensures ordered { (m : ModuleDeclaration) (steps : List ModuleStep) (t : SignalTable) → module_table m steps ≡ Ok t → IsOrdered t }

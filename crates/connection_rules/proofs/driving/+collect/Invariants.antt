@@ -1,11 +1,10 @@
 -- The walk goes down the depth of an expression.
 use Rattle.std.proofs.Common.{◌≡◌, ◌≤◌, ◌+◌, ◌*◌, ◌++◌, min, map, drop}
 use Rattle.verilog_ast.specs.Views.{expression_of, parts_of}
-use Rattle.width_rules.specs.declared.due.Due.TheVariants.{ConstantOnly}
 use Rattle.width_rules.specs.Entries.{scope_of}
+use Rattle.width_rules.specs.Sizes.{length}
 use Rattle.statement_rules.specs.Leaves.{leaf_of, leaves}
-use Rattle.statement_rules.specs.Targets.{target_length, target_faults}
-use Rattle.connection_rules.specs.Outputs.{target_at, output_names}
+use Rattle.connection_rules.specs.Outputs.{target_at, part_faults}
 use Rattle.connection_rules.proofs.driving.+collect.Given as goal
 
 abbrev pub decreases-collect : goal.decreases-collect
@@ -16,13 +15,10 @@ decreases-collect_all l = 2 * goal.size-collect_all l + 1
 
 abbrev pub invariant-collect_all-loop-part : goal.invariant-collect_all-loop-part
 invariant-collect_all-loop-part l = record {
-  ahead : target_faults (scope_of l.scope) ConstantOnly (target_at (parts_of (map expression_of (drop l.part-index l.list))))
-      ≡ target_faults (scope_of l.scope) ConstantOnly (target_at (parts_of (map expression_of l.list)));
-  wide : min (l.width + target_length (scope_of l.scope) (target_at (parts_of (map expression_of (drop l.part-index l.list))))) 255
-      ≡ min (target_length (scope_of l.scope) (target_at (parts_of (map expression_of l.list)))) 255;
+  ahead : part_faults (scope_of l.scope) (parts_of (map expression_of (drop l.part-index l.list))) ≡ part_faults (scope_of l.scope) (parts_of (map expression_of l.list));
+  wide : min (l.width + length (scope_of l.scope) (parts_of (map expression_of (drop l.part-index l.list)))) 255
+      ≡ min (length (scope_of l.scope) (parts_of (map expression_of l.list))) 255;
   small : l.width ≤ 255;
   kept : map leaf_of l.parts.items ++ leaves (scope_of l.scope) (target_at (parts_of (map expression_of (drop l.part-index l.list))))
       ≡ map leaf_of l.initial.parts.items ++ leaves (scope_of l.scope) (target_at (parts_of (map expression_of l.list)));
-  named : l.names.items ++ output_names (target_at (parts_of (map expression_of (drop l.part-index l.list))))
-      ≡ l.initial.names.items ++ output_names (target_at (parts_of (map expression_of l.list)));
 }

@@ -1,13 +1,14 @@
-use Rattle.std.proofs.Common.{◌≡◌, ◌++◌, map, drop}
+use Rattle.std.proofs.Common.{◌≡◌, map, drop}
 use Rattle.verilog_ast.specs.Views.{port_of}
 use Rattle.gen_unroll.specs.Declarations.{port_name}
-use Rattle.unit_names.specs.Numbers.{ports_in}
+use Rattle.unit_names.specs.Numbers.{ports_onto}
 use Rattle.unit_names.specs.NumberingViews.{numbered_in, IsNumbered}
 use Rattle.unit_names.specs.TableViews.{signals_of}
 use Rattle.unit_names.proofs.heading.add_declared.Given as goal
 
 abbrev pub invariant-loop-port : goal.invariant-loop-port
 invariant-loop-port l = record {
-  left : numbered_in l.numbering ++ ports_in (map port_name (map port_of (drop l.port-index l.ports))) (signals_of l.table) ≡ numbered_in l.initial.numbering ++ ports_in (map port_name (map port_of l.ports)) (signals_of l.table);
+  left : ports_onto (map port_name (map port_of (drop l.port-index l.ports))) (signals_of l.table) (numbered_in l.numbering)
+      ≡ ports_onto (map port_name (map port_of l.ports)) (signals_of l.table) (numbered_in l.initial.numbering);
   numbered : IsNumbered l.numbering;
 }

@@ -8,7 +8,7 @@ use Rattle.unit_names.specs.SignalViews.{signal_of}
 use Rattle.unit_names.specs.TableViews.{signals_of}
 use Rattle.unit_names.proofs.Searching.{place_within, first_nowhere}
 use Rattle.unit_names.proofs.Completing.{port_there}
-use Rattle.unit_names.proofs.heading.add_port.Goals as goal
+use Rattle.unit_names.proofs.heading.add_first.Goals as goal
 
 pub index-requires : goal.index-requires
 index-requires c =
