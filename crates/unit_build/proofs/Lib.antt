@@ -2,3 +2,10 @@ pub mod Marking
 pub mod Overriding
 pub mod Registers
 pub mod Walking
+pub mod ConnectedNumbers
+pub mod ConnectedItems
+pub mod ConnectedTexts
+pub mod OutputTargets
+pub mod ConnectedTargets
+pub mod ConnectedNodes
+pub mod ConnectionLaws
