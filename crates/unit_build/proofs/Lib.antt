@@ -1,6 +1,13 @@
 pub mod Marking
 pub mod Overriding
 pub mod Registers
+pub mod ConnectedNumbers
+pub mod ConnectedItems
+pub mod ConnectedTexts
+pub mod OutputTargets
+pub mod ConnectedTargets
+pub mod ConnectedNodes
+pub mod ConnectionLaws
 pub mod Sound
 pub mod Making
 pub mod Unrolling
