@@ -2,9 +2,3 @@ pub mod Noted
 pub mod Told
 pub mod Listing
 pub mod Shown
-pub mod ExpressionLeaves
-pub mod TargetLeaves
-pub mod StatementLeaves
-pub mod Flags
-pub mod Trees
-pub mod Connections

@@ -2,7 +2,7 @@
 //
 // `constants` tells whether an index is a constant. `reading` walks an expression and `targeting` a target, each adding what it meets to a
 // list (`noting`); `walking` does so for a statement, once for its targets and once for its reads (`asked`, `asking`). `blocks` is the call
-// for a block. `forms` says in which form a target is shown, and `laws` that the lists are those of the sized form.
+// for a block. `forms` says in which form a target is shown.
 #![tactic(auto)]
 
 mod arm_end;
@@ -11,7 +11,6 @@ mod asking;
 mod blocks;
 mod constants;
 mod forms;
-mod laws;
 mod mention_lists;
 mod noting;
 mod reading;
@@ -21,6 +20,5 @@ mod walking;
 pub use blocks::block_mentions;
 pub use constants::is_constant;
 pub use forms::{reference_form, statement_form, target_form};
-pub use laws::{default_comes_last, mentions_are_of_leaves};
 pub use mention_lists::BlockMentions;
 pub use targeting::{connection_mentions, target_mentions};

@@ -1,12 +1,14 @@
 -- The names in reach at each step of a module, with the numbers of its signals (IEEE Std 1364-2005, 12.7).
-use Rattle.std.specs.Prelude.{ℕ, Bool, true, false, List, [], ◌∷◌, slice_get, slice_index_or, Option, Some, None}
+use Rattle.std.specs.Prelude.{ℕ, Bool, true, false, List, [], ◌∷◌, map, slice_get, slice_index_or, Option, Some, None}
 use Rattle.unit_ir.specs.declared.signal_kind.SignalKind.{SignalKind}
 use Rattle.unit_ir.specs.declared.signal_kind.SignalKind.TheVariants as kind
-use Rattle.verilog_ast.specs.Items.{ModuleDeclaration}
+use Rattle.verilog_ast.specs.Declarations.{PortList, NoPorts, NamedPorts, DeclaredPorts}
+use Rattle.verilog_ast.specs.Items as i
+use Rattle.verilog_ast.specs.Items.{ModuleItem, ModuleDeclaration}
 use Rattle.width_rules.specs.declared.writer.Writer.{Writer}
 use Rattle.width_rules.specs.declared.writer.Writer.TheVariants as writer
-use Rattle.width_rules.specs.Scopes.{Meaning, Signal, Scope}
-use Rattle.gen_unroll.specs.Declarations.{BitRange, declared}
+use Rattle.width_rules.specs.Scopes.{Meaning, Signal, Unknown, Scope}
+use Rattle.gen_unroll.specs.Declarations.{BitRange, declared, all_declared, declared_name, declared_reg_name, port_name}
 use Rattle.gen_unroll.specs.Reaches.{Reach, reach_in, in_reach}
 use Rattle.gen_unroll.specs.Steps.{ModuleStep, Opened}
 use Rattle.unit_names.specs.Signals.{NamedSignal}
@@ -39,13 +41,37 @@ with_signals w xs b scope = all_signals w (in_block b xs) scope
 abbrev pub with_own : (ℕ → Writer) → List NamedSignal → Option ℕ → Reach → Reach
 with_own w xs b r = record r { scope = with_signals w xs b r.scope }
 
+-- ---- nets and variables without a number stand for nothing
+
+-- those that stand among the items of a block themselves
+abbrev pub hidden : ModuleItem → Scope → Scope
+hidden (i.Inputs at n k names) scope = all_declared Unknown names scope
+hidden (i.Outputs at n k ports) scope = all_declared Unknown (map declared_name ports) scope
+hidden (i.Wires at k nets) scope = all_declared Unknown (map declared_name nets) scope
+hidden (i.Regs at k regs) scope = all_declared Unknown (map declared_reg_name regs) scope
+hidden (i.Region at items) scope = hidden items scope
+hidden (i.Items x xs) scope = hidden xs (hidden x scope)
+hidden other scope = scope
+
+-- the ports of a header that declares them
+abbrev pub hidden_ports : PortList → Scope → Scope
+hidden_ports NoPorts scope = scope
+hidden_ports (NamedPorts names) scope = scope
+hidden_ports (DeclaredPorts ports) scope = all_declared Unknown (map port_name ports) scope
+
+-- all of a module itself
+abbrev pub hidden_module : ModuleDeclaration → Scope → Scope
+hidden_module m scope = hidden m.items (hidden_ports m.ports scope)
+
+-- ---- at each step
+
 -- where the module begins
 abbrev pub unit_reach_in : (ℕ → Writer) → List NamedSignal → ModuleDeclaration → Reach
-unit_reach_in w xs m = with_own w xs None (reach_in m)
+unit_reach_in w xs m = with_own w xs None (record (reach_in m) { scope = hidden_module m (reach_in m).scope })
 
--- a block has its own signals from its beginning on
+-- a block has its own signals from its beginning on, and no other net or variable of its items
 abbrev pub with_opened : (ℕ → Writer) → List NamedSignal → ModuleStep → Reach → Reach
-with_opened w xs (Opened b items) r = with_own w xs (Some b.number) r
+with_opened w xs (Opened b items) r = with_own w xs (Some b.number) (record r { scope = hidden items r.scope })
 with_opened w xs other r = r
 
 abbrev pub unit_in_reach : (ℕ → Writer) → List NamedSignal → ModuleStep → Reach → Reach

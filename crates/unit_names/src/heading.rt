@@ -54,8 +54,8 @@ fn add_listed(
     Ok(())
 }
 
-// The name of a port of a header.
-fn port_name(port: &HeaderPort) -> Identifier
+/// The name of a port of a header.
+pub fn port_name(port: &HeaderPort) -> Identifier
     ensures { result ≡ port_name (port_of port.now) }
 {
     match port {

@@ -8,6 +8,7 @@ ghost use Rattle.unit_names.specs.UnitReaches as u;
 ghost use Rattle.unit_names.specs.UnitReachViews.{unit_reach_of};
 
 use crate::entering::{enter_block, enter_own};
+use crate::hiding::{hide_items, hide_module};
 use crate::signal_table::ModuleSignals;
 use crate::unit_reach::UnitReach;
 use gen_unroll::{Reach, Step};
@@ -16,7 +17,7 @@ use std::alloc::Global;
 use verilog_ast::ModuleBody;
 
 impl UnitReach {
-    /// Where a module begins: its own signals are in reach, each variable as a register where it isn't settled.
+    /// Where a module begins: of its nets and variables its own signals are in reach, each variable as a register where it isn't settled.
     pub fn new(
         alloc: Global,
         of: &ModuleBody,
@@ -27,6 +28,7 @@ impl UnitReach {
         ensures even { IfOk result (λ r. IsEven (unit_reach_of r)) }
     {
         let mut reach = Reach::new(alloc, of)?;
+        hide_module(&mut reach.scope, of)?;
         enter_own(&mut reach.scope, signals, settled)?;
         Ok(UnitReach { reach })
     }
@@ -44,7 +46,8 @@ impl UnitReach {
         ensures even { OnOk result (IsEven (unit_reach_of self.new)) }
     {
         self.reach.follow(step)?;
-        if let Step::Open(block, _) = step {
+        if let Step::Open(block, items) = step {
+            hide_items(&mut self.reach.scope, items)?;
             enter_block(&mut self.reach.scope, signals, settled, block.number)?;
         }
         Ok(())

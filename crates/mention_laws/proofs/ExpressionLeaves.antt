@@ -21,7 +21,7 @@ use Rattle.width_rules.specs.Signs.{is_signed}
 use Rattle.width_rules.specs.Sizes.{Operand, self_determined, unary_at, binary_at, length, push, joined, beside, extended, name_at, bits_at, bits_from, bits_between, count_of, is_constant}
 use Rattle.block_rules.specs.Paths.{leaves}
 use Rattle.size_laws.specs.Written.{IsWritten, ArePartsWritten}
-use Rattle.item_mentions.specs.Leaves.{number_of, signals_of}
+use Rattle.mention_laws.specs.Leaves.{number_of, signals_of}
 use Rattle.item_mentions.specs.Names.{expression_names, run_time}
 
 -- the signal of a name

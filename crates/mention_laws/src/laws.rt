@@ -11,9 +11,9 @@ ghost use Rattle.width_rules.specs.Scopes.{Scope};
 ghost use Rattle.statement_rules.specs.Statements.{sized_statement};
 ghost use Rattle.statement_rules.specs.Targets.{parts};
 ghost use Rattle.block_rules.specs.Paths.{flags_of_block};
-ghost use Rattle.item_mentions.specs.Example.{scope as names, statement, reads, targets as written};
+ghost use Rattle.mention_laws.specs.Example.{scope as names, statement, reads, targets as written};
 ghost use Rattle.item_mentions.specs.Forms.{statement_form};
-ghost use Rattle.item_mentions.specs.Leaves.{statement_leaves, signals_of, signals_named};
+ghost use Rattle.mention_laws.specs.Leaves.{statement_leaves, signals_of, signals_named};
 ghost use Rattle.item_mentions.specs.Mentions.{numbered, statement_reads, statement_targets};
 ghost use Rattle.item_mentions.specs.Names.{target_names, expression_targets, written_as};
 

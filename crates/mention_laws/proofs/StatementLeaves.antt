@@ -20,12 +20,12 @@ use Rattle.statement_rules.specs.Statements.{assigned, assignment, label_at, ite
 use Rattle.statement_rules.specs.Targets.{target_length, parts}
 use Rattle.block_rules.specs.Paths.{leaves, index_leaves, item_leaves}
 use Rattle.size_laws.specs.Written.{IsWritten, IsTargetWritten, AreLabelsWritten, IsStatementWritten}
-use Rattle.item_mentions.specs.Leaves.{statement_leaves, arm_leaves, number_of, signals_of, signals_named}
+use Rattle.mention_laws.specs.Leaves.{statement_leaves, arm_leaves, number_of, signals_of, signals_named}
 use Rattle.item_mentions.specs.Mentions.{Listing, reading, writing, numbered, labels_names, count, mentions, arm_mentions, default_mentions}
 use Rattle.item_mentions.specs.Names.{expression_names, index_names}
-use Rattle.item_mentions.specs.Placed.{AreStatements, AreItems}
-use Rattle.item_mentions.proofs.ExpressionLeaves.{number, both_named, expression_leaves}
-use Rattle.item_mentions.proofs.TargetLeaves.{target_named, target_index}
+use Rattle.mention_laws.specs.Placed.{AreStatements, AreItems}
+use Rattle.mention_laws.proofs.ExpressionLeaves.{number, both_named, expression_leaves}
+use Rattle.mention_laws.proofs.TargetLeaves.{target_named, target_index}
 
 -- ---- lists
 

@@ -1,5 +1,5 @@
 use Rattle.std.proofs.Common.{refl}
-use Rattle.item_mentions.proofs.laws.default_comes_last.Goals as goal
+use Rattle.mention_laws.proofs.laws.default_comes_last.Goals as goal
 
 pub returns-clause-reads : goal.returns-clause-reads
 returns-clause-reads c = refl

@@ -5,7 +5,7 @@ use Rattle.typed_ir.specs.declared.span.Span.{Span}
 use Rattle.typed_ir.specs.Valuations.{Places, within, any_within, nowhere}
 use Rattle.typed_ir.specs.Stmts.{SizedTarget, Fixed, Moving, SizedStmt, SizedArms, Skip, Assign, Later, Then, If, Case, Arm, Default, targets, known_after}
 use Rattle.block_rules.specs.Paths.{leaves, index_leaves, item_leaves, early, flags_of, index_flags, reads_early, arms_early, flags_of_block}
-use Rattle.item_mentions.specs.Leaves.{statement_leaves, arm_leaves}
+use Rattle.mention_laws.specs.Leaves.{statement_leaves, arm_leaves}
 
 two : {A B : Type 0} (cs bs : List A) (xs ys : List B) → length cs ≡ length xs → length bs ≡ length ys → length (cs ++ bs) ≡ length (xs ++ ys)
 two cs bs xs ys h k = length-append cs bs ∙ ap₂ (λ (m n : ℕ). m + n) h k ∙ sym (length-append xs ys)

@@ -8,15 +8,15 @@ use Rattle.width_rules.specs.declared.writer.Writer.TheVariants.{Clocked, Combin
 use Rattle.width_rules.specs.Scopes.{Scope}
 use Rattle.statement_rules.specs.Statements.{sized_statement}
 use Rattle.size_laws.proofs.Trees.{target_is_written, statement_is_written}
-use Rattle.item_mentions.specs.Leaves.{statement_leaves, number_of, signals_of, signals_named}
+use Rattle.mention_laws.specs.Leaves.{statement_leaves, number_of, signals_of, signals_named}
 use Rattle.item_mentions.specs.Mentions.{statement_reads, statement_targets}
 use Rattle.item_mentions.specs.Names.{target_names}
-use Rattle.item_mentions.proofs.Connections.{target_same}
-use Rattle.item_mentions.proofs.Flags.{block_flags}
-use Rattle.item_mentions.proofs.StatementLeaves.{numbered_same, reads_same, targets_same, later_same}
-use Rattle.item_mentions.proofs.TargetLeaves.{target_named}
-use Rattle.item_mentions.proofs.Trees.{statement_is_placed}
-use Rattle.item_mentions.proofs.laws.mentions_are_of_leaves.Goals as goal
+use Rattle.mention_laws.proofs.Connections.{target_same}
+use Rattle.mention_laws.proofs.Flags.{block_flags}
+use Rattle.mention_laws.proofs.StatementLeaves.{numbered_same, reads_same, targets_same, later_same}
+use Rattle.mention_laws.proofs.TargetLeaves.{target_named}
+use Rattle.mention_laws.proofs.Trees.{statement_is_placed}
+use Rattle.mention_laws.proofs.laws.mentions_are_of_leaves.Goals as goal
 
 -- lists of the same signals are as long
 as_long : (scope : Scope) (xs : List Span) (ms : List Mention) → signals_of xs ≡ signals_named scope ms → length xs ≡ length ms

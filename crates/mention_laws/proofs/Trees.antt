@@ -6,7 +6,7 @@ use Rattle.verilog_ast.specs.declared.statement.Arm.TheOpen.{Stmt-F, Arm-F}
 use Rattle.verilog_ast.specs.declared.statement.Arm.TheFolds.{fold-roll-Stmt, fold-roll-Arm, ind-Stmt, map-Stmt, map-Arm}
 use Rattle.verilog_ast.specs.Statements.{Statement}
 use Rattle.verilog_ast.specs.Views.{statements_of, statement_view, arm_view, statement_of, arm_of}
-use Rattle.item_mentions.specs.Placed.{AreStatements, AreItems, IsItem}
+use Rattle.mention_laws.specs.Placed.{AreStatements, AreItems, IsItem}
 
 abbrev PlacedStatement : Stmt → Type 0
 PlacedStatement x = AreStatements (statement_of x)

@@ -1,0 +1,9 @@
+// What an item mentions are the signals of its sized form.
+//
+// `laws` says so of the definitions of `item_mentions`, against those of `statement_rules` and `block_rules`. It is over definitions alone,
+// so there is nothing to run here.
+#![tactic(auto)]
+
+mod laws;
+
+pub use laws::{default_comes_last, mentions_are_of_leaves};
