@@ -1,3 +1,10 @@
+pub mod Fits
+pub mod ItemLaws
+pub mod Narrow
+pub mod Roles
+pub mod Standing
+pub mod WalkedItems
+pub mod Sound
 pub mod Marking
 pub mod Overriding
 pub mod Registers
