@@ -8,6 +8,12 @@ pub mod OutputTargets
 pub mod ConnectedTargets
 pub mod ConnectedNodes
 pub mod ConnectionLaws
+pub mod Fits
+pub mod ItemLaws
+pub mod Narrow
+pub mod Roles
+pub mod Standing
+pub mod WalkedItems
 pub mod Sound
 pub mod Making
 pub mod Unrolling
