@@ -12,7 +12,8 @@ use Rattle.verilog_ast.specs.Items.{ModuleItem, ContinuousAssignment}
 use Rattle.width_rules.specs.Scopes.{Scope}
 use Rattle.gen_unroll.specs.Steps.{ModuleStep, Listed, Port, Parameter, Item, Labelled, Opened, Closed}
 use Rattle.connection_rules.specs.Instances.{instance_items}
-use Rattle.sized_items.specs.DeclaredValues.{DeclaredValue, as_assignment, is_net_value, values_of, reg_values_of, port_values}
+use Rattle.sized_items.specs.declared.value_kind.ValueKind.TheVariants as kind
+use Rattle.sized_items.specs.DeclaredValues.{DeclaredValue, kind_of_net, as_assignment, is_net_value, values_of, reg_values_of, port_values}
 use Rattle.sized_items.specs.SizedItems.{drive_item, initial_item, value_item, plain_items}
 use Rattle.unit_build.specs.Walks.{instances_in, shapes_of, step_items}
 
@@ -46,8 +47,8 @@ drives_own P own scope [] = tt
 drives_own P own scope (x ∷ xs) = (own _, drives_own P own scope xs)
 
 plain_own : (P : UnitNode → Type 0) → ((n : FlatNode) → P (Own n)) → (scope : Scope) (x : ModuleItem) → Each P (nodes_in (plain_items scope x))
-plain_own P own scope (i.Outputs at n k xs) = values_own P own scope (values_of xs)
-plain_own P own scope (i.Wires at k xs) = values_own P own scope (values_of xs)
+plain_own P own scope (i.Outputs at n k xs) = values_own P own scope (values_of (kind_of_net n) xs)
+plain_own P own scope (i.Wires at k xs) = values_own P own scope (values_of kind.Net xs)
 plain_own P own scope (i.Regs at k xs) = values_own P own scope (reg_values_of xs)
 plain_own P own scope (i.Assigns at xs) = drives_own P own scope xs
 plain_own P own scope (i.Combinational at body) = (own _, tt)

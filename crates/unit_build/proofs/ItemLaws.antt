@@ -39,7 +39,9 @@ use Rattle.gen_unroll.specs.declared.step.Step.{Step}
 use Rattle.gen_unroll.specs.declared.step.Step.TheVariants as step
 use Rattle.gen_unroll.specs.Steps.{ModuleStep, Listed, Port, Parameter, Item, Labelled, Opened, Closed}
 use Rattle.gen_unroll.specs.Views.{step_of}
-use Rattle.sized_items.specs.DeclaredValues.{DeclaredValue, value_if, values_of, reg_values_of, port_values, as_assignment, is_net_value, declaration_faults}
+use Rattle.sized_items.specs.declared.value_kind.ValueKind.{ValueKind}
+use Rattle.sized_items.specs.declared.value_kind.ValueKind.TheVariants as kind
+use Rattle.sized_items.specs.DeclaredValues.{DeclaredValue, kind_of_net, value_if, values_of, reg_values_of, port_values, as_assignment, is_net_value, declaration_faults}
 use Rattle.sized_items.specs.SizedItems.{fixed_lanes, drive_item, initial_item, value_item, combinational_item, clocked_item, plain_items, plain_faults}
 use Rattle.sized_items.proofs.Driven.{nets_driven}
 
@@ -49,8 +51,8 @@ abbrev pub AreValuesWritten : List DeclaredValue → Type 0
 AreValuesWritten xs = Each (λ (x : DeclaredValue). IsWritten x.value) xs
 
 abbrev pub IsItemWritten : ModuleItem → Type 0
-IsItemWritten (i.Outputs at n k xs) = AreValuesWritten (values_of xs)
-IsItemWritten (i.Wires at k xs) = AreValuesWritten (values_of xs)
+IsItemWritten (i.Outputs at n k xs) = AreValuesWritten (values_of (kind_of_net n) xs)
+IsItemWritten (i.Wires at k xs) = AreValuesWritten (values_of kind.Net xs)
 IsItemWritten (i.Regs at k xs) = AreValuesWritten (reg_values_of xs)
 IsItemWritten (i.Assigns at xs) = AreAssignsWritten xs
 IsItemWritten (i.Combinational at body) = IsStatementWritten body
@@ -66,29 +68,29 @@ IsStepWritten (Labelled n) = ⊤
 IsStepWritten (Opened b items) = ⊤
 IsStepWritten Closed = ⊤
 
-value_written : (n : Identifier) (e : Option Expr) → AreValuesWritten (value_if n (option_map expression_of e))
-value_written n None = tt
-value_written n (Some e) = (expression_is_written e, tt)
+value_written : (k : ValueKind) (n : Identifier) (e : Option Expr) → AreValuesWritten (value_if k n (option_map expression_of e))
+value_written k n None = tt
+value_written k n (Some e) = (expression_is_written e, tt)
 
-values_written : (xs : List Variable) → AreValuesWritten (values_of (map declared_of xs))
-values_written [] = tt
-values_written (x ∷ xs) =
-    each_append (λ (v : DeclaredValue). IsWritten v.value) (value_if x.name (option_map expression_of x.value)) (values_of (map declared_of xs))
-    (value_written x.name x.value) (values_written xs)
+values_written : (k : ValueKind) (xs : List Variable) → AreValuesWritten (values_of k (map declared_of xs))
+values_written k [] = tt
+values_written k (x ∷ xs) =
+    each_append (λ (v : DeclaredValue). IsWritten v.value) (value_if k x.name (option_map expression_of x.value)) (values_of k (map declared_of xs))
+    (value_written k x.name x.value) (values_written k xs)
 
 reg_values_written : (xs : List RegVariable) → AreValuesWritten (reg_values_of (map declared_reg_of xs))
 reg_values_written [] = tt
 reg_values_written (x ∷ xs) =
-    each_append (λ (v : DeclaredValue). IsWritten v.value) (value_if x.name (option_map expression_of x.value)) (reg_values_of (map declared_reg_of xs))
-    (value_written x.name x.value) (reg_values_written xs)
+    each_append (λ (v : DeclaredValue). IsWritten v.value) (value_if kind.Variable x.name (option_map expression_of x.value)) (reg_values_of (map declared_reg_of xs))
+    (value_written kind.Variable x.name x.value) (reg_values_written xs)
 
 port_written : (p : HeaderPort) → AreValuesWritten (port_values (port_of p))
 port_written (port.Input at net x n) = tt
-port_written (port.Output at net x y) = value_written y.name y.value
-port_written (port.Next x) = value_written x.name x.value
+port_written (port.Output at net x y) = value_written (kind_of_net net) y.name y.value
+port_written (port.Next x) = value_written kind.AsDeclared x.name x.value
 
 item_written : (x : PlainItem) → IsItemWritten (plain_item_of x)
-item_written (plain.Wire at x ys) = values_written ys
+item_written (plain.Wire at x ys) = values_written kind.Net ys
 item_written (plain.Reg at x ys) = reg_values_written ys
 item_written (plain.LocalParameter at x ys) = tt
 item_written (plain.Genvar at xs) = tt
@@ -103,7 +105,7 @@ step_written (step.Listed n) = tt
 step_written (step.Port p) = port_written p.now
 step_written (step.Parameter s n v) = tt
 step_written (step.Inputs at net k ns) = tt
-step_written (step.Outputs at net k xs) = values_written xs.now
+step_written (step.Outputs at net k xs) = values_written (kind_of_net net) xs.now
 step_written (step.Item x) = item_written x.now
 step_written (step.Label n) = tt
 step_written (step.Open b xs) = tt
@@ -172,8 +174,8 @@ clocked_legal scope widths kids x ok w none at =
 -- of a declaration, of assignments or of a block
 pub plain_legal : (scope : Scope) (widths : List ℕ) (kids : ℕ → List ℕ) (x : ModuleItem) → FitsScope scope widths → IsItemWritten x → plain_faults scope x ≡ []
     → AreLegalItems widths kids (plain_items scope x)
-plain_legal scope widths kids (i.Outputs at n k xs) ok w none = values_legal scope widths kids (values_of xs) ok w none
-plain_legal scope widths kids (i.Wires at k xs) ok w none = values_legal scope widths kids (values_of xs) ok w none
+plain_legal scope widths kids (i.Outputs at n k xs) ok w none = values_legal scope widths kids (values_of (kind_of_net n) xs) ok w none
+plain_legal scope widths kids (i.Wires at k xs) ok w none = values_legal scope widths kids (values_of kind.Net xs) ok w none
 plain_legal scope widths kids (i.Regs at k xs) ok w none = values_legal scope widths kids (reg_values_of xs) ok w none
 plain_legal scope widths kids (i.Assigns at xs) ok w none = drives_legal scope widths kids xs (drives_fit scope widths xs ok w none)
 plain_legal scope widths kids (i.Combinational at body) ok w none = (combinational_legal scope widths kids body ok w none at, tt)

@@ -120,7 +120,7 @@ pub fn size_step(
 {
     match step {
         Step::Port(port) => size_port(alloc, scope, port, list),
-        Step::Outputs(_, _, _, ports) => size_outputs(alloc, scope, ports, list),
+        Step::Outputs(_, net, _, ports) => size_outputs(alloc, scope, *net, ports, list),
         Step::Item(item) => size_item(alloc, scope, child, left, item, list),
         Step::Listed(_)
         | Step::Parameter(_, _, _)
