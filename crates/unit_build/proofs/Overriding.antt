@@ -1,0 +1,16 @@
+-- Where the values of parameters end, no override is left.
+use Rattle.std.proofs.Common.{◌≡◌, ℕ, List, [], ◌∷◌, ◌++◌, length, append-nil, refl, sym, ◌∙◌, ap, arith}
+use Rattle.std.specs.Prelude.{Option}
+use Rattle.typed_ir.specs.declared.constant.Const.{Const}
+use Rattle.gen_unroll.specs.declared.parameter_sort.ParameterSort.{ParameterSort}
+use Rattle.gen_unroll.specs.Values.{ConstantValue}
+use Rattle.unit_build.specs.Parameters.{overrides_of}
+
+none_left : (ss : List ParameterSort) → overrides_of ss [] ≡ []
+none_left [] = refl
+none_left (s ∷ ss) = refl
+
+pub ended : (done whole : List (Option ConstantValue)) (ss : List ParameterSort) (rest : List Const) → length rest ≡ 0
+    → done ++ overrides_of ss rest ≡ whole → done ≡ whole
+ended done whole ss [] none is = sym (append-nil done) ∙ sym (ap (λ (l : List (Option ConstantValue)). done ++ l) (none_left ss)) ∙ is
+ended done whole ss (c ∷ cs) none is = absurd (omega (arith, none))

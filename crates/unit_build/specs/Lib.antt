@@ -1,0 +1,7 @@
+pub mod Parameters
+pub mod Walks
+pub mod WalksFrom
+pub mod WalkViews
+pub mod Settled
+pub mod Building
+pub mod FromSteps
