@@ -84,10 +84,20 @@ pub fn port_values<'a>(
     match port {
         HeaderPort::Input(_, _, _, _) => {}
         HeaderPort::Output(_, net, _, variable) => {
-            add_if(&mut found, kind_of_net(*net), variable.name, &variable.value)?;
+            add_if(
+                &mut found,
+                kind_of_net(*net),
+                variable.name,
+                &variable.value,
+            )?;
         }
         HeaderPort::Next(variable) => {
-            add_if(&mut found, ValueKind::AsDeclared, variable.name, &variable.value)?;
+            add_if(
+                &mut found,
+                ValueKind::AsDeclared,
+                variable.name,
+                &variable.value,
+            )?;
         }
     }
     Ok(found)
