@@ -8,3 +8,4 @@ pub mod Scoping
 pub mod Blocks
 pub mod NamesInReach
 pub mod Prefixes
+pub mod Overriding

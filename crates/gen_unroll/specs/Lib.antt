@@ -7,3 +7,4 @@ pub mod Reaches
 pub mod Spoken
 pub mod Views
 pub mod ReachViews
+pub mod Overriding

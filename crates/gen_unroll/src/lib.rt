@@ -4,7 +4,7 @@
 // table of the `block`s that were opened, up to the first fault. It goes by the names in reach: `naming` declares those of a block
 // where it is opened, `parameters` gives parameters their values (by `ranges` and `constants`), `looping` counts the turns of a loop
 // before its first block. `speaking` says what a name within a block is called, and `telling` adds a step to what was told. `reaching`
-// follows the steps with the names in reach, for whoever checks them.
+// follows the steps with the names in reach, for whoever checks them. `overriding` has the overrides under which a module unrolls to given values.
 #![tactic(auto)]
 
 mod bit_range;
@@ -13,6 +13,7 @@ mod block_id;
 mod constants;
 mod looping;
 mod naming;
+mod overriding;
 mod parameter_sort;
 mod parameter_type;
 mod parameters;
@@ -31,6 +32,7 @@ pub use bit_range::BitRange;
 pub use block::Block;
 pub use block_id::BlockId;
 pub use constants::evaluated;
+pub use overriding::overrides_of;
 pub use parameter_sort::ParameterSort;
 pub use ranges::range_value;
 pub use reach::Reach;

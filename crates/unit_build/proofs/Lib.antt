@@ -1,5 +1,4 @@
 pub mod Marking
-pub mod Overriding
 pub mod Registers
 pub mod ConnectedNumbers
 pub mod ConnectedItems

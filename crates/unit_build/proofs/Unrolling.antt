@@ -11,7 +11,7 @@ use Rattle.module_registry.specs.declared.build_job.BuildJob.{BuildJob}
 use Rattle.unit_names.specs.Numbers.{SignalTable, module_table}
 use Rattle.unit_build.specs.Building.{module_of, steps_told, job_steps, settled_signals, unit_with, built}
 use Rattle.unit_build.specs.FromSteps.{unit_from}
-use Rattle.unit_build.specs.Parameters.{constant_sorts, overrides_of}
+use Rattle.gen_unroll.specs.Overriding.{constant_sorts, overrides_of}
 
 abbrev fault_or : Fault → Option Fault → Fault
 fault_or g None = g

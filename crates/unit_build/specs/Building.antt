@@ -17,7 +17,7 @@ use Rattle.driver_rules.specs.Targets.{is_settled as is_settled_by}
 use Rattle.module_registry.specs.declared.build_job.BuildJob.{BuildJob}
 use Rattle.module_registry.specs.Building.{Built}
 use Rattle.sized_items.specs.DeclaredValues.{InitialValue}
-use Rattle.unit_build.specs.Parameters.{constant_sorts, overrides_of}
+use Rattle.gen_unroll.specs.Overriding.{constant_sorts, overrides_of}
 use Rattle.unit_build.specs.Settled.{flag_steps, none_of}
 use Rattle.unit_build.specs.Walks.{Walk, walk_faults, walk_items, walk_initials}
 

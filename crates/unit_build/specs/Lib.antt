@@ -1,4 +1,3 @@
-pub mod Parameters
 pub mod Walks
 pub mod WalksFrom
 pub mod WalkViews

@@ -11,13 +11,12 @@ ghost use Rattle.width_rules.specs.Faults.{IsFirst};
 ghost use Rattle.unit_build.specs.Building as b;
 ghost use Rattle.unit_build.specs.FromSteps.{unit_from};
 
-use crate::parameters::overrides_of;
 use crate::placing::place_items;
 use crate::settling::settled;
 use crate::splitting::parts_of;
 use crate::walking::size_steps;
 use driver_rules::drivers;
-use gen_unroll::{Step, Unrolled, unroll};
+use gen_unroll::{Step, Unrolled, overrides_of, unroll};
 use ls_text::Refusal;
 use module_registry::BuildJob;
 use std::alloc::Global;

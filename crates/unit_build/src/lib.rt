@@ -1,6 +1,6 @@
 // A module as it is used to its unit, or to the first fault in it.
 //
-// `building` is the call. It unrolls the module under the values of its parameters (`parameters`), gives its signals numbers (`unit_names`),
+// `building` is the call. It unrolls the module under the values of its parameters, gives its signals numbers (`unit_names`),
 // finds which variables combinational blocks write (`settling`), and goes over the steps once more (`walking`, by a `unit_walk`), in which
 // `stepping` sizes each. `placing` puts the items together with the signals and what these have at the beginning (`unit_lists`, `copying`),
 // and `splitting` makes the parts of the unit, when `driver_rules` finds no fault.
@@ -8,7 +8,6 @@
 
 mod building;
 mod copying;
-mod parameters;
 mod placing;
 mod settling;
 mod splitting;

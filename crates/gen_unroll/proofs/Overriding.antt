@@ -4,7 +4,7 @@ use Rattle.std.specs.Prelude.{Option}
 use Rattle.typed_ir.specs.declared.constant.Const.{Const}
 use Rattle.gen_unroll.specs.declared.parameter_sort.ParameterSort.{ParameterSort}
 use Rattle.gen_unroll.specs.Values.{ConstantValue}
-use Rattle.unit_build.specs.Parameters.{overrides_of}
+use Rattle.gen_unroll.specs.Overriding.{overrides_of}
 
 none_left : (ss : List ParameterSort) → overrides_of ss [] ≡ []
 none_left [] = refl

@@ -1,8 +1,8 @@
 use Rattle.std.proofs.Common.{◌≡◌, ◌++◌, map, drop}
 use Rattle.verilog_ast.specs.Views.{header_parameter_of}
 use Rattle.gen_unroll.specs.declared.parameter_sort.ParameterSort.TheVariants as sort
-use Rattle.unit_build.specs.Parameters.{sort_of_each}
-use Rattle.unit_build.proofs.parameters.add_header.Given as goal
+use Rattle.gen_unroll.specs.Overriding.{sort_of_each}
+use Rattle.gen_unroll.proofs.overriding.add_header.Given as goal
 
 abbrev pub invariant-loop : goal.invariant-loop
 invariant-loop l =

@@ -1,7 +1,7 @@
 use Rattle.std.proofs.Common.{◌≡◌, ◌++◌, map, drop}
 use Rattle.verilog_ast.specs.Views.{item_of, items_of}
-use Rattle.unit_build.specs.Parameters.{item_sorts}
-use Rattle.unit_build.proofs.parameters.add_items.Given as goal
+use Rattle.gen_unroll.specs.Overriding.{item_sorts}
+use Rattle.gen_unroll.proofs.overriding.add_items.Given as goal
 
 abbrev pub invariant-loop-item : goal.invariant-loop-item
 invariant-loop-item l =

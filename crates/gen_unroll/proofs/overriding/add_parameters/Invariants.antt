@@ -1,7 +1,7 @@
 use Rattle.std.proofs.Common.{◌≡◌, ◌++◌, map, drop}
 use Rattle.verilog_ast.specs.Views.{parameter_of}
-use Rattle.unit_build.specs.Parameters.{sort_of_each}
-use Rattle.unit_build.proofs.parameters.add_parameters.Given as goal
+use Rattle.gen_unroll.specs.Overriding.{sort_of_each}
+use Rattle.gen_unroll.proofs.overriding.add_parameters.Given as goal
 
 abbrev pub invariant-loop : goal.invariant-loop
 invariant-loop l =

@@ -3,9 +3,9 @@ ghost use Rattle.std.specs.Prelude.{◌≡◌, ◌++◌, map, IfOk, OnOk};
 ghost use Rattle.verilog_ast.specs.Views.{parameter_of, header_parameter_of, plain_item_of, generate_item_of, item_of, items_of, declaration_of};
 ghost use Rattle.gen_unroll.specs.Views.{override_view};
 ghost use Rattle.gen_unroll.specs.declared.parameter_sort.ParameterSort.TheVariants as sort;
-ghost use Rattle.unit_build.specs.Parameters as p;
+ghost use Rattle.gen_unroll.specs.Overriding as p;
 
-use gen_unroll::ParameterSort;
+use crate::parameter_sort::ParameterSort;
 use no_memory::NoMemory;
 use std::alloc::Global;
 use typed_ir::Const;

@@ -1,7 +1,7 @@
 use Rattle.std.proofs.Common.{map, drop}
 use Rattle.gen_unroll.specs.Views.{override_view}
-use Rattle.unit_build.proofs.Overriding.{ended}
-use Rattle.unit_build.proofs.parameters.overridden.Goals as goal
+use Rattle.gen_unroll.proofs.Overriding.{ended}
+use Rattle.gen_unroll.proofs.overriding.overridden.Goals as goal
 
 pub returns-in_default : goal.returns-in_default
 returns-in_default c =

@@ -1,7 +1,7 @@
 use Rattle.std.proofs.Common.{◌≡◌, ◌++◌, map, drop}
 use Rattle.gen_unroll.specs.Views.{override_view}
-use Rattle.unit_build.specs.Parameters.{overrides_of}
-use Rattle.unit_build.proofs.parameters.overridden.Given as goal
+use Rattle.gen_unroll.specs.Overriding.{overrides_of}
+use Rattle.gen_unroll.proofs.overriding.overridden.Given as goal
 
 -- the values so far, and those of the parameters that are left
 abbrev pub invariant-loop-sort : goal.invariant-loop-sort
