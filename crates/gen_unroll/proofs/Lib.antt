@@ -8,4 +8,4 @@ pub mod Scoping
 pub mod Blocks
 pub mod NamesInReach
 pub mod Prefixes
-pub mod Overriding
+pub mod Overridden

@@ -1,6 +1,6 @@
 use Rattle.std.proofs.Common.{map, drop}
 use Rattle.gen_unroll.specs.Views.{override_view}
-use Rattle.gen_unroll.proofs.Overriding.{ended}
+use Rattle.gen_unroll.proofs.Overridden.{ended}
 use Rattle.gen_unroll.proofs.overriding.overridden.Goals as goal
 
 pub returns-in_default : goal.returns-in_default
