@@ -122,7 +122,7 @@ under_called : (name : Standing → List ℕ) (ss : List Standing) → seen_unde
 under_called name [] = refl
 under_called name (s ∷ ss) = ap (λ (xs : List TreeInstance). seen_as (name s) s ∷ xs) (under_called name ss)
 
-pub all_called : (texts : List (List ℕ)) (names : List (List ℕ)) (all : List Standing) → names ≡ map (called texts all) all → seen_under names all ≡ all_seen texts all
+all_called : (texts : List (List ℕ)) (names : List (List ℕ)) (all : List Standing) → names ≡ map (called texts all) all → seen_under names all ≡ all_seen texts all
 all_called texts names all is = ap (λ (ns : List (List ℕ)). seen_under ns all) is ∙ under_called (called texts all) all
 
 -- ---- what they are called
@@ -183,18 +183,22 @@ above_all : (name : Standing → List ℕ) (ss : List Standing) → map above_of
 above_all name [] = refl
 above_all name (s ∷ ss) = ap (λ (ps : List (Option ℕ)). s.parent ∷ ps) (above_all name ss)
 
--- the instances stand depth first
-pub tree_depth_first : (l : Limits) (ms : List ModuleDeclaration) (top clock : ℕ) (names new texts : List (List ℕ)) (is : List Instance) (all : List Standing)
-    → elaborated l ms top clock ≡ Ok all → texts ≡ map (called names all) all → map (instance_view new) is ≡ seen_under texts all → is_depth_first (map parent_of is) ≡ true
-tree_depth_first l ms top clock names new texts is all found says seen =
-    ap is_depth_first (sym (above_seen new is) ∙ ap (map above_of) (seen ∙ all_called names texts all says) ∙ above_all (called names all) all)
-    ∙ depth_first l ms top clock all found
+-- instances of these names are those of the definition
+pub seen_all : (names new texts : List (List ℕ)) (is : List Instance) (all : List Standing) → texts ≡ map (called names all) all
+    → map (instance_view new) is ≡ seen_under texts all → map (instance_view new) is ≡ all_seen names all
+seen_all names new texts is all says seen = seen ∙ all_called names texts all says
 
--- and are those of the definition
-pub tree_seen : (l : Limits) (ms : List ModuleDeclaration) (top clock : ℕ) (names new texts : List (List ℕ)) (is : List Instance) (all : List Standing)
-    → elaborated l ms top clock ≡ Ok all → texts ≡ map (called names all) all → map (instance_view new) is ≡ seen_under texts all → (elaborated l ms top clock >>= λ xs. Ok (all_seen names xs)) ≡ Ok (map (instance_view new) is)
-tree_seen l ms top clock names new texts is all found says seen =
-    ap (λ (r : Result (List Standing) Fault). r >>= λ xs. Ok (all_seen names xs)) found ∙ ap (λ (xs : List TreeInstance). Ok xs) (sym (seen ∙ all_called names texts all says))
+-- they stand depth first
+pub tree_depth_first : (l : Limits) (ms : List ModuleDeclaration) (top clock : ℕ) (names new : List (List ℕ)) (is : List Instance) (all : List Standing)
+    → elaborated l ms top clock ≡ Ok all → map (instance_view new) is ≡ all_seen names all → is_depth_first (map parent_of is) ≡ true
+tree_depth_first l ms top clock names new is all found seen =
+    ap is_depth_first (sym (above_seen new is) ∙ ap (map above_of) seen ∙ above_all (called names all) all) ∙ depth_first l ms top clock all found
+
+-- and are the tree
+pub tree_seen : (l : Limits) (ms : List ModuleDeclaration) (top clock : ℕ) (names new : List (List ℕ)) (is : List Instance) (all : List Standing)
+    → elaborated l ms top clock ≡ Ok all → map (instance_view new) is ≡ all_seen names all → (elaborated l ms top clock >>= λ xs. Ok (all_seen names xs)) ≡ Ok (map (instance_view new) is)
+tree_seen l ms top clock names new is all found seen =
+    ap (λ (r : Result (List Standing) Fault). r >>= λ xs. Ok (all_seen names xs)) found ∙ ap (λ (xs : List TreeInstance). Ok xs) (sym seen)
 
 pub ruleset around = (blocks_there, blocks_past)
 

@@ -39,9 +39,11 @@ clocked ms m said most clock table =
 abbrev pub with_clocks : ModuleDeclaration → (said : List ModuleStep) → Checked → List (Option ℕ) → Visited
 with_clocks m said c ks = record { checks = c; clocks = ks; blocks = blocks_in said; ports = port_outlines (header_ports m.ports) c.declared }
 
+-- what is found behind the checks, along these steps
+abbrev pub behind_checks : List ModuleDeclaration → ModuleDeclaration → (said : List ModuleStep) → (most clock : Option ℕ) → Checked → Result Visited Fault
+behind_checks ms m said most clock c = clocked ms m said most clock c.declared >>= λ ks. Ok (with_clocks m said c ks)
+
 -- a module under the overrides of its parameters and with its clock port, and for a top with its most ports
 unfoldable pub visited : (turns : ℕ) → List ModuleDeclaration → (most : Option ℕ) → ModuleDeclaration → List (Option ConstantValue) → (clock : Option ℕ) → Result Visited Fault
 visited turns ms most m vs clock =
-    checked turns ms m vs
-    >>= λ c. clocked ms m (unrolled_module turns vs m).said most clock c.declared
-    >>= λ ks. Ok (with_clocks m (unrolled_module turns vs m).said c ks)
+    checked turns ms m vs >>= λ c. behind_checks ms m (unrolled_module turns vs m).said most clock c

@@ -197,6 +197,30 @@ fn below_top(
     within(t, modules, t.limits.levels, InstanceId(0), &job.visited)
 }
 
+// The instances of a design whose top is this one, of which this is the visit.
+fn all_below(
+    alloc: Global,
+    limits: Limits,
+    modules: &Modules<'_>,
+    of: &ModuleNames<'_>,
+    clock: Option<NameId>,
+    job: &Arc<Job, Global>,
+) -> Result<Vec<StandingInstance>, Refusal>
+    requires of { IsOf job.now.value of.now.body.now.name.name [] clock }
+    requires found { visited limits.turns (modules_of modules.now) (Some limits.top_ports) (plain_module of.now.body.now) [] (clock_view clock) ≡ Ok (job_view job.now) }
+    ensures { Answers result all_view (e.from_top limits (modules_of modules.now) (clock_view clock) (plain_module of.now.body.now)) }
+{
+    let mut t = Growing {
+        alloc,
+        limits,
+        jobs: IndexMap::new(alloc),
+        all: Vec::new(alloc),
+        path: Vec::new(alloc),
+    };
+    below_top(&mut t, modules, of, clock, job)?;
+    Ok(t.all)
+}
+
 /// The instances of a design whose top is this one, depth first: the top, and each other behind the one that it stands in.
 ///
 /// Faults: those of the top's visit, and of its instances in item order, each 23 RecursiveInstance, 40 TooMany, and then its visit. Else
@@ -213,13 +237,5 @@ pub fn from_top(
     let most = Some(limits.top_ports);
     let name = of.body.name.name;
     let job = new_job(alloc, limits.turns, modules, most, of, name, &[], clock)?;
-    let mut t = Growing {
-        alloc,
-        limits,
-        jobs: IndexMap::new(alloc),
-        all: Vec::new(alloc),
-        path: Vec::new(alloc),
-    };
-    below_top(&mut t, modules, of, clock, &job)?;
-    Ok(t.all)
+    all_below(alloc, limits, modules, of, clock, &job)
 }

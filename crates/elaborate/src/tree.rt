@@ -97,8 +97,23 @@ fn all_seen(
     Ok(instances)
 }
 
+// The instances that stand there, each called by its text, which the table of names gets.
+#[tactic(auto, using(crate::proofs::Instances::seen_all, crate::proofs::Instances::same_length))]
+fn instances_of(
+    alloc: Global,
+    names: &mut Names,
+    standing: &[StandingInstance],
+) -> Result<Vec<Instance>, NoMemory>
+    ensures instances { IfOk result (λ is. map (instance_view names.new) is.items ≡ t.all_seen names.old (map standing_of standing.now)) }
+    ensures named { IfOk result (λ is. All (λ i. i.place.name.0 < length names.new) is.items) }
+    ensures grows { Grows names.old names.new }
+{
+    let texts = texts_of(alloc, names, standing)?;
+    all_seen(alloc, names, &texts, standing)
+}
+
 /// The same as `elaborate`, within these limits.
-#[tactic(auto, unfolding(crate::specs::Trees::tree), using(crate::proofs::Instances::tree_depth_first, crate::proofs::Instances::tree_seen, crate::proofs::Instances::same_length))]
+#[tactic(auto, unfolding(crate::specs::Trees::tree), using(crate::proofs::Instances::tree_depth_first, crate::proofs::Instances::tree_seen))]
 pub fn tree_within(
     alloc: Global,
     names: &mut Names,
@@ -112,8 +127,7 @@ pub fn tree_within(
     ensures grows { Grows names.old names.new }
 {
     let standing = elaborate_within(alloc, limits, all, top, clock)?;
-    let texts = texts_of(alloc, names, &standing)?;
-    let instances = all_seen(alloc, names, &texts, &standing)?;
+    let instances = instances_of(alloc, names, &standing)?;
     Ok(InstanceTree { instances })
 }
 

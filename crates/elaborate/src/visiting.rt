@@ -11,10 +11,11 @@ ghost use Rattle.elaborate.specs.Clocks as k;
 ghost use Rattle.elaborate.specs.Visits as v;
 ghost use Rattle.elaborate.specs.Ports as p;
 ghost use Rattle.clock_rules.specs.Views.{clock_view, clocks_view};
-ghost use Rattle.elaborate.specs.Views.{declaration_of, table_of, port_of, visited_of};
+ghost use Rattle.elaborate.specs.Views.{checked_of, declaration_of, table_of, port_of, visited_of};
 ghost use Rattle.module_names.specs.Modules.{header_ports};
 ghost use Rattle.module_names.specs.Views.{modules_of};
 
+use crate::checking::Checking;
 use crate::checks::check;
 use crate::clocking::{clocks, own_clock, width_of};
 use crate::clocks_and_ports::ClocksAndPorts;
@@ -133,6 +134,38 @@ fn clocks_and_ports(
     Ok(ClocksAndPorts { clocks, ports })
 }
 
+// What is found behind the checks of a module.
+fn visit_checked(
+    alloc: Global,
+    modules: &Modules<'_>,
+    most: Option<usize>,
+    of: &ModuleNames<'_>,
+    clock: Option<NameId>,
+    steps: &[Step<'_>],
+    blocks: Vec<Block>,
+    checks: Checking,
+) -> Result<Visited, Refusal>
+    requires { map block_of blocks.items ≡ blocks_in (map step_of steps.now) }
+    ensures { Answers result visited_of
+        (v.behind_checks (modules_of modules.now) (plain_module of.now.body.now) (map step_of steps.now) most (clock_view clock) (checked_of checks)) }
+{
+    let ClocksAndPorts { clocks, ports } = clocks_and_ports(
+        alloc,
+        modules,
+        of,
+        steps,
+        most,
+        clock,
+        &checks.declared,
+    )?;
+    Ok(Visited {
+        checks,
+        clocks,
+        blocks,
+        ports,
+    })
+}
+
 // What is found along the steps of a module.
 #[tactic(auto, unfolding(crate::specs::Visits::visited))]
 fn visit_unrolled(
@@ -154,21 +187,7 @@ fn visit_unrolled(
         (v.visited turns (modules_of modules.now) most (plain_module of.now.body.now) (map override_view overrides.now) (clock_view clock)) }
 {
     let checks = check(alloc, turns, modules, of, overrides, steps, fault)?;
-    let ClocksAndPorts { clocks, ports } = clocks_and_ports(
-        alloc,
-        modules,
-        of,
-        steps,
-        most,
-        clock,
-        &checks.declared,
-    )?;
-    Ok(Visited {
-        checks,
-        clocks,
-        blocks,
-        ports,
-    })
+    visit_checked(alloc, modules, most, of, clock, steps, blocks, checks)
 }
 
 /// The visit of a module under these overrides and with this clock port; a top has at most so many ports.
