@@ -58,7 +58,7 @@ value_as g env same (s.Resized a width signed) = ap₂ (λ (w v : ℕ). resized 
 nothing_there : (signal : ℕ) → no_signals signal ≡ 0
 nothing_there signal = refl
 
-known_as : (g : ℕ → ℕ) (x : Sized) → value_of (numbered_as g x) no_signals ≡ value_of x no_signals
+pub known_as : (g : ℕ → ℕ) (x : Sized) → value_of (numbered_as g x) no_signals ≡ value_of x no_signals
 known_as g x = value_as g no_signals (λ n. nothing_there (g n) ∙ sym (nothing_there n)) x
 
 -- ---- names
@@ -70,7 +70,7 @@ name_sign_as g (Turn width value signed) = refl
 name_sign_as g Genvar = refl
 name_sign_as g Unknown = refl
 
-signal_as : (g : ℕ → ℕ) (m : Meaning) → is_signal (meaning_as g m) ≡ is_signal m
+pub signal_as : (g : ℕ → ℕ) (m : Meaning) → is_signal (meaning_as g m) ≡ is_signal m
 signal_as g (Signal signal width lsb signed writer) = refl
 signal_as g (Constant width value signed) = refl
 signal_as g (Turn width value signed) = refl

@@ -25,7 +25,7 @@ use Rattle.size_laws.proofs.RenumberedTargets.{parts_as}
 
 -- ---- assignments
 
-assigned_as : (g : ℕ → ℕ) (scope : Scope) (m n : ℕ) (x : Expression) → m ≡ n → assigned (renumbered g scope) m x ≡ numbered_as g (assigned scope n x)
+pub assigned_as : (g : ℕ → ℕ) (scope : Scope) (m n : ℕ) (x : Expression) → m ≡ n → assigned (renumbered g scope) m x ≡ numbered_as g (assigned scope n x)
 assigned_as g scope m n x widths =
     ap₂ (λ (k : ℕ) (t : Bool). push (renumbered g scope) x k t) (ap₂ max widths (long_as g scope x)) (sign_as g scope x)
     ∙ form_as g scope x (max n (length scope x)) (is_signed scope x)

@@ -90,7 +90,7 @@ all_right scope child (c ∷ cs) lanes values written f k = (
       (right_none (connection_kinds scope c) (all_connection_kinds scope cs) k),
 )
 
-first_is : (P : Connected → Type 0) (k : ℕ) (cs : List Connected) (c : Connected) → Each P cs → first_to k cs ≡ Some c → P c
+pub first_is : (P : Connected → Type 0) (k : ℕ) (cs : List Connected) (c : Connected) → Each P cs → first_to k cs ≡ Some c → P c
 first_is P k [] c all h = absurd (none-some c h)
 first_is P k (d ∷ ds) c all h = by_cases (d.port == k)
     (λ t. subst P (same_Some d c (sym (cond-true (d.port == k) (Some d) (first_to k ds) t) ∙ h)) all.0)
