@@ -23,7 +23,7 @@ use Rattle.unit_build.proofs.OutputTargets.{output_is_target}
 -- ---- an expression that is a target is written as one
 
 mutual
-  target_written : (x : Expression) → IsWritten x → is_target x ≡ true → IsTargetWritten (target_at x)
+  pub target_written : (x : Expression) → IsWritten x → is_target x ≡ true → IsTargetWritten (target_at x)
   target_written (e.Literal at x) w h = absurd (true≢false (sym h))
   target_written (e.Whole n) w h = tt
   target_written (e.BitSelect n x) w h = w
