@@ -65,8 +65,8 @@ impl Registry {
     /// Makes the units of those of these distinct keys that aren't held, in their order, and holds them behind the others.
     ///
     /// A refusal is the fault of the first of these jobs that has one, or want of memory, as it also answers 2^32 keys or more: then the
-    /// registry stays.
-    pub fn ensure<R, F: Forge<R>>(
+    /// registry stays. Threads may share the help that the forge is handed.
+    pub fn ensure<R: Sync, F: Forge<R>>(
         &mut self,
         rt: &R,
         alloc: Global,
