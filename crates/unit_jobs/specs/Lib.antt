@@ -1,0 +1,9 @@
+pub mod BlockNames
+pub mod Jobs
+pub mod JobViews
+pub mod Tables
+pub mod FirstModules
+pub mod TableViews
+pub mod Rows
+pub mod Walks
+pub mod UnnamedViews
