@@ -16,3 +16,4 @@ mod shapes;
 mod unnamed_job;
 
 pub use jobs::jobs_of;
+pub use shapes::shapes_within;

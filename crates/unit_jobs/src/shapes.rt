@@ -67,7 +67,8 @@ fn note_children(
     Ok(())
 }
 
-/// Of each instance of a tree the shapes of those that stand in it, in their order.
+/// Of each instance of a list the shapes of those of the list that stand in it, in their order; or want of memory. It is linear in the
+/// instances and in their ports.
 #[tactic(auto, using(crate::proofs::Rows::rows_all))]
 pub fn shapes_within(
     alloc: Global,
