@@ -69,7 +69,7 @@ pub instances_written : (xs : List Instance) → AreInstancesWritten (map instan
 instances_written [] = tt
 instances_written (x ∷ xs) = (connections_written x.connections, instances_written xs)
 
-item_written : (x : PlainItem) → AreInstancesWritten (instances_in (plain_item_of x))
+pub item_written : (x : PlainItem) → AreInstancesWritten (instances_in (plain_item_of x))
 item_written (plain.Instances n x ys) = instances_written ys
 item_written other = tt
 

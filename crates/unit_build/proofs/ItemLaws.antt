@@ -72,7 +72,7 @@ value_written : (k : ValueKind) (n : Identifier) (e : Option Expr) → AreValues
 value_written k n None = tt
 value_written k n (Some e) = (expression_is_written e, tt)
 
-values_written : (k : ValueKind) (xs : List Variable) → AreValuesWritten (values_of k (map declared_of xs))
+pub values_written : (k : ValueKind) (xs : List Variable) → AreValuesWritten (values_of k (map declared_of xs))
 values_written k [] = tt
 values_written k (x ∷ xs) =
     each_append (λ (v : DeclaredValue). IsWritten v.value) (value_if k x.name (option_map expression_of x.value)) (values_of k (map declared_of xs))
@@ -84,12 +84,12 @@ reg_values_written (x ∷ xs) =
     each_append (λ (v : DeclaredValue). IsWritten v.value) (value_if kind.Variable x.name (option_map expression_of x.value)) (reg_values_of (map declared_reg_of xs))
     (value_written kind.Variable x.name x.value) (reg_values_written xs)
 
-port_written : (p : HeaderPort) → AreValuesWritten (port_values (port_of p))
+pub port_written : (p : HeaderPort) → AreValuesWritten (port_values (port_of p))
 port_written (port.Input at net x n) = tt
 port_written (port.Output at net x y) = value_written (kind_of_net net) y.name y.value
 port_written (port.Next x) = value_written kind.AsDeclared x.name x.value
 
-item_written : (x : PlainItem) → IsItemWritten (plain_item_of x)
+pub item_written : (x : PlainItem) → IsItemWritten (plain_item_of x)
 item_written (plain.Wire at x ys) = values_written kind.Net ys
 item_written (plain.Reg at x ys) = reg_values_written ys
 item_written (plain.LocalParameter at x ys) = tt
