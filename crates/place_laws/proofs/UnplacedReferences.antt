@@ -1,0 +1,67 @@
+-- Names and selects that are written, without places: the same bits, and the same faults.
+use Rattle.std.proofs.Common.{◌≡◌, ℕ, ◌-◌, Bool, map, refl, ap}
+use Rattle.typed_ir.specs.Stmts.{SizedTarget}
+use Rattle.verilog_ast.specs.declared.identifier.Identifier.{Identifier}
+use Rattle.verilog_ast.specs.Expressions as e
+use Rattle.verilog_ast.specs.Expressions.{Expression}
+use Rattle.width_rules.specs.declared.due.Due.{Due}
+use Rattle.width_rules.specs.declared.due.Due.TheVariants.{ConstantOnly}
+use Rattle.width_rules.specs.References.{part_at, part_from, reference_part, target_name_faults, reference_faults}
+use Rattle.width_rules.specs.Scopes.{Meaning, Unknown, Scope}
+use Rattle.width_rules.specs.Sizes.{Operand, count_of, bits_between}
+use Rattle.unplaced_trees.specs.Unplaced.{unplaced_expression, unplaced_name}
+use Rattle.place_laws.specs.Findings.{fault_unplaced}
+use Rattle.place_laws.proofs.UnplacedSizes.{same_fixed, same_worth, same_operand, parts_so, worth, alone}
+use Rattle.place_laws.proofs.UnplacedFaults.{both_so, run_so, part_so, width_so, same_count, same_between, same_faults}
+
+-- ---- the bits
+
+abbrev bit_part : ℕ → Meaning → Bool → Operand → Operand → SizedTarget
+bit_part shift m b x y = part_at m shift 1 0 b (worth x) x.sign (alone x)
+
+abbrev fixed_part : ℕ → Meaning → Bool → Operand → Operand → SizedTarget
+fixed_part shift m b x y = part_from m shift (worth y) (bits_between (worth x) (worth y))
+
+abbrev upward_part : ℕ → Meaning → Bool → Operand → Operand → SizedTarget
+upward_part shift m b x y = part_at m shift (count_of (worth y)) 0 b (worth x) x.sign (alone x)
+
+abbrev downward_part : ℕ → Meaning → Bool → Operand → Operand → SizedTarget
+downward_part shift m b x y = part_at m shift (count_of (worth y)) (count_of (worth y) - 1) b (worth x) x.sign (alone x)
+
+pub same_reference : (scope : Scope) (shift : ℕ) (x : Expression) → reference_part scope shift (unplaced_expression x) ≡ reference_part scope shift x
+same_reference scope shift (e.BitSelect n x) =
+    parts_so (bit_part shift (scope n.name.0)) _ _ _ _ _ _ (same_fixed scope x) (same_operand scope x) (same_operand scope x)
+same_reference scope shift (e.PartSelect n x y) =
+    parts_so (fixed_part shift (scope n.name.0)) _ _ _ _ _ _ (same_fixed scope x) (same_operand scope x) (same_operand scope y)
+same_reference scope shift (e.UpwardSelect n x y) =
+    parts_so (upward_part shift (scope n.name.0)) _ _ _ _ _ _ (same_fixed scope x) (same_operand scope x) (same_operand scope y)
+same_reference scope shift (e.DownwardSelect n x y) =
+    parts_so (downward_part shift (scope n.name.0)) _ _ _ _ _ _ (same_fixed scope x) (same_operand scope x) (same_operand scope y)
+same_reference scope shift other = refl
+
+-- ---- faults
+
+name_moves : (m : Meaning) (n : Identifier) → target_name_faults m (unplaced_name n) ≡ map fault_unplaced (target_name_faults m n)
+name_moves Unknown n = refl
+name_moves other n = refl
+
+pub same_reference_faults : (scope : Scope) (due : Due) (x : Expression)
+    → reference_faults scope due (unplaced_expression x) ≡ map fault_unplaced (reference_faults scope due x)
+same_reference_faults scope due (e.Whole n) = name_moves (scope n.name.0) n
+same_reference_faults scope due (e.BitSelect n x) =
+    both_so _ _ _ _ (name_moves (scope n.name.0) n) (both_so _ _ _ _ (same_faults scope due x)
+    (run_so _ _ _ _ _ 1 1 0 0 n (same_fixed scope x) (same_worth scope x) refl refl))
+same_reference_faults scope due (e.PartSelect n x y) =
+    both_so _ _ _ _ (name_moves (scope n.name.0) n) (both_so _ _ _ _ (same_faults scope ConstantOnly x)
+    (both_so _ _ _ _ (same_faults scope ConstantOnly y)
+    (part_so _ _ _ _ _ n (same_worth scope y) (same_between scope x y))))
+same_reference_faults scope due (e.UpwardSelect n x y) =
+    both_so _ _ _ _ (name_moves (scope n.name.0) n) (both_so _ _ _ _ (same_faults scope due x)
+    (both_so _ _ _ _ (same_faults scope ConstantOnly y) (both_so _ _ _ _ (width_so n y _ _ (same_count scope y))
+    (run_so _ _ _ _ _ _ _ 0 0 n (same_fixed scope x) (same_worth scope x) (same_count scope y) refl))))
+same_reference_faults scope due (e.DownwardSelect n x y) =
+    both_so _ _ _ _ (name_moves (scope n.name.0) n) (both_so _ _ _ _ (same_faults scope due x)
+    (both_so _ _ _ _ (same_faults scope ConstantOnly y) (both_so _ _ _ _ (width_so n y _ _ (same_count scope y))
+    (run_so _ _ _ _ _ _ _ _ _ n (same_fixed scope x) (same_worth scope x) (same_count scope y)
+    (ap (λ (w : ℕ). w - 1) (same_count scope y))))))
+same_reference_faults scope due other = refl
