@@ -14,7 +14,7 @@ use Rattle.gen_unroll.specs.Values.{◌>>=◌}
 use Rattle.elaborate.specs.declared.limits.Limits.{Limits}
 use Rattle.elaborate.specs.Elaborated.{Standing, elaborated}
 use Rattle.elaborate.specs.Trees.{all_seen, tree}
-use Rattle.elaborate.specs.TreeViews.{instance_view}
+use Rattle.elaborate.specs.TreeViews.{instance_view, language_limits}
 use Rattle.unit_jobs.specs.Jobs.{InstanceJob, or_no_module, steps_under, job_with, instance_job, jobs_from, tree_jobs}
 use Rattle.job_laws.proofs.Answered.{ok_same, first_step}
 use Rattle.job_laws.proofs.CodeTrees.{code_stands}
@@ -75,6 +75,12 @@ jobs_there l texts known_texts others ms name clock all xs turns is same =
 
 -- ---- what elaboration gives
 
+-- the turns that the language allows are those of a job
+pub language_turns : language_limits.turns ≡ turn_limit
+unfolding turn_limit
+language_turns = refl
+
+-- instances that are seen as those of a tree
 pub record IsSeenOf (l : Limits) (texts known_texts : List (List ℕ)) (ms : List Module) (name clock : ℕ) (xs : List Instance) : Type 0 where
   pub all : List Standing
   pub elaborates : elaborated l (declarations_of ms) name clock ≡ Ok all
