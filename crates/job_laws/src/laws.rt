@@ -22,7 +22,7 @@ ghost use Rattle.elaborate.specs.declared.limits.Limits.{Limits};
 ghost use Rattle.elaborate.specs.Checks.{Checked, check_steps, checked};
 ghost use Rattle.elaborate.specs.Elaborated.{Standing, elaborated};
 ghost use Rattle.elaborate.specs.Ports.{port_outlines};
-ghost use Rattle.elaborate.specs.Trees.{all_seen};
+ghost use Rattle.elaborate.specs.Trees.{tree};
 ghost use Rattle.elaborate.specs.TreeViews.{instance_view};
 ghost use Rattle.elaborate.specs.Views.{port_of};
 ghost use Rattle.elaborate.specs.Visits.{Visited, visited};
@@ -89,12 +89,12 @@ pub fn ports_come_first()
 pub fn units_stand_in_their_tree()
     ensures visits { (l : Limits) (ms : List ModuleDeclaration) (top clock : ℕ) (all : List Standing) → elaborated l ms top clock ≡ Ok all
         → All (IsVisited l.turns ms) all }
-    ensures jobs { (l : Limits) (texts known others : List (List ℕ)) (ms : List Module) (top clock : ℕ) (all : List Standing)
-        (xs : List Instance) → l.turns ≡ turn_limit → elaborated l (declarations_of ms) top clock ≡ Ok all
-        → map (instance_view known) xs ≡ all_seen texts all → (jobs : List InstanceJob) × (tree_jobs others ms xs ≡ Ok jobs) }
-    ensures units { (l : Limits) (texts known others words : List (List ℕ)) (ms : List Module) (top clock : ℕ) (all : List Standing)
-        (xs : List Instance) (jobs : List InstanceJob) (js : List BuildJob) (us : List UnitParts)
-        → l.turns ≡ turn_limit → elaborated l (declarations_of ms) top clock ≡ Ok all → map (instance_view known) xs ≡ all_seen texts all
+    ensures jobs { (l : Limits) (texts known others : List (List ℕ)) (ms : List Module) (top clock : ℕ) (xs : List Instance)
+        → l.turns ≡ turn_limit → tree l texts (declarations_of ms) top clock ≡ Ok (map (instance_view known) xs)
+        → (jobs : List InstanceJob) × (tree_jobs others ms xs ≡ Ok jobs) }
+    ensures units { (l : Limits) (texts known others words : List (List ℕ)) (ms : List Module) (top clock : ℕ) (xs : List Instance)
+        (jobs : List InstanceJob) (js : List BuildJob) (us : List UnitParts)
+        → l.turns ≡ turn_limit → tree l texts (declarations_of ms) top clock ≡ Ok (map (instance_view known) xs)
         → tree_jobs others ms xs ≡ Ok jobs → map (job_view words) js ≡ jobs → AllZip IsUnitOf js us → shapes.AreOf xs 0 xs us }
     ensures names { (m : ModuleDeclaration) (steps : List ModuleStep) (t : SignalTable) (texts : List (List ℕ))
         → are_ports_outside 0 steps ≡ true → module_table m steps ≡ Ok t
