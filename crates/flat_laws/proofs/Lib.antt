@@ -18,3 +18,4 @@ pub mod BuiltUnits
 pub mod TableUnits
 pub mod TableTrees
 pub mod TableAlone
+pub mod DesignCopies

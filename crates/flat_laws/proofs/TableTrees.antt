@@ -1,5 +1,6 @@
 -- A table of instances whose units are built from jobs is that of copies of the modules of these jobs.
 use Rattle.std.proofs.Common.{◌≡◌, ℕ, suc, ◌+◌, List, [], ◌∷◌, ◌++◌, drop, get_or, length, Option, None, Some, Result, Ok, Err, append_assoc, append-nil, refl, sym, ◌∙◌, ap, subst, arith}
+use Rattle.std.specs.List.{AllZip}
 use Rattle.ls_text.specs.declared.fault.Fault.{Fault}
 use Rattle.unit_ir.specs.declared.instance.Instance.{Instance}
 use Rattle.unit_ir.specs.declared.unit_parts.UnitParts.{UnitParts}
@@ -12,9 +13,10 @@ use Rattle.module_registry.specs.declared.build_job.BuildJob.{BuildJob}
 use Rattle.module_registry.specs.Building.{Built}
 use Rattle.unit_names.specs.Numbers.{SignalTable, module_table}
 use Rattle.unit_build.specs.Building.{module_of, job_steps, settled_signals, unit_with, built}
+use Rattle.job_laws.specs.JobUnits.{IsUnitOf}
 use Rattle.flat_laws.specs.BuiltCopies.{copy_of}
 use Rattle.flat_laws.specs.Copies.{Copies, Nothing, One}
-use Rattle.flat_laws.specs.TableCopies.{CopyEntry, copies_in, copies_listed, AreCopiesOf, IsTableOf, AreBuiltFrom}
+use Rattle.flat_laws.specs.TableCopies.{CopyEntry, copies_in, copies_listed, AreCopiesOf, IsTableOf}
 use Rattle.flat_laws.proofs.BuiltUnits.{HasAnswer}
 
 -- ---- what a job that is built has
@@ -49,7 +51,7 @@ record HasCopiesOf (parent : Option ℕ) (index : ℕ) (tree : Instances) (rest 
   many : copies_in copies ≡ instances_in tree
   left : rest ≡ entries_of instances units
   long : length units ≡ length instances
-  are_built : AreBuiltFrom jobs_left units
+  are_built : AllZip IsUnitOf jobs_left units
   joined : (es : List CopyEntry) → AreCopiesOf es instances jobs_left → AreCopiesOf (copies_listed parent index copies ++ es) xs jobs
 
 abbrev nobody : Entry
@@ -67,7 +69,7 @@ copies_joined parent index n m inner later es xs jobs few are =
     (subst (λ i. AreCopiesOf (these ++ (copies_listed parent (suc index + i) later ++ es)) xs jobs) (sym few) are)
 
 beside : (parent : Option ℕ) (index : ℕ) (tree : Instances) (rest : List Entry) (xs : List Instance) (jobs : List BuildJob) (us : List UnitParts)
-    → listed parent index tree ++ rest ≡ entries_of xs us → length us ≡ length xs → AreBuiltFrom jobs us → HasCopiesOf parent index tree rest xs jobs
+    → listed parent index tree ++ rest ≡ entries_of xs us → length us ≡ length xs → AllZip IsUnitOf jobs us → HasCopiesOf parent index tree rest xs jobs
 beside parent index t.Nothing rest xs jobs us is long builds = record {
   copies = Nothing;
   instances = xs;
@@ -108,7 +110,7 @@ beside parent index (t.One name u within after) rest (x ∷ xs) (job ∷ jobs) (
 
 -- ---- the whole table
 
-no_entries : (xs : List Instance) (jobs : List BuildJob) (us : List UnitParts) → [] ≡ entries_of xs us → length us ≡ length xs → AreBuiltFrom jobs us
+no_entries : (xs : List Instance) (jobs : List BuildJob) (us : List UnitParts) → [] ≡ entries_of xs us → length us ≡ length xs → AllZip IsUnitOf jobs us
     → AreCopiesOf [] xs jobs
 no_entries [] [] us is long builds = tt
 no_entries [] (job ∷ jobs) [] is long builds = absurd builds
@@ -121,7 +123,7 @@ pub record HasCopies (xs : List Instance) (jobs : List BuildJob) : Type 0 where
   pub table : IsTableOf xs jobs copies
 
 pub table_copies : (xs : List Instance) (jobs : List BuildJob) (us : List UnitParts) (tree : Instances) → length us ≡ length xs → IsTreeOf xs us tree
-    → AreBuiltFrom jobs us → HasCopies xs jobs
+    → AllZip IsUnitOf jobs us → HasCopies xs jobs
 table_copies xs jobs us tree long is builds =
     let s = beside None 0 tree [] xs jobs us (append-nil (listed None 0 tree) ∙ is) long builds in
     record {

@@ -1,5 +1,6 @@
 -- Where the units of a table of instances are built from the jobs of the instances, its tree is beside the copies of the modules of these jobs.
 use Rattle.std.proofs.Common.{◌≡◌, ℕ, suc, ◌+◌, ◌≤◌, Bool, true, false, cond, List, [], ◌∷◌, ◌++◌, map, length, Option, Some, None, Ok, append_assoc, append-nil, refl, sym, ◌∙◌, ap, ap₂, subst, arith}
+use Rattle.std.specs.List.{AllZip}
 use Rattle.std.proofs.lemmas.List.{length-map, length-take}
 use Rattle.unit_ir.specs.declared.child_shape.ChildShape.{ChildShape}
 use Rattle.unit_ir.specs.declared.instance.Instance.{Instance}
@@ -16,10 +17,11 @@ use Rattle.link.proofs.Listed.{HasKids, kids_by, tops_by, has_kids}
 use Rattle.module_registry.specs.declared.build_job.BuildJob.{BuildJob}
 use Rattle.unit_names.specs.Numbers.{module_table}
 use Rattle.unit_build.specs.Building.{module_of, job_steps, built}
+use Rattle.job_laws.specs.JobUnits.{IsUnitOf}
 use Rattle.flat_laws.specs.BuiltCopies.{copy_of, AreBuilt}
 use Rattle.flat_laws.specs.Copies.{ModuleCopy, Copies, Nothing, One}
 use Rattle.flat_laws.specs.Flat.{flat}
-use Rattle.flat_laws.specs.TableCopies.{CopyEntry, copies_in, copies_listed, AreCopiesOf, IsTableOf, AreBuiltFrom}
+use Rattle.flat_laws.specs.TableCopies.{CopyEntry, copies_in, copies_listed, AreCopiesOf, IsTableOf}
 use Rattle.flat_laws.specs.Units.{HavePorts}
 use Rattle.flat_laws.proofs.BuiltUnits.{unit_made, built_is_flat}
 use Rattle.flat_laws.proofs.Kids.{unit_long}
@@ -50,7 +52,7 @@ record HasSides (all : List Instance) (parent : Option ℕ) (index : ℕ) (copie
   many : instances_in tree ≡ copies_in copies
   table : entries_of xs us ≡ listed parent index tree ++ entries_of instances units
   are_copies : AreCopiesOf rest instances jobs
-  are_built : AreBuiltFrom jobs units
+  are_built : AllZip IsUnitOf jobs units
   are_of : AreOf all (index + copies_in copies) instances units
   are_made : AreMade all index copies tree
 
@@ -70,7 +72,7 @@ entries_joined parent place index n m name u inner later es mid behind same few 
 
 sides : (all : List Instance) (parent : Option ℕ) (index : ℕ) (copies : Copies) (rest : List CopyEntry) (xs : List Instance) (jobs : List BuildJob)
     (us : List UnitParts)
-    → AreCopiesOf (copies_listed parent index copies ++ rest) xs jobs → AreBuiltFrom jobs us → AreOf all index xs us
+    → AreCopiesOf (copies_listed parent index copies ++ rest) xs jobs → AllZip IsUnitOf jobs us → AreOf all index xs us
     → HasSides all parent index copies rest xs us
 sides all parent index Nothing rest xs jobs us copies builds are = record {
   tree = t.Nothing;
@@ -218,7 +220,7 @@ no_instances [] jobs us h = refl
 no_instances (x ∷ xs) jobs us h = absurd h
 
 pub table_built : (xs : List Instance) (jobs : List BuildJob) (us : List UnitParts) (copies : Copies) → IsTableOf xs jobs copies
-    → AreBuiltFrom jobs us
+    → AllZip IsUnitOf jobs us
     → AreOf xs 0 xs us → HasBuilt xs us copies
 table_built xs jobs us copies table builds are =
     let s = sides xs None 0 copies [] xs jobs us
@@ -235,7 +237,7 @@ table_built xs jobs us copies table builds are =
 
 -- what is linked from the units that are built from jobs is the flat design of the modules of these jobs
 pub linked_is_flat : (xs : List Instance) (jobs : List BuildJob) (us : List UnitParts) (copies : Copies) (tree : Instances) → IsTableOf xs jobs copies
-    → AreBuiltFrom jobs us → AreOf xs 0 xs us → IsTreeOf xs us tree → flat_of_tree tree ≡ flat copies
+    → AllZip IsUnitOf jobs us → AreOf xs 0 xs us → IsTreeOf xs us tree → flat_of_tree tree ≡ flat copies
 linked_is_flat xs jobs us copies tree table builds are is =
     let there = table_built xs jobs us copies table builds are in
     ap flat_of_tree (one_tree tree there.tree (is ∙ sym there.table)) ∙ built_is_flat copies there.tree there.are_built

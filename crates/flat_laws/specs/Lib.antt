@@ -5,3 +5,4 @@ pub mod Flat
 pub mod Units
 pub mod BuiltCopies
 pub mod TableCopies
+pub mod DesignCopies

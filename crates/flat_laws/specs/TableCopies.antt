@@ -1,11 +1,9 @@
 -- The copies of modules that a table of instances stands for: each instance is a copy of the module of its job (IEEE Std 1364-2005, 12.1.2).
 use Rattle.std.specs.Prelude.{◌≡◌, ℕ, suc, ◌+◌, List, [], ◌∷◌, ◌++◌, Option, Some, None, Ok}
 use Rattle.unit_ir.specs.declared.instance.Instance.{Instance}
-use Rattle.unit_ir.specs.declared.unit_parts.UnitParts.{UnitParts}
-use Rattle.unit_ir.specs.Units.{sized_unit}
 use Rattle.module_registry.specs.declared.build_job.BuildJob.{BuildJob}
 use Rattle.unit_names.specs.Numbers.{module_table}
-use Rattle.unit_build.specs.Building.{module_of, job_steps, built}
+use Rattle.unit_build.specs.Building.{module_of, job_steps}
 use Rattle.flat_laws.specs.BuiltCopies.{copy_of}
 use Rattle.flat_laws.specs.Copies.{ModuleCopy, Copies, Nothing, One}
 
@@ -44,9 +42,3 @@ AreCopiesOf es xs jobs = ⊥
 -- these copies are those of a table of instances with these jobs
 abbrev pub IsTableOf : List Instance → List BuildJob → Copies → Type 0
 IsTableOf xs jobs copies = AreCopiesOf (copies_listed None 0 copies) xs jobs
-
--- these units are built from these jobs
-abbrev pub AreBuiltFrom : List BuildJob → List UnitParts → Type 0
-AreBuiltFrom [] [] = Unit {0}
-AreBuiltFrom (job ∷ jobs) (u ∷ us) = (built job ≡ Ok (record { unit = sized_unit u; shapes = u.shapes })) × AreBuiltFrom jobs us
-AreBuiltFrom jobs us = ⊥

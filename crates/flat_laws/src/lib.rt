@@ -3,4 +3,4 @@
 
 mod laws;
 
-pub use laws::linked_units_are_the_flat_design;
+pub use laws::{copies_are_those_of_the_design, linked_units_are_the_flat_design};

@@ -55,7 +55,7 @@ side_by_side f g (x ∷ xs) (y ∷ ys) h =
 abbrev declaration : Module → ModuleDeclaration
 declaration m = declaration_of m.body
 
-same_module : (name : ℕ) (ms : List Module) → module_named name (declarations_of ms) ≡ option_map declaration (module_called name ms)
+pub same_module : (name : ℕ) (ms : List Module) → module_named name (declarations_of ms) ≡ option_map declaration (module_called name ms)
 same_module name [] = refl
 same_module name (m ∷ ms) = cases (name == m.body.name.name.0) (same_module name ms)
   where
