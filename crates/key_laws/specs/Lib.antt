@@ -1,0 +1,5 @@
+pub mod Bare
+pub mod Proper
+pub mod Spelled
+pub mod Told
+pub mod JobsUnder
