@@ -76,7 +76,7 @@ module _ (old new : List (List ℕ)) (grows : Grows old new) where
   rest : (step : ModuleStep) (steps : List ModuleStep) → AreStepsIn (step ∷ steps) → AreStepsIn steps
   rest step steps all = All-tail (IsStepNamed (IsNameIn old)) step steps all
 
-  within_grown : (bs : List GenerateBlock) (around : List ℕ) (steps : List ModuleStep) → All IsLabelIn bs → AreStepsIn steps
+  pub within_grown : (bs : List GenerateBlock) (around : List ℕ) (steps : List ModuleStep) → All IsLabelIn bs → AreStepsIn steps
       → texts_within new bs around steps ≡ texts_within old bs around steps
   within_grown bs around [] all in_steps = refl
   within_grown bs around (Listed n ∷ steps) all in_steps = within_grown bs around steps all (rest (Listed n) steps in_steps)
@@ -91,7 +91,7 @@ module _ (old new : List (List ℕ)) (grows : Grows old new) where
       within_grown bs (b.number ∷ around) steps all (rest (Opened b items) steps in_steps)
   within_grown bs around (Closed ∷ steps) all in_steps = within_grown bs (blocks_around around) steps all (rest Closed steps in_steps)
 
-  labels_in : (steps : List ModuleStep) → AreStepsIn steps → All IsLabelIn (blocks_in steps)
+  pub labels_in : (steps : List ModuleStep) → AreStepsIn steps → All IsLabelIn (blocks_in steps)
   labels_in [] all = All-nil IsLabelIn
   labels_in (Listed n ∷ steps) all = labels_in steps (rest (Listed n) steps all)
   labels_in (Port p ∷ steps) all = labels_in steps (rest (Port p) steps all)
@@ -105,7 +105,7 @@ module _ (old new : List (List ℕ)) (grows : Grows old new) where
 
   -- ---- what a job tells
 
-  named_grown : (n : NameId) → IsNamed old n → IsNamed new n
+  pub named_grown : (n : NameId) → IsNamed old n → IsNamed new n
   named_grown n h = record { within = grown_id old new n.0 grows h.within; word = ap is_word (text_grown n h.within) ∙ h.word }
 
   clock_grown : (clock : Option NameId) → IsClockTold old clock → IsClockTold new clock

@@ -55,3 +55,6 @@ pub mod Fronts
 pub mod StepNames
 pub mod TreeNames
 pub mod GrownJobs
+pub mod ConstantValues
+pub mod PortNames
+pub mod TreeJobsUnder

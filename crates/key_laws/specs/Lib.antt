@@ -3,3 +3,4 @@ pub mod Proper
 pub mod Spelled
 pub mod Told
 pub mod JobsUnder
+pub mod InstancesTold

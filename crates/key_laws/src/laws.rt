@@ -9,7 +9,7 @@ ghost use Rattle.verilog_lex.specs.Ends.{EndsOnce};
 ghost use Rattle.verilog_lex.specs.Readings.{Reads};
 ghost use Rattle.verilog_lex.specs.Views.{IsNamed, said};
 ghost use Rattle.verilog_ast.specs.declared.module.Module.{Module};
-ghost use Rattle.verilog_ast.specs.Views.{declaration_of};
+ghost use Rattle.verilog_ast.specs.Views.{declaration_of, declarations_of};
 ghost use Rattle.verilog_parse.specs.Files.{Stands};
 ghost use Rattle.key_laws.specs.Spelled.{IsSpelledUnder};
 ghost use Rattle.unplaced_trees.specs.Unplaced.{unplaced_declaration};
@@ -18,6 +18,14 @@ ghost use Rattle.module_registry.specs.Building.{Built};
 ghost use Rattle.module_registry.specs.Jobs.{job_text};
 ghost use Rattle.unit_build.specs.Building.{built};
 ghost use Rattle.place_laws.specs.Findings.{answer_unplaced};
+ghost use Rattle.unit_ir.specs.declared.instance.Instance.{Instance};
+ghost use Rattle.gen_unroll.specs.Unrolled.{turn_limit};
+ghost use Rattle.elaborate.specs.declared.limits.Limits.{Limits};
+ghost use Rattle.elaborate.specs.Trees.{tree};
+ghost use Rattle.elaborate.specs.TreeViews.{instance_view};
+ghost use Rattle.unit_jobs.specs.Jobs.{InstanceJob, tree_jobs};
+ghost use Rattle.unit_jobs.specs.JobViews.{job_view};
+ghost use Rattle.key_laws.specs.InstancesTold.{IsInstanceTold, HasNamesIn};
 ghost use Rattle.key_laws.specs.JobsUnder.{IsJobUnder};
 ghost use Rattle.key_laws.specs.Told.{IsTold, HasSameParts};
 
@@ -48,4 +56,14 @@ pub fn keys_tell_units()
     ensures faults { (names : List (List ℕ)) (a b : BuildJob) → HasEachOnce names → IsJobUnder names a → IsJobUnder names b
         → job_text names a ≡ job_text names b → answer_unplaced (built a) ≡ answer_unplaced (built b) }
     ensures grown { (old new : List (List ℕ)) (job : BuildJob) → Grows old new → IsJobUnder old job → IsJobUnder new job }
+{}
+
+/// The jobs that are made of an elaborated tree are jobs under the table of names behind them, where the names and clocks of its instances
+/// are words of that table.
+#[tactic(none)]
+pub fn jobs_are_under()
+    ensures { (l : Limits) (texts known old new : List (List ℕ)) (ms : List Module) (top clock : ℕ) (xs : List Instance)
+        (jobs : List InstanceJob) (js : List BuildJob) → Grows old new → All (IsSpelledUnder old) ms → l.turns ≡ turn_limit
+        → tree l texts (declarations_of ms) top clock ≡ Ok (map (instance_view known) xs) → All (IsInstanceTold new) xs
+        → tree_jobs old ms xs ≡ Ok jobs → map (job_view new) js ≡ jobs → All (HasNamesIn new) js → All (IsJobUnder new) js }
 {}

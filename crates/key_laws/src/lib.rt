@@ -6,4 +6,6 @@
 
 mod laws;
 
-pub use laws::{keys_tell_units, one_spelling_is_one_module, parsed_modules_are_spelled};
+pub use laws::{
+    jobs_are_under, keys_tell_units, one_spelling_is_one_module, parsed_modules_are_spelled,
+};
