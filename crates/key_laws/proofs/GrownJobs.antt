@@ -105,10 +105,10 @@ module _ (old new : List (List ℕ)) (grows : Grows old new) where
 
   -- ---- what a job tells
 
-  pub named_grown : (n : NameId) → IsNamed old n → IsNamed new n
+  named_grown : (n : NameId) → IsNamed old n → IsNamed new n
   named_grown n h = record { within = grown_id old new n.0 grows h.within; word = ap is_word (text_grown n h.within) ∙ h.word }
 
-  clock_grown : (clock : Option NameId) → IsClockTold old clock → IsClockTold new clock
+  pub clock_grown : (clock : Option NameId) → IsClockTold old clock → IsClockTold new clock
   clock_grown None h = h
   clock_grown (Some n) h = (named_grown n h.0, λ is. h.1 (sym (text_grown n h.0.within) ∙ is))
 

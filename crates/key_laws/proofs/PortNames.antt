@@ -1,7 +1,12 @@
 -- The ports in the header of a module are words of the table by which it is spelled (IEEE Std 1364-2005, 12.3).
-use Rattle.std.proofs.Common.{ℕ, List, [], All, map}
+use Rattle.std.proofs.Common.{◌≡◌, ℕ, List, [], All, map, codes, Some, refl, sym, ◌∙◌, ap, inl, inr}
 use Rattle.std.proofs.lemmas.List.Elements.{All-nil, All-cons}
+use Rattle.ls_text.specs.Texts.{text_at}
+use Rattle.verilog_lex.specs.declared.kind.Kind.{Kind}
+use Rattle.verilog_lex.specs.declared.kind.Kind.TheVariants as k
+use Rattle.verilog_lex.specs.declared.literal.Literal.{Literal}
 use Rattle.verilog_lex.specs.declared.token.Token.{Token}
+use Rattle.verilog_lex.specs.Signs.{triples, doubles, singles}
 use Rattle.verilog_ast.specs.declared.header_parameter.HeaderParameter.{HeaderParameter}
 use Rattle.verilog_ast.specs.declared.header_port.HeaderPort.{HeaderPort}
 use Rattle.verilog_ast.specs.declared.identifier.Identifier.{Identifier}
@@ -10,21 +15,32 @@ use Rattle.verilog_ast.specs.declared.module_body.ModuleBody.{ModuleBody}
 use Rattle.verilog_ast.specs.declared.ports.Ports.{Ports}
 use Rattle.verilog_ast.specs.declared.variable.Variable.{Variable}
 use Rattle.verilog_ast.specs.Views.{port_of, ports_of, declaration_of}
-use Rattle.verilog_expr.specs.Tokens.{identifier_of}
+use Rattle.verilog_expr.specs.Tokens.{Takes, taken, identifier_of}
 use Rattle.verilog_decl.specs.Declarations as declarations
 use Rattle.verilog_header.specs.Headers as headers
 use Rattle.verilog_parse.specs.Modules as modules
 use Rattle.module_names.specs.Modules.{port_name, header_ports}
-use Rattle.key_laws.specs.Proper.{IsProper}
+use Rattle.key_laws.specs.Proper.{text_kind, IsToken, IsProper}
 use Rattle.key_laws.specs.Spelled.{IsSpelledUnder}
-use Rattle.key_laws.specs.Told.{IsNamed}
+use Rattle.key_laws.specs.Told.{IsClockTold}
 use Rattle.key_laws.proofs.Fronts.{token, behind_declaration, behind_header}
 use Rattle.key_laws.proofs.ProperWords.{proper_word}
 use Rattle.key_laws.proofs.SameModule.{module_alone}
 
--- the name is a word of the table
+-- the name is a word of the table, and not `-`
 abbrev pub IsWordIn : List (List ℕ) → Identifier → Type 0
-IsWordIn names n = IsNamed names n.name
+IsWordIn names n = IsClockTold names (Some n.name)
+
+minus : text_kind (codes "-") ≡ Some k.Minus
+unfolding triples doubles singles
+minus = refl
+
+-- no word is `-`
+no_dash : (kind : Kind) (text : List ℕ) (l : Literal) → kind ≡ k.Word → IsToken kind text l → text ≡ codes "-" → ⊥
+no_dash kind text l word (inl h) dash =
+    let same : Some k.Minus ≡ Some k.Word = sym minus ∙ ap text_kind (sym dash) ∙ h.listed ∙ ap Some word in absurd cc
+no_dash kind text l word (inr (inl h)) dash = let same : k.Word ≡ k.Number = sym word ∙ h.number in absurd cc
+no_dash kind text l word (inr (inr h)) dash = let same : k.Word ≡ k.Wild = sym word ∙ h.wild in absurd cc
 
 module _ (names : List (List ℕ)) where
   abbrev AreProper : List Token → Type 0
@@ -36,33 +52,37 @@ module _ (names : List (List ℕ)) where
   abbrev none : AreWords []
   none = All-nil (IsWordIn names)
 
-  word : (t : Token) → IsProper names t → IsWordIn names (identifier_of t)
-  word t h = record { within = h.0; word = proper_word names t h }
+  token_word : (t : Token) → t.kind ≡ k.Word → IsProper names t → IsWordIn names (identifier_of t)
+  token_word t is h = (record { within = h.0; word = proper_word names t h }, no_dash t.kind (text_at names t.text.0) t.literal is h.1)
+
+  -- a token that is taken as a word, and what is left
+  word : {s r : List Token} {t : Token} → Takes k.Word s r t → AreProper s → IsWordIn names (identifier_of t) × AreProper r
+  word (taken {token = t} cut is) all =
+      let here = token names (taken {token = t} cut is) all in (token_word t is here.0, here.1)
 
   -- ---- names alone
 
   other_names : {xs : List Identifier} {s r : List Token} → declarations.Spells (declarations.OtherNames xs) s r → AreProper s → AreWords xs
   other_names (declarations.no_name h) all = none
   other_names (declarations.another_name {xs = xs} {u = u} h i j) all =
-      let here = token names i (token names h all).1 in
-      All-cons (IsWordIn names) (identifier_of u) xs (word u here.0) (other_names j here.1)
+      let here = word i (token names h all).1 in
+      All-cons (IsWordIn names) (identifier_of u) xs here.0 (other_names j here.1)
 
   names_behind : {x : Identifier} {xs : List Identifier} {s r : List Token} → declarations.Spells (declarations.NamesBehind x xs) s r
       → IsWordIn names x → AreProper s → AreWords xs
   names_behind (declarations.names_behind {x = x} {xs = xs} h) first all = All-cons (IsWordIn names) x xs first (other_names h all)
 
   listed_names : {xs : List Identifier} {s r : List Token} → declarations.Spells (declarations.Names xs) s r → AreProper s → AreWords xs
-  listed_names (declarations.names {t = t} h i) all =
-      let here = token names h all in names_behind i (word t here.0) here.1
+  listed_names (declarations.names h i) all = let here = word h all in names_behind i here.0 here.1
 
   variable : {x : Variable} {s r : List Token} → declarations.Spells (declarations.AVariable x) s r → AreProper s → IsWordIn names x.name
-  variable (declarations.variable {t = t} h i) all = word t (token names h all).0
+  variable (declarations.variable h i) all = (word h all).0
 
   -- ---- ports that the header declares
 
   port : {x : HeaderPort} {s r : List Token} → headers.Spells (headers.AHeaderPort x) s r → AreProper s → IsWordIn names (port_name (port_of x))
-  port (headers.input_port {u = u} h i j o) all =
-      word u (token names o (behind_declaration names j (behind_declaration names i (token names h all).1))).0
+  port (headers.input_port h i j o) all =
+      (word o (behind_declaration names j (behind_declaration names i (token names h all).1))).0
   port (headers.output_port h i j o) all = variable o (behind_declaration names j (behind_declaration names i (token names h all).1))
 
   next_port : {x : HeaderPort} {s r : List Token} → headers.Spells (headers.NextHeaderPort x) s r → AreProper s

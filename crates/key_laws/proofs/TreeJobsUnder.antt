@@ -1,9 +1,12 @@
 -- The jobs of a tree of instances are jobs under the table of names behind them, where the names in the tree are words of that table
 -- (IEEE Std 1364-2005, 12.1 to 12.5).
-use Rattle.std.proofs.Common.{◌≡◌, ℕ, ◌==◌, ◌<◌, ◌≤◌, suc, Bool, true, false, if◌then◌else◌, List, [], ◌∷◌, All, length, map, Option, Some, None, Ok, refl, sym, ◌∙◌, ap, ap₂, subst}
+use Rattle.std.proofs.Common.{◌≡◌, ℕ, ◌==◌, ◌≤◌, suc, Bool, true, false, if◌then◌else◌, List, [], ◌∷◌, All, length, map, Option}
+use Rattle.std.proofs.Common.{Some, None, Ok, refl, sym, ◌∙◌, ap, ap₂, subst}
 use Rattle.std.proofs.Math.Nat.{le_refl}
+use Rattle.std.proofs.lemmas.Bool.{eqb-true}
 use Rattle.std.proofs.lemmas.List.Elements.{All-nil, All-cons, All-head, All-tail}
-use Rattle.ls_text.specs.Texts.{Grows, text_at}
+use Rattle.ls_text.specs.declared.name_id.NameId.{NameId}
+use Rattle.ls_text.specs.Texts.{Grows}
 use Rattle.typed_ir.specs.declared.constant.Const.{Const}
 use Rattle.typed_ir.specs.Orders.{Each}
 use Rattle.verilog_ast.specs.declared.identifier.Identifier.{Identifier}
@@ -32,12 +35,12 @@ use Rattle.job_laws.proofs.Answered.{ok_same}
 use Rattle.job_laws.proofs.KnownInstances.{same_first, same_others, IsKnown}
 use Rattle.job_laws.proofs.Together.{visit_has}
 use Rattle.job_laws.proofs.TreeJobs.{known_steps, steps_known, jobs_known, are_jobs_known, tree_known, seen_of}
-use Rattle.key_laws.specs.InstancesTold.{IsInstanceTold, HasNamesIn}
+use Rattle.key_laws.specs.InstancesTold.{is_port_name, HasOwnClock, IsInstanceTold, HasNamesIn}
 use Rattle.key_laws.specs.JobsUnder.{IsJobUnder}
 use Rattle.key_laws.specs.Spelled.{IsSpelledUnder}
-use Rattle.key_laws.specs.Told.{is_word, IsPortTold, IsClockTold, IsChildTold}
+use Rattle.key_laws.specs.Told.{IsPortTold, IsClockTold, IsChildTold}
 use Rattle.key_laws.proofs.ConstantValues.{as_many_values}
-use Rattle.key_laws.proofs.GrownJobs.{within_grown, labels_in, named_grown}
+use Rattle.key_laws.proofs.GrownJobs.{within_grown, labels_in, clock_grown}
 use Rattle.key_laws.proofs.GrownSpelling.{grown_spelled}
 use Rattle.key_laws.proofs.PortNames.{IsWordIn, ports_are_words}
 use Rattle.key_laws.proofs.StepNames.{IsStepNamed, steps_named}
@@ -146,45 +149,65 @@ module _ (old new : List (List ℕ)) (grows : Grows old new) (ms : List Module) 
 
 -- ---- instances
 
+same_id : (m n : NameId) → m.0 ≡ n.0 → m ≡ n
+same_id m n number = λ i. record { 0 = number i }
+
 outline_name : (n : Identifier) (d : Option Declaration) → (outline n d).name ≡ n.name.0
 outline_name n None = refl
 outline_name n (Some d) = refl
 
 module _ (old new : List (List ℕ)) (grows : Grows old new) where
-  port_told : (table : Table) (n : Identifier) (p : PortShape) → port_of p ≡ port_outline table n → IsWordIn old n → IsPortTold new p
+  abbrev IsPortWord : PortShape → Type 0
+  IsPortWord p = IsClockTold new (Some p.name)
+
+  port_told : (table : Table) (n : Identifier) (p : PortShape) → port_of p ≡ port_outline table n → IsWordIn old n → IsPortWord p
   port_told table n p same h =
       let is : p.name.0 ≡ n.name.0 = ap (λ (o : PortOutline). o.name) same
       ∙ outline_name n (declared_as (record { block = None; name = n.name.0 }) table) in
-      let later = named_grown old new grows n.name h in
-      record {
-        within = subst (λ (k : ℕ). k < length new) (sym is) later.within;
-        word = ap (λ (k : ℕ). is_word (text_at new k)) is ∙ later.word;
-      }
+      subst (λ (id : NameId). IsClockTold new (Some id)) (sym (same_id p.name n.name is)) (clock_grown old new grows (Some n.name) h)
 
   -- ports that are those of a header
   ports_told : (table : Table) (ns : List Identifier) (ps : List PortShape) → map port_of ps ≡ port_outlines ns table → All (IsWordIn old) ns
-      → All (IsPortTold new) ps
-  ports_told table ns [] same words = All-nil (IsPortTold new)
+      → All IsPortWord ps
+  ports_told table ns [] same words = All-nil IsPortWord
   ports_told table [] (p ∷ ps) same words = absurd cc
   ports_told table (n ∷ ns) (p ∷ ps) same words =
       let outlines = port_outlines ns table in
-      All-cons (IsPortTold new) p ps
+      All-cons IsPortWord p ps
       (port_told table n p (same_first (port_of p) (port_outline table n) (map port_of ps) outlines same)
       (All-head (IsWordIn old) n ns words))
       (ports_told table ns ps (same_others (port_of p) (port_outline table n) (map port_of ps) outlines same)
       (All-tail (IsWordIn old) n ns words))
 
+  ports_named : (ps : List PortShape) → All IsPortWord ps → All (IsPortTold new) ps
+  ports_named [] words = All-nil (IsPortTold new)
+  ports_named (p ∷ ps) words =
+      All-cons (IsPortTold new) p ps (All-head IsPortWord p ps words).0 (ports_named ps (All-tail IsPortWord p ps words))
+
+  -- a clock that is one of the ports
+  port_clock : (n : NameId) (ps : List PortShape) → is_port_name n.0 ps ≡ true → All IsPortWord ps → IsClockTold new (Some n)
+  port_clock n [] is words = absurd cc
+  port_clock n (p ∷ ps) is words =
+      cases (p.name.0 == n.0) refl (λ behind. port_clock n ps behind (All-tail IsPortWord p ps words)) is
+    where
+      cases : (b : Bool) → (p.name.0 == n.0) ≡ b → (is_port_name n.0 ps ≡ true → IsClockTold new (Some n))
+          → (if b then true else is_port_name n.0 ps) ≡ true → IsClockTold new (Some n)
+      cases true same more here =
+          subst (λ (id : NameId). IsClockTold new (Some id)) (same_id p.name n (eqb-true p.name.0 n.0 same)) (All-head IsPortWord p ps words)
+      cases false same more behind = more behind
+
+  own_clock : (clock : Option NameId) (ps : List PortShape) → HasOwnClock clock ps → All IsPortWord ps → IsClockTold new clock
+  own_clock None ps is words = is
+  own_clock (Some n) ps is words = port_clock n ps is words
+
   module _ (ms : List Module) (spelled : All (IsSpelledUnder old) ms) where
     shape_told : (x : Instance) (k : IsKnown turn_limit ms x) → IsInstanceTold new x → IsChildTold new (shape_of x)
     shape_told x k h =
         let m = declaration_of k.code.body in
-        record {
-          instance = h.name;
-          clock = h.clock;
-          ports = ports_told k.visit.checks.declared (header_ports m.ports) x.ports
-              (k.ports ∙ (visit_has turn_limit (declarations_of ms) k.most m k.overrides k.clock k.visit k.found).1)
-              (ports_are_words old k.code (module_in (IsSpelledUnder old) x.of_module.0 ms k.code spelled k.called));
-        }
+        let words = ports_told k.visit.checks.declared (header_ports m.ports) x.ports
+        (k.ports ∙ (visit_has turn_limit (declarations_of ms) k.most m k.overrides k.clock k.visit k.found).1)
+        (ports_are_words old k.code (module_in (IsSpelledUnder old) x.of_module.0 ms k.code spelled k.called)) in
+        record { instance = h.name; clock = own_clock x.clock x.ports h.clock words; ports = ports_named x.ports words }
 
     shapes_told : (xs : List Instance) → Each (IsKnown turn_limit ms) xs → All (IsInstanceTold new) xs → All (IsChildTold new) (map shape_of xs)
     shapes_told [] are told = All-nil (IsChildTold new)
