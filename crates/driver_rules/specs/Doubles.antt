@@ -1,8 +1,8 @@
 -- Bits that are driven or written twice (34): a bit has at most one driver or writing block. The second one is at fault.
-use Rattle.std.specs.Prelude.{ℕ, Bool, true, false, ◌&&◌, ◌||◌, List, [], ◌∷◌, ◌++◌, map}
+use Rattle.std.specs.Prelude.{Bool, ◌&&◌, ◌||◌, List, [], ◌∷◌, ◌++◌, map}
 use Rattle.ls_text.specs.declared.fault.Fault.{Fault}
 use Rattle.typed_ir.specs.declared.span.Span.{Span}
-use Rattle.typed_ir.specs.Valuations.{Places, within, nowhere}
+use Rattle.typed_ir.specs.Valuations.{Places, within}
 use Rattle.unit_ir.specs.Items.{PlacedItem}
 use Rattle.width_rules.specs.declared.writer.Writer.{Writer}
 use Rattle.width_rules.specs.declared.writer.Writer.TheVariants as writer

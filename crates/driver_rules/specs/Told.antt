@@ -1,10 +1,10 @@
 -- Which item drives or writes a bit, as the list of drivers tells it.
-use Rattle.std.specs.Prelude.{◌≡◌, ◌<◌, ◌≤◌, ℕ, suc, ◌+◌, Bool, true, false, not, ◌&&◌, ◌||◌, ◌==◌, nat_le, nat_lt, List, [], slice_index, if◌then◌else◌}
-use Rattle.typed_ir.specs.Valuations.{Places, any_within}
+use Rattle.std.specs.Prelude.{◌≡◌, ◌<◌, ◌≤◌, ℕ, ◌+◌, Bool, false, not, ◌&&◌, ◌||◌, ◌==◌, nat_le, nat_lt, List, slice_index, if◌then◌else◌}
+use Rattle.typed_ir.specs.Valuations.{Places}
 use Rattle.typed_ir.specs.Cycles.{block_writes}
 use Rattle.typed_ir.specs.Touches.{has_bit}
 use Rattle.typed_ir.specs.Orders.{at_or, Each}
-use Rattle.unit_ir.specs.Trees.{UnitNode, count, own_drives}
+use Rattle.unit_ir.specs.Trees.{count, own_drives}
 use Rattle.unit_ir.specs.Items.{SizedBody, Node, Clocked, Initial, PlacedItem, PlacedItems, nodes_in, blocks_in}
 use Rattle.driver_rules.specs.declared.driver.Driver.{Driver}
 use Rattle.driver_rules.specs.declared.driver_id.DriverId.{DriverId}

@@ -1,6 +1,6 @@
 -- Ranges of declarations, what the declaration of a parameter makes of its value, and which names a block declares (IEEE Std
 -- 1364-2005, 3.3.1, 4.3, 4.10.1, 4.10.2 and 12.2).
-use Rattle.std.specs.Prelude.{ℕ, ◌^◌, ◌==◌, nat_lt, Bool, true, false, ◌&&◌, ◌||◌, not, List, [], ◌∷◌, ◌++◌, map, Option, Some, None, Result, Ok, ℤ, pos, negsuc}
+use Rattle.std.specs.Prelude.{ℕ, ◌^◌, ◌==◌, nat_lt, Bool, false, ◌&&◌, ◌||◌, not, List, [], ◌∷◌, ◌++◌, map, Option, Some, None, Result, Ok, ℤ, pos, negsuc}
 use Rattle.ls_text.specs.declared.fault.Fault.{Fault}
 use Rattle.bits.specs.Values.{resized}
 use Rattle.verilog_ast.specs.declared.identifier.Identifier.{Identifier}

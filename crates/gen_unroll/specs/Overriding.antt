@@ -1,7 +1,6 @@
 -- The overrides with which a module is unrolled once more: the values that its parameters have (IEEE Std 1364-2005, 12.2).
 use Rattle.std.specs.Prelude.{List, [], ◌∷◌, ◌++◌, map, Option, Some}
 use Rattle.typed_ir.specs.declared.constant.Const.{Const}
-use Rattle.verilog_ast.specs.Declarations.{ParameterAssignment, HeaderParameterDeclaration}
 use Rattle.verilog_ast.specs.Items as i
 use Rattle.verilog_ast.specs.Items.{ModuleItem, ModuleDeclaration}
 use Rattle.gen_unroll.specs.declared.parameter_sort.ParameterSort.{ParameterSort}

@@ -27,7 +27,7 @@ fn first_part(parts: &[Target]) -> Option<Span>
     }
 }
 
-// The first target of the blocking assignments of a statement, in the order of the text.
+// The first target of the blocking assignments of a sized statement, in its order: the default of a case stands last.
 #[cycle(first)]
 fn first_in(st: &Stmt) -> Option<Span>
     ensures { result ≡ first_of (targets (stmt_of st.now)) }
@@ -78,7 +78,8 @@ fn first_in_arms(arms: &[Arm], otherwise: &Stmt) -> Option<Span>
     first_in(otherwise)
 }
 
-/// The first target of a node: the first part left of an assignment, and the first of a block in the order of its text.
+/// The first target of a node: the first part left of an assignment, and the first of a block in its sized order, in which the
+/// default of a case stands last.
 pub fn first_target(node: &Node) -> Option<Span>
     ensures { result ≡ first_target (node_of node.now) }
 {

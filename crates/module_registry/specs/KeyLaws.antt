@@ -1,5 +1,5 @@
 -- Equality of keys is one, and equal keys are hashed alike.
-use Rattle.std.specs.Prelude.{ℕ, Bool, List, IsTrue}
+use Rattle.std.specs.Prelude.{IsTrue}
 use Rattle.std.proofs.Common.{◌≡◌, rules}
 use Rattle.std.specs.Hash as fed
 use Rattle.std.specs.Cmp.{IsEquivalence}

@@ -1,5 +1,5 @@
 -- The unit of a job: its module by itself, or the first fault in it (IEEE Std 1364-2005, 12.1 to 12.4).
-use Rattle.std.specs.Prelude.{ℕ, zero, suc, ◌%◌, ◌^◌, Bool, List, [], ◌∷◌, ◌++◌, Result, Ok, Err}
+use Rattle.std.specs.Prelude.{ℕ, zero, suc, ◌%◌, ◌^◌, Bool, List, [], ◌∷◌, ◌++◌, Result, Ok}
 use Rattle.ls_text.specs.declared.fault.Fault.{Fault}
 use Rattle.typed_ir.specs.Cycles.{Signal}
 use Rattle.unit_ir.specs.Items.{PlacedItem, PlacedItems, unit_of}

@@ -1,6 +1,6 @@
 -- The variables that combinational blocks write, by the names of their targets: these are no registers (IEEE Std 1364-2005, 9.2, 9.9; that a
 -- variable has one kind of blocks is this project's own).
-use Rattle.std.specs.Prelude.{ℕ, zero, suc, Bool, true, false, List, [], ◌∷◌, map, length}
+use Rattle.std.specs.Prelude.{ℕ, zero, suc, Bool, true, false, List, [], ◌∷◌, map}
 use Rattle.unit_ir.specs.declared.mention.Mention.{Mention}
 use Rattle.verilog_ast.specs.Items as i
 use Rattle.verilog_ast.specs.Items.{ModuleItem}

@@ -1,6 +1,5 @@
 -- What the parts of a unit mean.
-use Rattle.std.specs.Prelude.{List, [], ◌∷◌, map}
-use Rattle.ls_text.specs.declared.name_id.NameId.{NameId}
+use Rattle.std.specs.Prelude.{[], ◌∷◌, map}
 use Rattle.typed_ir.specs.Cycles.{Signal}
 use Rattle.typed_ir.specs.Forms.{sized}
 use Rattle.typed_ir.specs.FlatNodes.{node_of}

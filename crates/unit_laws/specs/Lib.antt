@@ -1,0 +1,14 @@
+pub mod Bare
+pub mod Proper
+pub mod Spelled
+pub mod Told
+pub mod JobsUnder
+pub mod InstancesTold
+pub mod RenumberedItems
+pub mod CopiedWalks
+pub mod Copies
+pub mod Flat
+pub mod Units
+pub mod BuiltCopies
+pub mod TableCopies
+pub mod DesignCopies

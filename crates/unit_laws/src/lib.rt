@@ -1,0 +1,15 @@
+// From the keys of units to the design that is linked of them.
+//
+// `key_laws` says of the definitions of `module_registry` and `unit_build` that two jobs of one key text have one unit, and before it that two
+// modules of one spelling are the same but for places, and which modules are spelled. `flat_laws` says that what `link` makes of the units of
+// jobs is the flat design, in which each module is copied out at each of its instances. Both are over definitions alone, so there is nothing to
+// run here.
+#![tactic(auto)]
+
+mod flat_laws;
+mod key_laws;
+
+pub use flat_laws::{copies_are_those_of_the_design, linked_units_are_the_flat_design};
+pub use key_laws::{
+    jobs_are_under, keys_tell_units, one_spelling_is_one_module, parsed_modules_are_spelled,
+};
