@@ -1,0 +1,10 @@
+pub mod StandIns
+pub mod ReadTexts
+pub mod Named
+pub mod Short
+pub mod Firsts
+pub mod Built
+pub mod Linked
+pub mod Versions
+pub mod ModulesRead
+pub mod Finding

@@ -1,0 +1,163 @@
+-- What the files of a version come to, by what its steps answer.
+use Rattle.std.proofs.Common.{Global, ◌≡◌, ℕ, true, List, [], ◌∷◌, ◌++◌, All, map, length, take, refl, sym, ◌∙◌, ap, subst, arith}
+use Rattle.std.specs.Prelude.{Option, Result, Ok, Err}
+use Rattle.std.specs.declared.sync.Arc.{Arc}
+use Rattle.std.proofs.lemmas.List.{append-nil, take-append-le}
+use Rattle.std.proofs.Math.Seq.{take-length}
+use Rattle.std.proofs.lemmas.List.Elements.{All-nil, All-cons, All-head, All-tail}
+use Rattle.ls_text.specs.declared.at.At.{At}
+use Rattle.ls_text.specs.declared.at.At.TheVariants.{Edit}
+use Rattle.ls_text.specs.declared.fault.Fault.{Fault}
+use Rattle.ls_text.specs.declared.name_id.NameId.{NameId}
+use Rattle.ls_text.specs.declared.refusal.Refusal.{Refusal}
+use Rattle.ls_text.specs.declared.refusal.Refusal.TheVariants as refusal
+use Rattle.ls_text.specs.declared.source_file.SourceFile.{SourceFile}
+use Rattle.ls_text.specs.Readings.{TextFault, fault_view}
+use Rattle.ls_text.specs.Texts.{Grows, text_at}
+use Rattle.typed_ir.specs.Cycles.{Flat}
+use Rattle.unit_ir.specs.declared.instance.Instance.{Instance}
+use Rattle.unit_ir.specs.declared.unit.Unit.{Unit as ModuleUnit}
+use Rattle.unit_ir.specs.Instances.{is_depth_first, parent_of}
+use Rattle.module_registry.specs.declared.build_job.BuildJob.{BuildJob}
+use Rattle.module_registry.specs.Building.{Built, built_all, Refuses, ◌>>=◌}
+use Rattle.module_registry.specs.Entries.{Entry, keys_of, is_among, missing, entries, ensured}
+use Rattle.module_registry.specs.Jobs.{job_text}
+use Rattle.module_registry.specs.Keys.{KeyData, jobs_of}
+use Rattle.unit_build.specs.Building.{built}
+use Rattle.unit_laws.specs.Copies.{Copies}
+use Rattle.unit_laws.specs.Flat.{flat}
+use Rattle.unit_laws.specs.Held.{AreHeldUnder, IsKeyUnder}
+use Rattle.unit_laws.specs.JobsUnder.{IsJobUnder}
+use Rattle.cycle_eval.specs.Words.{IsTooMany}
+use Rattle.version_swap.specs.DesignFaults.{CanRun, IsDesignFault, not_linked, too_wide, IsDesignOfUnits, IsRefusedOfUnits}
+use Rattle.version_swap.specs.FirstKeys.{first_jobs, first_keys, key_of}
+use Rattle.version_swap.specs.FoundUnder.{IsFoundUnder}
+use Rattle.version_swap.specs.Plans as plans
+use Rattle.version_swap.specs.Plans.{AreCopies, Plans, too_many_fault}
+use Rattle.version_swap.specs.Refused.{Fails}
+use Rattle.version_swap.proofs.Built.{ensured_same, ensured_fault, all_built, fault_of_all}
+use Rattle.version_swap.proofs.Firsts.{first_of_jobs, jobs_behind, texts_behind, first_all, first_jobs_all, all_held}
+use Rattle.version_swap.proofs.Linked.{are_under, jobs_under, HasDesign, has_design}
+use Rattle.version_swap.proofs.StandIns.{ensured_held, text_kept}
+
+-- ---- 40 without names
+
+viewed : ℕ → At → List NameId → List (List ℕ) → TextFault
+viewed code at shown names = record { code = code; at = at; words = map (λ (id : NameId). text_at names id.0) shown }
+
+wide_fault : (names : List (List ℕ)) (f : Fault) → IsTooMany (refusal.Fault f) → fault_view names f ≡ too_many_fault
+wide_fault names f is =
+    ap (λ (c : ℕ). viewed c f.at f.names names) is.0 ∙ ap (λ (a : At). viewed 40 a f.names names) is.1
+    ∙ ap (λ (ids : List NameId). viewed 40 Edit ids names) is.2
+
+-- ---- what was held is held first
+
+not_more : (es new : List Entry) (us : List Entry) → es ++ us ≡ new → take (length es) new ≡ es
+not_more es new us is = ap (take (length es)) (sym is) ∙ take-append-le (length es) es us (omega arith) ∙ take-length es
+
+begins_ensured : (es new : List Entry) (ks : List KeyData) (found : Result (List Built) Fault) → (found >>= λ us. Ok (es ++ entries ks us)) ≡ Ok new
+    → take (length es) new ≡ es
+begins_ensured es new ks (Ok us) is = let same : es ++ entries ks us ≡ new = cc in not_more es new (entries ks us) same
+begins_ensured es new ks (Err f) is = absurd cc
+
+pub first_held : (es new : List Entry) (ks : List KeyData) → ensured built es ks ≡ Ok new → take (length es) new ≡ es
+first_held es new ks is = begins_ensured es new (missing (keys_of es) ks) (built_all built (jobs_of (missing (keys_of es) ks))) is
+
+-- ---- keys under a table that has grown
+
+keys_grown : (old new : List (List ℕ)) (grows : Grows old new) (ks : List KeyData) → All (IsKeyUnder old) ks → All (IsJobUnder old) (jobs_of ks)
+    → All (IsKeyUnder new) ks
+keys_grown old new grows [] keys jobs = All-nil (IsKeyUnder new)
+keys_grown old new grows (k ∷ ks) keys jobs =
+    let key = All-head (IsKeyUnder old) k ks keys in
+    let job = All-head (IsJobUnder old) k.job (jobs_of ks) jobs in
+    All-cons (IsKeyUnder new) k ks (record { text = key.text ∙ sym (text_kept old new grows k.job job); digest = key.digest })
+    (keys_grown old new grows ks (All-tail (IsKeyUnder old) k ks keys) (All-tail (IsJobUnder old) k.job (jobs_of ks) jobs))
+
+grows_none : (names : List (List ℕ)) → Grows names names
+grows_none names = record { more = []; begins = sym (append-nil names) }
+
+module _ (words : List (List ℕ)) (files : List SourceFile) (name : Option NameId) (clock : NameId) (xs : List Instance) (js : List BuildJob)
+    (x : IsFoundUnder words files name clock xs js) (keys : List KeyData) (are : keys ≡ map (key_of words) js) (first : List KeyData)
+    (firsts : first ≡ first_keys [] keys) where
+  -- the first keys are those of the first jobs
+  first_are : first ≡ map (key_of words) (first_jobs words [] js)
+  first_are = firsts ∙ ap (first_keys []) are ∙ first_of_jobs words [] js
+
+  first_of : jobs_of first ≡ first_jobs words [] js
+  first_of = ap jobs_of first_are ∙ jobs_behind words (first_jobs words [] js)
+
+  first_texts : map (λ (k : KeyData). k.text) first ≡ map (job_text words) (first_jobs words [] js)
+  first_texts = ap (map (λ (k : KeyData). k.text)) first_are ∙ texts_behind words (first_jobs words [] js)
+
+  first_under : All (IsKeyUnder words) first
+  first_under =
+      subst (All (IsKeyUnder words)) (sym firsts)
+      (first_all (IsKeyUnder words) [] keys (All-nil (IsKeyUnder words)) (are_under words files name clock xs js x keys are))
+
+  first_jobs_under : All (IsJobUnder words) (jobs_of first)
+  first_jobs_under =
+      subst (All (IsJobUnder words)) (sym first_of)
+      (first_jobs_all words (IsJobUnder words) [] js (All-nil (IsJobUnder words)) (jobs_under words files name clock xs js x))
+
+  pub keyed : (names : List (List ℕ)) → Grows words names → All (IsKeyUnder names) first
+  keyed names grows = keys_grown words names grows first first_under first_jobs_under
+
+  module _ (es : List Entry) (held : AreHeldUnder words es) (builds : BuildJob → Result Built Fault) (so : (job : BuildJob) → builds job ≡ built job) where
+    -- the registry holds units as before, and those that came in
+    pub held_then : (new : List Entry) → ensured builds es first ≡ Ok new → AreHeldUnder words new
+    held_then new is = ensured_held words built es new first refl held first_under first_jobs_under (sym (ensured_same builds so es first) ∙ is)
+
+    -- a unit has a fault
+    pub unit_refused : (e : Refusal) → Refuses e (ensured builds es first) → Fails words (λ f. Plans words files name clock (Err f)) e
+    unit_refused (refusal.Fault f) is =
+        plans.at_unit x.found (grows_none words)
+        (ap (built_all built) (sym first_of)
+        ∙ fault_of_all words x.known.once es held first f first_under first_jobs_under (ensured_fault es first f (sym (ensured_same builds so es first) ∙ is)))
+    unit_refused refusal.NoMemory is = tt
+
+  module _ (es : List Entry) (held : AreHeldUnder words es) (among : All (λ (k : KeyData). is_among k (keys_of es) ≡ true) first)
+      (tree_first : is_depth_first (map parent_of xs) ≡ true) (names : List (List ℕ)) (grows : Grows words names) where
+    pub all_among : All (λ (k : KeyData). is_among k (keys_of es) ≡ true) keys
+    all_among = all_held (keys_of es) [] keys (subst (All (λ (k : KeyData). is_among k (keys_of es) ≡ true)) firsts among)
+
+    abbrev Design : List (Arc ModuleUnit Global) → Type 0
+    Design units = HasDesign words files name clock xs js x keys are es held units
+
+    copies_there : (units : List (Arc ModuleUnit Global)) → (d : Design units)
+        → AreCopies words files name clock (map (λ (k : KeyData). k.text) first) d.copies
+    copies_there units d =
+        let there = all_built words x.known.once es held first first_under first_jobs_under among in
+        record {
+          xs = xs;
+          js = js;
+          found = x.found;
+          units = there.units;
+          made = ap (built_all built) (sym first_of) ∙ there.are;
+          texts = first_texts;
+          are_copies = d.are_copies;
+        }
+
+    -- the design is made
+    pub design_planned : (design : Flat) → IsDesignOfUnits xs es keys design
+        → Plans names files name clock (Ok (record { design = design; keys = map (λ (k : KeyData). k.text) first }))
+    design_planned design y =
+        let d = has_design words files name clock xs js x keys are es held tree_first y.units y.are in
+        let h = y.linked d.tree d.is in
+        let can = subst CanRun d.linked h.1 in
+        subst (λ (g : Flat). Plans names files name clock (Ok (record { design = g; keys = map (λ (k : KeyData). k.text) first }))) (sym (h.0 ∙ d.linked))
+        (plans.made (copies_there y.units d) grows can.linked can.small)
+
+    refused_by : (copies : Copies) → AreCopies words files name clock (map (λ (k : KeyData). k.text) first) copies → (f : Fault)
+        → IsDesignFault words names (flat copies) (refusal.Fault f) → Plans names files name clock (Err (fault_view names f))
+    refused_by copies there f (not_linked is) = plans.at_link there grows is
+    refused_by copies there f (too_wide linked wide is) =
+        subst (λ (t : TextFault). Plans names files name clock (Err t)) (sym (wide_fault names f is)) (plans.too_wide there grows linked wide)
+
+    -- linking has a fault, or the registers take too much room
+    pub design_refused : (e : Refusal) → IsRefusedOfUnits words names xs es keys e → Fails names (λ f. Plans names files name clock (Err f)) e
+    design_refused (refusal.Fault f) y =
+        let d = has_design words files name clock xs js x keys are es held tree_first y.units y.are in
+        refused_by d.copies (copies_there y.units d) f
+        (subst (λ (g : Flat). IsDesignFault words names g (refusal.Fault f)) d.linked (y.refused d.tree d.is))
+    design_refused refusal.NoMemory y = tt
