@@ -53,7 +53,7 @@ once_all before (m ∷ ms) all is =
     let s = first_step (unless_there (module_named m.name.name.0 before) m.name) (λ _. named_once (before ++ m ∷ []) ms) all is in
     once_all (before ++ m ∷ []) ms all s.second ∙ append_assoc before (m ∷ []) ms
 
-top_named : (l : Limits) (ms : List ModuleDeclaration) (name : ℕ) (m : ModuleDeclaration) → top_of l ms name ≡ Ok m
+pub top_named : (l : Limits) (ms : List ModuleDeclaration) (name : ℕ) (m : ModuleDeclaration) → top_of l ms name ≡ Ok m
     → module_named m.name.name.0 ms ≡ Some m
 unfolding top_of
 top_named l ms name m is =

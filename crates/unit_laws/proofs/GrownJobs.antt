@@ -19,7 +19,7 @@ use Rattle.unit_build.specs.Building.{job_steps}
 use Rattle.unit_laws.proofs.GrownSpelling.{grown_spelled}
 use Rattle.unit_laws.specs.JobsUnder.{IsIn, IsJobUnder}
 use Rattle.unit_laws.specs.Told.{is_word, IsNamed, IsPortTold, IsClockTold, IsChildTold}
-use Rattle.unit_laws.proofs.StepNames.{IsStepNamed, steps_named}
+use Rattle.unit_laws.proofs.StepNames.{IsStepNamed, declared_named, steps_named}
 use Rattle.unit_laws.proofs.TreeNames.{IsNameIn, tree_in}
 
 module _ (old new : List (List ℕ)) (grows : Grows old new) where
@@ -84,7 +84,8 @@ module _ (old new : List (List ℕ)) (grows : Grows old new) where
   within_grown bs around (Parameter s n v ∷ steps) all in_steps = within_grown bs around steps all (rest (Parameter s n v) steps in_steps)
   within_grown bs around (Item x ∷ steps) all in_steps =
       ap₂ (λ (here behind : List (List ℕ)). here ++ behind)
-      (item_grown bs (innermost around) x all (All-head (IsStepNamed (IsNameIn old)) (Item x) steps in_steps))
+      (item_grown bs (innermost around) x all
+      (declared_named (IsNameIn old) x (All-head (IsStepNamed (IsNameIn old)) (Item x) steps in_steps)))
       (within_grown bs around steps all (rest (Item x) steps in_steps))
   within_grown bs around (Labelled n ∷ steps) all in_steps = within_grown bs around steps all (rest (Labelled n) steps in_steps)
   within_grown bs around (Opened b items ∷ steps) all in_steps =

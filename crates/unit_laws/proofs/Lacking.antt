@@ -17,7 +17,7 @@ lacks_drop byte zero xs h = h
 lacks_drop byte (suc n) [] h = h
 lacks_drop byte (suc n) (x ∷ xs) h = lacks_drop byte n xs (and_parts _ _ h).1
 
-lacks_digit : (byte c : ℕ) → byte < c → lacks byte (c ∷ []) ≡ true
+pub lacks_digit : (byte c : ℕ) → byte < c → lacks byte (c ∷ []) ≡ true
 lacks_digit byte c less = and_from _ true (ap not (ne_eqb c byte (λ e. omega (arith, e, less)))) refl
 
 -- a number has digits alone

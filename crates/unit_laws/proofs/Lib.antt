@@ -57,6 +57,12 @@ pub mod TreeNames
 pub mod GrownJobs
 pub mod ConstantValues
 pub mod PortNames
+pub mod InstanceTexts
+pub mod OwnClocks
+pub mod KeptChildren
+pub mod OwnChildren
+pub mod OwnInstances
+pub mod ToldInstances
 pub mod TreeJobsUnder
 pub mod ShiftedForms
 pub mod Places

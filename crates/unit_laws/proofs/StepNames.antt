@@ -1,4 +1,4 @@
--- What is declared among the steps of a module, and the labels of its blocks, stand in its text (IEEE Std 1364-2005, 12.4).
+-- What is declared among the steps of a module, its instances and the labels of its blocks stand in its text (IEEE Std 1364-2005, 12.4).
 use Rattle.std.proofs.Common.{◌≡◌, ℕ, ◌-◌, Bool, true, false, if◌then◌else◌, List, [], ◌∷◌, All, length, map, Option, Some, None, Result, Ok, Err, subst}
 use Rattle.std.proofs.lemmas.List.Elements.{All-nil, All-cons, All-append}
 use Rattle.ls_text.specs.declared.fault.Fault.{Fault}
@@ -6,7 +6,7 @@ use Rattle.ls_text.specs.declared.place.Place.{Place}
 use Rattle.verilog_ast.specs.declared.identifier.Identifier.{Identifier}
 use Rattle.verilog_ast.specs.Declarations.{Kind, ParameterAssignment, HeaderParameterDeclaration, PortDeclaration, PortList, NoPorts, NamedPorts, DeclaredPorts}
 use Rattle.verilog_ast.specs.Items as i
-use Rattle.verilog_ast.specs.Items.{ModuleItem, LoopHead, ModuleDeclaration}
+use Rattle.verilog_ast.specs.Items.{ModuleInstance, ModuleItem, LoopHead, ModuleDeclaration}
 use Rattle.gen_unroll.specs.declared.parameter_sort.ParameterSort.{ParameterSort}
 use Rattle.gen_unroll.specs.declared.parameter_sort.ParameterSort.TheVariants as sort
 use Rattle.gen_unroll.specs.Declarations.{ParameterType, parameter_type, as_declared}
@@ -19,21 +19,33 @@ use Rattle.module_registry.specs.declared.build_job.BuildJob.{BuildJob}
 use Rattle.unit_jobs.specs.BlockNames.{declared_by}
 use Rattle.unit_build.specs.Building.{module_of, job_steps}
 
--- what holds of the names of nets and variables, and of the labels of blocks
+abbrev pub instance_name : ModuleInstance → Identifier
+instance_name x = x.name
+
+-- the nets and variables of an item, or its instances
+abbrev pub named_by : ModuleItem → List Identifier
+named_by (i.Instances n overrides xs) = map instance_name xs
+named_by other = declared_by other
+
+-- what holds of the names of nets, variables and instances, and of the labels of blocks
 abbrev pub AreNamed : (Identifier → Type 0) → ModuleItem → Type 0
 AreNamed P (i.Items x xs) = AreNamed P x × AreNamed P xs
 AreNamed P (i.Region at xs) = AreNamed P xs
 AreNamed P (i.Loop at h label xs) = P label × AreNamed P xs
 AreNamed P (i.Conditional xs) = AreNamed P xs
 AreNamed P (i.Branch at c label xs) = P label × AreNamed P xs
-AreNamed P other = All P (declared_by other)
+AreNamed P other = All P (named_by other)
 
 abbrev pub IsStepNamed : (Identifier → Type 0) → ModuleStep → Type 0
-IsStepNamed P (Item x) = All P (declared_by x)
+IsStepNamed P (Item x) = All P (named_by x)
 IsStepNamed P (Opened b items) = P b.label
 IsStepNamed P other = Unit {0}
 
 module _ (P : Identifier → Type 0) where
+  pub declared_named : (x : ModuleItem) → All P (named_by x) → All P (declared_by x)
+  declared_named (i.Instances n overrides xs) all = All-nil P
+  declared_named other all = all
+
   abbrev Tells : {A : Type 0} → Told A → Type 0
   Tells t = All (IsStepNamed P) t.said
 
@@ -165,7 +177,7 @@ module _ (P : Identifier → Type 0) where
       (λ next. then_go (say_all (port_steps m.ports) next) (unrolled m.items None) (ports_go m.ports)
       (λ after. unrolled_go m.items None after named))
 
-  told_go : (limit : ℕ) (overrides : List (Option ConstantValue)) (m : ModuleDeclaration) → AreNamed P m.items
+  pub told_go : (limit : ℕ) (overrides : List (Option ConstantValue)) (m : ModuleDeclaration) → AreNamed P m.items
       → Tells (unrolled_module limit overrides m)
   unfolding unrolled_module
   told_go limit overrides m named = module_go m (beginning limit overrides m) named

@@ -1,5 +1,4 @@
--- The jobs of a tree of instances are jobs under the table of names behind them, where the names in the tree are words of that table
--- (IEEE Std 1364-2005, 12.1 to 12.5).
+-- The jobs of an elaborated tree are jobs under the table of names behind them (IEEE Std 1364-2005, 12.1 to 12.5).
 use Rattle.std.proofs.Common.{◌≡◌, ℕ, ◌==◌, ◌≤◌, suc, Bool, true, false, if◌then◌else◌, List, [], ◌∷◌, All, length, map, Option}
 use Rattle.std.proofs.Common.{Some, None, Ok, refl, sym, ◌∙◌, ap, ap₂, subst}
 use Rattle.std.proofs.Math.Nat.{le_refl}
@@ -21,8 +20,8 @@ use Rattle.gen_unroll.specs.Unrolled.{turn_limit}
 use Rattle.module_registry.specs.declared.build_job.BuildJob.{BuildJob}
 use Rattle.module_registry.specs.Constants.{constants_of}
 use Rattle.elaborate.specs.declared.limits.Limits.{Limits}
-use Rattle.elaborate.specs.Ports.{PortOutline, outline, port_outline, port_outlines}
-use Rattle.elaborate.specs.Tables.{Declaration, Table, declared_as}
+use Rattle.elaborate.specs.Ports.{PortOutline, port_outline, port_outlines}
+use Rattle.elaborate.specs.Tables.{Table, declared_as}
 use Rattle.elaborate.specs.Trees.{tree}
 use Rattle.elaborate.specs.TreeViews.{instance_view}
 use Rattle.elaborate.specs.Views.{port_of}
@@ -44,6 +43,7 @@ use Rattle.unit_laws.proofs.GrownJobs.{within_grown, labels_in, clock_grown}
 use Rattle.unit_laws.proofs.GrownSpelling.{grown_spelled}
 use Rattle.unit_laws.proofs.PortNames.{IsWordIn, ports_are_words}
 use Rattle.unit_laws.proofs.StepNames.{IsStepNamed, steps_named}
+use Rattle.unit_laws.proofs.ToldInstances.{outline_name, instances_told}
 use Rattle.unit_laws.proofs.TreeNames.{IsNameIn, tree_in}
 
 -- the first module of a name is one of them
@@ -152,10 +152,6 @@ module _ (old new : List (List ℕ)) (grows : Grows old new) (ms : List Module) 
 same_id : (m n : NameId) → m.0 ≡ n.0 → m ≡ n
 same_id m n number = λ i. record { 0 = number i }
 
-outline_name : (n : Identifier) (d : Option Declaration) → (outline n d).name ≡ n.name.0
-outline_name n None = refl
-outline_name n (Some d) = refl
-
 module _ (old new : List (List ℕ)) (grows : Grows old new) where
   abbrev IsPortWord : PortShape → Type 0
   IsPortWord p = IsClockTold new (Some p.name)
@@ -215,13 +211,14 @@ module _ (old new : List (List ℕ)) (grows : Grows old new) where
         All-cons (IsChildTold new) (shape_of x) (map shape_of xs) (shape_told x are.0 (All-head (IsInstanceTold new) x xs told))
         (shapes_told xs are.1 (All-tail (IsInstanceTold new) x xs told))
 
--- what unit_jobs makes of what elaboration gives, where names and clocks of instances are words
+-- what unit_jobs makes of what elaboration gives
 pub jobs_under : (l : Limits) (texts known_texts old new : List (List ℕ)) (ms : List Module) (name clock : ℕ) (xs : List Instance)
-    (jobs : List InstanceJob) (js : List BuildJob) → Grows old new → All (IsSpelledUnder old) ms → l.turns ≡ turn_limit
-    → tree l texts (declarations_of ms) name clock ≡ Ok (map (instance_view known_texts) xs) → All (IsInstanceTold new) xs
+    (jobs : List InstanceJob) (js : List BuildJob) → All (IsSpelledUnder texts) ms → Grows known_texts new → All (IsSpelledUnder old) ms
+    → Grows old new → l.turns ≡ turn_limit → tree l texts (declarations_of ms) name clock ≡ Ok (map (instance_view known_texts) xs)
     → tree_jobs old ms xs ≡ Ok jobs → map (job_view new) js ≡ jobs → All (HasNamesIn new) js → All (IsJobUnder new) js
 unfolding tree_jobs
-jobs_under l texts known_texts old new ms name clock xs jobs js grows spelled turns is told made seen names =
+jobs_under l texts known_texts old new ms name clock xs jobs js named known_grows spelled grows turns is made seen names =
+    let told = instances_told l texts known_texts new ms name clock xs named known_grows is in
     let s = seen_of l texts known_texts ms name clock xs is in
     let are = tree_known l texts known_texts ms name clock s.all xs turns s.elaborates s.same in
     let shapes = shapes_told old new grows ms spelled xs are told in

@@ -17,7 +17,7 @@ abbrev pub HasOwnClock : Option NameId → List PortShape → Type 0
 HasOwnClock None ports = ⊤
 HasOwnClock (Some n) ports = is_port_name n.0 ports ≡ true
 
--- what is asked of an instance; that its ports are words follows from its module
+-- what is known of each instance of an elaborated tree; that its ports are words follows from its module
 pub record IsInstanceTold (names : List (List ℕ)) (x : Instance) : Type 0 where
   pub name : IsNamed names x.place.name
   pub clock : HasOwnClock x.clock x.ports

@@ -58,12 +58,20 @@ pub fn keys_tell_units()
     ensures grown { (old new : List (List ℕ)) (job : BuildJob) → Grows old new → IsJobUnder old job → IsJobUnder new job }
 {}
 
-/// The jobs that are made of an elaborated tree are jobs under the table of names behind them, where the names and clocks of its instances
-/// are words of that table.
+/// The instances of an elaborated tree are told under its table of names, and under each table that this one grows to: the name of each is a
+/// word of the table, and its clock, if any, is one of its own ports.
+#[tactic(none)]
+pub fn elaborated_instances_are_told()
+    ensures { (l : Limits) (texts known new : List (List ℕ)) (ms : List Module) (top clock : ℕ) (xs : List Instance)
+        → All (IsSpelledUnder texts) ms → Grows known new
+        → tree l texts (declarations_of ms) top clock ≡ Ok (map (instance_view known) xs) → All (IsInstanceTold new) xs }
+{}
+
+/// The jobs that are made of an elaborated tree are jobs under the table of names behind them.
 #[tactic(none)]
 pub fn jobs_are_under()
     ensures { (l : Limits) (texts known old new : List (List ℕ)) (ms : List Module) (top clock : ℕ) (xs : List Instance)
-        (jobs : List InstanceJob) (js : List BuildJob) → Grows old new → All (IsSpelledUnder old) ms → l.turns ≡ turn_limit
-        → tree l texts (declarations_of ms) top clock ≡ Ok (map (instance_view known) xs) → All (IsInstanceTold new) xs
+        (jobs : List InstanceJob) (js : List BuildJob) → All (IsSpelledUnder texts) ms → Grows known new → All (IsSpelledUnder old) ms
+        → Grows old new → l.turns ≡ turn_limit → tree l texts (declarations_of ms) top clock ≡ Ok (map (instance_view known) xs)
         → tree_jobs old ms xs ≡ Ok jobs → map (job_view new) js ≡ jobs → All (HasNamesIn new) js → All (IsJobUnder new) js }
 {}

@@ -11,5 +11,6 @@ mod key_laws;
 
 pub use flat_laws::{copies_are_those_of_the_design, linked_units_are_the_flat_design};
 pub use key_laws::{
-    jobs_are_under, keys_tell_units, one_spelling_is_one_module, parsed_modules_are_spelled,
+    elaborated_instances_are_told, jobs_are_under, keys_tell_units, one_spelling_is_one_module,
+    parsed_modules_are_spelled,
 };
