@@ -35,9 +35,9 @@ module _ (texts known names : List (List ℕ)) (ms : List Module) (top clock : �
     (h : AreJobsIn texts known names ms top clock xs js) where
   pub jobs_are_under : All (IsJobUnder names) js
   jobs_are_under =
-      jobs_under language_limits texts known known names ms top clock xs (map (job_view names) js) js h.grows
-      (All-weaker (IsSpelledUnder texts) (IsSpelledUnder known) (λ m is. grown_spelled texts known h.grown m is) ms h.spelled)
-      language_turns h.elaborated h.told h.jobs refl h.within
+      jobs_under language_limits texts known known names ms top clock xs (map (job_view names) js) js h.spelled h.grows
+      (All-weaker (IsSpelledUnder texts) (IsSpelledUnder known) (λ m is. grown_spelled texts known h.grown m is) ms h.spelled) h.grows
+      language_turns h.elaborated h.jobs refl h.within
 
   module _ (keys : List KeyData) (es : List Entry) (units : List (Arc ModuleUnit Global)) (of_jobs : jobs_of keys ≡ js)
       (made : All (IsKeyUnder names) keys) (held : AreHeldUnder names es) (are : AreUnder es keys units) where

@@ -15,7 +15,7 @@ use Rattle.unit_jobs.specs.JobViews.{job_view}
 use Rattle.unit_laws.specs.Copies.{Copies}
 use Rattle.unit_laws.specs.DesignCopies.{AreCopiesIn}
 use Rattle.unit_laws.specs.Flat.{flat}
-use Rattle.unit_laws.specs.InstancesTold.{HasNamesIn, IsInstanceTold}
+use Rattle.unit_laws.specs.InstancesTold.{HasNamesIn}
 use Rattle.unit_laws.specs.Spelled.{IsSpelledUnder}
 
 -- the jobs of the instances of a design. `texts` is the table of names where its modules were parsed, `known` the one behind elaboration, and
@@ -25,7 +25,6 @@ pub record AreJobsIn (texts known names : List (List ℕ)) (ms : List Module) (t
   pub spelled : All (IsSpelledUnder texts) ms
   -- the instances are those of elaboration
   pub elaborated : tree language_limits texts (declarations_of ms) top clock ≡ Ok (map (instance_view known) xs)
-  pub told : All (IsInstanceTold names) xs
   -- the jobs are those of the instances
   pub jobs : tree_jobs known ms xs ≡ Ok (map (job_view names) js)
   pub within : All (HasNamesIn names) js
