@@ -2,6 +2,7 @@
 use Rattle.std.proofs.Common.{Global, ◌≡◌, ℕ, true, List, All, map, sym, ◌∙◌, refl, subst}
 use Rattle.std.specs.List.{AllZip}
 use Rattle.std.specs.declared.sync.Arc.{Arc}
+use Rattle.std.proofs.lemmas.List.Elements.{All-weaker}
 use Rattle.typed_ir.specs.Cycles.{Flat}
 use Rattle.verilog_ast.specs.declared.module.Module.{Module}
 use Rattle.unit_ir.specs.declared.instance.Instance.{Instance}
@@ -28,8 +29,8 @@ use Rattle.unit_laws.specs.TreeJobs.{AreJobsIn, IsFlatIn}
 use Rattle.unit_laws.proofs.DesignCopies.{design_is_linked}
 use Rattle.unit_laws.proofs.GrownSpelling.{grown_spelled}
 use Rattle.unit_laws.proofs.HeldUnits.{units_of_jobs}
+use Rattle.unit_laws.proofs.OneTable.{by_one_table}
 use Rattle.unit_laws.proofs.TreeJobsUnder.{jobs_under}
-use Rattle.std.proofs.lemmas.List.Elements.{All-weaker}
 
 module _ (texts known names : List (List ℕ)) (ms : List Module) (top clock : ℕ) (xs : List Instance) (js : List BuildJob)
     (h : AreJobsIn texts known names ms top clock xs js) where
@@ -54,7 +55,7 @@ module _ (texts known names : List (List ℕ)) (ms : List Module) (top clock : �
 
     pub they_are_flat : (design : Flat) → is_depth_first (map parent_of xs) ≡ true
         → ((t : Instances) → IsTreeOf xs (all_parts units) t → design ≡ flat_of_tree t)
-        → IsFlatIn texts known names ms top clock xs design
+        → IsFlatIn names ms top clock xs design
     they_are_flat design first linked =
         let s = seen_of language_limits texts known ms top clock xs h.elaborated in
         let found = tree_of xs (all_parts units) first (same_long xs 0 xs (all_parts units) they_stand) in
@@ -65,6 +66,7 @@ module _ (texts known names : List (List ℕ)) (ms : List Module) (top clock : �
           all = s.all;
           found = s.elaborates;
           copies = d.copies;
-          are_copies = d.are_copies;
+          are_copies = by_one_table language_limits texts known names ms h.grown h.grows h.spelled top clock s.all xs d.copies s.elaborates
+              d.are_copies;
           same = linked found.tree found.is ∙ d.linked;
         }

@@ -7,13 +7,14 @@ use Rattle.std.proofs.lemmas.Bool.{and_parts}
 use Rattle.std.proofs.lemmas.List.Elements.{All-nil, All-cons, All-head, All-tail, All-append, All-take, All-weaker}
 use Rattle.std.proofs.lemmas.Option.{same_Some}
 use Rattle.std.proofs.lemmas.Slice.Eq.{bytes_eq-Decides}
+use Rattle.sha2.specs.Sha256.{sha256}
 use Rattle.ls_text.specs.declared.fault.Fault.{Fault}
 use Rattle.ls_text.specs.Texts.{Grows, HasEachOnce}
 use Rattle.unit_ir.specs.declared.unit.Unit.{Unit as ModuleUnit}
 use Rattle.link.specs.Listings.{all_parts}
 use Rattle.module_registry.specs.declared.build_job.BuildJob.{BuildJob}
 use Rattle.module_registry.specs.Building.{Built, built_all, ◌>>=◌}
-use Rattle.module_registry.specs.Entries.{Entry, keys_of, is_among, if_missing, missing, entries, ensured, unit_under, Holds}
+use Rattle.module_registry.specs.Entries.{Entry, keys_of, is_among, if_missing, missing, entries, ensured, unit_under}
 use Rattle.module_registry.specs.Jobs.{job_text}
 use Rattle.module_registry.specs.Keys.{KeyData, same, jobs_of}
 use Rattle.module_registry.specs.UnitViews.{shared_unit}
@@ -48,6 +49,11 @@ entries_all P (k ∷ ks) (u ∷ us) all =
     (entries_all P ks us (All-tail P k ks all))
 
 -- ---- what is held stays so
+
+-- a key as it is made of a job
+pub key_under : (names : List (List ℕ)) (job : BuildJob) (k : KeyData) → k.text ≡ job_text names job → k.digest ≡ sha256 k.text → k.job ≡ job
+    → IsKeyUnder names k
+key_under names job k text digest is = record { text = text ∙ ap (job_text names) (sym is); digest = digest }
 
 module _ (names : List (List ℕ)) where
   abbrev IsKeyHeld : KeyData → Type 0

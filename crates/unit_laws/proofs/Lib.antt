@@ -87,4 +87,5 @@ pub mod TableUnits
 pub mod TableTrees
 pub mod TableAlone
 pub mod DesignCopies
+pub mod OneTable
 pub mod HeldDesign

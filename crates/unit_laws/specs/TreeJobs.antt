@@ -13,7 +13,7 @@ use Rattle.module_registry.specs.declared.build_job.BuildJob.{BuildJob}
 use Rattle.unit_jobs.specs.Jobs.{tree_jobs}
 use Rattle.unit_jobs.specs.JobViews.{job_view}
 use Rattle.unit_laws.specs.Copies.{Copies}
-use Rattle.unit_laws.specs.DesignCopies.{AreCopiesIn}
+use Rattle.unit_laws.specs.DesignCopies.{NameTables, AreCopiesIn}
 use Rattle.unit_laws.specs.Flat.{flat}
 use Rattle.unit_laws.specs.InstancesTold.{HasNamesIn}
 use Rattle.unit_laws.specs.Spelled.{IsSpelledUnder}
@@ -33,12 +33,14 @@ pub record AreJobsIn (texts known names : List (List ℕ)) (ms : List Module) (t
   pub grows : Grows known names
   pub once : HasEachOnce names
 
+-- one table in which all names are read
+abbrev pub one_table : List (List ℕ) → NameTables
+one_table names = record { texts = names; known = names; others = names; words = names }
+
 -- the flat design is that of copies of the modules, one for each instance that elaboration finds (IEEE Std 1364-2005, 12.1.2)
-pub record IsFlatIn (texts known names : List (List ℕ)) (ms : List Module) (top clock : ℕ) (xs : List Instance) (design : Flat)
-    : Type 0 where
+pub record IsFlatIn (names : List (List ℕ)) (ms : List Module) (top clock : ℕ) (xs : List Instance) (design : Flat) : Type 0 where
   pub all : List Standing
   pub found : elaborated language_limits (declarations_of ms) top clock ≡ Ok all
   pub copies : Copies
-  pub are_copies : AreCopiesIn language_limits.turns (declarations_of ms)
-      (record { texts = texts; known = known; others = known; words = names }) xs all copies
+  pub are_copies : AreCopiesIn language_limits.turns (declarations_of ms) (one_table names) xs all copies
   pub same : design ≡ flat copies

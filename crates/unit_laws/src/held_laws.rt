@@ -4,6 +4,7 @@ ghost use Rattle.std.specs.Global.{Global};
 ghost use Rattle.std.specs.List.{All, AllZip};
 ghost use Rattle.std.specs.declared.result.Result.{Result};
 ghost use Rattle.std.specs.declared.sync.Arc.{Arc};
+ghost use Rattle.sha2.specs.Sha256.{sha256};
 ghost use Rattle.ls_text.specs.declared.fault.Fault.{Fault};
 ghost use Rattle.ls_text.specs.Texts.{Grows, HasEachOnce};
 ghost use Rattle.typed_ir.specs.Cycles.{Flat};
@@ -26,11 +27,13 @@ ghost use Rattle.unit_laws.specs.JobsUnder.{IsJobUnder};
 ghost use Rattle.unit_laws.specs.TreeJobs.{AreJobsIn, IsFlatIn};
 
 /// A registry holds, under a table of names, units under the keys of the jobs that they are built from: an empty one does, and it stays so
-/// where keys of jobs under this table are ensured with a forge that builds as `built` says, where it is cut or copied, and where the table
-/// grows. The text of a job is the same under each table that its table grows to.
+/// where keys of jobs under this table, as they are made, are ensured with a forge that builds as `built` says, where it is cut or copied, and
+/// where the table grows. The text of a job is the same under each table that its table grows to.
 #[tactic(none)]
 pub fn registries_stay_held()
     ensures empty { (names : List (List ℕ)) (es : List Entry) → es ≡ [] → AreHeldUnder names es }
+    ensures made { (names : List (List ℕ)) (job : BuildJob) (k : KeyData) → k.text ≡ job_text names job → k.digest ≡ sha256 k.text
+        → k.job ≡ job → IsKeyUnder names k }
     ensures ensured { (names : List (List ℕ)) (builds : BuildJob → Result Built Fault) (es new : List Entry) (keys : List KeyData)
         → builds ≡ built → AreHeldUnder names es → All (IsKeyUnder names) keys → All (IsJobUnder names) (jobs_of keys)
         → ensured builds es keys ≡ Ok new → AreHeldUnder names new }
@@ -69,5 +72,5 @@ pub fn held_units_link_to_the_flat_design()
         → AreJobsIn texts known names ms top clock xs js → jobs_of keys ≡ js → All (IsKeyUnder names) keys → AreHeldUnder names es
         → AreUnder es keys units → IsTrue (is_depth_first (map parent_of xs))
         → ((t : Instances) → IsTreeOf xs (all_parts units) t → design ≡ flat_of_tree t)
-        → IsFlatIn texts known names ms top clock xs design }
+        → IsFlatIn names ms top clock xs design }
 {}
