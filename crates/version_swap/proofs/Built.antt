@@ -11,7 +11,7 @@ use Rattle.module_registry.specs.Keys.{KeyData, same, jobs_of}
 use Rattle.unit_build.specs.Building.{built}
 use Rattle.unit_laws.specs.Held.{AreHeldUnder, IsKeyUnder}
 use Rattle.unit_laws.specs.JobsUnder.{IsJobUnder}
-use Rattle.version_swap.proofs.StandIns.{unit_of_job}
+use Rattle.unit_laws.proofs.HeldUnits.{unit_of_job}
 
 -- ---- what builds as building does
 

@@ -26,36 +26,40 @@ use Rattle.unit_jobs.specs.JobViews.{job_view}
 use Rattle.unit_laws.specs.InstancesTold.{HasNamesIn}
 use Rattle.unit_laws.specs.Spelled.{IsSpelledUnder}
 use Rattle.unit_laws.specs.TreeJobs.{AreJobsIn}
-use Rattle.version_swap.specs.Founds.{AreModules, IsReadFault, IsTop, HasModules, AreFound}
+use Rattle.version_swap.specs.Founds.{AreModules, IsReadRefusal, IsTop, HasModules}
 use Rattle.version_swap.specs.FoundUnder.{IsNumberOf, IsFoundUnder}
 use Rattle.version_swap.specs.Plans as plans
-use Rattle.version_swap.specs.Plans.{Plans}
-use Rattle.version_swap.specs.Refused.{Fails}
-use Rattle.version_swap.proofs.StandIns.{instances_told, module_called, language_turns, seen_of, tree_has_jobs}
+use Rattle.version_swap.specs.Plans.{IsPlanRefusal, Plans}
+use Rattle.job_laws.proofs.TreeJobs.{language_turns, seen_of, tree_has_jobs}
+use Rattle.unit_laws.proofs.InstanceTexts.{IsNameWord}
+use Rattle.unit_laws.proofs.ToldInstances.{modules_named}
+use Rattle.unit_laws.proofs.TreeNames.{IsModuleNamed}
 
 -- ---- the texts are refused
 
 pub text_planned : (names : List (List ℕ)) (files : List SourceFile) (name : Option NameId) (clock : NameId) → length files ≤ 256 → (e : Refusal)
-    → Fails names (IsReadFault names files) e → Fails names (λ f. Plans names files name clock (Err f)) e
+    → IsReadRefusal names files e → IsPlanRefusal names files name clock e
 text_planned names files name clock few (refusal.Fault f) is = plans.at_text few is
 text_planned names files name clock few refusal.NoMemory is = tt
 
 -- ---- the number of the top
 
 -- no module is called by the empty text
-none_called : (names : List (List ℕ)) (n : ℕ) (ms : List Module) → All (IsSpelledUnder names) ms → text_at names n ≡ [] → module_named n (declarations_of ms) ≡ None
-none_called names n [] spelled empty = refl
-none_called names n (m ∷ ms) spelled empty = cases (n == m.body.name.name.0) refl
+none_called : (names : List (List ℕ)) (n : ℕ) (ds : List ModuleDeclaration) → All (IsModuleNamed (IsNameWord names)) ds → text_at names n ≡ []
+    → module_named n ds ≡ None
+none_called names n [] named empty = refl
+none_called names n (d ∷ ds) named empty = cases (n == d.name.name.0) refl
   where
-    cases : (b : Bool) → (n == m.body.name.name.0) ≡ b → cond b (Some (declaration_of m.body)) (module_named n (declarations_of ms)) ≡ None
+    cases : (b : Bool) → (n == d.name.name.0) ≡ b → cond b (Some d) (module_named n ds) ≡ None
     cases true is =
-        absurd (module_called names m (All-head (IsSpelledUnder names) m ms spelled) (ap (text_at names) (sym (eqb-true n m.body.name.name.0 is)) ∙ empty))
-    cases false is = none_called names n ms (All-tail (IsSpelledUnder names) m ms spelled) empty
+        absurd ((All-head (IsModuleNamed (IsNameWord names)) d ds named).0.some (ap (text_at names) (sym (eqb-true n d.name.name.0 is)) ∙ empty))
+    cases false is = none_called names n ds (All-tail (IsModuleNamed (IsNameWord names)) d ds named) empty
 
 top_is : (old names : List (List ℕ)) (name : Option NameId) (n : ℕ) (ms : List Module) → IsNumberOf old name n → Grows old names
     → All (IsSpelledUnder names) ms → IsTop name (declarations_of ms) n
 top_is old names (Some name) n ms is grows spelled = is
-top_is old names None n ms is grows spelled = none_called names n ms spelled (grown_text old names n grows is.0 ∙ is.1)
+top_is old names None n ms is grows spelled =
+    none_called names n (declarations_of ms) (modules_named names ms spelled) (grown_text old names n grows is.0 ∙ is.1)
 
 -- ---- what is known once the modules are read
 
@@ -107,7 +111,6 @@ module _ (before texts : List (List ℕ)) (files : List SourceFile) (name : Opti
           known = record {
             spelled = spelled;
             elaborated = is;
-            told = instances_told language_limits texts known names ms n clock.0 xs spelled grows is;
             jobs = jobs;
             within = within;
             grown = grown;

@@ -1,4 +1,3 @@
-pub mod StandIns
 pub mod ReadTexts
 pub mod Named
 pub mod Short

@@ -27,7 +27,14 @@ use Rattle.unit_laws.specs.JobsUnder.{IsJobUnder}
 use Rattle.version_swap.specs.FirstKeys.{key_of}
 use Rattle.version_swap.specs.FoundUnder.{IsFoundUnder}
 use Rattle.version_swap.proofs.Firsts.{jobs_behind}
-use Rattle.version_swap.proofs.StandIns.{units_of_jobs, jobs_are_under, they_stand, design_is_linked, language_turns, tree_of, same_long}
+use Rattle.link.proofs.Forests.{tree_of}
+use Rattle.link.proofs.Sound.{same_long}
+use Rattle.job_laws.proofs.TreeJobs.{language_turns}
+use Rattle.unit_laws.specs.TreeJobs.{one_table}
+use Rattle.unit_laws.proofs.DesignCopies.{design_is_linked}
+use Rattle.unit_laws.proofs.HeldDesign.{jobs_are_under, they_stand}
+use Rattle.unit_laws.proofs.HeldUnits.{units_of_jobs}
+use Rattle.unit_laws.proofs.OneTable.{by_one_table}
 
 -- the keys of jobs are keys under the table
 keys_under : (names : List (List ℕ)) (js : List BuildJob) → All (IsKeyUnder names) (map (key_of names) js)
@@ -63,7 +70,7 @@ module _ (words : List (List ℕ)) (files : List SourceFile) (name : Option Name
         pub tree : Instances
         pub is : IsTreeOf xs (all_parts units) tree
         pub copies : Copies
-        pub are_copies : AreCopiesIn language_limits.turns (declarations_of x.found.ms) tables xs x.found.all copies
+        pub are_copies : AreCopiesIn language_limits.turns (declarations_of x.found.ms) (one_table words) xs x.found.all copies
         pub linked : flat_of_tree tree ≡ flat copies
 
       pub has_design : is_depth_first (map parent_of xs) ≡ true → (units : List (Arc ModuleUnit Global)) → AreUnder es keys units → HasDesign units
@@ -73,4 +80,11 @@ module _ (words : List (List ℕ)) (files : List SourceFile) (name : Option Name
           let found = tree_of xs (all_parts units) first (same_long xs 0 xs (all_parts units) (units_stand units under)) in
           let d = design_is_linked language_limits tables x.found.ms x.found.top clock.0 x.found.all xs (map (job_view words) js) js (all_parts units) found.tree
               language_turns x.found.found x.found.listed x.found.jobs refl built found.is in
-          record { tree = found.tree; is = found.is; copies = d.copies; are_copies = d.are_copies; linked = d.linked }
+          record {
+            tree = found.tree;
+            is = found.is;
+            copies = d.copies;
+            are_copies = by_one_table language_limits x.found.texts x.found.known words x.found.ms x.known.grown x.known.grows x.known.spelled
+                x.found.top clock.0 x.found.all xs d.copies x.found.found d.are_copies;
+            linked = d.linked;
+          }

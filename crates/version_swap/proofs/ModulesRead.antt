@@ -21,17 +21,16 @@ use Rattle.verilog_expr.specs.declared.fault.ParseFault.TheVariants.{Stuck, Heav
 use Rattle.verilog_expr.specs.Shown.{Refuses, at_fault, names_of, text_of, token_at, left_at}
 use Rattle.verilog_parse.specs.Files.{Stands, file}
 use Rattle.unit_laws.specs.Spelled.{IsSpelledUnder}
-use Rattle.version_swap.specs.Founds.{AreModules, IsReadFault, at_text, at_grammar}
-use Rattle.version_swap.specs.Refused.{Fails}
+use Rattle.version_swap.specs.Founds.{AreModules, IsReadRefusal, at_text, at_grammar}
 use Rattle.version_swap.specs.Texts.{file_tokens}
-use Rattle.version_swap.proofs.StandIns.{parsed_spelled}
+use Rattle.unit_laws.proofs.Parsed.{parsed_spelled}
 
 abbrev AreNamed : ℕ → List NameId → Type 0
 AreNamed count ids = All (λ (id : NameId). id.0 < count) ids
 
 -- ---- a fault of the texts
 
-pub text_refused : (names : List (List ℕ)) (files : List SourceFile) (e : Refusal) → ReadRefuses names e (file_tokens files) → Fails names (IsReadFault names files) e
+pub text_refused : (names : List (List ℕ)) (files : List SourceFile) (e : Refusal) → ReadRefuses names e (file_tokens files) → IsReadRefusal names files e
 text_refused names files (refusal.Fault f) is = at_text is
 text_refused names files refusal.NoMemory is = tt
 
@@ -51,7 +50,7 @@ grammar_known count s named (refusal.Fault fault) (at_fault {f} run shown) = sub
 grammar_known count s named refusal.NoMemory is = tt
 
 grammar_refused : (names : List (List ℕ)) (files : List SourceFile) (s : List Token) → file_tokens files ≡ Ok (map (said names) s) → (e : Refusal)
-    → Refuses file s e → Fails names (IsReadFault names files) e
+    → Refuses file s e → IsReadRefusal names files e
 grammar_refused names files s read (refusal.Fault f) is = at_grammar read is
 grammar_refused names files s read refusal.NoMemory is = tt
 
@@ -81,9 +80,9 @@ module _ (names new : List (List ℕ)) (files : List SourceFile) (s : List Token
   modules_named (Ok ms) named = subst (λ (t : List (List ℕ)). AreNamed (length t) (names_of_modules ms.items)) (sym table) named
   modules_named (Err e) named = tt
 
-  pub parse_refused : (r : Result (Vec Module Global) Refusal) → IfErr r (Refuses file s) → IfErr r (Fails new (IsReadFault new files))
+  pub parse_refused : (r : Result (Vec Module Global) Refusal) → IfErr r (Refuses file s) → IfErr r (IsReadRefusal new files)
   parse_refused (Ok ms) is = tt
-  parse_refused (Err e) is = subst (λ (t : List (List ℕ)). Fails t (IsReadFault t files) e) (sym table) (grammar_refused names files s are.read e is)
+  parse_refused (Err e) is = subst (λ (t : List (List ℕ)). IsReadRefusal t files e) (sym table) (grammar_refused names files s are.read e is)
 
   pub parse_known : (r : Result (Vec Module Global) Refusal) → IfErr r (Refuses file s) → IfErr r (CanShow (length new))
   parse_known (Ok ms) is = tt

@@ -33,12 +33,12 @@ use Rattle.version_swap.specs.DesignFaults.{CanRun, IsDesignFault, not_linked, t
 use Rattle.version_swap.specs.FirstKeys.{first_jobs, first_keys, key_of}
 use Rattle.version_swap.specs.FoundUnder.{IsFoundUnder}
 use Rattle.version_swap.specs.Plans as plans
-use Rattle.version_swap.specs.Plans.{AreCopies, Plans, too_many_fault}
-use Rattle.version_swap.specs.Refused.{Fails}
+use Rattle.version_swap.specs.Plans.{AreCopies, IsPlanRefusal, Plans, too_many_fault}
 use Rattle.version_swap.proofs.Built.{ensured_same, ensured_fault, all_built, fault_of_all}
 use Rattle.version_swap.proofs.Firsts.{first_of_jobs, jobs_behind, texts_behind, first_all, first_jobs_all, all_held}
 use Rattle.version_swap.proofs.Linked.{are_under, jobs_under, HasDesign, has_design}
-use Rattle.version_swap.proofs.StandIns.{ensured_held, text_kept}
+use Rattle.unit_laws.proofs.GrownTexts.{text_kept}
+use Rattle.unit_laws.proofs.HeldUnits.{ensured_held}
 
 -- ---- 40 without names
 
@@ -109,7 +109,7 @@ module _ (words : List (List ℕ)) (files : List SourceFile) (name : Option Name
     held_then new is = ensured_held words built es new first refl held first_under first_jobs_under (sym (ensured_same builds so es first) ∙ is)
 
     -- a unit has a fault
-    pub unit_refused : (e : Refusal) → Refuses e (ensured builds es first) → Fails words (λ f. Plans words files name clock (Err f)) e
+    pub unit_refused : (e : Refusal) → Refuses e (ensured builds es first) → IsPlanRefusal words files name clock e
     unit_refused (refusal.Fault f) is =
         plans.at_unit x.found (grows_none words)
         (ap (built_all built) (sym first_of)
@@ -155,7 +155,7 @@ module _ (words : List (List ℕ)) (files : List SourceFile) (name : Option Name
         subst (λ (t : TextFault). Plans names files name clock (Err t)) (sym (wide_fault names f is)) (plans.too_wide there grows linked wide)
 
     -- linking has a fault, or the registers take too much room
-    pub design_refused : (e : Refusal) → IsRefusedOfUnits words names xs es keys e → Fails names (λ f. Plans names files name clock (Err f)) e
+    pub design_refused : (e : Refusal) → IsRefusedOfUnits words names xs es keys e → IsPlanRefusal names files name clock e
     design_refused (refusal.Fault f) y =
         let d = has_design words files name clock xs js x keys are es held tree_first y.units y.are in
         refused_by d.copies (copies_there y.units d) f

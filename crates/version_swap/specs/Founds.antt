@@ -1,7 +1,8 @@
 -- What is found of files before units are built: their modules, the instances of their design, and the jobs of these.
-use Rattle.std.specs.Prelude.{◌≡◌, ◌≤◌, ℕ, List, length, map, Option, Some, None, Ok, Err}
+use Rattle.std.specs.Prelude.{◌≡◌, ◌≤◌, ⊤, ℕ, List, length, map, Option, Some, None, Ok, Err}
 use Rattle.ls_text.specs.declared.fault.Fault.{Fault}
 use Rattle.ls_text.specs.declared.name_id.NameId.{NameId}
+use Rattle.ls_text.specs.declared.refusal.Refusal.{Refusal}
 use Rattle.ls_text.specs.declared.refusal.Refusal.TheVariants as refusal
 use Rattle.ls_text.specs.declared.source_file.SourceFile.{SourceFile}
 use Rattle.ls_text.specs.Readings.{TextFault, fault_view}
@@ -36,6 +37,11 @@ pub data IsReadFault (names : List (List ℕ)) (files : List SourceFile) : TextF
   -- 15, 16, 38
   at_grammar : {tokens : List Token} {f : Fault} → file_tokens files ≡ Ok (map (said names) tokens) → Refuses file tokens (refusal.Fault f)
       → IsReadFault names files (fault_view names f)
+
+-- such a fault, or want of memory
+abbrev pub IsReadRefusal : (names : List (List ℕ)) → List SourceFile → Refusal → Type 0
+IsReadRefusal names files (refusal.Fault f) = IsReadFault names files (fault_view names f)
+IsReadRefusal names files refusal.NoMemory = ⊤
 
 -- the number of the top's name; where none is given, one that no module has
 abbrev pub IsTop : Option NameId → List ModuleDeclaration → ℕ → Type 0

@@ -6,6 +6,5 @@ pub mod Founds
 pub mod FoundUnder
 pub mod DesignFaults
 pub mod Plans
-pub mod Refused
 pub mod Made
 pub mod Behind

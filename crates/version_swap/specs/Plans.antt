@@ -1,9 +1,10 @@
 -- What the files of a version come to: its flat design with the texts of its keys, or the first fault. Names are those of a table that each of the
 -- tables before it begins.
-use Rattle.std.specs.Prelude.{◌≡◌, ◌<◌, ◌≤◌, ℕ, List, [], map, length, Option, Result, Ok, Err}
+use Rattle.std.specs.Prelude.{◌≡◌, ◌<◌, ◌≤◌, ⊤, ℕ, List, [], map, length, Option, Result, Ok, Err}
 use Rattle.ls_text.specs.declared.at.At.TheVariants.{Edit}
 use Rattle.ls_text.specs.declared.fault.Fault.{Fault}
 use Rattle.ls_text.specs.declared.name_id.NameId.{NameId}
+use Rattle.ls_text.specs.declared.refusal.Refusal.{Refusal}
 use Rattle.ls_text.specs.declared.refusal.Refusal.TheVariants as refusal
 use Rattle.ls_text.specs.declared.source_file.SourceFile.{SourceFile}
 use Rattle.ls_text.specs.Readings.{TextFault, fault_view}
@@ -21,6 +22,7 @@ use Rattle.unit_build.specs.Building.{built}
 use Rattle.unit_laws.specs.Copies.{Copies}
 use Rattle.unit_laws.specs.DesignCopies.{AreCopiesIn}
 use Rattle.unit_laws.specs.Flat.{flat}
+use Rattle.unit_laws.specs.TreeJobs.{one_table}
 use Rattle.link.specs.Faults.{IsLinkFault, HasNoLinkFault}
 use Rattle.cycle_eval.specs.Kits.{register_widths}
 use Rattle.cycle_eval.specs.Words.{words_of}
@@ -45,8 +47,7 @@ pub record AreCopies (words : List (List ℕ)) (files : List SourceFile) (name :
   pub units : List Built
   pub made : built_all built (first_jobs words [] js) ≡ Ok units
   pub texts : keys ≡ map (job_text words) (first_jobs words [] js)
-  pub are_copies : AreCopiesIn language_limits.turns (declarations_of found.ms)
-      (record { texts = found.texts; known = found.known; others = found.known; words = words }) xs found.all copies
+  pub are_copies : AreCopiesIn language_limits.turns (declarations_of found.ms) (one_table words) xs found.all copies
 
 -- each step with its first fault, and at last the design
 pub data Plans (names : List (List ℕ)) (files : List SourceFile) (name : Option NameId) (clock : NameId) : Result DesignOfTexts TextFault → Type 0 where
@@ -67,3 +68,8 @@ pub data Plans (names : List (List ℕ)) (files : List SourceFile) (name : Optio
   made : {words keys : List (List ℕ)} {copies : Copies} → AreCopies words files name clock keys copies → Grows words names
       → HasNoLinkFault 1048576 (flat copies) → words_of (register_widths (flat copies)) ≤ 65536
       → Plans names files name clock (Ok (record { design = flat copies; keys = keys }))
+
+-- the first fault of the files, or want of memory
+abbrev pub IsPlanRefusal : (names : List (List ℕ)) → List SourceFile → Option NameId → (clock : NameId) → Refusal → Type 0
+IsPlanRefusal names files name clock (refusal.Fault f) = Plans names files name clock (Err (fault_view names f))
+IsPlanRefusal names files name clock refusal.NoMemory = ⊤

@@ -1,10 +1,9 @@
 // From files to the instances of their design, and the jobs of these.
-ghost use Rattle.std.specs.Prelude.{◌≡◌, ◌≤◌, Err, length, IfOk, IfErr};
+ghost use Rattle.std.specs.Prelude.{◌≡◌, ◌≤◌, length, IfOk, IfErr};
 ghost use Rattle.std.specs.List.{All};
 ghost use Rattle.ls_text.specs.Texts.{Grows};
 ghost use Rattle.version_swap.specs.FoundUnder.{IsNumberOf, IsFoundUnder};
-ghost use Rattle.version_swap.specs.Plans.{Plans};
-ghost use Rattle.version_swap.specs.Refused.{Fails};
+ghost use Rattle.version_swap.specs.Plans.{IsPlanRefusal};
 
 use crate::found::Found;
 use crate::modules::modules_of;
@@ -35,7 +34,7 @@ pub fn found(
     requires files { length files.now ≤ 256 }
     requires texts { All (λ f. length f.text ≤ 4194304) files.now }
     ensures found { IfOk result (λ f. IsFoundUnder names.new files.now top clock f.tree.instances.items f.jobs.items) }
-    ensures refused { IfErr result (Fails names.new (λ f. Plans names.new files.now top clock (Err f))) }
+    ensures refused { IfErr result (IsPlanRefusal names.new files.now top clock) }
     ensures grows { Grows names.old names.new }
 {
     let number = top_number(names, top)?;

@@ -28,6 +28,17 @@ fn add(keys: &mut IndexSet<Key>, key: &Key) -> Result<(), NoMemory>
     Ok(())
 }
 
+// Copies of keys, which share their texts and jobs.
+fn copies(alloc: Global, keys: &[Key]) -> Result<Vec<Key>, NoMemory>
+    ensures { IfOk result (λ ks. ks.items ≡ keys.now) }
+{
+    let mut copies = Vec::with_capacity(alloc, keys.len())?;
+    for key in keys {
+        copies.push(key.clone()?)?;
+    }
+    Ok(copies)
+}
+
 /// Copies of keys, of equal ones the first.
 pub fn first_keys(alloc: Global, keys: &[Key]) -> Result<Vec<Key>, NoMemory>
     ensures first { IfOk result (λ ks. ks.items ≡ f.first_keys [] keys.now) }
@@ -37,9 +48,5 @@ pub fn first_keys(alloc: Global, keys: &[Key]) -> Result<Vec<Key>, NoMemory>
     for key in keys {
         add(&mut first, key)?;
     }
-    let mut copies = Vec::with_capacity(alloc, first.len())?;
-    for key in first.as_slice() {
-        copies.push(key.clone()?)?;
-    }
-    Ok(copies)
+    copies(alloc, first.as_slice())
 }

@@ -5,8 +5,7 @@ ghost use Rattle.ls_text.specs.Texts.{Grows};
 ghost use Rattle.ls_text.specs.Readings.{CanShow};
 ghost use Rattle.verilog_ast.specs.Names.{names_of_modules};
 ghost use Rattle.unit_laws.specs.Spelled.{IsSpelledUnder};
-ghost use Rattle.version_swap.specs.Founds.{AreModules, IsReadFault};
-ghost use Rattle.version_swap.specs.Refused.{Fails};
+ghost use Rattle.version_swap.specs.Founds.{AreModules, IsReadRefusal};
 
 use crate::tokens::file_tokens;
 use ls_text::{Names, Refusal, SourceFile};
@@ -25,7 +24,7 @@ pub fn modules_of(
     ensures modules { IfOk result (λ ms. AreModules names.new files.now ms.items) }
     ensures spelled { IfOk result (λ ms. All (IsSpelledUnder names.new) ms.items) }
     ensures named { IfOk result (λ ms. All (λ id. id.0 < length names.new) (names_of_modules ms.items)) }
-    ensures refused { IfErr result (Fails names.new (IsReadFault names.new files.now)) }
+    ensures refused { IfErr result (IsReadRefusal names.new files.now) }
     ensures known { IfErr result (CanShow (length names.new)) }
     ensures grows { Grows names.old names.new }
 {

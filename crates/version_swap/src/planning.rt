@@ -1,5 +1,5 @@
 // The next version of a design, or its first fault.
-ghost use Rattle.std.specs.Prelude.{◌≡◌, ◌≤◌, ◌+◌, ◌++◌, ℕ, List, Ok, Err, length, IfOk, IfErr, OnErr};
+ghost use Rattle.std.specs.Prelude.{◌≡◌, ◌≤◌, ◌+◌, ◌++◌, ℕ, List, Ok, length, IfOk, IfErr, OnErr};
 ghost use Rattle.std.specs.List.{All};
 ghost use Rattle.std.specs.Option.{option_or, unwrap_or};
 ghost use Rattle.ls_text.specs.Readings.{fault_view};
@@ -13,8 +13,7 @@ ghost use Rattle.unit_laws.specs.Held.{AreHeldUnder, IsKeyUnder};
 ghost use Rattle.version_swap.specs.Behind.{design_of, texts_behind};
 ghost use Rattle.version_swap.specs.Files.{files_behind};
 ghost use Rattle.version_swap.specs.Made.{MadeBehind};
-ghost use Rattle.version_swap.specs.Plans.{Plans, too_many_fault};
-ghost use Rattle.version_swap.specs.Refused.{Fails};
+ghost use Rattle.version_swap.specs.Plans.{IsPlanRefusal, Plans, too_many_fault};
 
 use crate::file_list::FileList;
 use crate::files::files_behind;
@@ -65,8 +64,8 @@ pub fn plan<R: Sync, F: Forge<R>>(
     // The design of the files behind the edit with the texts of its keys, or the first fault.
     ensures texts { IfOk result (λ p. p.texts ≡ texts_behind texts.now edit.now loaded.now) }
     ensures planned { IfOk result (λ p. Plans names.new p.texts.files p.texts.top p.texts.clock (Ok (design_of p.design p.keys))) }
-    ensures refused { IfErr result (Fails names.new (λ f. Plans names.new (files_behind texts.now.files edit.now.files edit.now.loads loaded.now)
-        (option_or edit.now.top texts.now.top) (unwrap_or edit.now.clock texts.now.clock) (Err f))) }
+    ensures refused { IfErr result (IsPlanRefusal names.new (files_behind texts.now.files edit.now.files edit.now.loads loaded.now)
+        (option_or edit.now.top texts.now.top) (unwrap_or edit.now.clock texts.now.clock)) }
     // Each key has the text of its job, and the digest of that.
     ensures keyed { IfOk result (λ p. All (IsKeyUnder names.new) p.keys) }
     // What the registry holds.

@@ -1,5 +1,5 @@
 // From files to the design of a version, by the units that a registry holds.
-ghost use Rattle.std.specs.Prelude.{◌≡◌, ◌≤◌, ◌+◌, ◌++◌, Ok, Err, List, true, length, IfOk, IfErr, OnErr};
+ghost use Rattle.std.specs.Prelude.{◌≡◌, ◌≤◌, ◌+◌, ◌++◌, Ok, List, true, length, IfOk, IfErr, OnErr};
 ghost use Rattle.std.specs.List.{All};
 ghost use Rattle.std.specs.Global.{Global};
 ghost use Rattle.std.specs.declared.sync.Arc.{Arc};
@@ -17,8 +17,7 @@ ghost use Rattle.unit_laws.specs.Held.{AreHeldUnder, AreUnder, IsKeyUnder};
 ghost use Rattle.version_swap.specs.Behind.{design_of};
 ghost use Rattle.version_swap.specs.DesignFaults.{IsDesignOfUnits, IsRefusedOfUnits};
 ghost use Rattle.version_swap.specs.Made.{MadeBehind};
-ghost use Rattle.version_swap.specs.Plans.{Plans};
-ghost use Rattle.version_swap.specs.Refused.{Fails};
+ghost use Rattle.version_swap.specs.Plans.{IsPlanRefusal, Plans};
 
 use crate::finding::found;
 use crate::keys::{first_keys, keys_of};
@@ -66,7 +65,7 @@ pub fn version<R: Sync, F: Forge<R>>(
     requires held { AreHeldUnder names.old (entries_of registry.old) }
     requires builds { (job : BuildJob) → F.builds job ≡ built job }
     ensures planned { IfOk result (λ v. Plans names.new files.now top clock (Ok (design_of v.design v.keys.items))) }
-    ensures refused { IfErr result (Fails names.new (λ f. Plans names.new files.now top clock (Err f))) }
+    ensures refused { IfErr result (IsPlanRefusal names.new files.now top clock) }
     ensures keyed { IfOk result (λ v. All (IsKeyUnder names.new) v.keys.items) }
     ensures held { AreHeldUnder names.new (entries_of registry.new) }
     ensures ensured { IfOk result (λ v. ensured built (entries_of registry.old) v.keys.items ≡ Ok (entries_of registry.new)) }
