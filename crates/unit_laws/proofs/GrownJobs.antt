@@ -55,7 +55,7 @@ module _ (old new : List (List ℕ)) (grows : Grows old new) where
       (All-append IsLabelIn (reverse bs) (b ∷ []) (reverse_all bs (All-tail IsLabelIn b bs all))
       (All-cons IsLabelIn b [] (All-head IsLabelIn b bs all) (All-nil IsLabelIn)))
 
-  spoken_grown : (bs : List GenerateBlock) (k : Option ℕ) (n : NameId) → All IsLabelIn bs → IsIn old n → spoken new bs k n.0 ≡ spoken old bs k n.0
+  pub spoken_grown : (bs : List GenerateBlock) (k : Option ℕ) (n : NameId) → All IsLabelIn bs → IsIn old n → spoken new bs k n.0 ≡ spoken old bs k n.0
   unfolding spoken
   spoken_grown bs k n all h =
       ap₂ (λ (before own : List ℕ). before ++ own) (prefix_grown (reverse bs) k (reverse_all bs all)) (text_grown n h)

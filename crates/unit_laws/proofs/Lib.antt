@@ -55,6 +55,8 @@ pub mod Fronts
 pub mod StepNames
 pub mod TreeNames
 pub mod GrownJobs
+pub mod GrownTexts
+pub mod HeldUnits
 pub mod ConstantValues
 pub mod PortNames
 pub mod InstanceTexts
@@ -85,3 +87,5 @@ pub mod TableUnits
 pub mod TableTrees
 pub mod TableAlone
 pub mod DesignCopies
+pub mod OneTable
+pub mod HeldDesign

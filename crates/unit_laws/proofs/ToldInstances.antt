@@ -56,7 +56,7 @@ some_word kind text l word (inr (inr h)) is = let same : k.Word ≡ k.Wild = sym
 token_word : (names : List (List ℕ)) (t : Token) → t.kind ≡ k.Word → IsProper names t → IsNameWord names (identifier_of t)
 token_word names t word h = record { word = proper_word names t h; some = some_word t.kind (text_at names t.text.0) t.literal word h.1 }
 
-modules_named : (texts : List (List ℕ)) (ms : List Module) → All (IsSpelledUnder texts) ms
+pub modules_named : (texts : List (List ℕ)) (ms : List Module) → All (IsSpelledUnder texts) ms
     → All (IsModuleNamed (IsNameWord texts)) (declarations_of ms)
 modules_named texts [] all = All-nil (IsModuleNamed (IsNameWord texts))
 modules_named texts (m ∷ ms) all =
@@ -65,7 +65,7 @@ modules_named texts (m ∷ ms) all =
     (modules_named texts ms (All-tail (IsSpelledUnder texts) m ms all))
 
 -- a text that isn't empty stands in the table
-within_table : (names : List (List ℕ)) (id : ℕ) → (text_at names id ≡ [] → ⊥) → id < length names
+pub within_table : (names : List (List ℕ)) (id : ℕ) → (text_at names id ≡ [] → ⊥) → id < length names
 within_table names id some = cases (cases_lt id (length names))
   where
     cases : (id < length names) ⊎ (length names ≤ id) → id < length names
@@ -126,7 +126,7 @@ module _ (l : Limits) (texts known new : List (List ℕ)) (ms : List Module) (gr
       (module_is (IsNameWord texts) l (declarations_of ms) names s.instantiated (declarations_of ms) v.declaration names v.named).1 v.found).1
   labels_there (s ∷ ss) (suc k) all = labels_there ss k (All-tail IsSeen s ss all)
 
-  labels_around : (all : List Standing) (parent : Option ℕ) → All IsSeen all → All IsWordBlock (blocks_around all parent)
+  pub labels_around : (all : List Standing) (parent : Option ℕ) → All IsSeen all → All IsWordBlock (blocks_around all parent)
   labels_around all None are = All-nil IsWordBlock
   labels_around all (Some k) are = labels_there all k are
 

@@ -5,7 +5,7 @@ use Rattle.module_registry.specs.declared.build_job.BuildJob.{BuildJob}
 use Rattle.unit_laws.specs.Spelled.{IsSpelledUnder}
 use Rattle.unit_laws.specs.JobsUnder.{IsJobUnder}
 use Rattle.unit_laws.specs.Told.{lacks, IsTold}
-use Rattle.unit_laws.proofs.ConstantNames.{constants_named}
+use Rattle.unit_laws.proofs.ConstantNames.{constants_told}
 use Rattle.unit_laws.proofs.ProperWords.{tokens_told}
 use Rattle.unit_laws.proofs.Spelled.{spelling_lacks}
 
@@ -16,7 +16,7 @@ module_lacks names x h =
 pub told_under : (names : List (List ℕ)) (job : BuildJob) → IsJobUnder names job → IsTold names job
 told_under names job h = record {
   spelling = module_lacks names job.module.value h.spelled;
-  constants = constants_named names job.module.value h.spelled;
+  constants = constants_told names job.module.value h.spelled;
   values = h.values;
   clock = h.clock;
   children = h.children;

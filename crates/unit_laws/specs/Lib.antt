@@ -12,3 +12,5 @@ pub mod Units
 pub mod BuiltCopies
 pub mod TableCopies
 pub mod DesignCopies
+pub mod Held
+pub mod TreeJobs
