@@ -1,0 +1,9 @@
+pub mod RenamedSignals
+pub mod RenamedTables
+pub mod RenamedUnitReaches
+pub mod RenamedMentions
+pub mod RenamedForms
+pub mod RenamedValueItems
+pub mod RenamedConnections
+pub mod RenamedItems
+pub mod RenamedDrivers
