@@ -7,3 +7,7 @@ pub mod RenamedValueItems
 pub mod RenamedConnections
 pub mod RenamedItems
 pub mod RenamedDrivers
+pub mod RenamedWalks
+pub mod RenamedSteps
+pub mod RenamedBuilt
+pub mod RenamedJobs

@@ -56,7 +56,8 @@ connection_if_so : (f : NameId → NameId) (clock : Option NameId) (k : ℕ) (p 
     ≡ map (connected_as f) (connection_if clock k p x)
 connection_if_so f clock k p None apart = refl
 connection_if_so f clock k p (Some x) apart =
-    ap (λ (b : Bool). if b then [] else record { port = k; shape = port_shape_as f p; value = expression_as f x } ∷ []) (same_clock f clock p.name apart)
+    ap (λ (b : Bool). if b then [] else record { port = k; shape = port_shape_as f p; value = expression_as f x } ∷ [])
+    (same_clock f clock p.name apart)
     ∙ if_moved (map (connected_as f)) (is_clock clock p.name) [] (record { port = k; shape = p; value = x } ∷ []) _ _ refl refl
 
 connection_at_so : (f : NameId → NameId) (clock : Option NameId) (k : ℕ) (p : Option PortShape) (x : Option Expression) → KeepsApart f
@@ -167,7 +168,8 @@ faults_so : (f : NameId → NameId) (scope other : Scope) (cs : List Connected) 
 faults_so f scope other [] same = refl
 faults_so f scope other (c ∷ cs) same =
     both_so f _ _ _ _
-    (if_moved (map (fault_as f)) c.shape.input _ _ _ _ (same_faults f scope other AnyValue c.value same) (output_faults_so f scope other c.value same))
+    (if_moved (map (fault_as f)) c.shape.input _ _ _ _ (same_faults f scope other AnyValue c.value same)
+    (output_faults_so f scope other c.value same))
     (faults_so f scope other cs same)
 
 kinds_so : (f : NameId → NameId) (scope other : Scope) (cs : List Connected) → MeansSame f scope other

@@ -131,11 +131,11 @@ same_driver_faults f p =
 
 -- ---- the unit
 
-nodes_so : (f : NameId → NameId) (items : List PlacedItem) → nodes_in (map (placed_as f) items) ≡ nodes_in items
+pub nodes_so : (f : NameId → NameId) (items : List PlacedItem) → nodes_in (map (placed_as f) items) ≡ nodes_in items
 nodes_so f [] = refl
 nodes_so f (x ∷ xs) = ap (λ (ns : List UnitNode). node_in x.body ++ ns) (nodes_so f xs)
 
-blocks_so : (f : NameId → NameId) (items : List PlacedItem) → blocks_in (map (placed_as f) items) ≡ blocks_in items
+pub blocks_so : (f : NameId → NameId) (items : List PlacedItem) → blocks_in (map (placed_as f) items) ≡ blocks_in items
 blocks_so f [] = refl
 blocks_so f (x ∷ xs) = ap (λ (bs : List SizedStmt). block_in x.body ++ bs) (blocks_so f xs)
 

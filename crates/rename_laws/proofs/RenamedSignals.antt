@@ -70,7 +70,8 @@ put_so : (f : NameId → NameId) (d : NamedSignal) (xs : List NamedSignal) → K
     → put (signal_as f d) (map (signal_as f) xs) ≡ map (signal_as f) (put d xs)
 put_so f d [] apart = refl
 put_so f d (x ∷ xs) apart =
-    ap (λ (b : Bool). if b then completed d.net (signal_as f x) ∷ map (signal_as f) xs else signal_as f x ∷ put (signal_as f d) (map (signal_as f) xs))
+    ap (λ (b : Bool). if b then completed d.net (signal_as f x) ∷ map (signal_as f) xs
+    else signal_as f x ∷ put (signal_as f d) (map (signal_as f) xs))
     (completes_so f d.block d.name.name x apart)
     ∙ if_moved (map (signal_as f)) (completes d.block d.name.name.0 x) (completed d.net x ∷ xs) (x ∷ put d xs) _ _ refl
     (ap (λ (ys : List NamedSignal). signal_as f x ∷ ys) (put_so f d xs apart))
@@ -79,8 +80,8 @@ abbrev net_signal : Option ℕ → PortNet → Option BitRange → Bool → Iden
 net_signal here by range signed n order =
     record { block = here; name = n; kind = kind_of_net by; range = range; signed = signed; port = false; net = by; order = order }
 
-with_net_so : (f : NameId → NameId) (here : Option ℕ) (by : PortNet) (range : Option BitRange) (signed : Bool) (n : Identifier) (xs : List NamedSignal)
-    → KeepsApart f
+with_net_so : (f : NameId → NameId) (here : Option ℕ) (by : PortNet) (range : Option BitRange) (signed : Bool) (n : Identifier)
+    (xs : List NamedSignal) → KeepsApart f
     → with_net here by range signed (renamed_identifier f n) (map (signal_as f) xs) ≡ map (signal_as f) (with_net here by range signed n xs)
 with_net_so f here by range signed n xs apart =
     ap (λ (order : ℕ). put (net_signal here by range signed (renamed_identifier f n) order) (map (signal_as f) xs)) (length-map xs (signal_as f))

@@ -48,7 +48,8 @@ value_if_so : (f : NameId → NameId) (k : ValueKind) (n : Identifier) (x : Opti
 value_if_so f k n None = refl
 value_if_so f k n (Some x) = refl
 
-pub same_values : (f : NameId → NameId) (k : ValueKind) (xs : List Declared) → values_of k (map (declared_as f) xs) ≡ map (value_as f) (values_of k xs)
+pub same_values : (f : NameId → NameId) (k : ValueKind) (xs : List Declared)
+    → values_of k (map (declared_as f) xs) ≡ map (value_as f) (values_of k xs)
 same_values f k [] = refl
 same_values f k (x ∷ xs) = append_so (value_as f) _ _ _ _ (value_if_so f k x.name x.value) (same_values f k xs)
 
@@ -102,7 +103,8 @@ initial_so : (f : NameId → NameId) (scope other : Scope) (x : DeclaredValue) �
 initial_so f scope other x same =
     ap₂ (λ (m : Meaning) (z : Sized). initial_with m z (target_length other (name_of (value_as f x)))) (same x.name.name)
     (same_assigned f scope other _ _ x.value same (same_target_length f scope other (name_of x) same))
-    ∙ ap (initial_with (scope x.name.name.0) (assigned scope (target_length scope (name_of x)) x.value)) (same_target_length f scope other (name_of x) same)
+    ∙ ap (initial_with (scope x.name.name.0) (assigned scope (target_length scope (name_of x)) x.value))
+    (same_target_length f scope other (name_of x) same)
 
 pub same_initials : (f : NameId → NameId) (scope other : Scope) (xs : List DeclaredValue) → MeansSame f scope other
     → declaration_initials other (map (value_as f) xs) ≡ declaration_initials scope xs
