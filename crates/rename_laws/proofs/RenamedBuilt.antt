@@ -1,5 +1,5 @@
 -- The unit of a module under other names is its unit under these names, or the same first fault under these names (IEEE 1364-2005, 12.1 to 12.4).
-use Rattle.std.proofs.Common.{◌≡◌, ℕ, zero, suc, Bool, List, [], ◌∷◌, map, Option, Result, refl, sym, ◌∙◌, ap, ap₂}
+use Rattle.std.proofs.Common.{◌≡◌, ℕ, zero, suc, Bool, List, [], ◌∷◌, map, Option, refl, sym, ◌∙◌, ap, ap₂}
 use Rattle.std.specs.Option.{option_map}
 use Rattle.ls_text.specs.declared.fault.Fault.{Fault}
 use Rattle.ls_text.specs.declared.name_id.NameId.{NameId}
@@ -16,7 +16,7 @@ use Rattle.width_rules.specs.declared.writer.Writer.{Writer}
 use Rattle.width_rules.specs.Renaming.{fault_as}
 use Rattle.width_rules.proofs.RenamedFaults.{both_so}
 use Rattle.gen_unroll.specs.Steps.{ModuleStep}
-use Rattle.gen_unroll.specs.Values.{◌>>=◌, unless}
+use Rattle.gen_unroll.specs.Values.{unless}
 use Rattle.unit_names.specs.Numbers.{SignalTable}
 use Rattle.unit_names.specs.Signals.{NamedSignal}
 use Rattle.unit_names.specs.UnitLists.{unit_signals, declarations_of, data_inputs, registers}
@@ -30,16 +30,15 @@ use Rattle.unit_build.specs.Building.{module_of, job_steps, settled_signals, beg
 use Rattle.unit_build.specs.Settled.{flag_steps, none_of}
 use Rattle.unit_build.specs.Walks.{Walk, walk_faults, walk_items, walk_initials}
 use Rattle.place_laws.specs.BuiltModules.{Usage, usage_of, module_steps, walk_in, module_faults, module_items, module_initials, placed_with, placed_module, unit_in, built_module}
-use Rattle.design_laws.specs.Renaming.{KeepsApart, number_as, found_as, answer_as, step_as}
+use Rattle.design_laws.specs.Renaming.{KeepsApart, number_as, found_as, step_as}
 use Rattle.design_laws.proofs.RenamedAnswers.{found_so}
-use Rattle.place_laws.proofs.UnplacedLists.{append_so}
-use Rattle.rename_laws.specs.Findings.{signal_as, table_as, shape_as, placed_as, unit_signal_as, items_as, unit_as}
+use Rattle.rename_laws.specs.Findings.{signal_as, table_as, shape_as, placed_as, unit_signal_as, items_as}
 use Rattle.rename_laws.specs.Units.{usage_as, built_as}
 use Rattle.rename_laws.proofs.RenamedDrivers.{same_settled_by, same_driver_faults, same_unit}
 use Rattle.rename_laws.proofs.RenamedSteps.{same_steps_with}
 use Rattle.rename_laws.proofs.RenamedTables.{same_table, same_signals, same_declarations, same_inputs, same_registers}
 use Rattle.rename_laws.proofs.RenamedUnitReaches.{same_unit_beginning, same_writer}
-use Rattle.rename_laws.proofs.RenamedWalks.{walk_as, same_walk_faults, same_walk_items, same_walk_initials, same_flags, same_none}
+use Rattle.rename_laws.proofs.RenamedWalks.{same_walk_faults, same_walk_items, same_walk_initials, same_flags, same_none}
 
 -- ---- its steps
 

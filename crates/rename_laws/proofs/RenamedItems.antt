@@ -22,7 +22,7 @@ use Rattle.item_mentions.specs.Mentions.{statement_reads, statement_targets}
 use Rattle.sized_items.specs.declared.value_kind.ValueKind.TheVariants as kind
 use Rattle.sized_items.specs.DeclaredValues.{DeclaredValue, kind_of_net, declaration_faults, declaration_initials}
 use Rattle.sized_items.specs.SizedItems.{drive_item, value_item, combinational_item, clocked_item, plain_items, plain_initials, plain_faults}
-use Rattle.rename_laws.specs.Findings.{mention_as, value_as, placed_as}
+use Rattle.rename_laws.specs.Findings.{value_as, placed_as}
 use Rattle.rename_laws.proofs.RenamedForms.{same_statement_form}
 use Rattle.rename_laws.proofs.RenamedMentions.{same_reads, same_targets}
 use Rattle.rename_laws.proofs.RenamedValueItems.{same_values, same_reg_values, same_declaration_faults, same_initials, same_drive_item, same_value_item}

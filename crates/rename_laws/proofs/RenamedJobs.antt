@@ -8,7 +8,7 @@ use Rattle.verilog_ast.specs.declared.module.Module.{Module}
 use Rattle.verilog_ast.specs.Items as i
 use Rattle.verilog_ast.specs.Items.{ModuleItem, ModuleDeclaration}
 use Rattle.verilog_ast.specs.Renamed.{renamed_identifier}
-use Rattle.verilog_ast.specs.Renaming.{declared_as, declared_reg_as, item_as, declaration_as}
+use Rattle.verilog_ast.specs.Renaming.{declared_as, declared_reg_as, item_as}
 use Rattle.verilog_ast.specs.Views.{declaration_of}
 use Rattle.unit_ir.specs.declared.child_shape.ChildShape.{ChildShape}
 use Rattle.unit_ir.specs.declared.instance.Instance.{Instance}

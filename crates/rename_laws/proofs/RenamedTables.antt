@@ -18,7 +18,7 @@ use Rattle.gen_unroll.specs.Reaches.{reach_in}
 use Rattle.gen_unroll.specs.Steps.{ModuleStep}
 use Rattle.unit_names.specs.Signals.{NamedSignal, is_outermost, is_port, is_port_named}
 use Rattle.unit_names.specs.Numbers.{SignalTable, header_names, first_where, place_where, if_any, is_own_named, number_of_name, with_header_port, ports_onto, is_no_port, numbered, has_order, numbers_from, table_of, module_table}
-use Rattle.unit_names.specs.UnitLists.{signal_called, called_by, names_behind, unit_signals, declaration_of_signal, declarations_of, is_input, is_data_input, data_inputs_from, data_inputs, is_register_at, registers}
+use Rattle.unit_names.specs.UnitLists.{signal_called, called_by, names_behind, unit_signals, declaration_of_signal, declarations_of, is_input, data_inputs_from, data_inputs, is_register_at, registers}
 use Rattle.design_laws.specs.Renaming.{KeepsApart, number_as, found_as, step_as}
 use Rattle.design_laws.proofs.RenamedAnswers.{found_so}
 use Rattle.design_laws.proofs.RenamedNames.{same_test, names_so, port_name_so, same_beginning}

@@ -16,9 +16,7 @@ use Rattle.verilog_ast.specs.Items.{ContinuousAssignment}
 use Rattle.verilog_ast.specs.Places.{expression_place, target_place}
 use Rattle.verilog_ast.specs.Renamed.{renamed_identifier}
 use Rattle.verilog_ast.specs.Renaming.{expression_as, target_as, declared_as, declared_reg_as, port_as, assignment_as}
-use Rattle.width_rules.specs.declared.due.Due.{Due}
 use Rattle.width_rules.specs.declared.due.Due.TheVariants.{ConstantOnly}
-use Rattle.width_rules.specs.declared.writer.Writer.{Writer}
 use Rattle.width_rules.specs.Faults.{faults}
 use Rattle.width_rules.specs.Renaming.{MeansSame, fault_as}
 use Rattle.width_rules.specs.Scopes.{Meaning, Scope}

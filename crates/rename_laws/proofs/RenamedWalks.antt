@@ -4,10 +4,9 @@ use Rattle.std.proofs.lemmas.List.{length-map, take-map, drop-map}
 use Rattle.ls_text.specs.declared.name_id.NameId.{NameId}
 use Rattle.unit_ir.specs.declared.child_shape.ChildShape.{ChildShape}
 use Rattle.unit_ir.specs.declared.mention.Mention.{Mention}
-use Rattle.unit_ir.specs.Items.{PlacedItem}
 use Rattle.verilog_ast.specs.Items as i
 use Rattle.verilog_ast.specs.Items.{ModuleItem}
-use Rattle.verilog_ast.specs.Renaming.{statement_as, instance_as, item_as}
+use Rattle.verilog_ast.specs.Renaming.{instance_as, item_as}
 use Rattle.width_rules.specs.declared.writer.Writer.{Writer}
 use Rattle.width_rules.specs.Renaming.{MeansSame, fault_as}
 use Rattle.width_rules.specs.Scopes.{Meaning, Scope}

@@ -1,5 +1,5 @@
 -- The signals, the items and the unit of a module under other names: what each name's number becomes is told by a function.
-use Rattle.std.specs.Prelude.{map, Option}
+use Rattle.std.specs.Prelude.{map}
 use Rattle.std.specs.Option.{option_map}
 use Rattle.ls_text.specs.declared.name_id.NameId.{NameId}
 use Rattle.typed_ir.specs.Cycles.{Signal}
