@@ -54,7 +54,7 @@ pub with_turn_so : (f : NameId → NameId) (scope other : Scope) (turn : Option 
 with_turn_so f scope other None apart same = same
 with_turn_so f scope other (Some t) apart same = turn_so f scope other t.genvar t.value apart same
 
-all_declared_so : (f : NameId → NameId) (scope other : Scope) (m : Meaning) (ns : List Identifier) → KeepsApart f → MeansSame f scope other
+pub all_declared_so : (f : NameId → NameId) (scope other : Scope) (m : Meaning) (ns : List Identifier) → KeepsApart f → MeansSame f scope other
     → MeansSame f (all_declared m ns scope) (all_declared m (map (renamed_identifier f) ns) other)
 all_declared_so f scope other m [] apart same = same
 all_declared_so f scope other m (n ∷ ns) apart same =
@@ -66,7 +66,7 @@ pub names_so : {A : Type 0} (f : NameId → NameId) (name : A → Identifier) (m
 names_so f name moved is [] = refl
 names_so f name moved is (x ∷ xs) = ap₂ (λ (n : Identifier) (ns : List Identifier). n ∷ ns) (is x) (names_so f name moved is xs)
 
-parts_so : {A : Type 0} (f : NameId → NameId) (scope other : Scope) (m : Meaning) (name : A → Identifier) (moved : A → A) → ((x : A) → name (moved x) ≡ renamed_identifier f (name x))
+pub parts_so : {A : Type 0} (f : NameId → NameId) (scope other : Scope) (m : Meaning) (name : A → Identifier) (moved : A → A) → ((x : A) → name (moved x) ≡ renamed_identifier f (name x))
     → (xs : List A) → KeepsApart f → MeansSame f scope other → MeansSame f (all_declared m (map name xs) scope) (all_declared m (map name (map moved xs)) other)
 parts_so f scope other m name moved is xs apart same x =
     ap (λ (ns : List Identifier). all_declared m ns other (f x).0) (names_so f name moved is xs) ∙ all_declared_so f scope other m (map name xs) apart same x
@@ -92,7 +92,7 @@ item_names_so f scope other (i.Conditional xs) apart same = same
 item_names_so f scope other (i.Branch at c label xs) apart same = same
 item_names_so f scope other i.NoItem apart same = same
 
-port_name_so : (f : NameId → NameId) (p : PortDeclaration) → port_name (port_as f p) ≡ renamed_identifier f (port_name p)
+pub port_name_so : (f : NameId → NameId) (p : PortDeclaration) → port_name (port_as f p) ≡ renamed_identifier f (port_name p)
 port_name_so f (InputPort at by k n) = refl
 port_name_so f (OutputPort at by k x) = refl
 port_name_so f (NextPort x) = refl

@@ -23,7 +23,7 @@ around_so : (f : NameId → NameId) (all : List Standing) (k : Option ℕ) → b
 around_so f all None = refl
 around_so f all (Some k) = blocks_so f all k
 
-called_so : (f : NameId → NameId) (texts others : List (List ℕ)) (all : List Standing) (s : Standing) → SpellsSame f texts others
+pub called_so : (f : NameId → NameId) (texts others : List (List ℕ)) (all : List Standing) (s : Standing) → SpellsSame f texts others
     → called others (map (standing_as f) all) (standing_as f s) ≡ called texts all s
 called_so f texts others all s same =
     ap (λ (bs : List GenerateBlock). spoken others bs s.block (f s.name.name).0) (around_so f all s.parent)

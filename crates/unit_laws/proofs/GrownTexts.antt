@@ -28,7 +28,7 @@ module _ (old new : List (List ℕ)) (grows : Grows old new) where
   parameters_kept (n ∷ ns) [] all = refl
   parameters_kept (n ∷ ns) (c ∷ cs) all =
       ap₂ (λ (name more : List ℕ).
-          (codes "param " ++ name ++ shape_text c.bits.width c.signed ++ codes " " ++ hex_text c.bits.value ++ line_end) ++ more)
+      (codes "param " ++ name ++ shape_text c.bits.width c.signed ++ codes " " ++ hex_text c.bits.value ++ line_end) ++ more)
       (name_kept n.name (All-head (IsConstantNamed old) n ns all))
       (parameters_kept ns cs (All-tail (IsConstantNamed old) n ns all))
 
@@ -64,8 +64,8 @@ module _ (old new : List (List ℕ)) (grows : Grows old new) where
   text_kept job h =
       let names = constants_of (declaration_of job.module.value.body) in
       ap (λ (parameters : List ℕ). job.module.value.spelling ++ line_end ++ parameters ++ clock_line new job.clock
-          ++ flat_map (child_lines new) job.children)
+      ++ flat_map (child_lines new) job.children)
       (parameters_kept names job.parameters (constants_named old job.module.value h.spelled))
       ∙ ap₂ (λ (clock children : List ℕ). job.module.value.spelling ++ line_end ++ parameter_lines old names job.parameters
-          ++ (codes "clock " ++ clock ++ line_end) ++ children)
+      ++ (codes "clock " ++ clock ++ line_end) ++ children)
       (clock_kept job.clock h.clock) (children_kept job.children h.children)

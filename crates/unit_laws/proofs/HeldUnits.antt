@@ -1,5 +1,7 @@
 -- What a registry holds under a table of names stays so, and gives the units of jobs.
-use Rattle.std.proofs.Common.{Global, ◌≡◌, ℕ, Bool, true, false, cond, List, [], ◌∷◌, ◌++◌, All, take, Some, Result, Ok, Err, refl, sym, ap, subst, ◌∙◌}
+use Rattle.std.proofs.Common.{◌≡◌, ℕ, Bool, true, false, ◌&&◌, cond, List, [], ◌∷◌, ◌++◌, All, take, Some, Result, Ok, Err}
+use Rattle.std.proofs.Common.{refl, sym, ap, ap₂, subst, ◌∙◌}
+use Rattle.std.specs.Global.{Global}
 use Rattle.std.specs.List.{AllZip}
 use Rattle.std.specs.Str.{bytes_eq}
 use Rattle.std.specs.declared.sync.Arc.{Arc}
@@ -17,6 +19,7 @@ use Rattle.module_registry.specs.Building.{Built, built_all, ◌>>=◌}
 use Rattle.module_registry.specs.Entries.{Entry, keys_of, is_among, if_missing, missing, entries, ensured, unit_under}
 use Rattle.module_registry.specs.Jobs.{job_text}
 use Rattle.module_registry.specs.Keys.{KeyData, same, jobs_of}
+use Rattle.module_registry.specs.KeyLaws.{same_laws}
 use Rattle.module_registry.specs.UnitViews.{shared_unit}
 use Rattle.module_registry.proofs.Making.{more_hold}
 use Rattle.unit_build.specs.Building.{built}
@@ -129,6 +132,14 @@ grown_held old new es grows h = record {
 one_text : (x y : KeyData) → same x y ≡ true → x.text ≡ y.text
 one_text x y is = (bytes_eq-Decides x.text y.text).0 (and_parts (bytes_eq x.digest y.digest) (bytes_eq x.text y.text) is).1
 
+-- keys of one text are equal
+pub one_key : (names : List (List ℕ)) (x y : KeyData) → IsKeyUnder names x → IsKeyUnder names y → job_text names x.job ≡ job_text names y.job
+    → same x y ≡ true
+one_key names x y h g is =
+    let texts : x.text ≡ y.text = h.text ∙ is ∙ sym g.text in
+    let digests : x.digest ≡ y.digest = h.digest ∙ ap sha256 texts ∙ sym g.digest in
+    ap₂ (λ (d t : List ℕ). bytes_eq x.digest d && bytes_eq x.text t) (sym digests) (sym texts) ∙ same_laws.refl x
+
 module _ (names : List (List ℕ)) (once : HasEachOnce names) where
   module _ (k : KeyData) (job : BuildJob) (u : Built) (under : IsJobUnder names job) (text : k.text ≡ job_text names job) where
     held_for : (e : Entry) → IsHeldUnder names e → same k e.key ≡ true → e.unit ≡ u → built job ≡ Ok u
@@ -157,7 +168,8 @@ module _ (names : List (List ℕ)) (once : HasEachOnce names) where
   units_of_jobs es (k ∷ ks) [] h keys jobs are = absurd cc
   units_of_jobs es (k ∷ ks) (u ∷ us) h keys jobs are =
       let here : Some (shared_unit u) ≡ unit_under k es = cc in
-      let rest : AreUnder es ks us = cc in
-      (unit_of_job es k k.job (shared_unit u) h (All-head (IsJobUnder names) k.job (jobs_of ks) jobs)
-          (All-head (IsKeyUnder names) k ks keys).text (sym here),
-      units_of_jobs es ks us h (All-tail (IsKeyUnder names) k ks keys) (All-tail (IsJobUnder names) k.job (jobs_of ks) jobs) rest)
+      let rest : AreUnder es ks us = cc in (
+        unit_of_job es k k.job (shared_unit u) h (All-head (IsJobUnder names) k.job (jobs_of ks) jobs)
+            (All-head (IsKeyUnder names) k ks keys).text (sym here),
+        units_of_jobs es ks us h (All-tail (IsKeyUnder names) k ks keys) (All-tail (IsJobUnder names) k.job (jobs_of ks) jobs) rest,
+      )

@@ -1,5 +1,5 @@
 // What a registry holds under a table of names, and that what is linked of it is the flat design.
-ghost use Rattle.std.specs.Prelude.{◌≡◌, ℕ, List, [], map, take, Ok, Some, IsTrue};
+ghost use Rattle.std.specs.Prelude.{◌≡◌, ℕ, true, List, [], map, take, Ok, Some, IsTrue};
 ghost use Rattle.std.specs.Global.{Global};
 ghost use Rattle.std.specs.List.{All, AllZip};
 ghost use Rattle.std.specs.declared.result.Result.{Result};
@@ -19,7 +19,7 @@ ghost use Rattle.module_registry.specs.declared.build_job.BuildJob.{BuildJob};
 ghost use Rattle.module_registry.specs.Building.{Built};
 ghost use Rattle.module_registry.specs.Entries.{Entry, ensured, unit_under};
 ghost use Rattle.module_registry.specs.Jobs.{job_text};
-ghost use Rattle.module_registry.specs.Keys.{KeyData, jobs_of};
+ghost use Rattle.module_registry.specs.Keys.{KeyData, same, jobs_of};
 ghost use Rattle.unit_build.specs.Building.{built};
 ghost use Rattle.job_laws.specs.JobUnits.{IsUnitOf};
 ghost use Rattle.unit_laws.specs.Held.{AreHeldUnder, AreUnder, IsKeyUnder};
@@ -46,7 +46,8 @@ pub fn registries_stay_held()
 {}
 
 /// The unit that such a registry gives under a key with the text of a job is the one that building gives for this job, whatever job the
-/// key was held with. So the units that it gives under the keys of jobs are those of the jobs.
+/// key was held with. So the units that it gives under the keys of jobs are those of the jobs. Keys of jobs of one text are equal, so no text
+/// is held twice.
 #[tactic(none)]
 pub fn held_units_are_those_of_their_jobs()
     ensures unit { (names : List (List ℕ)) (es : List Entry) (k : KeyData) (job : BuildJob) (u : Built) → HasEachOnce names
@@ -54,6 +55,8 @@ pub fn held_units_are_those_of_their_jobs()
     ensures units { (names : List (List ℕ)) (es : List Entry) (keys : List KeyData) (units : List (Arc ModuleUnit Global))
         → HasEachOnce names → AreHeldUnder names es → All (IsKeyUnder names) keys → All (IsJobUnder names) (jobs_of keys)
         → AreUnder es keys units → AllZip IsUnitOf (jobs_of keys) (all_parts units) }
+    ensures equal { (names : List (List ℕ)) (x y : KeyData) → IsKeyUnder names x → IsKeyUnder names y
+        → job_text names x.job ≡ job_text names y.job → same x y ≡ true }
 {}
 
 /// The jobs of a design are jobs under the table of names behind them, so their keys may be ensured. The units that a registry then gives under

@@ -1,4 +1,4 @@
-use Rattle.unit_laws.proofs.HeldUnits.{unit_of_job, units_of_jobs}
+use Rattle.unit_laws.proofs.HeldUnits.{one_key, unit_of_job, units_of_jobs}
 use Rattle.unit_laws.proofs.held_laws.held_units_are_those_of_their_jobs.Goals as goal
 
 pub returns-clause-unit : goal.returns-clause-unit
@@ -6,3 +6,6 @@ returns-clause-unit c names es k job u once h under text found = unit_of_job nam
 
 pub returns-clause-units : goal.returns-clause-units
 returns-clause-units c names es keys units once h made jobs are = units_of_jobs names once es keys units h made jobs are
+
+pub returns-clause-equal : goal.returns-clause-equal
+returns-clause-equal c = one_key

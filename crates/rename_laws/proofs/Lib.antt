@@ -1,0 +1,13 @@
+pub mod RenamedSignals
+pub mod RenamedTables
+pub mod RenamedUnitReaches
+pub mod RenamedMentions
+pub mod RenamedForms
+pub mod RenamedValueItems
+pub mod RenamedConnections
+pub mod RenamedItems
+pub mod RenamedDrivers
+pub mod RenamedWalks
+pub mod RenamedSteps
+pub mod RenamedBuilt
+pub mod RenamedJobs
