@@ -55,12 +55,13 @@ found_later false u v o isnt is = is
 
 found_in : (k : KeyData) (es : List Entry) → is_among k (keys_of es) ≡ true → IsFoundIn k es
 found_in k [] among = absurd (true≢false (sym among))
-found_in k (e ∷ es) among = cases (same k e.key) refl among
+found_in k (e ∷ es) among = cases (found_in k es) (same k e.key) refl among
   where
-    cases : (b : Bool) → same k e.key ≡ b → cond b true (is_among k (keys_of es)) ≡ true → IsFoundIn k (e ∷ es)
-    cases true is more = record { unit = e.unit; is = found_first (same k e.key) e.unit (unit_under k es) is }
-    cases false is more =
-        let later = found_in k es more in
+    cases : (is_among k (keys_of es) ≡ true → IsFoundIn k es) → (b : Bool) → same k e.key ≡ b → cond b true (is_among k (keys_of es)) ≡ true
+        → IsFoundIn k (e ∷ es)
+    cases rest true is more = record { unit = e.unit; is = found_first (same k e.key) e.unit (unit_under k es) is }
+    cases rest false is more =
+        let later = rest more in
         record { unit = later.unit; is = found_later (same k e.key) e.unit later.unit (unit_under k es) is later.is }
 
 -- all jobs have units
@@ -104,15 +105,15 @@ module _ (names : List (List ℕ)) (once : HasEachOnce names) (es : List Entry) 
   pub fault_of_all : (ks : List KeyData) (f : Fault) → All (IsKeyUnder names) ks → All (IsJobUnder names) (jobs_of ks)
       → built_all built (jobs_of (missing (keys_of es) ks)) ≡ Err f → built_all built (jobs_of ks) ≡ Err f
   fault_of_all [] f made under is = is
-  fault_of_all (k ∷ ks) f made under is = cases (is_among k (keys_of es)) refl is
+  fault_of_all (k ∷ ks) f made under is =
+      cases (fault_of_all ks f (All-tail (IsKeyUnder names) k ks made) (All-tail (IsJobUnder names) k.job (jobs_of ks) under))
+      (is_among k (keys_of es)) refl is
     where
-      next : built_all built (jobs_of (missing (keys_of es) ks)) ≡ Err f → built_all built (jobs_of ks) ≡ Err f
-      next = fault_of_all ks f (All-tail (IsKeyUnder names) k ks made) (All-tail (IsJobUnder names) k.job (jobs_of ks) under)
-
-      cases : (b : Bool) → is_among k (keys_of es) ≡ b → built_all built (jobs_of (cond b [] (k ∷ []) ++ missing (keys_of es) ks)) ≡ Err f
+      cases : (built_all built (jobs_of (missing (keys_of es) ks)) ≡ Err f → built_all built (jobs_of ks) ≡ Err f)
+          → (b : Bool) → is_among k (keys_of es) ≡ b → built_all built (jobs_of (cond b [] (k ∷ []) ++ missing (keys_of es) ks)) ≡ Err f
           → built_all built (jobs_of (k ∷ ks)) ≡ Err f
-      cases true among fault =
+      cases next true among fault =
           let here = key_built k (All-head (IsKeyUnder names) k ks made) (All-head (IsJobUnder names) k.job (jobs_of ks) under) among in
           behind_ok (built k.job) here.unit (built_all built (jobs_of ks)) f here.is (next fault)
-      cases false among fault =
+      cases next false among fault =
           same_first (built k.job) (built_all built (jobs_of (missing (keys_of es) ks))) (built_all built (jobs_of ks)) f next fault

@@ -1,9 +1,11 @@
 -- The first of equal keys, and of jobs of one text.
-use Rattle.std.proofs.Common.{◌≡◌, ℕ, Bool, true, false, cond, ◌&&◌, List, [], ◌∷◌, ◌++◌, All, map, refl, sym, ◌∙◌, ap, ap₂, subst, true≢false}
+use Rattle.std.proofs.Common.{◌≡◌, ℕ, Bool, true, false, cond, ◌&&◌, ◌||◌, List, [], ◌∷◌, ◌++◌, All, map, refl, sym, ◌∙◌, ap, ap₂, subst, true≢false}
 use Rattle.std.proofs.lemmas.List.{map_push}
 use Rattle.std.proofs.lemmas.List.Elements.{All-nil, All-cons, All-head, All-tail, All-push}
 use Rattle.std.proofs.lemmas.Slice.Eq.{bytes_eq-Decides}
 use Rattle.std.specs.Str.{bytes_eq}
+use Rattle.std.specs.List.{list_any}
+use Rattle.indexmap.specs.IndexSet.{insert_key}
 use Rattle.sha2.specs.Sha256.{sha256}
 use Rattle.module_registry.specs.declared.build_job.BuildJob.{BuildJob}
 use Rattle.module_registry.specs.Entries.{is_among}
@@ -12,6 +14,20 @@ use Rattle.module_registry.specs.KeyLaws.{same_laws}
 use Rattle.module_registry.specs.Keys.{KeyData, same, jobs_of}
 use Rattle.module_registry.proofs.News.{among_both}
 use Rattle.version_swap.specs.FirstKeys.{is_text_among, with_job, first_jobs, key_of, with_key, first_keys}
+
+-- ---- a key that a set takes in
+
+either_so : (a b : Bool) → (a || b) ≡ cond a true b
+either_so true b = refl
+either_so false b = refl
+
+among_any : (k : KeyData) (ks : List KeyData) → list_any (same k) ks ≡ is_among k ks
+among_any k [] = refl
+among_any k (h ∷ hs) = either_so (same k h) (list_any (same k) hs) ∙ ap (λ (b : Bool). cond (same k h) true b) (among_any k hs)
+
+pub taken_in : (k copy : KeyData) (ks new : List KeyData) → copy ≡ k → new ≡ insert_key same ks copy → new ≡ with_key ks k
+taken_in k copy ks new is_copy is =
+    is ∙ ap (insert_key same ks) is_copy ∙ ap (λ (b : Bool). cond b ks (ks ++ k ∷ [])) (among_any k ks)
 
 -- ---- keys of jobs are the same where the jobs have one text
 
@@ -94,11 +110,11 @@ module _ (held : List KeyData) where
   -- a key is held that is among held ones
   among_held : (k : KeyData) (ks : List KeyData) → is_among k ks ≡ true → All IsHeld ks → IsHeld k
   among_held k [] is all = absurd (true≢false (sym is))
-  among_held k (h ∷ hs) is all = cases (same k h) refl is
+  among_held k (h ∷ hs) is all = cases (λ found. among_held k hs found (All-tail IsHeld h hs all)) (same k h) refl is
     where
-      cases : (b : Bool) → same k h ≡ b → cond b true (is_among k hs) ≡ true → IsHeld k
-      cases true eq found = same_among k h held eq ∙ All-head IsHeld h hs all
-      cases false eq found = among_held k hs found (All-tail IsHeld h hs all)
+      cases : (is_among k hs ≡ true → IsHeld k) → (b : Bool) → same k h ≡ b → cond b true (is_among k hs) ≡ true → IsHeld k
+      cases rest true eq found = same_among k h held eq ∙ All-head IsHeld h hs all
+      cases rest false eq found = rest found
 
   kept : (b : Bool) (ks : List KeyData) (k : KeyData) → All IsHeld (cond b ks (ks ++ k ∷ [])) → All IsHeld ks
   kept true ks k all = all

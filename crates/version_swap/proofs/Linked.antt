@@ -44,7 +44,7 @@ keys_under names (j ∷ js) =
 
 module _ (words : List (List ℕ)) (files : List SourceFile) (name : Option NameId) (clock : NameId) (xs : List Instance) (js : List BuildJob)
     (x : IsFoundUnder words files name clock xs js) where
-  tables : NameTables
+  abbrev tables : NameTables
   tables = record { texts = x.found.texts; known = x.found.known; others = x.found.known; words = words }
 
   pub jobs_under : All (IsJobUnder words) js

@@ -87,3 +87,10 @@ module _ (names new : List (List ℕ)) (files : List SourceFile) (s : List Token
   pub parse_known : (r : Result (Vec Module Global) Refusal) → IfErr r (Refuses file s) → IfErr r (CanShow (length new))
   parse_known (Ok ms) is = tt
   parse_known (Err e) is = subst (λ (t : List (List ℕ)). CanShow (length t) e) (sym table) (grammar_known (length names) s are.named e is)
+
+-- the tokens of a vector, which was handed to the parser as a slice
+pub handed_over : (names : List (List ℕ)) (files : List SourceFile) (tokens slice : List Token) → slice ≡ tokens
+    → file_tokens files ≡ Ok (map (said names) tokens) → (pieces : List Piece) × Reads files pieces (Ok (map (said names) tokens))
+    → All (IsNamed (length names)) tokens → EndsOnce tokens → AreTokens names files slice
+handed_over names files tokens slice same read reads named ends =
+    subst (AreTokens names files) (sym same) (record { read = read; reads = reads; named = named; ends = ends })

@@ -1,7 +1,7 @@
 // From files to the instances of their design, and the jobs of these.
 ghost use Rattle.std.specs.Prelude.{◌≡◌, ◌≤◌, length, IfOk, IfErr};
 ghost use Rattle.std.specs.List.{All};
-ghost use Rattle.ls_text.specs.Texts.{Grows};
+ghost use Rattle.ls_text.specs.Texts.{Grows, HasEachOnce};
 ghost use Rattle.version_swap.specs.FoundUnder.{IsNumberOf, IsFoundUnder};
 ghost use Rattle.version_swap.specs.Plans.{IsPlanRefusal};
 
@@ -23,6 +23,13 @@ fn top_number(names: &mut Names, top: Option<NameId>) -> Result<NameId, NoMemory
     }
 }
 
+// A table of names says of its texts that no two are equal.
+fn ask_once(names: &Names)
+    ensures { HasEachOnce names.now }
+{
+    let _text = names.text(NameId(0));
+}
+
 /// The instances of the design of files, and the job of each, or the first fault: of the texts, and then of elaboration.
 pub fn found(
     alloc: Global,
@@ -41,5 +48,6 @@ pub fn found(
     let modules = modules_of(alloc, names, files)?;
     let tree = elaborate(alloc, names, &modules, number, clock)?;
     let jobs = jobs_of(alloc, names, modules, &tree)?;
+    ask_once(names);
     Ok(Found { tree, jobs })
 }

@@ -12,9 +12,13 @@ pub struct KeyList {
 
 impl Model for KeyList {
     ghost use Rattle.std.specs.Prelude.{List};
+    ghost use Rattle.std.specs.Coded.{codes};
+    ghost use Rattle.module_registry.specs.contracts.build_job.BuildJob.{the_row as build_row};
     ghost use Rattle.module_registry.specs.Keys.{KeyData};
 
     ghost Value = { List KeyData };
+
+    ghost coded = { Prim.hlevel (codes, build_row.coded) };
 
     ghost view = { λ l. l.keys.items };
 }

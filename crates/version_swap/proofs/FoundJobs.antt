@@ -19,7 +19,7 @@ use Rattle.unit_ir.specs.declared.instance.Instance.{Instance}
 use Rattle.elaborate.specs.Elaborated.{Standing, elaborated}
 use Rattle.elaborate.specs.Trees.{TreeInstance, all_seen, tree}
 use Rattle.elaborate.specs.TreeViews.{instance_view, language_limits}
-use Rattle.gen_unroll.specs.Values.{◌>>=◌}
+use Rattle.gen_unroll.specs.Values.{Answers, ◌>>=◌}
 use Rattle.module_registry.specs.declared.build_job.BuildJob.{BuildJob}
 use Rattle.unit_jobs.specs.Jobs.{InstanceJob, tree_jobs}
 use Rattle.unit_jobs.specs.JobViews.{job_view}
@@ -48,12 +48,13 @@ text_planned names files name clock few refusal.NoMemory is = tt
 none_called : (names : List (List ℕ)) (n : ℕ) (ds : List ModuleDeclaration) → All (IsModuleNamed (IsNameWord names)) ds → text_at names n ≡ []
     → module_named n ds ≡ None
 none_called names n [] named empty = refl
-none_called names n (d ∷ ds) named empty = cases (n == d.name.name.0) refl
+none_called names n (d ∷ ds) named empty =
+    cases (none_called names n ds (All-tail (IsModuleNamed (IsNameWord names)) d ds named) empty) (n == d.name.name.0) refl
   where
-    cases : (b : Bool) → (n == d.name.name.0) ≡ b → cond b (Some d) (module_named n ds) ≡ None
-    cases true is =
+    cases : module_named n ds ≡ None → (b : Bool) → (n == d.name.name.0) ≡ b → cond b (Some d) (module_named n ds) ≡ None
+    cases rest true is =
         absurd ((All-head (IsModuleNamed (IsNameWord names)) d ds named).0.some (ap (text_at names) (sym (eqb-true n d.name.name.0 is)) ∙ empty))
-    cases false is = none_called names n ds (All-tail (IsModuleNamed (IsNameWord names)) d ds named) empty
+    cases rest false is = rest
 
 top_is : (old names : List (List ℕ)) (name : Option NameId) (n : ℕ) (ms : List Module) → IsNumberOf old name n → Grows old names
     → All (IsSpelledUnder names) ms → IsTop name (declarations_of ms) n
@@ -78,17 +79,30 @@ module _ (before texts : List (List ℕ)) (files : List SourceFile) (name : Opti
       cases (Ok all) is = absurd cc
       cases (Err e) is = cc
 
-  pub tree_refused : (known : List (List ℕ)) → Grows texts known → (f : Fault) → tree language_limits texts (declarations_of ms) n clock.0 ≡ Err f
+  tree_refused : (known : List (List ℕ)) → Grows texts known → (f : Fault) → tree language_limits texts (declarations_of ms) n clock.0 ≡ Err f
       → Plans known files name clock (Err (fault_view known f))
   tree_refused known grows f is = plans.at_tree has_modules grows (not_elaborated known f is)
+
+  -- a refusal of elaboration, which was handed the modules as a slice
+  pub tree_planned : {A : Type 0} (view : A → List TreeInstance) (slice : List Module) (known : List (List ℕ)) → slice ≡ ms → Grows texts known
+      → (e : Refusal) → Answers (Err e) view (tree language_limits texts (declarations_of slice) n clock.0) → IsPlanRefusal known files name clock e
+  tree_planned view slice known same grows (refusal.Fault f) is =
+      tree_refused known grows f
+      (subst (λ (zs : List Module). tree language_limits texts (declarations_of zs) n clock.0 ≡ Err f) same is)
+  tree_planned view slice known same grows refusal.NoMemory is = tt
 
   module _ (known : List (List ℕ)) (xs : List Instance) (grown : Grows texts known)
       (is : tree language_limits texts (declarations_of ms) n clock.0 ≡ Ok (map (instance_view known) xs)) where
     -- jobs are never refused
-    pub jobs_there : (f : Fault) → tree_jobs known ms xs ≡ Err f → ⊥
+    jobs_there : (f : Fault) → tree_jobs known ms xs ≡ Err f → ⊥
     jobs_there f refused =
         let there = tree_has_jobs language_limits texts known known ms n clock.0 xs language_turns is in
         let both : Ok there.0 ≡ Err f = sym there.1 ∙ refused in cc
+
+    pub jobs_planned : {A : Type 0} (view : A → List InstanceJob) (names : List (List ℕ)) (e : Refusal)
+        → Answers (Err e) view (tree_jobs known ms xs) → IsPlanRefusal names files name clock e
+    jobs_planned view names (refusal.Fault f) is = absurd (jobs_there f is)
+    jobs_planned view names refusal.NoMemory is = tt
 
     pub is_found : (names : List (List ℕ)) (js : List BuildJob) → Grows known names → tree_jobs known ms xs ≡ Ok (map (job_view names) js)
         → All (HasNamesIn names) js → HasEachOnce names → IsFoundUnder names files name clock xs js
