@@ -1,5 +1,5 @@
 -- What the files of a version come to, by what its steps answer.
-use Rattle.std.proofs.Common.{Global, ◌≡◌, ℕ, true, List, [], ◌∷◌, ◌++◌, All, map, length, take, refl, sym, ◌∙◌, ap, subst, arith, inl, inr}
+use Rattle.std.proofs.Common.{Global, ◌≡◌, ◌<◌, ℕ, true, List, [], ◌∷◌, ◌++◌, All, map, length, take, refl, sym, ◌∙◌, ap, subst, arith, inl, inr}
 use Rattle.std.specs.Prelude.{Option, Result, Ok, Err}
 use Rattle.std.specs.declared.sync.Arc.{Arc}
 use Rattle.std.proofs.lemmas.List.{append-nil, take-append-le}
@@ -34,7 +34,7 @@ use Rattle.cycle_eval.specs.Words.{IsTooMany}
 use Rattle.version_swap.specs.DesignFaults.{CanRun, IsDesignFault, not_linked, too_wide, IsDesignOfUnits, IsRefusedOfUnits}
 use Rattle.version_swap.specs.FirstKeys.{first_jobs, first_keys, key_of}
 use Rattle.version_swap.specs.FoundUnder.{IsFoundUnder}
-use Rattle.version_swap.specs.Made.{MadeBehind, none, all}
+use Rattle.version_swap.specs.Made.{MadeBehind, no_more, those}
 use Rattle.version_swap.specs.Plans as plans
 use Rattle.version_swap.specs.Plans.{AreCopies, IsPlanRefusal, Plans, too_many_fault}
 use Rattle.version_swap.proofs.Built.{ensured_same, ensured_fault, all_built, fault_of_all}
@@ -52,6 +52,13 @@ wide_fault : (names : List (List ℕ)) (f : Fault) → IsTooMany (refusal.Fault 
 wide_fault names f is =
     ap (λ (c : ℕ). viewed c f.at f.names names) is.0 ∙ ap (λ (a : At). viewed 40 a f.names names) is.1
     ∙ ap (λ (ids : List NameId). viewed 40 Edit ids names) is.2
+
+-- too many files
+pub many_planned : (names : List (List ℕ)) (xs files : List SourceFile) (name : Option NameId) (clock : NameId) (f : Fault) → xs ≡ files → 256 < length xs
+    → fault_view names f ≡ too_many_fault → Plans names files name clock (Err (fault_view names f))
+many_planned names xs files name clock f is many shown =
+    subst (λ (t : TextFault). Plans names files name clock (Err t)) (sym shown)
+    (plans.too_many (subst (λ (fs : List SourceFile). 256 < length fs) is many))
 
 -- ---- what was held is held first
 
@@ -124,18 +131,18 @@ module _ {words : List (List ℕ)} {files : List SourceFile} {name : Option Name
   pub made_more : (held : List KeyData) (before after : List BuildJob) (slice : List KeyData) → slice ≡ first
       → after ≡ before ++ jobs_of (missing held slice) → MadeBehind files name clock held before after
   made_more held before after slice same is =
-      all h.known.found (is ∙ ap (λ (ks : List KeyData). before ++ jobs_of (missing held ks)) (same ∙ all_firsts))
+      those h.known.found (is ∙ ap (λ (ks : List KeyData). before ++ jobs_of (missing held ks)) (same ∙ all_firsts))
 
   pub made_at : (held : List KeyData) (before after : List BuildJob) (slice : List KeyData) → slice ≡ first → (e : Refusal)
       → MadeAt e before (jobs_of (missing held slice)) after → MadeBehind files name clock held before after
-  made_at held before after slice same (refusal.Fault f) is = none is
-  made_at held before after slice same refusal.NoMemory (inl is) = none is
+  made_at held before after slice same (refusal.Fault f) is = no_more is
+  made_at held before after slice same refusal.NoMemory (inl is) = no_more is
   made_at held before after slice same refusal.NoMemory (inr is) = made_more held before after slice same is
 
   module _ (es : List Entry) (held : AreHeldUnder words es) (builds : BuildJob → Result Built Fault) (so : (job : BuildJob) → builds job ≡ built job)
       (slice : List KeyData) (same : slice ≡ first) where
     pub ensured_then : (new : List Entry) → ensured builds es slice ≡ Ok new → ensured built es first ≡ Ok new
-    ensured_then new is = sym (ensured_same builds so es first ∙ ap (ensured builds es) (sym same)) ∙ is
+    ensured_then new is = sym (ensured_same builds so es first) ∙ ap (ensured builds es) (sym same) ∙ is
 
     -- the registry holds units as before, and those that came in
     pub held_then : (new : List Entry) → ensured builds es slice ≡ Ok new → AreHeldUnder words new
@@ -147,7 +154,7 @@ module _ {words : List (List ℕ)} {files : List SourceFile} {name : Option Name
         plans.at_unit h.known.found (grows_none words)
         (ap (built_all built) (sym first_of)
         ∙ fault_of_all words h.known.known.once es held first f first_under first_jobs_under
-        (ensured_fault es first f (sym (ensured_same builds so es first ∙ ap (ensured builds es) (sym same)) ∙ is)))
+        (ensured_fault es first f (sym (ensured_same builds so es first) ∙ ap (ensured builds es) (sym same) ∙ is)))
     unit_refused refusal.NoMemory is = tt
 
   module _ (es : List Entry) (held : AreHeldUnder words es) (slice : List KeyData) (same : slice ≡ first)

@@ -12,6 +12,6 @@ use Rattle.version_swap.specs.Founds.{AreFound}
 -- no job more, or those of the keys that files come to and that weren't held, in their order
 pub data MadeBehind (files : List SourceFile) (name : Option NameId) (clock : NameId) (held : List KeyData) (before after : List BuildJob)
     : Type 0 where
-  none : after ≡ before → MadeBehind files name clock held before after
-  all : {words : List (List ℕ)} {xs : List Instance} {js : List BuildJob} → AreFound words files name clock xs js
+  no_more : after ≡ before → MadeBehind files name clock held before after
+  those : {words : List (List ℕ)} {xs : List Instance} {js : List BuildJob} → AreFound words files name clock xs js
       → after ≡ before ++ jobs_of (missing held (first_keys [] (map (key_of words) js))) → MadeBehind files name clock held before after
