@@ -32,7 +32,7 @@ returns-in_err-jobs-clause-refused c =
     let known = c.elaborate.new.names in
     let xs = c.in_ok-tree.tree.instances.items in
     let there = subst (λ (zs : List Module). tree language_limits c.modules_of.new.names (declarations_of zs) c.in_ok-number.number.0 c.args.clock.0
-        ≡ Ok (map (instance_view known) xs)) c.deref.ensures.value c.in_ok-tree.ensures.tree in
+    ≡ Ok (map (instance_view known) xs)) c.deref.ensures.value c.in_ok-tree.ensures.tree in
     handed (IsPlanRefusal c.jobs_of.new.names c.args.files.now c.args.top c.args.clock) c.from_residual-in_err-jobs.result
     c.in_err-jobs.field-0.0 c.from_residual-in_err-jobs.ensures.1
     (jobs_planned c.top_number.new.names c.modules_of.new.names c.args.files.now c.args.top c.args.clock c.in_ok-modules.modules.items
@@ -45,7 +45,7 @@ returns-clause-found c =
     let known = c.elaborate.new.names in
     let xs = c.in_ok-tree.tree.instances.items in
     let there = subst (λ (zs : List Module). tree language_limits c.modules_of.new.names (declarations_of zs) c.in_ok-number.number.0 c.args.clock.0
-        ≡ Ok (map (instance_view known) xs)) c.deref.ensures.value c.in_ok-tree.ensures.tree in
+    ≡ Ok (map (instance_view known) xs)) c.deref.ensures.value c.in_ok-tree.ensures.tree in
     is_found c.top_number.new.names c.modules_of.new.names c.args.files.now c.args.top c.args.clock c.in_ok-modules.modules.items
     c.in_ok-number.number.0 c.requires.files m.modules m.spelled c.in_ok-number.ensures.number m.grows known xs c.in_ok-tree.ensures.grows there
     c.jobs_of.new.names c.in_ok-jobs.jobs.items c.in_ok-jobs.ensures.grows c.in_ok-jobs.ensures.jobs c.in_ok-jobs.ensures.named c.ask_once.ensures

@@ -26,7 +26,7 @@ pub returns-in_err-counts-clause-refused : goal.returns-in_err-counts-clause-ref
 returns-in_err-counts-clause-refused g c =
     let es = entries_of c.args.registry.now in
     let h = has_keys c.in_ok-keys.keys.items c.deref.result.now c.in_ok-first.first.items c.in_ok-found.ensures.found c.deref.ensures.value
-        c.in_ok-keys.ensures c.in_ok-first.ensures.first in
+    c.in_ok-keys.ensures c.in_ok-first.ensures.first in
     handed (IsPlanRefusal c.found.new.names c.args.files.now c.args.top c.args.clock) c.from_residual-in_err-counts.result
     c.in_err-counts.field-0.0 c.from_residual-in_err-counts.ensures.1
     (unit_refused h es (grown_held c.args.names.now c.found.new.names es c.in_ok-found.ensures.grows c.requires.held) g.F.Forge.builds
@@ -42,7 +42,7 @@ pub returns-in_err-counts-clause-made_behind : goal.returns-in_err-counts-clause
 returns-in_err-counts-clause-made_behind g c =
     let held = keys_of (entries_of c.args.registry.now) in
     let h = has_keys c.in_ok-keys.keys.items c.deref.result.now c.in_ok-first.first.items c.in_ok-found.ensures.found c.deref.ensures.value
-        c.in_ok-keys.ensures c.in_ok-first.ensures.first in
+    c.in_ok-keys.ensures c.in_ok-first.ensures.first in
     handed (λ e. MadeBehind c.args.files.now c.args.top c.args.clock held (g.F.Forge.made c.args.forge.now) (g.F.Forge.made c.ensure.new.forge))
     c.from_residual-in_err-counts.result c.in_err-counts.field-0.0 c.from_residual-in_err-counts.ensures.1
     (made_at h held (g.F.Forge.made c.args.forge.now) (g.F.Forge.made c.ensure.new.forge) c.deref-2.result.now c.deref-2.ensures.value
@@ -53,9 +53,9 @@ of_units-requires-clause-among g c =
     let es = entries_of c.args.registry.now in
     let new = entries_of c.ensure.new.self in
     let h = has_keys c.in_ok-keys.keys.items c.deref.result.now c.in_ok-first.first.items c.in_ok-found.ensures.found c.deref.ensures.value
-        c.in_ok-keys.ensures c.in_ok-first.ensures.first in
+    c.in_ok-keys.ensures c.in_ok-first.ensures.first in
     let held = held_then h es (grown_held c.args.names.now c.found.new.names es c.in_ok-found.ensures.grows c.requires.held) g.F.Forge.builds
-        c.requires.builds c.deref-2.result.now c.deref-2.ensures.value new c.in_ok-counts.ensures.held in
+    c.requires.builds c.deref-2.result.now c.deref-2.ensures.value new c.in_ok-counts.ensures.held in
     all_among h new held c.deref-2.result.now c.deref-2.ensures.value c.in_ok-counts.ensures.all c.deref-3.result.now c.deref-3.ensures.value
 
 pub of_units-requires-clause-stand : goal.of_units-requires-clause-stand
@@ -63,9 +63,9 @@ of_units-requires-clause-stand g c =
     let es = entries_of c.args.registry.now in
     let new = entries_of c.ensure.new.self in
     let h = has_keys c.in_ok-keys.keys.items c.deref.result.now c.in_ok-first.first.items c.in_ok-found.ensures.found c.deref.ensures.value
-        c.in_ok-keys.ensures c.in_ok-first.ensures.first in
+    c.in_ok-keys.ensures c.in_ok-first.ensures.first in
     let held = held_then h es (grown_held c.args.names.now c.found.new.names es c.in_ok-found.ensures.grows c.requires.held) g.F.Forge.builds
-        c.requires.builds c.deref-2.result.now c.deref-2.ensures.value new c.in_ok-counts.ensures.held in
+    c.requires.builds c.deref-2.result.now c.deref-2.ensures.value new c.in_ok-counts.ensures.held in
     they_stand h new held c.deref-2.result.now c.deref-2.ensures.value c.in_ok-counts.ensures.all c.deref-3.result.now c.deref-3.ensures.value
 
 pub returns-in-Ok-clause-planned : goal.returns-in-Ok-clause-planned
@@ -73,16 +73,16 @@ returns-in-Ok-clause-planned g c =
     let es = entries_of c.args.registry.now in
     let new = entries_of c.ensure.new.self in
     let h = has_keys c.in_ok-keys.keys.items c.deref.result.now c.in_ok-first.first.items c.in_ok-found.ensures.found c.deref.ensures.value
-        c.in_ok-keys.ensures c.in_ok-first.ensures.first in
+    c.in_ok-keys.ensures c.in_ok-first.ensures.first in
     let held = held_then h es (grown_held c.args.names.now c.found.new.names es c.in_ok-found.ensures.grows c.requires.held) g.F.Forge.builds
-        c.requires.builds c.deref-2.result.now c.deref-2.ensures.value new c.in_ok-counts.ensures.held in
+    c.requires.builds c.deref-2.result.now c.deref-2.ensures.value new c.in_ok-counts.ensures.held in
     design_planned h new held c.deref-2.result.now c.deref-2.ensures.value c.in_ok-counts.ensures.all c.in_ok-found.found.tree.depth_first
     c.of_units.new.names c.in-Ok.ensures.grows c.deref-3.result.now c.deref-3.ensures.value (design_flat c.in-Ok.design) c.in-Ok.ensures.design
 
 pub returns-in-Ok-clause-keyed : goal.returns-in-Ok-clause-keyed
 returns-in-Ok-clause-keyed g c =
     let h = has_keys c.in_ok-keys.keys.items c.deref.result.now c.in_ok-first.first.items c.in_ok-found.ensures.found c.deref.ensures.value
-        c.in_ok-keys.ensures c.in_ok-first.ensures.first in
+    c.in_ok-keys.ensures c.in_ok-first.ensures.first in
     keyed h c.of_units.new.names c.in-Ok.ensures.grows
 
 pub returns-in-Ok-clause-held : goal.returns-in-Ok-clause-held
@@ -90,16 +90,16 @@ returns-in-Ok-clause-held g c =
     let es = entries_of c.args.registry.now in
     let new = entries_of c.ensure.new.self in
     let h = has_keys c.in_ok-keys.keys.items c.deref.result.now c.in_ok-first.first.items c.in_ok-found.ensures.found c.deref.ensures.value
-        c.in_ok-keys.ensures c.in_ok-first.ensures.first in
+    c.in_ok-keys.ensures c.in_ok-first.ensures.first in
     let held = held_then h es (grown_held c.args.names.now c.found.new.names es c.in_ok-found.ensures.grows c.requires.held) g.F.Forge.builds
-        c.requires.builds c.deref-2.result.now c.deref-2.ensures.value new c.in_ok-counts.ensures.held in
+    c.requires.builds c.deref-2.result.now c.deref-2.ensures.value new c.in_ok-counts.ensures.held in
     grown_held c.found.new.names c.of_units.new.names new c.in-Ok.ensures.grows held
 
 pub returns-in-Ok-clause-ensured : goal.returns-in-Ok-clause-ensured
 returns-in-Ok-clause-ensured g c =
     let es = entries_of c.args.registry.now in
     let h = has_keys c.in_ok-keys.keys.items c.deref.result.now c.in_ok-first.first.items c.in_ok-found.ensures.found c.deref.ensures.value
-        c.in_ok-keys.ensures c.in_ok-first.ensures.first in
+    c.in_ok-keys.ensures c.in_ok-first.ensures.first in
     ensured_then h es (grown_held c.args.names.now c.found.new.names es c.in_ok-found.ensures.grows c.requires.held) g.F.Forge.builds
     c.requires.builds c.deref-2.result.now c.deref-2.ensures.value (entries_of c.ensure.new.self) c.in_ok-counts.ensures.held
 
@@ -108,9 +108,9 @@ returns-clause-refused g c =
     let es = entries_of c.args.registry.now in
     let new = entries_of c.ensure.new.self in
     let h = has_keys c.in_ok-keys.keys.items c.deref.result.now c.in_ok-first.first.items c.in_ok-found.ensures.found c.deref.ensures.value
-        c.in_ok-keys.ensures c.in_ok-first.ensures.first in
+    c.in_ok-keys.ensures c.in_ok-first.ensures.first in
     let held = held_then h es (grown_held c.args.names.now c.found.new.names es c.in_ok-found.ensures.grows c.requires.held) g.F.Forge.builds
-        c.requires.builds c.deref-2.result.now c.deref-2.ensures.value new c.in_ok-counts.ensures.held in
+    c.requires.builds c.deref-2.result.now c.deref-2.ensures.value new c.in_ok-counts.ensures.held in
     design_refused h new held c.deref-2.result.now c.deref-2.ensures.value c.in_ok-counts.ensures.all c.in_ok-found.found.tree.depth_first
     c.of_units.new.names c.in-Err.ensures.grows c.deref-3.result.now c.deref-3.ensures.value c.in-Err.refusal c.in-Err.ensures.refused
 
@@ -119,7 +119,7 @@ returns-clause-stays g c =
     let es = entries_of c.args.registry.now in
     let new = entries_of c.ensure.new.self in
     let h = has_keys c.in_ok-keys.keys.items c.deref.result.now c.in_ok-first.first.items c.in_ok-found.ensures.found c.deref.ensures.value
-        c.in_ok-keys.ensures c.in_ok-first.ensures.first in
+    c.in_ok-keys.ensures c.in_ok-first.ensures.first in
     c.cut.ensures.entries ∙ ap (λ n. take n new) c.len-held.ensures.count
     ∙ first_held es new c.in_ok-first.first.items
     (ensured_then h es (grown_held c.args.names.now c.found.new.names es c.in_ok-found.ensures.grows c.requires.held) g.F.Forge.builds
@@ -131,7 +131,7 @@ returns-clause-held g c =
     let new = entries_of c.ensure.new.self in
     let grows = grows_on c.args.names.now c.found.new.names c.of_units.new.names c.in_ok-found.ensures.grows c.in-Err.ensures.grows in
     let h = has_keys c.in_ok-keys.keys.items c.deref.result.now c.in_ok-first.first.items c.in_ok-found.ensures.found c.deref.ensures.value
-        c.in_ok-keys.ensures c.in_ok-first.ensures.first in
+    c.in_ok-keys.ensures c.in_ok-first.ensures.first in
     same_held c.of_units.new.names es (entries_of c.cut.new.self) (grown_held c.args.names.now c.of_units.new.names es grows c.requires.held)
     (c.cut.ensures.entries ∙ ap (λ n. take n new) c.len-held.ensures.count
     ∙ first_held es new c.in_ok-first.first.items
@@ -142,6 +142,6 @@ pub returns-clause-made_behind : goal.returns-clause-made_behind
 returns-clause-made_behind g c =
     let held = keys_of (entries_of c.args.registry.now) in
     let h = has_keys c.in_ok-keys.keys.items c.deref.result.now c.in_ok-first.first.items c.in_ok-found.ensures.found c.deref.ensures.value
-        c.in_ok-keys.ensures c.in_ok-first.ensures.first in
+    c.in_ok-keys.ensures c.in_ok-first.ensures.first in
     made_more h held (g.F.Forge.made c.args.forge.now) (g.F.Forge.made c.ensure.new.forge) c.deref-2.result.now c.deref-2.ensures.value
     c.in_ok-counts.ensures.made
