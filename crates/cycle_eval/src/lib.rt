@@ -2,8 +2,8 @@
 //
 // `making` tests that a design's registers have room, `design` holds it, `inputs` writes a row's inputs, `cycle` settles the wires and applies
 // the updates, `run` is cycle after cycle from one state (`state`) to another, and `carrying` takes registers over from an older design:
-// `numbering` gives the paths of both numbers, and `places` finds registers by these. `as_machine` is the design as a machine; `input_tests`
-// are rows of inputs worked out by hand.
+// `numbering` gives the paths of both numbers, and `places` finds registers by these. `parts` are what a table of registers shows, and
+// `as_machine` is the design as a machine; `input_tests` are rows of inputs worked out by hand.
 #![tactic(auto)]
 
 mod as_machine;
@@ -19,6 +19,7 @@ mod no_row;
 mod numbered;
 mod numbering;
 mod numbers;
+mod parts;
 mod path_numbers;
 mod path_step;
 mod places;

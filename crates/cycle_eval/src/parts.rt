@@ -1,0 +1,31 @@
+// What of a design a table of its registers shows.
+ghost use Rattle.std.specs.Prelude.{◌≡◌, IsTrue, length};
+ghost use Rattle.typed_ir.specs.Flats.{are_below};
+ghost use Rattle.cycle_eval.specs.Designs.{design_flat, instances_of, signals_of};
+
+use crate::design::Design;
+use typed_ir::{InstanceName, Signal, SignalId};
+
+impl Design {
+    /// The instances, each behind the one that it stands in.
+    pub fn instances(&self) -> &[InstanceName]
+        ensures { result.now ≡ instances_of self.now }
+    {
+        &self.linked.design.instances.rows
+    }
+
+    /// The signals, each with the number of its instance.
+    pub fn signals(&self) -> &[Signal]
+        ensures { result.now ≡ signals_of self.now }
+    {
+        &self.linked.design.signals
+    }
+
+    /// The signals that are registers, in order.
+    pub fn registers(&self) -> &[SignalId]
+        ensures numbers { result.now ≡ (design_flat self.now).registers }
+        ensures there { IsTrue (are_below result.now (length (signals_of self.now))) }
+    {
+        &self.linked.design.registers
+    }
+}
