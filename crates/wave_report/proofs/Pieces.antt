@@ -1,5 +1,5 @@
 -- Pieces of a text behind one another.
-use Rattle.std.proofs.Common.{◌≡◌, ℕ, List, ◌++◌, append_assoc, sym, ◌∙◌, ap}
+use Rattle.std.proofs.Common.{◌≡◌, ℕ, List, ◌++◌, append_assoc, ◌∙◌, ap}
 
 pub two_pieces : (old a b mid new : List ℕ) → mid ≡ old ++ a → new ≡ mid ++ b → new ≡ old ++ (a ++ b)
 two_pieces old a b mid new one two = two ∙ ap (λ zs. zs ++ b) one ∙ append_assoc old a b

@@ -1,10 +1,9 @@
 -- Paths of instances and signals, name by name, and tables, register by register.
-use Rattle.std.proofs.Common.{◌≡◌, ℕ, zero, suc, ◌+◌, ◌<◌, ◌≤◌, List, [], ◌∷◌, ◌++◌, map, length, get_or, take, drop, append_assoc, refl, sym, ◌∙◌, ap, arith}
+use Rattle.std.proofs.Common.{◌≡◌, ℕ, zero, suc, ◌+◌, ◌<◌, ◌≤◌, List, [], ◌∷◌, ◌++◌, length, get_or, take, drop, append_assoc, refl, sym, ◌∙◌, ap, arith}
 use Rattle.std.specs.Prelude.{codes, slice_index_or}
 use Rattle.std.proofs.lemmas.List.{length-append, length-take-le, take-append-drop, get_or_append_left, get_or-append-add}
 use Rattle.ls_text.specs.Texts.{text_at}
 use Rattle.typed_ir.specs.declared.instance_name.InstanceName.{InstanceName}
-use Rattle.typed_ir.specs.Orders.{at_or}
 use Rattle.typed_ir.specs.Paths.{path_next, paths_from, paths_of}
 use Rattle.typed_ir.proofs.Lists.{drop_read}
 use Rattle.wave_report.specs.Tables.{dotted, joined}

@@ -1,5 +1,5 @@
 -- The lines that answer commands, but for tables and refusals: this project's own.
-use Rattle.std.specs.Prelude.{ℕ, List, [], ◌∷◌, ◌++◌, codes, decimal, length}
+use Rattle.std.specs.Prelude.{ℕ, List, ◌++◌, codes, decimal, length}
 use Rattle.std.specs.List.{flat_map}
 use Rattle.hex.specs.Hex.{encode_lower}
 use Rattle.wave_report.specs.declared.reply_kind.ReplyKind.{ReplyKind}

@@ -1,4 +1,4 @@
-use Rattle.std.proofs.Common.{◌≡◌, ◌++◌, [], sym, ◌∙◌, ap}
+use Rattle.std.proofs.Common.{◌++◌, [], sym, ◌∙◌, ap}
 use Rattle.std.specs.Prelude.{slice_index_or}
 use Rattle.ls_text.specs.Texts.{text_at}
 use Rattle.typed_ir.specs.Paths.{paths_of}
