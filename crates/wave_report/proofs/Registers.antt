@@ -16,15 +16,16 @@ pub as_many : (design : Flat) (s : List (ℕ × ℕ)) → Fits design s → leng
 as_many design s fits = sym (length-map s (λ (p : ℕ × ℕ). p.0)) ∙ ap length fits ∙ length-map design.registers (width_at design)
 
 -- each register is one of so many signals
-pub register_there : (rs : List ℕ) (count many i r place : ℕ) → IsTrue (are_below rs count) → many ≡ count → i < length rs → r ≡ get_or rs i r → place ≡ r
-    → place < many
+pub register_there : (rs : List ℕ) (count many i r place : ℕ) → IsTrue (are_below rs count) → many ≡ count → i < length rs
+    → r ≡ get_or rs i r → place ≡ r → place < many
 register_there rs count many i r place below same h is at =
     let listed : get_or rs i 0 < count = below_read rs count i below h in
     let here : r ≡ get_or rs i 0 = is ∙ get_or_default rs i r 0 h in
     omega (arith, listed, here, same, at)
 
 -- the k-th of signals that are seen by a view
-pub at_map : {X Y A : Type 0} (f : Y → A) (d : A) (g : X → Y) (xs : List X) (k : ℕ) (x : X) → k < length xs → x ≡ get_or xs k x → at_or f d (map g xs) k ≡ f (g x)
+pub at_map : {X Y A : Type 0} (f : Y → A) (d : A) (g : X → Y) (xs : List X) (k : ℕ) (x : X) → k < length xs
+    → x ≡ get_or xs k x → at_or f d (map g xs) k ≡ f (g x)
 at_map f d g [] k x h is = absurd (omega (arith, h))
 at_map f d g (y ∷ ys) zero x h is = ap (λ z. f (g z)) (sym is)
 at_map f d g (y ∷ ys) (suc k) x h is = at_map f d g ys k x (omega (arith, h)) is

@@ -41,7 +41,8 @@ none_there [] k h = refl
 none_there (x ∷ xs) zero h = absurd (omega (arith, h))
 none_there (x ∷ xs) (suc k) h = none_there xs k (omega (arith, h))
 
-paths_keep : (paths : List (List ℕ)) (xs : List InstanceName) (k : ℕ) → k < length paths → slice_index_or (paths_from paths xs) k [] ≡ slice_index_or paths k []
+paths_keep : (paths : List (List ℕ)) (xs : List InstanceName) (k : ℕ) → k < length paths
+    → slice_index_or (paths_from paths xs) k [] ≡ slice_index_or paths k []
 paths_keep paths [] k h = refl
 paths_keep paths (x ∷ xs) k h =
     let one = path_next paths x.parent x.name.0 in

@@ -2,7 +2,16 @@
 ghost use Rattle.std.specs.Prelude.{◌≡◌, ◌++◌, IfOk, OnOk};
 ghost use Rattle.std.specs.List.{flat_map};
 ghost use Rattle.wave_report.specs.Replies.{
-    counted, edit_text, run_text, show_text, estimate_text, settled_text, unsettled_text, unit_text, status_text, reply_text
+  counted,
+  edit_text,
+  run_text,
+  show_text,
+  estimate_text,
+  settled_text,
+  unsettled_text,
+  unit_text,
+  status_text,
+  reply_text,
 };
 
 use crate::digits::push_digest;

@@ -105,7 +105,12 @@ fn design(rt: &impl Abort, alloc: Global, names: &mut Names) -> Result<Design, N
 }
 
 // The table at the beginning.
-fn beginning(alloc: Global, names: &Names, design: &Design, prefix: &[u8]) -> Result<Vec<u8>, NoMemory> {
+fn beginning(
+    alloc: Global,
+    names: &Names,
+    design: &Design,
+    prefix: &[u8],
+) -> Result<Vec<u8>, NoMemory> {
     let state = design.reset(alloc)?;
     table(alloc, names, design, &state, prefix)
 }

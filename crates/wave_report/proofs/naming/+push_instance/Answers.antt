@@ -33,7 +33,8 @@ returns t c =
     ∙ ap (λ k. slice_index_or (paths_of rows) k []) (sym c.index-at.ensures) ∙ path_of rows at x near c.index-rows-at.is in
     let new : c.push.new.self.items ≡ out ++ (dotted texts above ++ (name ++ codes ".")) =
     three_pieces out (dotted texts above) name (codes ".") c.push_instance.new.out.items c.extend_from_slice.new.self.items c.push.new.self.items
-    (c.in_ok-push_instance.ensures ∙ ap (λ (zs : List InstanceName). out ++ dotted texts (path_above (paths_of zs) x.parent)) c.split_at.ensures.front)
+    (c.in_ok-push_instance.ensures
+    ∙ ap (λ (zs : List InstanceName). out ++ dotted texts (path_above (paths_of zs) x.parent)) c.split_at.ensures.front)
     (c.in_ok-extend_from_slice.ensures.items ∙ ap (λ zs. c.push_instance.new.out.items ++ zs) c.text.ensures.text)
     c.in_ok-push.ensures.items in
     let path : dotted texts above ++ (name ++ codes ".") ≡ dotted texts (path_above (paths_of rows) c.args.instance) =
