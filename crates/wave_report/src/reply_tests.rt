@@ -6,6 +6,7 @@ use crate::unit_lines::UnitLines;
 use ls_text::TextBytes;
 use no_memory::NoMemory;
 use std::alloc::Global;
+use std::process::Abort;
 use std::test::Fail;
 
 // A unit of this name, whose digest begins with this byte and is 255 for the rest.
@@ -31,9 +32,9 @@ fn status(alloc: Global) -> Result<ReplyKind, NoMemory> {
 }
 
 // Each of these replies has the line beside it.
-fn have_lines(rt: &HostRuntime, rows: &[(ReplyKind, &str)]) -> Result<(), Fail> {
+fn have_lines(rt: &impl Abort, alloc: Global, rows: &[(ReplyKind, &str)]) -> Result<(), Fail> {
     for (kind, line) in rows {
-        assert_eq!(rt; reply_line(rt.alloc(), kind)?.as_slice(), line.as_bytes());
+        assert_eq!(rt; reply_line(alloc, kind)?.as_slice(), line.as_bytes());
     }
     Ok(())
 }
@@ -52,7 +53,7 @@ fn commands(rt: HostRuntime) -> Result<(), Fail> {
         (ReplyKind::Run { cycle: 0 }, "ok run cycle=0\n"),
         (ReplyKind::Quit, "ok quit\n"),
     ];
-    have_lines(&rt, &rows)
+    have_lines(&rt, rt.alloc(), &rows)
 }
 
 #[test]
@@ -77,7 +78,7 @@ fn displays(rt: HostRuntime) -> Result<(), Fail> {
         ),
         (unsettled, "unsettled settled_to=20\n"),
     ];
-    have_lines(&rt, &rows)
+    have_lines(&rt, rt.alloc(), &rows)
 }
 
 const STATUS: &str = "status v=3 cycle=1099511627776 marks=1024 units=2\n\
