@@ -57,6 +57,7 @@ pub mod TreeNames
 pub mod GrownJobs
 pub mod GrownTexts
 pub mod HeldUnits
+pub mod EnsuredUnits
 pub mod ConstantValues
 pub mod PortNames
 pub mod InstanceTexts

@@ -1,5 +1,5 @@
 // What a registry holds under a table of names, and that what is linked of it is the flat design.
-ghost use Rattle.std.specs.Prelude.{◌≡◌, ℕ, true, List, [], map, take, Ok, Some, IsTrue};
+ghost use Rattle.std.specs.Prelude.{◌≡◌, ℕ, true, List, [], map, take, Ok, Err, Some, IsTrue};
 ghost use Rattle.std.specs.Global.{Global};
 ghost use Rattle.std.specs.List.{All, AllZip};
 ghost use Rattle.std.specs.declared.result.Result.{Result};
@@ -16,13 +16,13 @@ ghost use Rattle.unit_ir.specs.Shapes.{AreOf};
 ghost use Rattle.unit_ir.specs.Trees.{Instances, flat_of_tree};
 ghost use Rattle.link.specs.Listings.{IsTreeOf, all_parts};
 ghost use Rattle.module_registry.specs.declared.build_job.BuildJob.{BuildJob};
-ghost use Rattle.module_registry.specs.Building.{Built};
+ghost use Rattle.module_registry.specs.Building.{Built, built_all};
 ghost use Rattle.module_registry.specs.Entries.{Entry, ensured, unit_under};
 ghost use Rattle.module_registry.specs.Jobs.{job_text};
 ghost use Rattle.module_registry.specs.Keys.{KeyData, same, jobs_of};
 ghost use Rattle.unit_build.specs.Building.{built};
 ghost use Rattle.job_laws.specs.JobUnits.{IsUnitOf};
-ghost use Rattle.unit_laws.specs.Held.{AreHeldUnder, AreUnder, IsKeyUnder};
+ghost use Rattle.unit_laws.specs.Held.{AreHeldUnder, AreUnder, HaveUnits, IsKeyUnder};
 ghost use Rattle.unit_laws.specs.JobsUnder.{IsJobUnder};
 ghost use Rattle.unit_laws.specs.TreeJobs.{AreJobsIn, IsFlatIn};
 
@@ -57,6 +57,20 @@ pub fn held_units_are_those_of_their_jobs()
         → AreUnder es keys units → AllZip IsUnitOf (jobs_of keys) (all_parts units) }
     ensures equal { (names : List (List ℕ)) (x y : KeyData) → IsKeyUnder names x → IsKeyUnder names y
         → job_text names x.job ≡ job_text names y.job → same x y ≡ true }
+{}
+
+/// Where keys of jobs under the table are ensured and one has a fault, it is the first among all their jobs, those of held keys too, since the job
+/// of a held key has none. Where they come in, each of them has a unit then, which is that of its job, and so has each key that is equal to one of
+/// them.
+#[tactic(none)]
+pub fn held_keys_have_no_fault()
+    ensures faults { (names : List (List ℕ)) (builds : BuildJob → Result Built Fault) (es : List Entry) (keys : List KeyData) (f : Fault)
+        → builds ≡ built → HasEachOnce names → AreHeldUnder names es → All (IsKeyUnder names) keys → All (IsJobUnder names) (jobs_of keys)
+        → ensured builds es keys ≡ Err f → built_all builds (jobs_of keys) ≡ Err f }
+    ensures found { (names : List (List ℕ)) (builds : BuildJob → Result Built Fault) (es new : List Entry) (keys : List KeyData)
+        → builds ≡ built → HasEachOnce names → AreHeldUnder names es → All (IsKeyUnder names) keys → All (IsJobUnder names) (jobs_of keys)
+        → ensured builds es keys ≡ Ok new → HaveUnits builds new keys }
+    ensures alike { (es : List Entry) (x y : KeyData) → same x y ≡ true → unit_under x es ≡ unit_under y es }
 {}
 
 /// The jobs of a design are jobs under the table of names behind them, so their keys may be ensured. The units that a registry then gives under
