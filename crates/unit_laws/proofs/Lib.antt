@@ -89,4 +89,5 @@ pub mod TableTrees
 pub mod TableAlone
 pub mod DesignCopies
 pub mod OneTable
+pub mod OneDesign
 pub mod HeldDesign

@@ -24,6 +24,7 @@ ghost use Rattle.unit_build.specs.Building.{built};
 ghost use Rattle.job_laws.specs.JobUnits.{IsUnitOf};
 ghost use Rattle.unit_laws.specs.Held.{AreHeldUnder, AreUnder, HaveUnits, IsKeyUnder};
 ghost use Rattle.unit_laws.specs.JobsUnder.{IsJobUnder};
+ghost use Rattle.unit_laws.specs.Spelled.{IsSpelledUnder};
 ghost use Rattle.unit_laws.specs.TreeJobs.{AreJobsIn, IsFlatIn};
 
 /// A registry holds, under a table of names, units under the keys of the jobs that they are built from: an empty one does, and it stays so
@@ -75,7 +76,7 @@ pub fn held_keys_have_no_fault()
 
 /// The jobs of a design are jobs under the table of names behind them, so their keys may be ensured. The units that a registry then gives under
 /// these keys stand in the tree of the design, so they may be linked. What is linked of them, which is what each tree gives that this table of
-/// instances is of, is the flat design of the parsed modules.
+/// instances is of, is the flat design of the parsed modules. There is one such design, whatever table of instances it is told of.
 #[tactic(none)]
 pub fn held_units_link_to_the_flat_design()
     ensures jobs { (texts known names : List (List ℕ)) (ms : List Module) (top clock : ℕ) (xs : List Instance) (js : List BuildJob)
@@ -90,4 +91,6 @@ pub fn held_units_link_to_the_flat_design()
         → AreUnder es keys units → IsTrue (is_depth_first (map parent_of xs))
         → ((t : Instances) → IsTreeOf xs (all_parts units) t → design ≡ flat_of_tree t)
         → IsFlatIn names ms top clock xs design }
+    ensures one { (names : List (List ℕ)) (ms : List Module) (top clock : ℕ) (xs ys : List Instance) (a b : Flat)
+        → HasEachOnce names → All (IsSpelledUnder names) ms → IsFlatIn names ms top clock xs a → IsFlatIn names ms top clock ys b → a ≡ b }
 {}
