@@ -1,13 +1,13 @@
 -- Once keys are ensured, each has a unit; and where that fails, the fault is the first among all the jobs, since the job of a key that is held has
 -- none.
-use Rattle.std.proofs.Common.{◌≡◌, ℕ, Bool, true, false, cond, List, [], ◌∷◌, ◌++◌, All, map, Some, None, Result, Ok, Err}
+use Rattle.std.proofs.Common.{◌≡◌, ℕ, Bool, true, false, cond, List, [], ◌∷◌, ◌++◌, All, Some, Result, Ok, Err}
 use Rattle.std.proofs.Common.{refl, sym, ap, ap₂, subst, ◌∙◌}
 use Rattle.std.proofs.lemmas.List.Elements.{All-head, All-tail}
 use Rattle.ls_text.specs.declared.fault.Fault.{Fault}
 use Rattle.ls_text.specs.Texts.{HasEachOnce}
 use Rattle.module_registry.specs.declared.build_job.BuildJob.{BuildJob}
 use Rattle.module_registry.specs.Building.{Built, built_all, ◌>>=◌}
-use Rattle.module_registry.specs.Entries.{Entry, keys_of, is_among, if_missing, missing, entries, ensured, unit_under}
+use Rattle.module_registry.specs.Entries.{Entry, keys_of, is_among, missing, entries, ensured, unit_under}
 use Rattle.module_registry.specs.KeyLaws.{same_laws}
 use Rattle.module_registry.specs.Keys.{KeyData, same, jobs_of}
 use Rattle.module_registry.proofs.Making.{all_held}

@@ -26,7 +26,6 @@ use Rattle.elaborate.specs.Trees.{TreeInstance, blocks_around, called as instanc
 use Rattle.elaborate.specs.TreeViews.{instance_view, language_limits}
 use Rattle.elaborate.specs.Views.{port_of}
 use Rattle.unit_names.specs.Numbers.{SignalTable, module_table}
-use Rattle.unit_names.specs.Signals.{NamedSignal}
 use Rattle.unit_jobs.specs.BlockNames.{called_in, declared_by, item_texts, texts_within}
 use Rattle.unit_jobs.specs.JobViews.{text_of}
 use Rattle.job_laws.specs.BlockSignals.{is_within_block, called as signal_called}
@@ -180,7 +179,7 @@ module _ (names : List (List ℕ)) (once : HasEachOnce names) where
       (instance_shape all x y s (All-head IsWord s ss words) one.0 other.0)
       (children_same all k xs ys ss (All-tail IsWord s ss words) one.1 other.1)
       ∙ ap (λ (p : Option ℕ). map shape_of (if stands_in k p then y ∷ children_of k ys else children_of k ys))
-        (ap (λ (i : TreeInstance). i.parent) (one.0 ∙ sym other.0))
+      (ap (λ (i : TreeInstance). i.parent) (one.0 ∙ sym other.0))
 
   -- ---- copies
 
@@ -263,8 +262,8 @@ module _ (names : List (List ℕ)) (once : HasEachOnce names) where
           let alls = ok_same g.all h.all (sym g.found ∙ h.found) in
           g.same
           ∙ ap flat (copies_same h.all xs ys g.copies h.copies h.found
-            (subst (λ (all : List Standing). map (instance_view names) xs ≡ all_seen names all) alls g.seen) h.seen
-            (subst (λ (all : List Standing). AreCopiesIn language_limits.turns (declarations_of ms) (one_table names) xs all g.copies) alls
-              g.are_copies)
-            h.are_copies)
+          (subst (λ (all : List Standing). map (instance_view names) xs ≡ all_seen names all) alls g.seen) h.seen
+          (subst (λ (all : List Standing). AreCopiesIn language_limits.turns (declarations_of ms) (one_table names) xs all g.copies) alls
+          g.are_copies)
+          h.are_copies)
           ∙ sym h.same

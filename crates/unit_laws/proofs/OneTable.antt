@@ -99,7 +99,7 @@ module _ (l : Limits) (texts known names : List (List ℕ)) (ms : List Module) (
       (λ none. spoken_some texts (blocks_around all s.parent) s.block s.name name (sym text ∙ none)) in
       ap (named_so (text_at names x.place.name.0)) is
       ∙ ap (λ (called : List ℕ). seen_as called s)
-        (grown_text known names x.place.name.0 grows within ∙ text ∙ sym (called_alike all s are name))
+      (grown_text known names x.place.name.0 grows within ∙ text ∙ sym (called_alike all s are name))
 
   views_by_one : (all : List Standing) (xs : List Instance) (ss : List Standing) → All IsSeen all
       → All (λ (s : Standing). IsNameWord texts s.name) ss → AllZip (λ x s. instance_view known x ≡ seen texts all s) xs ss
