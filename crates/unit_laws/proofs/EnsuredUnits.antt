@@ -1,6 +1,6 @@
 -- Once keys are ensured, each has a unit; and where that fails, the fault is the first among all the jobs, since the job of a key that is held has
 -- none.
-use Rattle.std.proofs.Common.{◌≡◌, ℕ, Bool, true, false, cond, List, [], ◌∷◌, ◌++◌, All, Some, Result, Ok, Err}
+use Rattle.std.proofs.Common.{◌≡◌, ℕ, Bool, true, false, cond, List, [], ◌∷◌, ◌++◌, All, map, Some, Result, Ok, Err}
 use Rattle.std.proofs.Common.{refl, sym, ap, ap₂, subst, ◌∙◌}
 use Rattle.std.proofs.lemmas.List.Elements.{All-head, All-tail}
 use Rattle.ls_text.specs.declared.fault.Fault.{Fault}
@@ -12,6 +12,7 @@ use Rattle.module_registry.specs.KeyLaws.{same_laws}
 use Rattle.module_registry.specs.Keys.{KeyData, same, jobs_of}
 use Rattle.module_registry.proofs.Making.{all_held}
 use Rattle.unit_build.specs.Building.{built}
+use Rattle.job_laws.proofs.KnownInstances.{same_first, same_others}
 use Rattle.unit_laws.specs.Held.{IsKeyUnder, AreHeldUnder, HaveUnits}
 use Rattle.unit_laws.specs.JobsUnder.{IsJobUnder}
 use Rattle.unit_laws.proofs.HeldUnits.{ensured_held, unit_of_job}
@@ -39,6 +40,21 @@ given k (e ∷ es) among = cases (same k e.key) refl among (given k es)
     cases true is h later = record { unit = e.unit; is = ap (λ (b : Bool). cond b (Some e.unit) (unit_under k es)) is }
     cases false is h later =
         record { unit = (later h).unit; is = ap (λ (b : Bool). cond b (Some e.unit) (unit_under k es)) is ∙ (later h).is }
+
+-- a key that is the same as one of these
+pub among_given : (es : List Entry) (ks : List KeyData) (us : List Built) (k : KeyData) → map (λ (x : KeyData). unit_under x es) ks ≡ map Some us
+    → is_among k ks ≡ true → (u : Built) × (unit_under k es ≡ Some u)
+among_given es [] us k are among = absurd cc
+among_given es (h ∷ ks) [] k are among = absurd cc
+among_given es (h ∷ ks) (u ∷ us) k are among =
+    let P = λ (x : KeyData). unit_under x es in
+    cases (same k h) refl among (same_first (P h) (Some u) (map P ks) (map Some us) are)
+    (among_given es ks us k (same_others (P h) (Some u) (map P ks) (map Some us) are))
+  where
+    cases : (b : Bool) → same k h ≡ b → cond b true (is_among k ks) ≡ true → unit_under h es ≡ Some u
+        → (is_among k ks ≡ true → (v : Built) × (unit_under k es ≡ Some v)) → (v : Built) × (unit_under k es ≡ Some v)
+    cases true is here first later = (u, alike_given es k h is ∙ first)
+    cases false is here first later = later here
 
 -- ---- the first fault
 

@@ -17,7 +17,7 @@ ghost use Rattle.unit_ir.specs.Trees.{Instances, flat_of_tree};
 ghost use Rattle.link.specs.Listings.{IsTreeOf, all_parts};
 ghost use Rattle.module_registry.specs.declared.build_job.BuildJob.{BuildJob};
 ghost use Rattle.module_registry.specs.Building.{Built, built_all};
-ghost use Rattle.module_registry.specs.Entries.{Entry, ensured, unit_under};
+ghost use Rattle.module_registry.specs.Entries.{Entry, ensured, is_among, unit_under};
 ghost use Rattle.module_registry.specs.Jobs.{job_text};
 ghost use Rattle.module_registry.specs.Keys.{KeyData, same, jobs_of};
 ghost use Rattle.unit_build.specs.Building.{built};
@@ -72,6 +72,8 @@ pub fn held_keys_have_no_fault()
         → builds ≡ built → HasEachOnce names → AreHeldUnder names es → All (IsKeyUnder names) keys → All (IsJobUnder names) (jobs_of keys)
         → ensured builds es keys ≡ Ok new → HaveUnits builds new keys }
     ensures alike { (es : List Entry) (x y : KeyData) → same x y ≡ true → unit_under x es ≡ unit_under y es }
+    ensures among { (builds : BuildJob → Result Built Fault) (es : List Entry) (keys : List KeyData) (k : KeyData) → HaveUnits builds es keys
+        → is_among k keys ≡ true → (u : Built) × (unit_under k es ≡ Some u) }
 {}
 
 /// The jobs of a design are jobs under the table of names behind them, so their keys may be ensured. The units that a registry then gives under

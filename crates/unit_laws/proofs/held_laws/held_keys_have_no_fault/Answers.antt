@@ -1,4 +1,4 @@
-use Rattle.unit_laws.proofs.EnsuredUnits.{alike_given, each_given, first_fault}
+use Rattle.unit_laws.proofs.EnsuredUnits.{alike_given, among_given, each_given, first_fault}
 use Rattle.unit_laws.proofs.held_laws.held_keys_have_no_fault.Goals as goal
 
 pub returns-clause-faults : goal.returns-clause-faults
@@ -9,3 +9,6 @@ returns-clause-found c names builds es new keys so once h made jobs is = each_gi
 
 pub returns-clause-alike : goal.returns-clause-alike
 returns-clause-alike c es x y is = alike_given es x y is
+
+pub returns-clause-among : goal.returns-clause-among
+returns-clause-among c builds es keys k have among = among_given es keys have.units k have.under among
