@@ -1,0 +1,3 @@
+pub mod RenamedCopiedItems
+pub mod RenamedFlat
+pub mod RenamedDesignCopies
