@@ -65,15 +65,16 @@ impl Registry {
     /// Makes the units of those of these distinct keys that aren't held, in their order, and holds them behind the others.
     ///
     /// A refusal is the fault of the first of these jobs that has one, or want of memory, as it also answers 2^32 keys or more: then the
-    /// registry stays. Threads may share the help that the forge is handed.
-    pub fn ensure<R: Sync, F: Forge<R>>(
+    /// registry stays. The help is what the forge asks for.
+    pub fn ensure<R, F: Forge<R>>(
         &mut self,
         rt: &R,
         alloc: Global,
         forge: &mut F,
         keys: &[Key],
     ) -> Result<Ensured, Refusal>
-        requires { IsDistinct same keys.now }
+        requires distinct { IsDistinct same keys.now }
+        requires ready { F.ready rt.now }
         ensures held { OnOk result (ensured F.builds (entries_of self.old) keys.now ≡ Ok (entries_of self.new)) }
         ensures refused { IfErr result (λ e. Refuses e (ensured F.builds (entries_of self.old) keys.now)) }
         ensures stays { OnErr result (entries_of self.new ≡ entries_of self.old) }

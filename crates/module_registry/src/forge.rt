@@ -1,7 +1,6 @@
 // What makes units.
 ghost use Rattle.std.specs.Prelude.{◌≡◌, ◌++◌, List, map, Ok, IfOk, IfErr, OnOk, OnErr};
 ghost use Rattle.std.specs.declared.result.Result.{Result};
-ghost use Rattle.std.specs.Thread.{IsSync};
 ghost use Rattle.ls_text.specs.declared.fault.Fault.{Fault};
 ghost use Rattle.module_registry.specs.declared.build_job.BuildJob.{BuildJob};
 ghost use Rattle.module_registry.specs.Building.{Built, Refuses, built_all};
@@ -21,10 +20,12 @@ pub trait Forge<R> {
     /// The jobs that were made so far.
     ghost made: { Self → List BuildJob };
 
-    /// The units of the jobs of these keys, in their order. A refusal is the fault of the first job that has one, or want of memory. Threads
-    /// may share the help.
+    /// What it asks of its help, as that threads may share it.
+    ghost ready: { R → Type 0 };
+
+    /// The units of the jobs of these keys, in their order. A refusal is the fault of the first job that has one, or want of memory.
     fn make(&mut self, rt: &R, alloc: Global, keys: &[Key]) -> Result<Vec<Unit>, Refusal>
-        requires shared { IsSync R.row }
+        requires { ready rt.now }
         ensures units { IfOk result (λ us. built_all builds (jobs_of keys.now) ≡ Ok (map built_of us.items)) }
         ensures refused { IfErr result (λ e. Refuses e (built_all builds (jobs_of keys.now))) }
         ensures more { OnOk result (made self.new ≡ made self.old ++ jobs_of keys.now) }

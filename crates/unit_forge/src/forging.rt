@@ -1,5 +1,6 @@
 // Units of keys, on several threads.
 ghost use Rattle.std.specs.Prelude.{◌≡◌, IfOk};
+ghost use Rattle.std.specs.Thread.{IsSync};
 ghost use Rattle.unit_build.specs.Building.{built};
 ghost use Rattle.unit_forge.specs.Views.{jobs_made};
 
@@ -26,6 +27,9 @@ impl<R: Threads + Sync> Forge<R> for RayonForge {
     ghost builds = { built };
 
     ghost made = { jobs_made };
+
+    // threads share it
+    ghost ready = { λ _. IsSync R.row };
 
     #[tactic(auto, using(crate::proofs::Together::jobs_joined))]
     fn make(&mut self, rt: &R, alloc: Global, keys: &[Key]) -> Result<Vec<Unit>, Refusal> {

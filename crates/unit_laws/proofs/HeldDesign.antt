@@ -29,7 +29,7 @@ use Rattle.unit_laws.specs.TreeJobs.{AreJobsIn, IsFlatIn}
 use Rattle.unit_laws.proofs.DesignCopies.{design_is_linked}
 use Rattle.unit_laws.proofs.GrownSpelling.{grown_spelled}
 use Rattle.unit_laws.proofs.HeldUnits.{units_of_jobs}
-use Rattle.unit_laws.proofs.OneTable.{by_one_table}
+use Rattle.unit_laws.proofs.OneTable.{by_one_table, seen_by_one}
 use Rattle.unit_laws.proofs.TreeJobsUnder.{jobs_under}
 
 module _ (texts known names : List (List ℕ)) (ms : List Module) (top clock : ℕ) (xs : List Instance) (js : List BuildJob)
@@ -65,8 +65,9 @@ module _ (texts known names : List (List ℕ)) (ms : List Module) (top clock : �
         record {
           all = s.all;
           found = s.elaborates;
+          seen = seen_by_one language_limits texts known names ms h.grown h.grows h.spelled top clock s.all xs s.elaborates s.same;
           copies = d.copies;
-          are_copies = by_one_table language_limits texts known names ms h.grown h.grows h.spelled top clock s.all xs d.copies s.elaborates
+          are_copies = by_one_table language_limits texts known names ms h.grown h.grows h.spelled top clock s.all xs s.elaborates d.copies
               d.are_copies;
           same = linked found.tree found.is ∙ d.linked;
         }

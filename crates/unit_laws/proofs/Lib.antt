@@ -57,6 +57,7 @@ pub mod TreeNames
 pub mod GrownJobs
 pub mod GrownTexts
 pub mod HeldUnits
+pub mod EnsuredUnits
 pub mod ConstantValues
 pub mod PortNames
 pub mod InstanceTexts
@@ -88,4 +89,5 @@ pub mod TableTrees
 pub mod TableAlone
 pub mod DesignCopies
 pub mod OneTable
+pub mod OneDesign
 pub mod HeldDesign

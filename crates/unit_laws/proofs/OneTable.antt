@@ -1,9 +1,11 @@
 -- The copies of a design by one table of names: a table that has grown calls instances and signals as they were called before (IEEE Std
 -- 1364-2005, 12.4 and 12.5).
-use Rattle.std.proofs.Common.{◌≡◌, ℕ, suc, ◌==◌, Bool, true, false, if◌then◌else◌, List, [], ◌∷◌, All, filter, map, Some, None, Ok, sym, ◌∙◌, subst}
+use Rattle.std.proofs.Common.{◌≡◌, ℕ, suc, ◌==◌, Bool, true, false, if◌then◌else◌, List, [], ◌∷◌, All, filter, map, Some, None, Ok}
+use Rattle.std.proofs.Common.{refl, sym, ◌∙◌, ap, ap₂, subst}
+use Rattle.std.specs.List.{AllZip}
 use Rattle.std.proofs.lemmas.List.Elements.{All-head, All-map, All-tail, All-weaker}
 use Rattle.std.proofs.lemmas.Option.{none-some, same_Some}
-use Rattle.ls_text.specs.Texts.{Grows}
+use Rattle.ls_text.specs.Texts.{Grows, text_at}
 use Rattle.ls_text.proofs.Growth.{grown_text, grows_on}
 use Rattle.verilog_ast.specs.declared.identifier.Identifier.{Identifier}
 use Rattle.verilog_ast.specs.declared.module.Module.{Module}
@@ -15,7 +17,8 @@ use Rattle.gen_unroll.specs.Unrolled.{unrolled_module}
 use Rattle.module_names.specs.Modules.{module_named}
 use Rattle.elaborate.specs.declared.limits.Limits.{Limits}
 use Rattle.elaborate.specs.Elaborated.{Standing, elaborated}
-use Rattle.elaborate.specs.Trees.{blocks_around, called as instance_called}
+use Rattle.elaborate.specs.Trees.{TreeInstance, blocks_around, called as instance_called, seen_as, seen, all_seen}
+use Rattle.elaborate.specs.TreeViews.{instance_view}
 use Rattle.job_laws.specs.BlockSignals.{is_within_block, called as signal_called}
 use Rattle.job_laws.specs.InstanceModules.{IsVisited}
 use Rattle.job_laws.specs.Outer.{are_ports_outside}
@@ -23,6 +26,7 @@ use Rattle.job_laws.specs.OuterTrees.{has_outer_ports_alone}
 use Rattle.job_laws.proofs.BlockNames.{same_names_within}
 use Rattle.job_laws.proofs.CodeTrees.{code_stands}
 use Rattle.job_laws.proofs.InstanceModules.{all_visited}
+use Rattle.job_laws.proofs.KnownInstances.{side_by_side}
 use Rattle.job_laws.proofs.Rerolled.{ports_stand_outside}
 use Rattle.unit_laws.specs.Copies.{Copies}
 use Rattle.unit_laws.specs.DesignCopies.{NameTables, IsCopyIn, AreEntriesIn, AreCopiesIn}
@@ -38,7 +42,7 @@ use Rattle.unit_laws.proofs.ToldInstances.{labels_around, modules_named, within_
 use Rattle.unit_laws.proofs.TreeNames.{IsModuleNamed, IsNameIn, tree_named}
 
 -- modules of the code declare ports outside of generate blocks alone
-outer_ports : (ms : List Module) (name : ℕ) (d : ModuleDeclaration) → module_named name (declarations_of ms) ≡ Some d
+pub outer_ports : (ms : List Module) (name : ℕ) (d : ModuleDeclaration) → module_named name (declarations_of ms) ≡ Some d
     → has_outer_ports_alone d ≡ true
 outer_ports [] name d is = absurd (none-some d is)
 outer_ports (m ∷ ms) name d is = cases (name == (declaration_of m.body).name.name.0) (outer_ports ms name d) is
@@ -77,6 +81,37 @@ module _ (l : Limits) (texts known names : List (List ℕ)) (ms : List Module) (
       (All-weaker (λ (b : GenerateBlock). IsNameWord texts b.label) (λ (b : GenerateBlock). IsNameIn texts b.label)
       (λ b is. word_in b.label is) blocks (labels_around l texts known names ms grows spelled all s.parent are))
       (word_in s.name name)
+
+  abbrev named_so : List ℕ → TreeInstance → TreeInstance
+  named_so name i = record {
+    parent = i.parent;
+    name = name;
+    instantiated = i.instantiated;
+    parameters = i.parameters;
+    clock = i.clock;
+    ports = i.ports;
+  }
+
+  view_by_one : (all : List Standing) (x : Instance) (s : Standing) → All IsSeen all → IsNameWord texts s.name
+      → instance_view known x ≡ seen texts all s → instance_view names x ≡ seen names all s
+  view_by_one all x s are name is =
+      let text : text_at known x.place.name.0 ≡ instance_called texts all s = ap (λ (i : TreeInstance). i.name) is in
+      let within = within_table known x.place.name.0
+      (λ none. spoken_some texts (blocks_around all s.parent) s.block s.name name (sym text ∙ none)) in
+      ap (named_so (text_at names x.place.name.0)) is
+      ∙ ap (λ (called : List ℕ). seen_as called s)
+      (grown_text known names x.place.name.0 grows within ∙ text ∙ sym (called_alike all s are name))
+
+  views_by_one : (all : List Standing) (xs : List Instance) (ss : List Standing) → All IsSeen all
+      → All (λ (s : Standing). IsNameWord texts s.name) ss → AllZip (λ x s. instance_view known x ≡ seen texts all s) xs ss
+      → map (instance_view names) xs ≡ map (seen names all) ss
+  views_by_one all [] [] are words h = refl
+  views_by_one all [] (s ∷ ss) are words h = absurd h
+  views_by_one all (x ∷ xs) [] are words h = absurd h
+  views_by_one all (x ∷ xs) (s ∷ ss) are words h =
+      let P = λ (y : Standing). IsNameWord texts y.name in
+      ap₂ (λ (i : TreeInstance) (is : List TreeInstance). i ∷ is) (view_by_one all x s are (All-head P s ss words) h.0)
+      (views_by_one all xs ss are (All-tail P s ss words) h.1)
 
   -- ---- signals within blocks
 
@@ -131,12 +166,23 @@ module _ (l : Limits) (texts known names : List (List ℕ)) (ms : List Module) (
       let P = λ (x : Standing). IsNameWord texts x.name in
       (copy_by_one xs all k e s are (All-head P s ss words) h.0, copies_by_one xs all (suc k) es ss are (All-tail P s ss words) h.1)
 
-  -- copies that stand by the tables of each step stand by the last one
-  pub by_one_table : (top clock : ℕ) (all : List Standing) (xs : List Instance) (copies : Copies)
-      → elaborated l (declarations_of ms) top clock ≡ Ok all → AreCopiesIn l.turns (declarations_of ms) four_tables xs all copies
-      → AreCopiesIn l.turns (declarations_of ms) (one_table names) xs all copies
-  by_one_table top clock all xs copies is h =
-      let modules = modules_named texts ms spelled in
-      copies_by_one xs all 0 (copies_listed None 0 copies) all (all_visited l (declarations_of ms) top clock all is)
-      (All-weaker (IsOwnStanding (IsNameWord texts) l (declarations_of ms) modules) (λ (s : Standing). IsNameWord texts s.name)
-      (λ s own. own.named) all (all_own (IsNameWord texts) l (declarations_of ms) modules top clock all is)) h
+  -- ---- a design
+
+  module _ (top clock : ℕ) (all : List Standing) (xs : List Instance) (is : elaborated l (declarations_of ms) top clock ≡ Ok all) where
+    all_words : All (λ (s : Standing). IsNameWord texts s.name) all
+    all_words =
+        let modules = modules_named texts ms spelled in
+        All-weaker (IsOwnStanding (IsNameWord texts) l (declarations_of ms) modules) (λ (s : Standing). IsNameWord texts s.name)
+        (λ s own. own.named) all (all_own (IsNameWord texts) l (declarations_of ms) modules top clock all is)
+
+    -- instances that are called so by the tables of each step are called so by the last one
+    pub seen_by_one : map (instance_view known) xs ≡ all_seen texts all → map (instance_view names) xs ≡ all_seen names all
+    seen_by_one view =
+        views_by_one all xs all (all_visited l (declarations_of ms) top clock all is) all_words
+        (side_by_side (instance_view known) (seen texts all) xs all view)
+
+    -- copies that stand by the tables of each step stand by the last one
+    pub by_one_table : (copies : Copies) → AreCopiesIn l.turns (declarations_of ms) four_tables xs all copies
+        → AreCopiesIn l.turns (declarations_of ms) (one_table names) xs all copies
+    by_one_table copies h =
+        copies_by_one xs all 0 (copies_listed None 0 copies) all (all_visited l (declarations_of ms) top clock all is) all_words h

@@ -26,7 +26,7 @@ use Rattle.unit_laws.proofs.ToldJobs.{told_under}
 
 -- ---- names
 
-ids_same : (names : List (List ℕ)) (ms ns : List NameId) → HasEachOnce names → All (IsIn names) ms → All (IsIn names) ns
+pub ids_same : (names : List (List ℕ)) (ms ns : List NameId) → HasEachOnce names → All (IsIn names) ms → All (IsIn names) ns
     → map (text_of names) ms ≡ map (text_of names) ns → ms ≡ ns
 ids_same names [] [] once in_m in_n same = refl
 ids_same names [] (n ∷ ns) once in_m in_n same = absurd cc

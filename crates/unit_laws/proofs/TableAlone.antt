@@ -95,8 +95,10 @@ same_copies parent index (One c within after) (One d inner later) r s h is =
       rest = second.rest;
     }
 
-pub one_of_copies : (xs : List Instance) (jobs : List BuildJob) (a b : Copies) → IsTableOf xs jobs a → IsTableOf xs jobs b → a ≡ b
-one_of_copies xs jobs a b one other =
-    let rows = same_rows (copies_listed None 0 a) (copies_listed None 0 b) xs jobs one other in
+pub same_listed : (a b : Copies) → copies_listed None 0 a ≡ copies_listed None 0 b → a ≡ b
+same_listed a b rows =
     let shapes = one_tree (shape a) (shape b) (shape_listed None 0 a ∙ ap (map shape_row) rows ∙ sym (shape_listed None 0 b)) in
     (same_copies None 0 a b [] [] shapes (append-nil (copies_listed None 0 a) ∙ rows ∙ sym (append-nil (copies_listed None 0 b)))).copies
+
+pub one_of_copies : (xs : List Instance) (jobs : List BuildJob) (a b : Copies) → IsTableOf xs jobs a → IsTableOf xs jobs b → a ≡ b
+one_of_copies xs jobs a b one other = same_listed a b (same_rows (copies_listed None 0 a) (copies_listed None 0 b) xs jobs one other)

@@ -7,7 +7,7 @@ use Rattle.verilog_ast.specs.declared.module.Module.{Module}
 use Rattle.verilog_ast.specs.Views.{declarations_of}
 use Rattle.unit_ir.specs.declared.instance.Instance.{Instance}
 use Rattle.elaborate.specs.Elaborated.{Standing, elaborated}
-use Rattle.elaborate.specs.Trees.{tree}
+use Rattle.elaborate.specs.Trees.{all_seen, tree}
 use Rattle.elaborate.specs.TreeViews.{instance_view, language_limits}
 use Rattle.module_registry.specs.declared.build_job.BuildJob.{BuildJob}
 use Rattle.unit_jobs.specs.Jobs.{tree_jobs}
@@ -41,6 +41,8 @@ one_table names = record { texts = names; known = names; others = names; words =
 pub record IsFlatIn (names : List (List ℕ)) (ms : List Module) (top clock : ℕ) (xs : List Instance) (design : Flat) : Type 0 where
   pub all : List Standing
   pub found : elaborated language_limits (declarations_of ms) top clock ≡ Ok all
+  -- these are the instances
+  pub seen : map (instance_view names) xs ≡ all_seen names all
   pub copies : Copies
   pub are_copies : AreCopiesIn language_limits.turns (declarations_of ms) (one_table names) xs all copies
   pub same : design ≡ flat copies

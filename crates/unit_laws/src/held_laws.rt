@@ -1,5 +1,5 @@
 // What a registry holds under a table of names, and that what is linked of it is the flat design.
-ghost use Rattle.std.specs.Prelude.{◌≡◌, ℕ, true, List, [], map, take, Ok, Some, IsTrue};
+ghost use Rattle.std.specs.Prelude.{◌≡◌, ℕ, true, List, [], map, take, Ok, Err, Some, IsTrue};
 ghost use Rattle.std.specs.Global.{Global};
 ghost use Rattle.std.specs.List.{All, AllZip};
 ghost use Rattle.std.specs.declared.result.Result.{Result};
@@ -16,14 +16,15 @@ ghost use Rattle.unit_ir.specs.Shapes.{AreOf};
 ghost use Rattle.unit_ir.specs.Trees.{Instances, flat_of_tree};
 ghost use Rattle.link.specs.Listings.{IsTreeOf, all_parts};
 ghost use Rattle.module_registry.specs.declared.build_job.BuildJob.{BuildJob};
-ghost use Rattle.module_registry.specs.Building.{Built};
-ghost use Rattle.module_registry.specs.Entries.{Entry, ensured, unit_under};
+ghost use Rattle.module_registry.specs.Building.{Built, built_all};
+ghost use Rattle.module_registry.specs.Entries.{Entry, ensured, is_among, unit_under};
 ghost use Rattle.module_registry.specs.Jobs.{job_text};
 ghost use Rattle.module_registry.specs.Keys.{KeyData, same, jobs_of};
 ghost use Rattle.unit_build.specs.Building.{built};
 ghost use Rattle.job_laws.specs.JobUnits.{IsUnitOf};
-ghost use Rattle.unit_laws.specs.Held.{AreHeldUnder, AreUnder, IsKeyUnder};
+ghost use Rattle.unit_laws.specs.Held.{AreHeldUnder, AreUnder, HaveUnits, IsKeyUnder};
 ghost use Rattle.unit_laws.specs.JobsUnder.{IsJobUnder};
+ghost use Rattle.unit_laws.specs.Spelled.{IsSpelledUnder};
 ghost use Rattle.unit_laws.specs.TreeJobs.{AreJobsIn, IsFlatIn};
 
 /// A registry holds, under a table of names, units under the keys of the jobs that they are built from: an empty one does, and it stays so
@@ -59,9 +60,25 @@ pub fn held_units_are_those_of_their_jobs()
         → job_text names x.job ≡ job_text names y.job → same x y ≡ true }
 {}
 
+/// Where keys of jobs under the table are ensured and one has a fault, it is the first among all their jobs, those of held keys too, since the job
+/// of a held key has none. Where they come in, each of them has a unit then, which is that of its job, and so has each key that is equal to one of
+/// them.
+#[tactic(none)]
+pub fn held_keys_have_no_fault()
+    ensures faults { (names : List (List ℕ)) (builds : BuildJob → Result Built Fault) (es : List Entry) (keys : List KeyData) (f : Fault)
+        → builds ≡ built → HasEachOnce names → AreHeldUnder names es → All (IsKeyUnder names) keys → All (IsJobUnder names) (jobs_of keys)
+        → ensured builds es keys ≡ Err f → built_all builds (jobs_of keys) ≡ Err f }
+    ensures found { (names : List (List ℕ)) (builds : BuildJob → Result Built Fault) (es new : List Entry) (keys : List KeyData)
+        → builds ≡ built → HasEachOnce names → AreHeldUnder names es → All (IsKeyUnder names) keys → All (IsJobUnder names) (jobs_of keys)
+        → ensured builds es keys ≡ Ok new → HaveUnits builds new keys }
+    ensures alike { (es : List Entry) (x y : KeyData) → same x y ≡ true → unit_under x es ≡ unit_under y es }
+    ensures among { (builds : BuildJob → Result Built Fault) (es : List Entry) (keys : List KeyData) (k : KeyData) → HaveUnits builds es keys
+        → is_among k keys ≡ true → (u : Built) × (unit_under k es ≡ Some u) }
+{}
+
 /// The jobs of a design are jobs under the table of names behind them, so their keys may be ensured. The units that a registry then gives under
 /// these keys stand in the tree of the design, so they may be linked. What is linked of them, which is what each tree gives that this table of
-/// instances is of, is the flat design of the parsed modules.
+/// instances is of, is the flat design of the parsed modules. There is one such design, whatever table of instances it is told of.
 #[tactic(none)]
 pub fn held_units_link_to_the_flat_design()
     ensures jobs { (texts known names : List (List ℕ)) (ms : List Module) (top clock : ℕ) (xs : List Instance) (js : List BuildJob)
@@ -76,4 +93,6 @@ pub fn held_units_link_to_the_flat_design()
         → AreUnder es keys units → IsTrue (is_depth_first (map parent_of xs))
         → ((t : Instances) → IsTreeOf xs (all_parts units) t → design ≡ flat_of_tree t)
         → IsFlatIn names ms top clock xs design }
+    ensures one { (names : List (List ℕ)) (ms : List Module) (top clock : ℕ) (xs ys : List Instance) (a b : Flat)
+        → HasEachOnce names → All (IsSpelledUnder names) ms → IsFlatIn names ms top clock xs a → IsFlatIn names ms top clock ys b → a ≡ b }
 {}

@@ -13,7 +13,8 @@ mod key_laws;
 
 pub use flat_laws::{copies_are_those_of_the_design, linked_units_are_the_flat_design};
 pub use held_laws::{
-    held_units_are_those_of_their_jobs, held_units_link_to_the_flat_design, registries_stay_held,
+    held_keys_have_no_fault, held_units_are_those_of_their_jobs,
+    held_units_link_to_the_flat_design, registries_stay_held,
 };
 pub use key_laws::{
     elaborated_instances_are_told, jobs_are_under, keys_tell_units, one_spelling_is_one_module,

@@ -1,25 +1,23 @@
 // All tables of the folder of data.
-use crate::counts::Counts;
 use crate::reader::read;
-use module_registry::Forge;
 use no_memory::NoMemory;
 use row_tables::{Row, Table, joined};
 use std::alloc::{Alloc, Global};
 use std::fs::Files;
 use std::io::Print;
+use std::thread::Threads;
 use std::{fs, io};
 
 // What a row is read as, where it isn't what is wanted.
-fn other<R: Sync, F: Forge<R> + Counts>(
+fn other<R: Threads + Sync>(
     rt: &R,
     alloc: Global,
-    forge: &F,
     name: &str,
     table: &Table,
     row: &Row,
 ) -> Result<Option<Vec<u8>>, NoMemory> {
     let text = joined(alloc, &table.before.text, &row.text, &table.behind.text)?;
-    let got = read(rt, alloc, forge, name, &text)?;
+    let got = read(rt, alloc, name, &text)?;
     let want = joined(alloc, &table.before.want, &row.want, &table.behind.want)?;
     if got == want {
         return Ok(None);
@@ -28,15 +26,14 @@ fn other<R: Sync, F: Forge<R> + Counts>(
 }
 
 // The first row that the reader of this name reads otherwise than wanted, and as what; none where there is none.
-fn first_other<R: Sync, F: Forge<R> + Counts>(
+fn first_other<R: Threads + Sync>(
     rt: &R,
     alloc: Global,
-    forge: &F,
     name: &str,
     table: &Table,
 ) -> Result<Option<Vec<u8>>, NoMemory> {
     for row in &table.rows {
-        if let Some(wrong) = other(rt, alloc, forge, name, table, row)? {
+        if let Some(wrong) = other(rt, alloc, name, table, row)? {
             return Ok(Some(wrong));
         }
     }
@@ -44,23 +41,21 @@ fn first_other<R: Sync, F: Forge<R> + Counts>(
 }
 
 // How many rows a table has, and the text of the first one that isn't as its reader has to read it.
-fn tried<R: Sync, F: Forge<R> + Counts>(
+fn tried<R: Threads + Sync>(
     rt: &R,
     alloc: Global,
-    forge: &F,
     name: &str,
     file: &str,
 ) -> Result<(usize, Option<Vec<u8>>), NoMemory> {
     let table = Table::read(alloc, file)?;
-    let wrong = first_other(rt, alloc, forge, name, &table)?;
+    let wrong = first_other(rt, alloc, name, &table)?;
     Ok((table.rows.len(), wrong))
 }
 
-/// Compares what is read of the rows of the folder, with units that forges of this kind make, with what has to be read, names what differs,
+/// Compares what is read of the rows of the folder with what has to be read, names what differs,
 /// and says how many rows agree. `tables.txt` has a line `READER NAME` for each table, and NAME.txt are its rows.
-pub fn compare_all<R: Sync + Files + Print + Alloc<A = Global>, F: Forge<R> + Counts>(
+pub fn compare_all<R: Threads + Sync + Files + Print + Alloc<A = Global>>(
     rt: &R,
-    forge: &F,
 ) -> io::Result<()> {
     let alloc = rt.alloc();
     let tables = fs::read_to_string(rt, "tables.txt")?;
@@ -71,7 +66,7 @@ pub fn compare_all<R: Sync + Files + Print + Alloc<A = Global>, F: Forge<R> + Co
         };
         let file = format!(in alloc; "{name}.txt")?;
         let text = fs::read_to_string(rt, file.as_str())?;
-        match tried(rt, alloc, forge, word, text.as_str()) {
+        match tried(rt, alloc, word, text.as_str()) {
             Ok((rows, None)) => count = count.saturating_add(rows),
             Ok((_, Some(wrong))) => {
                 let wrong = String::from_utf8_lossy(alloc, &wrong)?;

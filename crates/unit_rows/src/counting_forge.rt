@@ -1,8 +1,8 @@
 // Units made on several threads, and how many.
+ghost use Rattle.std.specs.Thread.{IsSync};
 ghost use Rattle.unit_build.specs.Building.{built};
 ghost use Rattle.unit_rows.specs.Views.{made_by};
 
-use crate::counts::Counts;
 use ls_text::Refusal;
 use module_registry::{Forge, Key};
 use std::alloc::Global;
@@ -25,14 +25,9 @@ impl CountingForge {
             made: 0,
         }
     }
-}
 
-impl Counts for CountingForge {
-    fn fresh(&self, alloc: Global) -> CountingForge {
-        CountingForge::new(alloc)
-    }
-
-    fn count(&self) -> u64 {
+    /// How many units it made.
+    pub fn count(&self) -> u64 {
         self.made
     }
 }
@@ -41,6 +36,9 @@ impl<R: Threads + Sync> Forge<R> for CountingForge {
     ghost builds = { built };
 
     ghost made = { made_by };
+
+    // threads share it
+    ghost ready = { λ _. IsSync R.row };
 
     fn make(&mut self, rt: &R, alloc: Global, keys: &[Key]) -> Result<Vec<Unit>, Refusal> {
         let units = self.inner.make(rt, alloc, keys)?;

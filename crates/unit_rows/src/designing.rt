@@ -11,6 +11,7 @@ use ls_text::{NameId, Names, Refusal};
 use module_registry::{Forge, Key, Registry};
 use std::alloc::Global;
 use std::sync::Arc;
+use std::thread::Threads;
 use typed_ir::Linked;
 use unit_ir::{InstanceTree, Unit};
 use unit_jobs::jobs_of;
@@ -48,11 +49,11 @@ fn linked_units(
 }
 
 // The design of a tree whose instances have these keys.
-fn design_with<R: Sync, F: Forge<R>>(
+fn design_with<R: Threads + Sync>(
     rt: &R,
     alloc: Global,
     names: &mut Names,
-    stock: &mut Stock<F>,
+    stock: &mut Stock,
     most: Option<usize>,
     tree: &InstanceTree,
     instances: &[Key],
@@ -85,11 +86,11 @@ fn tree_of(
 }
 
 // The design of a text.
-fn design_in<R: Sync, F: Forge<R>>(
+fn design_in<R: Threads + Sync>(
     rt: &R,
     alloc: Global,
     names: &mut Names,
-    stock: &mut Stock<F>,
+    stock: &mut Stock,
     way: Way,
     text: &[u8],
 ) -> Result<Option<Design>, Refusal> {
@@ -102,11 +103,11 @@ fn design_in<R: Sync, F: Forge<R>>(
 
 /// The design of a text whose top is `top` and whose clock is `clk`, or the first fault: of the text, of elaboration, of a unit, of linking.
 /// What came in for a design that is refused is taken back. Nothing where the units don't stand in the tree, which is a fault of the program.
-pub fn design_of<R: Sync, F: Forge<R>>(
+pub fn design_of<R: Threads + Sync>(
     rt: &R,
     alloc: Global,
     names: &mut Names,
-    stock: &mut Stock<F>,
+    stock: &mut Stock,
     way: Way,
     text: &[u8],
 ) -> Result<Option<Design>, Refusal> {

@@ -1,21 +1,20 @@
 // What a row shows of several texts, one after another.
-use crate::counts::Counts;
 use crate::reading::{parted, push_text};
 use crate::shown::{Shown, push_ever};
 use crate::stock::Stock;
 use crate::way::{ALIKE, PLAIN, Way};
 use ls_text::Names;
-use module_registry::Forge;
 use no_memory::NoMemory;
 use row_tables::FILE_END;
 use std::alloc::Global;
+use std::thread::Threads;
 
 /// How many units of the second of two texts are built, and how many the first left; or the first fault in either.
-pub fn push_second<R: Sync, F: Forge<R>>(
+pub fn push_second<R: Threads + Sync>(
     rt: &R,
     alloc: Global,
     names: &mut Names,
-    stock: &mut Stock<F>,
+    stock: &mut Stock,
     out: &mut Vec<u8>,
     way: Way,
     text: &[u8],
@@ -29,16 +28,16 @@ pub fn push_second<R: Sync, F: Forge<R>>(
 }
 
 // How many units are held, and how many were ever made.
-fn push_held<F: Counts>(out: &mut Vec<u8>, stock: &Stock<F>) -> Result<(), NoMemory> {
+fn push_held(out: &mut Vec<u8>, stock: &Stock) -> Result<(), NoMemory> {
     push_ever(out, stock.registry.len(), stock.forge.count())
 }
 
 // One edit: how many units are built for it and how many were held, or its first fault; and what is held then.
-fn push_edit<R: Sync, F: Forge<R> + Counts>(
+fn push_edit<R: Threads + Sync>(
     rt: &R,
     alloc: Global,
     names: &mut Names,
-    stock: &mut Stock<F>,
+    stock: &mut Stock,
     out: &mut Vec<u8>,
     way: Way,
     text: &[u8],
@@ -51,11 +50,11 @@ fn push_edit<R: Sync, F: Forge<R> + Counts>(
 }
 
 /// Edits, each a text: what each has built, or its first fault, and what is held then.
-pub fn push_edits<R: Sync, F: Forge<R> + Counts>(
+pub fn push_edits<R: Threads + Sync>(
     rt: &R,
     alloc: Global,
     names: &mut Names,
-    stock: &mut Stock<F>,
+    stock: &mut Stock,
     out: &mut Vec<u8>,
     text: &[u8],
 ) -> Result<(), NoMemory> {
@@ -67,11 +66,11 @@ pub fn push_edits<R: Sync, F: Forge<R> + Counts>(
 
 /// Three edits, of which the second goes to a copy of what the first left: what each has built, or its first fault, and what is held where it
 /// went; and at the end what the copy holds.
-pub fn push_copies<R: Sync, F: Forge<R> + Counts>(
+pub fn push_copies<R: Threads + Sync>(
     rt: &R,
     alloc: Global,
     names: &mut Names,
-    stock: &mut Stock<F>,
+    stock: &mut Stock,
     out: &mut Vec<u8>,
     text: &[u8],
 ) -> Result<(), NoMemory> {
@@ -86,11 +85,11 @@ pub fn push_copies<R: Sync, F: Forge<R> + Counts>(
 }
 
 /// What a text has built as an edit, again with one digest for all its keys, and once more as it was; and what is held each time.
-pub fn push_redigested<R: Sync, F: Forge<R> + Counts>(
+pub fn push_redigested<R: Threads + Sync>(
     rt: &R,
     alloc: Global,
     names: &mut Names,
-    stock: &mut Stock<F>,
+    stock: &mut Stock,
     out: &mut Vec<u8>,
     text: &[u8],
 ) -> Result<(), NoMemory> {

@@ -2,13 +2,12 @@
 //
 // `comparing` goes over the tables, and a reader (`reader`: `reading` of one text, `edits` of several) takes a row's text to its modules
 // (`modules`). `designing` takes these to a `design` in its `way`: the tree of `elaborate`, its jobs (`unit_jobs`), their keys and units
-// (`units`) in a `stock`, and their design, when the units are seen to stand in the tree (`standing`). What makes units `counts` them, and
-// makes them on several threads (`counting_forge`). `shown` writes what a row shows, with nodes called as `node_names` says.
+// (`units`) in a `stock`, and their design, when the units are seen to stand in the tree (`standing`). What makes units makes them on several
+// threads, and counts them (`counting_forge`). `shown` writes what a row shows, with nodes called as `node_names` says.
 #![tactic(auto)]
 
 mod comparing;
 mod counting_forge;
-mod counts;
 mod design;
 mod designing;
 mod edits;
@@ -23,10 +22,8 @@ mod units;
 mod way;
 
 use crate::comparing::compare_all;
-use crate::counting_forge::CountingForge;
 use std::io;
 
 fn main(rt: HostRuntime) -> io::Result<()> {
-    let forge = CountingForge::new(rt.alloc());
-    compare_all(&rt, &forge)
+    compare_all(&rt)
 }

@@ -1,14 +1,14 @@
 // What one row's text is read as.
-use crate::counts::Counts;
 use crate::edits::{push_copies, push_edits, push_redigested, push_second};
 use crate::reading::{push_few, push_text};
 use crate::shown::Shown;
 use crate::stock::Stock;
 use crate::way::{ALIKE, PLAIN};
 use ls_text::Names;
-use module_registry::{Forge, digest, hex_digest};
+use module_registry::{digest, hex_digest};
 use no_memory::NoMemory;
 use std::alloc::Global;
+use std::thread::Threads;
 
 fn push_digest(alloc: Global, out: &mut Vec<u8>, text: &[u8]) -> Result<(), NoMemory> {
     let hex = hex_digest(alloc, &digest(text))?;
@@ -17,11 +17,11 @@ fn push_digest(alloc: Global, out: &mut Vec<u8>, text: &[u8]) -> Result<(), NoMe
 }
 
 // What is shown of one text.
-fn push_one<R: Sync, F: Forge<R>>(
+fn push_one<R: Threads + Sync>(
     rt: &R,
     alloc: Global,
     names: &mut Names,
-    stock: &mut Stock<F>,
+    stock: &mut Stock,
     out: &mut Vec<u8>,
     text: &[u8],
     shown: Shown,
@@ -30,11 +30,11 @@ fn push_one<R: Sync, F: Forge<R>>(
 }
 
 // What the reader of this name makes of a text.
-fn push_read<R: Sync, F: Forge<R> + Counts>(
+fn push_read<R: Threads + Sync>(
     rt: &R,
     alloc: Global,
     names: &mut Names,
-    stock: &mut Stock<F>,
+    stock: &mut Stock,
     out: &mut Vec<u8>,
     name: &str,
     text: &[u8],
@@ -54,20 +54,19 @@ fn push_read<R: Sync, F: Forge<R> + Counts>(
     }
 }
 
-/// What the reader of this name makes of a text, with units that a forge of this kind makes. The readers: `first`, the counts of a design or
+/// What the reader of this name makes of a text. The readers: `first`, the counts of a design or
 /// its first fault; `few`, the same with at most so many nodes as stands before the text; `parts`, its nodes and registers; `keys`, the texts
 /// of its keys; `again`, how many keys of the second of two texts are new, and `alike`, the same where all keys have one digest; `edits`,
 /// what each of several texts has built and what is held then; `redigested`, the same of one text, with other digests in between; `copies`,
 /// of three texts, of which the second goes to a copy; `digest`, the digest of a text.
-pub fn read<R: Sync, F: Forge<R> + Counts>(
+pub fn read<R: Threads + Sync>(
     rt: &R,
     alloc: Global,
-    forge: &F,
     name: &str,
     text: &[u8],
 ) -> Result<Vec<u8>, NoMemory> {
     let mut names = Names::new(alloc);
-    let mut stock = Stock::new(alloc, forge);
+    let mut stock = Stock::new(alloc);
     let mut out = Vec::new(alloc);
     push_read(rt, alloc, &mut names, &mut stock, &mut out, name, text)?;
     Ok(out)

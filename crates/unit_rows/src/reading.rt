@@ -5,9 +5,9 @@ use crate::shown::{Shown, push_counts, push_ensured, push_fault, push_keys, push
 use crate::stock::Stock;
 use crate::way::Way;
 use ls_text::{Names, Refusal};
-use module_registry::Forge;
 use no_memory::NoMemory;
 use std::alloc::Global;
+use std::thread::Threads;
 
 // What is shown where units don't stand in their tree, which is a fault of the program.
 const UNFIT: &[u8] = b"units don't fit";
@@ -36,11 +36,11 @@ fn push_refusal(out: &mut Vec<u8>, names: &Names, refusal: &Refusal) -> Result<(
 }
 
 // The design of a text.
-fn push_design<R: Sync, F: Forge<R>>(
+fn push_design<R: Threads + Sync>(
     rt: &R,
     alloc: Global,
     names: &mut Names,
-    stock: &mut Stock<F>,
+    stock: &mut Stock,
     out: &mut Vec<u8>,
     way: Way,
     text: &[u8],
@@ -54,11 +54,11 @@ fn push_design<R: Sync, F: Forge<R>>(
 }
 
 /// What is shown of the design of a text that is built with this stock, or its first fault.
-pub fn push_text<R: Sync, F: Forge<R>>(
+pub fn push_text<R: Threads + Sync>(
     rt: &R,
     alloc: Global,
     names: &mut Names,
-    stock: &mut Stock<F>,
+    stock: &mut Stock,
     out: &mut Vec<u8>,
     way: Way,
     text: &[u8],
@@ -89,11 +89,11 @@ fn number(digits: &[u8]) -> usize {
 }
 
 /// The counts of a text that has the limit on its nodes and a space before it, or its first fault.
-pub fn push_few<R: Sync, F: Forge<R>>(
+pub fn push_few<R: Threads + Sync>(
     rt: &R,
     alloc: Global,
     names: &mut Names,
-    stock: &mut Stock<F>,
+    stock: &mut Stock,
     out: &mut Vec<u8>,
     text: &[u8],
 ) -> Result<(), NoMemory> {

@@ -1,31 +1,31 @@
 // What designs are built with.
-use crate::counts::Counts;
+use crate::counting_forge::CountingForge;
 use ls_text::NoMemory;
 use module_registry::Registry;
 use std::alloc::Global;
 
 /// What designs are built with: the units that are held, and what makes more.
 #[derive(Drop)]
-pub struct Stock<F> {
+pub struct Stock {
     pub registry: Registry,
-    pub forge: F,
+    pub forge: CountingForge,
 }
 
-impl<F: Counts> Stock<F> {
-    /// Nothing is held; what makes units is of the kind of this forge, and has made nothing.
-    pub fn new(alloc: Global, forge: &F) -> Stock<F> {
+impl Stock {
+    /// Nothing is held, and nothing was made.
+    pub fn new(alloc: Global) -> Stock {
         Stock {
             registry: Registry::new(alloc),
-            forge: forge.fresh(alloc),
+            forge: CountingForge::new(alloc),
         }
     }
 
-    /// The same is held; what makes units has made nothing.
-    pub fn copy(&self, alloc: Global) -> Result<Stock<F>, NoMemory> {
+    /// The same is held; nothing was made.
+    pub fn copy(&self, alloc: Global) -> Result<Stock, NoMemory> {
         let registry = self.registry.copy()?;
         Ok(Stock {
             registry,
-            forge: self.forge.fresh(alloc),
+            forge: CountingForge::new(alloc),
         })
     }
 }

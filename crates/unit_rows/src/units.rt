@@ -2,9 +2,10 @@
 use crate::stock::Stock;
 use indexmap::IndexSet;
 use ls_text::{Names, NoMemory, Refusal};
-use module_registry::{BuildJob, Ensured, Forge, Key, Registry};
+use module_registry::{BuildJob, Ensured, Key, Registry};
 use std::alloc::Global;
 use std::sync::Arc;
+use std::thread::Threads;
 use unit_ir::Unit;
 
 // The digest that all keys have where they are alike.
@@ -44,10 +45,10 @@ pub fn each_once(alloc: Global, keys: &[Key]) -> Result<IndexSet<Key>, NoMemory>
 }
 
 /// Has the units of these keys held.
-pub fn ensure<R: Sync, F: Forge<R>>(
+pub fn ensure<R: Threads + Sync>(
     rt: &R,
     alloc: Global,
-    stock: &mut Stock<F>,
+    stock: &mut Stock,
     keys: &IndexSet<Key>,
 ) -> Result<Ensured, Refusal> {
     stock

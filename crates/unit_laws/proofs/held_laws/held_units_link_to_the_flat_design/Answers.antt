@@ -1,4 +1,5 @@
 use Rattle.unit_laws.proofs.HeldDesign.{jobs_are_under, they_stand, they_are_flat}
+use Rattle.unit_laws.proofs.OneDesign.{one_design}
 use Rattle.unit_laws.proofs.held_laws.held_units_link_to_the_flat_design.Goals as goal
 
 pub returns-clause-jobs : goal.returns-clause-jobs
@@ -11,3 +12,6 @@ returns-clause-stand c texts known names ms top clock xs js keys es units h of_j
 pub returns-clause-linked : goal.returns-clause-linked
 returns-clause-linked c texts known names ms top clock xs js keys es units design h of_jobs made held are first linked =
     they_are_flat texts known names ms top clock xs js h keys es units of_jobs made held are design first linked
+
+pub returns-clause-one : goal.returns-clause-one
+returns-clause-one c names ms top clock xs ys a b once spelled g h = one_design names once ms spelled top clock xs ys a b g h

@@ -11,7 +11,7 @@ use Rattle.module_registry.proofs.registry.Registry.ensure.Goals as goal
 pub add_or_cut-requires : goal.add_or_cut-requires
 add_or_cut-requires g c =
     let held = keys_of (entries_of c.args.self.now) in
-    subst (λ (ks : List KeyData). are_new held ks ≡ true) (sym (c.deref-2.ensures.value ∙ c.in_ok-missing.ensures)) (missing_new held c.args.keys.now c.requires)
+    subst (λ (ks : List KeyData). are_new held ks ≡ true) (sym (c.deref-2.ensures.value ∙ c.in_ok-missing.ensures)) (missing_new held c.args.keys.now c.requires.distinct)
 
 pub overflow_cast-built : goal.overflow_cast-built
 overflow_cast-built g c =

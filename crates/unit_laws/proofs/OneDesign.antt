@@ -1,0 +1,269 @@
+-- The flat design of modules is one: elaboration finds the instances, each of them tells its copy, and a name of the table is told by its text (IEEE
+-- Std 1364-2005, 12.1.2 and 12.4).
+use Rattle.std.proofs.Common.{◌≡◌, ℕ, suc, Bool, true, false, if◌then◌else◌, List, [], ◌∷◌, All, filter, map, Option, Some, None, Ok}
+use Rattle.std.proofs.Common.{refl, sym, ◌∙◌, ap, ap₂, subst}
+use Rattle.std.specs.List.{AllZip}
+use Rattle.std.proofs.lemmas.List.Elements.{All-nil, All-cons, All-head, All-tail, All-append, All-weaker}
+use Rattle.std.proofs.lemmas.Option.{same_Some}
+use Rattle.ls_text.specs.Texts.{HasEachOnce, text_at}
+use Rattle.ls_text.specs.declared.name_id.NameId.{NameId}
+use Rattle.typed_ir.specs.Cycles.{Flat}
+use Rattle.verilog_ast.specs.declared.identifier.Identifier.{Identifier}
+use Rattle.verilog_ast.specs.declared.module.Module.{Module}
+use Rattle.verilog_ast.specs.Items.{ModuleItem, ModuleDeclaration}
+use Rattle.verilog_ast.specs.Views.{declarations_of}
+use Rattle.unit_ir.specs.declared.child_shape.ChildShape.{ChildShape}
+use Rattle.unit_ir.specs.declared.instance.Instance.{Instance}
+use Rattle.unit_ir.specs.declared.port_shape.PortShape.{PortShape}
+use Rattle.unit_ir.specs.Shapes.{children_of, shape_of, stands_in}
+use Rattle.gen_unroll.specs.Reaches.{innermost, blocks_around as blocks_left}
+use Rattle.gen_unroll.specs.Steps.{GenerateBlock, ModuleStep, Listed, Port, Parameter, Item, Labelled, Opened, Closed, blocks_in}
+use Rattle.gen_unroll.specs.Unrolled.{unrolled_module}
+use Rattle.clock_rules.specs.Views.{clock_view}
+use Rattle.elaborate.specs.Elaborated.{Standing, elaborated}
+use Rattle.elaborate.specs.Ports.{PortOutline}
+use Rattle.elaborate.specs.Trees.{TreeInstance, blocks_around, called as instance_called, seen, all_seen}
+use Rattle.elaborate.specs.TreeViews.{instance_view, language_limits}
+use Rattle.elaborate.specs.Views.{port_of}
+use Rattle.unit_names.specs.Numbers.{SignalTable, module_table}
+use Rattle.unit_jobs.specs.BlockNames.{called_in, declared_by, item_texts, texts_within}
+use Rattle.unit_jobs.specs.JobViews.{text_of}
+use Rattle.job_laws.specs.BlockSignals.{is_within_block, called as signal_called}
+use Rattle.job_laws.specs.Outer.{are_ports_outside}
+use Rattle.job_laws.proofs.Answered.{ok_same}
+use Rattle.job_laws.proofs.BlockNames.{same_names_within}
+use Rattle.job_laws.proofs.KnownInstances.{same_first, same_others, side_by_side}
+use Rattle.job_laws.proofs.Rerolled.{ports_stand_outside}
+use Rattle.unit_laws.specs.Copies.{ModuleCopy, Copies}
+use Rattle.unit_laws.specs.DesignCopies.{IsCopyIn, AreEntriesIn, AreCopiesIn}
+use Rattle.unit_laws.specs.Flat.{flat}
+use Rattle.unit_laws.specs.JobsUnder.{IsIn}
+use Rattle.unit_laws.specs.Spelled.{IsSpelledUnder}
+use Rattle.unit_laws.specs.TableCopies.{CopyEntry, copies_listed}
+use Rattle.unit_laws.specs.TreeJobs.{IsFlatIn, one_table}
+use Rattle.unit_laws.proofs.InstanceTexts.{IsNameWord, spoken_some}
+use Rattle.unit_laws.proofs.OneTable.{outer_ports}
+use Rattle.unit_laws.proofs.OwnInstances.{IsOwnStanding, all_own, module_is}
+use Rattle.unit_laws.proofs.Parts.{port_same}
+use Rattle.unit_laws.proofs.SameUnits.{ids_same}
+use Rattle.unit_laws.proofs.StepNames.{IsStepNamed, declared_named, told_go}
+use Rattle.unit_laws.proofs.TableAlone.{same_listed}
+use Rattle.unit_laws.proofs.ToldInstances.{modules_named, within_table}
+
+-- ---- what is told by numbers
+
+id_is : (m n : NameId) → m.0 ≡ n.0 → m ≡ n
+id_is m n is = λ i. record { 0 = is i }
+
+clock_same : (c d : Option NameId) → clock_view c ≡ clock_view d → c ≡ d
+clock_same None None is = refl
+clock_same None (Some n) is = absurd cc
+clock_same (Some m) None is = absurd cc
+clock_same (Some m) (Some n) is = ap Some (id_is m n (same_Some m.0 n.0 is))
+
+ports_same : (ps qs : List PortShape) → map port_of ps ≡ map port_of qs → ps ≡ qs
+ports_same [] [] is = refl
+ports_same [] (q ∷ qs) is = absurd cc
+ports_same (p ∷ ps) [] is = absurd cc
+ports_same (p ∷ ps) (q ∷ qs) is =
+    let here = same_first (port_of p) (port_of q) (map port_of ps) (map port_of qs) is in
+    ap₂ (λ (r : PortShape) (rs : List PortShape). r ∷ rs)
+    (port_same p q (id_is p.name q.name (ap (λ (o : PortOutline). o.name) here)) (ap (λ (o : PortOutline). o.input) here)
+    (ap (λ (o : PortOutline). o.width) here) (ap (λ (o : PortOutline). o.signed) here))
+    (ports_same ps qs (same_others (port_of p) (port_of q) (map port_of ps) (map port_of qs) is))
+
+shape_same : (c d : ChildShape) → c.instance ≡ d.instance → c.clock ≡ d.clock → c.ports ≡ d.ports → c ≡ d
+shape_same c d instance clock ports = λ i. record { instance = instance i; clock = clock i; ports = ports i }
+
+copy_same : (c d : ModuleCopy) → c.name ≡ d.name → c.declaration ≡ d.declaration → c.steps ≡ d.steps → c.table ≡ d.table → c.clock ≡ d.clock
+    → c.children ≡ d.children → c.names ≡ d.names → c ≡ d
+copy_same c d name declaration steps table clock children names = λ i. record {
+  name = name i;
+  declaration = declaration i;
+  steps = steps i;
+  table = table i;
+  clock = clock i;
+  children = children i;
+  names = names i;
+}
+
+-- ---- what is told by texts
+
+abbrev IsSome : List ℕ → Type 0
+IsSome text = text ≡ [] → ⊥
+
+module _ (names : List (List ℕ)) (once : HasEachOnce names) where
+  number_same : (m n : ℕ) (text : List ℕ) → IsSome text → text_at names m ≡ text → text_at names n ≡ text → m ≡ n
+  number_same m n text some is also =
+      once m n (within_table names m (λ none. some (sym is ∙ none))) (within_table names n (λ none. some (sym also ∙ none))) (is ∙ sym also)
+
+  ids_in : (ns : List NameId) → All IsSome (map (text_of names) ns) → All (IsIn names) ns
+  ids_in [] all = All-nil (IsIn names)
+  ids_in (n ∷ ns) all =
+      All-cons (IsIn names) n ns (within_table names n.0 (All-head IsSome (text_of names n) (map (text_of names) ns) all))
+      (ids_in ns (All-tail IsSome (text_of names n) (map (text_of names) ns) all))
+
+  -- no name within a block is empty
+  called_some : (bs : List GenerateBlock) (block : ℕ) (ns : List Identifier) → All (IsNameWord names) ns
+      → All IsSome (map (called_in names bs block) ns)
+  called_some bs block [] words = All-nil IsSome
+  called_some bs block (n ∷ ns) words =
+      All-cons IsSome (called_in names bs block n) (map (called_in names bs block) ns)
+      (spoken_some names bs (Some block) n (All-head (IsNameWord names) n ns words))
+      (called_some bs block ns (All-tail (IsNameWord names) n ns words))
+
+  item_some : (bs : List GenerateBlock) (block : Option ℕ) (x : ModuleItem) → All (IsNameWord names) (declared_by x)
+      → All IsSome (item_texts names bs block x)
+  item_some bs None x words = All-nil IsSome
+  item_some bs (Some block) x words = called_some bs block (declared_by x) words
+
+  abbrev AreWords : List ModuleStep → Type 0
+  AreWords steps = All (IsStepNamed (IsNameWord names)) steps
+
+  rest : (step : ModuleStep) (steps : List ModuleStep) → AreWords (step ∷ steps) → AreWords steps
+  rest step steps all = All-tail (IsStepNamed (IsNameWord names)) step steps all
+
+  texts_some : (bs : List GenerateBlock) (around : List ℕ) (steps : List ModuleStep) → AreWords steps
+      → All IsSome (texts_within names bs around steps)
+  texts_some bs around [] all = All-nil IsSome
+  texts_some bs around (Listed n ∷ steps) all = texts_some bs around steps (rest (Listed n) steps all)
+  texts_some bs around (Port p ∷ steps) all = texts_some bs around steps (rest (Port p) steps all)
+  texts_some bs around (Parameter s n v ∷ steps) all = texts_some bs around steps (rest (Parameter s n v) steps all)
+  texts_some bs around (Item x ∷ steps) all =
+      All-append IsSome (item_texts names bs (innermost around) x) (texts_within names bs around steps)
+      (item_some bs (innermost around) x
+      (declared_named (IsNameWord names) x (All-head (IsStepNamed (IsNameWord names)) (Item x) steps all)))
+      (texts_some bs around steps (rest (Item x) steps all))
+  texts_some bs around (Labelled n ∷ steps) all = texts_some bs around steps (rest (Labelled n) steps all)
+  texts_some bs around (Opened b items ∷ steps) all = texts_some bs (b.number ∷ around) steps (rest (Opened b items) steps all)
+  texts_some bs around (Closed ∷ steps) all = texts_some bs (blocks_left around) steps (rest Closed steps all)
+
+  -- ---- the instances that stand in one
+
+  abbrev IsWord : Standing → Type 0
+  IsWord s = IsNameWord names s.name
+
+  -- an instance has a name
+  called_so : (all : List Standing) (s : Standing) → IsWord s → IsSome (instance_called names all s)
+  called_so all s word = spoken_some names (blocks_around all s.parent) s.block s.name word
+
+  instance_shape : (all : List Standing) (x y : Instance) (s : Standing) → IsWord s → instance_view names x ≡ seen names all s
+      → instance_view names y ≡ seen names all s → shape_of x ≡ shape_of y
+  instance_shape all x y s word is also =
+      let same = is ∙ sym also in
+      shape_same (shape_of x) (shape_of y)
+      (id_is x.place.name y.place.name
+      (number_same x.place.name.0 y.place.name.0 (instance_called names all s) (called_so all s word) (ap (λ (i : TreeInstance). i.name) is)
+      (ap (λ (i : TreeInstance). i.name) also)))
+      (clock_same x.clock y.clock (ap (λ (i : TreeInstance). i.clock) same))
+      (ports_same x.ports y.ports (ap (λ (i : TreeInstance). i.ports) same))
+
+  child_first : (b : Bool) (x y : Instance) (xs ys : List Instance) → shape_of x ≡ shape_of y → map shape_of xs ≡ map shape_of ys
+      → map shape_of (if b then x ∷ xs else xs) ≡ map shape_of (if b then y ∷ ys else ys)
+  child_first true x y xs ys first others = ap₂ (λ (c : ChildShape) (cs : List ChildShape). c ∷ cs) first others
+  child_first false x y xs ys first others = others
+
+  abbrev AreSeen : List Standing → List Instance → List Standing → Type 0
+  AreSeen all xs ss = AllZip (λ x s. instance_view names x ≡ seen names all s) xs ss
+
+  children_same : (all : List Standing) (k : ℕ) (xs ys : List Instance) (ss : List Standing) → All IsWord ss → AreSeen all xs ss
+      → AreSeen all ys ss → map shape_of (children_of k xs) ≡ map shape_of (children_of k ys)
+  children_same all k [] [] ss words one other = refl
+  children_same all k [] (y ∷ ys) [] words one other = absurd other
+  children_same all k [] (y ∷ ys) (s ∷ ss) words one other = absurd one
+  children_same all k (x ∷ xs) [] [] words one other = absurd one
+  children_same all k (x ∷ xs) [] (s ∷ ss) words one other = absurd other
+  children_same all k (x ∷ xs) (y ∷ ys) [] words one other = absurd one
+  children_same all k (x ∷ xs) (y ∷ ys) (s ∷ ss) words one other =
+      child_first (stands_in k x.place.parent) x y (children_of k xs) (children_of k ys)
+      (instance_shape all x y s (All-head IsWord s ss words) one.0 other.0)
+      (children_same all k xs ys ss (All-tail IsWord s ss words) one.1 other.1)
+      ∙ ap (λ (p : Option ℕ). map shape_of (if stands_in k p then y ∷ children_of k ys else children_of k ys))
+      (ap (λ (i : TreeInstance). i.parent) (one.0 ∙ sym other.0))
+
+  -- ---- copies
+
+  module _ (ms : List Module) (spelled : All (IsSpelledUnder names) ms) where
+    abbrev IsCopy : List Instance → List Standing → ℕ → CopyEntry → Standing → Type 0
+    IsCopy xs all k e s = IsCopyIn language_limits.turns (declarations_of ms) (one_table names) xs all k e s
+
+    abbrev AreEntries : List Instance → List Standing → ℕ → List CopyEntry → List Standing → Type 0
+    AreEntries xs all k es ss = AreEntriesIn language_limits.turns (declarations_of ms) (one_table names) xs all k es ss
+
+    -- the names of a copy are in the table
+    names_in : (xs : List Instance) (all : List Standing) (k : ℕ) (e : CopyEntry) (s : Standing) → IsCopy xs all k e s
+        → All (IsIn names) e.copy.names
+    names_in xs all k e s h =
+        let steps = e.copy.steps in
+        let d = e.copy.declaration in
+        let words = modules_named names ms spelled in
+        let named = module_is (IsNameWord names) language_limits (declarations_of ms) words s.instantiated (declarations_of ms) d words h.declared in
+        let outside = subst (λ (ss : List ModuleStep). are_ports_outside 0 ss ≡ true) (sym h.unrolled)
+        (ports_stand_outside language_limits.turns s.overrides d (outer_ports ms s.instantiated d h.declared)) in
+        let are = subst AreWords (sym h.unrolled) (told_go (IsNameWord names) language_limits.turns s.overrides d named.1) in
+        ids_in e.copy.names
+        (subst (All IsSome) (same_names_within d steps e.copy.table names outside h.signals ∙ sym h.names)
+        (texts_some (blocks_in steps) [] steps are))
+
+    entry_same : (xs ys : List Instance) (all : List Standing) (k : ℕ) (e f : CopyEntry) (s : Standing) → IsWord s
+        → map shape_of (children_of k xs) ≡ map shape_of (children_of k ys) → IsCopy xs all k e s → IsCopy ys all k f s → e ≡ f
+    entry_same xs ys all k e f s word children one other =
+        let declared = same_Some e.copy.declaration f.copy.declaration (sym one.declared ∙ other.declared) in
+        let steps = one.unrolled ∙ ap (λ (d : ModuleDeclaration). (unrolled_module language_limits.turns s.overrides d).said) declared
+        ∙ sym other.unrolled in
+        let table = ok_same e.copy.table f.copy.table (sym one.signals ∙ ap₂ module_table declared steps ∙ other.signals) in
+        let called = one.names
+        ∙ ap₂ (λ (ss : List ModuleStep) (t : SignalTable). map (signal_called names (blocks_in ss)) (filter is_within_block t.signals)) steps table
+        ∙ sym other.names in
+        ap₂ (λ (p : Option ℕ) (c : ModuleCopy). record { parent = p; copy = c }) (one.parent ∙ sym other.parent)
+        (copy_same e.copy f.copy
+        (number_same e.copy.name f.copy.name (instance_called names all s) (called_so all s word) one.name other.name)
+        declared steps table (clock_same e.copy.clock f.copy.clock (one.clock ∙ sym other.clock))
+        (one.children ∙ children ∙ sym other.children)
+        (ids_same names e.copy.names f.copy.names once (names_in xs all k e s one) (names_in ys all k f s other) called))
+
+    entries_same : (xs ys : List Instance) (all : List Standing) → ((k : ℕ) → map shape_of (children_of k xs) ≡ map shape_of (children_of k ys))
+        → (k : ℕ) (es fs : List CopyEntry) (ss : List Standing) → All IsWord ss → AreEntries xs all k es ss → AreEntries ys all k fs ss → es ≡ fs
+    entries_same xs ys all children k [] [] ss words one other = refl
+    entries_same xs ys all children k [] (f ∷ fs) [] words one other = absurd other
+    entries_same xs ys all children k [] (f ∷ fs) (s ∷ ss) words one other = absurd one
+    entries_same xs ys all children k (e ∷ es) [] [] words one other = absurd one
+    entries_same xs ys all children k (e ∷ es) [] (s ∷ ss) words one other = absurd other
+    entries_same xs ys all children k (e ∷ es) (f ∷ fs) [] words one other = absurd one
+    entries_same xs ys all children k (e ∷ es) (f ∷ fs) (s ∷ ss) words one other =
+        ap₂ (λ (g : CopyEntry) (gs : List CopyEntry). g ∷ gs)
+        (entry_same xs ys all k e f s (All-head IsWord s ss words) (children k) one.0 other.0)
+        (entries_same xs ys all children (suc k) es fs ss (All-tail IsWord s ss words) one.1 other.1)
+
+    -- ---- designs
+
+    module _ (top clock : ℕ) where
+      all_words : (all : List Standing) → elaborated language_limits (declarations_of ms) top clock ≡ Ok all → All IsWord all
+      all_words all is =
+          let words = modules_named names ms spelled in
+          All-weaker (IsOwnStanding (IsNameWord names) language_limits (declarations_of ms) words) IsWord (λ s own. own.named) all
+          (all_own (IsNameWord names) language_limits (declarations_of ms) words top clock all is)
+
+      copies_same : (all : List Standing) (xs ys : List Instance) (a b : Copies)
+          → elaborated language_limits (declarations_of ms) top clock ≡ Ok all → map (instance_view names) xs ≡ all_seen names all
+          → map (instance_view names) ys ≡ all_seen names all
+          → AreCopiesIn language_limits.turns (declarations_of ms) (one_table names) xs all a
+          → AreCopiesIn language_limits.turns (declarations_of ms) (one_table names) ys all b → a ≡ b
+      copies_same all xs ys a b is view also one other =
+          let words = all_words all is in
+          same_listed a b
+          (entries_same xs ys all
+          (λ k. children_same all k xs ys all words (side_by_side (instance_view names) (seen names all) xs all view)
+          (side_by_side (instance_view names) (seen names all) ys all also))
+          0 (copies_listed None 0 a) (copies_listed None 0 b) all words one other)
+
+      pub one_design : (xs ys : List Instance) (a b : Flat) → IsFlatIn names ms top clock xs a → IsFlatIn names ms top clock ys b → a ≡ b
+      one_design xs ys a b g h =
+          let alls = ok_same g.all h.all (sym g.found ∙ h.found) in
+          g.same
+          ∙ ap flat (copies_same h.all xs ys g.copies h.copies h.found
+          (subst (λ (all : List Standing). map (instance_view names) xs ≡ all_seen names all) alls g.seen) h.seen
+          (subst (λ (all : List Standing). AreCopiesIn language_limits.turns (declarations_of ms) (one_table names) xs all g.copies) alls
+          g.are_copies)
+          h.are_copies)
+          ∙ sym h.same
