@@ -1,5 +1,5 @@
 -- The names that a fault of units or of linking shows are of the table.
-use Rattle.std.proofs.Common.{◌≡◌, ◌<◌, ℕ, List, [], ◌∷◌, All, length, sym, subst}
+use Rattle.std.proofs.Common.{◌≡◌, ◌<◌, ℕ, List, [], ◌∷◌, All, length, sym, ap, subst}
 use Rattle.std.specs.Prelude.{Result, Ok, Err}
 use Rattle.std.proofs.lemmas.List.Elements.{All-nil, All-head, All-tail}
 use Rattle.ls_text.specs.declared.fault.Fault.{Fault}
@@ -23,7 +23,7 @@ AreShown names ids = All (λ (id : NameId). id.0 < length names) ids
 module _ (names : List (List ℕ)) where
   first_shows : (r : Result Built Fault) (rest : Result (List Built) Fault) (f : Fault) → (r ≡ Err f → AreShown names f.names)
       → (rest ≡ Err f → AreShown names f.names) → (r >>= λ u. rest >>= λ us. Ok (u ∷ us)) ≡ Err f → AreShown names f.names
-  first_shows (Err e) rest f first more is = first is
+  first_shows (Err e) rest f first more is = let same : e ≡ f = cc in first (ap Err same)
   first_shows (Ok u) (Err e) f first more is = more is
   first_shows (Ok u) (Ok us) f first more is = absurd cc
 
@@ -37,7 +37,7 @@ module _ (names : List (List ℕ)) where
 
 -- ---- linking, and room for registers
 
-none_shown : (names : List (List ℕ)) (ids : List NameId) → ids ≡ [] → AreShown names ids
+pub none_shown : (names : List (List ℕ)) (ids : List NameId) → ids ≡ [] → AreShown names ids
 none_shown names ids is = subst (AreShown names) (sym is) (All-nil (λ (id : NameId). id.0 < length names))
 
 link_shows : (texts names : List (List ℕ)) (design : Flat) (f : Fault) → IsLinkFault 1048576 texts names design (refusal.Fault f) → AreShown names f.names

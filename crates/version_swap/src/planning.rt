@@ -1,5 +1,5 @@
 // The next version of a design, or its first fault.
-ghost use Rattle.std.specs.Prelude.{◌≡◌, ◌≤◌, ◌<◌, ◌+◌, ◌++◌, ℕ, List, Ok, length, IfOk, IfErr, IfSome, OnErr};
+ghost use Rattle.std.specs.Prelude.{◌≡◌, ◌≤◌, ◌<◌, ◌+◌, ◌++◌, ℕ, List, [], Ok, length, IfOk, IfErr, IfSome, OnErr};
 ghost use Rattle.std.specs.List.{All};
 ghost use Rattle.std.specs.Option.{option_or, unwrap_or};
 ghost use Rattle.ls_text.specs.Readings.{CanShow, fault_view};
@@ -28,7 +28,8 @@ use std::alloc::Global;
 
 // 40, at the edit
 fn too_many(alloc: Global) -> Fault
-    ensures { (names : List (List ℕ)) → fault_view names result ≡ too_many_fault }
+    ensures view { (names : List (List ℕ)) → fault_view names result ≡ too_many_fault }
+    ensures none { result.names ≡ [] }
 {
     Fault {
         code: 40,
@@ -45,7 +46,7 @@ fn too_many(alloc: Global) -> Fault
 /// 40 and 39 of linking, and 40 where the registers take too much room. Else want of memory. The units of those keys that the registry doesn't
 /// hold are made in that order; behind a refusal it holds what it held, and what the forge has made stays made. The table of names keeps all it
 /// has.
-pub fn plan<R: Sync, F: Forge<R>>(
+pub fn plan<R, F: Forge<R>>(
     rt: &R,
     alloc: Global,
     names: &mut Names,
@@ -63,6 +64,7 @@ pub fn plan<R: Sync, F: Forge<R>>(
     requires clock { (unwrap_or edit.now.clock texts.now.clock).0 < length names.old }
     requires held { AreHeldUnder names.old (entries_of registry.old) }
     requires builds { (job : BuildJob) → F.builds job ≡ built job }
+    requires ready { F.ready rt.now }
     // The design of the files behind the edit with the texts of its keys, or the first fault.
     ensures texts { IfOk result (λ p. p.texts ≡ texts_behind texts.now edit.now loaded.now) }
     ensures planned { IfOk result (λ p. Plans names.new p.texts.files p.texts.top p.texts.clock (Ok (design_of p.design p.keys))) }
