@@ -1,5 +1,5 @@
 -- The first of equal keys, and of jobs of one text.
-use Rattle.std.proofs.Common.{◌≡◌, ℕ, Bool, true, false, cond, ◌&&◌, ◌||◌, List, [], ◌∷◌, ◌++◌, All, map, refl, sym, ◌∙◌, ap, ap₂, subst, true≢false}
+use Rattle.std.proofs.Common.{◌≡◌, ℕ, Bool, true, false, cond, ◌&&◌, ◌||◌, List, [], ◌∷◌, ◌++◌, All, map, refl, sym, ◌∙◌, ap, ap₂, true≢false}
 use Rattle.std.proofs.lemmas.List.{map_push}
 use Rattle.std.proofs.lemmas.List.Elements.{All-nil, All-cons, All-head, All-tail, All-push}
 use Rattle.std.proofs.lemmas.Slice.Eq.{bytes_eq-Decides}
@@ -12,7 +12,6 @@ use Rattle.module_registry.specs.Entries.{is_among}
 use Rattle.module_registry.specs.Jobs.{job_text}
 use Rattle.module_registry.specs.KeyLaws.{same_laws}
 use Rattle.module_registry.specs.Keys.{KeyData, same, jobs_of}
-use Rattle.module_registry.proofs.News.{among_both}
 use Rattle.version_swap.specs.FirstKeys.{is_text_among, with_job, first_jobs, key_of, with_key, first_keys}
 
 -- ---- a key that a set takes in

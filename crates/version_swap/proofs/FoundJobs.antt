@@ -14,7 +14,7 @@ use Rattle.ls_text.proofs.Growth.{grown_id, grown_text, grows_on}
 use Rattle.verilog_ast.specs.declared.module.Module.{Module}
 use Rattle.verilog_ast.specs.Names.{names_of_body, names_of_modules}
 use Rattle.verilog_ast.specs.Items.{ModuleDeclaration}
-use Rattle.verilog_ast.specs.Views.{declaration_of, declarations_of}
+use Rattle.verilog_ast.specs.Views.{declarations_of}
 use Rattle.module_names.specs.Modules.{module_named}
 use Rattle.unit_ir.specs.declared.instance.Instance.{Instance}
 use Rattle.elaborate.specs.Elaborated.{Standing, elaborated}
@@ -27,7 +27,6 @@ use Rattle.unit_jobs.specs.JobViews.{job_view}
 use Rattle.unit_laws.specs.InstancesTold.{HasNamesIn}
 use Rattle.unit_laws.specs.JobsUnder.{IsIn}
 use Rattle.unit_laws.specs.Spelled.{IsSpelledUnder}
-use Rattle.unit_laws.specs.TreeJobs.{AreJobsIn}
 use Rattle.version_swap.specs.Founds.{AreModules, IsReadRefusal, IsTop, HasModules}
 use Rattle.version_swap.specs.FoundUnder.{IsNumberOf, HasModuleIn, IsFoundUnder}
 use Rattle.version_swap.specs.Plans as plans

@@ -1,5 +1,5 @@
 -- The tokens of files, by what the preprocessor and the lexer answer.
-use Rattle.std.proofs.Common.{◌≡◌, List, ℕ, Result, Ok, Err, sym, ap, subst, ◌∙◌}
+use Rattle.std.proofs.Common.{◌≡◌, List, ℕ, Result, Ok, sym, ap, subst, ◌∙◌}
 use Rattle.ls_text.specs.declared.refusal.Refusal.{Refusal}
 use Rattle.ls_text.specs.declared.source_file.SourceFile.{SourceFile}
 use Rattle.ls_text.specs.Readings.{TextFault, Gives, Refuses, ◌>>=◌}

@@ -1,6 +1,6 @@
 -- A fault of elaboration or of a unit shows names of the table alone: where all other names change and those of the text stay, the fault is the same.
-use Rattle.std.proofs.Common.{◌≡◌, ℕ, ◌+◌, ◌<◌, ◌≤◌, Bool, true, false, nat_lt, if◌then◌else◌, cond, List, [], ◌∷◌, ◌++◌, All, length, map, Result, Ok, Err, refl, sym, ap, ap₂, ◌∙◌, subst, arith}
-use Rattle.std.specs.Prelude.{Option, Some, None, ⊤, flat_map}
+use Rattle.std.proofs.Common.{◌≡◌, ℕ, ◌+◌, ◌<◌, Bool, true, false, nat_lt, if◌then◌else◌, cond, List, [], ◌∷◌, ◌++◌, All, length, map, Result, Err, refl, sym, ap, ap₂, ◌∙◌, subst, arith}
+use Rattle.std.specs.Prelude.{Option, Some, None, ⊤}
 use Rattle.std.specs.Option.{option_map}
 use Rattle.std.proofs.lemmas.Bool.{ltb-true, ltb-false, lt-ltb}
 use Rattle.std.proofs.lemmas.List.Elements.{All-nil, All-cons, All-head, All-tail, All-weaker}
@@ -17,7 +17,7 @@ use Rattle.width_rules.specs.Renaming.{fault_as}
 use Rattle.unit_ir.specs.declared.child_shape.ChildShape.{ChildShape}
 use Rattle.unit_ir.specs.declared.port_shape.PortShape.{PortShape}
 use Rattle.elaborate.specs.declared.limits.Limits.{Limits}
-use Rattle.elaborate.specs.Elaborated.{Standing, elaborated}
+use Rattle.elaborate.specs.Elaborated.{elaborated}
 use Rattle.module_registry.specs.declared.build_job.BuildJob.{BuildJob}
 use Rattle.unit_build.specs.Building.{built}
 use Rattle.design_laws.specs.Findings.{standing_as}
@@ -121,9 +121,9 @@ module _ (count : ℕ) where
       let top_stays : number_as moved top ≡ top = ap (λ (m : NameId). m.0) (stays (record { 0 = top }) top_in) in
       let clock_stays : number_as moved clock ≡ clock = ap (λ (m : NameId). m.0) (stays (record { 0 = clock }) clock_in) in
       let same : elaborated l ds top clock ≡ found_as moved (map (standing_as moved)) (elaborated l ds top clock) =
-          sym (ap (λ (xs : List ModuleDeclaration). elaborated l xs (number_as moved top) (number_as moved clock)) (modules_stay ms all)
-          ∙ ap₂ (elaborated l ds) top_stays clock_stays)
-          ∙ same_elaborated moved l ds top clock apart in
+      sym (ap (λ (xs : List ModuleDeclaration). elaborated l xs (number_as moved top) (number_as moved clock)) (modules_stay ms all)
+      ∙ ap₂ (elaborated l ds) top_stays clock_stays)
+      ∙ same_elaborated moved l ds top clock apart in
       shown_below (map (standing_as moved)) (elaborated l ds top clock) f same is
 
   -- ---- units

@@ -22,6 +22,7 @@ mod version;
 mod versions;
 
 pub use file_list::FileList;
+pub use files::files_behind;
 pub use key_list::KeyList;
 pub use planned::Planned;
 pub use planning::plan;

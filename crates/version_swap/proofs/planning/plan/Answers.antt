@@ -1,6 +1,5 @@
-use Rattle.std.proofs.Common.{◌≡◌, ◌∙◌, List, ap, arith}
+use Rattle.std.proofs.Common.{◌∙◌, arith}
 use Rattle.std.specs.Option.{option_or, unwrap_or}
-use Rattle.ls_text.specs.declared.source_file.SourceFile.{SourceFile}
 use Rattle.version_swap.specs.Files.{files_behind}
 use Rattle.version_swap.proofs.Ordered.{are_behind}
 use Rattle.version_swap.proofs.Short.{short_behind}
