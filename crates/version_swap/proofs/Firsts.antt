@@ -62,9 +62,11 @@ module _ (names : List (List ℕ)) where
       ∙ chosen (is_text_among names (job_text names j) js) js j
 
   -- the first keys are those of the first jobs
-  pub first_of_jobs : (js more : List BuildJob) → first_keys (map (key_of names) js) (map (key_of names) more) ≡ map (key_of names) (first_jobs names js more)
+  pub first_of_jobs : (js more : List BuildJob) → first_keys (map (key_of names) js) (map (key_of names) more) ≡ map (key_of names)
+      (first_jobs names js more)
   first_of_jobs js [] = refl
-  first_of_jobs js (j ∷ more) = ap (λ (ks : List KeyData). first_keys ks (map (key_of names) more)) (one_key js j) ∙ first_of_jobs (with_job names js j) more
+  first_of_jobs js (j ∷ more) = ap (λ (ks : List KeyData). first_keys ks (map (key_of names) more)) (one_key js j)
+      ∙ first_of_jobs (with_job names js j) more
 
   pub jobs_behind : (js : List BuildJob) → jobs_of (map (key_of names) js) ≡ js
   jobs_behind [] = refl
@@ -94,7 +96,8 @@ module _ (names : List (List ℕ)) (P : BuildJob → Type 0) where
   pub first_jobs_all : (js more : List BuildJob) → All P js → All P more → All P (first_jobs names js more)
   first_jobs_all js [] all more = all
   first_jobs_all js (j ∷ later) all more =
-      first_jobs_all (with_job names js j) later (one_job (is_text_among names (job_text names j) js) js j all (All-head P j later more)) (All-tail P j later more)
+      first_jobs_all (with_job names js j) later (one_job (is_text_among names (job_text names j) js) js j all (All-head P j later more))
+      (All-tail P j later more)
 
 -- ---- where the first keys are held, all are
 

@@ -68,7 +68,8 @@ top_is old names None n ms is grows spelled =
 
 -- ---- what is known once the modules are read
 
-module _ (before texts : List (List ℕ)) (files : List SourceFile) (name : Option NameId) (clock : NameId) (ms : List Module) (n : ℕ) (few : length files ≤ 256)
+module _ (before texts : List (List ℕ)) (files : List SourceFile) (name : Option NameId) (clock : NameId) (ms : List Module) (n : ℕ)
+    (few : length files ≤ 256)
     (read : AreModules texts files ms) (spelled : All (IsSpelledUnder texts) ms)
     (named : All (λ (id : NameId). id.0 < length texts) (names_of_modules ms)) (number : IsNumberOf before name n) (grew : Grows before texts) where
   has_modules : HasModules texts files name ms n
@@ -102,7 +103,8 @@ module _ (before texts : List (List ℕ)) (files : List SourceFile) (name : Opti
       → Answers (Err e) view (tree language_limits texts (declarations_of slice) n clock.0) → CanShow (length known) e
   tree_known view slice known same grows top_in clock_in (refusal.Fault f) is =
       All-weaker (λ (id : NameId). id.0 < length texts) (λ (id : NameId). id.0 < length known) (λ id lt. grown_id texts known id.0 grows lt) f.names
-      (tree_shows (length texts) language_limits ms n clock.0 f named (grown_id before texts n grew top_in) (grown_id before texts clock.0 grew clock_in)
+      (tree_shows (length texts) language_limits ms n clock.0 f named (grown_id before texts n grew top_in)
+      (grown_id before texts clock.0 grew clock_in)
       (not_elaborated known f
       (subst (λ (zs : List Module). tree language_limits texts (declarations_of zs) n clock.0 ≡ Err f) same is)))
   tree_known view slice known same grows top_in clock_in refusal.NoMemory is = tt
@@ -120,7 +122,8 @@ module _ (before texts : List (List ℕ)) (files : List SourceFile) (name : Opti
     jobs_planned view names (refusal.Fault f) is = absurd (jobs_there f is)
     jobs_planned view names refusal.NoMemory is = tt
 
-    pub jobs_known : {A : Type 0} (view : A → List InstanceJob) (count : ℕ) (e : Refusal) → Answers (Err e) view (tree_jobs known ms xs) → CanShow count e
+    pub jobs_known : {A : Type 0} (view : A → List InstanceJob) (count : ℕ) (e : Refusal) → Answers (Err e) view (tree_jobs known ms xs)
+        → CanShow count e
     jobs_known view count (refusal.Fault f) is = absurd (jobs_there f is)
     jobs_known view count refusal.NoMemory is = tt
 

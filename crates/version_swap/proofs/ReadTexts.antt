@@ -14,13 +14,15 @@ use Rattle.verilog_lex.proofs.Readings.{related_tokens}
 use Rattle.version_swap.specs.Texts.{file_tokens}
 
 -- the pieces were answered, and then what the lexer answers
-pub then_tokens : {A : Type 0} (names : List (List ℕ)) (view : A → List Said) (answer : Result A Refusal) (files : List SourceFile) (slice ps : List Piece)
+pub then_tokens : {A : Type 0} (names : List (List ℕ)) (view : A → List Said) (answer : Result A Refusal) (files : List SourceFile)
+    (slice ps : List Piece)
     → slice ≡ ps → (read : Result (List Piece) TextFault) × HavePieces files read × (read ≡ Ok ps)
     → (read : Result (List Said) TextFault) × Reads files slice read × Gives names view answer read
     → Gives names view answer (file_tokens files)
 unfolding file_tokens
 then_tokens names view answer files slice ps same (read, have, is) lexed =
-    subst (Gives names view answer) (sym (ap (λ r. r >>= λ qs. tokens files qs) (sym (only_pieces files read have) ∙ is) ∙ ap (tokens files) (sym same)))
+    subst (Gives names view answer)
+    (sym (ap (λ r. r >>= λ qs. tokens files qs) (sym (only_pieces files read have) ∙ is) ∙ ap (tokens files) (sym same)))
     (related_tokens names view answer files slice lexed)
 
 -- the files were refused

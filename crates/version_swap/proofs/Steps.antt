@@ -57,7 +57,8 @@ wide_fault names f is =
     ∙ ap (λ (ids : List NameId). viewed 40 Edit ids names) is.2
 
 -- too many files
-pub many_planned : (names : List (List ℕ)) (xs files : List SourceFile) (name : Option NameId) (clock : NameId) (f : Fault) → xs ≡ files → 256 < length xs
+pub many_planned : (names : List (List ℕ)) (xs files : List SourceFile) (name : Option NameId) (clock : NameId) (f : Fault) → xs ≡ files
+    → 256 < length xs
     → fault_view names f ≡ too_many_fault → Plans names files name clock (Err (fault_view names f))
 many_planned names xs files name clock f is many shown =
     subst (λ (t : TextFault). Plans names files name clock (Err t)) (sym shown)
@@ -191,7 +192,8 @@ module _ {words : List (List ℕ)} {files : List SourceFile} {name : Option Name
     they_stand others is units under =
         units_stand words files name clock xs js h.known keys h.are es held units (subst (λ (ks : List KeyData). AreUnder es ks units) is under)
 
-    module _ (have : HaveUnits built es first) (tree_first : is_depth_first (map parent_of xs) ≡ true) (names : List (List ℕ)) (grows : Grows words names) (others : List KeyData)
+    module _ (have : HaveUnits built es first) (tree_first : is_depth_first (map parent_of xs) ≡ true) (names : List (List ℕ))
+        (grows : Grows words names) (others : List KeyData)
         (is : others ≡ keys) where
       abbrev Design : List (Arc ModuleUnit Global) → Type 0
       Design units = HasDesign words files name clock xs js h.known keys h.are es held units
