@@ -45,7 +45,7 @@ fn too_many(alloc: Global) -> Fault
 /// 40 and 39 of linking, and 40 where the registers take too much room. Else want of memory. The units of those keys that the registry doesn't
 /// hold are made in that order; behind a refusal it holds what it held, and what the forge has made stays made. The table of names keeps all it
 /// has.
-pub fn plan<R: Sync, F: Forge<R>>(
+pub fn plan<R, F: Forge<R>>(
     rt: &R,
     alloc: Global,
     names: &mut Names,
@@ -61,6 +61,7 @@ pub fn plan<R: Sync, F: Forge<R>>(
     requires loaded { All (λ f. length f.text ≤ 4194304) loaded.now }
     requires held { AreHeldUnder names.old (entries_of registry.old) }
     requires builds { (job : BuildJob) → F.builds job ≡ built job }
+    requires ready { F.ready rt.now }
     // The design of the files behind the edit with the texts of its keys, or the first fault.
     ensures texts { IfOk result (λ p. p.texts ≡ texts_behind texts.now edit.now loaded.now) }
     ensures planned { IfOk result (λ p. Plans names.new p.texts.files p.texts.top p.texts.clock (Ok (design_of p.design p.keys))) }

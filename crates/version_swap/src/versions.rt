@@ -50,7 +50,7 @@ fn of_units(
 
 /// The design of files with the distinct keys of its instances, or the first fault. The units of those keys that the registry doesn't hold are
 /// made; behind a refusal it holds what it held.
-pub fn version<R: Sync, F: Forge<R>>(
+pub fn version<R, F: Forge<R>>(
     rt: &R,
     alloc: Global,
     names: &mut Names,
@@ -64,6 +64,7 @@ pub fn version<R: Sync, F: Forge<R>>(
     requires texts { All (λ f. length f.text ≤ 4194304) files.now }
     requires held { AreHeldUnder names.old (entries_of registry.old) }
     requires builds { (job : BuildJob) → F.builds job ≡ built job }
+    requires ready { F.ready rt.now }
     ensures planned { IfOk result (λ v. Plans names.new files.now top clock (Ok (design_of v.design v.keys.items))) }
     ensures refused { IfErr result (IsPlanRefusal names.new files.now top clock) }
     ensures keyed { IfOk result (λ v. All (IsKeyUnder names.new) v.keys.items) }
