@@ -85,6 +85,6 @@ module _ (words : List (List ℕ)) (files : List SourceFile) (name : Option Name
             is = found.is;
             copies = d.copies;
             are_copies = by_one_table language_limits x.found.texts x.found.known words x.found.ms x.known.grown x.known.grows x.known.spelled
-                x.found.top clock.0 x.found.all xs d.copies x.found.found d.are_copies;
+                x.found.top clock.0 x.found.all xs x.found.found d.copies d.are_copies;
             linked = d.linked;
           }

@@ -16,7 +16,7 @@ returns-then-len-gt256-clause-refused g c =
     (omega (arith, c.if-len-gt256.true, c.len.ensures)) (c.too_many.ensures c.args.names.now)
 
 pub version-requires-clause-texts : goal.version-requires-clause-texts
-version-requires-clause-texts g c κs within =
+version-requires-clause-texts g c =
     let e = c.args.edit.now in
     let t = c.args.texts.now in
     short_behind 4194304 c.deref.result.now t.files e.files e.loads c.args.loaded.now
