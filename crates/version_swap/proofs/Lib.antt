@@ -1,0 +1,11 @@
+pub mod ReadTexts
+pub mod Named
+pub mod Ordered
+pub mod Short
+pub mod Handed
+pub mod Firsts
+pub mod Built
+pub mod Linked
+pub mod Steps
+pub mod ModulesRead
+pub mod FoundJobs

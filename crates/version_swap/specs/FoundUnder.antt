@@ -1,0 +1,19 @@
+-- What is found of files, with all that the laws of units ask of it.
+use Rattle.std.specs.Prelude.{◌≡◌, ◌<◌, ℕ, List, [], length, Option, Some, None}
+use Rattle.ls_text.specs.declared.name_id.NameId.{NameId}
+use Rattle.ls_text.specs.declared.source_file.SourceFile.{SourceFile}
+use Rattle.ls_text.specs.Texts.{text_at}
+use Rattle.unit_ir.specs.declared.instance.Instance.{Instance}
+use Rattle.module_registry.specs.declared.build_job.BuildJob.{BuildJob}
+use Rattle.unit_laws.specs.TreeJobs.{AreJobsIn}
+use Rattle.version_swap.specs.Founds.{AreFound}
+
+-- the number of a top's name; where none is given, that of the empty text
+abbrev pub IsNumberOf : List (List ℕ) → Option NameId → ℕ → Type 0
+IsNumberOf names (Some name) n = n ≡ name.0
+IsNumberOf names None n = (n < length names) × (text_at names n ≡ [])
+
+pub record IsFoundUnder (names : List (List ℕ)) (files : List SourceFile) (name : Option NameId) (clock : NameId) (xs : List Instance)
+    (js : List BuildJob) : Type 0 where
+  pub found : AreFound names files name clock xs js
+  pub known : AreJobsIn found.texts found.known names found.ms found.top clock.0 xs js

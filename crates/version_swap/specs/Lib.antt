@@ -1,0 +1,10 @@
+pub mod Texts
+pub mod Files
+pub mod FileViews
+pub mod FirstKeys
+pub mod Founds
+pub mod FoundUnder
+pub mod DesignFaults
+pub mod Plans
+pub mod Made
+pub mod Behind

@@ -1,0 +1,17 @@
+-- What a forge made behind a refusal.
+use Rattle.std.specs.Prelude.{◌≡◌, ℕ, List, [], ◌++◌, map, Option}
+use Rattle.ls_text.specs.declared.name_id.NameId.{NameId}
+use Rattle.ls_text.specs.declared.source_file.SourceFile.{SourceFile}
+use Rattle.unit_ir.specs.declared.instance.Instance.{Instance}
+use Rattle.module_registry.specs.declared.build_job.BuildJob.{BuildJob}
+use Rattle.module_registry.specs.Entries.{missing}
+use Rattle.module_registry.specs.Keys.{KeyData, jobs_of}
+use Rattle.version_swap.specs.FirstKeys.{first_keys, key_of}
+use Rattle.version_swap.specs.Founds.{AreFound}
+
+-- no job more, or those of the keys that files come to and that weren't held, in their order
+pub data MadeBehind (files : List SourceFile) (name : Option NameId) (clock : NameId) (held : List KeyData) (before after : List BuildJob)
+    : Type 0 where
+  no_more : after ≡ before → MadeBehind files name clock held before after
+  those : {words : List (List ℕ)} {xs : List Instance} {js : List BuildJob} → AreFound words files name clock xs js
+      → after ≡ before ++ jobs_of (missing held (first_keys [] (map (key_of words) js))) → MadeBehind files name clock held before after
