@@ -121,9 +121,9 @@ module _ (count : ℕ) where
       let top_stays : number_as moved top ≡ top = ap (λ (m : NameId). m.0) (stays (record { 0 = top }) top_in) in
       let clock_stays : number_as moved clock ≡ clock = ap (λ (m : NameId). m.0) (stays (record { 0 = clock }) clock_in) in
       let same : elaborated l ds top clock ≡ found_as moved (map (standing_as moved)) (elaborated l ds top clock) =
-          sym (ap (λ (xs : List ModuleDeclaration). elaborated l xs (number_as moved top) (number_as moved clock)) (modules_stay ms all)
-          ∙ ap₂ (elaborated l ds) top_stays clock_stays)
-          ∙ same_elaborated moved l ds top clock apart in
+      sym (ap (λ (xs : List ModuleDeclaration). elaborated l xs (number_as moved top) (number_as moved clock)) (modules_stay ms all)
+      ∙ ap₂ (elaborated l ds) top_stays clock_stays)
+      ∙ same_elaborated moved l ds top clock apart in
       shown_below (map (standing_as moved)) (elaborated l ds top clock) f same is
 
   -- ---- units

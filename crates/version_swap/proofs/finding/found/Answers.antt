@@ -50,7 +50,7 @@ returns-in_err-jobs-clause-known c =
     let known = c.elaborate.new.names in
     let xs = c.in_ok-tree.tree.instances.items in
     let there = subst (λ (zs : List Module). tree language_limits c.modules_of.new.names (declarations_of zs) c.in_ok-number.number.0 c.args.clock.0
-        ≡ Ok (map (instance_view known) xs)) c.deref.ensures.value c.in_ok-tree.ensures.tree in
+    ≡ Ok (map (instance_view known) xs)) c.deref.ensures.value c.in_ok-tree.ensures.tree in
     handed (CanShow (length c.jobs_of.new.names)) c.from_residual-in_err-jobs.result c.in_err-jobs.field-0.0 c.from_residual-in_err-jobs.ensures.1
     (jobs_known c.top_number.new.names c.modules_of.new.names c.args.files.now c.args.top c.args.clock c.in_ok-modules.modules.items
     c.in_ok-number.number.0 c.requires.files m.modules m.spelled m.named c.in_ok-number.ensures.number m.grows known xs c.in_ok-tree.ensures.grows there

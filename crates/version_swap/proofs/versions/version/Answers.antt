@@ -88,7 +88,7 @@ returns-in-Ok-clause-planned g c =
     let held = held_then h es (grown_held c.args.names.now c.found.new.names es c.in_ok-found.ensures.grows c.requires.held) g.F.Forge.builds
     c.requires.builds c.deref-2.result.now c.deref-2.ensures.value new c.in_ok-counts.ensures.held in
     let have = units_then h es (grown_held c.args.names.now c.found.new.names es c.in_ok-found.ensures.grows c.requires.held) g.F.Forge.builds
-        c.requires.builds c.deref-2.result.now c.deref-2.ensures.value new c.in_ok-counts.ensures.held in
+    c.requires.builds c.deref-2.result.now c.deref-2.ensures.value new c.in_ok-counts.ensures.held in
     design_planned h new held c.deref-2.result.now c.deref-2.ensures.value c.in_ok-counts.ensures.all have c.in_ok-found.found.tree.depth_first
     c.of_units.new.names c.in-Ok.ensures.grows c.deref-3.result.now c.deref-3.ensures.value (design_flat c.in-Ok.design) c.in-Ok.ensures.design
 
@@ -125,7 +125,7 @@ returns-clause-refused g c =
     let held = held_then h es (grown_held c.args.names.now c.found.new.names es c.in_ok-found.ensures.grows c.requires.held) g.F.Forge.builds
     c.requires.builds c.deref-2.result.now c.deref-2.ensures.value new c.in_ok-counts.ensures.held in
     let have = units_then h es (grown_held c.args.names.now c.found.new.names es c.in_ok-found.ensures.grows c.requires.held) g.F.Forge.builds
-        c.requires.builds c.deref-2.result.now c.deref-2.ensures.value new c.in_ok-counts.ensures.held in
+    c.requires.builds c.deref-2.result.now c.deref-2.ensures.value new c.in_ok-counts.ensures.held in
     design_refused h new held c.deref-2.result.now c.deref-2.ensures.value c.in_ok-counts.ensures.all have c.in_ok-found.found.tree.depth_first
     c.of_units.new.names c.in-Err.ensures.grows c.deref-3.result.now c.deref-3.ensures.value c.in-Err.refusal c.in-Err.ensures.refused
 
@@ -138,7 +138,7 @@ returns-clause-known g c =
     let held = held_then h es (grown_held c.args.names.now c.found.new.names es c.in_ok-found.ensures.grows c.requires.held) g.F.Forge.builds
     c.requires.builds c.deref-2.result.now c.deref-2.ensures.value new c.in_ok-counts.ensures.held in
     let have = units_then h es (grown_held c.args.names.now c.found.new.names es c.in_ok-found.ensures.grows c.requires.held) g.F.Forge.builds
-        c.requires.builds c.deref-2.result.now c.deref-2.ensures.value new c.in_ok-counts.ensures.held in
+    c.requires.builds c.deref-2.result.now c.deref-2.ensures.value new c.in_ok-counts.ensures.held in
     design_known h new held c.deref-2.result.now c.deref-2.ensures.value c.in_ok-counts.ensures.all have c.in_ok-found.found.tree.depth_first
     c.of_units.new.names c.in-Err.ensures.grows c.deref-3.result.now c.deref-3.ensures.value c.in-Err.refusal c.in-Err.ensures.refused
 
