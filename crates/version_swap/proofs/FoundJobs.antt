@@ -8,10 +8,11 @@ use Rattle.ls_text.specs.declared.name_id.NameId.{NameId}
 use Rattle.ls_text.specs.declared.refusal.Refusal.{Refusal}
 use Rattle.ls_text.specs.declared.refusal.Refusal.TheVariants as refusal
 use Rattle.ls_text.specs.declared.source_file.SourceFile.{SourceFile}
-use Rattle.ls_text.specs.Readings.{fault_view}
+use Rattle.ls_text.specs.Readings.{CanShow, fault_view}
 use Rattle.ls_text.specs.Texts.{Grows, HasEachOnce, text_at}
-use Rattle.ls_text.proofs.Growth.{grown_text}
+use Rattle.ls_text.proofs.Growth.{grown_id, grown_text, grows_on}
 use Rattle.verilog_ast.specs.declared.module.Module.{Module}
+use Rattle.verilog_ast.specs.Names.{names_of_body, names_of_modules}
 use Rattle.verilog_ast.specs.Items.{ModuleDeclaration}
 use Rattle.verilog_ast.specs.Views.{declaration_of, declarations_of}
 use Rattle.module_names.specs.Modules.{module_named}
@@ -24,14 +25,18 @@ use Rattle.module_registry.specs.declared.build_job.BuildJob.{BuildJob}
 use Rattle.unit_jobs.specs.Jobs.{InstanceJob, tree_jobs}
 use Rattle.unit_jobs.specs.JobViews.{job_view}
 use Rattle.unit_laws.specs.InstancesTold.{HasNamesIn}
+use Rattle.unit_laws.specs.JobsUnder.{IsIn}
 use Rattle.unit_laws.specs.Spelled.{IsSpelledUnder}
 use Rattle.unit_laws.specs.TreeJobs.{AreJobsIn}
 use Rattle.version_swap.specs.Founds.{AreModules, IsReadRefusal, IsTop, HasModules}
-use Rattle.version_swap.specs.FoundUnder.{IsNumberOf, IsFoundUnder}
+use Rattle.version_swap.specs.FoundUnder.{IsNumberOf, HasModuleIn, IsFoundUnder}
 use Rattle.version_swap.specs.Plans as plans
 use Rattle.version_swap.specs.Plans.{IsPlanRefusal, Plans}
+use Rattle.version_swap.proofs.JobModules.{each_named, modules_of_jobs}
+use Rattle.version_swap.proofs.ShownNames.{tree_shows}
 use Rattle.job_laws.proofs.TreeJobs.{language_turns, seen_of, tree_has_jobs}
 use Rattle.unit_laws.proofs.InstanceTexts.{IsNameWord}
+use Rattle.unit_laws.proofs.OneTable.{seen_by_one}
 use Rattle.unit_laws.proofs.ToldInstances.{modules_named}
 use Rattle.unit_laws.proofs.TreeNames.{IsModuleNamed}
 
@@ -65,7 +70,8 @@ top_is old names None n ms is grows spelled =
 -- ---- what is known once the modules are read
 
 module _ (before texts : List (List ℕ)) (files : List SourceFile) (name : Option NameId) (clock : NameId) (ms : List Module) (n : ℕ) (few : length files ≤ 256)
-    (read : AreModules texts files ms) (spelled : All (IsSpelledUnder texts) ms) (number : IsNumberOf before name n) (grew : Grows before texts) where
+    (read : AreModules texts files ms) (spelled : All (IsSpelledUnder texts) ms)
+    (named : All (λ (id : NameId). id.0 < length texts) (names_of_modules ms)) (number : IsNumberOf before name n) (grew : Grows before texts) where
   has_modules : HasModules texts files name ms n
   has_modules = record { few = few; modules = read; is_top = top_is before texts name n ms number grew spelled }
 
@@ -91,6 +97,17 @@ module _ (before texts : List (List ℕ)) (files : List SourceFile) (name : Opti
       (subst (λ (zs : List Module). tree language_limits texts (declarations_of zs) n clock.0 ≡ Err f) same is)
   tree_planned view slice known same grows refusal.NoMemory is = tt
 
+  -- and shows names of the table
+  pub tree_known : {A : Type 0} (view : A → List TreeInstance) (slice : List Module) (known : List (List ℕ)) → slice ≡ ms → Grows texts known
+      → n < length before → clock.0 < length before → (e : Refusal)
+      → Answers (Err e) view (tree language_limits texts (declarations_of slice) n clock.0) → CanShow (length known) e
+  tree_known view slice known same grows top_in clock_in (refusal.Fault f) is =
+      All-weaker (λ (id : NameId). id.0 < length texts) (λ (id : NameId). id.0 < length known) (λ id lt. grown_id texts known id.0 grows lt) f.names
+      (tree_shows (length texts) language_limits ms n clock.0 f named (grown_id before texts n grew top_in) (grown_id before texts clock.0 grew clock_in)
+      (not_elaborated known f
+      (subst (λ (zs : List Module). tree language_limits texts (declarations_of zs) n clock.0 ≡ Err f) same is)))
+  tree_known view slice known same grows top_in clock_in refusal.NoMemory is = tt
+
   module _ (known : List (List ℕ)) (xs : List Instance) (grown : Grows texts known)
       (is : tree language_limits texts (declarations_of ms) n clock.0 ≡ Ok (map (instance_view known) xs)) where
     -- jobs are never refused
@@ -103,6 +120,19 @@ module _ (before texts : List (List ℕ)) (files : List SourceFile) (name : Opti
         → Answers (Err e) view (tree_jobs known ms xs) → IsPlanRefusal names files name clock e
     jobs_planned view names (refusal.Fault f) is = absurd (jobs_there f is)
     jobs_planned view names refusal.NoMemory is = tt
+
+    pub jobs_known : {A : Type 0} (view : A → List InstanceJob) (count : ℕ) (e : Refusal) → Answers (Err e) view (tree_jobs known ms xs) → CanShow count e
+    jobs_known view count (refusal.Fault f) is = absurd (jobs_there f is)
+    jobs_known view count refusal.NoMemory is = tt
+
+    -- the names in the modules of jobs
+    modules_in : (names : List (List ℕ)) (js : List BuildJob) → Grows known names → tree_jobs known ms xs ≡ Ok (map (job_view names) js)
+        → All (HasModuleIn names) js
+    modules_in names js grows jobs =
+        modules_of_jobs (λ (m : Module). All (IsIn names) (names_of_body m.body)) known ms
+        (each_named (IsIn names) ms (All-weaker (λ (id : NameId). id.0 < length texts) (IsIn names)
+        (λ id lt. grown_id texts names id.0 (grows_on texts known names grown grows) lt) (names_of_modules ms) named))
+        names xs js jobs
 
     pub is_found : (names : List (List ℕ)) (js : List BuildJob) → Grows known names → tree_jobs known ms xs ≡ Ok (map (job_view names) js)
         → All (HasNamesIn names) js → HasEachOnce names → IsFoundUnder names files name clock xs js
@@ -117,7 +147,7 @@ module _ (before texts : List (List ℕ)) (files : List SourceFile) (name : Opti
             all = s.all;
             has = has_modules;
             found = s.elaborates;
-            listed = s.same;
+            listed = seen_by_one language_limits texts known names ms grown grows spelled n clock.0 s.all xs s.elaborates s.same;
             jobs = jobs;
             grown = grown;
             grows = grows;
@@ -131,4 +161,6 @@ module _ (before texts : List (List ℕ)) (files : List SourceFile) (name : Opti
             grows = grows;
             once = once;
           };
+          seen = s.same;
+          modules = modules_in names js grows jobs;
         }

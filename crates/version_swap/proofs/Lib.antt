@@ -4,7 +4,10 @@ pub mod Ordered
 pub mod Short
 pub mod Handed
 pub mod Firsts
-pub mod Built
+pub mod FixedNames
+pub mod ShownNames
+pub mod JobModules
+pub mod ShownUnits
 pub mod Linked
 pub mod Steps
 pub mod ModulesRead

@@ -31,3 +31,8 @@ all_given start middle end before given loads loaded start_is middle_is end_is =
     end_is ∙ ap (λ (fs : List SourceFile). with_files fs (in_line_order given loads loaded))
     (middle_is ∙ ap (λ (fs : List SourceFile). with_files fs before) start_is)
     ∙ with_files_more [] before (in_line_order given loads loaded)
+
+-- by the files before, which were handed over as a slice
+pub are_behind : (all slice files : List SourceFile) (given : List FileLine) (loads : List LoadLine) (loaded : List SourceFile)
+    → all ≡ files_behind slice given loads loaded → slice ≡ files → all ≡ files_behind files given loads loaded
+are_behind all slice files given loads loaded is same = is ∙ ap (λ (fs : List SourceFile). files_behind fs given loads loaded) same

@@ -3,6 +3,7 @@ use Rattle.std.proofs.Common.{Global, ◌≡◌, ◌<◌, ℕ, true, List, [], �
 use Rattle.std.specs.Prelude.{Option, Result, Ok, Err}
 use Rattle.std.specs.declared.sync.Arc.{Arc}
 use Rattle.std.proofs.lemmas.List.{append-nil, take-append-le}
+use Rattle.std.proofs.Math.Path.{fun_ext}
 use Rattle.std.proofs.Math.Seq.{take-length}
 use Rattle.std.proofs.lemmas.List.Elements.{All-nil, All-cons, All-head, All-tail}
 use Rattle.ls_text.specs.declared.at.At.{At}
@@ -12,13 +13,14 @@ use Rattle.ls_text.specs.declared.name_id.NameId.{NameId}
 use Rattle.ls_text.specs.declared.refusal.Refusal.{Refusal}
 use Rattle.ls_text.specs.declared.refusal.Refusal.TheVariants as refusal
 use Rattle.ls_text.specs.declared.source_file.SourceFile.{SourceFile}
-use Rattle.ls_text.specs.Readings.{TextFault, fault_view}
+use Rattle.ls_text.specs.Readings.{CanShow, TextFault, fault_view}
 use Rattle.ls_text.specs.Texts.{Grows, text_at}
 use Rattle.typed_ir.specs.Cycles.{Flat}
 use Rattle.unit_ir.specs.declared.instance.Instance.{Instance}
 use Rattle.unit_ir.specs.declared.unit.Unit.{Unit as ModuleUnit}
 use Rattle.unit_ir.specs.Instances.{is_depth_first, parent_of}
 use Rattle.unit_ir.specs.Shapes.{AreOf}
+use Rattle.unit_ir.specs.Trees.{flat_of_tree}
 use Rattle.link.specs.Listings.{all_parts}
 use Rattle.module_registry.specs.declared.build_job.BuildJob.{BuildJob}
 use Rattle.module_registry.specs.Building.{Built, built_all, Refuses, ◌>>=◌}
@@ -28,18 +30,19 @@ use Rattle.module_registry.specs.Keys.{KeyData, jobs_of}
 use Rattle.unit_build.specs.Building.{built}
 use Rattle.unit_laws.specs.Copies.{Copies}
 use Rattle.unit_laws.specs.Flat.{flat}
-use Rattle.unit_laws.specs.Held.{AreHeldUnder, AreUnder, IsKeyUnder}
+use Rattle.unit_laws.specs.Held.{AreHeldUnder, AreUnder, HaveUnits, IsKeyUnder}
 use Rattle.unit_laws.specs.JobsUnder.{IsJobUnder}
 use Rattle.cycle_eval.specs.Words.{IsTooMany}
 use Rattle.version_swap.specs.DesignFaults.{CanRun, IsDesignFault, not_linked, too_wide, IsDesignOfUnits, IsRefusedOfUnits}
 use Rattle.version_swap.specs.FirstKeys.{first_jobs, first_keys, key_of}
-use Rattle.version_swap.specs.FoundUnder.{IsFoundUnder}
+use Rattle.version_swap.specs.FoundUnder.{HasModuleIn, IsFoundUnder}
 use Rattle.version_swap.specs.Made.{MadeBehind, no_more, those}
 use Rattle.version_swap.specs.Plans as plans
 use Rattle.version_swap.specs.Plans.{AreCopies, IsPlanRefusal, Plans, too_many_fault}
-use Rattle.version_swap.proofs.Built.{ensured_same, ensured_fault, all_built, fault_of_all}
 use Rattle.version_swap.proofs.Firsts.{first_of_jobs, jobs_behind, texts_behind, first_all, first_jobs_all, all_held}
+use Rattle.version_swap.proofs.ShownUnits.{design_shows, units_show}
 use Rattle.version_swap.proofs.Linked.{are_under, jobs_under, units_stand, HasDesign, has_design}
+use Rattle.unit_laws.proofs.EnsuredUnits.{each_given, first_fault}
 use Rattle.unit_laws.proofs.GrownTexts.{text_kept}
 use Rattle.unit_laws.proofs.HeldUnits.{ensured_held}
 
@@ -141,21 +144,37 @@ module _ {words : List (List ℕ)} {files : List SourceFile} {name : Option Name
 
   module _ (es : List Entry) (held : AreHeldUnder words es) (builds : BuildJob → Result Built Fault) (so : (job : BuildJob) → builds job ≡ built job)
       (slice : List KeyData) (same : slice ≡ first) where
+    -- as building itself ensures the first keys
+    by_built : ensured builds es slice ≡ ensured built es first
+    by_built = ap (λ (b : BuildJob → Result Built Fault). ensured b es slice) (fun_ext so) ∙ ap (ensured built es) same
+
     pub ensured_then : (new : List Entry) → ensured builds es slice ≡ Ok new → ensured built es first ≡ Ok new
-    ensured_then new is = sym (ensured_same builds so es first) ∙ ap (ensured builds es) (sym same) ∙ is
+    ensured_then new is = sym by_built ∙ is
+
+    -- each has a unit then
+    pub units_then : (new : List Entry) → ensured builds es slice ≡ Ok new → HaveUnits built new first
+    units_then new is = each_given words built es first refl h.known.known.once held first_under first_jobs_under new (ensured_then new is)
 
     -- the registry holds units as before, and those that came in
     pub held_then : (new : List Entry) → ensured builds es slice ≡ Ok new → AreHeldUnder words new
     held_then new is = ensured_held words built es new first refl held first_under first_jobs_under (ensured_then new is)
 
     -- a unit has a fault
+    unit_fault : (f : Fault) → ensured builds es slice ≡ Err f → built_all built (first_jobs words [] js) ≡ Err f
+    unit_fault f is =
+        ap (built_all built) (sym first_of)
+        ∙ first_fault words built es first refl h.known.known.once held first_under first_jobs_under f (sym by_built ∙ is)
+
     pub unit_refused : (e : Refusal) → Refuses e (ensured builds es slice) → IsPlanRefusal words files name clock e
-    unit_refused (refusal.Fault f) is =
-        plans.at_unit h.known.found (grows_none words)
-        (ap (built_all built) (sym first_of)
-        ∙ fault_of_all words h.known.known.once es held first f first_under first_jobs_under
-        (ensured_fault es first f (sym (ensured_same builds so es first) ∙ ap (ensured builds es) (sym same) ∙ is)))
+    unit_refused (refusal.Fault f) is = plans.at_unit h.known.found (grows_none words) (unit_fault f is)
     unit_refused refusal.NoMemory is = tt
+
+    pub unit_known : (e : Refusal) → Refuses e (ensured builds es slice) → CanShow (length words) e
+    unit_known (refusal.Fault f) is =
+        units_show words (first_jobs words [] js) f
+        (first_jobs_all words (IsJobUnder words) [] js (All-nil (IsJobUnder words)) (jobs_under words files name clock xs js h.known))
+        (first_jobs_all words (HasModuleIn words) [] js (All-nil (HasModuleIn words)) h.known.modules) (unit_fault f is)
+    unit_known refusal.NoMemory is = tt
 
   module _ (es : List Entry) (held : AreHeldUnder words es) (slice : List KeyData) (same : slice ≡ first)
       (among : All (λ (k : KeyData). is_among k (keys_of es) ≡ true) slice) where
@@ -172,7 +191,7 @@ module _ {words : List (List ℕ)} {files : List SourceFile} {name : Option Name
     they_stand others is units under =
         units_stand words files name clock xs js h.known keys h.are es held units (subst (λ (ks : List KeyData). AreUnder es ks units) is under)
 
-    module _ (tree_first : is_depth_first (map parent_of xs) ≡ true) (names : List (List ℕ)) (grows : Grows words names) (others : List KeyData)
+    module _ (have : HaveUnits built es first) (tree_first : is_depth_first (map parent_of xs) ≡ true) (names : List (List ℕ)) (grows : Grows words names) (others : List KeyData)
         (is : others ≡ keys) where
       abbrev Design : List (Arc ModuleUnit Global) → Type 0
       Design units = HasDesign words files name clock xs js h.known keys h.are es held units
@@ -185,13 +204,12 @@ module _ {words : List (List ℕ)} {files : List SourceFile} {name : Option Name
       copies_there : (units : List (Arc ModuleUnit Global)) → (d : Design units)
           → AreCopies words files name clock (map (λ (k : KeyData). k.text) first) d.copies
       copies_there units d =
-          let there = all_built words h.known.known.once es held first first_under first_jobs_under first_among in
           record {
             xs = xs;
             js = js;
             found = h.known.found;
-            units = there.units;
-            made = ap (built_all built) (sym first_of) ∙ there.are;
+            units = have.units;
+            made = ap (built_all built) (sym first_of) ∙ have.made;
             texts = first_texts;
             are_copies = d.are_copies;
           }
@@ -219,3 +237,9 @@ module _ {words : List (List ℕ)} {files : List SourceFile} {name : Option Name
           refused_by d.copies (copies_there y.units d) f
           (subst (λ (g : Flat). IsDesignFault words names g (refusal.Fault f)) d.linked (y.refused d.tree d.is))
       design_refused refusal.NoMemory y = tt
+
+      pub design_known : (e : Refusal) → IsRefusedOfUnits words names xs es others e → CanShow (length names) e
+      design_known (refusal.Fault f) y =
+          let d = design_of y.units y.are in
+          design_shows words names (flat_of_tree d.tree) f (y.refused d.tree d.is)
+      design_known refusal.NoMemory y = tt

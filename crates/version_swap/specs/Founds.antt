@@ -54,8 +54,8 @@ pub record HasModules (texts : List (List ℕ)) (files : List SourceFile) (name 
   pub modules : AreModules texts files ms
   pub is_top : IsTop name (declarations_of ms) top
 
--- the instances that elaboration finds, as they are listed, and their jobs. Names of instances are those of `known`, and names within generate
--- blocks those of `names`; a table begins the next one
+-- the instances that elaboration finds, as they are listed, and their jobs, with names of one table. That of the modules, `texts`, begins `known`, where
+-- the jobs are made, and this begins the whole
 pub record AreFound (names : List (List ℕ)) (files : List SourceFile) (name : Option NameId) (clock : NameId) (xs : List Instance) (js : List BuildJob)
     : Type 0 where
   pub texts : List (List ℕ)
@@ -65,7 +65,7 @@ pub record AreFound (names : List (List ℕ)) (files : List SourceFile) (name : 
   pub all : List Standing
   pub has : HasModules texts files name ms top
   pub found : elaborated language_limits (declarations_of ms) top clock.0 ≡ Ok all
-  pub listed : map (instance_view known) xs ≡ all_seen texts all
+  pub listed : map (instance_view names) xs ≡ all_seen names all
   pub jobs : tree_jobs known ms xs ≡ Ok (map (job_view names) js)
   pub grown : Grows texts known
   pub grows : Grows known names

@@ -1,8 +1,8 @@
 // The next version of a design, or its first fault.
-ghost use Rattle.std.specs.Prelude.{◌≡◌, ◌≤◌, ◌+◌, ◌++◌, ℕ, List, Ok, length, IfOk, IfErr, OnErr};
+ghost use Rattle.std.specs.Prelude.{◌≡◌, ◌≤◌, ◌<◌, ◌+◌, ◌++◌, ℕ, List, [], Ok, length, IfOk, IfErr, IfSome, OnErr};
 ghost use Rattle.std.specs.List.{All};
 ghost use Rattle.std.specs.Option.{option_or, unwrap_or};
-ghost use Rattle.ls_text.specs.Readings.{fault_view};
+ghost use Rattle.ls_text.specs.Readings.{CanShow, fault_view};
 ghost use Rattle.ls_text.specs.Texts.{Grows};
 ghost use Rattle.module_registry.specs.declared.build_job.BuildJob.{BuildJob};
 ghost use Rattle.module_registry.specs.Entries.{ensured, keys_of, missing};
@@ -28,7 +28,8 @@ use std::alloc::Global;
 
 // 40, at the edit
 fn too_many(alloc: Global) -> Fault
-    ensures { (names : List (List ℕ)) → fault_view names result ≡ too_many_fault }
+    ensures view { (names : List (List ℕ)) → fault_view names result ≡ too_many_fault }
+    ensures none { result.names ≡ [] }
 {
     Fault {
         code: 40,
@@ -59,6 +60,8 @@ pub fn plan<R, F: Forge<R>>(
     requires before { All (λ f. length f.text ≤ 4194304) texts.now.files }
     requires given { All (λ g. length g.file.text ≤ 4194304) edit.now.files }
     requires loaded { All (λ f. length f.text ≤ 4194304) loaded.now }
+    requires top { IfSome (option_or edit.now.top texts.now.top) (λ n. n.0 < length names.old) }
+    requires clock { (unwrap_or edit.now.clock texts.now.clock).0 < length names.old }
     requires held { AreHeldUnder names.old (entries_of registry.old) }
     requires builds { (job : BuildJob) → F.builds job ≡ built job }
     requires ready { F.ready rt.now }
@@ -67,6 +70,7 @@ pub fn plan<R, F: Forge<R>>(
     ensures planned { IfOk result (λ p. Plans names.new p.texts.files p.texts.top p.texts.clock (Ok (design_of p.design p.keys))) }
     ensures refused { IfErr result (IsPlanRefusal names.new (files_behind texts.now.files edit.now.files edit.now.loads loaded.now)
         (option_or edit.now.top texts.now.top) (unwrap_or edit.now.clock texts.now.clock)) }
+    ensures known { IfErr result (CanShow (length names.new)) }
     // Each key has the text of its job, and the digest of that.
     ensures keyed { IfOk result (λ p. All (IsKeyUnder names.new) p.keys) }
     // What the registry holds.

@@ -1,8 +1,9 @@
 // From files to the design of a version, by the units that a registry holds.
-ghost use Rattle.std.specs.Prelude.{◌≡◌, ◌≤◌, ◌+◌, ◌++◌, Ok, List, true, length, IfOk, IfErr, OnErr};
+ghost use Rattle.std.specs.Prelude.{◌≡◌, ◌≤◌, ◌<◌, ◌+◌, ◌++◌, Ok, List, true, length, IfOk, IfErr, IfSome, OnErr};
 ghost use Rattle.std.specs.List.{All};
 ghost use Rattle.std.specs.Global.{Global};
 ghost use Rattle.std.specs.declared.sync.Arc.{Arc};
+ghost use Rattle.ls_text.specs.Readings.{CanShow};
 ghost use Rattle.ls_text.specs.Texts.{Grows};
 ghost use Rattle.unit_ir.specs.declared.unit.Unit.{Unit as ModuleUnit};
 ghost use Rattle.unit_ir.specs.Shapes.{AreOf};
@@ -62,11 +63,14 @@ pub fn version<R, F: Forge<R>>(
 ) -> Result<Version, Refusal>
     requires files { length files.now ≤ 256 }
     requires texts { All (λ f. length f.text ≤ 4194304) files.now }
+    requires top { IfSome top (λ n. n.0 < length names.old) }
+    requires clock { clock.0 < length names.old }
     requires held { AreHeldUnder names.old (entries_of registry.old) }
     requires builds { (job : BuildJob) → F.builds job ≡ built job }
     requires ready { F.ready rt.now }
     ensures planned { IfOk result (λ v. Plans names.new files.now top clock (Ok (design_of v.design v.keys.items))) }
     ensures refused { IfErr result (IsPlanRefusal names.new files.now top clock) }
+    ensures known { IfErr result (CanShow (length names.new)) }
     ensures keyed { IfOk result (λ v. All (IsKeyUnder names.new) v.keys.items) }
     ensures held { AreHeldUnder names.new (entries_of registry.new) }
     ensures ensured { IfOk result (λ v. ensured built (entries_of registry.old) v.keys.items ≡ Ok (entries_of registry.new)) }

@@ -1,5 +1,6 @@
-use Rattle.std.proofs.Common.{◌≡◌, ◌∙◌, ap, map, subst, sym, take}
+use Rattle.std.proofs.Common.{◌≡◌, ◌∙◌, ap, length, map, subst, sym, take}
 use Rattle.ls_text.proofs.Growth.{grows_on}
+use Rattle.ls_text.specs.Readings.{CanShow}
 use Rattle.module_registry.specs.Entries.{keys_of}
 use Rattle.module_registry.specs.Views.{entries_of}
 use Rattle.cycle_eval.specs.Designs.{design_flat}
@@ -7,7 +8,7 @@ use Rattle.unit_laws.proofs.HeldUnits.{grown_held, same_held}
 use Rattle.version_swap.specs.Made.{MadeBehind}
 use Rattle.version_swap.specs.Plans.{IsPlanRefusal}
 use Rattle.version_swap.proofs.Handed.{handed}
-use Rattle.version_swap.proofs.Steps.{has_keys, keyed, made_more, made_at, ensured_then, held_then, unit_refused, all_among, they_stand, design_planned, design_refused, first_held}
+use Rattle.version_swap.proofs.Steps.{has_keys, keyed, made_more, made_at, ensured_then, held_then, units_then, unit_refused, unit_known, all_among, they_stand, design_planned, design_refused, design_known, first_held}
 use Rattle.version_swap.proofs.versions.version.Goals as goal
 
 pub returns-in_err-found-clause-held : goal.returns-in_err-found-clause-held
@@ -30,6 +31,16 @@ returns-in_err-counts-clause-refused g c =
     handed (IsPlanRefusal c.found.new.names c.args.files.now c.args.top c.args.clock) c.from_residual-in_err-counts.result
     c.in_err-counts.field-0.0 c.from_residual-in_err-counts.ensures.1
     (unit_refused h es (grown_held c.args.names.now c.found.new.names es c.in_ok-found.ensures.grows c.requires.held) g.F.Forge.builds
+    c.requires.builds c.deref-2.result.now c.deref-2.ensures.value c.in_err-counts.field-0.0 c.in_err-counts.ensures.refused)
+
+pub returns-in_err-counts-clause-known : goal.returns-in_err-counts-clause-known
+returns-in_err-counts-clause-known g c =
+    let es = entries_of c.args.registry.now in
+    let h = has_keys c.in_ok-keys.keys.items c.deref.result.now c.in_ok-first.first.items c.in_ok-found.ensures.found c.deref.ensures.value
+    c.in_ok-keys.ensures c.in_ok-first.ensures.first in
+    handed (CanShow (length c.found.new.names)) c.from_residual-in_err-counts.result
+    c.in_err-counts.field-0.0 c.from_residual-in_err-counts.ensures.1
+    (unit_known h es (grown_held c.args.names.now c.found.new.names es c.in_ok-found.ensures.grows c.requires.held) g.F.Forge.builds
     c.requires.builds c.deref-2.result.now c.deref-2.ensures.value c.in_err-counts.field-0.0 c.in_err-counts.ensures.refused)
 
 pub returns-in_err-counts-clause-held : goal.returns-in_err-counts-clause-held
@@ -76,7 +87,9 @@ returns-in-Ok-clause-planned g c =
     c.in_ok-keys.ensures c.in_ok-first.ensures.first in
     let held = held_then h es (grown_held c.args.names.now c.found.new.names es c.in_ok-found.ensures.grows c.requires.held) g.F.Forge.builds
     c.requires.builds c.deref-2.result.now c.deref-2.ensures.value new c.in_ok-counts.ensures.held in
-    design_planned h new held c.deref-2.result.now c.deref-2.ensures.value c.in_ok-counts.ensures.all c.in_ok-found.found.tree.depth_first
+    let have = units_then h es (grown_held c.args.names.now c.found.new.names es c.in_ok-found.ensures.grows c.requires.held) g.F.Forge.builds
+    c.requires.builds c.deref-2.result.now c.deref-2.ensures.value new c.in_ok-counts.ensures.held in
+    design_planned h new held c.deref-2.result.now c.deref-2.ensures.value c.in_ok-counts.ensures.all have c.in_ok-found.found.tree.depth_first
     c.of_units.new.names c.in-Ok.ensures.grows c.deref-3.result.now c.deref-3.ensures.value (design_flat c.in-Ok.design) c.in-Ok.ensures.design
 
 pub returns-in-Ok-clause-keyed : goal.returns-in-Ok-clause-keyed
@@ -111,7 +124,22 @@ returns-clause-refused g c =
     c.in_ok-keys.ensures c.in_ok-first.ensures.first in
     let held = held_then h es (grown_held c.args.names.now c.found.new.names es c.in_ok-found.ensures.grows c.requires.held) g.F.Forge.builds
     c.requires.builds c.deref-2.result.now c.deref-2.ensures.value new c.in_ok-counts.ensures.held in
-    design_refused h new held c.deref-2.result.now c.deref-2.ensures.value c.in_ok-counts.ensures.all c.in_ok-found.found.tree.depth_first
+    let have = units_then h es (grown_held c.args.names.now c.found.new.names es c.in_ok-found.ensures.grows c.requires.held) g.F.Forge.builds
+    c.requires.builds c.deref-2.result.now c.deref-2.ensures.value new c.in_ok-counts.ensures.held in
+    design_refused h new held c.deref-2.result.now c.deref-2.ensures.value c.in_ok-counts.ensures.all have c.in_ok-found.found.tree.depth_first
+    c.of_units.new.names c.in-Err.ensures.grows c.deref-3.result.now c.deref-3.ensures.value c.in-Err.refusal c.in-Err.ensures.refused
+
+pub returns-clause-known : goal.returns-clause-known
+returns-clause-known g c =
+    let es = entries_of c.args.registry.now in
+    let new = entries_of c.ensure.new.self in
+    let h = has_keys c.in_ok-keys.keys.items c.deref.result.now c.in_ok-first.first.items c.in_ok-found.ensures.found c.deref.ensures.value
+    c.in_ok-keys.ensures c.in_ok-first.ensures.first in
+    let held = held_then h es (grown_held c.args.names.now c.found.new.names es c.in_ok-found.ensures.grows c.requires.held) g.F.Forge.builds
+    c.requires.builds c.deref-2.result.now c.deref-2.ensures.value new c.in_ok-counts.ensures.held in
+    let have = units_then h es (grown_held c.args.names.now c.found.new.names es c.in_ok-found.ensures.grows c.requires.held) g.F.Forge.builds
+    c.requires.builds c.deref-2.result.now c.deref-2.ensures.value new c.in_ok-counts.ensures.held in
+    design_known h new held c.deref-2.result.now c.deref-2.ensures.value c.in_ok-counts.ensures.all have c.in_ok-found.found.tree.depth_first
     c.of_units.new.names c.in-Err.ensures.grows c.deref-3.result.now c.deref-3.ensures.value c.in-Err.refusal c.in-Err.ensures.refused
 
 pub returns-clause-stays : goal.returns-clause-stays
