@@ -63,7 +63,7 @@ written_of registers (st ∷ sts) h = (
 drive_complete : (n : FlatNode) → is_block n ≡ false → IsComplete n
 unfolding IsComplete
 drive_complete (Drive form lanes e) h = tt
-drive_complete (Block form body) h = absurd (true≢false h)
+drive_complete (Block shown body) h = absurd (true≢false h)
 
 pub complete_of : (nodes : List FlatNode) → has_block nodes ≡ false → Each IsComplete nodes
 complete_of [] h = tt
@@ -75,7 +75,7 @@ first_of (n ∷ ns) h = (one n (or_left (is_block n) (has_block ns) h), first_of
   where
     one : (n : FlatNode) → is_block n ≡ false → NodeWritesFirst n
     one (Drive form lanes e) h = tt
-    one (Block form body) h = absurd (true≢false h)
+    one (Block shown body) h = absurd (true≢false h)
 
 -- ---- drivers
 

@@ -48,7 +48,7 @@ blocks_more (y ∷ ys) x = ap (λ z. block_in y.body ++ z) (blocks_more ys x) �
 pub own_is : (node : UnitNode) (s i : ℕ) → own_drives s i node ≡ any_within (node_spans node) s i
 unfolding node_drives
 own_is (Own (Drive form lanes e)) s i = refl
-own_is (Own (Block form body)) s i = refl
+own_is (Own (Block shown body)) s i = refl
 own_is (Into child form lanes e) s i = refl
 own_is (From child form lanes e) s i = refl
 

@@ -187,7 +187,7 @@ register_node : (ds : List SignalDeclaration) (f : ℕ → Bool) (s i : ℕ) (no
     → block_names s (node_blocks node) ≡ false → is_variable ds s ≡ true → own_drives s i node ≡ false
 unfolding node_drives
 register_node ds f s i (Own (Drive form lanes e)) may none is = lanes_apart ds f (lane_spans lanes) s i may is
-register_node ds f s i (Own (Block form body)) may none is = by_cases (any_within (targets body) s i)
+register_node ds f s i (Own (Block shown body)) may none is = by_cases (any_within (targets body) s i)
     (λ yes. absurd (true≢false (sym (within_named (targets body) s i yes) ∙ or_left (names s (targets body)) false none)))
     (λ out. out)
 register_node ds f s i (Into child form lanes e) may none is = refl
@@ -239,7 +239,7 @@ node_sound : BlocksAreWhole → (signals : List Signal) (ds : List SignalDeclara
     → path_faults signals ds x (node_blocks node) ≡ [] → IsNodeSound node
 unfolding IsComplete
 node_sound law signals ds x (Own (Drive form lanes e)) here narrow none = (tt, tt)
-node_sound law signals ds x (Own (Block form body)) here narrow none =
+node_sound law signals ds x (Own (Block shown body)) here narrow none =
     block_whole law signals ds x.reads x.at body here narrow
     (empty_left (read_faults x.reads x.at body ++ latch_faults signals ds x.at body) [] none)
 node_sound law signals ds x (Into child form lanes e) here narrow none = tt

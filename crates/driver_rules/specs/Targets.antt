@@ -54,7 +54,7 @@ is_settled (x ∷ xs) s = block_names s (blocks_of x.body) || is_settled xs s
 
 abbrev pub flat_writer : FlatNode → Writer
 flat_writer (Drive form lanes e) = writer.Continuous
-flat_writer (Block form body) = writer.Combinational
+flat_writer (Block shown body) = writer.Combinational
 
 abbrev pub node_writer : UnitNode → Writer
 node_writer (Own node) = flat_writer node

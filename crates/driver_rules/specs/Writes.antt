@@ -10,7 +10,7 @@ use Rattle.unit_ir.specs.Items.{SizedBody, Node, Clocked, Initial, PlacedItem}
 
 abbrev pub flat_spans : FlatNode → List Span
 flat_spans (Drive form lanes e) = lane_spans lanes
-flat_spans (Block form body) = targets body
+flat_spans (Block shown body) = targets body
 
 -- a connection into an instance drives a port of it, and no signal of the module
 abbrev pub node_spans : UnitNode → List Span
@@ -43,7 +43,7 @@ AreItemsWithin count items = Each (λ (x : PlacedItem). AreWithin count (spans_o
 
 abbrev pub flat_blocks : FlatNode → List SizedStmt
 flat_blocks (Drive form lanes e) = []
-flat_blocks (Block form body) = body ∷ []
+flat_blocks (Block shown body) = body ∷ []
 
 abbrev pub node_blocks : UnitNode → List SizedStmt
 node_blocks (Own node) = flat_blocks node

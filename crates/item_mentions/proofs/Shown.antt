@@ -1,16 +1,15 @@
 -- The first of a list that shows a form, for the walks over targets, statements and items of a case.
-use Rattle.std.proofs.Common.{◌≡◌, ◌<◌, ℕ, ◌+◌, List, ◌∷◌, map, drop, length, get_or, refl, sym, ◌∙◌, ap}
+use Rattle.std.proofs.Common.{◌≡◌, ◌<◌, ◌==◌, ℕ, ◌+◌, Bool, true, false, cond, List, ◌∷◌, map, drop, length, get_or, refl, sym, ◌∙◌, ap}
 use Rattle.std.specs.Prelude.{Option, Some, None}
 use Rattle.typed_ir.proofs.Lists.{drop_read}
 use Rattle.typed_ir.specs.declared.target_form.TargetForm.{TargetForm}
 use Rattle.verilog_ast.specs.declared.statement.Arm.{Arm}
 use Rattle.verilog_ast.specs.declared.statement.Stmt.{Stmt}
 use Rattle.verilog_ast.specs.declared.target.Lhs.{Lhs}
-use Rattle.verilog_ast.specs.Statements.{Statement, Block, If, IfElse, Case, Assignment, Null, Default, Match, NoStatement, Statements}
 use Rattle.verilog_ast.specs.Views.{target_of, targets_of, statement_of, arm_of, statements_of}
 use Rattle.width_rules.specs.Scopes.{Scope}
-use Rattle.item_mentions.specs.Forms.{first_or, first_part, first_target, first_of_arms, first_of_default}
-use Rattle.item_mentions.specs.Mentions.{match_or, default_or}
+use Rattle.item_mentions.specs.Forms.{first_or, first_part, first_target, first_number}
+use Rattle.unit_ir.specs.declared.mention.Mention.{Mention}
 
 here : {A : Type 0} (all : List A → Option TargetForm) (one : A → Option TargetForm) → ((y : A) (ys : List A) → all (y ∷ ys) ≡ first_or (one y) (all ys))
     → (xs : List A) (k : ℕ) (x : A) (f : TargetForm) (whole : Option TargetForm) → k < length xs → x ≡ get_or xs k x → one x ≡ Some f
@@ -40,49 +39,22 @@ pub target_later : (scope : Scope) (xs : List Stmt) (k : ℕ) (x : Stmt) (whole 
     → first_target scope (statements_of (map statement_of (drop k xs))) ≡ whole → first_target scope (statements_of (map statement_of (drop (k + 1) xs))) ≡ whole
 target_later scope = later (λ ys. first_target scope (statements_of (map statement_of ys))) (λ y. first_target scope (statement_of y)) (λ y ys. refl)
 
-pub arm_here : (scope : Scope) (xs : List Arm) (k : ℕ) (x : Arm) (f : TargetForm) (whole : Option TargetForm) → k < length xs → x ≡ get_or xs k x
-    → match_or (arm_of x) (first_target scope (arm_of x)) None ≡ Some f
-    → first_of_arms scope (statements_of (map arm_of (drop k xs))) ≡ whole → Some f ≡ whole
-arm_here scope = here (λ ys. first_of_arms scope (statements_of (map arm_of ys))) (λ y. match_or (arm_of y) (first_target scope (arm_of y)) None) (λ y ys. refl)
+pub arm_here : (scope : Scope) (xs : List Arm) (k : ℕ) (x : Arm) (f : TargetForm) (whole : Option TargetForm) → k < length xs → x ≡ get_or xs k x → first_target scope (arm_of x) ≡ Some f
+    → first_target scope (statements_of (map arm_of (drop k xs))) ≡ whole → Some f ≡ whole
+arm_here scope = here (λ ys. first_target scope (statements_of (map arm_of ys))) (λ y. first_target scope (arm_of y)) (λ y ys. refl)
 
-pub arm_later : (scope : Scope) (xs : List Arm) (k : ℕ) (x : Arm) (whole : Option TargetForm) → k < length xs → x ≡ get_or xs k x
-    → match_or (arm_of x) (first_target scope (arm_of x)) None ≡ None
-    → first_of_arms scope (statements_of (map arm_of (drop k xs))) ≡ whole → first_of_arms scope (statements_of (map arm_of (drop (k + 1) xs))) ≡ whole
-arm_later scope = later (λ ys. first_of_arms scope (statements_of (map arm_of ys))) (λ y. match_or (arm_of y) (first_target scope (arm_of y)) None) (λ y ys. refl)
+pub arm_later : (scope : Scope) (xs : List Arm) (k : ℕ) (x : Arm) (whole : Option TargetForm) → k < length xs → x ≡ get_or xs k x → first_target scope (arm_of x) ≡ None
+    → first_target scope (statements_of (map arm_of (drop k xs))) ≡ whole → first_target scope (statements_of (map arm_of (drop (k + 1) xs))) ≡ whole
+arm_later scope = later (λ ys. first_target scope (statements_of (map arm_of ys))) (λ y. first_target scope (arm_of y)) (λ y ys. refl)
 
--- ---- the first default
+-- ---- numbers
 
-abbrev default_first : Option (Option TargetForm) → Option TargetForm → Option TargetForm
-default_first None rest = rest
-default_first (Some o) rest = o
+pub number_here : (xs : List Mention) (k : ℕ) (x : Mention) (whole : ℕ) → k < length xs → x ≡ get_or xs k x → (x.order == 0) ≡ true
+    → k + first_number (drop k xs) ≡ whole → k ≡ whole
+number_here xs k x whole h is zero_is left =
+    sym (ap (λ (b : Bool). k + cond b 0 (1 + first_number (drop (k + 1) xs))) zero_is) ∙ sym (ap (λ ys. k + first_number ys) (drop_read xs k x h is)) ∙ left
 
-split : (x : Statement) (o rest : Option TargetForm) → default_or x o rest ≡ default_first (default_or x (Some o) None) rest
-split (Default at body) o rest = refl
-split (Match ls body) o rest = refl
-split (Block at label body) o rest = refl
-split (If at c x) o rest = refl
-split (IfElse at c x y) o rest = refl
-split (Case at kind x items) o rest = refl
-split (Assignment written x) o rest = refl
-split (Null at) o rest = refl
-split NoStatement o rest = refl
-split (Statements x xs) o rest = refl
-
-default_is : (scope : Scope) (xs : List Arm) (k : ℕ) (x : Arm) (o : Option (Option TargetForm)) (whole : Option TargetForm) → k < length xs → x ≡ get_or xs k x
-    → default_or (arm_of x) (Some (first_target scope (arm_of x))) None ≡ o
-    → first_of_default scope (statements_of (map arm_of (drop k xs))) ≡ whole
-    → default_first o (first_of_default scope (statements_of (map arm_of (drop (k + 1) xs)))) ≡ whole
-default_is scope xs k x o whole h is shown left =
-    let rest = first_of_default scope (statements_of (map arm_of (drop (k + 1) xs))) in
-    sym (ap (λ (p : Option (Option TargetForm)). default_first p rest) shown)
-    ∙ sym (ap (λ ys. first_of_default scope (statements_of (map arm_of ys))) (drop_read xs k x h is) ∙ split (arm_of x) (first_target scope (arm_of x)) rest) ∙ left
-
-pub default_here : (scope : Scope) (xs : List Arm) (k : ℕ) (x : Arm) (f whole : Option TargetForm) → k < length xs → x ≡ get_or xs k x
-    → default_or (arm_of x) (Some (first_target scope (arm_of x))) None ≡ Some f
-    → first_of_default scope (statements_of (map arm_of (drop k xs))) ≡ whole → f ≡ whole
-default_here scope xs k x f whole = default_is scope xs k x (Some f) whole
-
-pub default_later : (scope : Scope) (xs : List Arm) (k : ℕ) (x : Arm) (whole : Option TargetForm) → k < length xs → x ≡ get_or xs k x
-    → default_or (arm_of x) (Some (first_target scope (arm_of x))) None ≡ None
-    → first_of_default scope (statements_of (map arm_of (drop k xs))) ≡ whole → first_of_default scope (statements_of (map arm_of (drop (k + 1) xs))) ≡ whole
-default_later scope xs k x whole = default_is scope xs k x None whole
+pub number_later : (xs : List Mention) (k : ℕ) (x : Mention) (whole : ℕ) → k < length xs → x ≡ get_or xs k x → (x.order == 0) ≡ false
+    → k + first_number (drop k xs) ≡ whole → k + (1 + first_number (drop (k + 1) xs)) ≡ whole
+number_later xs k x whole h is other left =
+    sym (ap (λ (b : Bool). k + cond b 0 (1 + first_number (drop (k + 1) xs))) other) ∙ sym (ap (λ ys. k + first_number ys) (drop_read xs k x h is)) ∙ left

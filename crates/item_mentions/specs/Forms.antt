@@ -1,12 +1,14 @@
 -- In which form the first part of a target is shown, and of a statement the first target (IEEE Std 1364-2005, 5.2.1, 6.1, 9.2).
-use Rattle.std.specs.Prelude.{Bool, Option, Some, None, if◌then◌else◌}
+use Rattle.std.specs.Prelude.{ℕ, ◌+◌, ◌==◌, Bool, List, [], ◌∷◌, Option, Some, None, if◌then◌else◌}
+use Rattle.typed_ir.specs.declared.shown_target.ShownTarget.{ShownTarget}
 use Rattle.typed_ir.specs.declared.target_form.TargetForm.{TargetForm}
 use Rattle.typed_ir.specs.declared.target_form.TargetForm.TheVariants as form
 use Rattle.verilog_ast.specs.Expressions.{Expression, Whole, BitSelect, PartSelect, UpwardSelect, DownwardSelect, Target, Reference, Joined, NoTarget, Targets}
 use Rattle.verilog_ast.specs.Statements.{Statement, Block, If, IfElse, Case, Assignment, Null, Default, Match, NoStatement, Statements}
+use Rattle.unit_ir.specs.declared.mention.Mention.{Mention}
 use Rattle.width_rules.specs.Scopes.{Scope}
 use Rattle.width_rules.specs.Sizes.{is_constant}
-use Rattle.item_mentions.specs.Mentions.{match_or, default_or}
+use Rattle.item_mentions.specs.Mentions.{statement_targets}
 
 -- a select whose bits are known only at run time is shown as its name
 abbrev pub known_as : Bool → TargetForm → TargetForm
@@ -39,30 +41,28 @@ first_part scope (Targets t ts) = first_or (first_part scope t) (first_part scop
 abbrev pub target_form : Scope → Target → TargetForm
 target_form scope t = form_or_name (first_part scope t)
 
-abbrev mutual
-  -- of the first assignment, in the order of the sized statement
-  pub first_target : Scope → Statement → Option TargetForm
-  first_target scope (Block at label body) = first_target scope body
-  first_target scope (If at c x) = first_target scope x
-  first_target scope (IfElse at c x y) = first_or (first_target scope x) (first_target scope y)
-  first_target scope (Case at kind x items) = first_or (first_of_arms scope items) (first_of_default scope items)
-  first_target scope (Assignment t x) = Some (target_form scope t)
-  first_target scope (Null at) = None
-  first_target scope (Default at body) = first_target scope body
-  first_target scope (Match ls body) = first_target scope body
-  first_target scope NoStatement = None
-  first_target scope (Statements x xs) = first_or (first_target scope x) (first_target scope xs)
-
-  -- of the items of a case that have labels
-  pub first_of_arms : Scope → Statement → Option TargetForm
-  first_of_arms scope (Statements x xs) = first_or (match_or x (first_target scope x) None) (first_of_arms scope xs)
-  first_of_arms scope other = None
-
-  -- of its first default
-  pub first_of_default : Scope → Statement → Option TargetForm
-  first_of_default scope (Statements x xs) = default_or x (first_target scope x) (first_of_default scope xs)
-  first_of_default scope other = None
+-- of the first assignment, in the order of the text
+abbrev pub first_target : Scope → Statement → Option TargetForm
+first_target scope (Block at label body) = first_target scope body
+first_target scope (If at c x) = first_target scope x
+first_target scope (IfElse at c x y) = first_or (first_target scope x) (first_target scope y)
+first_target scope (Case at kind x items) = first_target scope items
+first_target scope (Assignment t x) = Some (target_form scope t)
+first_target scope (Null at) = None
+first_target scope (Default at body) = first_target scope body
+first_target scope (Match ls body) = first_target scope body
+first_target scope NoStatement = None
+first_target scope (Statements x xs) = first_or (first_target scope x) (first_target scope xs)
 
 -- of a statement; its name where it assigns nothing
 abbrev pub statement_form : Scope → Statement → TargetForm
 statement_form scope x = form_or_name (first_target scope x)
+
+-- the number of the first target in the text among the targets of a statement, which are listed with their numbers in the text
+abbrev pub first_number : List Mention → ℕ
+first_number [] = 0
+first_number (m ∷ ms) = if m.order == 0 then 0 else 1 + first_number ms
+
+-- which target of a statement shows it
+abbrev pub statement_shown : Scope → Statement → ShownTarget
+statement_shown scope x = record { number = first_number (statement_targets 0 x); form = statement_form scope x }

@@ -1,13 +1,13 @@
-// In which form a target is shown, and that of the first assignment of a block.
+// In which form a target is shown, and which target a block is named by.
 ghost use Rattle.std.specs.Prelude.{◌≡◌, Some, None, map};
 ghost use Rattle.verilog_ast.specs.Views.{expression_of, reference_of, target_of, targets_of, statement_of, arm_of, statements_of};
 ghost use Rattle.width_rules.specs.Entries.{scope_of};
 ghost use Rattle.width_rules.specs.Sizes.{is_constant as has_no_signal};
-ghost use Rattle.item_mentions.specs.Forms.{known_as as shown_where, reference_form as form_of_reference, first_part as part_of, target_form as form_of_target, first_or as or_else, first_target as target_in, first_of_arms as target_in_arms, first_of_default as target_in_default, statement_form as form_of_statement};
-ghost use Rattle.item_mentions.specs.Mentions.{match_or, default_or};
+ghost use Rattle.item_mentions.specs.Forms.{known_as as shown_where, reference_form as form_of_reference, first_part as part_of, target_form as form_of_target, first_or as or_else, first_target as target_in, statement_form as form_of_statement, first_number as number_of_first};
 
 use crate::constants::is_constant;
 use typed_ir::TargetForm;
+use unit_ir::Mention;
 use verilog_ast::{Arm, Expr, Lhs, Reference, Stmt};
 use width_rules::Scope;
 
@@ -45,8 +45,7 @@ pub fn target_form(scope: &Scope, target: &Lhs) -> TargetForm
     }
 }
 
-/// In which form the first target of a block is shown, by the order of the sized block, in which a case has its default last; a name where
-/// it assigns nothing.
+/// In which form the first target of a block is shown, by the order of the text; a name where it assigns nothing.
 pub fn statement_form(scope: &Scope, body: &Stmt) -> TargetForm
     ensures { result ≡ form_of_statement (scope_of scope.now) (statement_of body.now) }
 {
@@ -90,7 +89,7 @@ fn first_target(scope: &Scope, st: &Stmt) -> Option<TargetForm>
         Stmt::Block(_, _, inner) => first_of(scope, inner.as_slice()),
         Stmt::If(_, _, x) => first_target(scope, x.get()),
         Stmt::IfElse(_, _, x, y) => first_of_both(scope, x.get(), y.get()),
-        Stmt::Case(_, _, _, arms) => first_of_case(scope, arms.as_slice()),
+        Stmt::Case(_, _, _, arms) => first_of_arms(scope, arms.as_slice()),
         Stmt::Assign(target, _) => Some(target_form(scope, target)),
         Stmt::Empty(_) => None,
     }
@@ -121,22 +120,11 @@ fn first_of(scope: &Scope, statements: &[Stmt]) -> Option<TargetForm>
     None
 }
 
-// Of a case: of its items with labels, and else of its first default.
-#[cycle(target)]
-fn first_of_case(scope: &Scope, arms: &[Arm]) -> Option<TargetForm>
-    ensures { result ≡ or_else (target_in_arms (scope_of scope.now) (statements_of (map arm_of arms.now))) (target_in_default (scope_of scope.now) (statements_of (map arm_of arms.now))) }
-{
-    match first_of_arms(scope, arms) {
-        Some(form) => Some(form),
-        None => first_of_default(scope, arms),
-    }
-}
-
-// Of the items of a case that have labels.
+// Of the items of a case.
 #[tactic(auto, using(crate::proofs::Shown::arm_here, crate::proofs::Shown::arm_later))]
 #[cycle(target)]
 fn first_of_arms(scope: &Scope, arms: &[Arm]) -> Option<TargetForm>
-    ensures { result ≡ target_in_arms (scope_of scope.now) (statements_of (map arm_of arms.now)) }
+    ensures { result ≡ target_in (scope_of scope.now) (statements_of (map arm_of arms.now)) }
 {
     for arm in arms {
         if let Some(form) = first_of_arm(scope, arm) {
@@ -146,38 +134,27 @@ fn first_of_arms(scope: &Scope, arms: &[Arm]) -> Option<TargetForm>
     None
 }
 
-// Of an item that has labels; none of a default.
+// Of one item.
 #[cycle(target)]
 fn first_of_arm(scope: &Scope, arm: &Arm) -> Option<TargetForm>
-    ensures { result ≡ match_or (arm_of arm.now) (target_in (scope_of scope.now) (arm_of arm.now)) None }
+    ensures { result ≡ target_in (scope_of scope.now) (arm_of arm.now) }
 {
     match arm {
-        Arm::Match(_, body) => first_target(scope, body.get()),
-        Arm::Default(_, _) => None,
+        Arm::Match(_, body) | Arm::Default(_, body) => first_target(scope, body.get()),
     }
 }
 
-// Of the first default of a case.
-#[tactic(auto, using(crate::proofs::Shown::default_here, crate::proofs::Shown::default_later))]
-#[cycle(target)]
-fn first_of_default(scope: &Scope, arms: &[Arm]) -> Option<TargetForm>
-    ensures { result ≡ target_in_default (scope_of scope.now) (statements_of (map arm_of arms.now)) }
+/// The number of the first target in the text among the targets of a block, which are listed in the order of its sized statement with their
+/// numbers in the text.
+pub fn first_number(targets: &[Mention]) -> usize
+    ensures { result ≡ number_of_first targets.now }
 {
-    for arm in arms {
-        if let Some(found) = default_form(scope, arm) {
-            return found;
+    let mut number = 0;
+    for target in targets {
+        if target.order == 0 {
+            return number;
         }
+        number += 1;
     }
-    None
-}
-
-// Of an item that is a default, of which there may be none; nothing of one that has labels.
-#[cycle(target)]
-fn default_form(scope: &Scope, arm: &Arm) -> Option<Option<TargetForm>>
-    ensures { result ≡ default_or (arm_of arm.now) (Some (target_in (scope_of scope.now) (arm_of arm.now))) None }
-{
-    match arm {
-        Arm::Default(_, body) => Some(first_target(scope, body.get())),
-        Arm::Match(_, _) => None,
-    }
+    number
 }

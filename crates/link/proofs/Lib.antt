@@ -8,7 +8,7 @@ pub mod Sound
 pub mod Walking
 pub mod Forests
 pub mod Making
-pub mod First
+pub mod Searching
 pub mod Spelled
 pub mod Faulty
 pub mod Alone

@@ -1,4 +1,5 @@
 pub mod Listings
 pub mod Copies
 pub mod Names
+pub mod Searches
 pub mod Faults

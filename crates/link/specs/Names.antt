@@ -1,5 +1,5 @@
 -- What a node is called: by its first target, with the path of its signal (IEEE Std 1364-2005, 12.4); how a select is shown is this project's own.
-use Rattle.std.specs.Prelude.{ℕ, ◌+◌, ◌-◌, codes, decimal, Bool, is_some, List, [], ◌∷◌, ◌++◌, Option, Some, None}
+use Rattle.std.specs.Prelude.{◌≡◌, true, ◌<◌, length, ℕ, ◌+◌, ◌-◌, codes, decimal, Bool, is_some, List, [], ◌∷◌, ◌++◌, Option, Some, None, slice_get}
 use Rattle.std.specs.Global.{Global}
 use Rattle.std.specs.declared.vec.Vec.{Vec}
 use Rattle.ls_text.specs.declared.name_id.NameId.{NameId}
@@ -11,6 +11,7 @@ use Rattle.typed_ir.specs.Cycles.{Signal, Flat}
 use Rattle.typed_ir.specs.Nodes.{FlatNode, Drive, Block, lane_spans}
 use Rattle.typed_ir.specs.Orders.{at_or}
 use Rattle.typed_ir.specs.Stmts.{targets}
+use Rattle.typed_ir.specs.Valuations.{any_within}
 
 -- names with dots between
 abbrev pub joined : List (List ℕ) → List ℕ → List ℕ
@@ -38,17 +39,22 @@ abbrev pub target_text : List (List ℕ) → List Signal → TargetForm → Opti
 target_text texts signals form None = []
 target_text texts signals form (Some p) = at_or (λ (x : Signal). joined texts x.path ++ select_text form x.lsb p) [] signals p.signal
 
--- the first target of an assignment, and of a block in the order of its sized statement, where the default of a case comes last
+-- the first target of an assignment, and of a block the one that it tells
 abbrev pub first_target : FlatNode → Option Span
 first_target (Drive form lanes e) = first_of (lane_spans lanes)
-first_target (Block form body) = first_of (targets body)
+first_target (Block shown body) = slice_get (targets body) shown.number
 
 abbrev pub has_target : FlatNode → Bool
 has_target n = is_some (first_target n)
 
+-- the target that a block tells is among its own, where it has any
+abbrev pub IsShown : FlatNode → Type 0
+IsShown (Drive form lanes e) = Unit {0}
+IsShown (Block shown body) = (s i : ℕ) → any_within (targets body) s i ≡ true → shown.number < length (targets body)
+
 abbrev pub form_of : FlatNode → TargetForm
 form_of (Drive form lanes e) = form
-form_of (Block form body) = form
+form_of (Block shown body) = shown.form
 
 -- what the k-th node is called
 unfoldable pub node_text : List (List ℕ) → Flat → ℕ → List ℕ

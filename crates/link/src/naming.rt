@@ -93,7 +93,8 @@ fn form_of(node: &Node) -> TargetForm
     ensures { result ≡ form_of (node_of node.now) }
 {
     match node {
-        Node::Drive { form, .. } | Node::Block { form, .. } => *form,
+        Node::Drive { form, .. } => *form,
+        Node::Block { shown, .. } => shown.form,
     }
 }
 

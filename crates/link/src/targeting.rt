@@ -1,4 +1,4 @@
-// Statements and lists of targets to the first of their targets.
+// Nodes to their first targets.
 ghost use Rattle.std.specs.Prelude.{◌≡◌, map};
 ghost use Rattle.typed_ir.specs.Nodes.{lane_spans};
 ghost use Rattle.typed_ir.specs.FlatNodes.{node_of};
@@ -6,7 +6,9 @@ ghost use Rattle.typed_ir.specs.Statements.{stmt_of, arm_of, sequence_of, arms_b
 ghost use Rattle.typed_ir.specs.Stmts.{targets, arm_targets, span_of};
 ghost use Rattle.typed_ir.specs.Targets.{targets_of};
 ghost use Rattle.link.specs.Names.{first_of, first_target};
+ghost use Rattle.link.specs.Searches.{searched};
 
+use crate::search::Search;
 use typed_ir::{Arm, Lane, Node, Span, Stmt, Target, span_of};
 
 fn first_lane(lanes: &[Lane]) -> Option<Span>
@@ -18,73 +20,77 @@ fn first_lane(lanes: &[Lane]) -> Option<Span>
     }
 }
 
-fn first_part(parts: &[Target]) -> Option<Span>
-    ensures { result ≡ first_of (map span_of (targets_of parts.now)) }
+fn search_parts(parts: &[Target], skip: usize) -> Search
+    ensures { result ≡ searched (map span_of (targets_of parts.now)) skip }
 {
-    match parts.split_first() {
-        Some((part, _)) => Some(span_of(part)),
-        None => None,
+    match parts.get(skip) {
+        Some(part) => Search::Found(span_of(part)),
+        None => Search::Left(skip - parts.len()),
     }
 }
 
-// The first target of the blocking assignments of a sized statement, in its order: the default of a case stands last.
-#[cycle(first)]
-fn first_in(st: &Stmt) -> Option<Span>
-    ensures { result ≡ first_of (targets (stmt_of st.now)) }
+// The target of this number among those of the blocking assignments of a sized statement, in its order: the default of a case stands last.
+#[cycle(search)]
+fn search(st: &Stmt, skip: usize) -> Search
+    ensures { result ≡ searched (targets (stmt_of st.now)) skip }
 {
     match st {
-        Stmt::Skip | Stmt::Later { .. } => None,
-        Stmt::Assign { targets, .. } => first_part(targets),
-        Stmt::Sequence(list) => first_in_all(list),
+        Stmt::Skip | Stmt::Later { .. } => Search::Left(skip),
+        Stmt::Assign { targets, .. } => search_parts(targets, skip),
+        Stmt::Sequence(list) => search_all(list, skip),
         Stmt::If {
             consequent,
             alternative,
             ..
-        } => match first_in(consequent) {
-            Some(span) => Some(span),
-            None => first_in(alternative),
+        } => match search(consequent, skip) {
+            Search::Found(span) => Search::Found(span),
+            Search::Left(left) => search(alternative, left),
         },
         Stmt::Case {
             arms,
             otherwise,
             ..
-        } => first_in_arms(arms, otherwise),
+        } => search_arms(arms, otherwise, skip),
     }
 }
 
-#[cycle(first)]
-fn first_in_all(list: &[Stmt]) -> Option<Span>
-    ensures { result ≡ first_of (targets (sequence_of (map stmt_of list.now))) }
+#[cycle(search)]
+fn search_all(list: &[Stmt], skip: usize) -> Search
+    ensures { result ≡ searched (targets (sequence_of (map stmt_of list.now))) skip }
 {
+    let mut left = skip;
     for st in list {
-        match first_in(st) {
-            Some(span) => return Some(span),
-            None => {}
+        match search(st, left) {
+            Search::Found(span) => return Search::Found(span),
+            Search::Left(more) => left = more,
         }
     }
-    None
+    Search::Left(left)
 }
 
-#[cycle(first)]
-fn first_in_arms(arms: &[Arm], otherwise: &Stmt) -> Option<Span>
-    ensures { result ≡ first_of (arm_targets (arms_before (map arm_of arms.now) (stmt_of otherwise.now))) }
+#[cycle(search)]
+fn search_arms(arms: &[Arm], otherwise: &Stmt, skip: usize) -> Search
+    ensures { result ≡ searched (arm_targets (arms_before (map arm_of arms.now) (stmt_of otherwise.now))) skip }
 {
+    let mut left = skip;
     for arm in arms {
-        match first_in(&arm.body) {
-            Some(span) => return Some(span),
-            None => {}
+        match search(&arm.body, left) {
+            Search::Found(span) => return Search::Found(span),
+            Search::Left(more) => left = more,
         }
     }
-    first_in(otherwise)
+    search(otherwise, left)
 }
 
-/// The first target of a node: the first part left of an assignment, and the first of a block in its sized order, in which the
-/// default of a case stands last.
+/// The first target of a node: the first part left of an assignment, and of a block the target that it tells.
 pub fn first_target(node: &Node) -> Option<Span>
     ensures { result ≡ first_target (node_of node.now) }
 {
     match node {
         Node::Drive { lanes, .. } => first_lane(lanes),
-        Node::Block { body, .. } => first_in(body),
+        Node::Block { shown, body } => match search(body, shown.number) {
+            Search::Found(span) => Some(span),
+            Search::Left(_) => None,
+        },
     }
 }

@@ -3,7 +3,7 @@ use Rattle.std.proofs.Common.{◌≡◌, ℕ, Bool, true, false, not, ◌&&◌, 
 use Rattle.std.proofs.lemmas.Bool.{eqb-true}
 use Rattle.typed_ir.specs.declared.binary_operator.BinaryOperator.{BinaryOperator}
 use Rattle.typed_ir.specs.declared.node.Node.{Node}
-use Rattle.typed_ir.specs.declared.target_form.TargetForm.{TargetForm}
+use Rattle.typed_ir.specs.declared.shown_target.ShownTarget.{ShownTarget}
 use Rattle.typed_ir.specs.Valuations.{nowhere, any_within}
 use Rattle.typed_ir.specs.Stmts.{targets, open_reads, IsWhole, WritesFirst}
 use Rattle.typed_ir.specs.Nodes.{Block, IsComplete}
@@ -51,9 +51,9 @@ elsewhere p q s i out = by_cases (s == 2)
 writes_first : (p q : BinaryOperator) → WritesFirst (temporary p q)
 writes_first p q s i = by_cases (s == 1) (λ t. subst (λ k. WritesBit p q k i) (sym (eqb-true s 1 t)) (at_one p q i)) (λ f. elsewhere p q s i f)
 
-pub complete : (n : Node) (form : TargetForm) (p q : BinaryOperator) → node_of n ≡ Block form (temporary p q) → Each IsComplete (map node_of (n ∷ []))
+pub complete : (n : Node) (shown : ShownTarget) (p q : BinaryOperator) → node_of n ≡ Block shown (temporary p q) → Each IsComplete (map node_of (n ∷ []))
 unfolding IsComplete
-complete n form p q is = (subst IsComplete (sym is) (whole p q), tt)
+complete n shown p q is = (subst IsComplete (sym is) (whole p q), tt)
 
-pub first : (n : Node) (form : TargetForm) (p q : BinaryOperator) → node_of n ≡ Block form (temporary p q) → Each NodeWritesFirst (map node_of (n ∷ []))
-first n form p q is = (subst NodeWritesFirst (sym is) (writes_first p q), tt)
+pub first : (n : Node) (shown : ShownTarget) (p q : BinaryOperator) → node_of n ≡ Block shown (temporary p q) → Each NodeWritesFirst (map node_of (n ∷ []))
+first n shown p q is = (subst NodeWritesFirst (sym is) (writes_first p q), tt)

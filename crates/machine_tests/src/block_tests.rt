@@ -22,7 +22,7 @@ use std::process::Abort;
 use std::sync::ledger::{Blank, Ledger};
 use std::test::Fail;
 use typed_ir::{
-    ArithmeticOperator, BinaryOperator, Node, SignalId, Stmt, Target, TargetForm, Typed,
+    ArithmeticOperator, BinaryOperator, Node, ShownTarget, SignalId, Stmt, Target, TargetForm, Typed,
 };
 
 // SIGNAL = E;
@@ -39,7 +39,7 @@ fn now(alloc: Global, signal: u32, e: Typed) -> Result<Stmt, NoMemory>
 
 // always @* begin t = q + 1; t = t ^ 6; y = t; end
 fn block(alloc: Global) -> Result<Node, NoMemory>
-    ensures { IfOk result (λ n. node_of n ≡ Block Shown (temporary (Arithmetic Sum) (Arithmetic Xor))) }
+    ensures { IfOk result (λ n. node_of n ≡ Block (record { number = 0; form = Shown }) (temporary (Arithmetic Sum) (Arithmetic Xor))) }
 {
     let sum = BinaryOperator::Arithmetic(ArithmeticOperator::Sum);
     let xor = BinaryOperator::Arithmetic(ArithmeticOperator::Xor);
@@ -53,7 +53,10 @@ fn block(alloc: Global) -> Result<Node, NoMemory>
         now(alloc, 2, Typed::name(SignalId(1), 4))?,
     ]?;
     Ok(Node::Block {
-        form: TargetForm::Name,
+        shown: ShownTarget {
+            number: 0,
+            form: TargetForm::Name,
+        },
         body: Stmt::Sequence(body),
     })
 }

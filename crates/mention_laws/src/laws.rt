@@ -1,7 +1,7 @@
 // What a block mentions, against its sized form.
 ghost use Rattle.std.specs.Prelude.{◌≡◌, length, map};
 ghost use Rattle.typed_ir.specs.Stmts.{SizedStmt, span_of, targets, later_targets};
-ghost use Rattle.typed_ir.specs.declared.target_form.TargetForm.TheVariants.{Range};
+ghost use Rattle.typed_ir.specs.declared.target_form.TargetForm.TheVariants.{Name};
 ghost use Rattle.verilog_ast.specs.declared.statement.Stmt.{Stmt};
 ghost use Rattle.verilog_ast.specs.declared.target.Lhs.{Lhs};
 ghost use Rattle.verilog_ast.specs.Views.{statement_of, target_of};
@@ -12,7 +12,7 @@ ghost use Rattle.statement_rules.specs.Statements.{sized_statement};
 ghost use Rattle.statement_rules.specs.Targets.{parts};
 ghost use Rattle.block_rules.specs.Paths.{flags_of_block};
 ghost use Rattle.mention_laws.specs.Example.{scope as names, statement, reads, targets as written};
-ghost use Rattle.item_mentions.specs.Forms.{statement_form};
+ghost use Rattle.item_mentions.specs.Forms.{statement_shown};
 ghost use Rattle.mention_laws.specs.Leaves.{statement_leaves, signals_of, signals_named};
 ghost use Rattle.item_mentions.specs.Mentions.{numbered, statement_reads, statement_targets};
 ghost use Rattle.item_mentions.specs.Names.{target_names, expression_targets, written_as};
@@ -32,10 +32,10 @@ pub fn mentions_are_of_leaves()
     ensures so_many_later { (scope : Scope) (x : Stmt) → length (later_targets (sized_statement scope Clocked (statement_of x))) ≡ length (statement_targets 0 (statement_of x)) }
 {}
 
-/// A case whose default stands first, by hand: its default comes last, with the numbers that it has in the text.
+/// A case whose default stands first, by hand: its default comes last, with the numbers that it has in the text, and is named first.
 #[tactic(none)]
 pub fn default_comes_last()
     ensures reads { statement_reads names 0 statement ≡ reads }
     ensures targets { statement_targets 0 statement ≡ written }
-    ensures form { statement_form names statement ≡ Range }
+    ensures shown { statement_shown names statement ≡ record { number = 3; form = Name } }
 {}

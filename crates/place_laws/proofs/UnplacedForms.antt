@@ -1,13 +1,17 @@
--- The form in which a target is shown hangs on no place (IEEE 1364-2005, 5.2.1).
-use Rattle.std.proofs.Common.{◌≡◌, Bool, Option, Some, None, refl, ◌∙◌, ap, ap₂}
+-- The form in which a target is shown, and which one a statement is named by, hang on no place (IEEE 1364-2005, 5.2.1).
+use Rattle.std.proofs.Common.{◌≡◌, ℕ, ◌+◌, ◌==◌, cond, Bool, List, [], ◌∷◌, map, Some, refl, ◌∙◌, ap, ap₂}
+use Rattle.typed_ir.specs.declared.shown_target.ShownTarget.{ShownTarget}
 use Rattle.typed_ir.specs.declared.target_form.TargetForm.{TargetForm}
 use Rattle.typed_ir.specs.declared.target_form.TargetForm.TheVariants as form
+use Rattle.unit_ir.specs.declared.mention.Mention.{Mention}
 use Rattle.verilog_ast.specs.Expressions.{Expression, BitSelect, UpwardSelect, DownwardSelect, Target, Reference, Joined, NoTarget, Targets}
 use Rattle.verilog_ast.specs.Statements.{Statement, Block, If, IfElse, Case, Assignment, Default, Match, Statements}
 use Rattle.width_rules.specs.Scopes.{Scope}
-use Rattle.item_mentions.specs.Forms.{known_as, reference_form, first_or, form_or_name, first_part, target_form, first_target, first_of_arms, first_of_default, statement_form}
-use Rattle.item_mentions.specs.Mentions.{match_or, default_or}
+use Rattle.item_mentions.specs.Forms.{known_as, reference_form, first_or, form_or_name, first_part, target_form, first_target, first_number, statement_shown}
+use Rattle.item_mentions.specs.Mentions.{statement_targets}
 use Rattle.unplaced_trees.specs.Unplaced.{unplaced_expression, unplaced_target, unplaced_statement}
+use Rattle.place_laws.specs.Findings.{mention_unplaced}
+use Rattle.place_laws.proofs.UnplacedMentions.{same_targets}
 use Rattle.place_laws.proofs.UnplacedSizes.{same_fixed}
 
 reference_so : (scope : Scope) (e : Expression) → reference_form scope (unplaced_expression e) ≡ reference_form scope e
@@ -27,38 +31,24 @@ same_form_of scope t = ap form_or_name (part_so scope t)
 
 -- ---- statements
 
-match_so : {A : Type 0} (x : Statement) (p q : A) → match_or (unplaced_statement x) p q ≡ match_or x p q
-match_so (Match ls body) p q = refl
-match_so other p q = refl
+first_so : (scope : Scope) (x : Statement) → first_target scope (unplaced_statement x) ≡ first_target scope x
+first_so scope (Block at label body) = first_so scope body
+first_so scope (If at c x) = first_so scope x
+first_so scope (IfElse at c x y) = ap₂ first_or (first_so scope x) (first_so scope y)
+first_so scope (Case at kind x items) = first_so scope items
+first_so scope (Assignment t x) = ap Some (same_form_of scope t)
+first_so scope (Default at body) = first_so scope body
+first_so scope (Match ls body) = first_so scope body
+first_so scope (Statements x xs) = ap₂ first_or (first_so scope x) (first_so scope xs)
+first_so scope other = refl
 
-default_so : {A : Type 0} (x : Statement) (p q : A) → default_or (unplaced_statement x) p q ≡ default_or x p q
-default_so (Default at body) p q = refl
-default_so other p q = refl
+number_so : (ms : List Mention) → first_number (map mention_unplaced ms) ≡ first_number ms
+number_so [] = refl
+number_so (m ∷ ms) = ap (λ (k : ℕ). cond (m.order == 0) 0 (1 + k)) (number_so ms)
 
-mutual
-  first_so : (scope : Scope) (x : Statement) → first_target scope (unplaced_statement x) ≡ first_target scope x
-  first_so scope (Block at label body) = first_so scope body
-  first_so scope (If at c x) = first_so scope x
-  first_so scope (IfElse at c x y) = ap₂ first_or (first_so scope x) (first_so scope y)
-  first_so scope (Case at kind x items) = ap₂ first_or (arms_so scope items) (defaults_so scope items)
-  first_so scope (Assignment t x) = ap Some (same_form_of scope t)
-  first_so scope (Default at body) = first_so scope body
-  first_so scope (Match ls body) = first_so scope body
-  first_so scope (Statements x xs) = ap₂ first_or (first_so scope x) (first_so scope xs)
-  first_so scope other = refl
+abbrev shown_with : ℕ → TargetForm → ShownTarget
+shown_with k form = record { number = k; form = form }
 
-  arms_so : (scope : Scope) (x : Statement) → first_of_arms scope (unplaced_statement x) ≡ first_of_arms scope x
-  arms_so scope (Statements x xs) =
-      ap₂ first_or
-      (ap (λ (f : Option TargetForm). match_or (unplaced_statement x) f None) (first_so scope x) ∙ match_so x (first_target scope x) None)
-      (arms_so scope xs)
-  arms_so scope other = refl
-
-  defaults_so : (scope : Scope) (x : Statement) → first_of_default scope (unplaced_statement x) ≡ first_of_default scope x
-  defaults_so scope (Statements x xs) =
-      ap₂ (default_or (unplaced_statement x)) (first_so scope x) (defaults_so scope xs)
-      ∙ default_so x (first_target scope x) (first_of_default scope xs)
-  defaults_so scope other = refl
-
-pub same_statement_form : (scope : Scope) (x : Statement) → statement_form scope (unplaced_statement x) ≡ statement_form scope x
-same_statement_form scope x = ap form_or_name (first_so scope x)
+pub same_shown : (scope : Scope) (x : Statement) → statement_shown scope (unplaced_statement x) ≡ statement_shown scope x
+same_shown scope x =
+    ap₂ shown_with (ap first_number (same_targets 0 x) ∙ number_so (statement_targets 0 x)) (ap form_or_name (first_so scope x))

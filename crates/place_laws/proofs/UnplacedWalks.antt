@@ -1,7 +1,7 @@
 -- The items of a module step by step, without places: the same items, and the same faults (IEEE 1364-2005, 12.1.2 and 12.4).
 use Rattle.std.proofs.Common.{◌≡◌, ℕ, ◌+◌, Bool, false, List, [], ◌∷◌, ◌++◌, map, length, take, drop, refl, ◌∙◌, ap, ap₂}
 use Rattle.std.proofs.lemmas.List.{length-map}
-use Rattle.typed_ir.specs.declared.target_form.TargetForm.{TargetForm}
+use Rattle.typed_ir.specs.declared.shown_target.ShownTarget.{ShownTarget}
 use Rattle.typed_ir.specs.Nodes.{Block}
 use Rattle.typed_ir.specs.Stmts.{SizedStmt}
 use Rattle.unit_ir.specs.declared.child_shape.ChildShape.{ChildShape}
@@ -27,13 +27,13 @@ use Rattle.unit_names.specs.UnitReaches.{unit_in_reach}
 use Rattle.unit_build.specs.Settled.{flag_meaning, flag_names, flag_item, flag_step, flag_steps, none_of}
 use Rattle.unit_build.specs.Walks.{Walk, instances_in, shapes_of, step_faults, step_items, step_initials, passed, remaining, behind, walk_faults, walk_items, walk_initials}
 use Rattle.statement_rules.specs.Statements.{sized_statement}
-use Rattle.item_mentions.specs.Forms.{statement_form}
+use Rattle.item_mentions.specs.Forms.{statement_shown}
 use Rattle.unplaced_trees.specs.Unplaced.{unplaced_statement, unplaced_assignment, unplaced_instance, unplaced_item}
 use Rattle.place_laws.specs.Findings.{fault_unplaced, step_unplaced, signal_unplaced, mention_unplaced, value_unplaced, placed_unplaced}
 use Rattle.place_laws.proofs.UnplacedLists.{map_so, append_so}
 use Rattle.place_laws.proofs.UnplacedConnections.{same_instance_faults, same_instance_items}
 use Rattle.place_laws.proofs.UnplacedFaults.{both_so}
-use Rattle.place_laws.proofs.UnplacedForms.{same_statement_form}
+use Rattle.place_laws.proofs.UnplacedForms.{same_shown}
 use Rattle.place_laws.proofs.UnplacedMentions.{same_reads, same_targets}
 use Rattle.place_laws.proofs.UnplacedStatements.{same_statement, same_statement_faults, same_assign_faults}
 use Rattle.place_laws.proofs.UnplacedUnitReaches.{same_unit_reach}
@@ -55,18 +55,18 @@ values_so scope vs xs same = ap (map (value_item scope)) same ∙ map_so (value_
 
 -- ---- blocks
 
-abbrev combinational_with : TargetForm → SizedStmt → List Mention → List Mention → PlacedItem
-combinational_with form st targets reads = record { body = Node (Own (Block form st)); at = no_place; targets = targets; reads = reads }
+abbrev combinational_with : ShownTarget → SizedStmt → List Mention → List Mention → PlacedItem
+combinational_with shown st targets reads = record { body = Node (Own (Block shown st)); at = no_place; targets = targets; reads = reads }
 
 combinational_so : (scope : Scope) (x : Statement)
     → combinational_item scope no_place (unplaced_statement x)
-    ≡ combinational_with (statement_form scope x) (sized_statement scope writer.Combinational x) (map mention_unplaced (statement_targets 0 x))
+    ≡ combinational_with (statement_shown scope x) (sized_statement scope writer.Combinational x) (map mention_unplaced (statement_targets 0 x))
     (map mention_unplaced (statement_reads scope 0 x))
 combinational_so scope x =
-    ap₂ (λ (f : TargetForm) (st : SizedStmt). combinational_with f st (statement_targets 0 (unplaced_statement x))
+    ap₂ (λ (f : ShownTarget) (st : SizedStmt). combinational_with f st (statement_targets 0 (unplaced_statement x))
     (statement_reads scope 0 (unplaced_statement x)))
-    (same_statement_form scope x) (same_statement scope writer.Combinational x)
-    ∙ ap₂ (combinational_with (statement_form scope x) (sized_statement scope writer.Combinational x)) (same_targets 0 x) (same_reads scope 0 x)
+    (same_shown scope x) (same_statement scope writer.Combinational x)
+    ∙ ap₂ (combinational_with (statement_shown scope x) (sized_statement scope writer.Combinational x)) (same_targets 0 x) (same_reads scope 0 x)
 
 abbrev clocked_with : SizedStmt → List Mention → List Mention → PlacedItem
 clocked_with st targets reads = record { body = Clocked st; at = no_place; targets = targets; reads = reads }

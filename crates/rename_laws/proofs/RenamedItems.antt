@@ -2,7 +2,7 @@
 use Rattle.std.proofs.Common.{◌≡◌, List, [], ◌∷◌, map, refl, ◌∙◌, ap, ap₂}
 use Rattle.ls_text.specs.declared.name_id.NameId.{NameId}
 use Rattle.ls_text.specs.declared.place.Place.{Place}
-use Rattle.typed_ir.specs.declared.target_form.TargetForm.{TargetForm}
+use Rattle.typed_ir.specs.declared.shown_target.ShownTarget.{ShownTarget}
 use Rattle.typed_ir.specs.Nodes.{Block}
 use Rattle.typed_ir.specs.Stmts.{SizedStmt}
 use Rattle.unit_ir.specs.declared.mention.Mention.{Mention}
@@ -17,13 +17,13 @@ use Rattle.width_rules.specs.Renaming.{MeansSame, fault_as}
 use Rattle.width_rules.specs.Scopes.{Scope}
 use Rattle.statement_rules.specs.Statements.{sized_statement}
 use Rattle.statement_rules.proofs.RenamedStatements.{same_statement, same_statement_faults, same_assign_faults}
-use Rattle.item_mentions.specs.Forms.{statement_form}
+use Rattle.item_mentions.specs.Forms.{statement_shown}
 use Rattle.item_mentions.specs.Mentions.{statement_reads, statement_targets}
 use Rattle.sized_items.specs.declared.value_kind.ValueKind.TheVariants as kind
 use Rattle.sized_items.specs.DeclaredValues.{DeclaredValue, kind_of_net, declaration_faults, declaration_initials}
 use Rattle.sized_items.specs.SizedItems.{drive_item, value_item, combinational_item, clocked_item, plain_items, plain_initials, plain_faults}
 use Rattle.rename_laws.specs.Findings.{value_as, placed_as}
-use Rattle.rename_laws.proofs.RenamedForms.{same_statement_form}
+use Rattle.rename_laws.proofs.RenamedForms.{same_shown}
 use Rattle.rename_laws.proofs.RenamedMentions.{same_reads, same_targets}
 use Rattle.rename_laws.proofs.RenamedValueItems.{same_values, same_reg_values, same_declaration_faults, same_initials, same_drive_item, same_value_item}
 
@@ -55,16 +55,16 @@ drive_items_so f scope other (x ∷ xs) same =
 
 -- ---- blocks
 
-abbrev combinational_with : Place → TargetForm → SizedStmt → List Mention → List Mention → PlacedItem
-combinational_with at form st targets reads = record { body = Node (Own (Block form st)); at = at; targets = targets; reads = reads }
+abbrev combinational_with : Place → ShownTarget → SizedStmt → List Mention → List Mention → PlacedItem
+combinational_with at shown st targets reads = record { body = Node (Own (Block shown st)); at = at; targets = targets; reads = reads }
 
 combinational_so : (f : NameId → NameId) (scope other : Scope) (at : Place) (x : Statement) → MeansSame f scope other
     → combinational_item other at (statement_as f x) ≡ placed_as f (combinational_item scope at x)
 combinational_so f scope other at x same =
-    ap₂ (λ (form : TargetForm) (st : SizedStmt). combinational_with at form st (statement_targets 0 (statement_as f x))
+    ap₂ (λ (shown : ShownTarget) (st : SizedStmt). combinational_with at shown st (statement_targets 0 (statement_as f x))
     (statement_reads other 0 (statement_as f x)))
-    (same_statement_form f scope other x same) (same_statement f scope other writer.Combinational x same)
-    ∙ ap₂ (combinational_with at (statement_form scope x) (sized_statement scope writer.Combinational x)) (same_targets f 0 x)
+    (same_shown f scope other x same) (same_statement f scope other writer.Combinational x same)
+    ∙ ap₂ (combinational_with at (statement_shown scope x) (sized_statement scope writer.Combinational x)) (same_targets f 0 x)
     (same_reads f scope other 0 x same)
 
 abbrev clocked_with : Place → SizedStmt → List Mention → List Mention → PlacedItem

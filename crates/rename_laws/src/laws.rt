@@ -21,7 +21,7 @@ ghost use Rattle.unit_names.specs.Numbers.{SignalTable, module_table};
 ghost use Rattle.unit_names.specs.Signals.{NamedSignal};
 ghost use Rattle.unit_names.specs.UnitLists.{unit_signals, data_inputs, registers};
 ghost use Rattle.unit_names.specs.UnitReaches.{unit_reach_in, unit_in_reach};
-ghost use Rattle.item_mentions.specs.Forms.{target_form, statement_form};
+ghost use Rattle.item_mentions.specs.Forms.{target_form, statement_shown};
 ghost use Rattle.item_mentions.specs.Mentions.{statement_reads, statement_targets};
 ghost use Rattle.connection_rules.specs.Instances.{item_faults, instance_items};
 ghost use Rattle.sized_items.specs.SizedItems.{plain_items, plain_initials, plain_faults};
@@ -61,8 +61,8 @@ pub fn names_may_change_in_items()
         → statement_reads other k (statement_as f x) ≡ map (mention_as f) (statement_reads scope k x) }
     ensures targets { (f : NameId → NameId) (k : ℕ) (x : Statement)
         → statement_targets k (statement_as f x) ≡ map (mention_as f) (statement_targets k x) }
-    ensures forms { (f : NameId → NameId) (scope other : Scope) (x : Statement) → MeansSame f scope other
-        → statement_form other (statement_as f x) ≡ statement_form scope x }
+    ensures shown { (f : NameId → NameId) (scope other : Scope) (x : Statement) → MeansSame f scope other
+        → statement_shown other (statement_as f x) ≡ statement_shown scope x }
     ensures target_forms { (f : NameId → NameId) (scope other : Scope) (t : Target) → MeansSame f scope other
         → target_form other (target_as f t) ≡ target_form scope t }
     ensures items { (f : NameId → NameId) (scope other : Scope) (x : ModuleItem) → MeansSame f scope other

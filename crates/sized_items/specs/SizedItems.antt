@@ -16,7 +16,7 @@ use Rattle.width_rules.specs.Scopes.{Scope}
 use Rattle.statement_rules.specs.Drives.{assign_faults}
 use Rattle.statement_rules.specs.Statements.{assigned, sized_statement, statement_faults}
 use Rattle.statement_rules.specs.Targets.{target_length, parts}
-use Rattle.item_mentions.specs.Forms.{target_form, statement_form}
+use Rattle.item_mentions.specs.Forms.{target_form, statement_shown}
 use Rattle.item_mentions.specs.Mentions.{numbered, statement_reads, statement_targets}
 use Rattle.item_mentions.specs.Names.{target_names}
 use Rattle.sized_items.specs.declared.value_kind.ValueKind.TheVariants as kind
@@ -55,7 +55,7 @@ value_item scope x = if is_net_value scope x then drive_item scope (as_assignmen
 
 abbrev pub combinational_item : Scope → Place → Statement → PlacedItem
 combinational_item scope at body = record {
-  body = Node (Own (Block (statement_form scope body) (sized_statement scope writer.Combinational body)));
+  body = Node (Own (Block (statement_shown scope body) (sized_statement scope writer.Combinational body)));
   at = at;
   targets = statement_targets 0 body;
   reads = statement_reads scope 0 body;

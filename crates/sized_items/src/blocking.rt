@@ -9,12 +9,12 @@ ghost use Rattle.item_mentions.specs.Mentions.{statement_reads, statement_target
 ghost use Rattle.statement_rules.specs.Statements.{statement_faults};
 ghost use Rattle.sized_items.specs.SizedItems.{combinational_item, clocked_item};
 
-use item_mentions::{BlockMentions, block_mentions, statement_form};
+use item_mentions::{BlockMentions, block_mentions, first_number, statement_form};
 use ls_text::{Place, Refusal};
 use no_memory::NoMemory;
 use statement_rules::size_stmt;
 use std::alloc::Global;
-use typed_ir::Node;
+use typed_ir::{Node, ShownTarget};
 use unit_ir::{ItemBody, ItemPlaces, TypedItem, UnitNode};
 use verilog_ast::Stmt;
 use width_rules::{Scope, Writer};
@@ -41,10 +41,13 @@ fn size_combinational(
     ensures fault { IfErr result (IsFirst (statement_faults (scope_of scope.now) writer.Combinational (statement_of body.now))) }
 {
     let places = places_of(alloc, scope, at, body)?;
-    let form = statement_form(scope, body);
+    let shown = ShownTarget {
+        number: first_number(&places.targets),
+        form: statement_form(scope, body),
+    };
     let body = size_stmt(alloc, scope, Writer::Combinational, body)?;
     Ok(TypedItem {
-        body: ItemBody::Node(UnitNode::Own(Node::Block { form, body })),
+        body: ItemBody::Node(UnitNode::Own(Node::Block { shown, body })),
         places,
     })
 }

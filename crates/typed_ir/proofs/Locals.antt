@@ -10,7 +10,7 @@ use Rattle.bits.proofs.Runs.{bit_at-shr, bit_at-mod_in, bit_at-mod_out}
 use Rattle.typed_ir.specs.declared.span.Span.{Span}
 use Rattle.typed_ir.specs.declared.lane.Lane.{Lane}
 use Rattle.typed_ir.specs.declared.reach.Reach.{Reach}
-use Rattle.typed_ir.specs.declared.target_form.TargetForm.{TargetForm}
+use Rattle.typed_ir.specs.declared.shown_target.ShownTarget.{ShownTarget}
 use Rattle.typed_ir.specs.declared.update.Update.{Update}
 use Rattle.typed_ir.specs.Valuations.{Valuation, Places, look, placed, within, any_within, nowhere, Same}
 use Rattle.typed_ir.specs.Sized.{Sized, Constant, Name, Part, Pick, Unary, Binary, Choice, Concat, Repeat, Resized, value_of, width_of, apply_unary, apply_binary, place_of, copies, reads}
@@ -342,7 +342,7 @@ pub drive_local : (k : FlatNode) (v w env env' : Valuation) → IsComplete k →
 unfolding drive node_drives node_reads IsComplete
 drive_local (Drive form lanes e) v w env env' c h s i d =
     spread_inside lanes (value_of e v) env env' s i d ∙ ap (λ x. look (spread lanes x env') s i) (value_local e v w h)
-drive_local (Block form body) v w env env' c h s i d =
+drive_local (Block shown body) v w env env' c h s i d =
     copied_inside (targets body) (exec body v) env s i d
     ∙ (exec_local body nowhere (open_reads body nowhere) v w (λ t j r. r) (λ t j r. absurd (true≢false (sym r))) h).0 s i (c s i d)
     ∙ sym (copied_inside (targets body) (exec body w) env' s i d)
@@ -350,15 +350,15 @@ drive_local (Block form body) v w env env' c h s i d =
 pub drive_outside : (k : FlatNode) (v env : Valuation) (s i : ℕ) → node_drives k s i ≡ false → look (drive k v env) s i ≡ look env s i
 unfolding drive node_drives
 drive_outside (Drive form lanes e) v env s i d = spread_outside lanes (value_of e v) env s i d
-drive_outside (Block form body) v env s i d = copied_outside (targets body) (exec body v) env s i d
+drive_outside (Block shown body) v env s i d = copied_outside (targets body) (exec body v) env s i d
 
 pub node_laws : NodeLaws node_drives node_reads drive IsComplete
 node_laws = record { local = drive_local; outside = drive_outside }
 
 -- a block may run in place
-pub block_in_place : (form : TargetForm) (body : SizedStmt) (env : Valuation) → drive (Block form body) env env ≡ exec body env
+pub block_in_place : (shown : ShownTarget) (body : SizedStmt) (env : Valuation) → drive (Block shown body) env env ≡ exec body env
 unfolding drive
-block_in_place form body env = same_valuation (copied (targets body) (exec body env) env) (exec body env) (λ s i.
+block_in_place shown body env = same_valuation (copied (targets body) (exec body env) env) (exec body env) (λ s i.
     by_cases (any_within (targets body) s i)
     (λ inside. copied_inside (targets body) (exec body env) env s i inside)
     (λ outside. copied_outside (targets body) (exec body env) env s i outside ∙ sym (exec_outside body env s i outside)))

@@ -136,24 +136,24 @@ mutual
 pub reads_foreign : (n : FlatNode) (s i : ℕ) → node_drives n s i ≡ false → mentions n s i ≡ true → node_reads n s i ≡ true
 unfolding node_drives node_reads
 reads_foreign (Drive form lanes e) s i h m = m
-reads_foreign (Block form body) s i h m = open_is body nowhere s i h refl ∙ m
+reads_foreign (Block shown body) s i h m = open_is body nowhere s i h refl ∙ m
 
 pub reads_mentioned : (n : FlatNode) (s i : ℕ) → node_reads n s i ≡ true → mentions n s i ≡ true
 unfolding node_reads
 reads_mentioned (Drive form lanes e) s i h = h
-reads_mentioned (Block form body) s i h = open_read body nowhere s i h
+reads_mentioned (Block shown body) s i h = open_read body nowhere s i h
 
 -- an assignment reads whatever its text reads
 pub drive_reads : (n : FlatNode) (s i : ℕ) → is_block n ≡ false → mentions n s i ≡ true → node_reads n s i ≡ true
 unfolding node_reads
 drive_reads (Drive form lanes e) s i is m = m
-drive_reads (Block form body) s i is m = absurd (true≢false is)
+drive_reads (Block shown body) s i is m = absurd (true≢false is)
 
 -- a block doesn't read what it drives
 pub block_apart : (n : FlatNode) (s i : ℕ) → NodeWritesFirst n → is_block n ≡ true → node_reads n s i ≡ true → node_drives n s i ≡ true → ⊥
 unfolding node_drives node_reads
 block_apart (Drive form lanes e) s i first is r d = true≢false (sym is)
-block_apart (Block form body) s i first is r d = true≢false (sym r ∙ first s i d)
+block_apart (Block shown body) s i first is r d = true≢false (sym r ∙ first s i d)
 
 -- ---- the bits that a node drives
 
@@ -248,7 +248,7 @@ pub drives_small : (n : FlatNode) (widths : List ℕ) (s i : ℕ) → ((k : ℕ)
 unfolding node_drives is_legal_node
 drives_small (Drive form lanes e) widths s i most legal h =
     lanes_small lanes widths s i most (and_left (are_lanes lanes widths) (is_sized e widths) legal) h
-drives_small (Block form body) widths s i most legal h = targets_small body widths s i most legal h
+drives_small (Block shown body) widths s i most legal h = targets_small body widths s i most legal h
 
 -- ---- the bits that a clocked block writes
 

@@ -7,4 +7,4 @@ use Rattle.typed_ir.specs.declared.node.Node.TheVariants.{Drive as Drive', Block
 
 abbrev pub node_of : Node → FlatNode
 node_of (Drive' form lanes e) = Drive form lanes.items (sized e.form)
-node_of (Block' form body) = Block form (stmt_of body)
+node_of (Block' shown body) = Block shown (stmt_of body)

@@ -52,7 +52,7 @@ are_within (x ∷ xs) count = nat_lt x.instance count && are_within xs count
 -- a combinational block writes each of its bits before it reads it
 abbrev pub NodeWritesFirst : FlatNode → Type 0
 NodeWritesFirst (Drive form lanes e) = Unit {0}
-NodeWritesFirst (Block form body) = WritesFirst body
+NodeWritesFirst (Block shown body) = WritesFirst body
 
 -- what a flat design keeps beside its widths
 pub record IsFlat (design : Flat) : Type 0 where

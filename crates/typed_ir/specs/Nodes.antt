@@ -2,18 +2,19 @@
 use Rattle.std.specs.Prelude.{◌≡◌, length, ℕ, ◌/◌, ◌^◌, Bool, true, ◌&&◌, nat_lt, List, [], ◌∷◌, map}
 use Rattle.typed_ir.specs.declared.span.Span.{Span}
 use Rattle.typed_ir.specs.declared.lane.Lane.{Lane}
+use Rattle.typed_ir.specs.declared.shown_target.ShownTarget.{ShownTarget}
 use Rattle.typed_ir.specs.declared.target_form.TargetForm.{TargetForm}
 use Rattle.typed_ir.specs.Valuations.{Valuation, Places, placed, any_within, nowhere}
 use Rattle.typed_ir.specs.Sized.{Sized, value_of, reads, is_span}
 use Rattle.typed_ir.specs.Stmts.{SizedStmt, exec, targets, open_reads, IsWhole, is_legal, is_sized}
 use Rattle.typed_ir.specs.Orders.{at_or, Precedes, IsOrderOf}
 
--- what drives some bits at all times, with the form in which its first target is shown
+-- what drives some bits at all times, with how its first target is shown
 pub data FlatNode : Type 0 where
   -- a continuous assignment or a connection; its lanes are the parts of its target
   Drive : (form : TargetForm) (lanes : List Lane) (e : Sized) → FlatNode
-  -- a combinational block
-  Block : (form : TargetForm) (body : SizedStmt) → FlatNode
+  -- a combinational block, and which of its targets is the first in the text
+  Block : (shown : ShownTarget) (body : SizedStmt) → FlatNode
 
 -- the bits of x put into the lanes, one lane after another
 abbrev pub spread : List Lane → ℕ → Valuation → Valuation
@@ -31,20 +32,20 @@ copied (p ∷ ps) from env = copied ps from (placed p (from p.signal / 2 ^ p.low
 -- env with the bits that the node drives as it gives them over v
 unfoldable pub drive : FlatNode → Valuation → Valuation → Valuation
 drive (Drive form lanes e) v env = spread lanes (value_of e v) env
-drive (Block form body) v env = copied (targets body) (exec body v) env
+drive (Block shown body) v env = copied (targets body) (exec body v) env
 
 unfoldable pub node_drives : FlatNode → Places
 node_drives (Drive form lanes e) = any_within (lane_spans lanes)
-node_drives (Block form body) = any_within (targets body)
+node_drives (Block shown body) = any_within (targets body)
 
 unfoldable pub node_reads : FlatNode → Places
 node_reads (Drive form lanes e) = reads e
-node_reads (Block form body) = open_reads body nowhere
+node_reads (Block shown body) = open_reads body nowhere
 
 -- an assignment always, a block where it has no latch
 unfoldable pub IsComplete : FlatNode → Type 0
 IsComplete (Drive form lanes e) = Unit {0}
-IsComplete (Block form body) = IsWhole body
+IsComplete (Block shown body) = IsWhole body
 
 -- the same by the node's number
 abbrev pub drive_at : List FlatNode → ℕ → Valuation → Valuation → Valuation
@@ -71,7 +72,7 @@ are_lanes (l ∷ ls) widths = (nat_lt l.shift 128 && is_span l.span widths) && a
 
 unfoldable pub is_legal_node : FlatNode → List ℕ → Bool
 is_legal_node (Drive form lanes e) widths = are_lanes lanes widths && is_sized e widths
-is_legal_node (Block form body) widths = is_legal body widths
+is_legal_node (Block shown body) widths = is_legal body widths
 
 abbrev pub are_legal : List FlatNode → List ℕ → Bool
 are_legal [] widths = true

@@ -134,7 +134,7 @@ span_of (Fixed lane) = lane.span
 span_of (Moving reach index) = record { signal = reach.signal; low = 0; width = reach.total }
 
 abbrev mutual
-  -- the bits that the blocking assignments may write, in the order of the text
+  -- the bits that the blocking assignments may write, in the order of the sized statement: of a case with the default last
   pub targets : SizedStmt → List Span
   targets Skip = []
   targets (Assign parts e) = map span_of parts

@@ -36,8 +36,8 @@ abbrev mutual
 -- the bits that the text of a node reads
 abbrev pub mentions : FlatNode → Places
 mentions (Drive form lanes e) = reads e
-mentions (Block form body) = all_reads body
+mentions (Block shown body) = all_reads body
 
 abbrev pub is_block : FlatNode → Bool
 is_block (Drive form lanes e) = false
-is_block (Block form body) = true
+is_block (Block shown body) = true

@@ -6,6 +6,7 @@ ghost use Rattle.typed_ir.specs.Views.{widths, env_of};
 
 use crate::lane::Lane;
 use crate::placing::fan_out;
+use crate::shown_target::ShownTarget;
 use crate::stmt::Stmt;
 use crate::target_form::TargetForm;
 use crate::typed::Typed;
@@ -21,9 +22,9 @@ pub enum Node {
         lanes: Vec<Lane>,
         value: Typed,
     },
-    /// A combinational block, with the form in which the target of its first assignment is shown.
+    /// A combinational block, with the target by which it is named.
     Block {
-        form: TargetForm,
+        shown: ShownTarget,
         body: Stmt,
     },
 }

@@ -137,7 +137,7 @@ mutual
 flat_narrow : (n : FlatNode) (widths : List ℕ) → AreFew widths → is_legal_node n widths ≡ true → AreNarrow (flat_spans n)
 unfolding is_legal_node
 flat_narrow (Drive form lanes e) widths few h = lanes_narrow lanes widths few (and_left (are_lanes lanes widths) (is_sized e widths) h)
-flat_narrow (Block form body) widths few h = blocking_narrow body widths few h
+flat_narrow (Block shown body) widths few h = blocking_narrow body widths few h
 
 node_narrow : (n : UnitNode) (widths : List ℕ) (kids : ℕ → List ℕ) → AreFew widths → is_legal_unit_node widths kids n ≡ true → AreNarrow (node_spans n)
 node_narrow (Own node) widths kids few h = flat_narrow node widths few h

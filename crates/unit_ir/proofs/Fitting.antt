@@ -110,7 +110,7 @@ pub node_fits : (first : ℕ) (ws part : List ℕ) → Holds first ws part → (
 unfolding is_legal_node
 node_fits first ws part holds (Drive form lanes e) h =
     both_from (are_lanes lanes part) (is_sized e part) _ _ (lanes_fit first ws part holds lanes) (sized_fits first ws part holds e) h
-node_fits first ws part holds (Block form body) h = stmt_fits first ws part holds body h
+node_fits first ws part holds (Block shown body) h = stmt_fits first ws part holds body h
 
 -- a connection: its lanes in one instance, its expression in another
 pub joint_fits : (form : TargetForm) (a b : ℕ) (ws port_widths own_widths : List ℕ) → Holds a ws port_widths → Holds b ws own_widths → (lanes : List Lane) (e : Sized)

@@ -41,7 +41,7 @@ node_complete first kid (From c form lanes e) h = tt
 
 node_first : (first : ℕ) (kid : ℕ → ℕ) (x : UnitNode) → IsNodeSound x → NodeWritesFirst (node_there first kid x)
 node_first first kid (Own (Drive form lanes e)) h = tt
-node_first first kid (Own (Block form body)) h = first_shifted first body h.1
+node_first first kid (Own (Block shown body)) h = first_shifted first body h.1
 node_first first kid (Into c form lanes e) h = tt
 node_first first kid (From c form lanes e) h = tt
 

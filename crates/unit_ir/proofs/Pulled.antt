@@ -174,14 +174,14 @@ lanes_shifted first (l ∷ ls) = ap (λ zs. shifted_span first l.span ∷ zs) (l
 pub drives_shifted : (first : ℕ) (n : FlatNode) (s i : ℕ) → node_drives (shifted_node first n) (first + s) i ≡ node_drives n s i
 unfolding node_drives
 drives_shifted first (Drive form lanes e) s i = ap (λ ps. any_within ps (first + s) i) (lanes_shifted first lanes) ∙ spans_shifted first (lane_spans lanes) s i
-drives_shifted first (Block form body) s i = target_there first body s i
+drives_shifted first (Block shown body) s i = target_there first body s i
 
 pub drives_below : (first : ℕ) (n : FlatNode) (s i : ℕ) → s < first → node_drives (shifted_node first n) s i ≡ false
 unfolding node_drives
 drives_below first (Drive form lanes e) s i h = ap (λ ps. any_within ps s i) (lanes_shifted first lanes) ∙ spans_below first (lane_spans lanes) s i h
-drives_below first (Block form body) s i h = target_below first body s i h
+drives_below first (Block shown body) s i h = target_below first body s i h
 
 pub complete_shifted : (first : ℕ) (n : FlatNode) → IsComplete n → IsComplete (shifted_node first n)
 unfolding IsComplete
 complete_shifted first (Drive form lanes e) h = tt
-complete_shifted first (Block form body) h = whole_shifted first body h
+complete_shifted first (Block shown body) h = whole_shifted first body h

@@ -57,4 +57,4 @@ abbrev mutual
 
 abbrev pub shifted_node : ℕ → FlatNode → FlatNode
 shifted_node first (Drive form lanes e) = Drive form (map (shifted_lane first) lanes) (shifted first e)
-shifted_node first (Block form body) = Block form (shifted_stmt first body)
+shifted_node first (Block shown body) = Block shown (shifted_stmt first body)

@@ -408,9 +408,12 @@ pub fn shifted_node(alloc: Global, node: &Node, first: u32) -> Result<Node, NoMe
                 value,
             })
         }
-        Node::Block { form, body } => {
+        Node::Block { shown, body } => {
             let body = shifted_stmt(alloc, body, first)?;
-            Ok(Node::Block { form: *form, body })
+            Ok(Node::Block {
+                shown: *shown,
+                body,
+            })
         }
     }
 }

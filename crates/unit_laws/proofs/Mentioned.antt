@@ -1,7 +1,8 @@
 -- What items mention, and the forms in which their targets are shown, where signals have other numbers: the same.
 use Rattle.std.proofs.Common.{◌≡◌, ℕ, Bool, List, [], ◌∷◌, ◌++◌, cond, refl, ◌∙◌, ap, ap₂}
-use Rattle.std.specs.Prelude.{Option, Some, None}
+use Rattle.std.specs.Prelude.{Option, Some}
 use Rattle.std.proofs.Math.Path.{fun_ext}
+use Rattle.typed_ir.specs.declared.shown_target.ShownTarget.{ShownTarget}
 use Rattle.typed_ir.specs.declared.target_form.TargetForm.{TargetForm}
 use Rattle.typed_ir.specs.declared.target_form.TargetForm.TheVariants as form
 use Rattle.verilog_ast.specs.declared.identifier.Identifier.{Identifier}
@@ -11,8 +12,8 @@ use Rattle.width_rules.specs.Scopes.{Scope, is_signal}
 use Rattle.width_rules.specs.Sizes.{is_constant}
 use Rattle.size_laws.specs.Renumbering.{renumbered}
 use Rattle.size_laws.proofs.RenumberedForms.{signal_as, fixed_as}
-use Rattle.item_mentions.specs.Forms.{known_as, reference_form, first_or, form_or_name, first_part, target_form, first_target, first_of_arms, first_of_default, statement_form}
-use Rattle.item_mentions.specs.Mentions.{Listing, reading, match_or, default_or, mentions, statement_reads}
+use Rattle.item_mentions.specs.Forms.{known_as, reference_form, first_or, form_or_name, first_part, target_form, first_target, first_number, statement_shown}
+use Rattle.item_mentions.specs.Mentions.{Listing, reading, mentions, statement_reads, statement_targets}
 use Rattle.item_mentions.specs.Names.{signal_name, run_time, expression_names, index_of, index_names}
 
 -- ---- names that are read
@@ -88,27 +89,20 @@ first_part_as g scope (Targets t ts) = ap₂ first_or (first_part_as g scope t) 
 pub target_form_as : (g : ℕ → ℕ) (scope : Scope) (t : Target) → target_form (renumbered g scope) t ≡ target_form scope t
 target_form_as g scope t = ap form_or_name (first_part_as g scope t)
 
-mutual
-  first_target_as : (g : ℕ → ℕ) (scope : Scope) (x : Statement) → first_target (renumbered g scope) x ≡ first_target scope x
-  first_target_as g scope (Block at label body) = first_target_as g scope body
-  first_target_as g scope (If at c x) = first_target_as g scope x
-  first_target_as g scope (IfElse at c x y) = ap₂ first_or (first_target_as g scope x) (first_target_as g scope y)
-  first_target_as g scope (Case at kind x items) = ap₂ first_or (arms_as g scope items) (default_as g scope items)
-  first_target_as g scope (Assignment t x) = ap (λ (f : TargetForm). Some f) (target_form_as g scope t)
-  first_target_as g scope (Null at) = refl
-  first_target_as g scope (Default at body) = first_target_as g scope body
-  first_target_as g scope (Match ls body) = first_target_as g scope body
-  first_target_as g scope NoStatement = refl
-  first_target_as g scope (Statements x xs) = ap₂ first_or (first_target_as g scope x) (first_target_as g scope xs)
+first_target_as : (g : ℕ → ℕ) (scope : Scope) (x : Statement) → first_target (renumbered g scope) x ≡ first_target scope x
+first_target_as g scope (Block at label body) = first_target_as g scope body
+first_target_as g scope (If at c x) = first_target_as g scope x
+first_target_as g scope (IfElse at c x y) = ap₂ first_or (first_target_as g scope x) (first_target_as g scope y)
+first_target_as g scope (Case at kind x items) = first_target_as g scope items
+first_target_as g scope (Assignment t x) = ap (λ (f : TargetForm). Some f) (target_form_as g scope t)
+first_target_as g scope (Null at) = refl
+first_target_as g scope (Default at body) = first_target_as g scope body
+first_target_as g scope (Match ls body) = first_target_as g scope body
+first_target_as g scope NoStatement = refl
+first_target_as g scope (Statements x xs) = ap₂ first_or (first_target_as g scope x) (first_target_as g scope xs)
 
-  arms_as : (g : ℕ → ℕ) (scope : Scope) (x : Statement) → first_of_arms (renumbered g scope) x ≡ first_of_arms scope x
-  arms_as g scope (Statements x xs) =
-      ap₂ (λ (a b : Option TargetForm). first_or (match_or x a None) b) (first_target_as g scope x) (arms_as g scope xs)
-  arms_as g scope other = refl
+abbrev shown_with : ℕ → TargetForm → ShownTarget
+shown_with k form = record { number = k; form = form }
 
-  default_as : (g : ℕ → ℕ) (scope : Scope) (x : Statement) → first_of_default (renumbered g scope) x ≡ first_of_default scope x
-  default_as g scope (Statements x xs) = ap₂ (default_or x) (first_target_as g scope x) (default_as g scope xs)
-  default_as g scope other = refl
-
-pub statement_form_as : (g : ℕ → ℕ) (scope : Scope) (x : Statement) → statement_form (renumbered g scope) x ≡ statement_form scope x
-statement_form_as g scope x = ap form_or_name (first_target_as g scope x)
+pub shown_as : (g : ℕ → ℕ) (scope : Scope) (x : Statement) → statement_shown (renumbered g scope) x ≡ statement_shown scope x
+shown_as g scope x = ap (λ (f : Option TargetForm). shown_with (first_number (statement_targets 0 x)) (form_or_name f)) (first_target_as g scope x)

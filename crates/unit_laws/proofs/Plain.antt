@@ -1,7 +1,7 @@
 -- Items but for instances where signals have other numbers: the same faults, and their sized items under these numbers.
 use Rattle.std.proofs.Common.{◌≡◌, ℕ, List, [], ◌∷◌, map, refl, ap, ap₂}
 use Rattle.ls_text.specs.declared.place.Place.{Place}
-use Rattle.typed_ir.specs.declared.target_form.TargetForm.{TargetForm}
+use Rattle.typed_ir.specs.declared.shown_target.ShownTarget.{ShownTarget}
 use Rattle.typed_ir.specs.Nodes.{Block}
 use Rattle.typed_ir.specs.Stmts.{SizedStmt}
 use Rattle.unit_ir.specs.declared.mention.Mention.{Mention}
@@ -26,7 +26,7 @@ use Rattle.sized_items.specs.SizedItems.{combinational_item, clocked_item, plain
 use Rattle.unit_build.proofs.ItemLaws.{IsItemWritten}
 use Rattle.unit_laws.specs.RenumberedItems.{placed_as, initial_as}
 use Rattle.unit_laws.proofs.Declared.{drive_items_as, declaration_faults_as, value_items_as, initials_as}
-use Rattle.unit_laws.proofs.Mentioned.{reads_as, statement_form_as}
+use Rattle.unit_laws.proofs.Mentioned.{reads_as, shown_as}
 
 -- ---- blocks
 
@@ -42,7 +42,7 @@ combinational_as : (g : ℕ → ℕ) (scope : Scope) (at : Place) (x : Statement
     → combinational_item (renumbered g scope) at x ≡ placed_as g (combinational_item scope at x)
 combinational_as g scope at x w h =
     ap₂ (block_with at x)
-    (ap₂ (λ (f : TargetForm) (s : SizedStmt). Node (Own (Block f s))) (statement_form_as g scope x) (body_so g scope writer.Combinational x w h))
+    (ap₂ (λ (f : ShownTarget) (s : SizedStmt). Node (Own (Block f s))) (shown_as g scope x) (body_so g scope writer.Combinational x w h))
     (reads_as g scope 0 x)
 
 clocked_as : (g : ℕ → ℕ) (scope : Scope) (at : Place) (x : Statement) → IsStatementWritten x → statement_faults scope writer.Clocked x ≡ []

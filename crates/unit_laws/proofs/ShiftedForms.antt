@@ -62,4 +62,4 @@ mutual
 
 pub node_shifted : (first : ℕ) (n : FlatNode) → flat_node_as (behind_first first) n ≡ shifted_node first n
 node_shifted first (Drive form lanes e) = ap₂ (Drive form) (lanes_shifted first lanes) (form_shifted first e)
-node_shifted first (Block form body) = ap (Block form) (statement_shifted first body)
+node_shifted first (Block shown body) = ap (Block shown) (statement_shifted first body)

@@ -8,7 +8,7 @@ use Rattle.sized_items.specs.DeclaredValues.{InitialValue}
 
 abbrev pub flat_node_as : (ℕ → ℕ) → FlatNode → FlatNode
 flat_node_as g (Drive form lanes e) = Drive form (map (lane_as g) lanes) (numbered_as g e)
-flat_node_as g (Block form body) = Block form (statement_as g body)
+flat_node_as g (Block shown body) = Block shown (statement_as g body)
 
 -- lanes of an input connection are by the numbers of the child, and so is the value of an output connection
 abbrev pub node_as : (ℕ → ℕ) → UnitNode → UnitNode

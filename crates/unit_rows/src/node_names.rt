@@ -2,8 +2,8 @@
 use ls_text::{Names, push_decimal};
 use no_memory::NoMemory;
 use typed_ir::{
-    Arm, Flat, InstanceId, InstanceName, Lane, Node, SignalId, Span, Stmt, Target, TargetForm,
-    span_of,
+    Arm, Flat, InstanceId, InstanceName, Lane, Node, ShownTarget, SignalId, Span, Stmt, Target,
+    TargetForm, span_of,
 };
 
 // The path of an instance, each of its names with a dot behind it.
@@ -49,57 +49,67 @@ fn first_lane(lanes: &[Lane]) -> Option<Span> {
     }
 }
 
-fn first_part(parts: &[Target]) -> Option<Span> {
-    match parts.split_first() {
-        Some((part, _)) => Some(span_of(part)),
-        None => None,
+// The target of this number among the parts of one assignment; past them, how many are still to be passed.
+fn part_at(parts: &[Target], left: &mut usize) -> Option<Span> {
+    match parts.get(*left) {
+        Some(part) => Some(span_of(part)),
+        None => {
+            *left = left.saturating_sub(parts.len());
+            None
+        }
     }
 }
 
-// The first target of a statement, in the order of the text but for a case's default, which comes last.
-#[cycle(first)]
-fn first_in(statement: &Stmt) -> Option<Span> {
+// The target of this number in a statement, in which a case's default comes last.
+#[cycle(target)]
+fn target_at(statement: &Stmt, left: &mut usize) -> Option<Span> {
     match statement {
         Stmt::Skip | Stmt::Later { .. } => None,
-        Stmt::Assign { targets, .. } => first_part(targets),
-        Stmt::Sequence(list) => first_in_all(list),
+        Stmt::Assign { targets, .. } => part_at(targets, left),
+        Stmt::Sequence(list) => target_in_all(list, left),
         Stmt::If {
             consequent,
             alternative,
             ..
-        } => match first_in(consequent) {
+        } => match target_at(consequent, left) {
             Some(span) => Some(span),
-            None => first_in(alternative),
+            None => target_at(alternative, left),
         },
         Stmt::Case {
             arms,
             otherwise,
             ..
-        } => match first_in_arms(arms) {
+        } => match target_in_arms(arms, left) {
             Some(span) => Some(span),
-            None => first_in(otherwise),
+            None => target_at(otherwise, left),
         },
     }
 }
 
-#[cycle(first)]
-fn first_in_all(list: &[Stmt]) -> Option<Span> {
+#[cycle(target)]
+fn target_in_all(list: &[Stmt], left: &mut usize) -> Option<Span> {
     for statement in list {
-        if let Some(span) = first_in(statement) {
+        if let Some(span) = target_at(statement, left) {
             return Some(span);
         }
     }
     None
 }
 
-#[cycle(first)]
-fn first_in_arms(arms: &[Arm]) -> Option<Span> {
+#[cycle(target)]
+fn target_in_arms(arms: &[Arm], left: &mut usize) -> Option<Span> {
     for arm in arms {
-        if let Some(span) = first_in(&arm.body) {
+        if let Some(span) = target_at(&arm.body, left) {
             return Some(span);
         }
     }
     None
+}
+
+// The target by which a block is named.
+fn shown_in(shown: ShownTarget, body: &Stmt) -> Option<Span> {
+    let mut left = shown.number;
+    target_at(body, &mut left)
 }
 
 // Bits of a signal, counted from the lower bound of its range.
@@ -127,7 +137,7 @@ pub fn push_node(
 ) -> Result<(), NoMemory> {
     let (form, target) = match node {
         Node::Drive { form, lanes, .. } => (*form, first_lane(lanes)),
-        Node::Block { form, body } => (*form, first_in(body)),
+        Node::Block { shown, body } => (shown.form, shown_in(*shown, body)),
     };
     let Some(span) = target else {
         return Ok(());

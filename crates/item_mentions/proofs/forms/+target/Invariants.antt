@@ -3,7 +3,7 @@ use Rattle.std.proofs.Common.{◌≡◌, ◌+◌, ◌*◌, max, map, drop}
 use Rattle.verilog_ast.proofs.statement.Stmt.TheLaws.{the_size}
 use Rattle.verilog_ast.specs.Views.{statement_of, arm_of, statements_of}
 use Rattle.width_rules.specs.Entries.{scope_of}
-use Rattle.item_mentions.specs.Forms.{first_target as target_in, first_of_arms as target_in_arms, first_of_default as target_in_default}
+use Rattle.item_mentions.specs.Forms.{first_target as target_in}
 use Rattle.item_mentions.proofs.forms.+target.Given as goal
 
 abbrev pub decreases-first_target : goal.decreases-first_target
@@ -18,17 +18,8 @@ decreases-first_of l = 8 * goal.size-first_of l + 1
 abbrev pub decreases-first_of_arm : goal.decreases-first_of_arm
 decreases-first_of_arm l = 8 * goal.size-first_of_arm l + 1
 
-abbrev pub decreases-default_form : goal.decreases-default_form
-decreases-default_form l = 8 * goal.size-default_form l + 1
-
 abbrev pub decreases-first_of_arms : goal.decreases-first_of_arms
 decreases-first_of_arms l = 8 * goal.size-first_of_arms l + 2
-
-abbrev pub decreases-first_of_default : goal.decreases-first_of_default
-decreases-first_of_default l = 8 * goal.size-first_of_default l + 2
-
-abbrev pub decreases-first_of_case : goal.decreases-first_of_case
-decreases-first_of_case l = 8 * goal.size-first_of_case l + 3
 
 abbrev pub invariant-first_of-loop-st : goal.invariant-first_of-loop-st
 invariant-first_of-loop-st l =
@@ -36,8 +27,4 @@ invariant-first_of-loop-st l =
 
 abbrev pub invariant-first_of_arms-loop-arm : goal.invariant-first_of_arms-loop-arm
 invariant-first_of_arms-loop-arm l =
-    target_in_arms (scope_of l.scope) (statements_of (map arm_of (drop l.arm-index l.arms))) ≡ target_in_arms (scope_of l.scope) (statements_of (map arm_of l.arms))
-
-abbrev pub invariant-first_of_default-loop-arm : goal.invariant-first_of_default-loop-arm
-invariant-first_of_default-loop-arm l =
-    target_in_default (scope_of l.scope) (statements_of (map arm_of (drop l.arm-index l.arms))) ≡ target_in_default (scope_of l.scope) (statements_of (map arm_of l.arms))
+    target_in (scope_of l.scope) (statements_of (map arm_of (drop l.arm-index l.arms))) ≡ target_in (scope_of l.scope) (statements_of (map arm_of l.arms))

@@ -1,6 +1,6 @@
 use Rattle.rename_laws.proofs.RenamedConnections.{same_instance_faults, same_instance_items}
 use Rattle.rename_laws.proofs.RenamedDrivers.{same_driver_faults, same_unit}
-use Rattle.rename_laws.proofs.RenamedForms.{same_form_of, same_statement_form}
+use Rattle.rename_laws.proofs.RenamedForms.{same_form_of, same_shown}
 use Rattle.rename_laws.proofs.RenamedItems.{same_plain_faults, same_plain_initials, same_plain_items}
 use Rattle.rename_laws.proofs.RenamedMentions.{same_reads, same_targets}
 use Rattle.rename_laws.proofs.laws.names_may_change_in_items.Goals as goal
@@ -11,8 +11,8 @@ returns-clause-reads c = same_reads
 pub returns-clause-targets : goal.returns-clause-targets
 returns-clause-targets c = same_targets
 
-pub returns-clause-forms : goal.returns-clause-forms
-returns-clause-forms c = same_statement_form
+pub returns-clause-shown : goal.returns-clause-shown
+returns-clause-shown c = same_shown
 
 pub returns-clause-target_forms : goal.returns-clause-target_forms
 returns-clause-target_forms c = same_form_of
