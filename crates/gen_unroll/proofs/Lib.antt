@@ -9,3 +9,4 @@ pub mod Blocks
 pub mod NamesInReach
 pub mod Prefixes
 pub mod Overridden
+pub mod MovedLists

@@ -1,4 +1,3 @@
-pub mod UnplacedLists
 pub mod UnplacedSizes
 pub mod UnplacedFaults
 pub mod UnplacedReferences

@@ -28,7 +28,7 @@ use Rattle.sized_items.specs.DeclaredValues.{InitialValue}
 use Rattle.unit_build.specs.Building.{module_of, steps_told, job_steps, settled_signals, with_initials, built}
 use Rattle.unit_build.specs.Settled.{flag_steps, none_of}
 use Rattle.unit_build.specs.Walks.{Walk, walk_faults, walk_items, walk_initials}
-use Rattle.place_laws.specs.BuiltModules.{Usage, usage_of, module_steps, walk_in, module_faults, module_items, module_initials, placed_with, placed_module, unit_in, built_module}
+use Rattle.unit_build.specs.BuiltModules.{Usage, usage_of, module_steps, walk_in, module_faults, module_items, module_initials, placed_with, placed_module, unit_in, built_module}
 use Rattle.place_laws.specs.Findings.{fault_unplaced, found_unplaced, answer_unplaced, step_unplaced, signal_unplaced, table_unplaced, placed_unplaced, items_unplaced}
 use Rattle.unplaced_trees.specs.Unplaced.{unplaced_declaration}
 use Rattle.place_laws.proofs.UnplacedAnswers.{found_so, unless_so}

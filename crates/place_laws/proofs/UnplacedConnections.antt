@@ -29,7 +29,7 @@ use Rattle.connection_rules.specs.Instances.{instance_faults, instance_kinds, it
 use Rattle.connection_rules.specs.Outputs.{is_target, target_at, as_target, part_faults, written_faults, output_faults, part_kinds, written_kinds, output_kinds, reference_form, output_form, output_mentions, known_lanes}
 use Rattle.unplaced_trees.specs.Unplaced.{unplaced_expression, unplaced_target, unplaced_by_name, unplaced_by_order, unplaced_connections, unplaced_instance}
 use Rattle.place_laws.specs.Findings.{fault_unplaced, mention_unplaced, connected_unplaced, placed_unplaced}
-use Rattle.place_laws.proofs.UnplacedLists.{append_so, if_moved}
+use Rattle.gen_unroll.proofs.MovedLists.{append_so, if_moved}
 use Rattle.place_laws.proofs.UnplacedFaults.{both_so, total_so, fault_of_so, same_place, same_faults}
 use Rattle.place_laws.proofs.UnplacedMentions.{same_expression_targets, same_numbered}
 use Rattle.place_laws.proofs.UnplacedReferences.{same_reference_faults}

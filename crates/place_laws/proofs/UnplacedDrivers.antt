@@ -20,7 +20,7 @@ use Rattle.driver_rules.specs.Mentioned.{shown_at, sooner, earliest, shown_fault
 use Rattle.driver_rules.specs.Targets.{block_names, is_settled, writer_of, may_write, all_target_faults}
 use Rattle.driver_rules.specs.Writes.{spans_of, writes, written, blocks_of}
 use Rattle.place_laws.specs.Findings.{fault_unplaced, mention_unplaced, shown_unplaced, placed_unplaced, items_unplaced}
-use Rattle.place_laws.proofs.UnplacedLists.{if_moved}
+use Rattle.gen_unroll.proofs.MovedLists.{if_moved}
 use Rattle.place_laws.proofs.UnplacedFaults.{both_so}
 
 -- ---- the mention that is shown: the order of mentions is no place

@@ -13,7 +13,7 @@ use Rattle.width_rules.specs.Sizes.{literal_length, count_of, bits_between}
 use Rattle.width_rules.specs.Faults.{faults, fault, fault_of, fault_at, fault_if, first_name, name_faults, run_faults, range_faults, part_faults, width_faults, total_faults, lies}
 use Rattle.unplaced_trees.specs.Unplaced.{unplaced_expression, unplaced_name}
 use Rattle.place_laws.specs.Findings.{fault_unplaced}
-use Rattle.place_laws.proofs.UnplacedLists.{append_so}
+use Rattle.gen_unroll.proofs.MovedLists.{append_so}
 use Rattle.place_laws.proofs.UnplacedSizes.{same_length, same_fixed, same_worth}
 
 -- ---- lists of faults

@@ -12,7 +12,7 @@ use Rattle.item_mentions.specs.Mentions.{numbered, Listing, reading, writing, la
 use Rattle.item_mentions.specs.Names.{signal_name, run_time, expression_names, index_of, index_names, reference_name, target_names, expression_targets}
 use Rattle.unplaced_trees.specs.Unplaced.{unplaced_name, unplaced_expression, unplaced_target, unplaced_label, unplaced_statement}
 use Rattle.place_laws.specs.Findings.{mention_unplaced}
-use Rattle.place_laws.proofs.UnplacedLists.{append_so, if_moved}
+use Rattle.gen_unroll.proofs.MovedLists.{append_so, if_moved}
 use Rattle.place_laws.proofs.UnplacedSizes.{same_fixed}
 
 -- ---- names

@@ -13,7 +13,7 @@ use Rattle.gen_unroll.specs.Unrolled.{with_turn, nowhere, own_names}
 use Rattle.unit_names.specs.UnitReaches.{hidden, hidden_ports, hidden_module}
 use Rattle.unplaced_trees.specs.Unplaced.{unplaced_name, unplaced_declared, unplaced_declared_reg, unplaced_instance, unplaced_port, unplaced_ports, unplaced_item, unplaced_declaration}
 use Rattle.place_laws.specs.Findings.{turn_unplaced, step_unplaced}
-use Rattle.place_laws.proofs.UnplacedLists.{map_so}
+use Rattle.gen_unroll.proofs.MovedLists.{map_so}
 
 -- ---- names
 

@@ -20,7 +20,7 @@ use Rattle.unit_names.specs.Signals.{NamedSignal, kind_of_net, with_port, with_p
 use Rattle.unplaced_trees.specs.Unplaced.{unplaced_name, unplaced_range, unplaced_kind, unplaced_declared, unplaced_declared_reg, unplaced_port, unplaced_item}
 use Rattle.place_laws.specs.Findings.{found_unplaced, answer_unplaced, step_unplaced, signal_unplaced}
 use Rattle.place_laws.proofs.UnplacedAnswers.{found_so, value_so, bind_so}
-use Rattle.place_laws.proofs.UnplacedLists.{map_so, if_moved}
+use Rattle.gen_unroll.proofs.MovedLists.{map_so, if_moved}
 use Rattle.place_laws.proofs.UnplacedNames.{same_reach}
 use Rattle.place_laws.proofs.UnplacedValues.{same_range_value}
 

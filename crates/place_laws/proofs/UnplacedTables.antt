@@ -19,7 +19,7 @@ use Rattle.unit_names.specs.UnitLists.{signal_called, called_by, names_behind, u
 use Rattle.unplaced_trees.specs.Unplaced.{unplaced_name, unplaced_port, unplaced_ports, unplaced_declaration}
 use Rattle.place_laws.specs.Findings.{found_unplaced, step_unplaced, signal_unplaced, table_unplaced}
 use Rattle.place_laws.proofs.UnplacedAnswers.{found_so}
-use Rattle.place_laws.proofs.UnplacedLists.{map_so, if_moved}
+use Rattle.gen_unroll.proofs.MovedLists.{map_so, if_moved}
 use Rattle.place_laws.proofs.UnplacedNames.{same_port_name, same_beginning}
 use Rattle.place_laws.proofs.UnplacedSignals.{same_declared}
 

@@ -19,7 +19,7 @@ use Rattle.gen_unroll.specs.Unrolled.{State, each, override_of, given_or, parame
 use Rattle.gen_unroll.specs.Values.{ConstantValue}
 use Rattle.unplaced_trees.specs.Unplaced.{unplaced_name, unplaced_kind, unplaced_parameter, unplaced_header_parameter, unplaced_port, unplaced_ports, unplaced_head, unplaced_item, unplaced_declaration}
 use Rattle.place_laws.specs.Findings.{answer_unplaced, turn_unplaced, step_unplaced, told_unplaced}
-use Rattle.place_laws.proofs.UnplacedLists.{map_so}
+use Rattle.gen_unroll.proofs.MovedLists.{map_so}
 use Rattle.place_laws.proofs.UnplacedLoops.{same_taken, same_loop_turns}
 use Rattle.place_laws.proofs.UnplacedNames.{same_inner, same_own_names}
 use Rattle.place_laws.proofs.UnplacedTold.{step_so, said_so, quiet_so, each_so, if_told}

@@ -26,7 +26,7 @@ use Rattle.sized_items.specs.DeclaredValues.{DeclaredValue, InitialValue, kind_o
 use Rattle.sized_items.specs.SizedItems.{fixed_lanes, drive_item, initial_item, value_item}
 use Rattle.unplaced_trees.specs.Unplaced.{unplaced_name, unplaced_expression, unplaced_target, unplaced_declared, unplaced_declared_reg, unplaced_port, unplaced_assignment}
 use Rattle.place_laws.specs.Findings.{fault_unplaced, value_unplaced, placed_unplaced}
-use Rattle.place_laws.proofs.UnplacedLists.{append_so, if_moved}
+use Rattle.gen_unroll.proofs.MovedLists.{append_so, if_moved}
 use Rattle.place_laws.proofs.UnplacedFaults.{both_so, same_place, same_faults}
 use Rattle.place_laws.proofs.UnplacedForms.{same_form_of}
 use Rattle.place_laws.proofs.UnplacedMentions.{same_target_names, same_numbered}

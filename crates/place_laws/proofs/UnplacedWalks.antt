@@ -30,7 +30,7 @@ use Rattle.statement_rules.specs.Statements.{sized_statement}
 use Rattle.item_mentions.specs.Forms.{statement_shown}
 use Rattle.unplaced_trees.specs.Unplaced.{unplaced_statement, unplaced_assignment, unplaced_instance, unplaced_item}
 use Rattle.place_laws.specs.Findings.{fault_unplaced, step_unplaced, signal_unplaced, mention_unplaced, value_unplaced, placed_unplaced}
-use Rattle.place_laws.proofs.UnplacedLists.{map_so, append_so}
+use Rattle.gen_unroll.proofs.MovedLists.{map_so, append_so}
 use Rattle.place_laws.proofs.UnplacedConnections.{same_instance_faults, same_instance_items}
 use Rattle.place_laws.proofs.UnplacedFaults.{both_so}
 use Rattle.place_laws.proofs.UnplacedForms.{same_shown}

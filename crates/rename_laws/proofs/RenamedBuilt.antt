@@ -29,7 +29,7 @@ use Rattle.sized_items.specs.DeclaredValues.{InitialValue}
 use Rattle.unit_build.specs.Building.{module_of, job_steps, settled_signals, begins_with, with_initials, built}
 use Rattle.unit_build.specs.Settled.{flag_steps, none_of}
 use Rattle.unit_build.specs.Walks.{Walk, walk_faults, walk_items, walk_initials}
-use Rattle.place_laws.specs.BuiltModules.{Usage, usage_of, module_steps, walk_in, module_faults, module_items, module_initials, placed_with, placed_module, unit_in, built_module}
+use Rattle.unit_build.specs.BuiltModules.{Usage, usage_of, module_steps, walk_in, module_faults, module_items, module_initials, placed_with, placed_module, unit_in, built_module}
 use Rattle.design_laws.specs.Renaming.{KeepsApart, number_as, found_as, step_as}
 use Rattle.design_laws.proofs.RenamedAnswers.{found_so}
 use Rattle.rename_laws.specs.Findings.{signal_as, table_as, shape_as, placed_as, unit_signal_as, items_as}

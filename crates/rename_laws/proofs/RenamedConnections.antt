@@ -37,7 +37,7 @@ use Rattle.connection_rules.specs.Instances.{instance_faults, instance_kinds, it
 use Rattle.connection_rules.specs.Outputs.{is_target, target_at, as_target, part_faults, written_faults, output_faults, part_kinds, written_kinds, output_kinds, reference_form, output_form, output_mentions, known_lanes}
 use Rattle.design_laws.specs.Renaming.{KeepsApart}
 use Rattle.design_laws.proofs.RenamedNames.{same_test}
-use Rattle.place_laws.proofs.UnplacedLists.{append_so, if_moved}
+use Rattle.gen_unroll.proofs.MovedLists.{append_so, if_moved}
 use Rattle.rename_laws.specs.Findings.{port_shape_as, shape_as, connected_as, mention_as, placed_as}
 use Rattle.rename_laws.proofs.RenamedMentions.{same_expression_targets, same_numbered}
 use Rattle.rename_laws.proofs.RenamedTables.{same_clock}

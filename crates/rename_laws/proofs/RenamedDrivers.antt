@@ -23,7 +23,7 @@ use Rattle.driver_rules.specs.Mentioned.{shown_at, sooner, earliest, shown_fault
 use Rattle.driver_rules.specs.Targets.{block_names, is_settled, writer_of, may_write, all_target_faults}
 use Rattle.driver_rules.specs.Writes.{spans_of, writes, written, blocks_of}
 use Rattle.design_laws.specs.Renaming.{number_as}
-use Rattle.place_laws.proofs.UnplacedLists.{if_moved}
+use Rattle.gen_unroll.proofs.MovedLists.{if_moved}
 use Rattle.rename_laws.specs.Findings.{mention_as, shown_as, placed_as, unit_signal_as, items_as, unit_as}
 
 -- ---- the mention that is shown: the order of mentions is no name

@@ -24,7 +24,7 @@ use Rattle.design_laws.specs.Renaming.{KeepsApart, SpellsSame, found_as, block_a
 use Rattle.design_laws.proofs.RenamedNames.{same_test, names_so}
 use Rattle.design_laws.proofs.RenamedTexts.{same_spoken}
 use Rattle.design_laws.proofs.RenamedTold.{same_blocks}
-use Rattle.place_laws.proofs.UnplacedLists.{if_moved}
+use Rattle.gen_unroll.proofs.MovedLists.{if_moved}
 use Rattle.rename_laws.specs.Findings.{shape_as}
 use Rattle.rename_laws.specs.Jobs.{IsModuleAs, instance_as, IsJobAs, AreJobsAs}
 use Rattle.rename_laws.proofs.RenamedSteps.{same_steps_with}

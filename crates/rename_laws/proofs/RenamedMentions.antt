@@ -14,7 +14,7 @@ use Rattle.width_rules.specs.Sizes.{is_constant}
 use Rattle.width_rules.proofs.RenamedSizes.{same_fixed}
 use Rattle.item_mentions.specs.Mentions.{numbered, Listing, reading, writing, labels_names, label_names, count, match_or, default_or, mentions, arm_mentions, default_mentions, statement_reads, statement_targets}
 use Rattle.item_mentions.specs.Names.{signal_name, run_time, expression_names, index_of, index_names, reference_name, target_names, expression_targets}
-use Rattle.place_laws.proofs.UnplacedLists.{append_so, if_moved}
+use Rattle.gen_unroll.proofs.MovedLists.{append_so, if_moved}
 use Rattle.rename_laws.specs.Findings.{mention_as}
 
 -- ---- names

@@ -25,7 +25,7 @@ use Rattle.design_laws.proofs.RenamedAnswers.{found_so, value_so, bind_so}
 use Rattle.design_laws.proofs.RenamedNames.{same_test, names_so, same_reach}
 use Rattle.design_laws.proofs.RenamedValues.{same_range_value}
 use Rattle.rename_laws.specs.Findings.{signal_as}
-use Rattle.place_laws.proofs.UnplacedLists.{if_moved}
+use Rattle.gen_unroll.proofs.MovedLists.{if_moved}
 
 -- ---- ports
 

@@ -22,7 +22,7 @@ use Rattle.unit_names.specs.UnitLists.{signal_called, called_by, names_behind, u
 use Rattle.design_laws.specs.Renaming.{KeepsApart, number_as, found_as, step_as}
 use Rattle.design_laws.proofs.RenamedAnswers.{found_so}
 use Rattle.design_laws.proofs.RenamedNames.{same_test, names_so, port_name_so, same_beginning}
-use Rattle.place_laws.proofs.UnplacedLists.{if_moved}
+use Rattle.gen_unroll.proofs.MovedLists.{if_moved}
 use Rattle.rename_laws.specs.Findings.{signal_as, table_as, unit_signal_as}
 use Rattle.rename_laws.proofs.RenamedSignals.{same_declared}
 

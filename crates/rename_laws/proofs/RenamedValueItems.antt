@@ -34,7 +34,7 @@ use Rattle.sized_items.specs.declared.value_kind.ValueKind.{ValueKind}
 use Rattle.sized_items.specs.declared.value_kind.ValueKind.TheVariants as kind
 use Rattle.sized_items.specs.DeclaredValues.{DeclaredValue, InitialValue, kind_of_net, value_if, values_of, reg_values_of, port_values, name_of, as_assignment, is_net, is_net_by, is_net_value, signal_in, due_by, writer_by, all_value_faults, all_value_kinds, declaration_faults, initial_value, declaration_initials}
 use Rattle.sized_items.specs.SizedItems.{fixed_lanes, drive_item, initial_item, value_item}
-use Rattle.place_laws.proofs.UnplacedLists.{append_so, if_moved}
+use Rattle.gen_unroll.proofs.MovedLists.{append_so, if_moved}
 use Rattle.rename_laws.specs.Findings.{value_as, placed_as}
 use Rattle.rename_laws.proofs.RenamedForms.{same_form_of}
 use Rattle.rename_laws.proofs.RenamedMentions.{same_target_names, same_numbered}

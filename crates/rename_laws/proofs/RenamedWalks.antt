@@ -21,7 +21,7 @@ use Rattle.unit_names.specs.UnitReaches.{unit_in_reach}
 use Rattle.unit_build.specs.Settled.{flag_meaning, flag_names, flag_item, flag_step, flag_steps, none_of}
 use Rattle.unit_build.specs.Walks.{Walk, instances_in, shapes_of, shapes_behind, step_faults, step_items, step_initials, passed, remaining, behind, walk_faults, walk_items, walk_initials}
 use Rattle.design_laws.specs.Renaming.{KeepsApart, SameReach, step_as}
-use Rattle.place_laws.proofs.UnplacedLists.{append_so}
+use Rattle.gen_unroll.proofs.MovedLists.{append_so}
 use Rattle.rename_laws.specs.Findings.{signal_as, shape_as, mention_as, placed_as}
 use Rattle.rename_laws.proofs.RenamedConnections.{same_instance_faults, same_instance_items}
 use Rattle.rename_laws.proofs.RenamedItems.{faults_so, initials_so, values_so, same_plain_faults, same_plain_items, same_plain_initials}

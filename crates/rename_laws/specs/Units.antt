@@ -3,7 +3,7 @@ use Rattle.std.specs.Prelude.{map}
 use Rattle.std.specs.Option.{option_map}
 use Rattle.ls_text.specs.declared.name_id.NameId.{NameId}
 use Rattle.module_registry.specs.Building.{Built}
-use Rattle.place_laws.specs.BuiltModules.{Usage}
+use Rattle.unit_build.specs.BuiltModules.{Usage}
 use Rattle.rename_laws.specs.Findings.{shape_as, unit_as}
 
 -- values of parameters have no names

@@ -31,7 +31,7 @@ ghost use Rattle.unit_build.specs.Building.{settled_signals, built};
 ghost use Rattle.unit_jobs.specs.BlockNames.{texts_within};
 ghost use Rattle.unit_jobs.specs.Jobs.{tree_jobs};
 ghost use Rattle.design_laws.specs.Renaming.{KeepsApart, SameReach, SpellsSame, number_as, found_as, step_as};
-ghost use Rattle.place_laws.specs.BuiltModules.{Usage, module_steps, module_faults, module_items, module_initials, placed_module, built_module};
+ghost use Rattle.unit_build.specs.BuiltModules.{Usage, module_steps, module_faults, module_items, module_initials, placed_module, built_module};
 ghost use Rattle.rename_laws.specs.Findings.{signal_as, table_as, shape_as, mention_as, placed_as, unit_signal_as, items_as, unit_as};
 ghost use Rattle.rename_laws.specs.Jobs.{IsModuleAs, AreJobsAs, instance_as};
 ghost use Rattle.rename_laws.specs.Units.{usage_as, built_as};

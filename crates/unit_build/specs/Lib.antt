@@ -4,3 +4,4 @@ pub mod WalkViews
 pub mod Settled
 pub mod Building
 pub mod FromSteps
+pub mod BuiltModules

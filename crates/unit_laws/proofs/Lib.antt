@@ -91,3 +91,6 @@ pub mod DesignCopies
 pub mod OneTable
 pub mod OneDesign
 pub mod HeldDesign
+pub mod RenamedCopiedItems
+pub mod RenamedDesignCopies
+pub mod RenamedFlat

@@ -14,3 +14,4 @@ pub mod TableCopies
 pub mod DesignCopies
 pub mod Held
 pub mod TreeJobs
+pub mod FlatRenaming
