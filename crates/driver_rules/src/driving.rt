@@ -49,7 +49,7 @@ fn check_paths(alloc: Global, items: &TypedItems) -> Result<(), Refusal>
     check_blocks(alloc, &items.signals, &items.declarations, &items.items)
 }
 
-/// The bits that the items of a module drive or write, each with its item, in item order.
+/// The bits that the items of a module drive or write, each with its item.
 ///
 /// Faults, in this order: 33 BadTarget at the first item, and there at the earliest part, that writes what it may not; 34 MultipleDrivers
 /// at the second of two items that have a bit, or at the later part of one assignment or connection; block by block 36 ReadBeforeWrite at
