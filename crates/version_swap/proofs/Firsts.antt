@@ -1,5 +1,5 @@
 -- The first of equal keys, and of jobs of one text.
-use Rattle.std.proofs.Common.{◌≡◌, ℕ, Bool, true, false, cond, ◌&&◌, ◌||◌, List, [], ◌∷◌, ◌++◌, All, map, refl, sym, ◌∙◌, ap, ap₂, subst, true≢false}
+use Rattle.std.proofs.Common.{◌≡◌, ℕ, Bool, true, false, cond, ◌&&◌, ◌||◌, List, [], ◌∷◌, ◌++◌, All, map, refl, sym, ◌∙◌, ap, ap₂, true≢false}
 use Rattle.std.proofs.lemmas.List.{map_push}
 use Rattle.std.proofs.lemmas.List.Elements.{All-nil, All-cons, All-head, All-tail, All-push}
 use Rattle.std.proofs.lemmas.Slice.Eq.{bytes_eq-Decides}
@@ -12,7 +12,6 @@ use Rattle.module_registry.specs.Entries.{is_among}
 use Rattle.module_registry.specs.Jobs.{job_text}
 use Rattle.module_registry.specs.KeyLaws.{same_laws}
 use Rattle.module_registry.specs.Keys.{KeyData, same, jobs_of}
-use Rattle.module_registry.proofs.News.{among_both}
 use Rattle.version_swap.specs.FirstKeys.{is_text_among, with_job, first_jobs, key_of, with_key, first_keys}
 
 -- ---- a key that a set takes in
@@ -63,9 +62,11 @@ module _ (names : List (List ℕ)) where
       ∙ chosen (is_text_among names (job_text names j) js) js j
 
   -- the first keys are those of the first jobs
-  pub first_of_jobs : (js more : List BuildJob) → first_keys (map (key_of names) js) (map (key_of names) more) ≡ map (key_of names) (first_jobs names js more)
+  pub first_of_jobs : (js more : List BuildJob) → first_keys (map (key_of names) js) (map (key_of names) more) ≡ map (key_of names)
+      (first_jobs names js more)
   first_of_jobs js [] = refl
-  first_of_jobs js (j ∷ more) = ap (λ (ks : List KeyData). first_keys ks (map (key_of names) more)) (one_key js j) ∙ first_of_jobs (with_job names js j) more
+  first_of_jobs js (j ∷ more) = ap (λ (ks : List KeyData). first_keys ks (map (key_of names) more)) (one_key js j)
+      ∙ first_of_jobs (with_job names js j) more
 
   pub jobs_behind : (js : List BuildJob) → jobs_of (map (key_of names) js) ≡ js
   jobs_behind [] = refl
@@ -95,7 +96,8 @@ module _ (names : List (List ℕ)) (P : BuildJob → Type 0) where
   pub first_jobs_all : (js more : List BuildJob) → All P js → All P more → All P (first_jobs names js more)
   first_jobs_all js [] all more = all
   first_jobs_all js (j ∷ later) all more =
-      first_jobs_all (with_job names js j) later (one_job (is_text_among names (job_text names j) js) js j all (All-head P j later more)) (All-tail P j later more)
+      first_jobs_all (with_job names js j) later (one_job (is_text_among names (job_text names j) js) js j all (All-head P j later more))
+      (All-tail P j later more)
 
 -- ---- where the first keys are held, all are
 

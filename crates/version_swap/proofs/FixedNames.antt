@@ -1,5 +1,5 @@
 -- A plain tree under other names is the tree itself, where its names stay what they are.
-use Rattle.std.proofs.Common.{◌≡◌, ℕ, List, [], ◌∷◌, ◌++◌, map, refl, ap, ap₂, ◌∙◌}
+use Rattle.std.proofs.Common.{◌≡◌, List, [], ◌∷◌, ◌++◌, map, refl, ap, ap₂, ◌∙◌}
 use Rattle.std.specs.Prelude.{Option, Some, None, ⊤, flat_map}
 use Rattle.std.specs.Option.{option_map}
 use Rattle.ls_text.specs.declared.name_id.NameId.{NameId}
@@ -235,22 +235,28 @@ module _ (f : NameId → NameId) where
 
   fixed_item : (x : ModuleItem) → AreFixed (names_in_item x) → item_as f x ≡ x
   fixed_item (i.Inputs at net x ns) h =
-      ap₂ (i.Inputs at net) (fixed_kind x (front (names_in_kind x) (names_of_identifiers ns) h)) (fixed_names ns (back (names_in_kind x) (names_of_identifiers ns) h))
+      ap₂ (i.Inputs at net) (fixed_kind x (front (names_in_kind x) (names_of_identifiers ns) h))
+      (fixed_names ns (back (names_in_kind x) (names_of_identifiers ns) h))
   fixed_item (i.Outputs at net x ys) h =
       let ms = flat_map names_in_declared ys in
-      ap₂ (i.Outputs at net) (fixed_kind x (front (names_in_kind x) ms h)) (fixed_all names_in_declared (declared_as f) fixed_declared ys (back (names_in_kind x) ms h))
+      ap₂ (i.Outputs at net) (fixed_kind x (front (names_in_kind x) ms h))
+      (fixed_all names_in_declared (declared_as f) fixed_declared ys (back (names_in_kind x) ms h))
   fixed_item (i.Parameters at x ys) h =
       let ms = flat_map names_in_parameter ys in
-      ap₂ (i.Parameters at) (fixed_kind x (front (names_in_kind x) ms h)) (fixed_all names_in_parameter (parameter_as f) fixed_parameter ys (back (names_in_kind x) ms h))
+      ap₂ (i.Parameters at) (fixed_kind x (front (names_in_kind x) ms h))
+      (fixed_all names_in_parameter (parameter_as f) fixed_parameter ys (back (names_in_kind x) ms h))
   fixed_item (i.LocalParameters at x ys) h =
       let ms = flat_map names_in_parameter ys in
-      ap₂ (i.LocalParameters at) (fixed_kind x (front (names_in_kind x) ms h)) (fixed_all names_in_parameter (parameter_as f) fixed_parameter ys (back (names_in_kind x) ms h))
+      ap₂ (i.LocalParameters at) (fixed_kind x (front (names_in_kind x) ms h))
+      (fixed_all names_in_parameter (parameter_as f) fixed_parameter ys (back (names_in_kind x) ms h))
   fixed_item (i.Wires at x ys) h =
       let ms = flat_map names_in_declared ys in
-      ap₂ (i.Wires at) (fixed_kind x (front (names_in_kind x) ms h)) (fixed_all names_in_declared (declared_as f) fixed_declared ys (back (names_in_kind x) ms h))
+      ap₂ (i.Wires at) (fixed_kind x (front (names_in_kind x) ms h))
+      (fixed_all names_in_declared (declared_as f) fixed_declared ys (back (names_in_kind x) ms h))
   fixed_item (i.Regs at x ys) h =
       let ms = flat_map names_in_declared_reg ys in
-      ap₂ (i.Regs at) (fixed_kind x (front (names_in_kind x) ms h)) (fixed_all names_in_declared_reg (declared_reg_as f) fixed_reg ys (back (names_in_kind x) ms h))
+      ap₂ (i.Regs at) (fixed_kind x (front (names_in_kind x) ms h))
+      (fixed_all names_in_declared_reg (declared_reg_as f) fixed_reg ys (back (names_in_kind x) ms h))
   fixed_item (i.Genvars at ns) h = ap (i.Genvars at) (fixed_names ns h)
   fixed_item (i.Assigns at xs) h = ap (i.Assigns at) (fixed_all names_in_assignment (assignment_as f) fixed_assignment xs h)
   fixed_item (i.Combinational at x) h = ap (i.Combinational at) (fixed_statement x h)

@@ -14,7 +14,7 @@ use Rattle.ls_text.proofs.Growth.{grown_id, grown_text, grows_on}
 use Rattle.verilog_ast.specs.declared.module.Module.{Module}
 use Rattle.verilog_ast.specs.Names.{names_of_body, names_of_modules}
 use Rattle.verilog_ast.specs.Items.{ModuleDeclaration}
-use Rattle.verilog_ast.specs.Views.{declaration_of, declarations_of}
+use Rattle.verilog_ast.specs.Views.{declarations_of}
 use Rattle.module_names.specs.Modules.{module_named}
 use Rattle.unit_ir.specs.declared.instance.Instance.{Instance}
 use Rattle.elaborate.specs.Elaborated.{Standing, elaborated}
@@ -27,7 +27,6 @@ use Rattle.unit_jobs.specs.JobViews.{job_view}
 use Rattle.unit_laws.specs.InstancesTold.{HasNamesIn}
 use Rattle.unit_laws.specs.JobsUnder.{IsIn}
 use Rattle.unit_laws.specs.Spelled.{IsSpelledUnder}
-use Rattle.unit_laws.specs.TreeJobs.{AreJobsIn}
 use Rattle.version_swap.specs.Founds.{AreModules, IsReadRefusal, IsTop, HasModules}
 use Rattle.version_swap.specs.FoundUnder.{IsNumberOf, HasModuleIn, IsFoundUnder}
 use Rattle.version_swap.specs.Plans as plans
@@ -69,7 +68,8 @@ top_is old names None n ms is grows spelled =
 
 -- ---- what is known once the modules are read
 
-module _ (before texts : List (List ℕ)) (files : List SourceFile) (name : Option NameId) (clock : NameId) (ms : List Module) (n : ℕ) (few : length files ≤ 256)
+module _ (before texts : List (List ℕ)) (files : List SourceFile) (name : Option NameId) (clock : NameId) (ms : List Module) (n : ℕ)
+    (few : length files ≤ 256)
     (read : AreModules texts files ms) (spelled : All (IsSpelledUnder texts) ms)
     (named : All (λ (id : NameId). id.0 < length texts) (names_of_modules ms)) (number : IsNumberOf before name n) (grew : Grows before texts) where
   has_modules : HasModules texts files name ms n
@@ -103,7 +103,8 @@ module _ (before texts : List (List ℕ)) (files : List SourceFile) (name : Opti
       → Answers (Err e) view (tree language_limits texts (declarations_of slice) n clock.0) → CanShow (length known) e
   tree_known view slice known same grows top_in clock_in (refusal.Fault f) is =
       All-weaker (λ (id : NameId). id.0 < length texts) (λ (id : NameId). id.0 < length known) (λ id lt. grown_id texts known id.0 grows lt) f.names
-      (tree_shows (length texts) language_limits ms n clock.0 f named (grown_id before texts n grew top_in) (grown_id before texts clock.0 grew clock_in)
+      (tree_shows (length texts) language_limits ms n clock.0 f named (grown_id before texts n grew top_in)
+      (grown_id before texts clock.0 grew clock_in)
       (not_elaborated known f
       (subst (λ (zs : List Module). tree language_limits texts (declarations_of zs) n clock.0 ≡ Err f) same is)))
   tree_known view slice known same grows top_in clock_in refusal.NoMemory is = tt
@@ -121,7 +122,8 @@ module _ (before texts : List (List ℕ)) (files : List SourceFile) (name : Opti
     jobs_planned view names (refusal.Fault f) is = absurd (jobs_there f is)
     jobs_planned view names refusal.NoMemory is = tt
 
-    pub jobs_known : {A : Type 0} (view : A → List InstanceJob) (count : ℕ) (e : Refusal) → Answers (Err e) view (tree_jobs known ms xs) → CanShow count e
+    pub jobs_known : {A : Type 0} (view : A → List InstanceJob) (count : ℕ) (e : Refusal) → Answers (Err e) view (tree_jobs known ms xs)
+        → CanShow count e
     jobs_known view count (refusal.Fault f) is = absurd (jobs_there f is)
     jobs_known view count refusal.NoMemory is = tt
 

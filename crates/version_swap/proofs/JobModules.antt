@@ -1,5 +1,5 @@
 -- The modules of jobs are modules of the text, so what holds of these holds of those.
-use Rattle.std.proofs.Common.{◌≡◌, ℕ, suc, ◌==◌, Bool, true, false, if◌then◌else◌, List, [], ◌∷◌, ◌++◌, All, map, refl, sym, ap, ◌∙◌, subst}
+use Rattle.std.proofs.Common.{◌≡◌, ℕ, suc, ◌==◌, Bool, true, false, if◌then◌else◌, List, [], ◌∷◌, ◌++◌, All, map, refl, subst}
 use Rattle.std.specs.Prelude.{Option, Some, None, Result, Ok, Err}
 use Rattle.std.proofs.lemmas.List.Elements.{All-nil, All-cons, All-head, All-tail}
 use Rattle.ls_text.specs.declared.fault.Fault.{Fault}
@@ -32,7 +32,8 @@ module _ (P : NameId → Type 0) where
   pub each_named : (ms : List Module) → All P (names_of_modules ms) → All HasNames ms
   each_named [] all = All-nil HasNames
   each_named (m ∷ ms) all =
-      All-cons HasNames m ms (front (names_of_body m.body) (names_of_modules ms) all) (each_named ms (back (names_of_body m.body) (names_of_modules ms) all))
+      All-cons HasNames m ms (front (names_of_body m.body) (names_of_modules ms) all)
+      (each_named ms (back (names_of_body m.body) (names_of_modules ms) all))
 
 module _ (P : Module → Type 0) (texts : List (List ℕ)) (ms : List Module) (all : All P ms) where
   module_in : (name : ℕ) (ns : List Module) (m : Module) → All P ns → module_called name ns ≡ Some m → P m
@@ -50,7 +51,8 @@ module _ (P : Module → Type 0) (texts : List (List ℕ)) (ms : List Module) (a
   with_steps x within m (Err f) j is made = absurd cc
 
   with_module : (x : Instance) (within : List ChildShape) (found : Option Module) (j : InstanceJob) → ((m : Module) → found ≡ Some m → P m)
-      → (or_no_module found x.of_module >>= λ m. steps_under (declaration_of m.body) x.parameters >>= λ steps. Ok (job_with texts x within m steps)) ≡ Ok j
+      → (or_no_module found x.of_module >>= λ m. steps_under (declaration_of m.body) x.parameters >>= λ steps. Ok
+      (job_with texts x within m steps)) ≡ Ok j
       → P j.module
   with_module x within None j one made = absurd cc
   with_module x within (Some m) j one made = with_steps x within m (steps_under (declaration_of m.body) x.parameters) j (one m refl) made

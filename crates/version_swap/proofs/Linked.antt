@@ -78,7 +78,8 @@ module _ (words : List (List ℕ)) (files : List SourceFile) (name : Option Name
           let built : AllZip IsUnitOf js (all_parts units) = subst (λ (jobs : List BuildJob). AllZip IsUnitOf jobs (all_parts units)) of_jobs
           (units_of_jobs words x.known.once es keys units held are_under key_jobs_under under) in
           let found = tree_of xs (all_parts units) first (same_long xs 0 xs (all_parts units) (units_stand units under)) in
-          let d = design_is_linked language_limits tables x.found.ms x.found.top clock.0 x.found.all xs (map (job_view words) js) js (all_parts units) found.tree
+          let d = design_is_linked language_limits tables x.found.ms x.found.top clock.0 x.found.all xs (map (job_view words) js) js
+          (all_parts units) found.tree
           language_turns x.found.found x.seen x.found.jobs refl built found.is in
           record {
             tree = found.tree;

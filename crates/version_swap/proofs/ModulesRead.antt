@@ -1,10 +1,9 @@
 -- The modules of files, by what the lexer and the parser answer.
-use Rattle.std.proofs.Common.{Global, Vec, ◌≡◌, ◌<◌, ◌-◌, ℕ, zero, suc, List, [], ◌∷◌, length, map, Result, Ok, Err, sym, ap, ◌∙◌, subst}
+use Rattle.std.proofs.Common.{Global, Vec, ◌≡◌, ◌<◌, ◌-◌, ℕ, zero, suc, List, [], ◌∷◌, length, map, Result, Ok, Err, sym, subst}
 use Rattle.std.specs.Prelude.{slice_get, IfOk, IfErr}
 use Rattle.std.specs.List.{All}
 use Rattle.std.proofs.lemmas.List.Elements.{All-nil, All-cons, All-head, All-tail}
 use Rattle.ls_text.specs.declared.name_id.NameId.{NameId}
-use Rattle.ls_text.specs.declared.fault.Fault.{Fault}
 use Rattle.ls_text.specs.declared.piece.Piece.{Piece}
 use Rattle.ls_text.specs.declared.refusal.Refusal.{Refusal}
 use Rattle.ls_text.specs.declared.refusal.Refusal.TheVariants as refusal
@@ -30,7 +29,8 @@ AreNamed count ids = All (λ (id : NameId). id.0 < count) ids
 
 -- ---- a fault of the texts
 
-pub text_refused : (names : List (List ℕ)) (files : List SourceFile) (e : Refusal) → ReadRefuses names e (file_tokens files) → IsReadRefusal names files e
+pub text_refused : (names : List (List ℕ)) (files : List SourceFile) (e : Refusal) → ReadRefuses names e (file_tokens files)
+    → IsReadRefusal names files e
 text_refused names files (refusal.Fault f) is = at_text is
 text_refused names files refusal.NoMemory is = tt
 
@@ -38,7 +38,8 @@ text_refused names files refusal.NoMemory is = tt
 
 got_named : (count : ℕ) (s : List Token) (n : ℕ) → All (IsNamed count) s → AreNamed count (text_of (slice_get s n))
 got_named count [] n named = All-nil (λ (id : NameId). id.0 < count)
-got_named count (t ∷ s) zero named = All-cons (λ (id : NameId). id.0 < count) t.text [] (All-head (IsNamed count) t s named) (All-nil (λ (id : NameId). id.0 < count))
+got_named count (t ∷ s) zero named = All-cons (λ (id : NameId). id.0 < count) t.text [] (All-head (IsNamed count) t s named)
+    (All-nil (λ (id : NameId). id.0 < count))
 got_named count (t ∷ s) (suc n) named = got_named count s n (All-tail (IsNamed count) t s named)
 
 grammar_known : (count : ℕ) (s : List Token) → All (IsNamed count) s → (e : Refusal) → Refuses file s e → CanShow count e
@@ -69,7 +70,8 @@ module _ (names new : List (List ℕ)) (files : List SourceFile) (s : List Token
       subst (λ (t : List (List ℕ)). AreModules t files ms.items) (sym table) (record { tokens = s; read = are.read; stands = stands })
   modules_read (Err e) stands = tt
 
-  pub modules_spelled : (r : Result (Vec Module Global) Refusal) → IfOk r (λ ms. Stands names ms.items s) → IfOk r (λ ms. All (IsSpelledUnder new) ms.items)
+  pub modules_spelled : (r : Result (Vec Module Global) Refusal) → IfOk r (λ ms. Stands names ms.items s)
+      → IfOk r (λ ms. All (IsSpelledUnder new) ms.items)
   modules_spelled (Ok ms) stands =
       subst (λ (t : List (List ℕ)). All (IsSpelledUnder t) ms.items) (sym table)
       (parsed_spelled names files are.reads.0 s ms.items are.reads.1 are.named are.ends stands)

@@ -10,7 +10,8 @@ use Rattle.version_swap.specs.FileViews.{file_of, files_of}
 abbrev pub Entries : Type 0
 Entries = List (NameId × List ℕ)
 
-chosen : (b : Bool) (xs ys : Entries) (us vs : List SourceFile) → (b ≡ true → files_of xs ≡ us) → files_of ys ≡ vs → files_of (cond b xs ys) ≡ cond b us vs
+chosen : (b : Bool) (xs ys : Entries) (us vs : List SourceFile) → (b ≡ true → files_of xs ≡ us) → files_of ys ≡ vs
+    → files_of (cond b xs ys) ≡ cond b us vs
 chosen true xs ys us vs one other = one refl
 chosen false xs ys us vs one other = other
 

@@ -12,10 +12,12 @@ with_files_more xs (file ∷ files) more = with_files_more (with_file xs file) f
 -- the loads before a line and then the file of that line
 pub one_given : (start middle end whole : List SourceFile) (g : FileLine) (all rest : List FileLine) (lines left : List LoadLine)
     (texts earlier later : List SourceFile) (n : ℕ) → all ≡ g ∷ rest → n ≡ before g.line lines → earlier ≡ take n texts → later ≡ drop n texts
-    → left ≡ drop n lines → middle ≡ with_files start earlier → end ≡ with_file middle g.file → with_files start (in_line_order all lines texts) ≡ whole
+    → left ≡ drop n lines → middle ≡ with_files start earlier → end ≡ with_file middle g.file
+    → with_files start (in_line_order all lines texts) ≡ whole
     → with_files end (in_line_order rest left later) ≡ whole
 one_given start middle end whole g all rest lines left texts earlier later n all_is n_is earlier_is later_is left_is middle_is end_is so_far =
-    ap (λ (fs : List SourceFile). with_files fs (in_line_order rest left later)) (end_is ∙ ap (λ (fs : List SourceFile). with_file fs g.file) middle_is)
+    ap (λ (fs : List SourceFile). with_files fs (in_line_order rest left later))
+    (end_is ∙ ap (λ (fs : List SourceFile). with_file fs g.file) middle_is)
     ∙ with_files_more start earlier (g.file ∷ in_line_order rest left later)
     ∙ ap (with_files start)
     (ap₂ (λ (a r : List SourceFile). a ++ g.file ∷ r) (earlier_is ∙ ap (λ (k : ℕ). take k texts) n_is)

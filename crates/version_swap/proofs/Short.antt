@@ -32,7 +32,8 @@ module _ (P : SourceFile → Type 0) where
       let n = before g.line loads in
       let rest = in_line_order gs (drop n loads) (drop n loaded) in
       All-append P (take n loaded) (g.file ∷ rest) (All-take P n loaded more)
-      (All-cons P g.file rest (All-head IsGiven g gs all) (ordered gs (drop n loads) (drop n loaded) (All-tail IsGiven g gs all) (All-drop P n loaded more)))
+      (All-cons P g.file rest (All-head IsGiven g gs all) (ordered gs (drop n loads) (drop n loaded) (All-tail IsGiven g gs all)
+      (All-drop P n loaded more)))
 
   pub all_behind : (files : List SourceFile) (given : List FileLine) (loads : List LoadLine) (loaded : List SourceFile) → All P files
       → All IsGiven given → All P loaded → All P (files_behind files given loads loaded)

@@ -1,6 +1,6 @@
 -- A fault of elaboration or of a unit shows names of the table alone: where all other names change and those of the text stay, the fault is the same.
-use Rattle.std.proofs.Common.{◌≡◌, ℕ, ◌+◌, ◌<◌, ◌≤◌, Bool, true, false, nat_lt, if◌then◌else◌, cond, List, [], ◌∷◌, ◌++◌, All, length, map, Result, Ok, Err, refl, sym, ap, ap₂, ◌∙◌, subst, arith}
-use Rattle.std.specs.Prelude.{Option, Some, None, ⊤, flat_map}
+use Rattle.std.proofs.Common.{◌≡◌, ℕ, ◌+◌, ◌<◌, Bool, true, false, nat_lt, if◌then◌else◌, cond, List, [], ◌∷◌, ◌++◌, All, length, map, Result, Err, refl, sym, ap, ap₂, ◌∙◌, subst, arith}
+use Rattle.std.specs.Prelude.{Option, Some, None, ⊤}
 use Rattle.std.specs.Option.{option_map}
 use Rattle.std.proofs.lemmas.Bool.{ltb-true, ltb-false, lt-ltb}
 use Rattle.std.proofs.lemmas.List.Elements.{All-nil, All-cons, All-head, All-tail, All-weaker}
@@ -17,7 +17,7 @@ use Rattle.width_rules.specs.Renaming.{fault_as}
 use Rattle.unit_ir.specs.declared.child_shape.ChildShape.{ChildShape}
 use Rattle.unit_ir.specs.declared.port_shape.PortShape.{PortShape}
 use Rattle.elaborate.specs.declared.limits.Limits.{Limits}
-use Rattle.elaborate.specs.Elaborated.{Standing, elaborated}
+use Rattle.elaborate.specs.Elaborated.{elaborated}
 use Rattle.module_registry.specs.declared.build_job.BuildJob.{BuildJob}
 use Rattle.unit_build.specs.Building.{built}
 use Rattle.design_laws.specs.Findings.{standing_as}
@@ -97,7 +97,8 @@ module _ (count : ℕ) where
   modules_stay [] all = refl
   modules_stay (m ∷ ms) all =
       ap₂ (λ (d : ModuleDeclaration) (ds : List ModuleDeclaration). d ∷ ds)
-      (module_stays m (front (names_of_body m.body) (names_of_modules ms) all)) (modules_stay ms (back (names_of_body m.body) (names_of_modules ms) all))
+      (module_stays m (front (names_of_body m.body) (names_of_modules ms) all))
+      (modules_stay ms (back (names_of_body m.body) (names_of_modules ms) all))
 
   -- ---- so their faults show names below
 
@@ -158,14 +159,16 @@ module _ (count : ℕ) where
   children_stay : (cs : List ChildShape) → All IsChildBelow cs → cs ≡ map (shape_as moved) cs
   children_stay [] all = refl
   children_stay (c ∷ cs) all =
-      ap₂ (λ (d : ChildShape) (ds : List ChildShape). d ∷ ds) (child_stays c (All-head IsChildBelow c cs all)) (children_stay cs (All-tail IsChildBelow c cs all))
+      ap₂ (λ (d : ChildShape) (ds : List ChildShape). d ∷ ds) (child_stays c (All-head IsChildBelow c cs all))
+      (children_stay cs (All-tail IsChildBelow c cs all))
 
   names_stay : (ns : List NameId) → All IsBelow ns → ns ≡ map moved ns
   names_stay [] all = refl
   names_stay (n ∷ ns) all =
       ap₂ (λ (m : NameId) (ms : List NameId). m ∷ ms) (sym (stays n (All-head IsBelow n ns all))) (names_stay ns (All-tail IsBelow n ns all))
 
-  job_shows : (job : BuildJob) (f : Fault) → All IsBelow (names_of_body job.module.value.body) → IsClockBelow job.clock → All IsChildBelow job.children
+  job_shows : (job : BuildJob) (f : Fault) → All IsBelow (names_of_body job.module.value.body) → IsClockBelow job.clock
+      → All IsChildBelow job.children
       → All IsBelow job.names → built job ≡ Err f → All IsBelow f.names
   job_shows job f all clock children names is =
       shown_below (built_as moved) (built job) f
@@ -187,7 +190,8 @@ module _ (names : List (List ℕ)) where
     All-weaker (IsPortTold names) (λ (p : PortShape). p.name.0 < length names) (λ p told. told.within) c.ports is.ports,
   )
 
-  pub unit_shows : (job : BuildJob) (f : Fault) → IsJobUnder names job → All IsInTable (names_of_body job.module.value.body) → built job ≡ Err f → All IsInTable f.names
+  pub unit_shows : (job : BuildJob) (f : Fault) → IsJobUnder names job → All IsInTable (names_of_body job.module.value.body) → built job ≡ Err f
+      → All IsInTable f.names
   unit_shows job f under all is =
       job_shows (length names) job f all (clock_below job.clock under.clock)
       (All-weaker (IsChildTold names) (IsChildBelow (length names)) child_below job.children under.children) under.within is

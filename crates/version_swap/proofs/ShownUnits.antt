@@ -40,10 +40,12 @@ module _ (names : List (List ℕ)) where
 pub none_shown : (names : List (List ℕ)) (ids : List NameId) → ids ≡ [] → AreShown names ids
 none_shown names ids is = subst (AreShown names) (sym is) (All-nil (λ (id : NameId). id.0 < length names))
 
-link_shows : (texts names : List (List ℕ)) (design : Flat) (f : Fault) → IsLinkFault 1048576 texts names design (refusal.Fault f) → AreShown names f.names
+link_shows : (texts names : List (List ℕ)) (design : Flat) (f : Fault) → IsLinkFault 1048576 texts names design (refusal.Fault f)
+    → AreShown names f.names
 link_shows texts names design f (too_many many) = All-nil (λ (id : NameId). id.0 < length names)
 link_shows texts names design f (loop_of few loop texts_are within) = within
 
-pub design_shows : (texts names : List (List ℕ)) (design : Flat) (f : Fault) → IsDesignFault texts names design (refusal.Fault f) → AreShown names f.names
+pub design_shows : (texts names : List (List ℕ)) (design : Flat) (f : Fault) → IsDesignFault texts names design (refusal.Fault f)
+    → AreShown names f.names
 design_shows texts names design f (not_linked is) = link_shows texts names design f is
 design_shows texts names design f (too_wide linked wide is) = none_shown names f.names is.2

@@ -36,7 +36,7 @@ use Rattle.cycle_eval.specs.Words.{IsTooMany}
 use Rattle.version_swap.specs.DesignFaults.{CanRun, IsDesignFault, not_linked, too_wide, IsDesignOfUnits, IsRefusedOfUnits}
 use Rattle.version_swap.specs.FirstKeys.{first_jobs, first_keys, key_of}
 use Rattle.version_swap.specs.FoundUnder.{HasModuleIn, IsFoundUnder}
-use Rattle.version_swap.specs.Made.{MadeBehind, no_more, those}
+use Rattle.version_swap.specs.Made.{MadeBehind, no_more, those, out_of_memory}
 use Rattle.version_swap.specs.Plans as plans
 use Rattle.version_swap.specs.Plans.{AreCopies, IsPlanRefusal, Plans, too_many_fault}
 use Rattle.version_swap.proofs.Firsts.{first_of_jobs, jobs_behind, texts_behind, first_all, first_jobs_all, all_held}
@@ -57,7 +57,8 @@ wide_fault names f is =
     ∙ ap (λ (ids : List NameId). viewed 40 Edit ids names) is.2
 
 -- too many files
-pub many_planned : (names : List (List ℕ)) (xs files : List SourceFile) (name : Option NameId) (clock : NameId) (f : Fault) → xs ≡ files → 256 < length xs
+pub many_planned : (names : List (List ℕ)) (xs files : List SourceFile) (name : Option NameId) (clock : NameId) (f : Fault) → xs ≡ files
+    → 256 < length xs
     → fault_view names f ≡ too_many_fault → Plans names files name clock (Err (fault_view names f))
 many_planned names xs files name clock f is many shown =
     subst (λ (t : TextFault). Plans names files name clock (Err t)) (sym shown)
@@ -131,16 +132,20 @@ module _ {words : List (List ℕ)} {files : List SourceFile} {name : Option Name
   keyed names grows = keys_grown words names grows first first_under first_jobs_under
 
   -- what a forge made
-  pub made_more : (held : List KeyData) (before after : List BuildJob) (slice : List KeyData) → slice ≡ first
-      → after ≡ before ++ jobs_of (missing held slice) → MadeBehind files name clock held before after
-  made_more held before after slice same is =
-      those h.known.found (is ∙ ap (λ (ks : List KeyData). before ++ jobs_of (missing held ks)) (same ∙ all_firsts))
+  made_those : (held : List KeyData) (before after : List BuildJob) (slice : List KeyData) → slice ≡ first
+      → after ≡ before ++ jobs_of (missing held slice) → after ≡ before ++ jobs_of (missing held (first_keys [] (map (key_of words) js)))
+  made_those held before after slice same is = is ∙ ap (λ (ks : List KeyData). before ++ jobs_of (missing held ks)) (same ∙ all_firsts)
+
+  pub made_more : (es : List Entry) → HaveUnits built es first → (held : List KeyData) (before after : List BuildJob) (slice : List KeyData)
+      → slice ≡ first → after ≡ before ++ jobs_of (missing held slice) → (e : Refusal) → MadeBehind files name clock held before after e
+  made_more es have held before after slice same is e =
+      those h.known.found (ap (built_all built) (sym first_of) ∙ have.made) (made_those held before after slice same is)
 
   pub made_at : (held : List KeyData) (before after : List BuildJob) (slice : List KeyData) → slice ≡ first → (e : Refusal)
-      → MadeAt e before (jobs_of (missing held slice)) after → MadeBehind files name clock held before after
+      → MadeAt e before (jobs_of (missing held slice)) after → MadeBehind files name clock held before after e
   made_at held before after slice same (refusal.Fault f) is = no_more is
   made_at held before after slice same refusal.NoMemory (inl is) = no_more is
-  made_at held before after slice same refusal.NoMemory (inr is) = made_more held before after slice same is
+  made_at held before after slice same refusal.NoMemory (inr is) = out_of_memory h.known.found (made_those held before after slice same is)
 
   module _ (es : List Entry) (held : AreHeldUnder words es) (builds : BuildJob → Result Built Fault) (so : (job : BuildJob) → builds job ≡ built job)
       (slice : List KeyData) (same : slice ≡ first) where
@@ -191,7 +196,8 @@ module _ {words : List (List ℕ)} {files : List SourceFile} {name : Option Name
     they_stand others is units under =
         units_stand words files name clock xs js h.known keys h.are es held units (subst (λ (ks : List KeyData). AreUnder es ks units) is under)
 
-    module _ (have : HaveUnits built es first) (tree_first : is_depth_first (map parent_of xs) ≡ true) (names : List (List ℕ)) (grows : Grows words names) (others : List KeyData)
+    module _ (have : HaveUnits built es first) (tree_first : is_depth_first (map parent_of xs) ≡ true) (names : List (List ℕ))
+        (grows : Grows words names) (others : List KeyData)
         (is : others ≡ keys) where
       abbrev Design : List (Arc ModuleUnit Global) → Type 0
       Design units = HasDesign words files name clock xs js h.known keys h.are es held units

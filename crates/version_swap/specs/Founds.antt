@@ -54,9 +54,10 @@ pub record HasModules (texts : List (List ℕ)) (files : List SourceFile) (name 
   pub modules : AreModules texts files ms
   pub is_top : IsTop name (declarations_of ms) top
 
--- the instances that elaboration finds, as they are listed, and their jobs, with names of one table. That of the modules, `texts`, begins `known`, where
--- the jobs are made, and this begins the whole
-pub record AreFound (names : List (List ℕ)) (files : List SourceFile) (name : Option NameId) (clock : NameId) (xs : List Instance) (js : List BuildJob)
+-- the instances that elaboration finds, as they are listed, and their jobs, with names of one table. That of the modules, `texts`, begins
+-- `known`, where the jobs are made, and this begins the whole
+pub record AreFound (names : List (List ℕ)) (files : List SourceFile) (name : Option NameId) (clock : NameId) (xs : List Instance)
+    (js : List BuildJob)
     : Type 0 where
   pub texts : List (List ℕ)
   pub known : List (List ℕ)

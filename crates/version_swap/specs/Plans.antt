@@ -50,7 +50,8 @@ pub record AreCopies (words : List (List ℕ)) (files : List SourceFile) (name :
   pub are_copies : AreCopiesIn language_limits.turns (declarations_of found.ms) (one_table words) xs found.all copies
 
 -- each step with its first fault, and at last the design
-pub data Plans (names : List (List ℕ)) (files : List SourceFile) (name : Option NameId) (clock : NameId) : Result DesignOfTexts TextFault → Type 0 where
+pub data Plans (names : List (List ℕ)) (files : List SourceFile) (name : Option NameId) (clock : NameId) : Result DesignOfTexts TextFault
+    → Type 0 where
   too_many : 256 < length files → Plans names files name clock (Err too_many_fault)
   at_text : {f : TextFault} → length files ≤ 256 → IsReadFault names files f → Plans names files name clock (Err f)
   -- 20 to 24, 27, 28, 30, 33, 37, 40, 41 and the faults of constants

@@ -79,7 +79,7 @@ pub fn plan<R, F: Forge<R>>(
     ensures stays { OnErr result (entries_of registry.new ≡ entries_of registry.old) }
     // The jobs that were made are those of the keys that weren't held.
     ensures made { IfOk result (λ p. F.made forge.new ≡ F.made forge.old ++ jobs_of (missing (keys_of (entries_of registry.old)) p.keys)) }
-    ensures made_behind { IfErr result (λ _. MadeBehind (files_behind texts.now.files edit.now.files edit.now.loads loaded.now)
+    ensures made_behind { IfErr result (MadeBehind (files_behind texts.now.files edit.now.files edit.now.loads loaded.now)
         (option_or edit.now.top texts.now.top) (unwrap_or edit.now.clock texts.now.clock) (keys_of (entries_of registry.old))
         (F.made forge.old) (F.made forge.new)) }
     ensures built { IfOk result (λ p. p.built ≡ length (missing (keys_of (entries_of registry.old)) p.keys)) }

@@ -76,7 +76,7 @@ pub fn version<R, F: Forge<R>>(
     ensures ensured { IfOk result (λ v. ensured built (entries_of registry.old) v.keys.items ≡ Ok (entries_of registry.new)) }
     ensures stays { OnErr result (entries_of registry.new ≡ entries_of registry.old) }
     ensures made { IfOk result (λ v. F.made forge.new ≡ F.made forge.old ++ jobs_of (missing (keys_of (entries_of registry.old)) v.keys.items)) }
-    ensures made_behind { IfErr result (λ _. MadeBehind files.now top clock (keys_of (entries_of registry.old)) (F.made forge.old) (F.made forge.new)) }
+    ensures made_behind { IfErr result (MadeBehind files.now top clock (keys_of (entries_of registry.old)) (F.made forge.old) (F.made forge.new)) }
     ensures built { IfOk result (λ v. v.counts.built ≡ length (missing (keys_of (entries_of registry.old)) v.keys.items)) }
     ensures kept { IfOk result (λ v. v.counts.kept + v.counts.built ≡ length v.keys.items) }
     ensures grows { Grows names.old names.new }

@@ -1,5 +1,5 @@
 use Rattle.std.proofs.Common.{◌≡◌, List, length, map, Ok, subst}
-use Rattle.ls_text.proofs.Growth.{grown_id, grows_on}
+use Rattle.ls_text.proofs.Growth.{grown_id}
 use Rattle.ls_text.specs.Readings.{CanShow}
 use Rattle.verilog_ast.specs.declared.module.Module.{Module}
 use Rattle.verilog_ast.specs.Views.{declarations_of}

@@ -11,5 +11,6 @@ use Rattle.version_swap.proofs.units.units_of.Given as goal
 -- the units so far, and those of the keys that are left
 abbrev pub invariant-loop-key : goal.invariant-loop-key
 invariant-loop-key l =
-    map (λ (a : Arc ModuleUnit Global). Some (shared_unit a)) l.units.items ++ map (λ (k : KeyData). unit_under k (entries_of l.registry)) (drop l.key-index l.keys)
+    map (λ (a : Arc ModuleUnit Global). Some (shared_unit a)) l.units.items ++ map (λ (k : KeyData). unit_under k (entries_of l.registry))
+    (drop l.key-index l.keys)
     ≡ map (λ (k : KeyData). unit_under k (entries_of l.registry)) l.keys

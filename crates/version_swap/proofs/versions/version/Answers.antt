@@ -1,13 +1,13 @@
-use Rattle.std.proofs.Common.{◌≡◌, ◌∙◌, ap, length, map, subst, sym, take}
+use Rattle.std.proofs.Common.{◌∙◌, ap, length, refl, take}
 use Rattle.ls_text.proofs.Growth.{grows_on}
 use Rattle.ls_text.specs.Readings.{CanShow}
 use Rattle.module_registry.specs.Entries.{keys_of}
 use Rattle.module_registry.specs.Views.{entries_of}
 use Rattle.cycle_eval.specs.Designs.{design_flat}
 use Rattle.unit_laws.proofs.HeldUnits.{grown_held, same_held}
-use Rattle.version_swap.specs.Made.{MadeBehind}
+use Rattle.version_swap.specs.Made.{MadeBehind, no_more}
 use Rattle.version_swap.specs.Plans.{IsPlanRefusal}
-use Rattle.version_swap.proofs.Handed.{handed}
+use Rattle.version_swap.proofs.Handed.{all_err, handed}
 use Rattle.version_swap.proofs.Steps.{has_keys, keyed, made_more, made_at, ensured_then, held_then, units_then, unit_refused, unit_known, all_among, they_stand, design_planned, design_refused, design_known, first_held}
 use Rattle.version_swap.proofs.versions.version.Goals as goal
 
@@ -54,7 +54,7 @@ returns-in_err-counts-clause-made_behind g c =
     let held = keys_of (entries_of c.args.registry.now) in
     let h = has_keys c.in_ok-keys.keys.items c.deref.result.now c.in_ok-first.first.items c.in_ok-found.ensures.found c.deref.ensures.value
     c.in_ok-keys.ensures c.in_ok-first.ensures.first in
-    handed (λ e. MadeBehind c.args.files.now c.args.top c.args.clock held (g.F.Forge.made c.args.forge.now) (g.F.Forge.made c.ensure.new.forge))
+    handed (MadeBehind c.args.files.now c.args.top c.args.clock held (g.F.Forge.made c.args.forge.now) (g.F.Forge.made c.ensure.new.forge))
     c.from_residual-in_err-counts.result c.in_err-counts.field-0.0 c.from_residual-in_err-counts.ensures.1
     (made_at h held (g.F.Forge.made c.args.forge.now) (g.F.Forge.made c.ensure.new.forge) c.deref-2.result.now c.deref-2.ensures.value
     c.in_err-counts.field-0.0 c.in_err-counts.ensures.made_at)
@@ -168,8 +168,26 @@ returns-clause-held g c =
 
 pub returns-clause-made_behind : goal.returns-clause-made_behind
 returns-clause-made_behind g c =
-    let held = keys_of (entries_of c.args.registry.now) in
+    let es = entries_of c.args.registry.now in
+    let new = entries_of c.ensure.new.self in
     let h = has_keys c.in_ok-keys.keys.items c.deref.result.now c.in_ok-first.first.items c.in_ok-found.ensures.found c.deref.ensures.value
     c.in_ok-keys.ensures c.in_ok-first.ensures.first in
-    made_more h held (g.F.Forge.made c.args.forge.now) (g.F.Forge.made c.ensure.new.forge) c.deref-2.result.now c.deref-2.ensures.value
-    c.in_ok-counts.ensures.made
+    let have = units_then h es (grown_held c.args.names.now c.found.new.names es c.in_ok-found.ensures.grows c.requires.held) g.F.Forge.builds
+    c.requires.builds c.deref-2.result.now c.deref-2.ensures.value new c.in_ok-counts.ensures.held in
+    made_more h new have (keys_of es) (g.F.Forge.made c.args.forge.now) (g.F.Forge.made c.ensure.new.forge) c.deref-2.result.now
+    c.deref-2.ensures.value c.in_ok-counts.ensures.made c.in-Err.refusal
+
+pub returns-in_err-found-clause-made_behind : goal.returns-in_err-found-clause-made_behind
+returns-in_err-found-clause-made_behind g c =
+    all_err (MadeBehind c.args.files.now c.args.top c.args.clock (keys_of (entries_of c.args.registry.now)) (g.F.Forge.made c.args.forge.now)
+    (g.F.Forge.made c.args.forge.now)) c.from_residual.result (λ e. no_more refl)
+
+pub returns-in_err-keys-clause-made_behind : goal.returns-in_err-keys-clause-made_behind
+returns-in_err-keys-clause-made_behind g c =
+    all_err (MadeBehind c.args.files.now c.args.top c.args.clock (keys_of (entries_of c.args.registry.now)) (g.F.Forge.made c.args.forge.now)
+    (g.F.Forge.made c.args.forge.now)) c.from_residual-in_err-keys.result (λ e. no_more refl)
+
+pub returns-in_err-first-clause-made_behind : goal.returns-in_err-first-clause-made_behind
+returns-in_err-first-clause-made_behind g c =
+    all_err (MadeBehind c.args.files.now c.args.top c.args.clock (keys_of (entries_of c.args.registry.now)) (g.F.Forge.made c.args.forge.now)
+    (g.F.Forge.made c.args.forge.now)) c.from_residual-in_err-first.result (λ e. no_more refl)
