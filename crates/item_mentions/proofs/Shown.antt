@@ -1,5 +1,5 @@
 -- The first of a list that shows a form, for the walks over targets, statements and items of a case.
-use Rattle.std.proofs.Common.{◌≡◌, ◌<◌, ◌==◌, ℕ, ◌+◌, Bool, true, false, cond, List, ◌∷◌, map, drop, length, get_or, refl, sym, ◌∙◌, ap}
+use Rattle.std.proofs.Common.{◌≡◌, ◌<◌, ℕ, ◌+◌, List, ◌∷◌, map, drop, length, get_or, refl, sym, ◌∙◌, ap}
 use Rattle.std.specs.Prelude.{Option, Some, None}
 use Rattle.typed_ir.proofs.Lists.{drop_read}
 use Rattle.typed_ir.specs.declared.target_form.TargetForm.{TargetForm}
@@ -8,8 +8,7 @@ use Rattle.verilog_ast.specs.declared.statement.Stmt.{Stmt}
 use Rattle.verilog_ast.specs.declared.target.Lhs.{Lhs}
 use Rattle.verilog_ast.specs.Views.{target_of, targets_of, statement_of, arm_of, statements_of}
 use Rattle.width_rules.specs.Scopes.{Scope}
-use Rattle.item_mentions.specs.Forms.{first_or, first_part, first_target, first_number}
-use Rattle.unit_ir.specs.declared.mention.Mention.{Mention}
+use Rattle.item_mentions.specs.Forms.{first_or, first_part, first_target}
 
 here : {A : Type 0} (all : List A → Option TargetForm) (one : A → Option TargetForm) → ((y : A) (ys : List A) → all (y ∷ ys) ≡ first_or (one y) (all ys))
     → (xs : List A) (k : ℕ) (x : A) (f : TargetForm) (whole : Option TargetForm) → k < length xs → x ≡ get_or xs k x → one x ≡ Some f
@@ -46,15 +45,3 @@ arm_here scope = here (λ ys. first_target scope (statements_of (map arm_of ys))
 pub arm_later : (scope : Scope) (xs : List Arm) (k : ℕ) (x : Arm) (whole : Option TargetForm) → k < length xs → x ≡ get_or xs k x → first_target scope (arm_of x) ≡ None
     → first_target scope (statements_of (map arm_of (drop k xs))) ≡ whole → first_target scope (statements_of (map arm_of (drop (k + 1) xs))) ≡ whole
 arm_later scope = later (λ ys. first_target scope (statements_of (map arm_of ys))) (λ y. first_target scope (arm_of y)) (λ y ys. refl)
-
--- ---- numbers
-
-pub number_here : (xs : List Mention) (k : ℕ) (x : Mention) (whole : ℕ) → k < length xs → x ≡ get_or xs k x → (x.order == 0) ≡ true
-    → k + first_number (drop k xs) ≡ whole → k ≡ whole
-number_here xs k x whole h is zero_is left =
-    sym (ap (λ (b : Bool). k + cond b 0 (1 + first_number (drop (k + 1) xs))) zero_is) ∙ sym (ap (λ ys. k + first_number ys) (drop_read xs k x h is)) ∙ left
-
-pub number_later : (xs : List Mention) (k : ℕ) (x : Mention) (whole : ℕ) → k < length xs → x ≡ get_or xs k x → (x.order == 0) ≡ false
-    → k + first_number (drop k xs) ≡ whole → k + (1 + first_number (drop (k + 1) xs)) ≡ whole
-number_later xs k x whole h is other left =
-    sym (ap (λ (b : Bool). k + cond b 0 (1 + first_number (drop (k + 1) xs))) other) ∙ sym (ap (λ ys. k + first_number ys) (drop_read xs k x h is)) ∙ left

@@ -1,5 +1,6 @@
 -- In which form the first part of a target is shown, and of a statement the first target (IEEE Std 1364-2005, 5.2.1, 6.1, 9.2).
-use Rattle.std.specs.Prelude.{ℕ, ◌+◌, ◌==◌, Bool, List, [], ◌∷◌, Option, Some, None, if◌then◌else◌}
+use Rattle.std.specs.Prelude.{ℕ, ◌==◌, Bool, List, Option, Some, None, if◌then◌else◌}
+use Rattle.std.specs.List.{position_or_len}
 use Rattle.typed_ir.specs.declared.shown_target.ShownTarget.{ShownTarget}
 use Rattle.typed_ir.specs.declared.target_form.TargetForm.{TargetForm}
 use Rattle.typed_ir.specs.declared.target_form.TargetForm.TheVariants as form
@@ -60,8 +61,7 @@ statement_form scope x = form_or_name (first_target scope x)
 
 -- the number of the first target in the text among the targets of a statement, which are listed with their numbers in the text
 abbrev pub first_number : List Mention → ℕ
-first_number [] = 0
-first_number (m ∷ ms) = if m.order == 0 then 0 else 1 + first_number ms
+first_number ms = position_or_len (λ m. m.order == 0) ms
 
 -- which target of a statement shows it
 abbrev pub statement_shown : Scope → Statement → ShownTarget

@@ -149,12 +149,5 @@ fn first_of_arm(scope: &Scope, arm: &Arm) -> Option<TargetForm>
 pub fn first_number(targets: &[Mention]) -> usize
     ensures { result ≡ number_of_first targets.now }
 {
-    let mut number = 0;
-    for target in targets {
-        if target.order == 0 {
-            return number;
-        }
-        number += 1;
-    }
-    number
+    targets.iter().take_while(|target| target.order != 0).count()
 }

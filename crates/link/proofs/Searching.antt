@@ -1,5 +1,5 @@
 -- The search for a target by its number, statement by statement and arm by arm.
-use Rattle.std.proofs.Common.{◌≡◌, ℕ, zero, suc, ◌+◌, ◌-◌, ◌<◌, ◌≤◌, List, [], ◌∷◌, ◌++◌, map, length, get_or, drop, Option, Some, None, is_some, true≢false, refl, sym, ◌∙◌, ap}
+use Rattle.std.proofs.Common.{◌≡◌, ℕ, zero, suc, ◌+◌, ◌-◌, ◌<◌, ◌≤◌, List, [], ◌∷◌, ◌++◌, map, length, get_or, drop, Option, Some, None, is_some, true≢false, refl, sym, ◌∙◌, ap, arith}
 use Rattle.std.specs.Prelude.{slice_get}
 use Rattle.std.proofs.lemmas.List.{at_drop_all}
 use Rattle.typed_ir.specs.declared.arm.Arm.{Arm as Arm'}
@@ -41,9 +41,9 @@ found_is (x ∷ xs) zero = refl
 found_is (x ∷ xs) (suc k) = found_is xs k
 
 pub past_all : (xs : List Span) (k : ℕ) → slice_get xs k ≡ None → Left (k - length xs) ≡ searched xs k
-past_all [] k is = refl
+past_all [] k is = ap Left (omega arith)
 past_all (x ∷ xs) zero is = absurd (true≢false (ap is_some is))
-past_all (x ∷ xs) (suc k) is = past_all xs k is
+past_all (x ∷ xs) (suc k) is = ap Left (omega arith) ∙ past_all xs k is
 
 abbrev shown_as : Option Span → Span → Search
 shown_as None p = Found p

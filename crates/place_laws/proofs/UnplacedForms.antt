@@ -1,5 +1,5 @@
 -- The form in which a target is shown, and which one a statement is named by, hang on no place (IEEE 1364-2005, 5.2.1).
-use Rattle.std.proofs.Common.{◌≡◌, ℕ, ◌+◌, ◌==◌, cond, Bool, List, [], ◌∷◌, map, Some, refl, ◌∙◌, ap, ap₂}
+use Rattle.std.proofs.Common.{◌≡◌, ℕ, ◌+◌, ◌==◌, not, cond, Bool, List, [], ◌∷◌, map, Some, refl, ◌∙◌, ap, ap₂}
 use Rattle.typed_ir.specs.declared.shown_target.ShownTarget.{ShownTarget}
 use Rattle.typed_ir.specs.declared.target_form.TargetForm.{TargetForm}
 use Rattle.typed_ir.specs.declared.target_form.TargetForm.TheVariants as form
@@ -44,7 +44,7 @@ first_so scope other = refl
 
 number_so : (ms : List Mention) → first_number (map mention_unplaced ms) ≡ first_number ms
 number_so [] = refl
-number_so (m ∷ ms) = ap (λ (k : ℕ). cond (m.order == 0) 0 (1 + k)) (number_so ms)
+number_so (m ∷ ms) = ap (λ (k : ℕ). cond (not (m.order == 0)) (1 + k) 0) (number_so ms)
 
 abbrev shown_with : ℕ → TargetForm → ShownTarget
 shown_with k form = record { number = k; form = form }

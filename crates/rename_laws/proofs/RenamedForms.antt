@@ -1,5 +1,5 @@
 -- The form in which a target is shown, and which one a statement is named by, are the same under other names (IEEE 1364-2005, 5.2.1).
-use Rattle.std.proofs.Common.{◌≡◌, ℕ, ◌+◌, ◌==◌, cond, Bool, List, [], ◌∷◌, map, Some, refl, ◌∙◌, ap, ap₂}
+use Rattle.std.proofs.Common.{◌≡◌, ℕ, ◌+◌, ◌==◌, not, cond, Bool, List, [], ◌∷◌, map, Some, refl, ◌∙◌, ap, ap₂}
 use Rattle.ls_text.specs.declared.name_id.NameId.{NameId}
 use Rattle.typed_ir.specs.declared.shown_target.ShownTarget.{ShownTarget}
 use Rattle.typed_ir.specs.declared.target_form.TargetForm.{TargetForm}
@@ -49,7 +49,7 @@ first_so f scope other rest same = refl
 
 number_so : (f : NameId → NameId) (ms : List Mention) → first_number (map (mention_as f) ms) ≡ first_number ms
 number_so f [] = refl
-number_so f (m ∷ ms) = ap (λ (k : ℕ). cond (m.order == 0) 0 (1 + k)) (number_so f ms)
+number_so f (m ∷ ms) = ap (λ (k : ℕ). cond (not (m.order == 0)) (1 + k) 0) (number_so f ms)
 
 abbrev shown_with : ℕ → TargetForm → ShownTarget
 shown_with k form = record { number = k; form = form }

@@ -1,0 +1,7 @@
+use Rattle.link.proofs.targeting.search_parts.Goals as goal
+
+pub returns-in-Some : goal.returns-in-Some
+returns-in-Some c = ?
+
+pub returns-in-None : goal.returns-in-None
+returns-in-None c = ?
