@@ -14,7 +14,7 @@ use Rattle.size_laws.specs.Renumbering.{meaning_as, renumbered}
 use Rattle.sized_items.specs.DeclaredValues.{InitialValue}
 use Rattle.unit_build.specs.Walks.{Walk, behind, walk_items, walk_initials}
 use Rattle.design_laws.specs.Renaming.{KeepsApart, SameReach, step_as}
-use Rattle.place_laws.proofs.UnplacedLists.{append_so}
+use Rattle.gen_unroll.proofs.MovedLists.{append_so}
 use Rattle.rename_laws.specs.Findings.{signal_as, shape_as, placed_as}
 use Rattle.rename_laws.proofs.RenamedBuilt.{same_settled}
 use Rattle.rename_laws.proofs.RenamedUnitReaches.{same_unit_beginning, same_unit_reach, same_writer}

@@ -22,7 +22,7 @@ use Rattle.design_laws.proofs.RenamedTexts.{same_spoken}
 use Rattle.design_laws.proofs.RenamedTold.{same_blocks}
 use Rattle.design_laws.proofs.RenamedTrees.{called_so}
 use Rattle.design_laws.proofs.RenamedUnrolled.{same_steps}
-use Rattle.place_laws.proofs.UnplacedLists.{if_moved}
+use Rattle.gen_unroll.proofs.MovedLists.{if_moved}
 use Rattle.rename_laws.specs.Findings.{signal_as, table_as, shape_as}
 use Rattle.rename_laws.specs.Jobs.{instance_as}
 use Rattle.rename_laws.proofs.RenamedJobs.{children_so, shapes_so}

@@ -14,7 +14,7 @@ use Rattle.unit_names.specs.Signals.{NamedSignal}
 use Rattle.unit_names.specs.UnitLists.{unit_signals, registers}
 use Rattle.unit_build.specs.Building.{with_initials}
 use Rattle.design_laws.specs.Renaming.{KeepsApart, number_as}
-use Rattle.place_laws.proofs.UnplacedLists.{append_so}
+use Rattle.gen_unroll.proofs.MovedLists.{append_so}
 use Rattle.rename_laws.specs.Findings.{signal_as, table_as, placed_as, unit_signal_as}
 use Rattle.rename_laws.proofs.RenamedBuilt.{same_begun}
 use Rattle.rename_laws.proofs.RenamedDrivers.{same_settled_by, nodes_so, blocks_so}
