@@ -149,5 +149,8 @@ fn first_of_arm(scope: &Scope, arm: &Arm) -> Option<TargetForm>
 pub fn first_number(targets: &[Mention]) -> usize
     ensures { result ≡ number_of_first targets.now }
 {
-    targets.iter().take_while(|target| target.order != 0).count()
+    targets
+        .iter()
+        .take_while(|target| target.order != 0)
+        .count()
 }

@@ -22,7 +22,8 @@ use std::process::Abort;
 use std::sync::ledger::{Blank, Ledger};
 use std::test::Fail;
 use typed_ir::{
-    ArithmeticOperator, BinaryOperator, Node, ShownTarget, SignalId, Stmt, Target, TargetForm, Typed,
+    ArithmeticOperator, BinaryOperator, Node, ShownTarget, SignalId, Stmt, Target, TargetForm,
+    Typed,
 };
 
 // SIGNAL = E;
