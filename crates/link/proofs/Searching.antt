@@ -1,12 +1,14 @@
 -- The search for a target by its number, statement by statement and arm by arm.
-use Rattle.std.proofs.Common.{◌≡◌, ℕ, zero, suc, ◌+◌, ◌-◌, ◌<◌, ◌≤◌, List, [], ◌∷◌, ◌++◌, map, length, get_or, drop, Option, Some, None, is_some, true≢false, refl, sym, ◌∙◌, ap, arith}
+use Rattle.std.proofs.Common.{◌≡◌, ℕ, zero, suc, ◌+◌, ◌-◌, ◌<◌, ◌≤◌, List, [], ◌∷◌, ◌++◌, map, length, get_or, drop, Option, Some, None, refl, sym, ◌∙◌, ap, arith}
 use Rattle.std.specs.Prelude.{slice_get}
 use Rattle.std.proofs.lemmas.List.{at_drop_all}
 use Rattle.typed_ir.specs.declared.arm.Arm.{Arm as Arm'}
 use Rattle.typed_ir.specs.declared.span.Span.{Span}
 use Rattle.typed_ir.specs.declared.stmt.Stmt.{Stmt}
+use Rattle.typed_ir.specs.declared.target.Target.{Target}
 use Rattle.typed_ir.specs.Statements.{stmt_of, arm_of, sequence_of, arms_before}
-use Rattle.typed_ir.specs.Stmts.{SizedStmt, targets, arm_targets}
+use Rattle.typed_ir.specs.Stmts.{SizedStmt, span_of, targets, arm_targets}
+use Rattle.typed_ir.specs.Targets.{target_of, targets_of}
 use Rattle.typed_ir.proofs.Listed.{arm_is}
 use Rattle.typed_ir.proofs.Lists.{drop_read}
 use Rattle.link.specs.declared.search.Search.{Search}
@@ -40,19 +42,18 @@ found_is [] k = refl
 found_is (x ∷ xs) zero = refl
 found_is (x ∷ xs) (suc k) = found_is xs k
 
-pub past_all : (xs : List Span) (k : ℕ) → slice_get xs k ≡ None → Left (k - length xs) ≡ searched xs k
-past_all [] k is = ap Left (omega arith)
-past_all (x ∷ xs) zero is = absurd (true≢false (ap is_some is))
-past_all (x ∷ xs) (suc k) is = ap Left (omega arith) ∙ past_all xs k is
+-- ---- the parts of one assignment
 
-abbrev shown_as : Option Span → Span → Search
-shown_as None p = Found p
-shown_as (Some q) p = Found q
+pub part_found : (parts : List Target) (k : ℕ) (x : Target) → k < length parts → x ≡ get_or parts k x
+    → Found (span_of (target_of x)) ≡ searched (map span_of (targets_of parts)) k
+part_found [] k x h is = absurd (omega (arith, h))
+part_found (p ∷ parts) zero x h is = ap (λ (y : Target). Found (span_of (target_of y))) is
+part_found (p ∷ parts) (suc k) x h is = part_found parts k x (omega (arith, h)) is
 
-pub found_there : (xs : List Span) (k : ℕ) (p : Span) → slice_get xs k ≡ Some p → Found p ≡ searched xs k
-found_there [] k p is = absurd (true≢false (sym (ap is_some is)))
-found_there (x ∷ xs) zero p is = ap (λ (o : Option Span). shown_as o x) (sym is)
-found_there (x ∷ xs) (suc k) p is = found_there xs k p is
+pub parts_passed : (parts : List Target) (k : ℕ) → length parts ≤ k → Left (k - length parts) ≡ searched (map span_of (targets_of parts)) k
+parts_passed [] k h = ap Left (omega arith)
+parts_passed (p ∷ parts) zero h = absurd (omega (arith, h))
+parts_passed (p ∷ parts) (suc k) h = ap Left (omega arith) ∙ parts_passed parts k (omega (arith, h))
 
 -- ---- a statement of a list
 
