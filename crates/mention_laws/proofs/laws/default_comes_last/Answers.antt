@@ -7,5 +7,5 @@ returns-clause-reads c = refl
 pub returns-clause-targets : goal.returns-clause-targets
 returns-clause-targets c = refl
 
-pub returns-clause-form : goal.returns-clause-form
-returns-clause-form c = refl
+pub returns-clause-shown : goal.returns-clause-shown
+returns-clause-shown c = refl
