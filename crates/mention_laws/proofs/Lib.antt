@@ -1,6 +1,9 @@
 pub mod ExpressionLeaves
 pub mod TargetLeaves
 pub mod StatementLeaves
+pub mod FirstMentions
+pub mod FirstForms
+pub mod ShownTargets
 pub mod Flags
 pub mod Trees
 pub mod Connections

@@ -5,7 +5,7 @@ use Rattle.ls_text.specs.declared.place.Place.{Place}
 use Rattle.verilog_ast.specs.declared.case_kind.CaseKind.TheVariants.{Case as Plain}
 use Rattle.verilog_ast.specs.declared.identifier.Identifier.{Identifier}
 use Rattle.verilog_ast.specs.Expressions.{Expression, Literal, Whole, BitSelect, DownwardSelect, Conditional, Concatenation, NoPart, Parts, Reference, Joined, NoTarget, Targets}
-use Rattle.verilog_ast.specs.Statements.{Statement, Compared, Block, Case, Assignment, Default, Match, NoStatement, Statements}
+use Rattle.verilog_ast.specs.Statements.{Statement, Compared, Block, Case, Assignment, Null, Default, Match, NoStatement, Statements}
 use Rattle.unit_ir.specs.declared.mention.Mention.{Mention}
 use Rattle.width_rules.specs.declared.writer.Writer.TheVariants as writer
 use Rattle.width_rules.specs.Scopes.{Scope, Signal, Constant, Unknown}
@@ -48,6 +48,13 @@ statement = Case here Plain (whole 0)
     (Statements (Default here first)
     (Statements (Match (Compared (number 3) ∷ Compared (whole 3) ∷ []) (Block here None (Statements second (Statements third NoStatement))))
     (Statements (Default here last) NoStatement)))
+
+-- with a second default, which is refused with 30: case (a) default: ; default: y = d; 3: y = b; endcase
+abbrev pub with_two : Statement
+with_two = Case here Plain (whole 0)
+    (Statements (Default here (Null here))
+    (Statements (Default here last)
+    (Statements (Match (Compared (number 3) ∷ []) (Assignment (Reference (whole 4)) (whole 1))) NoStatement)))
 
 abbrev pub mention : ℕ → ℕ → Mention
 mention n k = record { name = record { 0 = n }; at = here; order = k }

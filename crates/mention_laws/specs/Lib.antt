@@ -1,3 +1,4 @@
 pub mod Leaves
 pub mod Placed
+pub mod Shown
 pub mod Example

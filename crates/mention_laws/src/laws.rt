@@ -1,19 +1,22 @@
 // What a block mentions, against its sized form.
-ghost use Rattle.std.specs.Prelude.{◌≡◌, length, map};
+ghost use Rattle.std.specs.Prelude.{◌≡◌, ◌<◌, [], ◌∷◌, length, map, Some};
 ghost use Rattle.typed_ir.specs.Stmts.{SizedStmt, span_of, targets, later_targets};
 ghost use Rattle.typed_ir.specs.declared.target_form.TargetForm.TheVariants.{Name};
 ghost use Rattle.verilog_ast.specs.declared.statement.Stmt.{Stmt};
 ghost use Rattle.verilog_ast.specs.declared.target.Lhs.{Lhs};
+ghost use Rattle.verilog_ast.specs.Expressions.{Expression};
 ghost use Rattle.verilog_ast.specs.Views.{statement_of, target_of};
 ghost use Rattle.width_rules.specs.declared.writer.Writer.{Writer};
 ghost use Rattle.width_rules.specs.declared.writer.Writer.TheVariants.{Clocked, Combinational};
+ghost use Rattle.width_rules.specs.Faults.{fault};
 ghost use Rattle.width_rules.specs.Scopes.{Scope};
-ghost use Rattle.statement_rules.specs.Statements.{sized_statement};
+ghost use Rattle.statement_rules.specs.Statements.{sized_statement, statement_faults};
 ghost use Rattle.statement_rules.specs.Targets.{parts};
 ghost use Rattle.block_rules.specs.Paths.{flags_of_block};
-ghost use Rattle.mention_laws.specs.Example.{scope as names, statement, reads, targets as written};
+ghost use Rattle.mention_laws.specs.Example.{scope as names, statement, reads, targets as written, with_two, mention, here};
 ghost use Rattle.item_mentions.specs.Forms.{statement_shown};
 ghost use Rattle.mention_laws.specs.Leaves.{statement_leaves, signals_of, signals_named};
+ghost use Rattle.mention_laws.specs.Shown.{first_written, IsShownBy};
 ghost use Rattle.item_mentions.specs.Mentions.{numbered, statement_reads, statement_targets};
 ghost use Rattle.item_mentions.specs.Names.{target_names, expression_targets, written_as};
 
@@ -30,6 +33,28 @@ pub fn mentions_are_of_leaves()
     ensures so_many_reads { (scope : Scope) (x : Stmt) → length (flags_of_block (sized_statement scope Combinational (statement_of x))) ≡ length (statement_reads scope 0 (statement_of x)) }
     ensures so_many_targets { (scope : Scope) (x : Stmt) → length (targets (sized_statement scope Combinational (statement_of x))) ≡ length (statement_targets 0 (statement_of x)) }
     ensures so_many_later { (scope : Scope) (x : Stmt) → length (later_targets (sized_statement scope Clocked (statement_of x))) ≡ length (statement_targets 0 (statement_of x)) }
+{}
+
+/// A combinational block without a fault is named by the name that stands first in its text, wherever the default of a case stands: the mention
+/// that it tells has the name's place and comes first (`IsShownBy`), the bits are of its signal, and they are shown in the form of its select.
+/// Where the block has targets, what it tells is one of them.
+#[tactic(none)]
+pub fn blocks_are_named_by_their_first_target()
+    ensures named { (scope : Scope) (x : Stmt) (r : Expression) → statement_faults scope Combinational (statement_of x) ≡ [] → first_written (statement_of x) ≡ Some r
+        → IsShownBy scope (statement_of x) r }
+    ensures some { (scope : Scope) (x : Stmt) → statement_faults scope Combinational (statement_of x) ≡ [] → 0 < length (targets (sized_statement scope Combinational (statement_of x)))
+        → (r : Expression) × (first_written (statement_of x) ≡ Some r) }
+    ensures own { (scope : Scope) (x : Stmt) → statement_faults scope Combinational (statement_of x) ≡ [] → 0 < length (targets (sized_statement scope Combinational (statement_of x)))
+        → (statement_shown scope (statement_of x)).number < length (targets (sized_statement scope Combinational (statement_of x))) }
+{}
+
+/// A case with two defaults, by hand, of which the second one stands first among what writes: what it writes isn't listed, so the number that
+/// is told is none of its targets. Such a text has the fault 30.
+#[tactic(none)]
+pub fn a_second_default_is_not_listed()
+    ensures targets { statement_targets 0 with_two ≡ mention 4 1 ∷ [] }
+    ensures shown { statement_shown names with_two ≡ record { number = 1; form = Name } }
+    ensures faults { statement_faults names Combinational with_two ≡ fault 30 here [] ∷ [] }
 {}
 
 /// A case whose default stands first, by hand: its default comes last, with the numbers that it has in the text, and is named first.

@@ -6,4 +6,7 @@
 
 mod laws;
 
-pub use laws::{default_comes_last, mentions_are_of_leaves};
+pub use laws::{
+    a_second_default_is_not_listed, blocks_are_named_by_their_first_target, default_comes_last,
+    mentions_are_of_leaves,
+};
