@@ -56,7 +56,8 @@ no_length scope (Reference x) h = absurd (true≢false (ap is_there h))
 no_length scope (Joined at ts) h = no_length scope ts h
 no_length scope NoTarget h = refl
 no_length scope (Targets t ts) h =
-    ap₂ (λ (a b : ℕ). a + b) (no_length scope t (left_nothing (first_part t) (first_part ts) h)) (no_length scope ts (right_nothing (first_part t) (first_part ts) h))
+    ap₂ (λ (a b : ℕ). a + b) (no_length scope t (left_nothing (first_part t) (first_part ts) h))
+    (no_length scope ts (right_nothing (first_part t) (first_part ts) h))
 
 empty_faulty : (at : Place) (width : ℕ) → width ≡ 0 → total_faults at width ≡ [] → ⊥
 empty_faulty at width is h =
@@ -67,26 +68,31 @@ joined_formed : (scope : Scope) (o : Option Expression) → (o ≡ None → ⊥)
 joined_formed scope None h = absurd (h refl)
 joined_formed scope (Some x) h = refl
 
-target_formed : (scope : Scope) (due : Due) (t : Target) → IsTargetWritten t → target_faults scope due t ≡ [] → Some (target_form scope t) ≡ form_of scope (first_part t)
+target_formed : (scope : Scope) (due : Due) (t : Target) → IsTargetWritten t → target_faults scope due t ≡ []
+    → Some (target_form scope t) ≡ form_of scope (first_part t)
 target_formed scope due (Reference x) w h = refl
 target_formed scope due (Joined at ts) w h =
     ap (λ (o : Option TargetForm). Some (form_or_name o)) (part_formed scope ts)
     ∙ joined_formed scope (first_part ts)
-    (λ e. empty_faulty at (target_length scope ts) (no_length scope ts e) (right_none (target_faults scope due ts) (total_faults at (target_length scope ts)) h))
+    (λ e. empty_faulty at (target_length scope ts) (no_length scope ts e)
+    (right_none (target_faults scope due ts) (total_faults at (target_length scope ts)) h))
 target_formed scope due NoTarget w h = absurd w
 target_formed scope due (Targets t ts) w h = absurd w
 
 -- ---- statements
 
-pub statement_formed : (scope : Scope) (x : Statement) → IsStatementWritten x → expression_faults scope x ≡ [] → first_target scope x ≡ form_of scope (first_written x)
+pub statement_formed : (scope : Scope) (x : Statement) → IsStatementWritten x → expression_faults scope x ≡ []
+    → first_target scope x ≡ form_of scope (first_written x)
 statement_formed scope (Block at label body) w h = statement_formed scope body w h
 statement_formed scope (If at c x) w h = statement_formed scope x w.1 (right_none (faults scope AnyValue c) (expression_faults scope x) h)
 statement_formed scope (IfElse at c x y) w h =
-    let rest : expression_faults scope x ++ expression_faults scope y ≡ [] = right_none (faults scope AnyValue c) (expression_faults scope x ++ expression_faults scope y) h in
+    let rest : expression_faults scope x ++ expression_faults scope y ≡ [] =
+    right_none (faults scope AnyValue c) (expression_faults scope x ++ expression_faults scope y) h in
     ap₂ first_or (statement_formed scope x w.1.0 (left_none (expression_faults scope x) (expression_faults scope y) rest))
     (statement_formed scope y w.1.1 (right_none (expression_faults scope x) (expression_faults scope y) rest))
     ∙ first_of_both scope (first_written x) (first_written y)
-statement_formed scope (Case at kind x items) w h = statement_formed scope items w.1 (right_none (faults scope AnyValue x) (expression_faults scope items) h)
+statement_formed scope (Case at kind x items) w h =
+    statement_formed scope items w.1 (right_none (faults scope AnyValue x) (expression_faults scope items) h)
 statement_formed scope (Assignment t x) w h =
     target_formed scope AnyValue t w.0 (left_none (target_faults scope AnyValue t) (faults scope AnyValue x) h)
 statement_formed scope (Null at) w h = refl

@@ -85,7 +85,8 @@ renamed : (k l : ℕ) (m : Mention) (x : Expression) → l ≡ k → Names l m x
 renamed k l m x is h = record { number = h.number ∙ is; name = h.name }
 
 -- one text behind another; and where what it lists stands before what the first one lists
-pub join : (k n m : ℕ) (ms ns : List Mention) (r q : Option Expression) → Begins k n ms r → Begins (k + n) m ns q → Begins k (n + m) (ms ++ ns) (either r q)
+pub join : (k n m : ℕ) (ms ns : List Mention) (r q : Option Expression)
+    → Begins k n ms r → Begins (k + n) m ns q → Begins k (n + m) (ms ++ ns) (either r q)
 join k n m ms ns r q (nothing a b c) (nothing d e f) =
     nothing (omega (arith, a, d)) (ap₂ (λ (xs ys : List Mention). xs ++ ys) b e) (ap₂ either c f)
 join k n m ms ns r q (nothing a b c) (found x y d e f g h) =
@@ -97,7 +98,8 @@ join k n m ms ns r q (found x y a b c d e) rest =
     found x y (omega (arith, a)) (both_from k ms ns b (all_from k (k + n) m ns q (omega arith) rest)) (in_front k ms ns y c)
     (ap (λ (o : Option Expression). either o q) d) e
 
-pub join_before : (k n m : ℕ) (ms ns : List Mention) (r q : Option Expression) → Begins k n ms r → Begins (k + n) m ns q → Begins k (n + m) (ns ++ ms) (either r q)
+pub join_before : (k n m : ℕ) (ms ns : List Mention) (r q : Option Expression)
+    → Begins k n ms r → Begins (k + n) m ns q → Begins k (n + m) (ns ++ ms) (either r q)
 join_before k n m ms ns r q (nothing a b c) (nothing d e f) =
     nothing (omega (arith, a, d)) (ap₂ (λ (xs ys : List Mention). xs ++ ys) e b) (ap₂ either c f)
 join_before k n m ms ns r q (nothing a b c) (found x y d e f g h) =
@@ -131,7 +133,8 @@ numbered_begin k ns r (one_name n rest x a b c) =
     let many : length ns ≡ suc (length rest) = ap length a in
     let m : Mention = record { name = n.name; at = n.at; order = k } in
     found x m (omega (arith, many)) (numbered_from k ns)
-    (ap (λ (xs : List Identifier). mention_at k (numbered k xs)) a ∙ cond-true (k == k) (Some m) (mention_at k (numbered (k + 1) rest)) (eq-eqb k k refl))
+    (ap (λ (xs : List Identifier). mention_at k (numbered k xs)) a
+    ∙ cond-true (k == k) (Some m) (mention_at k (numbered (k + 1) rest)) (eq-eqb k k refl))
     b (record { number = refl; name = c })
 
 reference_starts : (x : Expression) → IsReference x → Starts (reference_name x) (Some x)
@@ -151,7 +154,8 @@ mutual
 
   targets_start : (t : Target) → AreTargetsWritten t → Starts (target_names t) (first_part t)
   targets_start NoTarget w = no_name refl refl
-  targets_start (Targets t ts) w = both_start (target_names t) (target_names ts) (first_part t) (first_part ts) (target_starts t w.0) (targets_start ts w.1)
+  targets_start (Targets t ts) w =
+      both_start (target_names t) (target_names ts) (first_part t) (first_part ts) (target_starts t w.0) (targets_start ts w.1)
   targets_start (Reference x) w = absurd w
   targets_start (Joined at ts) w = absurd w
 
@@ -181,7 +185,8 @@ mutual
   statement_begins scope by k (IfElse at c x y) p q h =
       let n : ℕ = k + 0 in
       let m : ℕ = n + count writing x in
-      join k 0 (count writing x + count writing y) [] (mentions writing n x ++ mentions writing m y) None (either (first_written x) (first_written y)) (none_there k)
+      join k 0 (count writing x + count writing y) [] (mentions writing n x ++ mentions writing m y) None
+      (either (first_written x) (first_written y)) (none_there k)
       (join n (count writing x) (count writing y) (mentions writing n x) (mentions writing m y) (first_written x) (first_written y)
       (statement_begins scope by n x p.0 q.1.0 (left_none (item_faults scope by x) (item_faults scope by y) h))
       (statement_begins scope by m y p.1 q.1.1 (right_none (item_faults scope by x) (item_faults scope by y) h)))
@@ -210,8 +215,10 @@ mutual
       let own : List Mention = numbered k (labels_names writing ls) ++ mentions writing (k + labels) body in
       subst (λ (ms : List Mention). Begins k (n + count writing xs) ms (either (first_written body) (first_written xs)))
       (sym (append_assoc own (arm_mentions writing (k + n) xs) (default_mentions writing (k + n) xs)))
-      (join k n (count writing xs) own (arm_mentions writing (k + n) xs ++ default_mentions writing (k + n) xs) (first_written body) (first_written xs)
-      (join k labels (count writing body) (numbered k (labels_names writing ls)) (mentions writing (k + labels) body) None (first_written body) (labels_begin k ls)
+      (join k n (count writing xs) own (arm_mentions writing (k + n) xs ++ default_mentions writing (k + n) xs)
+      (first_written body) (first_written xs)
+      (join k labels (count writing body) (numbered k (labels_names writing ls)) (mentions writing (k + labels) body)
+      None (first_written body) (labels_begin k ls)
       (statement_begins scope by (k + labels) body p.0 q.0.1 (left_none (item_faults scope by body) (arm_faults scope by false xs) h)))
       (items_begin scope by (k + n) xs p.1 q.1 (right_none (item_faults scope by body) (arm_faults scope by false xs) h)))
   items_begin scope by k (Statements (Default at body) xs) p q h =
@@ -245,7 +252,8 @@ mutual
       let n : ℕ = labels + count writing body in
       join k n (count writing xs) (numbered k (labels_names writing ls) ++ mentions writing (k + labels) body) (arm_mentions writing (k + n) xs)
       (first_written body) (first_written xs)
-      (join k labels (count writing body) (numbered k (labels_names writing ls)) (mentions writing (k + labels) body) None (first_written body) (labels_begin k ls)
+      (join k labels (count writing body) (numbered k (labels_names writing ls)) (mentions writing (k + labels) body)
+      None (first_written body) (labels_begin k ls)
       (statement_begins scope by (k + labels) body p.0 q.0.1 (left_none (item_faults scope by body) (arm_faults scope by true xs) h)))
       (arms_begin scope by (k + n) xs p.1 q.1 (right_none (item_faults scope by body) (arm_faults scope by true xs) h))
   arms_begin scope by k (Statements (Default at body) xs) p q h = absurd (some_fault _ _ h)

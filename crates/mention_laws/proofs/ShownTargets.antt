@@ -59,7 +59,8 @@ is_at (Some p) n h = record { bits = p; there = refl; signal = ap (λ (o : Optio
     or_own (Some k) = k
 
 -- lists of the same signals, place by place
-same_place : (scope : Scope) (ps : List Span) (ms : List Mention) (i : ℕ) (m : Mention) → signals_of ps ≡ signals_named scope ms → slice_get ms i ≡ Some m
+same_place : (scope : Scope) (ps : List Span) (ms : List Mention) (i : ℕ) (m : Mention) → signals_of ps ≡ signals_named scope ms
+    → slice_get ms i ≡ Some m
     → IsAt (slice_get ps i) (number_of (scope m.name.0))
 same_place scope ps ms i m same is =
     is_at (slice_get ps i) (number_of (scope m.name.0))
@@ -70,16 +71,24 @@ same_place scope ps ms i m same is =
 
 -- ---- the target by which a statement is named
 
-pub is_shown : (scope : Scope) (x : Statement) (r : Expression) → AreStatements x → IsStatementWritten x → statement_faults scope Combinational x ≡ []
-    → first_written x ≡ Some r → IsShownBy scope x r
+begins : (scope : Scope) (x : Statement) → AreStatements x → IsStatementWritten x → statement_faults scope Combinational x ≡ []
+    → Begins 0 (count writing x) (statement_targets 0 x) (first_written x)
+begins scope x p q h =
+    statement_begins scope Combinational 0 x p q (right_none (expression_faults scope x) (item_faults scope Combinational x) h)
+
+pub is_shown : (scope : Scope) (x : Statement) (r : Expression) → AreStatements x → IsStatementWritten x
+    → statement_faults scope Combinational x ≡ [] → first_written x ≡ Some r → IsShownBy scope x r
 is_shown scope x r p q h is =
-    let t = is_told x r (count writing x) (statement_begins scope Combinational 0 x p q (right_none (expression_faults scope x) (item_faults scope Combinational x) h)) is in
+    let t = is_told x r (count writing x) (begins scope x p q h) is in
     let told : slice_get (statement_targets 0 x) (statement_shown scope x).number ≡ Some t.mention = at_first (statement_targets 0 x) ∙ t.told in
-    let a = same_place scope (targets (combinational scope x)) (statement_targets 0 x) (statement_shown scope x).number t.mention (targets_same scope 0 x p q) told in
+    let a =
+    same_place scope (targets (combinational scope x)) (statement_targets 0 x) (statement_shown scope x).number t.mention
+    (targets_same scope 0 x p q) told in
     record {
       form =
           ap form_or_name
-          (statement_formed scope x q (left_none (expression_faults scope x) (item_faults scope Combinational x) h) ∙ ap (option_map (reference_form scope)) is);
+          (statement_formed scope x q (left_none (expression_faults scope x) (item_faults scope Combinational x) h)
+          ∙ ap (option_map (reference_form scope)) is);
       mention = t.mention;
       told = told;
       named = t.names.name;
@@ -107,7 +116,7 @@ as_long scope ps ms h =
 pub is_writing : (scope : Scope) (x : Statement) → AreStatements x → IsStatementWritten x → statement_faults scope Combinational x ≡ []
     → 0 < length (targets (combinational scope x)) → (r : Expression) × (first_written x ≡ Some r)
 is_writing scope x p q h some =
-    let w = writes x (count writing x) (statement_begins scope Combinational 0 x p q (right_none (expression_faults scope x) (item_faults scope Combinational x) h))
+    let w = writes x (count writing x) (begins scope x p q h)
     (subst (λ n. 0 < n) (as_long scope (targets (combinational scope x)) (statement_targets 0 x) (targets_same scope 0 x p q)) some) in
     (w.first, w.is_first)
 

@@ -40,11 +40,13 @@ pub fn mentions_are_of_leaves()
 /// Where the block has targets, what it tells is one of them.
 #[tactic(none)]
 pub fn blocks_are_named_by_their_first_target()
-    ensures named { (scope : Scope) (x : Stmt) (r : Expression) → statement_faults scope Combinational (statement_of x) ≡ [] → first_written (statement_of x) ≡ Some r
-        → IsShownBy scope (statement_of x) r }
-    ensures some { (scope : Scope) (x : Stmt) → statement_faults scope Combinational (statement_of x) ≡ [] → 0 < length (targets (sized_statement scope Combinational (statement_of x)))
+    ensures named { (scope : Scope) (x : Stmt) (r : Expression) → statement_faults scope Combinational (statement_of x) ≡ []
+        → first_written (statement_of x) ≡ Some r → IsShownBy scope (statement_of x) r }
+    ensures some { (scope : Scope) (x : Stmt) → statement_faults scope Combinational (statement_of x) ≡ []
+        → 0 < length (targets (sized_statement scope Combinational (statement_of x)))
         → (r : Expression) × (first_written (statement_of x) ≡ Some r) }
-    ensures own { (scope : Scope) (x : Stmt) → statement_faults scope Combinational (statement_of x) ≡ [] → 0 < length (targets (sized_statement scope Combinational (statement_of x)))
+    ensures own { (scope : Scope) (x : Stmt) → statement_faults scope Combinational (statement_of x) ≡ []
+        → 0 < length (targets (sized_statement scope Combinational (statement_of x)))
         → (statement_shown scope (statement_of x)).number < length (targets (sized_statement scope Combinational (statement_of x))) }
 {}
 
