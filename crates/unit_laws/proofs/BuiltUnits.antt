@@ -51,7 +51,7 @@ told_so said ss (Ok st) is = same_answer said ss is
 told_so said ss (Err f) is = absurd (subst HasAnswer (sym is) tt)
 
 -- are written as a parser writes them
-job_written : (job : BuildJob) (ss : List ModuleStep) → job_steps job ≡ Ok ss → AreWritten ss
+pub job_written : (job : BuildJob) (ss : List ModuleStep) → job_steps job ≡ Ok ss → AreWritten ss
 unfolding job_steps
 job_written job ss is =
     let overrides = overrides_of (constant_sorts (module_of job)) job.parameters in
@@ -108,7 +108,7 @@ unit_made c name u job shapes stepped tabled copied is =
 
 -- ---- a copy of a job
 
-built_unit : (c : ModuleCopy) (within : Copies) (name : ℕ) (u : SizedUnit) → IsBuilt c within name u → IsUnitOf c within name u
+pub built_unit : (c : ModuleCopy) (within : Copies) (name : ℕ) (u : SizedUnit) → IsBuilt c within name u → IsUnitOf c within name u
 built_unit c within name u is =
     subst (λ (d : ModuleCopy). IsUnitOf d within name u) (sym is.copied)
     (job_unit is.job c.steps c.table is.shapes within name u is.steps is.signals is.made is.ports)
@@ -119,7 +119,7 @@ steps_written (s ∷ ss) w = (w.0.0, steps_written ss w.1)
 
 instances_written : (ss : List ModuleStep) → AreWritten ss → Each HasWrittenInstances ss
 instances_written [] w = tt
-instances_written (s ∷ ss) w = (w.0.1, instances_written ss w.1)
+instances_written (s ∷ ss) w = (w.0.1.0, instances_written ss w.1)
 
 built_renumbered : (c : ModuleCopy) (within : Copies) (name : ℕ) (u : SizedUnit) → IsBuilt c within name u → IsRenumbered c
 built_renumbered c within name u is g =

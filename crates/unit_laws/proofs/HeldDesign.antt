@@ -1,16 +1,20 @@
 -- The units that a registry gives under the keys of a design's jobs stand in its tree, and are linked to its flat design.
-use Rattle.std.proofs.Common.{Global, ◌≡◌, ℕ, true, List, All, map, sym, ◌∙◌, refl, subst}
+use Rattle.std.proofs.Common.{Global, ◌≡◌, ℕ, true, false, List, ◌∷◌, All, length, map, sym, ◌∙◌, refl, subst}
 use Rattle.std.specs.List.{AllZip}
 use Rattle.std.specs.declared.sync.Arc.{Arc}
 use Rattle.std.proofs.lemmas.List.Elements.{All-weaker}
 use Rattle.typed_ir.specs.Cycles.{Flat}
+use Rattle.typed_ir.specs.Orders.{Member, at_or}
 use Rattle.verilog_ast.specs.declared.module.Module.{Module}
 use Rattle.unit_ir.specs.declared.instance.Instance.{Instance}
 use Rattle.unit_ir.specs.declared.unit.Unit.{Unit as ModuleUnit}
 use Rattle.unit_ir.specs.Instances.{is_depth_first, parent_of}
 use Rattle.unit_ir.specs.Shapes.{AreOf}
 use Rattle.unit_ir.specs.Trees.{Instances, flat_of_tree}
+use Rattle.comb_order.specs.Loops.{IsLoop}
+use Rattle.comb_order.specs.Refusals.{NodeBefore}
 use Rattle.link.specs.Listings.{IsTreeOf, all_parts}
+use Rattle.link.specs.Names.{has_target}
 use Rattle.link.proofs.Forests.{tree_of}
 use Rattle.link.proofs.Sound.{same_long}
 use Rattle.elaborate.specs.TreeViews.{language_limits}
@@ -30,6 +34,7 @@ use Rattle.unit_laws.proofs.DesignCopies.{design_is_linked}
 use Rattle.unit_laws.proofs.GrownSpelling.{grown_spelled}
 use Rattle.unit_laws.proofs.HeldUnits.{units_of_jobs}
 use Rattle.unit_laws.proofs.OneTable.{by_one_table, seen_by_one}
+use Rattle.unit_laws.proofs.ShownDesigns.{linked_named}
 use Rattle.unit_laws.proofs.TreeJobsUnder.{jobs_under}
 
 module _ (texts known names : List (List ℕ)) (ms : List Module) (top clock : ℕ) (xs : List Instance) (js : List BuildJob)
@@ -71,3 +76,11 @@ module _ (texts known names : List (List ℕ)) (ms : List Module) (top clock : �
               d.are_copies;
           same = linked found.tree found.is ∙ d.linked;
         }
+
+    pub they_are_named : (design : Flat) (first : ℕ) (rest : List ℕ) → is_depth_first (map parent_of xs) ≡ true
+        → ((t : Instances) → IsTreeOf xs (all_parts units) t → design ≡ flat_of_tree t)
+        → IsLoop (NodeBefore design.nodes) (length design.nodes) first rest
+        → (k : ℕ) → Member k (first ∷ rest) → at_or has_target false design.nodes k ≡ true
+    they_are_named design first rest order linked loop =
+        let found = tree_of xs (all_parts units) order (same_long xs 0 xs (all_parts units) they_stand) in
+        linked_named xs js (all_parts units) found.tree design first rest units_built they_stand found.is (linked found.tree found.is) loop

@@ -87,6 +87,8 @@ pub mod BuiltUnits
 pub mod TableUnits
 pub mod TableTrees
 pub mod TableAlone
+pub mod ShownNodes
+pub mod ShownDesigns
 pub mod DesignCopies
 pub mod OneTable
 pub mod OneDesign

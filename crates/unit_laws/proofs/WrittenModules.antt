@@ -16,20 +16,21 @@ use Rattle.verilog_ast.specs.declared.module_body.ModuleBody.{ModuleBody}
 use Rattle.verilog_ast.specs.Declarations.{PortDeclaration}
 use Rattle.verilog_ast.specs.Items.{ModuleItem}
 use Rattle.verilog_ast.specs.Views.{port_of, ports_of, plain_item_of, items_of, generate_item_view, branch_view, generate_item_of, branch_of, item_of, declaration_of}
+use Rattle.mention_laws.proofs.Trees.{statement_is_placed}
 use Rattle.sized_items.specs.DeclaredValues.{kind_of_net, port_values}
 use Rattle.unit_build.proofs.ConnectedTexts.{item_written as instances_are_written}
 use Rattle.unit_build.proofs.ItemLaws.{AreValuesWritten, values_written, port_written, item_written}
 use Rattle.unit_laws.proofs.WrittenSteps.{AreItemsWritten, ArePortsWritten, IsModuleWritten}
 
 plain_whole : (x : PlainItem) → AreItemsWritten (plain_item_of x)
-plain_whole (plain.Wire at x ys) = (item_written (plain.Wire at x ys), tt)
-plain_whole (plain.Reg at x ys) = (item_written (plain.Reg at x ys), tt)
-plain_whole (plain.LocalParameter at x ys) = (tt, tt)
-plain_whole (plain.Genvar at xs) = (tt, tt)
-plain_whole (plain.Assign at xs) = (item_written (plain.Assign at xs), tt)
-plain_whole (plain.Combinational at x) = (item_written (plain.Combinational at x), tt)
-plain_whole (plain.Clocked at n x) = (item_written (plain.Clocked at n x), tt)
-plain_whole (plain.Instances n x ys) = (tt, instances_are_written (plain.Instances n x ys))
+plain_whole (plain.Wire at x ys) = (item_written (plain.Wire at x ys), (tt, tt))
+plain_whole (plain.Reg at x ys) = (item_written (plain.Reg at x ys), (tt, tt))
+plain_whole (plain.LocalParameter at x ys) = (tt, (tt, tt))
+plain_whole (plain.Genvar at xs) = (tt, (tt, tt))
+plain_whole (plain.Assign at xs) = (item_written (plain.Assign at xs), (tt, tt))
+plain_whole (plain.Combinational at x) = (item_written (plain.Combinational at x), (tt, statement_is_placed x))
+plain_whole (plain.Clocked at n x) = (item_written (plain.Clocked at n x), (tt, statement_is_placed x))
+plain_whole (plain.Instances n x ys) = (tt, (instances_are_written (plain.Instances n x ys), tt))
 
 -- ---- items of generate blocks
 
@@ -83,9 +84,9 @@ region_whole [] = tt
 region_whole (x ∷ xs) = (generate_whole x, region_whole xs)
 
 one_whole : (x : Item) → AreItemsWritten (item_of x)
-one_whole (item.Input at net x ns) = (tt, tt)
-one_whole (item.Output at net x ys) = (values_written (kind_of_net net) ys, tt)
-one_whole (item.Parameter at x ys) = (tt, tt)
+one_whole (item.Input at net x ns) = (tt, (tt, tt))
+one_whole (item.Output at net x ys) = (values_written (kind_of_net net) ys, (tt, tt))
+one_whole (item.Parameter at x ys) = (tt, (tt, tt))
 one_whole (item.Region at xs) = region_whole xs
 one_whole (item.Item x) = generate_whole x
 

@@ -15,6 +15,7 @@ use Rattle.gen_unroll.specs.Steps.{LoopTurn, ModuleStep, Listed, Port, Parameter
 use Rattle.gen_unroll.specs.Told.{Told, go_on, ◌>>=◌, say, say_all, quiet}
 use Rattle.gen_unroll.specs.Unrolled.{State, each, override_of, given_or, known, parameter, parameters, next_type, header_parameters, port_steps, is_taken, loop_turns, labelled, inside, outside, block_with, turn_with, loop_with, taken_with, unrolled, chosen, branch, untyped, beginning, unrolled_module}
 use Rattle.gen_unroll.specs.Values.{ConstantValue, evaluated}
+use Rattle.mention_laws.specs.Placed.{AreStatements}
 use Rattle.sized_items.specs.DeclaredValues.{port_values}
 use Rattle.unit_build.specs.Walks.{instances_in}
 use Rattle.unit_build.proofs.ConnectedTexts.{AreInstancesWritten, HasWrittenInstances}
@@ -22,9 +23,19 @@ use Rattle.unit_build.proofs.ItemLaws.{AreValuesWritten, IsItemWritten, IsStepWr
 
 -- ---- what is written so
 
+-- in a block, items of a case stand within a case alone
+abbrev pub IsItemPlaced : ModuleItem → Type 0
+IsItemPlaced (i.Combinational at body) = AreStatements body
+IsItemPlaced (i.Clocked at n body) = AreStatements body
+IsItemPlaced other = Unit {0}
+
+abbrev pub IsStepPlaced : ModuleStep → Type 0
+IsStepPlaced (Item x) = IsItemPlaced x
+IsStepPlaced other = Unit {0}
+
 -- an item without a generate construct
 abbrev pub IsPlainWritten : ModuleItem → Type 0
-IsPlainWritten x = IsItemWritten x × AreInstancesWritten (instances_in x)
+IsPlainWritten x = IsItemWritten x × (AreInstancesWritten (instances_in x) × IsItemPlaced x)
 
 abbrev pub AreItemsWritten : ModuleItem → Type 0
 AreItemsWritten i.NoItem = Unit {0}
@@ -44,10 +55,10 @@ pub record IsModuleWritten (m : ModuleDeclaration) : Type 0 where
   pub items : AreItemsWritten m.items
 
 abbrev IsWhole : ModuleStep → Type 0
-IsWhole s = IsStepWritten s × HasWrittenInstances s
+IsWhole s = IsStepWritten s × (HasWrittenInstances s × IsStepPlaced s)
 
 abbrev pub AreWritten : List ModuleStep → Type 0
-AreWritten steps = Each (λ (s : ModuleStep). IsStepWritten s × HasWrittenInstances s) steps
+AreWritten steps = Each (λ (s : ModuleStep). IsStepWritten s × (HasWrittenInstances s × IsStepPlaced s)) steps
 
 -- ---- what is told, and then what follows
 
@@ -63,7 +74,7 @@ each_so : {A : Type 0} (step : A → State → Told State) → ((x : A) (st : St
 each_so step one [] st = tt
 each_so step one (x ∷ xs) st = then_so (step x st) (λ next. each step xs next) (one x st) (λ next. each_so step one xs next)
 
-say_so : {A : Type 0} (s : ModuleStep) (x : A) → IsStepWritten s → HasWrittenInstances s → AreWritten (say s x).said
+say_so : {A : Type 0} (s : ModuleStep) (x : A) → IsStepWritten s → HasWrittenInstances s × IsStepPlaced s → AreWritten (say s x).said
 say_so s x w v = ((w, v), tt)
 
 -- ---- parameters and ports
@@ -73,7 +84,7 @@ unfolding parameter
 parameter_so s t p st =
     then_so (quiet (given_or (override_of s st) (evaluated st.scope p.value)))
     (λ v. say (Parameter s p.name (as_declared t v)) (known s p.name (as_declared t v) st)) tt
-    (λ v. say_so (Parameter s p.name (as_declared t v)) (known s p.name (as_declared t v) st) tt tt)
+    (λ v. say_so (Parameter s p.name (as_declared t v)) (known s p.name (as_declared t v) st) tt (tt, tt))
 
 parameters_so : (s : ParameterSort) (k : Kind) (ps : List ParameterAssignment) (st : State) → AreWritten (parameters s k ps st).said
 parameters_so s k ps st =
@@ -88,11 +99,11 @@ header_so t (p ∷ ps) st =
 
 listed_so : (ns : List Identifier) → AreWritten (map Listed ns)
 listed_so [] = tt
-listed_so (n ∷ ns) = ((tt, tt), listed_so ns)
+listed_so (n ∷ ns) = ((tt, (tt, tt)), listed_so ns)
 
 declared_so : (ps : List PortDeclaration) → Each (λ (p : PortDeclaration). AreValuesWritten (port_values p)) ps → AreWritten (map Port ps)
 declared_so [] w = tt
-declared_so (p ∷ ps) w = ((w.0, tt), declared_so ps w.1)
+declared_so (p ∷ ps) w = ((w.0, (tt, tt)), declared_so ps w.1)
 
 ports_so : (ps : PortList) → ArePortsWritten ps → AreWritten (port_steps ps)
 ports_so NoPorts w = tt
@@ -109,12 +120,12 @@ block_so : (run : Option ℕ → State → Told State) (items : ModuleItem) (her
 block_so run items here label turn so st =
     let opened = Opened (record { number = st.opened; parent = here; label = label; turn = turn }) items in
     then_so (say opened (inside turn items st)) (λ within. run (Some st.opened) within >>= λ end. say Closed (outside st end))
-    (say_so opened (inside turn items st) tt tt)
+    (say_so opened (inside turn items st) tt (tt, tt))
     (λ within. then_so (run (Some st.opened) within) (λ end. say Closed (outside st end)) (so (Some st.opened) within)
-    (λ end. say_so Closed (outside st end) tt tt))
+    (λ end. say_so Closed (outside st end) tt (tt, tt)))
 
 label_so : (label : Identifier) (st : State) → AreWritten (say (Labelled label) (labelled label st)).said
-label_so label st = say_so (Labelled label) (labelled label st) tt tt
+label_so label st = say_so (Labelled label) (labelled label st) tt (tt, tt)
 
 loop_so : (run : Option ℕ → State → Told State) (items : ModuleItem) (at : Place) (h : LoopHead) (label : Identifier) (here : Option ℕ) → Runs run
     → (st : State) → AreWritten (loop_with run items at h label here st).said

@@ -1,6 +1,8 @@
 // What is linked from the units of modules is the flat design of the modules.
-ghost use Rattle.std.specs.Prelude.{◌≡◌, ℕ, List, length, map, Ok};
+ghost use Rattle.std.specs.Prelude.{◌≡◌, ℕ, false, true, List, ◌∷◌, length, map, Ok};
 ghost use Rattle.std.specs.List.{AllZip};
+ghost use Rattle.typed_ir.specs.Cycles.{Flat};
+ghost use Rattle.typed_ir.specs.Orders.{Each, Member, at_or};
 ghost use Rattle.verilog_ast.specs.declared.module.Module.{Module};
 ghost use Rattle.verilog_ast.specs.Views.{declarations_of};
 ghost use Rattle.unit_ir.specs.declared.instance.Instance.{Instance};
@@ -12,7 +14,10 @@ ghost use Rattle.elaborate.specs.declared.limits.Limits.{Limits};
 ghost use Rattle.elaborate.specs.Elaborated.{Standing, elaborated};
 ghost use Rattle.elaborate.specs.Trees.{all_seen};
 ghost use Rattle.elaborate.specs.TreeViews.{instance_view};
+ghost use Rattle.comb_order.specs.Loops.{IsLoop};
+ghost use Rattle.comb_order.specs.Refusals.{NodeBefore};
 ghost use Rattle.link.specs.Listings.{IsTreeOf};
+ghost use Rattle.link.specs.Names.{IsShown, has_target};
 ghost use Rattle.module_registry.specs.declared.build_job.BuildJob.{BuildJob};
 ghost use Rattle.unit_jobs.specs.Jobs.{InstanceJob, tree_jobs};
 ghost use Rattle.unit_jobs.specs.JobViews.{job_view};
@@ -50,4 +55,17 @@ pub fn copies_are_those_of_the_design()
         → l.turns ≡ turn_limit → elaborated l (declarations_of ms) top clock ≡ Ok all → map (instance_view t.known) xs ≡ all_seen t.texts all
         → tree_jobs t.others ms xs ≡ Ok jobs → map (job_view t.words) js ≡ jobs → AllZip IsUnitOf js us → IsTreeOf xs us tree
         → (copies : Copies) × (AreCopiesIn l.turns (declarations_of ms) t xs all copies × (flat_of_tree tree ≡ flat copies)) }
+{}
+
+/// Each node of the flat design of units that are built from jobs is told by a target of its own, where it has any: a block without a fault tells
+/// one of its own targets, and the unit's signals keep their bits where it stands. So each node of a loop has a target, by which it is named.
+#[tactic(none)]
+pub fn nodes_are_told_by_their_own_targets()
+    ensures shown { (copies : Copies) (tree : Instances) → AreBuilt copies tree → Each IsShown (flat copies).nodes }
+    ensures linked { (xs : List Instance) (jobs : List BuildJob) (us : List UnitParts) (tree : Instances) → AllZip IsUnitOf jobs us
+        → AreOf xs 0 xs us → IsTreeOf xs us tree → Each IsShown (flat_of_tree tree).nodes }
+    ensures named { (xs : List Instance) (jobs : List BuildJob) (us : List UnitParts) (tree : Instances) (design : Flat) (first : ℕ) (rest : List ℕ)
+        → AllZip IsUnitOf jobs us → AreOf xs 0 xs us → IsTreeOf xs us tree → design ≡ flat_of_tree tree
+        → IsLoop (NodeBefore design.nodes) (length design.nodes) first rest
+        → (k : ℕ) → Member k (first ∷ rest) → at_or has_target false design.nodes k ≡ true }
 {}

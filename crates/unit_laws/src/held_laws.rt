@@ -1,5 +1,5 @@
 // What a registry holds under a table of names, and that what is linked of it is the flat design.
-ghost use Rattle.std.specs.Prelude.{◌≡◌, ℕ, true, List, [], map, take, Ok, Err, Some, IsTrue};
+ghost use Rattle.std.specs.Prelude.{◌≡◌, ℕ, false, true, List, [], ◌∷◌, length, map, take, Ok, Err, Some, IsTrue};
 ghost use Rattle.std.specs.Global.{Global};
 ghost use Rattle.std.specs.List.{All, AllZip};
 ghost use Rattle.std.specs.declared.result.Result.{Result};
@@ -8,13 +8,17 @@ ghost use Rattle.sha2.specs.Sha256.{sha256};
 ghost use Rattle.ls_text.specs.declared.fault.Fault.{Fault};
 ghost use Rattle.ls_text.specs.Texts.{Grows, HasEachOnce};
 ghost use Rattle.typed_ir.specs.Cycles.{Flat};
+ghost use Rattle.typed_ir.specs.Orders.{Member, at_or};
 ghost use Rattle.verilog_ast.specs.declared.module.Module.{Module};
 ghost use Rattle.unit_ir.specs.declared.instance.Instance.{Instance};
 ghost use Rattle.unit_ir.specs.declared.unit.Unit.{Unit as ModuleUnit};
 ghost use Rattle.unit_ir.specs.Instances.{is_depth_first, parent_of};
 ghost use Rattle.unit_ir.specs.Shapes.{AreOf};
 ghost use Rattle.unit_ir.specs.Trees.{Instances, flat_of_tree};
+ghost use Rattle.comb_order.specs.Loops.{IsLoop};
+ghost use Rattle.comb_order.specs.Refusals.{NodeBefore};
 ghost use Rattle.link.specs.Listings.{IsTreeOf, all_parts};
+ghost use Rattle.link.specs.Names.{has_target};
 ghost use Rattle.module_registry.specs.declared.build_job.BuildJob.{BuildJob};
 ghost use Rattle.module_registry.specs.Building.{Built, built_all};
 ghost use Rattle.module_registry.specs.Entries.{Entry, ensured, is_among, unit_under};
@@ -78,7 +82,8 @@ pub fn held_keys_have_no_fault()
 
 /// The jobs of a design are jobs under the table of names behind them, so their keys may be ensured. The units that a registry then gives under
 /// these keys stand in the tree of the design, so they may be linked. What is linked of them, which is what each tree gives that this table of
-/// instances is of, is the flat design of the parsed modules. There is one such design, whatever table of instances it is told of.
+/// instances is of, is the flat design of the parsed modules. There is one such design, whatever table of instances it is told of. Each node of
+/// a loop in it has a target, by which it is named.
 #[tactic(none)]
 pub fn held_units_link_to_the_flat_design()
     ensures jobs { (texts known names : List (List ℕ)) (ms : List Module) (top clock : ℕ) (xs : List Instance) (js : List BuildJob)
@@ -93,6 +98,13 @@ pub fn held_units_link_to_the_flat_design()
         → AreUnder es keys units → IsTrue (is_depth_first (map parent_of xs))
         → ((t : Instances) → IsTreeOf xs (all_parts units) t → design ≡ flat_of_tree t)
         → IsFlatIn names ms top clock xs design }
+    ensures named { (texts known names : List (List ℕ)) (ms : List Module) (top clock : ℕ) (xs : List Instance) (js : List BuildJob)
+        (keys : List KeyData) (es : List Entry) (units : List (Arc ModuleUnit Global)) (design : Flat) (first : ℕ) (rest : List ℕ)
+        → AreJobsIn texts known names ms top clock xs js → jobs_of keys ≡ js → All (IsKeyUnder names) keys → AreHeldUnder names es
+        → AreUnder es keys units → IsTrue (is_depth_first (map parent_of xs))
+        → ((t : Instances) → IsTreeOf xs (all_parts units) t → design ≡ flat_of_tree t)
+        → IsLoop (NodeBefore design.nodes) (length design.nodes) first rest
+        → (k : ℕ) → Member k (first ∷ rest) → at_or has_target false design.nodes k ≡ true }
     ensures one { (names : List (List ℕ)) (ms : List Module) (top clock : ℕ) (xs ys : List Instance) (a b : Flat)
         → HasEachOnce names → All (IsSpelledUnder names) ms → IsFlatIn names ms top clock xs a → IsFlatIn names ms top clock ys b → a ≡ b }
 {}

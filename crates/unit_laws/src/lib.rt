@@ -12,7 +12,10 @@ mod held_laws;
 mod key_laws;
 mod name_laws;
 
-pub use flat_laws::{copies_are_those_of_the_design, linked_units_are_the_flat_design};
+pub use flat_laws::{
+    copies_are_those_of_the_design, linked_units_are_the_flat_design,
+    nodes_are_told_by_their_own_targets,
+};
 pub use held_laws::{
     held_keys_have_no_fault, held_units_are_those_of_their_jobs,
     held_units_link_to_the_flat_design, registries_stay_held,

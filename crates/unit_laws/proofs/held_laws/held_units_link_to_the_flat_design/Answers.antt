@@ -1,4 +1,4 @@
-use Rattle.unit_laws.proofs.HeldDesign.{jobs_are_under, they_stand, they_are_flat}
+use Rattle.unit_laws.proofs.HeldDesign.{jobs_are_under, they_stand, they_are_flat, they_are_named}
 use Rattle.unit_laws.proofs.OneDesign.{one_design}
 use Rattle.unit_laws.proofs.held_laws.held_units_link_to_the_flat_design.Goals as goal
 
@@ -15,3 +15,7 @@ returns-clause-linked c texts known names ms top clock xs js keys es units desig
 
 pub returns-clause-one : goal.returns-clause-one
 returns-clause-one c names ms top clock xs ys a b once spelled g h = one_design names once ms spelled top clock xs ys a b g h
+
+pub returns-clause-named : goal.returns-clause-named
+returns-clause-named c texts known names ms top clock xs js keys es units design first rest h of_jobs made held are order linked loop =
+    they_are_named texts known names ms top clock xs js h keys es units of_jobs made held are design first rest order linked loop
