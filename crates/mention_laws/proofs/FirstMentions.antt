@@ -1,6 +1,8 @@
 -- Among the targets of a statement is the first one in its text, where no case has a second default.
-use Rattle.std.proofs.Common.{◌≡◌, ℕ, suc, ◌+◌, ◌≤◌, ◌==◌, Bool, true, false, cond, if◌then◌else◌, List, [], ◌∷◌, ◌++◌, length, refl, sym, ◌∙◌, ap, ap₂, subst, append_assoc, true≢false, arith}
+use Rattle.std.proofs.Common.{◌≡◌, ℕ, suc, ◌+◌, ◌≤◌, ◌==◌, Bool, true, false, cond, List, [], ◌∷◌, ◌++◌, length, refl, sym, ◌∙◌, ap, ap₂, subst, append_assoc, true≢false, arith}
 use Rattle.std.specs.Prelude.{Option, Some, None, slice_get}
+use Rattle.std.specs.List.{find}
+use Rattle.std.proofs.lemmas.List.Folds.{find_at}
 use Rattle.std.proofs.lemmas.Bool.{eq-eqb, ne_eqb, cond-true, cond-false}
 use Rattle.std.proofs.lemmas.Option.{none-some}
 use Rattle.ls_text.specs.declared.fault.Fault.{Fault}
@@ -23,17 +25,10 @@ use Rattle.mention_laws.specs.Shown.{either, first_part, first_written}
 -- ---- the first mention with a number
 
 abbrev pub mention_at : ℕ → List Mention → Option Mention
-mention_at k [] = None
-mention_at k (m ∷ ms) = if m.order == k then Some m else mention_at k ms
+mention_at k ms = find (λ (m : Mention). m.order == k) ms
 
 pub at_first : (ms : List Mention) → slice_get ms (first_number ms) ≡ mention_at 0 ms
-at_first [] = refl
-at_first (m ∷ ms) = by (m.order == 0) (at_first ms)
-  where
-    by : (b : Bool) → slice_get ms (first_number ms) ≡ mention_at 0 ms
-        → slice_get (m ∷ ms) (cond b 0 (1 + first_number ms)) ≡ cond b (Some m) (mention_at 0 ms)
-    by true rest = refl
-    by false rest = let next : 1 + first_number ms ≡ suc (first_number ms) = omega arith in ap (slice_get (m ∷ ms)) next ∙ rest
+at_first ms = sym (find_at (λ (m : Mention). m.order == 0) ms)
 
 in_front : (k : ℕ) (ms ns : List Mention) (m : Mention) → mention_at k ms ≡ Some m → mention_at k (ms ++ ns) ≡ Some m
 in_front k [] ns m h = absurd (none-some m h)

@@ -1,5 +1,5 @@
 -- Each node of the flat design of built units is named by a target of its own.
-use Rattle.std.proofs.Common.{◌≡◌, ◌<◌, ℕ, suc, ◌+◌, Bool, true, false, if◌then◌else◌, List, [], ◌∷◌, ◌++◌, length, map, Option, Some, None, slice_index, refl, sym, ◌∙◌, ap, subst, true≢false, arith}
+use Rattle.std.proofs.Common.{◌≡◌, ◌<◌, ℕ, suc, ◌+◌, Bool, true, false, if◌then◌else◌, List, [], ◌∷◌, ◌++◌, length, map, Option, Some, None, slice_index, sym, ◌∙◌, ap, subst, true≢false, arith}
 use Rattle.std.proofs.lemmas.List.{length-map}
 use Rattle.typed_ir.specs.declared.span.Span.{Span}
 use Rattle.typed_ir.specs.Cycles.{Flat}
@@ -36,7 +36,7 @@ use Rattle.unit_laws.specs.BuiltCopies.{IsBuilt, AreBuilt}
 use Rattle.unit_laws.specs.Copies.{ModuleCopy, Copies, Nothing, One}
 use Rattle.unit_laws.specs.Flat.{writers_in, beginning_of, own_items, flat}
 use Rattle.unit_laws.proofs.BuiltUnits.{job_written, built_unit, built_is_flat}
-use Rattle.unit_laws.proofs.WrittenSteps.{IsItemPlaced, IsStepPlaced, AreWritten}
+use Rattle.unit_laws.proofs.WrittenSteps.{IsItemPlaced, AreWritten}
 
 -- ---- a node of a unit, and what it is where its unit stands
 
@@ -179,7 +179,8 @@ unit_own c within name u is =
     let own = walk_own (writers_in c) c.table.signals (beginning_of c) c.steps (job_written is.job c.steps is.steps) unit.no_fault in
     subst (λ (v : SizedUnit). Each IsOwnNode v.nodes) (sym unit.made) (nodes_own (own_items c) own)
 
-copied_shown : (path : List ℕ) (first : ℕ) (copies : Copies) (tree : Instances) → AreBuilt copies tree → Each IsShown (copied_out nodes_at path first tree)
+copied_shown : (path : List ℕ) (first : ℕ) (copies : Copies) (tree : Instances) → AreBuilt copies tree
+    → Each IsShown (copied_out nodes_at path first tree)
 copied_shown path first Nothing t.Nothing are = tt
 copied_shown path first Nothing (t.One name u inner later) are = absurd are
 copied_shown path first (One c within after) t.Nothing are = absurd are
