@@ -6,5 +6,6 @@ pub mod Founds
 pub mod FoundUnder
 pub mod DesignFaults
 pub mod Plans
+pub mod OnePlan
 pub mod Made
 pub mod Behind
