@@ -11,6 +11,7 @@ mod file_names;
 mod file_shelf;
 mod gate;
 mod gate_step;
+mod given_text;
 mod mem_shelf;
 mod mem_sink;
 mod mem_source;

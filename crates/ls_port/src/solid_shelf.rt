@@ -1,18 +1,12 @@
 // A shelf in memory that fails only at a name that it doesn't hold.
-ghost use Rattle.std.specs.Prelude.{◌≡◌, ◌≤◌, ◌+◌, ◌-◌, ◌^◌, min, Some, None, [], ◌∷◌, ◌++◌, vec_len, IfOk, OnOk, OnErr, IsErrOf};
-ghost use Rattle.ls_port.specs.declared.shelf_answer.ShelfAnswer.{ShelfAnswer};
-ghost use Rattle.ls_port.specs.declared.shelf_answer.ShelfAnswer.TheVariants.{Given};
-ghost use Rattle.std.specs.Option.{option_map};
+ghost use Rattle.std.specs.Prelude.{◌≡◌, ◌≤◌, Some, None, [], vec_len, IfOk, OnOk, IsErrOf};
 ghost use Rattle.ls_port.specs.Answers.{ReadAdds};
 ghost use Rattle.ls_port.specs.Causes.{HasShelfCause};
-ghost use Rattle.ls_port.specs.Shelves.{text_named};
 
+use crate::given_text::{give, given_of};
 use crate::{NamedText, Shelf, ShelfAnswer, ShelfRefusal};
-use ls_text::{TextBytes, front};
-use std::alloc::{AllocError, Global};
-
-/// The most bytes that a read gives of a text: one above the most that a file of a design has.
-pub(crate) const MOST_GIVEN: usize = 4_194_305;
+use ls_text::TextBytes;
+use std::alloc::Global;
 
 /// Texts in memory as a shelf, which fails only at a name that it doesn't hold. It may run out of memory.
 #[derive(Drop)]
@@ -59,34 +53,6 @@ impl SolidShelf {
     }
 }
 
-// The first text of this name.
-fn text_named<'a>(name: &[u8], texts: &'a [NamedText]) -> Option<&'a [u8]>
-    ensures { option_map (λ t. t.now) result ≡ text_named name.now texts.now }
-{
-    texts
-        .iter()
-        .find(|t| t.name.bytes() == name)
-        .map(|t| t.text.bytes())
-}
-
-// Gives these bytes under this name, and writes it down.
-fn give(
-    alloc: Global,
-    answered: &mut Vec<ShelfAnswer>,
-    name: &[u8],
-    text: &[u8],
-) -> Result<Vec<u8>, AllocError>
-    ensures given { IfOk result (λ t. t.items ≡ text.now) }
-    ensures added { IfOk result (λ t. answered.new.items ≡ answered.old.items ++ Given name.now text.now ∷ []) }
-    ensures kept { OnErr result (answered.new.items ≡ answered.old.items) }
-{
-    let given = Vec::from_slice(alloc, text)?;
-    let name = TextBytes::new(Vec::from_slice(alloc, name)?);
-    let copy = TextBytes::new(Vec::from_slice(alloc, text)?);
-    answered.push(ShelfAnswer::Given(name, copy))?;
-    Ok(given)
-}
-
 impl Shelf for SolidShelf {
     ghost use Rattle.ls_port.specs.declared.shelf_refusal.ShelfRefusal.TheVariants.{Failed as ShelfFailed};
     ghost use Rattle.ls_port.specs.Shelves.{solid_answers, solid_next};
@@ -104,8 +70,8 @@ impl Shelf for SolidShelf {
         ensures missing { IsErrOf result ShelfFailed → solid_next self.old name.now ≡ None }
         ensures told { self.new.texts ≡ self.old.texts }
     {
-        match text_named(name, &self.texts) {
-            Some(text) => Ok(give(alloc, &mut self.answered, name, front(text, MOST_GIVEN))?),
+        match given_of(name, &self.texts) {
+            Some(text) => Ok(give(alloc, &mut self.answered, name, text)?),
             None => self.fail(alloc, name),
         }
     }

@@ -3,7 +3,7 @@ ghost use Rattle.std.specs.Prelude.{◌≡◌, ◌≤◌, ◌<◌, vec_len, IfOk
 ghost use Rattle.std.specs.Io.KnownBytes.{Consumes, IsAtEnd};
 
 use crate::ShelfRefusal;
-use crate::solid_shelf::MOST_GIVEN;
+use crate::given_text::MOST_GIVEN;
 use std::alloc::Global;
 use std::io::Read;
 
