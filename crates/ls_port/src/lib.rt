@@ -2,8 +2,8 @@
 //
 // `Source` and `Sink` are the traits that the program is written over. `MemSource`, `MemSink`, `SolidSource` and `SolidSink`
 // stand for them in memory, `StdSource` and `StdSink` on the streams of std. `Shelf` gives files by their names: `MemShelf` and
-// `SolidShelf` from memory, `FileShelf` from the folder that the program is run in. `Gate` is a pause point of threads. `tests` has
-// the order of calls.
+// `SolidShelf` from memory, `FileShelf` from the folder that the program is run in. `Gate` is a pause point of threads. `tests` and
+// `shelf_tests` have the order of calls.
 #![tactic(auto)]
 
 mod failed;
@@ -31,7 +31,6 @@ mod std_source;
 mod whole_text;
 
 pub use failed::Failed;
-pub use file_names::stays_below;
 pub use file_shelf::FileShelf;
 pub use gate::Gate;
 pub use gate_step::GateStep;
@@ -52,5 +51,7 @@ pub use source::Source;
 pub use std_sink::StdSink;
 pub use std_source::StdSource;
 
+#[cfg(test)]
+mod shelf_tests;
 #[cfg(test)]
 mod tests;
