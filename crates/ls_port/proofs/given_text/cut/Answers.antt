@@ -1,4 +1,4 @@
-use Rattle.std.proofs.Common.{◌≡◌, ◌≤◌, sym, subst, length}
+use Rattle.std.proofs.Common.{◌≤◌, sym, subst, length}
 use Rattle.ls_port.proofs.Cuts.{few_taken}
 use Rattle.ls_port.proofs.given_text.cut.Goals as goal
 
