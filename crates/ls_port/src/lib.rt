@@ -1,37 +1,57 @@
 // The outside: where bytes come from and go to, how often that failed, and where threads pause.
 //
 // `Source` and `Sink` are the traits that the program is written over. `MemSource`, `MemSink`, `SolidSource` and `SolidSink`
-// stand for them in memory, `StdSource` and `StdSink` on the streams of std. `Gate` is a pause point of threads. `tests` has the
-// order of calls at a gate and a sink.
+// stand for them in memory, `StdSource` and `StdSink` on the streams of std. `Shelf` gives files by their names: `MemShelf` and
+// `SolidShelf` from memory, `FileShelf` from the folder that the program is run in. `Gate` is a pause point of threads. `tests` and
+// `shelf_tests` have the order of calls.
 #![tactic(auto)]
 
 mod failed;
+mod file_names;
+mod file_shelf;
 mod gate;
 mod gate_step;
+mod given_text;
+mod mem_shelf;
 mod mem_sink;
 mod mem_source;
+mod named_text;
 mod open_gate;
+mod shelf;
+mod shelf_answer;
+mod shelf_refusal;
 mod sink;
 mod sink_refusal;
+mod solid_shelf;
 mod solid_sink;
 mod solid_source;
 mod source;
 mod std_sink;
 mod std_source;
+mod whole_text;
 
 pub use failed::Failed;
+pub use file_shelf::FileShelf;
 pub use gate::Gate;
 pub use gate_step::GateStep;
+pub use mem_shelf::MemShelf;
 pub use mem_sink::MemSink;
 pub use mem_source::MemSource;
+pub use named_text::NamedText;
 pub use open_gate::OpenGate;
+pub use shelf::Shelf;
+pub use shelf_answer::ShelfAnswer;
+pub use shelf_refusal::ShelfRefusal;
 pub use sink::Sink;
 pub use sink_refusal::SinkRefusal;
+pub use solid_shelf::SolidShelf;
 pub use solid_sink::SolidSink;
 pub use solid_source::SolidSource;
 pub use source::Source;
 pub use std_sink::StdSink;
 pub use std_source::StdSource;
 
+#[cfg(test)]
+mod shelf_tests;
 #[cfg(test)]
 mod tests;
