@@ -5,31 +5,20 @@
 // commands out and answers with a `reply`. `laws` says that texts and commands have one answer, and that displays tell the truth.
 #![tactic(auto)]
 
-mod assignment;
+mod advancing;
 mod block;
+mod block_edit;
 mod block_head;
-mod build;
-mod built;
-mod design;
 mod ending;
 mod laws;
 mod live;
-mod module;
-mod name_texts;
-mod one_register;
 mod outcome;
-mod register_item;
 mod reply;
 mod running;
 mod scan;
 mod script;
 mod script_line;
 mod session;
-mod take_block;
-mod taken;
-mod term;
-mod terms;
-mod text;
 mod turn;
 
 pub use laws::{commands_have_one_output, displays_tell_the_truth, texts_have_one_answer};
