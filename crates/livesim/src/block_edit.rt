@@ -1,4 +1,9 @@
 // From a block of a script to the edit that it asks for.
+ghost use Rattle.std.specs.Prelude.{◌≡◌, [], None, map, take, IfOk};
+ghost use Rattle.ls_text.specs.Texts.{Grows};
+ghost use Rattle.livesim.specs.Blocks.{block};
+ghost use Rattle.livesim.specs.Edits.{IsEditOf};
+
 use crate::block::Block;
 use command_read::{Edit, FileLine, FileLines, LoadLines};
 use ls_text::{NameId, Names, NoMemory, SourceFile, TextBytes};
@@ -12,7 +17,10 @@ pub fn block_edit(
     names: &mut Names,
     line: u64,
     given: Block<'_>,
-) -> Result<Edit, NoMemory> {
+) -> Result<Edit, NoMemory>
+    ensures edit { IfOk result (IsEditOf names.new (block given.entry)) }
+    ensures grows { Grows names.old names.new }
+{
     let top = names.intern(given.top)?;
     let clock = names.intern(given.clock)?;
     let name = names.intern(given.file)?;
@@ -34,7 +42,10 @@ pub fn block_edit(
 }
 
 /// The texts before the first edit: no file and no top. Their clock is that of the edit, which names one.
-pub fn first_texts(alloc: Global, edit: &Edit) -> Texts {
+pub fn first_texts(alloc: Global, edit: &Edit) -> Texts
+    ensures files { result.files ≡ [] }
+    ensures top { result.top ≡ None }
+{
     Texts {
         files: FileList::new(Vec::new(alloc)),
         top: None,
@@ -42,8 +53,10 @@ pub fn first_texts(alloc: Global, edit: &Edit) -> Texts {
     }
 }
 
-/// The file that an edit gives.
-pub fn files_of(edit: &Edit) -> &[SourceFile] {
+/// The first file that an edit gives.
+pub fn files_of(edit: &Edit) -> &[SourceFile]
+    ensures { result.now ≡ map (λ given. given.file) (take 1 edit.now.files) }
+{
     match edit.files.as_slice().first() {
         Some(given) => slice::from_ref(&given.file),
         None => &[],

@@ -19,6 +19,8 @@ mod scan;
 mod script;
 mod script_line;
 mod session;
+mod take_block;
+mod taken;
 mod turn;
 
 pub use laws::{commands_have_one_output, displays_tell_the_truth, texts_have_one_answer};

@@ -3,13 +3,13 @@ ghost use Rattle.std.specs.Prelude.{◌≡◌, ◌≢◌, ◌⊎◌, ◌↔◌, 
 ghost use Rattle.std.specs.List.{suffix_len};
 ghost use Rattle.std.specs.Io.KnownBytes.{Consumes, Appends, IsAtEnd, Keeps};
 ghost use Rattle.ls_port.specs.Causes.{Rose};
-ghost use Rattle.livesim.specs.Commands.{Load, commands_after, commands_from, command_at, counted_bytes, line_commands};
+ghost use Rattle.livesim.specs.Commands.{Load, Advance, commands_after, commands_from, command_at, counted_bytes, line_commands};
 ghost use Rattle.livesim.specs.Endings.{Carries, Finishes, has_ended};
-ghost use Rattle.livesim.specs.Replies.{RepliesTo, RepliesAll, refusal_text};
+ghost use Rattle.livesim.specs.Replies.{Replies, RepliesTo, RepliesAll, refusal_text};
 ghost use Rattle.livesim.specs.Runs.{IsComplete, Lived, WritesFront};
 ghost use Rattle.livesim.specs.Script.{HasSmallRun, block_at, script_lines};
 ghost use Rattle.livesim.specs.Sessions.{world};
-ghost use Rattle.livesim.specs.Worlds.{not_built};
+ghost use Rattle.livesim.specs.Worlds.{not_built, plain};
 ghost use Rattle.livesim.specs.declared.script_line.ScriptLine.TheVariants.{Edit};
 
 use crate::ending::Ending;

@@ -63,7 +63,10 @@ pub fn no_design(alloc: Global, line: u64) -> Result<Reply, NoMemory>
 }
 
 /// The refusal of a text above 4,194,304 bytes, of the file that this line of the block names.
-pub fn too_long(alloc: Global, line: u64, file: &[u8]) -> Result<Reply, NoMemory> {
+pub fn too_long(alloc: Global, line: u64, file: &[u8]) -> Result<Reply, NoMemory>
+    ensures text { IfOk result (λ r. r.text.items ≡ refusal_text (record { code = 10; place = OnLine line; names = file.now ∷ [] })) }
+    ensures refused { IfOk result (λ r. r.refused ≡ true) }
+{
     let mut names = Names::new(alloc);
     let name = names.intern(file)?;
     let fault = Fault {

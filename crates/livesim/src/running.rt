@@ -36,8 +36,19 @@ pub struct Running {
 }
 
 impl Running {
+    ghost use Rattle.std.specs.Prelude.{◌+◌, ◌*◌, ℕ, List, IfOk};
+    ghost use Rattle.cycle_eval.specs.Designs.{work_of};
+    ghost use Rattle.livesim.specs.Commands.{Advance, Display};
+    ghost use Rattle.livesim.specs.Replies.{Replies, done_text};
+    ghost use Rattle.livesim.specs.Sessions.{world_of};
+    ghost use Rattle.livesim.specs.Worlds.{plain};
+
     /// A design at its beginning.
-    pub fn begin(alloc: Global, design: Design, keys: KeyList) -> Result<Running, NoMemory> {
+    pub fn begin(alloc: Global, design: Design, keys: KeyList) -> Result<Running, NoMemory>
+        ensures design { IfOk result (λ r. r.design ≡ design) }
+        ensures keys { IfOk result (λ r. r.keys ≡ keys) }
+        ensures cycle { IfOk result (λ r. r.cycle ≡ 0) }
+    {
         let state = design.reset(alloc)?;
         Ok(Running {
             design,
@@ -47,14 +58,19 @@ impl Running {
         })
     }
 
-    /// Simulates so many cycles, each of which is counted.
+    /// Simulates so many cycles, and counts no more than these.
     pub fn run<L: Ledger>(
         &mut self,
         alloc: Global,
         line: u64,
         cycles: u64,
         steps: &mut Steps<L>,
-    ) -> Result<Reply, NoMemory> {
+    ) -> Result<Reply, NoMemory>
+        requires { cycles ≤ 2 ^ 40 }
+        ensures replies { IfOk result (λ r. (names : List (List ℕ)) → Replies (plain (Advance line cycles))
+            (world_of names self.old) (world_of names self.new) r.text.items r.refused) }
+        ensures counted { steps.new ≤ steps.old + cycles * work_of self.old.design }
+    {
         let cycle = self.cycle + cycles;
         if cycle > MAX_CYCLE {
             return not_built(alloc, line);
@@ -70,7 +86,9 @@ impl Running {
     }
 
     /// The lines of a display: the cycle, and behind it the table of all registers.
-    pub fn display(&self, alloc: Global, names: &Names) -> Result<Vec<u8>, NoMemory> {
+    pub fn display(&self, alloc: Global, names: &Names) -> Result<Vec<u8>, NoMemory>
+        ensures { IfOk result (λ t. t.items ≡ done_text (Display 0) (world_of names.now self.now)) }
+    {
         let mut text = reply_line(
             alloc,
             &ReplyKind::ShowSettled {
