@@ -4,7 +4,7 @@ use Rattle.std.proofs.lemmas.List.{length-take, length-drop}
 use Rattle.machine.specs.Rows.{between, slice, Covers}
 use Rattle.typed_ir.specs.RunLaws.{seg_more}
 use Rattle.typed_ir.specs.Stmts.{all_applied}
-use Rattle.typed_ir.specs.Cycles.{Flat, all_pending, input, reset, seg, step, truth, width_at, wires}
+use Rattle.typed_ir.specs.Cycles.{Flat, all_pending, initial_at, input, reset, seg, step, truth, width_at, wires}
 use Rattle.cycle_eval.specs.DesignLaws.{paired_values}
 use Rattle.cycle_eval.specs.Kits.{Fits, register_widths, reset_of, run_of}
 use Rattle.cycle_eval.specs.States.{paired, state_values}
@@ -26,7 +26,7 @@ run_values design [] s = refl
 run_values design (row ∷ rows) s = step_values design (seg design no_rows 0 (length rows) (state_values s)) (input design [])
 
 pub reset_values : (design : Flat) → state_values (reset_of design) ≡ truth design no_rows 0
-reset_values design = paired_values (width_at design) _ design.registers
+reset_values design = paired_values (width_at design) (initial_at design) design.registers
 
 -- without rows a run is the same from each cycle on
 seg_at : (design : Flat) (a b n : ℕ) (state : List ℕ) → seg design no_rows a n state ≡ seg design no_rows b n state

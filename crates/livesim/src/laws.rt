@@ -23,7 +23,9 @@ pub fn commands_have_one_output()
         → any_refused ts w ≡ any_refused us w }
     ensures world { (w : World) (ts us : List Told) → AreRight w ts → AreRight w us → commands_of ts ≡ commands_of us
         → world_after ts w ≡ world_after us w }
-{}
+{
+    texts_have_one_answer();
+}
 
 /// Whatever commands came before it, and whatever is told of it, a display of a design shows the registers of a run from reset to its
 /// cycle, and says that they are settled.

@@ -1,8 +1,8 @@
 // The top call: a script's bytes come in, reply bytes go out.
 //
-// `live` reads the input and writes the replies; `script` and `scan` cut it into lines, words and blocks; `take_block` has a
-// block's text read (`text`), parsed and built (`build`, `module`, `design`; `name_texts` has the texts of names); `session` carries
-// commands out and answers with a `reply`. `laws` says that texts and commands have one answer, and that displays tell the truth.
+// `live` reads the input and writes the replies; `script` and `scan` cut it into lines, words and blocks; `session` carries commands out and
+// answers each with a `reply`: `take_block` has a first block planned (`block_edit`, `taken`), and `running` is the design that runs, by `advancing`.
+// `laws` says that texts and commands have one answer, and that displays tell the truth.
 #![tactic(auto)]
 
 mod advancing;
