@@ -1,27 +1,23 @@
 -- What the edit of a block comes to is what its text comes to.
-use Rattle.std.proofs.Common.{◌≡◌, ◌∙◌, ℕ, ◌<◌, ◌≤◌, List, [], ◌∷◌, All, All-nil, All-cons, length, map, take, Option, Some, None, Result, Ok, Err, refl, sym, ap, ap₂, subst}
+use Rattle.std.proofs.Common.{◌≡◌, ◌∙◌, ℕ, List, [], ◌∷◌, map, take, Option, Some, None, Result, refl, ap, subst}
 use Rattle.std.specs.Option.{option_or, unwrap_or}
 use Rattle.ls_text.specs.declared.name_id.NameId.{NameId}
 use Rattle.ls_text.specs.declared.source_file.SourceFile.{SourceFile}
 use Rattle.ls_text.specs.Readings.{TextFault}
-use Rattle.ls_text.specs.Texts.{text_at, Grows, HasEachOnce, IsIdOf}
-use Rattle.ls_text.proofs.Growth.{grows_on, grown_id, grown_text}
+use Rattle.ls_text.specs.Texts.{Grows, HasEachOnce}
+use Rattle.ls_text.proofs.Growth.{grown_id, grown_text}
 use Rattle.command_read.specs.declared.edit.Edit.{Edit}
 use Rattle.command_read.specs.declared.file_line.FileLine.{FileLine}
 use Rattle.version_swap.specs.declared.texts.Texts.{Texts}
-use Rattle.version_swap.specs.Behind.{texts_behind}
 use Rattle.version_swap.specs.Files.{files_behind}
 use Rattle.version_swap.specs.Plans.{DesignOfTexts, Plans}
 use Rattle.livesim.specs.Edits.{IsEditOf}
 use Rattle.livesim.specs.FileNames.{file_names}
 use Rattle.livesim.specs.Readings.{HasText, TextReads}
 use Rattle.livesim.specs.Script.{BlockText}
-use Rattle.livesim.specs.Spelled.{Answer, spelled_answer}
+use Rattle.livesim.specs.Spelled.{spelled_answer}
 
--- a name that was interned, in a table that has grown
-pub named_in : (old new : List (List ℕ)) (text : List ℕ) (id : NameId) → IsIdOf old text id.0 → Grows old new → HasText new id text
-named_in old new text id is grows = (grown_id old new id.0 grows is.within, grown_text old new id.0 grows is.within ∙ is.same)
-
+-- a name stays one in a table that has grown
 still_named : (old new : List (List ℕ)) (text : List ℕ) (id : NameId) → Grows old new → HasText old id text → HasText new id text
 still_named old new text id grows is = (grown_id old new id.0 grows is.0, grown_text old new id.0 grows is.0 ∙ is.1)
 
@@ -40,10 +36,6 @@ module _ (names : List (List ℕ)) (b : BlockText) (e : Edit) (is : IsEditOf nam
 
   the_clock : unwrap_or e.clock t.clock ≡ is.clock
   the_clock = ap (λ (o : Option NameId). unwrap_or o t.clock) is.of_clock
-
-  -- the texts of its files are no longer
-  pub short_given : length b.text ≤ 4194304 → All (λ (g : FileLine). length g.file.text ≤ 4194304) e.files
-  short_given short = subst (All (λ (g : FileLine). length g.file.text ≤ 4194304)) (sym is.of_files) (All-cons _ _ _ short (All-nil _))
 
   -- a plan of it under a table that has grown is one of the block's text
   pub reads_of : (new : List (List ℕ)) → Grows names new → HasEachOnce new → (read : Result DesignOfTexts TextFault)
@@ -75,15 +67,3 @@ module _ (names : List (List ℕ)) (b : BlockText) (e : Edit) (is : IsEditOf nam
   pub first_name : (new : List (List ℕ)) → Grows names new → (files : List SourceFile) → files ≡ first_files → file_names new files ≡ b.file ∷ []
   first_name new grows files first =
       ap (file_names new) (first ∙ the_first) ∙ ap (λ (n : List ℕ). n ∷ []) (still_named names new b.file is.file grows is.file_is).1
-
-  pub first_of_table : (new : List (List ℕ)) → Grows names new → (files : List SourceFile) → files ≡ first_files
-      → All (λ (f : SourceFile). f.name.0 < length new) files
-  first_of_table new grows files first =
-      subst (All (λ (f : SourceFile). f.name.0 < length new)) (sym (first ∙ the_first))
-      (All-cons _ _ _ (still_named names new b.file is.file grows is.file_is).0 (All-nil _))
-
-  pub top_of_table : (o : Option NameId) → o ≡ option_or e.top t.top → (o ≡ Some is.top)
-  top_of_table o same = same ∙ the_top
-
-  pub clock_of_table : (unwrap_or e.clock t.clock).0 < length names
-  clock_of_table = subst (λ (c : NameId). c.0 < length names) (sym the_clock) is.clock_is.0

@@ -6,7 +6,9 @@ use Rattle.typed_ir.specs.Cycles.{Signal, Flat, width_at, initial_at, cut_to, in
 use Rattle.typed_ir.specs.Orders.{at_or}
 use Rattle.version_swap.specs.Plans.{DesignOfTexts}
 use Rattle.wave_report.specs.Tables.{joined, line_text, shown_line, signal_line, signal_lines, table_text}
+use Rattle.wave_report.specs.Replies.{show_text}
 use Rattle.livesim.specs.Replies.{table_lines}
+use Rattle.livesim.specs.Rows.{no_rows}
 use Rattle.livesim.specs.Spelled.{nameless, nameless_flat, spelled}
 
 -- ---- runs
@@ -32,7 +34,7 @@ same_reset : (d : Flat) → reset (nameless_flat d) ≡ reset d
 same_reset d = ap (λ (vs : List ℕ). map (λ (s : ℕ). slice_index vs s) d.registers) (same_initials d.signals)
 
 same_step : (d : Flat) (state inputs : List ℕ) → step (nameless_flat d) state inputs ≡ step d state inputs
-unfolding step, wires
+unfolding step wires
 same_step d state inputs = refl
 
 same_seg : (d : Flat) (rows : ℕ → List ℕ) (a n : ℕ) (state : List ℕ) → seg (nameless_flat d) rows a n state ≡ seg d rows a n state
@@ -74,3 +76,13 @@ pub same_table : (names : List (List ℕ)) (d : DesignOfTexts) (values : List �
     → table_text names d.design values [] ≡ table_lines (spelled names d) d.design.registers values
 unfolding table_text
 same_table names d values = same_lines names d d.design.registers values
+
+-- a display of a design at a cycle, where its registers are the true ones
+pub shown : (names : List (List ℕ)) (d : DesignOfTexts) (cycle : ℕ) (values head table text : List ℕ) → head ≡ show_text cycle 1
+    → table ≡ table_text names d.design values [] → values ≡ truth d.design no_rows cycle → text ≡ head ++ table
+    → text ≡ show_text cycle 1 ++ table_lines (spelled names d) d.design.registers (truth (nameless_flat d.design) no_rows cycle)
+shown names d cycle values head table text head_is table_is true_state is =
+    is
+    ∙ ap₂ (λ (a b : List ℕ). a ++ b) head_is
+    (table_is ∙ same_table names d values
+    ∙ ap (table_lines (spelled names d) d.design.registers) (true_state ∙ sym (same_truth d.design no_rows cycle)))

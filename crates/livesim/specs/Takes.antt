@@ -1,5 +1,5 @@
 -- What a first block comes to.
-use Rattle.std.specs.Prelude.{◌≡◌, ◌≤◌, ⊤, ⊥, ℕ, List, [], length, Some, Ok}
+use Rattle.std.specs.Prelude.{◌≡◌, ◌≤◌, ⊤, ℕ, List, [], length, Some, Ok}
 use Rattle.module_registry.specs.Entries.{Entry}
 use Rattle.version_swap.specs.Behind.{design_of}
 use Rattle.version_swap.specs.Plans.{DesignOfTexts}
