@@ -5,6 +5,7 @@ pub mod Commands
 pub mod Turns
 pub mod Loads
 pub mod Edited
+pub mod Taking
 pub mod Spelled
 pub mod TrueStates
 pub mod Cuts

@@ -85,9 +85,10 @@ pub first_replies : (names new : List (List ℕ)) (o : Option Running) (line : �
 first_replies names new None line b text refused none r = r
 first_replies names new (Some w) line b text refused none r = absurd (true≢false none)
 
-pub first_made : (names : List (List ℕ)) (o : Option Running) (line : ℕ) (b : BlockText) (d : Spelled) (w : World) (text : List ℕ) → is_some o ≡ false
-    → length b.text ≤ 4194304 → TextReads b (Ok d) → w ≡ record { design = Some d; cycle = 0 } → text ≡ accepted_text (Some d)
-    → RepliesTo (Load line (Some b)) (running_world names o) w text false
-first_made names None line b d w text none short reads leads is =
-    judged_reply line b (Ok d) (Ok (record { design = Some d; cycle = 0 })) text false w (λ h. reads) (short_verdict line b (Ok d) short) is leads refl
-first_made names (Some r) line b d w text none short reads leads is = absurd (true≢false none)
+pub first_made : (names : List (List ℕ)) (o : Option Running) (line : ℕ) (b : BlockText) (d : Spelled) (cycle : ℕ) (text : List ℕ) → is_some o ≡ false
+    → length b.text ≤ 4194304 → TextReads b (Ok d) → cycle ≡ 0 → text ≡ accepted_text (Some d)
+    → RepliesTo (Load line (Some b)) (running_world names o) (record { design = Some d; cycle = cycle }) text false
+first_made names None line b d cycle text none short reads zero is =
+    judged_reply line b (Ok d) (Ok (record { design = Some d; cycle = 0 })) text false (record { design = Some d; cycle = cycle }) (λ h. reads)
+    (short_verdict line b (Ok d) short) is (ap (λ (n : ℕ). record { design = Some d; cycle = n }) zero) refl
+first_made names (Some r) line b d cycle text none short reads zero is = absurd (true≢false none)
