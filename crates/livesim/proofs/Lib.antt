@@ -12,4 +12,5 @@ pub mod Cuts
 pub mod Blocks
 pub mod Begins
 pub mod Endings
+pub mod OneAnswer
 pub mod OneOutput

@@ -4,12 +4,13 @@ use Rattle.std.specs.Prelude.{slice_index, ◌==◌}
 use Rattle.std.specs.List.{starts_with}
 use Rattle.typed_ir.specs.Cycles.{Signal, Flat, width_at, initial_at, cut_to, input, reset, seg, step, truth, wires}
 use Rattle.typed_ir.specs.Orders.{at_or}
+use Rattle.version_swap.specs.OnePlan.{nameless}
 use Rattle.version_swap.specs.Plans.{DesignOfTexts}
 use Rattle.wave_report.specs.Tables.{joined, line_text, shown_line, signal_line, signal_lines, table_text}
 use Rattle.wave_report.specs.Replies.{show_text}
 use Rattle.livesim.specs.Replies.{table_lines}
 use Rattle.livesim.specs.Rows.{no_rows}
-use Rattle.livesim.specs.Spelled.{nameless, nameless_flat, spelled}
+use Rattle.livesim.specs.Spelled.{nameless_flat, spelled}
 
 -- ---- runs
 

@@ -1,13 +1,10 @@
 -- A design without a table of names: the paths of its signals are texts.
-use Rattle.std.specs.Prelude.{ℕ, List, [], map, length, Result, Ok, Err}
+use Rattle.std.specs.Prelude.{ℕ, List, map, length, Result, Ok, Err}
 use Rattle.ls_text.specs.Readings.{TextFault}
 use Rattle.typed_ir.specs.Cycles.{Signal, Flat}
+use Rattle.version_swap.specs.OnePlan.{nameless}
 use Rattle.version_swap.specs.Plans.{DesignOfTexts}
 use Rattle.wave_report.specs.Tables.{joined}
-
--- a signal without names
-abbrev pub nameless : Signal → Signal
-nameless x = record { in_module = 0; path = []; lsb = x.lsb; signed = x.signed; width = x.width; initial = x.initial }
 
 pub record Spelled : Type 0 where
   -- its signals have no names
