@@ -9,7 +9,7 @@ use Rattle.livesim.specs.Runs.{Begins, Lived, LeavesToWrite, IsComplete, true_di
 use Rattle.livesim.specs.Commands.{Command, Display, commands}
 use Rattle.livesim.specs.Worlds.{Told, fresh, after, world_after, any_refused, command_verdict, display_verdict}
 use Rattle.livesim.specs.Replies.{answer_text, lines, reply}
-use Rattle.typed_ir.specs.Cycles.{Flat}
+use Rattle.livesim.specs.Spelled.{Spelled}
 use Rattle.livesim.proofs.Begins.{commands_begin}
 use Rattle.livesim.proofs.Turns.{lines-append}
 use Rattle.livesim.specs.declared.ending.Ending.{Ending}
@@ -28,14 +28,14 @@ nothing None = tt
 nothing (Some xs) = refl
 
 -- a display of a design tells its truth
-pub displays_truth : (before : List Told) (line : ℕ) (t : Told) (design : Flat) → t.command ≡ Display line → (world_after before fresh).design ≡ Some design
+pub displays_truth : (before : List Told) (line : ℕ) (t : Told) (design : Spelled) → t.command ≡ Display line → (world_after before fresh).design ≡ Some design
     → reply t (world_after before fresh) ≡ true_display (world_after before fresh).cycle design
 displays_truth before line t design command is =
     ap (λ c. answer_text c (command_verdict c t.answer (world_after before fresh))) command
     ∙ ap (λ d. answer_text (Display line) (display_verdict line (world_after before fresh).cycle d)) is
 
 -- and so do the lines of commands among which it stands
-shown_truth : (told before rest : List Told) (line : ℕ) (t : Told) (design : Flat) → before ++ t ∷ rest ≡ told → t.command ≡ Display line
+shown_truth : (told before rest : List Told) (line : ℕ) (t : Told) (design : Spelled) → before ++ t ∷ rest ≡ told → t.command ≡ Display line
     → (world_after before fresh).design ≡ Some design
     → lines told fresh ≡ lines before fresh ++ (true_display (world_after before fresh).cycle design ++ lines rest (after t (world_after before fresh)))
 shown_truth told before rest line t design at command is =

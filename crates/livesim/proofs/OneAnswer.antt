@@ -1,71 +1,66 @@
 -- A text comes to one answer, whatever table and numbers its names have.
-use Rattle.std.proofs.Common.{◌≡◌, ℕ, ◌<◌, ◌≤◌, List, ◌++◌, map, length, Some, Result, Ok, Err, refl, sym, arith}
-use Rattle.ls_text.specs.Readings.{TextFault, fault_view}
-use Rattle.verilog_lex.specs.declared.token.Token.{Token}
-use Rattle.verilog_lex.specs.Tokens.{Said}
-use Rattle.verilog_lex.specs.Views.{said}
-use Rattle.verilog_expr.specs.Shown.{at_fault}
-use Rattle.grammar_laws.proofs.RenamedText.{same_modules, same_fault, not_both}
+use Rattle.std.proofs.Common.{◌≡◌, ◌∙◌, ℕ, List, [], ◌∷◌, ◌++◌, map, length, Some, Result, Ok, Err, refl, sym, ap, ap₂}
+use Rattle.std.specs.Prelude.{codes}
+use Rattle.ls_text.specs.declared.name_id.NameId.{NameId}
+use Rattle.ls_text.specs.declared.source_file.SourceFile.{SourceFile}
+use Rattle.ls_text.specs.Readings.{TextFault}
+use Rattle.ls_text.specs.Texts.{text_at}
+use Rattle.typed_ir.specs.Cycles.{Signal, Flat}
+use Rattle.version_swap.specs.OnePlan.{nameless, path_text, IsSameDesign, IsSameName, IsSamePlan}
+use Rattle.version_swap.specs.Plans.{DesignOfTexts}
+use Rattle.version_swap.proofs.PlansAreOne.{plans_one}
+use Rattle.wave_report.specs.Tables.{joined}
+use Rattle.livesim.specs.Readings.{HasText, TextReads}
 use Rattle.livesim.specs.Script.{BlockText}
-use Rattle.livesim.specs.Texts.{text_tokens}
-use Rattle.livesim.specs.Designs.{Answer}
-use Rattle.livesim.specs.Readings.{TokensRead, at_grammar, as_modules, TextReads, too_long, at_text, at_tokens}
-use Rattle.livesim.proofs.JointNames.{renumbered, left_keeps, right_keeps, same_tokens}
-use Rattle.livesim.proofs.RenamedFlat.{same_design}
-use Rattle.livesim.proofs.ShownFault.{same_view}
+use Rattle.livesim.specs.Spelled.{Answer, Spelled, nameless_flat, spelled, spelled_answer}
 
--- ---- tokens that say the same
+-- ---- designs
 
-as_fault : (v w : TextFault) → v ≡ w → ◌≡◌ {A = Answer} (Err (Some v)) (Err (Some w))
-as_fault v w same = cc
+-- the path of a signal is that of its plan
+same_path : (names : List (List ℕ)) (x : Signal) (path : List ℕ) → joined names path ≡ path_text names (record x { path = path })
+same_path names x [] = refl
+same_path names x (n ∷ []) = refl
+same_path names x (n ∷ m ∷ ns) = ap (λ (t : List ℕ). text_at names n ++ (codes "." ++ t)) (same_path names x (m ∷ ns))
 
-one_read : (names other : List (List ℕ)) (top clock : List ℕ) (s q : List Token) (x y : Answer) → map (said names) s ≡ map (said other) q
-    → TokensRead names top clock s x → TokensRead other top clock q y → x ≡ y
-one_read names other top clock s q x y same (at_grammar {fault = a} (at_fault {f = f} run shown))
-    (at_grammar {fault = b} (at_fault {f = g} run' shown')) =
-    let joint = names ++ other in
-    let retold = same_tokens joint names other s q same in
-    let one = same_fault (renumbered joint names) (renumbered joint other) s q f g retold run run' in
-    as_fault (fault_view names a) (fault_view other b) (same_view names other s q f g a b same one shown shown')
-one_read names other top clock s q x y same (at_grammar (at_fault {f = f} run shown)) (as_modules {xs = ys} stands) =
-    let joint = names ++ other in
-    let retold = same_tokens joint names other s q same in
-    absurd (not_both (renumbered joint other) (renumbered joint names) other ys q s f (sym retold) stands run)
-one_read names other top clock s q x y same (as_modules {xs = xs} stands) (at_grammar (at_fault {f = f} run shown)) =
-    let joint = names ++ other in
-    let retold = same_tokens joint names other s q same in
-    absurd (not_both (renumbered joint names) (renumbered joint other) names xs s q f retold stands run)
-one_read names other top clock s q x y same (as_modules {xs = xs} stands) (as_modules {xs = ys} stands') =
-    let joint = names ++ other in
-    let retold = same_tokens joint names other s q same in
-    same_design (renumbered joint names) (renumbered joint other) names other joint (left_keeps names other) (right_keeps names other) top clock xs ys
-    (same_modules (renumbered joint names) (renumbered joint other) names other xs ys s q retold stands stands')
+same_paths : (names : List (List ℕ)) (xs : List Signal) → map (λ (x : Signal). joined names x.path) xs ≡ map (path_text names) xs
+same_paths names [] = refl
+same_paths names (x ∷ xs) = ap₂ (λ (p : List ℕ) (ps : List (List ℕ)). p ∷ ps) (same_path names x x.path) (same_paths names xs)
 
--- ---- texts
+one_flat : (d e : Flat) → map nameless d.signals ≡ map nameless e.signals → d.registers ≡ e.registers → d.inputs ≡ e.inputs → d.nodes ≡ e.nodes
+    → d.clocked ≡ e.clocked → nameless_flat d ≡ nameless_flat e
+one_flat d e signals registers inputs nodes clocked = cc
 
-apart : (n : ℕ) → 4194304 < n → n ≤ 4194304 → ⊥
-apart n long short = omega (arith, long, short)
+one_spelled : (x y : Spelled) → x.flat ≡ y.flat → x.paths ≡ y.paths → x.keys ≡ y.keys → x ≡ y
+one_spelled x y flat paths keys = cc
 
-same_error : (r : Result (List Said) TextFault) (f g : TextFault) → r ≡ Err f → r ≡ Err g → f ≡ g
-same_error r f g a b = cc
+one_design : (names others : List (List ℕ)) (d e : DesignOfTexts) → IsSameDesign names others d e → spelled names d ≡ spelled others e
+one_design names others d e h =
+    one_spelled (spelled names d) (spelled others e)
+    (one_flat d.design e.design h.signals h.registers h.inputs h.nodes h.clocked)
+    (same_paths names d.design.signals ∙ h.paths ∙ sym (same_paths others e.design.signals))
+    (ap length h.keys)
 
-same_list : (r : Result (List Said) TextFault) (s q : List Said) → r ≡ Ok s → r ≡ Ok q → s ≡ q
-same_list r s q a b = cc
+-- ---- answers
 
-fault_or_list : (r : Result (List Said) TextFault) (f : TextFault) (s : List Said) → r ≡ Err f → r ≡ Ok s → ⊥
-fault_or_list r f s a b = cc
+one_spelling : (names others : List (List ℕ)) (r s : Result DesignOfTexts TextFault) → IsSamePlan names others r s
+    → spelled_answer names r ≡ spelled_answer others s
+one_spelling names others (Ok d) (Ok e) h = ap Ok (one_design names others d e h)
+one_spelling names others (Ok d) (Err g) h = absurd h
+one_spelling names others (Err f) (Ok e) h = absurd h
+one_spelling names others (Err f) (Err g) h = ap Err h
+
+-- two names of one text
+one_name : (names others : List (List ℕ)) (m n : NameId) (text : List ℕ) → HasText names m text → HasText others n text → IsSameName names others m n
+one_name names others m n text p q = record { here = p.0; there = q.0; text = p.1 ∙ sym q.1 }
+
+abbrev only_file : NameId → List ℕ → List SourceFile
+only_file id text = record { name = id; text = text } ∷ []
 
 pub one_answer : (b : BlockText) (x y : Answer) → TextReads b x → TextReads b y → x ≡ y
-one_answer b x y (too_long long) (too_long long') = refl
-one_answer b x y (too_long long) (at_text short is) = absurd (apart (length b.text) long short)
-one_answer b x y (too_long long) (at_tokens short is read) = absurd (apart (length b.text) long short)
-one_answer b x y (at_text short is) (too_long long) = absurd (apart (length b.text) long short)
-one_answer b x y (at_text {f = f} short is) (at_text {f = g} short' is') = as_fault f g (same_error (text_tokens b.text) f g is is')
-one_answer b x y (at_text {f = f} short is) (at_tokens {names = names} {s = s} short' is' read) =
-    absurd (fault_or_list (text_tokens b.text) f (map (said names) s) is is')
-one_answer b x y (at_tokens short is read) (too_long long) = absurd (apart (length b.text) long short)
-one_answer b x y (at_tokens {names = names} {s = s} short is read) (at_text {f = f} short' is') =
-    absurd (fault_or_list (text_tokens b.text) f (map (said names) s) is' is)
-one_answer b x y (at_tokens {names = names} {s = s} short is read) (at_tokens {names = other} {s = q} short' is' read') =
-    one_read names other b.top b.clock s q x y
-    (same_list (text_tokens b.text) (map (said names) s) (map (said other) q) is is') read read'
+one_answer b x y p q =
+    p.same
+    ∙ one_spelling p.names q.names p.read q.read
+    (plans_one p.names q.names p.once q.once (only_file p.file b.text) (only_file q.file b.text) refl (Some p.top) (Some q.top) p.clock q.clock
+    (one_name p.names q.names p.top q.top b.top p.top_is q.top_is) (one_name p.names q.names p.clock q.clock b.clock p.clock_is q.clock_is)
+    p.read q.read p.plans q.plans)
+    ∙ sym q.same

@@ -10,7 +10,7 @@ use Rattle.livesim.specs.Script.{script_line}
 use Rattle.livesim.specs.Commands.{Command, command_at, commands_after, commands_from}
 use Rattle.livesim.specs.declared.script_line.ScriptLine.{ScriptLine}
 use Rattle.livesim.specs.Endings.{Carries}
-use Rattle.livesim.specs.Worlds.{World, Told, plain, fresh, after, commands_of, verdict, any_refused, world_after, IsRight, AreRight}
+use Rattle.livesim.specs.Worlds.{World, Told, no_answer, plain, fresh, after, commands_of, verdict, any_refused, world_after, IsRight, AreRight}
 use Rattle.livesim.specs.Replies.{reply, lines, Replies, RepliesTo, RepliesAll}
 use Rattle.livesim.specs.Runs.{LeavesToWrite, WritesFront}
 
@@ -149,4 +149,4 @@ one_told c old new text refused r =
 
 -- one that has no text
 pub plain_told : (c : Command) (old new : World) (text : List ℕ) (refused : Bool) → IsRight old (plain c) → Replies (plain c) old new text refused → RepliesAll (c ∷ []) old new text refused
-plain_told c old new text refused right r = one_told c old new text refused (record { answer = Err None; right = right; replies = r })
+plain_told c old new text refused right r = one_told c old new text refused (record { answer = no_answer; right = right; replies = r })

@@ -1,27 +1,27 @@
--- What the text of a block comes to. The grammar is a relation, so this is one too.
-use Rattle.std.specs.Prelude.{◌≡◌, ◌<◌, ◌≤◌, ℕ, List, map, length, Some, None, Ok, Err}
-use Rattle.ls_text.specs.declared.fault.Fault.{Fault}
-use Rattle.ls_text.specs.declared.refusal.Refusal.TheVariants as refusal
-use Rattle.ls_text.specs.Readings.{TextFault, fault_view}
-use Rattle.verilog_lex.specs.declared.token.Token.{Token}
-use Rattle.verilog_lex.specs.Views.{said}
-use Rattle.verilog_ast.specs.declared.module.Module.{Module}
-use Rattle.verilog_expr.specs.Shown.{Refuses}
-use Rattle.verilog_parse.specs.Files.{Stands, file}
-use Rattle.livesim.specs.Designs.{Answer, design_of}
+-- What the text of a block comes to, whatever the table of names is. The grammar is a relation, so this is one too.
+use Rattle.std.specs.Prelude.{◌≡◌, ◌<◌, ℕ, List, [], ◌∷◌, length, Some, Result}
+use Rattle.ls_text.specs.declared.name_id.NameId.{NameId}
+use Rattle.ls_text.specs.Readings.{TextFault}
+use Rattle.ls_text.specs.Texts.{text_at, HasEachOnce}
+use Rattle.version_swap.specs.Plans.{DesignOfTexts, Plans}
 use Rattle.livesim.specs.Script.{BlockText}
-use Rattle.livesim.specs.Texts.{text_tokens}
+use Rattle.livesim.specs.Spelled.{Answer, spelled_answer}
 
--- what tokens come to, where the top and the clock have these names: the fault of the grammar, or what the modules make
-pub data TokensRead (names : List (List ℕ)) (top clock : List ℕ) (s : List Token) : Answer → Type 0 where
-  -- 15, 16, 38
-  at_grammar : {fault : Fault} → Refuses file s (refusal.Fault fault) → TokensRead names top clock s (Err (Some (fault_view names fault)))
-  as_modules : {xs : List Module} → Stands names xs s → TokensRead names top clock s (design_of names top clock xs)
+-- the number is that of a name with this text
+abbrev pub HasText : List (List ℕ) → NameId → List ℕ → Type 0
+HasText names id text = (id.0 < length names) × (text_at names id.0 ≡ text)
 
--- what the text of a block comes to
-pub data TextReads (b : BlockText) : Answer → Type 0 where
-  too_long : 4194304 < length b.text → TextReads b (Err None)
-  -- 10, 12, 13, 14
-  at_text : {f : TextFault} → length b.text ≤ 4194304 → text_tokens b.text ≡ Err f → TextReads b (Err (Some f))
-  at_tokens : {names : List (List ℕ)} {s : List Token} {a : Answer} → length b.text ≤ 4194304 → text_tokens b.text ≡ Ok (map (said names) s)
-      → TokensRead names b.top b.clock s a → TextReads b a
+pub record TextReads (b : BlockText) (answer : Answer) : Type 0 where
+  -- a table in which each text stands once, and the block's names in it
+  pub names : List (List ℕ)
+  pub once : HasEachOnce names
+  pub file : NameId
+  pub top : NameId
+  pub clock : NameId
+  pub file_is : HasText names file b.file
+  pub top_is : HasText names top b.top
+  pub clock_is : HasText names clock b.clock
+  -- what the one file comes to
+  pub read : Result DesignOfTexts TextFault
+  pub plans : Plans names (record { name = file; text = b.text } ∷ []) (Some top) clock read
+  pub same : answer ≡ spelled_answer names read

@@ -1,39 +1,38 @@
 -- The lines that answer commands.
-use Rattle.std.specs.Prelude.{◌≡◌, ℕ, ◌+◌, ◌-◌, ◌/◌, Bool, ◌==◌, if◌then◌else◌, List, [], ◌∷◌, ◌++◌, map, length, drop, slice_index_or, codes, decimal, Option, Some, None, Result, Ok, Err, is_err}
-use Rattle.std.specs.Int.{w128, to_be_bytes}
+use Rattle.std.specs.Prelude.{◌≡◌, ℕ, Bool, ◌==◌, if◌then◌else◌, List, [], ◌∷◌, ◌++◌, length, codes, decimal, Option, Some, None, Result, Ok, Err, is_err}
 use Rattle.std.specs.List.{flat_map}
-use Rattle.hex.specs.Hex.{encode_lower}
 use Rattle.ls_text.specs.Faults.{code_name, line_text}
-use Rattle.typed_ir.specs.Cycles.{Flat, Signal, width_at, truth}
-use Rattle.livesim.specs.Designs.{Answer, no_rows}
+use Rattle.typed_ir.specs.Cycles.{width_at, truth}
+use Rattle.typed_ir.specs.Orders.{at_or}
+use Rattle.wave_report.specs.Replies.{edit_text, run_text, show_text}
+use Rattle.wave_report.specs.Tables.{line_text as register_line}
 use Rattle.livesim.specs.Commands.{Command, Load, Advance, Display, Unbuilt}
+use Rattle.livesim.specs.Rows.{no_rows}
+use Rattle.livesim.specs.Spelled.{Answer, Spelled}
 use Rattle.livesim.specs.Worlds.{World, Told, Where, InText, OnLine, Refused, commands_of, verdict, after, any_refused, world_after, IsRight, AreRight}
 
--- a value, with a hexadecimal digit for each four bits of its width
-abbrev pub hex_text : ℕ → ℕ → List ℕ
-hex_text width value = drop (32 - (width + 3) / 4) (encode_lower (to_be_bytes w128 value))
-
-abbrev pub path_at : Flat → ℕ → List ℕ
-path_at design signal = slice_index_or (map (λ (s : Signal). s.path) design.signals) signal []
-
 -- a line for each of these registers, with its value
-abbrev pub table_lines : Flat → List ℕ → List ℕ → List ℕ
+abbrev pub table_lines : Spelled → List ℕ → List ℕ → List ℕ
 table_lines design [] values = []
 table_lines design (r ∷ rs) [] = []
 table_lines design (r ∷ rs) (x ∷ xs) =
-    path_at design r ++ codes " " ++ hex_text (width_at design r) x ++ (10 ∷ table_lines design rs xs)
+    at_or (λ (path : List ℕ). register_line path (width_at design.flat r) x) [] design.paths r ++ table_lines design rs xs
 
 -- the registers of a design at a cycle: the true ones, those of a run from reset
-abbrev pub table_text : ℕ → Option Flat → List ℕ
+abbrev pub table_text : ℕ → Option Spelled → List ℕ
 table_text cycle None = []
-table_text cycle (Some design) = table_lines design design.registers (truth design no_rows cycle)
+table_text cycle (Some design) = table_lines design design.flat.registers (truth design.flat no_rows cycle)
+
+-- version 1 is accepted: all of its units are new, and it begins at cycle 0
+abbrev pub accepted_text : Option Spelled → List ℕ
+accepted_text None = []
+accepted_text (Some design) = edit_text 1 design.keys 0 0
 
 -- the lines of a command that is accepted, where it leads to this world
 abbrev pub done_text : Command → World → List ℕ
-done_text (Load line block) w = codes "ok edit v=1 built=1 kept=0 from=0" ++ (10 ∷ [])
-done_text (Advance line cycles) w = codes "ok run cycle=" ++ decimal w.cycle ++ (10 ∷ [])
-done_text (Display line) w =
-    codes "show cycle=" ++ decimal w.cycle ++ codes " settled v=1" ++ (10 ∷ []) ++ table_text w.cycle w.design
+done_text (Load line block) w = accepted_text w.design
+done_text (Advance line cycles) w = run_text w.cycle
+done_text (Display line) w = show_text w.cycle 1 ++ table_text w.cycle w.design
 done_text (Unbuilt line) w = []
 
 abbrev pub where_text : Where → List ℕ

@@ -1,8 +1,10 @@
 -- A whole run: what it took, what it wrote, and its status.
-use Rattle.std.specs.Prelude.{◌≡◌, ◌≢◌, ◌⊎◌, ◌<◌, ℕ, Bool, true, false, List, [], ◌∷◌, length, ◌++◌, codes, decimal, ⊤, Option, Some, None, if◌then◌else◌}
+use Rattle.std.specs.Prelude.{◌≡◌, ◌≢◌, ◌⊎◌, ◌<◌, ℕ, Bool, true, false, List, [], ◌∷◌, length, ◌++◌, ⊤, Option, Some, None, if◌then◌else◌}
 use Rattle.std.specs.Io.KnownBytes.{Consumes, Appends, IsAtEnd}
-use Rattle.typed_ir.specs.Cycles.{Flat, truth}
-use Rattle.livesim.specs.Designs.{no_rows}
+use Rattle.typed_ir.specs.Cycles.{truth}
+use Rattle.wave_report.specs.Replies.{show_text}
+use Rattle.livesim.specs.Rows.{no_rows}
+use Rattle.livesim.specs.Spelled.{Spelled}
 use Rattle.livesim.specs.Commands.{Command, Display, commands}
 use Rattle.livesim.specs.Worlds.{Told, fresh, commands_of, after, world_after, any_refused, AreRight}
 use Rattle.livesim.specs.Replies.{lines, table_lines}
@@ -22,10 +24,8 @@ abbrev pub WritesFront : Option (List ℕ) → Option (List ℕ) → List ℕ �
 WritesFront old new all = (rest : List ℕ) × LeavesToWrite old new rest all
 
 -- the lines that tell the truth of a design at a cycle: the registers of a run from reset, and that they are settled
-abbrev pub true_display : ℕ → Flat → List ℕ
-true_display cycle design =
-    codes "show cycle=" ++ decimal cycle ++ codes " settled v=1" ++ (10 ∷ [])
-    ++ table_lines design design.registers (truth design no_rows cycle)
+abbrev pub true_display : ℕ → Spelled → List ℕ
+true_display cycle design = show_text cycle 1 ++ table_lines design design.flat.registers (truth design.flat no_rows cycle)
 
 -- These bytes were taken, and the input ended with them or not. The lines of their commands were written, but at
 -- 4 and 5 perhaps only a front of these.
@@ -50,7 +50,7 @@ pub record Lived (left_old left_new written_old written_new : Option (List ℕ))
   pub written : status ≢ 4 → status ≢ 5 → Appends written_old written_new (lines told fresh)
   pub front : WritesFront written_old written_new (lines told fresh)
   -- where a display of a design stands among the commands, the lines tell its truth
-  pub settled : (before rest : List Told) (line : ℕ) (t : Told) (design : Flat) → before ++ t ∷ rest ≡ told → t.command ≡ Display line
+  pub settled : (before rest : List Told) (line : ℕ) (t : Told) (design : Spelled) → before ++ t ∷ rest ≡ told → t.command ≡ Display line
       → (world_after before fresh).design ≡ Some design
       → lines told fresh ≡ lines before fresh ++ (true_display (world_after before fresh).cycle design ++ lines rest (after t (world_after before fresh)))
   -- 6 comes exactly where too much was taken, but where the sink failed or memory ran out

@@ -1,24 +1,18 @@
 // The top call: a script's bytes come in, reply bytes go out.
 //
-// `live` reads the input and writes the replies; `script` and `scan` cut it into lines, words and blocks; `take_block` has a
-// block's text read (`text`), parsed and built (`build`, `module`, `design`; `name_texts` has the texts of names); `session` carries
-// commands out and answers with a `reply`. `laws` says that texts and commands have one answer, and that displays tell the truth.
+// `live` reads the input and writes the replies; `script` and `scan` cut it into lines, words and blocks; `session` carries commands out and
+// answers each with a `reply`: `take_block` has a first block planned (`block_edit`, `taken`), and `running` is the design that runs, by `advancing`.
+// `laws` says that texts and commands have one answer, and that displays tell the truth.
 #![tactic(auto)]
 
-mod assignment;
+mod advancing;
 mod block;
+mod block_edit;
 mod block_head;
-mod build;
-mod built;
-mod design;
 mod ending;
 mod laws;
 mod live;
-mod module;
-mod name_texts;
-mod one_register;
 mod outcome;
-mod register_item;
 mod reply;
 mod running;
 mod scan;
@@ -27,9 +21,6 @@ mod script_line;
 mod session;
 mod take_block;
 mod taken;
-mod term;
-mod terms;
-mod text;
 mod turn;
 
 pub use laws::{commands_have_one_output, displays_tell_the_truth, texts_have_one_answer};

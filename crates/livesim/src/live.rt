@@ -3,13 +3,13 @@ ghost use Rattle.std.specs.Prelude.{◌≡◌, ◌≢◌, ◌⊎◌, ◌↔◌, 
 ghost use Rattle.std.specs.List.{suffix_len};
 ghost use Rattle.std.specs.Io.KnownBytes.{Consumes, Appends, IsAtEnd, Keeps};
 ghost use Rattle.ls_port.specs.Causes.{Rose};
-ghost use Rattle.livesim.specs.Commands.{Load, commands_after, commands_from, command_at, counted_bytes, line_commands};
+ghost use Rattle.livesim.specs.Commands.{Load, Advance, commands_after, commands_from, command_at, counted_bytes, line_commands};
 ghost use Rattle.livesim.specs.Endings.{Carries, Finishes, has_ended};
-ghost use Rattle.livesim.specs.Replies.{RepliesTo, RepliesAll, refusal_text};
+ghost use Rattle.livesim.specs.Replies.{Replies, RepliesTo, RepliesAll, refusal_text};
 ghost use Rattle.livesim.specs.Runs.{IsComplete, Lived, WritesFront};
 ghost use Rattle.livesim.specs.Script.{HasSmallRun, block_at, script_lines};
 ghost use Rattle.livesim.specs.Sessions.{world};
-ghost use Rattle.livesim.specs.Worlds.{not_built};
+ghost use Rattle.livesim.specs.Worlds.{not_built, plain};
 ghost use Rattle.livesim.specs.declared.script_line.ScriptLine.TheVariants.{Edit};
 
 use crate::ending::Ending;
@@ -21,7 +21,10 @@ use crate::session::Session;
 use crate::turn::Turn;
 use ls_port::{Sink, SinkRefusal, Source};
 use ls_text::NoMemory;
+use machine::steps::Steps;
 use std::alloc::Global;
+use std::marker::Brand;
+use std::sync::ledger::{Blank, Ledger};
 use std::thread::Threads;
 
 /// The most bytes that a script has.
@@ -119,13 +122,19 @@ fn front(limit: usize, bytes: &[u8]) -> &[u8]
 }
 
 // The reply to a block whose `edit` has that line.
-fn edit(alloc: Global, session: &mut Session, line: u64, bytes: &[u8]) -> Result<Reply, NoMemory>
+fn edit<R: Threads + Sync>(
+    rt: &R,
+    alloc: Global,
+    session: &mut Session,
+    line: u64,
+    bytes: &[u8],
+) -> Result<Reply, NoMemory>
     requires { line + length bytes.now + 3 < 2 ^ 64 }
     ensures { IfOk result (λ r. RepliesTo (Load line (block_at (line + 1) (script_lines bytes.now)))
         (world session.old) (world session.new) r.text.items r.refused) }
 {
     match read_block(alloc, line + 1, bytes)? {
-        Some(block) => session.edit(alloc, line, block),
+        Some(block) => session.edit(rt, alloc, line, block),
         None => not_built(alloc, line),
     }
 }
@@ -144,7 +153,8 @@ fn open_block(alloc: Global, ended: bool, line: u64) -> Result<Reply, NoMemory>
 
 // Carries out the block whose `edit` has that line.
 #[tactic(auto, using(crate::proofs::Turns::one_told, crate::proofs::Loads::open_told))]
-fn block_turn<'a>(
+fn block_turn<'a, R: Threads + Sync>(
+    rt: &R,
     alloc: Global,
     ended: bool,
     session: &mut Session,
@@ -161,7 +171,7 @@ fn block_turn<'a>(
 {
     match block_end(after) {
         Some((lines, rest)) => Ok(Turn {
-            reply: edit(alloc, session, line, after)?,
+            reply: edit(rt, alloc, session, line, after)?,
             number: line + 1 + lines,
             rest,
         }),
@@ -173,9 +183,41 @@ fn block_turn<'a>(
     }
 }
 
+// The reply to a run, whose steps a counter of this blank counts.
+fn counted_run<L: Ledger>(
+    alloc: Global,
+    session: &mut Session,
+    line: u64,
+    cycles: u64,
+    blank: Blank,
+) -> Result<Reply, NoMemory>
+    requires few { cycles ≤ 2 ^ 40 }
+    requires name { blank.name ≡ L.name }
+    requires parts { blank.parts ≡ L.parts }
+    requires some { 0 < blank.parts }
+    ensures { IfOk result (λ r. Replies (plain (Advance line cycles)) (world session.old) (world session.new) r.text.items r.refused) }
+{
+    let mut steps = Steps::<L>::start(blank);
+    session.run(alloc, line, cycles, &mut steps)
+}
+
+// The same with a counter of its own, which nobody reads.
+fn run(
+    alloc: Global,
+    session: &mut Session,
+    line: u64,
+    cycles: u64,
+) -> Result<Reply, NoMemory>
+    requires { cycles ≤ 2 ^ 40 }
+    ensures { IfOk result (λ r. Replies (plain (Advance line cycles)) (world session.old) (world session.new) r.text.items r.refused) }
+{
+    counted_run::<Brand>(alloc, session, line, cycles, Blank::new(1))
+}
+
 // Carries out a line, which is followed by the rest.
 #[tactic(auto, using(crate::proofs::Turns::none_told, crate::proofs::Turns::plain_told))]
-fn line_turn<'a>(
+fn line_turn<'a, R: Threads + Sync>(
+    rt: &R,
     alloc: Global,
     ended: bool,
     session: &mut Session,
@@ -193,9 +235,9 @@ fn line_turn<'a>(
     ensures no_longer { IfOk result (λ t. length t.rest.now ≤ length after.now) }
 {
     let reply = match form {
-        ScriptLine::Edit => return block_turn(alloc, ended, session, line, after),
+        ScriptLine::Edit => return block_turn(rt, alloc, ended, session, line, after),
         ScriptLine::Skipped => Reply::empty(alloc),
-        ScriptLine::Run(cycles) => session.run(alloc, line, cycles)?,
+        ScriptLine::Run(cycles) => run(alloc, session, line, cycles)?,
         ScriptLine::Show => session.show(alloc, line)?,
         ScriptLine::Other => not_built(alloc, line)?,
     };
@@ -208,7 +250,8 @@ fn line_turn<'a>(
 
 // Carries out the commands, and writes their replies: whether one was refused.
 #[tactic(auto, using(crate::proofs::Turns::none_done, crate::proofs::Turns::cut_carries, crate::proofs::Turns::whole_carries))]
-fn carry_out<K: Sink>(
+fn carry_out<R: Threads + Sync, K: Sink>(
+    rt: &R,
     alloc: Global,
     ended: bool,
     bytes: &[u8],
@@ -221,13 +264,13 @@ fn carry_out<K: Sink>(
     ensures failed { IsErrOf result SinkRefusal.Failed → Rose (K.faults sink.old) (K.faults sink.new) }
     ensures kept { OnOk result (K.faults sink.new ≡ K.faults sink.old) }
 {
-    let mut session = Session::new();
+    let mut session = Session::new(alloc);
     let mut rest = bytes;
     let mut number = 1u64;
     let mut refused = false;
     while let Some((line, after)) = next_line(rest) {
         let form = read_line(line);
-        let Ok(turn) = line_turn(alloc, ended, &mut session, number, form, after) else {
+        let Ok(turn) = line_turn(rt, alloc, ended, &mut session, number, form, after) else {
             return Err(SinkRefusal::NoMemory);
         };
         write_all(sink, &turn.reply.text)?;
@@ -249,7 +292,13 @@ fn has_ended(ending: Ending) -> bool
 }
 
 // Carries out what was read, and answers the status.
-fn finish<K: Sink>(alloc: Global, ending: Ending, bytes: &[u8], sink: &mut K) -> u8
+fn finish<R: Threads + Sync, K: Sink>(
+    rt: &R,
+    alloc: Global,
+    ending: Ending,
+    bytes: &[u8],
+    sink: &mut K,
+) -> u8
     ensures finishes { Finishes ending (K.written sink.old) (K.written sink.new) bytes.now result }
     ensures write_fault { result ≡ 4 → Rose (K.faults sink.old) (K.faults sink.new) }
     ensures once { (K.faults sink.new ≡ K.faults sink.old) ⊎ Rose (K.faults sink.old) (K.faults sink.new) }
@@ -258,7 +307,7 @@ fn finish<K: Sink>(alloc: Global, ending: Ending, bytes: &[u8], sink: &mut K) ->
     ensures words { result ≢ 2 }
 {
     let ended = has_ended(ending);
-    match carry_out(alloc, ended, counted(ended, front(MAX_INPUT, bytes)), sink) {
+    match carry_out(rt, alloc, ended, counted(ended, front(MAX_INPUT, bytes)), sink) {
         Err(SinkRefusal::Failed) => 4,
         Err(SinkRefusal::NoMemory) => 5,
         Ok(refused) => match ending {
@@ -274,7 +323,7 @@ fn finish<K: Sink>(alloc: Global, ending: Ending, bytes: &[u8], sink: &mut K) ->
 /// The words are those of the command line; the one word that is taken is the program's name. It reads up to the end of
 /// the input, a fault or one byte above 67,108,864 bytes, and then carries out the commands that it has.
 pub fn live_run<R: Threads + Sync, S: Source, K: Sink>(
-    _rt: &R,
+    rt: &R,
     alloc: Global,
     words: &[String],
     source: &mut S,
@@ -321,6 +370,6 @@ pub fn live_run<R: Threads + Sync, S: Source, K: Sink>(
         };
     };
     let taken = bytes.len() as u64;
-    let status = finish(alloc, ending, &bytes, sink);
+    let status = finish(rt, alloc, ending, &bytes, sink);
     Outcome { status, taken }
 }

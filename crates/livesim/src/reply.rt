@@ -62,6 +62,24 @@ pub fn no_design(alloc: Global, line: u64) -> Result<Reply, NoMemory>
     refused_line(alloc, 62, line)
 }
 
+/// The refusal of a text above 4,194,304 bytes, of the file that this line of the block names.
+pub fn too_long(alloc: Global, line: u64, file: &[u8]) -> Result<Reply, NoMemory>
+    ensures text { IfOk result (λ r. r.text.items ≡ refusal_text (record { code = 10; place = OnLine line; names = file.now ∷ [] })) }
+    ensures refused { IfOk result (λ r. r.refused ≡ true) }
+{
+    let mut names = Names::new(alloc);
+    let name = names.intern(file)?;
+    let fault = Fault {
+        code: 10,
+        at: At::Line(line),
+        names: NameList::new(vec![in alloc; name]?),
+    };
+    Ok(Reply {
+        text: fault_line(alloc, &names, &[], 0, &fault)?,
+        refused: true,
+    })
+}
+
 /// The refusal of a fault in these files of a block, whose `edit` has that line.
 pub fn refused_text(
     alloc: Global,

@@ -1,61 +1,73 @@
-// A session: a design, once there is one, and what commands do to it.
-ghost use Rattle.std.specs.Prelude.{◌≡◌, ◌+◌, ◌<◌, ◌≤◌, ◌^◌, ◌++◌, Some, None, IfOk, OnOk};
-ghost use Rattle.typed_ir.specs.Cycles.{truth};
-ghost use Rattle.livesim.specs.Blocks.{block};
-ghost use Rattle.livesim.specs.Commands.{Load, Advance, Display};
-ghost use Rattle.livesim.specs.Designs.{no_rows};
-ghost use Rattle.livesim.specs.Flats.{flat};
-ghost use Rattle.livesim.specs.Replies.{hex_text, table_text, done_text};
+// A session, and what commands do to it.
+ghost use Rattle.std.specs.Prelude.{◌≡◌, [], false, is_some};
+ghost use Rattle.module_registry.specs.Views.{entries_of};
+ghost use Rattle.unit_laws.specs.Held.{AreHeldUnder};
 
 use crate::block::Block;
 use crate::reply::{Reply, no_design, not_built};
 use crate::running::Running;
 use crate::take_block::take_block;
 use crate::taken::Taken;
-use bits::Bits;
-use hex::encode_to_slice;
-use ls_text::{NoMemory, push_decimal};
+use ls_text::{Names, NoMemory};
+use machine::steps::Steps;
+use module_registry::Registry;
 use std::alloc::Global;
+use std::sync::ledger::Ledger;
+use std::thread::Threads;
+use unit_forge::RayonForge;
 
-/// The last cycle.
-const MAX_CYCLE: u64 = 1 << 40;
-
-/// A session: the design that runs, where there is one.
+/// A session: its table of names, the units that it has, what makes these, and the design that runs, where there is one.
+///
+/// The table only grows. The units are those of their keys under it, and before the first design there are none.
 #[derive(Drop)]
 pub struct Session {
+    names: Names,
+    registry: Registry,
+    forge: RayonForge,
     running: Option<Running>,
+    ghost held: { AreHeldUnder names (entries_of registry) },
+    ghost none_before: { is_some running ≡ false → entries_of registry ≡ [] },
 }
 
 impl Session {
+    ghost use Rattle.std.specs.Prelude.{◌+◌, ◌*◌, ◌≤◌, ◌^◌, Some, IfOk};
+    ghost use Rattle.livesim.specs.Blocks.{block};
+    ghost use Rattle.livesim.specs.Commands.{Load, Advance, Display};
     ghost use Rattle.livesim.specs.Replies.{Replies, RepliesTo};
-    ghost use Rattle.livesim.specs.Sessions.{world, evaluations};
+    ghost use Rattle.livesim.specs.Sessions.{world, work};
     ghost use Rattle.livesim.specs.Worlds.{fresh, plain};
 
-    /// A session without a design.
-    pub fn new() -> Self
+    /// A session without a design. It takes no memory.
+    pub fn new(alloc: Global) -> Self
         ensures { world result ≡ fresh }
     {
-        Session { running: None }
+        Session {
+            names: Names::new(alloc),
+            registry: Registry::new(alloc),
+            forge: RayonForge::new(alloc),
+            running: None,
+        }
     }
 
-    /// Takes a block of the form, whose `edit` has that line.
-    pub fn edit(&mut self, alloc: Global, line: u64, given: Block<'_>) -> Result<Reply, NoMemory>
+    /// Takes a block of the form, whose `edit` has that line: the design of its text, or its first fault.
+    pub fn edit<R: Threads + Sync>(
+        &mut self,
+        rt: &R,
+        alloc: Global,
+        line: u64,
+        given: Block<'_>,
+    ) -> Result<Reply, NoMemory>
         ensures { IfOk result (λ r. RepliesTo (Load line (Some (block given.entry)))
             (world self.old) (world self.new) r.text.items r.refused) }
     {
         if self.running.is_some() {
             return not_built(alloc, line);
         }
-        match take_block(alloc, line, given)? {
+        let names = &mut self.names;
+        match take_block(rt, alloc, names, &mut self.registry, &mut self.forge, line, given)? {
             Taken::Refused(reply) => Ok(reply),
-            Taken::Made(design) => {
-                let text = Vec::from_slice(alloc, b"ok edit v=1 built=1 kept=0 from=0\n")?;
-                self.running = Some(Running {
-                    state: design.initial,
-                    cycle: 0,
-                    evaluations: 0,
-                    design,
-                });
+            Taken::Begun { running, text } => {
+                self.running = Some(running);
                 Ok(Reply {
                     text,
                     refused: false,
@@ -64,14 +76,20 @@ impl Session {
         }
     }
 
-    /// Simulates so many cycles, with at most as many evaluations of the block.
-    pub fn run(&mut self, alloc: Global, line: u64, cycles: u64) -> Result<Reply, NoMemory>
+    /// Simulates so many cycles, and counts no more than these.
+    pub fn run<L: Ledger>(
+        &mut self,
+        alloc: Global,
+        line: u64,
+        cycles: u64,
+        steps: &mut Steps<L>,
+    ) -> Result<Reply, NoMemory>
         requires { cycles ≤ 2 ^ 40 }
         ensures replies { IfOk result (λ r. Replies (plain (Advance line cycles)) (world self.old) (world self.new) r.text.items r.refused) }
-        ensures counted { evaluations self.new ≤ evaluations self.old + cycles }
+        ensures counted { steps.new ≤ steps.old + cycles * work self.old }
     {
         match &mut self.running {
-            Some(running) => running.run(alloc, line, cycles),
+            Some(running) => running.run(alloc, line, cycles, steps),
             None => no_design(alloc, line),
         }
     }
@@ -82,76 +100,10 @@ impl Session {
     {
         match &self.running {
             Some(running) => Ok(Reply {
-                text: display(alloc, running)?,
+                text: running.display(alloc, &self.names)?,
                 refused: false,
             }),
             None => no_design(alloc, line),
         }
     }
-}
-
-impl Running {
-    ghost use Rattle.livesim.specs.Replies.{Replies};
-    ghost use Rattle.livesim.specs.Sessions.{running_world};
-    ghost use Rattle.livesim.specs.Worlds.{plain};
-
-    // Simulates so many cycles, with as many evaluations of the block.
-    fn run(&mut self, alloc: Global, line: u64, cycles: u64) -> Result<Reply, NoMemory>
-        requires { cycles ≤ 2 ^ 40 }
-        ensures replies { IfOk result (λ r. Replies (plain (Advance line cycles))
-            (running_world (Some self.old)) (running_world (Some self.new)) r.text.items r.refused) }
-        ensures counted { self.new.evaluations ≤ self.old.evaluations + cycles }
-    {
-        let cycle = self.cycle + cycles;
-        if cycle > MAX_CYCLE {
-            return not_built(alloc, line);
-        }
-        let mut text = Vec::from_slice(alloc, b"ok run cycle=")?;
-        push_decimal(&mut text, cycle)?;
-        text.push(b'\n')?;
-        let mut evaluations = self.evaluations;
-        self.state = self
-            .design
-            .advance(self.state, self.cycle, cycles, &mut evaluations);
-        self.cycle = cycle;
-        self.evaluations = evaluations;
-        Ok(Reply {
-            text,
-            refused: false,
-        })
-    }
-}
-
-// The lines of a display.
-fn display(alloc: Global, running: &Running) -> Result<Vec<u8>, NoMemory>
-    ensures { IfOk result (λ t. t.items ≡ done_text (Display 0) (record { design = Some (flat running.now.design); cycle = running.now.cycle })) }
-{
-    let mut text = Vec::from_slice(alloc, b"show cycle=")?;
-    push_decimal(&mut text, running.cycle)?;
-    text.extend_from_slice(b" settled v=1\n")?;
-    push_table(&mut text, running)?;
-    Ok(text)
-}
-
-// Adds the register with its value, which is that of a run from reset.
-fn push_table(text: &mut Vec<u8>, running: &Running) -> Result<(), NoMemory>
-    ensures { OnOk result (text.new.items ≡ text.old.items
-        ++ table_text running.now.cycle (Some (flat running.now.design))) }
-{
-    text.extend_from_slice(&running.design.path)?;
-    text.push(b' ')?;
-    push_hex(text, running.state)?;
-    text.push(b'\n')?;
-    Ok(())
-}
-
-// Adds a value in hexadecimal, with a digit for each four bits.
-fn push_hex(text: &mut Vec<u8>, bits: Bits) -> Result<(), NoMemory>
-    ensures { OnOk result (text.new.items ≡ text.old.items ++ hex_text bits.width bits.value) }
-{
-    let mut digits = [0u8; 32];
-    let _ = encode_to_slice(bits.value.to_be_bytes().as_slice(), &mut digits);
-    let count = (usize::from(bits.width) + 3) / 4;
-    text.extend_from_slice(&digits[32 - count..])?;
-    Ok(())
 }

@@ -1,10 +1,10 @@
 // What becomes of a first block.
-use crate::one_register::Design;
 use crate::reply::Reply;
+use crate::running::Running;
 
-/// A design, or the reply that refuses the block.
+/// The design that it makes with the line that accepts it, or the reply that refuses it.
 #[derive(Drop)]
 pub enum Taken {
-    Made(Design),
+    Begun { running: Running, text: Vec<u8> },
     Refused(Reply),
 }

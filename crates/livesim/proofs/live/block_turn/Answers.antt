@@ -10,18 +10,18 @@ use Rattle.livesim.proofs.Commands.{commands_after_block, commands_after_cut}
 use Rattle.livesim.proofs.live.block_turn.Goals as goal
 
 pub returns-in_ok-edit-in-Some-clause-rest : goal.returns-in_ok-edit-in-Some-clause-rest
-returns-in_ok-edit-in-Some-clause-rest c =
+returns-in_ok-edit-in-Some-clause-rest g c =
     commands_after_block c.args.ended c.args.line (script_lines c.args.after.now) c.in-Some.lines (script_lines c.in-Some.rest.now) c.in-Some.ensures.block
 
 pub returns-in_ok-open_block-in-None-clause-rest : goal.returns-in_ok-open_block-in-None-clause-rest
-returns-in_ok-open_block-in-None-clause-rest c =
+returns-in_ok-open_block-in-None-clause-rest g c =
     let after = c.args.after.now in
     let nothing = to_end after (length after) ∙ drop_all (length after) after (omega arith) in
     commands_after_cut c.args.ended c.args.line (c.args.line + 1) (script_lines after) c.in-None.ensures.block
     ∙ ap (commands_from c.args.ended (c.args.line + 1) 0) (sym (ap script_lines nothing ∙ no_line [] refl))
 
 pub returns-in_ok-open_block-in-None-clause-replies : goal.returns-in_ok-open_block-in-None-clause-replies
-returns-in_ok-open_block-in-None-clause-replies c =
+returns-in_ok-open_block-in-None-clause-replies g c =
     let rest = script_lines c.args.after.now in
     let w = world c.args.session.now in
     let reply = c.in_ok-open_block-in-None.field-0 in

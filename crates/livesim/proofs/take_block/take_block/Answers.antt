@@ -1,72 +1,55 @@
-use Rattle.std.proofs.Common.{length, List, ℕ, [], ◌∷◌, Some, None, Ok, Err, ◌≡◌, ◌≤◌, refl, sym, ap, subst, ◌∙◌, arith}
-use Rattle.ls_text.specs.Texts.{Grows, interned}
+use Rattle.std.proofs.Common.{◌≡◌, ◌≤◌, ℕ, List, [], length, Ok, Err, Some, subst, arith}
+use Rattle.std.specs.Option.{option_or, unwrap_or}
 use Rattle.ls_text.specs.Readings.{fault_view}
+use Rattle.module_registry.specs.Views.{entries_of}
+use Rattle.version_swap.specs.declared.texts.Texts.{Texts}
+use Rattle.version_swap.specs.Behind.{design_of}
+use Rattle.version_swap.specs.Files.{files_behind}
+use Rattle.version_swap.specs.Plans.{IsPlanRefusal, Plans}
+use Rattle.wave_report.specs.Replies.{edit_text}
 use Rattle.livesim.specs.Blocks.{block}
-use Rattle.livesim.specs.Flats.{built, flat}
-use Rattle.livesim.specs.Readings.{too_long}
-use Rattle.livesim.specs.Texts.{file_tokens}
-use Rattle.livesim.specs.Worlds.{not_built}
-use Rattle.livesim.proofs.Files.{faulty, shown_in, whole}
-use Rattle.livesim.proofs.Loads.{refused_reply}
+use Rattle.livesim.proofs.Edited.{first_name, reads_of}
+use Rattle.livesim.proofs.Loads.{fault_reply, long_reply}
+use Rattle.livesim.proofs.Taking.{all_new, begun_takes}
 use Rattle.livesim.proofs.take_block.take_block.Goals as goal
 
-pub returns-in-Err-Fault : goal.returns-in-Err-Fault
-returns-in-Err-Fault c =
-    let b = block c.args.given in
-    let id = c.in_ok-intern.field-0 in
-    let new = c.file_tokens.new.names in
-    let few : length b.text ≤ 4194304 = omega (arith, c.if-len-gt-MAX_TEXT.false, c.len.ensures) in
-    let table = c.in_ok-intern.ensures.table ∙ ap (λ (t : List (List ℕ)). interned t b.file) c.new-names.ensures in
-    let here : file_tokens (record { name = id; text = c.new.result } ∷ []) ≡ Err (fault_view new c.in-Err-Fault.fault)
-    = rw c.in-Err-Fault.field-0-is at c.in-Err-Fault.ensures.tokens in
-    let read = ap (λ (t : List ℕ). file_tokens (record { name = id; text = t } ∷ [])) (sym c.new.ensures) ∙ here in
-    let fault = fault_view new c.in-Err-Fault.fault in
-    let reads = faulty b c.intern.new.self id few table c.in_ok-intern.ensures.id fault read in
-    let is = shown_in c.args.line b c.intern.new.self new id c.in_ok-intern.ensures.id c.in-Err-Fault.ensures.grows fault in
-    let shown = rw c.in-Err-Fault.fault-is at c.in_ok-reply-in-Err-Fault.ensures.text in
-    refused_reply c.args.line b (Err (Some fault)) _ _ _ reads is shown c.in_ok-reply-in-Err-Fault.ensures.refused
+pub returns-then-len-gt-MAX_TEXT-clause-takes : goal.returns-then-len-gt-MAX_TEXT-clause-takes
+returns-then-len-gt-MAX_TEXT-clause-takes g c =
+    let reply = c.in_ok-reply.reply in
+    long_reply c.args.line (block c.args.given) reply.text.items reply.refused (omega (arith, c.if-len-gt-MAX_TEXT.true, c.len.ensures))
+    c.in_ok-reply.ensures.text c.in_ok-reply.ensures.refused
 
-pub returns-then-len-gt-MAX_TEXT : goal.returns-then-len-gt-MAX_TEXT
-returns-then-len-gt-MAX_TEXT c =
+pub returns-in-Ok-clause-takes : goal.returns-in-Ok-clause-takes
+returns-in-Ok-clause-takes g c =
     let b = block c.args.given in
-    refused_reply c.args.line b (Err None) (not_built b.file_line) _ _ (too_long (omega (arith, c.if-len-gt-MAX_TEXT.true, c.len.ensures))) refl c.in_ok-not_built.ensures.text c.in_ok-not_built.ensures.refused
+    let short : length b.text ≤ 4194304 = omega (arith, c.if-len-gt-MAX_TEXT.false, c.len.ensures) in
+    let old = c.block_edit.new.names in
+    let names = c.plan-planned.new.names in
+    let planned = c.in-Ok.planned in
+    let d = design_of planned.design planned.keys in
+    let plans = subst (λ (t : Texts). Plans names t.files t.top t.clock (Ok d)) c.in-Ok.ensures.texts c.in-Ok.ensures.planned in
+    let before = c.first_texts-before in
+    let reads = reads_of old b c.in_ok-edit.edit c.in_ok-edit.ensures.edit before.result before.ensures.files before.ensures.top names c.plan-planned.ensures.grows
+    c.has_each_once.ensures (Ok d) plans in
+    begun_takes names c.args.line b d (edit_text 1 planned.built planned.kept 0) c.begun_or_cut.result short reads
+    (all_new (entries_of c.args.registry.now) planned.keys planned.built planned.kept c.requires c.in-Ok.ensures.built c.in-Ok.ensures.kept)
+    c.begun_or_cut.ensures.begins
 
-pub returns-in-Made : goal.returns-in-Made
-returns-in-Made c =
+pub returns-clause-takes : goal.returns-clause-takes
+returns-clause-takes g c =
     let b = block c.args.given in
-    let id = c.in_ok-intern.field-0 in
-    let old = c.intern.new.self in
-    let names = c.file_tokens.new.names in
-    let new = c.build.new.names in
-    let few : length b.text ≤ 4194304 = omega (arith, c.if-len-gt-MAX_TEXT.false, c.len.ensures) in
-    let table = c.in_ok-intern.ensures.table ∙ ap (λ (t : List (List ℕ)). interned t b.file) c.new-names.ensures in
-    let read = ap (λ (t : List ℕ). file_tokens (record { name = id; text = t } ∷ [])) (sym c.new.ensures) ∙ c.in-Ok.ensures.tokens in
-    whole b old id few table c.in_ok-intern.ensures.id names new c.in-Ok.tokens.items c.deref.result.now (Ok (flat c.in-Made.design)) (built new c.in_ok-design.field-0) read c.build.ensures.table c.deref.ensures.value (ap (built new) c.in-Made.is) c.in_ok-design.ensures.reads
-
-pub returns-in-OtherForm : goal.returns-in-OtherForm
-returns-in-OtherForm c =
-    let b = block c.args.given in
-    let id = c.in_ok-intern.field-0 in
-    let old = c.intern.new.self in
-    let names = c.file_tokens.new.names in
-    let new = c.build.new.names in
-    let few : length b.text ≤ 4194304 = omega (arith, c.if-len-gt-MAX_TEXT.false, c.len.ensures) in
-    let table = c.in_ok-intern.ensures.table ∙ ap (λ (t : List (List ℕ)). interned t b.file) c.new-names.ensures in
-    let read = ap (λ (t : List ℕ). file_tokens (record { name = id; text = t } ∷ [])) (sym c.new.ensures) ∙ c.in-Ok.ensures.tokens in
-    let reads = whole b old id few table c.in_ok-intern.ensures.id names new c.in-Ok.tokens.items c.deref.result.now (Err None) (built new c.in_ok-design.field-0) read c.build.ensures.table c.deref.ensures.value (ap (built new) c.in-OtherForm.is) c.in_ok-design.ensures.reads in
-    refused_reply c.args.line b (Err None) (not_built b.file_line) _ _ reads refl c.in_ok-not_built-in-OtherForm.ensures.text c.in_ok-not_built-in-OtherForm.ensures.refused
-
-pub returns : goal.returns
-returns c =
-    let b = block c.args.given in
-    let id = c.in_ok-intern.field-0 in
-    let old = c.intern.new.self in
-    let names = c.file_tokens.new.names in
-    let new = c.build.new.names in
-    let few : length b.text ≤ 4194304 = omega (arith, c.if-len-gt-MAX_TEXT.false, c.len.ensures) in
-    let table = c.in_ok-intern.ensures.table ∙ ap (λ (t : List (List ℕ)). interned t b.file) c.new-names.ensures in
-    let read = ap (λ (t : List ℕ). file_tokens (record { name = id; text = t } ∷ [])) (sym c.new.ensures) ∙ c.in-Ok.ensures.tokens in
-    let fault = fault_view new c.in-Refused.fault in
-    let reads = whole b old id few table c.in_ok-intern.ensures.id names new c.in-Ok.tokens.items c.deref.result.now (Err (Some fault)) (built new c.in_ok-design.field-0) read c.build.ensures.table c.deref.ensures.value (ap (built new) c.in-Refused.is) c.in_ok-design.ensures.reads in
-    let is = shown_in c.args.line b old new id c.in_ok-intern.ensures.id (subst (Grows old) (sym c.build.ensures.table) c.in-Ok.ensures.grows) fault in
-    refused_reply c.args.line b (Err (Some fault)) _ _ _ reads is c.in_ok-reply-in-Refused.ensures.text c.in_ok-reply-in-Refused.ensures.refused
+    let short : length b.text ≤ 4194304 = omega (arith, c.if-len-gt-MAX_TEXT.false, c.len.ensures) in
+    let old = c.block_edit.new.names in
+    let names = c.plan-planned.new.names in
+    let e = c.in_ok-edit.edit in
+    let before = c.first_texts-before in
+    let t = before.result in
+    let is = c.in_ok-edit.ensures.edit in
+    let fault = fault_view names c.in-Err-Fault.fault in
+    let plans = subst (IsPlanRefusal names (files_behind t.files e.files e.loads []) (option_or e.top t.top) (unwrap_or e.clock t.clock))
+    c.in-Err-Fault.field-0-is c.in-Err-Fault.ensures.refused in
+    let reads = reads_of old b e is t before.ensures.files before.ensures.top names c.plan-planned.ensures.grows c.has_each_once.ensures (Err fault) plans in
+    let named = first_name old b e is t before.ensures.files before.ensures.top names c.plan-planned.ensures.grows c.files_of.result.now c.files_of.ensures in
+    let reply = c.in_ok-reply-in-Err-Fault.reply in
+    fault_reply c.args.line b fault _ reply.text.items reply.refused short reads named c.in_ok-reply-in-Err-Fault.ensures.text
+    c.in_ok-reply-in-Err-Fault.ensures.refused
