@@ -58,7 +58,7 @@ all_shown path width value = refl
 -- the line of a register
 same_line : (names : List (List ℕ)) (value : ℕ) (xs : List Signal) (r : ℕ)
     → at_or (signal_line names [] value) [] xs r
-        ≡ at_or (λ (path : List ℕ). line_text path (slice_index (widths xs) r) value) [] (map (λ (x : Signal). joined names x.path) xs) r
+    ≡ at_or (λ (path : List ℕ). line_text path (slice_index (widths xs) r) value) [] (map (λ (x : Signal). joined names x.path) xs) r
 same_line names value [] r = refl
 same_line names value (x ∷ xs) zero = all_shown (joined names x.path) x.width value
 same_line names value (x ∷ xs) (suc r) = same_line names value xs r

@@ -9,7 +9,7 @@ ghost use Rattle.livesim.specs.Replies.{Replies, RepliesTo, RepliesAll, refusal_
 ghost use Rattle.livesim.specs.Runs.{IsComplete, Lived, WritesFront};
 ghost use Rattle.livesim.specs.Script.{HasSmallRun, block_at, script_lines};
 ghost use Rattle.livesim.specs.Sessions.{world};
-ghost use Rattle.livesim.specs.Worlds.{not_built, plain};
+ghost use Rattle.livesim.specs.Worlds.{fresh, not_built, plain};
 ghost use Rattle.livesim.specs.declared.script_line.ScriptLine.TheVariants.{Edit};
 
 use crate::ending::Ending;
@@ -202,12 +202,7 @@ fn counted_run<L: Ledger>(
 }
 
 // The same with a counter of its own, which nobody reads.
-fn run(
-    alloc: Global,
-    session: &mut Session,
-    line: u64,
-    cycles: u64,
-) -> Result<Reply, NoMemory>
+fn run(alloc: Global, session: &mut Session, line: u64, cycles: u64) -> Result<Reply, NoMemory>
     requires { cycles ≤ 2 ^ 40 }
     ensures { IfOk result (λ r. Replies (plain (Advance line cycles)) (world session.old) (world session.new) r.text.items r.refused) }
 {
@@ -248,9 +243,42 @@ fn line_turn<'a, R: Threads + Sync>(
     })
 }
 
-// Carries out the commands, and writes their replies: whether one was refused.
+// Carries out the commands in a session without a design, and writes their replies: whether one was refused.
 #[tactic(auto, using(crate::proofs::Turns::none_done, crate::proofs::Turns::cut_carries, crate::proofs::Turns::whole_carries))]
 fn carry_out<R: Threads + Sync, K: Sink>(
+    rt: &R,
+    alloc: Global,
+    ended: bool,
+    session: &mut Session,
+    bytes: &[u8],
+    sink: &mut K,
+) -> Result<bool, SinkRefusal>
+    requires few { length bytes.now ≤ 67108864 }
+    requires begins { world session.old ≡ fresh }
+    ensures carries { Carries (line_commands ended bytes.now) (K.written sink.old) (K.written sink.new) result }
+    ensures later { K.faults sink.old ≤ K.faults sink.new }
+    ensures once { (K.faults sink.new ≡ K.faults sink.old) ⊎ Rose (K.faults sink.old) (K.faults sink.new) }
+    ensures failed { IsErrOf result SinkRefusal.Failed → Rose (K.faults sink.old) (K.faults sink.new) }
+    ensures kept { OnOk result (K.faults sink.new ≡ K.faults sink.old) }
+{
+    let mut rest = bytes;
+    let mut number = 1u64;
+    let mut refused = false;
+    while let Some((line, after)) = next_line(rest) {
+        let form = read_line(line);
+        let Ok(turn) = line_turn(rt, alloc, ended, session, number, form, after) else {
+            return Err(SinkRefusal::NoMemory);
+        };
+        write_all(sink, &turn.reply.text)?;
+        refused = refused || turn.reply.refused;
+        number = turn.number;
+        rest = turn.rest;
+    }
+    Ok(refused)
+}
+
+// The same in a session of their own.
+fn carry_out_alone<R: Threads + Sync, K: Sink>(
     rt: &R,
     alloc: Global,
     ended: bool,
@@ -265,20 +293,7 @@ fn carry_out<R: Threads + Sync, K: Sink>(
     ensures kept { OnOk result (K.faults sink.new ≡ K.faults sink.old) }
 {
     let mut session = Session::new(alloc);
-    let mut rest = bytes;
-    let mut number = 1u64;
-    let mut refused = false;
-    while let Some((line, after)) = next_line(rest) {
-        let form = read_line(line);
-        let Ok(turn) = line_turn(rt, alloc, ended, &mut session, number, form, after) else {
-            return Err(SinkRefusal::NoMemory);
-        };
-        write_all(sink, &turn.reply.text)?;
-        refused = refused || turn.reply.refused;
-        number = turn.number;
-        rest = turn.rest;
-    }
-    Ok(refused)
+    carry_out(rt, alloc, ended, &mut session, bytes, sink)
 }
 
 // Whether the input was read to its end.
@@ -307,7 +322,13 @@ fn finish<R: Threads + Sync, K: Sink>(
     ensures words { result ≢ 2 }
 {
     let ended = has_ended(ending);
-    match carry_out(rt, alloc, ended, counted(ended, front(MAX_INPUT, bytes)), sink) {
+    match carry_out_alone(
+        rt,
+        alloc,
+        ended,
+        counted(ended, front(MAX_INPUT, bytes)),
+        sink,
+    ) {
         Err(SinkRefusal::Failed) => 4,
         Err(SinkRefusal::NoMemory) => 5,
         Ok(refused) => match ending {

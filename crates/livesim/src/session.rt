@@ -64,7 +64,15 @@ impl Session {
             return not_built(alloc, line);
         }
         let names = &mut self.names;
-        match take_block(rt, alloc, names, &mut self.registry, &mut self.forge, line, given)? {
+        match take_block(
+            rt,
+            alloc,
+            names,
+            &mut self.registry,
+            &mut self.forge,
+            line,
+            given,
+        )? {
             Taken::Refused(reply) => Ok(reply),
             Taken::Begun { running, text } => {
                 self.running = Some(running);

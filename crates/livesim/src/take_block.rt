@@ -48,11 +48,7 @@ fn begun(alloc: Global, planned: Planned) -> Result<Taken, NoMemory>
 }
 
 // The same. Where memory runs out, the units that were made for it go.
-fn begun_or_cut(
-    alloc: Global,
-    registry: &mut Registry,
-    planned: Planned,
-) -> Result<Taken, NoMemory>
+fn begun_or_cut(alloc: Global, registry: &mut Registry, planned: Planned) -> Result<Taken, NoMemory>
     ensures begins { IfOk result (Begins (design_of planned.design planned.keys) (edit_text 1 planned.built planned.kept 0)) }
     ensures kept { IfOk result (λ _. entries_of registry.new ≡ entries_of registry.old) }
     ensures none { OnErr result (entries_of registry.new ≡ []) }

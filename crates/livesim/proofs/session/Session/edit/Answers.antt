@@ -19,7 +19,7 @@ returns-in-Refused g c =
     let new = c.take_block.new.names in
     let reply = c.in-Refused.reply in
     first_replies s.names new s.running c.args.line b reply.text.items reply.refused (sym c.is_some.ensures ∙ c.if-is_some.false)
-    (subst (Takes new c.args.line b) c.in-Refused.is c.in_ok-take_block.ensures.takes)
+    (subst (Takes new c.args.line b) c.in-Refused.is c.in_ok-reply.ensures.takes)
 
 pub returns-in-Begun : goal.returns-in-Begun
 returns-in-Begun g c =
@@ -27,6 +27,6 @@ returns-in-Begun g c =
     let b = block c.args.given in
     let new = c.take_block.new.names in
     let running = c.in-Begun.running in
-    let takes = subst (Takes new c.args.line b) c.in-Begun.is c.in_ok-take_block.ensures.takes in
+    let takes = subst (Takes new c.args.line b) c.in-Begun.is c.in_ok-reply.ensures.takes in
     first_made s.names s.running c.args.line b (spelled new (design_of running.design running.keys)) running.cycle c.in-Begun.text.items
     (sym c.is_some.ensures ∙ c.if-is_some.false) takes.0 takes.1 takes.2 takes.3
