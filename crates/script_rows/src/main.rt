@@ -2,7 +2,8 @@
 //
 // `rows.txt` has a line `STATUS NAME` for each row: NAME.live is the script, NAME.out are the lines, and STATUS is how the run
 // ends. `FAULTS.md` is the page of faults (`page`): each of its examples is a row, and shows the fault by the line that the page tells;
-// each fault that a row shows is on the page. What differs is named. `tests` has rows and pages that don't agree.
+// each fault that a row shows is on the page. What differs is named, with the first line that does. `tests` has rows and pages that
+// don't agree.
 #![tactic(auto)]
 
 mod page;
@@ -13,13 +14,13 @@ use crate::page::{example_of, has, row_of};
 use livesim::live_run;
 use ls_port::{SolidSink, SolidSource};
 use std::alloc::Global;
-use std::thread::Threads;
 use std::{fs, io};
 
-// Whether a script ends with this status, and writes these lines.
-fn agrees<R: Threads + Sync>(
-    rt: &R,
+// Whether a script ends with this status, and writes these lines; else how it ended is told, and the first line that is another one.
+fn agrees(
+    rt: &HostRuntime,
     alloc: Global,
+    name: &str,
     script: &str,
     lines: &str,
     status: &str,
@@ -29,7 +30,20 @@ fn agrees<R: Threads + Sync>(
     let mut sink = SolidSink::new(alloc);
     let outcome = live_run(rt, alloc, &words, &mut source, &mut sink);
     let ended = format!(in alloc; "{}", outcome.status)?;
-    Ok(ended.as_str() == status && sink.bytes() == lines.as_bytes())
+    if ended.as_str() == status && sink.bytes() == lines.as_bytes() {
+        return Ok(true);
+    }
+    println!(rt; "{name} differs, and ended with {ended}")?;
+    if let Ok(written) = str::from_utf8(sink.bytes()) {
+        let mut wanted = lines.lines();
+        for line in written.lines() {
+            if wanted.next() != Some(line) {
+                println!(rt; "    {line}")?;
+                break;
+            }
+        }
+    }
+    Ok(false)
 }
 
 // The lines that a row has to write.
@@ -87,10 +101,8 @@ fn main(rt: HostRuntime) -> io::Result<()> {
         let script = format!(in alloc; "{name}.live")?;
         let script = fs::read_to_string(&rt, script.as_str())?;
         let lines = lines_of(&rt, alloc, name)?;
-        if agrees(&rt, alloc, script.as_str(), lines.as_str(), status)? {
+        if agrees(&rt, alloc, name, script.as_str(), lines.as_str(), status)? {
             count = count.saturating_add(1);
-        } else {
-            println!(rt; "{name} differs")?;
         }
         for line in lines.as_str().lines() {
             if line.starts_with("refused ") && !has(page.as_str(), line) {
