@@ -14,36 +14,41 @@ use crate::page::{example_of, has, row_of};
 use livesim::live_run;
 use ls_port::{SolidSink, SolidSource};
 use std::alloc::Global;
+use std::thread::Threads;
 use std::{fs, io};
 
-// Whether a script ends with this status, and writes these lines; else how it ended is told, and the first line that is another one.
-fn agrees(
-    rt: &HostRuntime,
+// How a script ends and the first line of it that is another one, where it doesn't end with this status and write these lines.
+fn difference<R: Threads + Sync>(
+    rt: &R,
     alloc: Global,
-    name: &str,
     script: &str,
     lines: &str,
     status: &str,
-) -> io::Result<bool> {
+) -> io::Result<Option<String>> {
     let words = vec![in alloc; String::from_str(alloc, "livesim")?]?;
     let mut source = SolidSource::new(Vec::from_slice(alloc, script.as_bytes())?);
     let mut sink = SolidSink::new(alloc);
     let outcome = live_run(rt, alloc, &words, &mut source, &mut sink);
     let ended = format!(in alloc; "{}", outcome.status)?;
     if ended.as_str() == status && sink.bytes() == lines.as_bytes() {
-        return Ok(true);
+        return Ok(None);
     }
-    println!(rt; "{name} differs, and ended with {ended}")?;
-    if let Ok(written) = str::from_utf8(sink.bytes()) {
-        let mut wanted = lines.lines();
-        for line in written.lines() {
-            if wanted.next() != Some(line) {
-                println!(rt; "    {line}")?;
-                break;
-            }
+    let line = match str::from_utf8(sink.bytes()) {
+        Ok(written) => first_other(written, lines),
+        Err(_) => "",
+    };
+    Ok(Some(format!(in alloc; "ended with {ended}; {line}")?))
+}
+
+// The first line of a text that another text doesn't have at its place.
+fn first_other<'a>(text: &'a str, other: &str) -> &'a str {
+    let mut others = other.lines();
+    for line in text.lines() {
+        if others.next() != Some(line) {
+            return line;
         }
     }
-    Ok(false)
+    "no line is another one"
 }
 
 // The lines that a row has to write.
@@ -101,8 +106,9 @@ fn main(rt: HostRuntime) -> io::Result<()> {
         let script = format!(in alloc; "{name}.live")?;
         let script = fs::read_to_string(&rt, script.as_str())?;
         let lines = lines_of(&rt, alloc, name)?;
-        if agrees(&rt, alloc, name, script.as_str(), lines.as_str(), status)? {
-            count = count.saturating_add(1);
+        match difference(&rt, alloc, script.as_str(), lines.as_str(), status)? {
+            None => count = count.saturating_add(1),
+            Some(found) => println!(rt; "{name} differs: {found}")?,
         }
         for line in lines.as_str().lines() {
             if line.starts_with("refused ") && !has(page.as_str(), line) {
