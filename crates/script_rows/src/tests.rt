@@ -45,7 +45,7 @@ fn limits_of_a_text(rt: HostRuntime) -> Result<(), Fail> {
         (256, 0, b"refused 16 NestedTooDeep a.v:3:2076 -\n"),
         (257, 0, b"refused 16 NestedTooDeep a.v:3:2076 -\n"),
         (1, 4_194_206, OK_EDIT),
-        (1, 4_194_207, b"refused 90 NotBuilt @4 -\n"),
+        (1, 4_194_207, b"refused 10 TextTooLong @4 a.v\n"),
     ];
     for (plus, spaces, want) in rows {
         let mut script = joined(
