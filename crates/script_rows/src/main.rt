@@ -2,7 +2,8 @@
 //
 // `rows.txt` has a line `STATUS NAME` for each row: NAME.live is the script, NAME.out are the lines, and STATUS is how the run
 // ends. `FAULTS.md` is the page of faults (`page`): each of its examples is a row, and shows the fault by the line that the page tells;
-// each fault that a row shows is on the page. What differs is named. `tests` has rows and pages that don't agree.
+// each fault that a row shows is on the page. What differs is named, with the first line that does. `tests` has rows and pages that
+// don't agree.
 #![tactic(auto)]
 
 mod page;
@@ -16,20 +17,38 @@ use std::alloc::Global;
 use std::thread::Threads;
 use std::{fs, io};
 
-// Whether a script ends with this status, and writes these lines.
-fn agrees<R: Threads + Sync>(
+// How a script ends and the first line of it that is another one, where it doesn't end with this status and write these lines.
+fn difference<R: Threads + Sync>(
     rt: &R,
     alloc: Global,
     script: &str,
     lines: &str,
     status: &str,
-) -> io::Result<bool> {
+) -> io::Result<Option<String>> {
     let words = vec![in alloc; String::from_str(alloc, "livesim")?]?;
     let mut source = SolidSource::new(Vec::from_slice(alloc, script.as_bytes())?);
     let mut sink = SolidSink::new(alloc);
     let outcome = live_run(rt, alloc, &words, &mut source, &mut sink);
     let ended = format!(in alloc; "{}", outcome.status)?;
-    Ok(ended.as_str() == status && sink.bytes() == lines.as_bytes())
+    if ended.as_str() == status && sink.bytes() == lines.as_bytes() {
+        return Ok(None);
+    }
+    let line = match str::from_utf8(sink.bytes()) {
+        Ok(written) => first_other(written, lines),
+        Err(_) => "",
+    };
+    Ok(Some(format!(in alloc; "ended with {ended}; {line}")?))
+}
+
+// The first line of a text that another text doesn't have at its place.
+fn first_other<'a>(text: &'a str, other: &str) -> &'a str {
+    let mut others = other.lines();
+    for line in text.lines() {
+        if others.next() != Some(line) {
+            return line;
+        }
+    }
+    "no line is another one"
 }
 
 // The lines that a row has to write.
@@ -87,10 +106,9 @@ fn main(rt: HostRuntime) -> io::Result<()> {
         let script = format!(in alloc; "{name}.live")?;
         let script = fs::read_to_string(&rt, script.as_str())?;
         let lines = lines_of(&rt, alloc, name)?;
-        if agrees(&rt, alloc, script.as_str(), lines.as_str(), status)? {
-            count = count.saturating_add(1);
-        } else {
-            println!(rt; "{name} differs")?;
+        match difference(&rt, alloc, script.as_str(), lines.as_str(), status)? {
+            None => count = count.saturating_add(1),
+            Some(found) => println!(rt; "{name} differs: {found}")?,
         }
         for line in lines.as_str().lines() {
             if line.starts_with("refused ") && !has(page.as_str(), line) {

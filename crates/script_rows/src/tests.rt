@@ -175,21 +175,6 @@ fn replies_are_written_whole(rt: HostRuntime) -> Result<(), Fail> {
     Ok(())
 }
 
-// One use of a macro more than the limit allows, and what a designer sees of it.
-#[test]
-fn too_many_uses_are_refused(rt: HostRuntime) -> Result<(), Fail> {
-    let alloc = rt.alloc();
-    let mut script = joined(alloc, &[b"edit\ntop top\nclock clk\nfile a.v\n`define A\n"])?;
-    for _ in 0..1_048_577 {
-        script.extend_from_slice(b"`A\n")?;
-    }
-    script.extend_from_slice(b".\nend\n")?;
-    let (_, written) = lived(&rt, alloc, script, Vec::new(alloc), Vec::new(alloc))?;
-    let want: &[u8] = b"refused 10 TextTooLong a.v:1048578:1 -\n";
-    assert!(rt; written.as_slice() == want);
-    Ok(())
-}
-
 #[test]
 fn limit_of_the_input(rt: HostRuntime) -> Result<(), Fail> {
     let alloc = rt.alloc();
