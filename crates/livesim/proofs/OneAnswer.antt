@@ -30,8 +30,12 @@ one_flat : (d e : Flat) → map nameless d.signals ≡ map nameless e.signals �
     → d.clocked ≡ e.clocked → nameless_flat d ≡ nameless_flat e
 one_flat d e signals registers inputs nodes clocked = cc
 
+abbrev spelled_with : Flat → List (List ℕ) → ℕ → Spelled
+spelled_with flat paths keys = record { flat = flat; paths = paths; keys = keys }
+
 one_spelled : (x y : Spelled) → x.flat ≡ y.flat → x.paths ≡ y.paths → x.keys ≡ y.keys → x ≡ y
-one_spelled x y flat paths keys = cc
+one_spelled x y flat paths keys =
+    ap (λ (f : Flat). spelled_with f x.paths x.keys) flat ∙ ap₂ (λ (ps : List (List ℕ)) (k : ℕ). spelled_with y.flat ps k) paths keys
 
 one_design : (names others : List (List ℕ)) (d e : DesignOfTexts) → IsSameDesign names others d e → spelled names d ≡ spelled others e
 one_design names others d e h =

@@ -15,6 +15,14 @@ use Rattle.livesim.specs.Takes.{Begins, Takes}
 use Rattle.livesim.specs.declared.taken.Taken.{Taken}
 use Rattle.livesim.specs.declared.taken.Taken.TheVariants.{Begun, Refused}
 
+-- none, by their count
+pub none_there : {A : Type 0} (xs : List A) → length xs ≡ 0 → xs ≡ []
+none_there [] is = refl
+none_there (x ∷ xs) is = absurd (omega (arith, is))
+
+pub none_counted : {A : Type 0} (xs : List A) → xs ≡ [] → length xs ≡ 0
+none_counted xs is = ap length is
+
 -- where nothing is held, all is missing
 all_missing : (ks : List KeyData) → missing [] ks ≡ ks
 all_missing [] = refl

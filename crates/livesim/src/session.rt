@@ -1,7 +1,6 @@
 // A session, and what commands do to it.
-ghost use Rattle.std.specs.Prelude.{◌≡◌, [], false, is_some};
+ghost use Rattle.std.specs.Prelude.{◌≡◌, false, is_some, length};
 ghost use Rattle.module_registry.specs.Views.{entries_of};
-ghost use Rattle.unit_laws.specs.Held.{AreHeldUnder};
 
 use crate::block::Block;
 use crate::reply::{Reply, no_design, not_built};
@@ -25,8 +24,7 @@ pub struct Session {
     registry: Registry,
     forge: RayonForge,
     running: Option<Running>,
-    ghost held: { AreHeldUnder names (entries_of registry) },
-    ghost none_before: { is_some running ≡ false → entries_of registry ≡ [] },
+    ghost none_before: { is_some running ≡ false → length (entries_of registry) ≡ 0 },
 }
 
 impl Session {
@@ -50,6 +48,7 @@ impl Session {
     }
 
     /// Takes a block of the form, whose `edit` has that line: the design of its text, or its first fault.
+    #[tactic(auto, using(crate::proofs::Taking::none_there, crate::proofs::Taking::none_counted))]
     pub fn edit<R: Threads + Sync>(
         &mut self,
         rt: &R,
