@@ -17,7 +17,7 @@ use unit_forge::RayonForge;
 
 /// A session: its table of names, the units that it has, what makes these, and the design that runs, where there is one.
 ///
-/// The table only grows. The units are those of their keys under it, and before the first design there are none.
+/// The table only grows, and before the first design there are no units.
 #[derive(Drop)]
 pub struct Session {
     names: Names,
