@@ -1,0 +1,79 @@
+-- What a reader holds, and what a call of it takes and hands out.
+use Rattle.std.specs.Prelude.{◌≡◌, ◌⊎◌, ℕ, ◌+◌, Bool, true, false, List, [], ◌∷◌, ◌++◌, length, drop, Option, Some, None, Result, Ok, Err, ⊤}
+use Rattle.std.specs.Io.KnownBytes.{Consumes}
+use Rattle.ls_text.specs.Readings.{TextFault, fault_view}
+use Rattle.command_read.specs.declared.reader.Reader.{Reader}
+use Rattle.command_read.specs.declared.stop.Stop.{Stop}
+use Rattle.command_read.specs.declared.stop.Stop.TheVariants as stop
+use Rattle.command_read.specs.declared.read_end.ReadEnd.{ReadEnd}
+use Rattle.command_read.specs.declared.read_end.ReadEnd.TheVariants as read_end
+use Rattle.command_read.specs.Asking.{Asked}
+use Rattle.command_read.specs.Scripts.{asks}
+use Rattle.command_read.specs.Leading.{MayFollow}
+use Rattle.command_read.specs.Spoken.{spoken}
+
+-- the bytes that a reader has taken and not handed out
+abbrev pub left : Reader → List ℕ
+left r = drop r.at r.held.items
+
+-- the line that they begin
+abbrev pub next_number : Reader → ℕ
+next_number r = r.number
+
+-- whether it has seen the input's end
+abbrev pub has_ended : Reader → Bool
+has_ended r = r.ended
+
+-- how many bytes it has taken
+abbrev pub count_taken : Reader → ℕ
+count_taken r = r.taken
+
+-- why it hands nothing out any more
+abbrev pub stopped : Reader → Option Stop
+stopped r = r.stop
+
+-- what is still asked for, where those bytes come behind what it holds, and the input ends there or not
+abbrev pub asked_of : Reader → (more : List ℕ) → (end : Bool) → List (Result Asked TextFault)
+asked_of r more end = asks end (next_number r) (left r ++ more)
+
+-- which of the bytes that came a reader has kept: all, but for the one above the limit; where memory ran out that isn't said
+abbrev pub AreKept : Option Stop → (came kept : List ℕ) → Type 0
+AreKept None came kept = came ≡ kept
+AreKept (Some stop.End) came kept = came ≡ kept
+AreKept (Some stop.Fault) came kept = came ≡ kept
+AreKept (Some stop.TooMuch) came kept = (last : ℕ) × (came ≡ kept ++ last ∷ [])
+AreKept (Some stop.NoMemory) came kept = ⊤
+
+-- A call took those bytes of a source, of which the reader has kept those: what was asked for is what it has told, and then what is still asked for,
+-- whatever comes behind.
+pub record Goes (before behind : Option (List ℕ)) (old new : Reader) (told : List (Result Asked TextFault)) (came kept : List ℕ) : Type 0 where
+  pub consumed : Consumes before behind came
+  pub counted : count_taken new ≡ count_taken old + length came
+  pub holds : AreKept (stopped new) came kept
+  pub asked : (more : List ℕ) (end : Bool) → MayFollow (has_ended new) more end → asked_of old (kept ++ more) end ≡ told ++ asked_of new more end
+  pub quiet : has_ended old ≡ true → (came ≡ []) × (kept ≡ []) × (has_ended new ≡ true)
+
+-- what an answer tells
+abbrev pub told : List (List ℕ) → ReadEnd → List (Result Asked TextFault)
+told names (read_end.Command command) = Ok (spoken names command) ∷ []
+told names (read_end.Refused fault) = Err (fault_view names fault) ∷ []
+told names read_end.End = []
+told names read_end.Fault = []
+told names read_end.TooMuch = []
+told names read_end.NoMemory = []
+
+-- why a reader that gave that answer hands nothing out any more
+abbrev pub stop_of : ReadEnd → Option Stop
+stop_of (read_end.Command command) = None
+stop_of (read_end.Refused fault) = None
+stop_of read_end.End = Some stop.End
+stop_of read_end.Fault = Some stop.Fault
+stop_of read_end.TooMuch = Some stop.TooMuch
+stop_of read_end.NoMemory = Some stop.NoMemory
+
+-- what a reader answers that has stopped
+abbrev pub end_of : Stop → ReadEnd
+end_of stop.End = read_end.End
+end_of stop.Fault = read_end.Fault
+end_of stop.TooMuch = read_end.TooMuch
+end_of stop.NoMemory = read_end.NoMemory
