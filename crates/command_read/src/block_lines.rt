@@ -51,15 +51,15 @@ fn read_file(alloc: Global, names: &mut Names, line: u64, rest: &[u8]) -> Result
 // A register that goes on under another name.
 fn rename(
     names: &mut Names,
-    module: &[u8],
+    owner: &[u8],
     from: &[u8],
     to: &[u8],
 ) -> Result<RegOp, NoMemory>
-    ensures op { IfOk result (λ op. operation names.new op ≡ Renames module.now from.now to.now) }
+    ensures op { IfOk result (λ op. operation names.new op ≡ Renames owner.now from.now to.now) }
     ensures within { IfOk result (HasNames (length names.new)) }
     ensures grows { Grows names.old names.new }
 {
-    let in_module = names.intern(module)?;
+    let in_module = names.intern(owner)?;
     let from = names.intern(from)?;
     let to = names.intern(to)?;
     Ok(RegOp::Rename {
@@ -82,14 +82,14 @@ fn read_registers(
     ensures named { IfErr result (CanShow (length names.new)) }
     ensures grows { Grows names.old names.new }
 {
-    let Some((module, from)) = register_of(old) else {
+    let Some((owner, from)) = register_of(old) else {
         return Err(showing(alloc, names, 61, line, old));
     };
     let Some((other, to)) = register_of(new) else {
         return Err(showing(alloc, names, 61, line, new));
     };
-    if module == other {
-        Ok(rename(names, module, from, to)?)
+    if owner == other {
+        Ok(rename(names, owner, from, to)?)
     } else {
         Err(showing(alloc, names, 61, line, new))
     }
@@ -114,23 +114,23 @@ fn created_of(word: &[u8]) -> Option<(&[u8], &[u8], u128)>
     ensures { option_map (λ r. (r.0.now, r.1.now, r.2)) result ≡ created_of word.now }
 {
     let (front, digits) = parted_at(b'=', word)?;
-    let (module, register) = register_of(front)?;
+    let (owner, register) = register_of(front)?;
     let value = hex_of(digits)?;
-    Some((module, register, value))
+    Some((owner, register, value))
 }
 
 // A register that begins at a value.
 fn create(
     names: &mut Names,
-    module: &[u8],
+    owner: &[u8],
     register: &[u8],
     value: u128,
 ) -> Result<RegOp, NoMemory>
-    ensures op { IfOk result (λ op. operation names.new op ≡ Creates module.now register.now value) }
+    ensures op { IfOk result (λ op. operation names.new op ≡ Creates owner.now register.now value) }
     ensures within { IfOk result (HasNames (length names.new)) }
     ensures grows { Grows names.old names.new }
 {
-    let in_module = names.intern(module)?;
+    let in_module = names.intern(owner)?;
     let reg = names.intern(register)?;
     Ok(RegOp::Create {
         in_module,
@@ -150,18 +150,18 @@ fn read_create(alloc: Global, names: &mut Names, line: u64, rest: &[u8]) -> Resu
         return Err(Refusal::Fault(wordless(alloc, 60, line)));
     };
     match created_of(word) {
-        Some((module, register, value)) => Ok(create(names, module, register, value)?),
+        Some((owner, register, value)) => Ok(create(names, owner, register, value)?),
         None => Err(showing(alloc, names, 61, line, word)),
     }
 }
 
 // A register that is dropped.
-fn delete(names: &mut Names, module: &[u8], register: &[u8]) -> Result<RegOp, NoMemory>
-    ensures op { IfOk result (λ op. operation names.new op ≡ Deletes module.now register.now) }
+fn delete(names: &mut Names, owner: &[u8], register: &[u8]) -> Result<RegOp, NoMemory>
+    ensures op { IfOk result (λ op. operation names.new op ≡ Deletes owner.now register.now) }
     ensures within { IfOk result (HasNames (length names.new)) }
     ensures grows { Grows names.old names.new }
 {
-    let in_module = names.intern(module)?;
+    let in_module = names.intern(owner)?;
     let reg = names.intern(register)?;
     Ok(RegOp::Delete { in_module, reg })
 }
@@ -177,7 +177,7 @@ fn read_delete(alloc: Global, names: &mut Names, line: u64, rest: &[u8]) -> Resu
         return Err(Refusal::Fault(wordless(alloc, 60, line)));
     };
     match register_of(word) {
-        Some((module, register)) => Ok(delete(names, module, register)?),
+        Some((owner, register)) => Ok(delete(names, owner, register)?),
         None => Err(showing(alloc, names, 61, line, word)),
     }
 }

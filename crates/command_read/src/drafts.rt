@@ -1,5 +1,5 @@
 // Reading a block, line by line.
-ghost use Rattle.std.specs.Prelude.{◌≡◌, ◌<◌, ◌+◌, ◌^◌, ◌≤◌, length, IfOk, IfErr, OnOk, ℕ, List, false};
+ghost use Rattle.std.specs.Prelude.{◌≡◌, ◌<◌, ◌+◌, ◌^◌, ◌≤◌, length, IfOk, IfErr, OnOk, ℕ, List, None, true};
 ghost use Rattle.std.specs.Option.{option_map};
 ghost use Rattle.ls_text.specs.Texts.{Grows, HasEachOnce, text_at};
 ghost use Rattle.ls_text.specs.Readings.{CanShow, Gives};
@@ -80,31 +80,31 @@ fn enter(alloc: Global, draft: &mut Draft, line: u64, said: BlockLine) -> Result
 }
 
 // The text with one line more.
-fn more_text(open: OpenText, line: &[u8]) -> Result<OpenText, NoMemory>
-    ensures text { IfOk result (λ o. (names : List (List ℕ)) → open_file names o ≡ more_text (open_file names open) line.now) }
-    ensures same { IfOk result (λ o. o.name ≡ open.name) }
+fn more_text(begun: OpenText, line: &[u8]) -> Result<OpenText, NoMemory>
+    ensures text { IfOk result (λ o. (names : List (List ℕ)) → open_file names o ≡ more_text (open_file names begun) line.now) }
+    ensures same { IfOk result (λ o. o.name ≡ begun.name) }
 {
-    let mut open = open;
-    open.text.extend_from_slice(line)?;
-    open.text.push(b'\n')?;
-    Ok(open)
+    let mut text = begun;
+    text.text.extend_from_slice(line)?;
+    text.text.push(b'\n')?;
+    Ok(text)
 }
 
 // Adds a file whose text is whole, unless it has more than 4,194,304 bytes.
-fn close(alloc: Global, draft: &mut Draft, open: OpenText) -> Result<(), Refusal>
+fn close(alloc: Global, draft: &mut Draft, begun: OpenText) -> Result<(), Refusal>
     requires { draft.old.text ≡ None }
-    ensures gives { (names : List (List ℕ)) → Gives names (λ _. reading names draft.new) result (with_text (drafted names draft.old) (open_file names open)) }
-    ensures within { (count : ℕ) → IsDraftWithin count draft.old → open.name.0 < count → OnOk result (IsDraftWithin count draft.new) }
-    ensures named { (count : ℕ) → open.name.0 < count → IfErr result (CanShow count) }
+    ensures gives { (names : List (List ℕ)) → Gives names (λ _. reading names draft.new) result (with_text (drafted names draft.old) (open_file names begun)) }
+    ensures within { (count : ℕ) → IsDraftWithin count draft.old → begun.name.0 < count → OnOk result (IsDraftWithin count draft.new) }
+    ensures named { (count : ℕ) → begun.name.0 < count → IfErr result (CanShow count) }
 {
-    if open.text.len() > MAX_TEXT {
-        return Err(naming(alloc, 10, open.line, open.name));
+    if begun.text.len() > MAX_TEXT {
+        return Err(naming(alloc, 10, begun.line, begun.name));
     }
     draft.files.give(FileLine {
-        line: open.line,
+        line: begun.line,
         file: SourceFile {
-            name: open.name,
-            text: TextBytes::new(open.text),
+            name: begun.name,
+            text: TextBytes::new(begun.text),
         },
     })?;
     Ok(())
@@ -132,11 +132,11 @@ fn take(
             let said = read_block_line(alloc, names, number, line)?;
             enter(alloc, draft, number, said)
         }
-        Some(open) => {
+        Some(text) => {
             if line == b".".as_slice() {
-                close(alloc, draft, open)
+                close(alloc, draft, text)
             } else {
-                draft.text = Some(more_text(open, line)?);
+                draft.text = Some(more_text(text, line)?);
                 Ok(())
             }
         }
@@ -175,7 +175,7 @@ pub fn read_block(
     body: &[u8],
 ) -> Result<Command, Refusal>
     requires { first + length body.now + 1 < 2 ^ 64 }
-    ensures gives { Gives names.new (spoken names.new) result (block_command first (script_lines false body.now)) }
+    ensures gives { Gives names.new (spoken names.new) result (block_command first (script_lines true body.now)) }
     ensures within { IfOk result (IsCommandWithin (length names.new)) }
     ensures named { IfErr result (CanShow (length names.new)) }
     ensures grows { Grows names.old names.new }

@@ -2,7 +2,7 @@
 ghost use Rattle.std.specs.Prelude.{◌≡◌, ◌+◌, ◌-◌, ◌<◌, ◌≤◌, min, nat_lt, if◌then◌else◌, ℕ, List, Bool, true, false, is_some, length};
 ghost use Rattle.ls_port.specs.Causes.{Rose};
 ghost use Rattle.std.specs.Io.KnownBytes.{IsAtEnd};
-ghost use Rattle.command_read.specs.Readers.{left, Moved};
+ghost use Rattle.command_read.specs.Readers.{left};
 
 use crate::reader::Reader;
 use crate::stop::Stop;

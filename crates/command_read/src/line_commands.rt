@@ -1,12 +1,13 @@
 // Reading the commands of one line.
-ghost use Rattle.std.specs.Prelude.{◌≡◌, ◌<◌, ◌∷◌, length, IfOk, IfErr, map, MatchOption};
+ghost use Rattle.std.specs.Prelude.{◌≡◌, ◌<◌, ℕ, List, length, IfOk, IfErr, map};
+ghost use Rattle.std.specs.Option.{option_map};
 ghost use Rattle.std.specs.List.{All};
-ghost use Rattle.ls_text.specs.Texts.{Grows, text_at};
-ghost use Rattle.ls_text.specs.Readings.{CanShow, Gives};
+ghost use Rattle.ls_text.specs.Texts.{Grows};
+ghost use Rattle.ls_text.specs.Readings.{CanShow, Gives, IsNameless};
 ghost use Rattle.command_read.specs.Lines.{words};
-ghost use Rattle.command_read.specs.Asking.{of_form, Quits, AsksStatus};
-ghost use Rattle.command_read.specs.Values.{setting_of, shown_of};
-ghost use Rattle.command_read.specs.LineCommands.{settings, set_command, run_command, show_command, settle_command, passes_of, lone, line_command};
+ghost use Rattle.command_read.specs.Asking.{of_form};
+ghost use Rattle.command_read.specs.Values.{count_of, setting_of, shown_of};
+ghost use Rattle.command_read.specs.LineCommands.{settings, set_command, run_command, show_command, settle_command, passes_of, lone, command_of, line_command};
 ghost use Rattle.command_read.specs.Spoken.{spoken, setting, IsCommandWithin};
 
 use crate::faults::{showing, wordless};

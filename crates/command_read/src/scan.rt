@@ -150,9 +150,9 @@ pub fn parted_at(byte: u8, word: &[u8]) -> Option<(&[u8], &[u8])>
 pub fn register_of(word: &[u8]) -> Option<(&[u8], &[u8])>
     ensures { option_map (λ r. (r.0.now, r.1.now)) result ≡ register_of word.now }
 {
-    let (module, register) = parted_at(b'.', word)?;
-    if is_identifier(module) && !register.is_empty() {
-        Some((module, register))
+    let (owner, register) = parted_at(b'.', word)?;
+    if is_identifier(owner) && !register.is_empty() {
+        Some((owner, register))
     } else {
         None
     }

@@ -1,0 +1,107 @@
+-- The first line of bytes, and the lines after it.
+use Rattle.std.proofs.Common.{◌≡◌, ℕ, zero, suc, ◌+◌, ◌<◌, ◌≤◌, Bool, true, false, not, eqb, cond, List, [], ◌∷◌, ◌++◌, length, take, drop, refl, sym, ap, ◌∙◌, append-nil, append_assoc, arith}
+use Rattle.std.proofs.lemmas.List.{nil_from_length}
+use Rattle.std.specs.List.{prefix_len}
+use Rattle.std.specs.Str.Lines.{strip_carriage_return}
+use Rattle.command_read.specs.Lines.{with_any, lines_behind, script_lines}
+use Rattle.command_read.specs.Leading.{MayFollow, Leads}
+
+-- how many bytes stand before the first newline
+abbrev pub line_length : List ℕ → ℕ
+line_length bytes = prefix_len (λ b. not (eqb b 10)) bytes
+
+-- a newline ends the first line, which began with other bytes
+pub ended_line : (e : Bool) (begun bytes more : List ℕ) (n : ℕ) → n ≡ line_length bytes → n < length bytes
+    → lines_behind e begun (bytes ++ more) ≡ strip_carriage_return (begun ++ take n bytes) ∷ lines_behind e [] (drop (n + 1) bytes ++ more)
+ended_line e begun [] more n is within = absurd (omega (arith, within))
+ended_line e begun (b ∷ bs) more n is within =
+    by (λ i. ended_line e (begun ++ b ∷ []) bs more (line_length bs) refl i) (eqb b 10) refl
+  where
+    by : (line_length bs < length bs → lines_behind e (begun ++ b ∷ []) (bs ++ more)
+        ≡ strip_carriage_return ((begun ++ b ∷ []) ++ take (line_length bs) bs) ∷ lines_behind e [] (drop (line_length bs + 1) bs ++ more)) → (c : Bool) → eqb b 10 ≡ c
+        → lines_behind e begun (b ∷ (bs ++ more)) ≡ strip_carriage_return (begun ++ take n (b ∷ bs)) ∷ lines_behind e [] (drop (n + 1) (b ∷ bs) ++ more)
+    by rest true h =
+        let none : n ≡ 0 = is ∙ ap (λ c. cond (not c) (1 + line_length bs) 0) h in
+        ap (λ c. cond c (strip_carriage_return begun ∷ lines_behind e [] (bs ++ more)) (lines_behind e (begun ++ b ∷ []) (bs ++ more))) h
+        ∙ ap (λ l. strip_carriage_return l ∷ lines_behind e [] (bs ++ more)) (sym (append-nil begun))
+        ∙ sym (ap (λ k. strip_carriage_return (begun ++ take k (b ∷ bs)) ∷ lines_behind e [] (drop (k + 1) (b ∷ bs) ++ more)) none)
+    by rest false h =
+        let m = line_length bs in
+        let one : n ≡ 1 + m = is ∙ ap (λ c. cond (not c) (1 + line_length bs) 0) h in
+        let next : n ≡ suc m = omega (arith, one) in
+        let after : n + 1 ≡ suc (m + 1) = omega (arith, one) in
+        ap (λ c. cond c (strip_carriage_return begun ∷ lines_behind e [] (bs ++ more)) (lines_behind e (begun ++ b ∷ []) (bs ++ more))) h
+        ∙ rest (omega (arith, within, one))
+        ∙ ap (λ l. strip_carriage_return l ∷ lines_behind e [] (drop (m + 1) bs ++ more)) (append_assoc begun (b ∷ []) (take m bs))
+        ∙ sym (ap (λ k. strip_carriage_return (begun ++ take k (b ∷ bs)) ∷ lines_behind e [] (drop (m + 1) bs ++ more)) next)
+        ∙ sym (ap (λ k. strip_carriage_return (begun ++ take n (b ∷ bs)) ∷ lines_behind e [] (drop k (b ∷ bs) ++ more)) after)
+
+-- no newline ends what has begun
+pub open_line : (e : Bool) (begun bytes : List ℕ) → length bytes ≤ line_length bytes → lines_behind e begun bytes ≡ cond e (with_any (begun ++ bytes) []) []
+open_line e begun [] all = ap (λ l. cond e (with_any l []) []) (sym (append-nil begun))
+open_line e begun (b ∷ bs) all =
+    by (open_line e (begun ++ b ∷ []) bs) (eqb b 10) refl
+  where
+    by : (length bs ≤ line_length bs → lines_behind e (begun ++ b ∷ []) bs ≡ cond e (with_any ((begun ++ b ∷ []) ++ bs) []) []) → (c : Bool) → eqb b 10 ≡ c
+        → lines_behind e begun (b ∷ bs) ≡ cond e (with_any (begun ++ b ∷ bs) []) []
+    by rest true h =
+        let none : line_length (b ∷ bs) ≡ 0 = ap (λ c. cond (not c) (1 + line_length bs) 0) h in
+        absurd (omega (arith, all, none))
+    by rest false h =
+        let one : line_length (b ∷ bs) ≡ 1 + line_length bs = ap (λ c. cond (not c) (1 + line_length bs) 0) h in
+        ap (λ c. cond c (strip_carriage_return begun ∷ lines_behind e [] bs) (lines_behind e (begun ++ b ∷ []) bs)) h
+        ∙ rest (omega (arith, all, one))
+        ∙ ap (λ l. cond e (with_any l []) []) (append_assoc begun (b ∷ []) bs)
+
+-- a line with a newline
+pub leads_line : (ended : Bool) (bytes : List ℕ) (n : ℕ) → n ≡ line_length bytes → n < length bytes
+    → Leads ended bytes (strip_carriage_return (take n bytes)) (drop (n + 1) bytes)
+unfolding script_lines
+leads_line ended bytes n is within = record { lines = λ more end follows. ended_line end [] bytes more n is within }
+
+-- a last line without one
+pub leads_last : (bytes : List ℕ) → length bytes ≤ line_length bytes → 0 < length bytes → Leads true bytes bytes []
+unfolding script_lines
+leads_last [] all some = absurd (omega (arith, some))
+leads_last (b ∷ bs) all some = record {
+  lines = λ more end follows.
+      ap (λ m. lines_behind end [] ((b ∷ bs) ++ m)) follows.0 ∙ ap (lines_behind end []) (append-nil (b ∷ bs))
+      ∙ open_line end [] (b ∷ bs) all ∙ ap (λ e. cond e (with_any (b ∷ bs) []) []) follows.1
+      ∙ sym (ap (λ e. (b ∷ bs) ∷ lines_behind e [] []) follows.1) ∙ sym (ap (λ m. (b ∷ bs) ∷ lines_behind end [] m) follows.0);
+}
+
+-- bytes without a newline are no line, unless the input ends there
+pub no_line : (bytes : List ℕ) → length bytes ≤ line_length bytes → script_lines false bytes ≡ []
+unfolding script_lines
+no_line bytes all = open_line false [] bytes all
+
+pub nothing : (e : Bool) → script_lines e [] ≡ []
+unfolding script_lines
+nothing true = refl
+nothing false = refl
+
+-- bytes that end lines, or none: the lines behind them stand by themselves
+pub record IsCut (bytes : List ℕ) : Type 0 where
+  pub cut : (e : Bool) (tail : List ℕ) → script_lines e (bytes ++ tail) ≡ script_lines true bytes ++ script_lines e tail
+
+pub cut_nothing : IsCut []
+unfolding script_lines
+cut_nothing = record { cut = λ e tail. refl }
+
+-- the lines of bytes behind which nothing comes
+pub no_bytes : (e : Bool) (bytes : List ℕ) → length bytes ≡ 0 → script_lines e bytes ≡ []
+no_bytes e bytes none = ap (script_lines e) (nil_from_length bytes none) ∙ nothing e
+
+pub lines_of_first : (e : Bool) (bytes line front rest : List ℕ) (n : ℕ) → n ≡ line_length bytes → n < length bytes → front ≡ take n bytes → line ≡ strip_carriage_return front → rest ≡ drop (n + 1) bytes
+    → script_lines e bytes ≡ line ∷ script_lines e rest
+unfolding script_lines
+lines_of_first e bytes line front rest n is within at strips behind =
+    ap (lines_behind e []) (sym (append-nil bytes)) ∙ ended_line e [] bytes [] n is within
+    ∙ ap (λ r. strip_carriage_return (take n bytes) ∷ lines_behind e [] r) (append-nil (drop (n + 1) bytes) ∙ sym behind)
+    ∙ ap (λ l. l ∷ lines_behind e [] rest) (ap strip_carriage_return (sym at) ∙ sym strips)
+
+pub lines_of_last : (bytes rest : List ℕ) (n : ℕ) → n ≡ line_length bytes → length bytes ≤ n → 0 < length bytes → length rest ≡ 0 → script_lines true bytes ≡ bytes ∷ script_lines true rest
+unfolding script_lines
+lines_of_last [] rest n is all some none = absurd (omega (arith, some))
+lines_of_last (b ∷ bs) rest n is all some none =
+    open_line true [] (b ∷ bs) (omega (arith, is, all)) ∙ ap (λ r. (b ∷ bs) ∷ lines_behind true [] r) (sym (nil_from_length rest none))

@@ -1,0 +1,4 @@
+pub mod FirstLines
+pub mod Words
+pub mod Digits
+pub mod Refusing
