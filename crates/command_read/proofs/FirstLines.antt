@@ -1,5 +1,5 @@
 -- The first line of bytes, and the lines after it.
-use Rattle.std.proofs.Common.{◌≡◌, ℕ, zero, suc, ◌+◌, ◌<◌, ◌≤◌, Bool, true, false, not, eqb, cond, List, [], ◌∷◌, ◌++◌, length, take, drop, refl, sym, ap, ◌∙◌, append-nil, append_assoc, arith}
+use Rattle.std.proofs.Common.{◌≡◌, ℕ, zero, suc, ◌+◌, ◌<◌, ◌≤◌, Bool, true, false, not, eqb, cond, List, [], ◌∷◌, ◌++◌, length, take, drop, refl, sym, ap, ◌∙◌, append-nil, append_assoc, take-append-drop, arith}
 use Rattle.std.proofs.lemmas.List.{nil_from_length}
 use Rattle.std.specs.List.{prefix_len}
 use Rattle.std.specs.Str.Lines.{strip_carriage_return}
@@ -11,30 +11,38 @@ abbrev pub line_length : List ℕ → ℕ
 line_length bytes = prefix_len (λ b. not (eqb b 10)) bytes
 
 -- a newline ends the first line, which began with other bytes
-pub ended_line : (e : Bool) (begun bytes more : List ℕ) (n : ℕ) → n ≡ line_length bytes → n < length bytes
-    → lines_behind e begun (bytes ++ more) ≡ strip_carriage_return (begun ++ take n bytes) ∷ lines_behind e [] (drop (n + 1) bytes ++ more)
-ended_line e begun [] more n is within = absurd (omega (arith, within))
-ended_line e begun (b ∷ bs) more n is within =
-    by (λ i. ended_line e (begun ++ b ∷ []) bs more (line_length bs) refl i) (eqb b 10) refl
+front_line : (e : Bool) (begun bytes tail : List ℕ) (n : ℕ) → n ≡ line_length bytes → n < length bytes
+    → lines_behind e begun (take (n + 1) bytes ++ tail) ≡ strip_carriage_return (begun ++ take n bytes) ∷ lines_behind e [] tail
+front_line e begun [] tail n is within = absurd (omega (arith, within))
+front_line e begun (b ∷ bs) tail n is within =
+    by (λ i. front_line e (begun ++ b ∷ []) bs tail (line_length bs) refl i) (eqb b 10) refl
   where
-    by : (line_length bs < length bs → lines_behind e (begun ++ b ∷ []) (bs ++ more)
-        ≡ strip_carriage_return ((begun ++ b ∷ []) ++ take (line_length bs) bs) ∷ lines_behind e [] (drop (line_length bs + 1) bs ++ more)) → (c : Bool) → eqb b 10 ≡ c
-        → lines_behind e begun (b ∷ (bs ++ more)) ≡ strip_carriage_return (begun ++ take n (b ∷ bs)) ∷ lines_behind e [] (drop (n + 1) (b ∷ bs) ++ more)
+    by : (line_length bs < length bs → lines_behind e (begun ++ b ∷ []) (take (line_length bs + 1) bs ++ tail)
+        ≡ strip_carriage_return ((begun ++ b ∷ []) ++ take (line_length bs) bs) ∷ lines_behind e [] tail) → (c : Bool) → eqb b 10 ≡ c
+        → lines_behind e begun (take (n + 1) (b ∷ bs) ++ tail) ≡ strip_carriage_return (begun ++ take n (b ∷ bs)) ∷ lines_behind e [] tail
     by rest true h =
         let none : n ≡ 0 = is ∙ ap (λ c. cond (not c) (1 + line_length bs) 0) h in
-        ap (λ c. cond c (strip_carriage_return begun ∷ lines_behind e [] (bs ++ more)) (lines_behind e (begun ++ b ∷ []) (bs ++ more))) h
-        ∙ ap (λ l. strip_carriage_return l ∷ lines_behind e [] (bs ++ more)) (sym (append-nil begun))
-        ∙ sym (ap (λ k. strip_carriage_return (begun ++ take k (b ∷ bs)) ∷ lines_behind e [] (drop (k + 1) (b ∷ bs) ++ more)) none)
+        ap (λ k. lines_behind e begun (take (k + 1) (b ∷ bs) ++ tail)) none
+        ∙ ap (λ c. cond c (strip_carriage_return begun ∷ lines_behind e [] tail) (lines_behind e (begun ++ b ∷ []) tail)) h
+        ∙ ap (λ l. strip_carriage_return l ∷ lines_behind e [] tail) (sym (append-nil begun))
+        ∙ sym (ap (λ k. strip_carriage_return (begun ++ take k (b ∷ bs)) ∷ lines_behind e [] tail) none)
     by rest false h =
         let m = line_length bs in
         let one : n ≡ 1 + m = is ∙ ap (λ c. cond (not c) (1 + line_length bs) 0) h in
         let next : n ≡ suc m = omega (arith, one) in
         let after : n + 1 ≡ suc (m + 1) = omega (arith, one) in
-        ap (λ c. cond c (strip_carriage_return begun ∷ lines_behind e [] (bs ++ more)) (lines_behind e (begun ++ b ∷ []) (bs ++ more))) h
+        ap (λ k. lines_behind e begun (take k (b ∷ bs) ++ tail)) after
+        ∙ ap (λ c. cond c (strip_carriage_return begun ∷ lines_behind e [] (take (m + 1) bs ++ tail)) (lines_behind e (begun ++ b ∷ []) (take (m + 1) bs ++ tail))) h
         ∙ rest (omega (arith, within, one))
-        ∙ ap (λ l. strip_carriage_return l ∷ lines_behind e [] (drop (m + 1) bs ++ more)) (append_assoc begun (b ∷ []) (take m bs))
-        ∙ sym (ap (λ k. strip_carriage_return (begun ++ take k (b ∷ bs)) ∷ lines_behind e [] (drop (m + 1) bs ++ more)) next)
-        ∙ sym (ap (λ k. strip_carriage_return (begun ++ take n (b ∷ bs)) ∷ lines_behind e [] (drop k (b ∷ bs) ++ more)) after)
+        ∙ ap (λ l. strip_carriage_return l ∷ lines_behind e [] tail) (append_assoc begun (b ∷ []) (take m bs))
+        ∙ sym (ap (λ k. strip_carriage_return (begun ++ take k (b ∷ bs)) ∷ lines_behind e [] tail) next)
+
+pub ended_line : (e : Bool) (begun bytes more : List ℕ) (n : ℕ) → n ≡ line_length bytes → n < length bytes
+    → lines_behind e begun (bytes ++ more) ≡ strip_carriage_return (begun ++ take n bytes) ∷ lines_behind e [] (drop (n + 1) bytes ++ more)
+ended_line e begun bytes more n is within =
+    ap (λ b. lines_behind e begun (b ++ more)) (sym (take-append-drop (n + 1) bytes))
+    ∙ ap (lines_behind e begun) (append_assoc (take (n + 1) bytes) (drop (n + 1) bytes) more)
+    ∙ front_line e begun bytes (drop (n + 1) bytes ++ more) n is within
 
 -- no newline ends what has begun
 pub open_line : (e : Bool) (begun bytes : List ℕ) → length bytes ≤ line_length bytes → lines_behind e begun bytes ≡ cond e (with_any (begun ++ bytes) []) []
@@ -105,3 +113,24 @@ unfolding script_lines
 lines_of_last [] rest n is all some none = absurd (omega (arith, some))
 lines_of_last (b ∷ bs) rest n is all some none =
     open_line true [] (b ∷ bs) (omega (arith, is, all)) ∙ ap (λ r. (b ∷ bs) ∷ lines_behind true [] r) (sym (nil_from_length rest none))
+
+-- one line more: what ends lines goes on to end lines
+pub cut_more : (xs bytes : List ℕ) (n : ℕ) → IsCut xs → n ≡ line_length bytes → n < length bytes → IsCut (xs ++ take (n + 1) bytes)
+unfolding script_lines
+cut_more xs bytes n whole is within = record {
+  cut = λ e tail.
+      let y = take (n + 1) bytes in
+      let line = strip_carriage_return (take n bytes) in
+      let alone = ap (λ t. lines_behind true [] t) (sym (append-nil y)) ∙ front_line true [] bytes [] n is within in
+      ap (lines_behind e []) (append_assoc xs y tail) ∙ whole.cut e (y ++ tail)
+      ∙ ap (λ ls. script_lines true xs ++ ls) (front_line e [] bytes tail n is within ∙ sym (ap (λ ls. ls ++ lines_behind e [] tail) alone))
+      ∙ sym (append_assoc (script_lines true xs) (lines_behind true [] y) (lines_behind e [] tail))
+      ∙ ap (λ ls. ls ++ lines_behind e [] tail) (sym (whole.cut true y));
+}
+
+pub lines_more : (xs bytes : List ℕ) (n : ℕ) → IsCut xs → n ≡ line_length bytes → n < length bytes
+    → script_lines true (xs ++ take (n + 1) bytes) ≡ script_lines true xs ++ strip_carriage_return (take n bytes) ∷ []
+unfolding script_lines
+lines_more xs bytes n whole is within =
+    whole.cut true (take (n + 1) bytes)
+    ∙ ap (λ ls. script_lines true xs ++ ls) (ap (λ t. lines_behind true [] t) (sym (append-nil (take (n + 1) bytes))) ∙ front_line true [] bytes [] n is within)

@@ -4,3 +4,6 @@ pub mod Digits
 pub mod Refusing
 pub mod Grown
 pub mod Settings
+pub mod Entering
+pub mod Taking
+pub mod Scanning

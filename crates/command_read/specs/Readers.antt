@@ -1,6 +1,7 @@
 -- What a reader holds, and what a call of it takes and hands out.
 use Rattle.std.specs.Prelude.{◌≡◌, ◌⊎◌, ℕ, ◌+◌, Bool, true, false, List, [], ◌∷◌, ◌++◌, length, drop, Option, Some, None, Result, Ok, Err, ⊤}
-use Rattle.std.specs.Io.KnownBytes.{Consumes}
+use Rattle.std.specs.Io.KnownBytes.{Consumes, IsAtEnd}
+use Rattle.ls_port.specs.Causes.{Rose}
 use Rattle.ls_text.specs.Readings.{TextFault, fault_view}
 use Rattle.command_read.specs.declared.reader.Reader.{Reader}
 use Rattle.command_read.specs.declared.stop.Stop.{Stop}
@@ -36,22 +37,28 @@ stopped r = r.stop
 abbrev pub asked_of : Reader → (more : List ℕ) → (end : Bool) → List (Result Asked TextFault)
 asked_of r more end = asks end (next_number r) (left r ++ more)
 
--- which of the bytes that came a reader has kept: all, but for the one above the limit; where memory ran out that isn't said
+-- which of the bytes that came a reader has kept: all, but for the one above the limit; where memory ran out a front of them
 abbrev pub AreKept : Option Stop → (came kept : List ℕ) → Type 0
 AreKept None came kept = came ≡ kept
 AreKept (Some stop.End) came kept = came ≡ kept
 AreKept (Some stop.Fault) came kept = came ≡ kept
 AreKept (Some stop.TooMuch) came kept = (last : ℕ) × (came ≡ kept ++ last ∷ [])
-AreKept (Some stop.NoMemory) came kept = ⊤
+AreKept (Some stop.NoMemory) came kept = (lost : List ℕ) × (came ≡ kept ++ lost)
 
--- A call took those bytes of a source, of which the reader has kept those: what was asked for is what it has told, and then what is still asked for,
--- whatever comes behind.
-pub record Goes (before behind : Option (List ℕ)) (old new : Reader) (told : List (Result Asked TextFault)) (came kept : List ℕ) : Type 0 where
+-- A call took those bytes of a source, which has what it has left before and behind the call and a count of faults, and the reader has kept those. The count
+-- rises where the source failed and nowhere else. Where the input's end was seen nothing is left, and nothing is taken from then on.
+pub record Takes (before behind : Option (List ℕ)) (faults count : ℕ) (old new : Reader) (came kept : List ℕ) : Type 0 where
   pub consumed : Consumes before behind came
   pub counted : count_taken new ≡ count_taken old + length came
   pub holds : AreKept (stopped new) came kept
-  pub asked : (more : List ℕ) (end : Bool) → MayFollow (has_ended new) more end → asked_of old (kept ++ more) end ≡ told ++ asked_of new more end
+  pub failed : stopped new ≡ Some stop.Fault → Rose faults count
+  pub unfailed : (stopped new ≡ Some stop.Fault → ⊥) → count ≡ faults
+  pub ended : has_ended new ≡ true → (has_ended old ≡ true) ⊎ IsAtEnd behind
   pub quiet : has_ended old ≡ true → (came ≡ []) × (kept ≡ []) × (has_ended new ≡ true)
+
+-- what was asked for is what is told, and then what is still asked for, whatever comes behind the bytes that were kept
+abbrev pub HandsOut : (old new : Reader) → (told : List (Result Asked TextFault)) → (kept : List ℕ) → Type 0
+HandsOut old new told kept = (more : List ℕ) → (end : Bool) → MayFollow (has_ended new) more end → asked_of old (kept ++ more) end ≡ told ++ asked_of new more end
 
 -- what an answer tells
 abbrev pub told : List (List ℕ) → ReadEnd → List (Result Asked TextFault)

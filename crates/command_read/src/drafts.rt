@@ -125,11 +125,11 @@ fn take(
     ensures named { IfErr result (CanShow (length names.new)) }
     ensures grows { Grows names.old names.new }
 {
-    // A table says of its texts that no two are equal.
-    let _text = names.text(NameId(0));
     match draft.text.take() {
         None => {
             let said = read_block_line(alloc, names, number, line)?;
+            // A table says of its texts that no two are equal.
+            let _text = names.text(NameId(0));
             enter(alloc, draft, number, said)
         }
         Some(text) => {
