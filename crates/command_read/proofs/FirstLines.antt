@@ -1,14 +1,12 @@
 -- The first line of bytes, and the lines after it.
-use Rattle.std.proofs.Common.{◌≡◌, ℕ, zero, suc, ◌+◌, ◌<◌, ◌≤◌, Bool, true, false, not, eqb, cond, List, [], ◌∷◌, ◌++◌, length, take, drop, refl, sym, ap, ◌∙◌, append-nil, append_assoc, take-append-drop, arith}
-use Rattle.std.proofs.lemmas.List.{nil_from_length}
+use Rattle.std.proofs.Common.{◌≡◌, ℕ, zero, suc, ◌+◌, ◌-◌, ◌<◌, ◌≤◌, Bool, true, false, not, eqb, cond, List, [], ◌∷◌, ◌++◌, length, take, drop, refl, sym, ap, ◌∙◌, subst, append-nil, append_assoc, take-append-drop, arith}
+use Rattle.std.proofs.lemmas.List.{nil_from_length, take_all, drop_all, length-take, length-take-le, take-take}
 use Rattle.std.specs.List.{prefix_len}
+use Rattle.std.specs.Prelude.{slice_index}
 use Rattle.std.specs.Str.Lines.{strip_carriage_return}
 use Rattle.command_read.specs.Lines.{with_any, lines_behind, script_lines}
 use Rattle.command_read.specs.Leading.{MayFollow, Leads}
-
--- how many bytes stand before the first newline
-abbrev pub line_length : List ℕ → ℕ
-line_length bytes = prefix_len (λ b. not (eqb b 10)) bytes
+use Rattle.command_read.specs.LineEnds.{line_length, IsLineAt}
 
 -- a newline ends the first line, which began with other bytes
 front_line : (e : Bool) (begun bytes tail : List ℕ) (n : ℕ) → n ≡ line_length bytes → n < length bytes
@@ -134,3 +132,66 @@ unfolding script_lines
 lines_more xs bytes n whole is within =
     whole.cut true (take (n + 1) bytes)
     ∙ ap (λ ls. script_lines true xs ++ ls) (ap (λ t. lines_behind true [] t) (sym (append-nil (take (n + 1) bytes))) ∙ front_line true [] bytes [] n is within)
+
+-- the length of a line goes on from a place before its end
+pub length_from : (k : ℕ) (bytes : List ℕ) → k ≤ line_length bytes → line_length bytes ≡ k + line_length (drop k bytes)
+length_from zero bytes within = omega arith
+length_from (suc k) [] within = absurd (omega (arith, within))
+length_from (suc k) (b ∷ bs) within =
+    by (length_from k bs) (eqb b 10) refl
+  where
+    by : (k ≤ line_length bs → line_length bs ≡ k + line_length (drop k bs)) → (c : Bool) → eqb b 10 ≡ c → line_length (b ∷ bs) ≡ suc k + line_length (drop k bs)
+    by rest true h =
+        let none : line_length (b ∷ bs) ≡ 0 = ap (λ c. cond (not c) (1 + line_length bs) 0) h in
+        absurd (omega (arith, within, none))
+    by rest false h =
+        let one : line_length (b ∷ bs) ≡ 1 + line_length bs = ap (λ c. cond (not c) (1 + line_length bs) 0) h in
+        let more = rest (omega (arith, within, one)) in
+        omega (arith, one, more)
+
+strip_shorter : (l : List ℕ) → length (strip_carriage_return l) ≤ length l
+strip_shorter l = by (eqb (slice_index l (length l - 1)) 13)
+  where
+    by : (c : Bool) → length (cond c (take (length l - 1) l) l) ≤ length l
+    by true = omega (arith, length-take (length l - 1) l)
+    by false = omega arith
+
+strip_front : (l : List ℕ) → take (length (strip_carriage_return l)) l ≡ strip_carriage_return l
+strip_front l = by (eqb (slice_index l (length l - 1)) 13)
+  where
+    by : (c : Bool) → take (length (cond c (take (length l - 1) l) l)) l ≡ cond c (take (length l - 1) l) l
+    by true = ap (λ k. take k l) (length-take-le (length l - 1) l (omega arith))
+    by false = take_all (length l) l (omega arith)
+
+-- a line with a newline
+pub line_with_newline : (ended : Bool) (bytes : List ℕ) (n len : ℕ) → n ≡ line_length bytes → n < length bytes → len ≡ length (strip_carriage_return (take n bytes))
+    → IsLineAt ended bytes len (n + 1)
+line_with_newline ended bytes n len is within strips =
+    let front = take n bytes in
+    let long : length front ≡ n = length-take-le n bytes (omega (arith, within)) in
+    let short = strip_shorter front in
+    let at : take len bytes ≡ strip_carriage_return front
+    = sym (take-take len n bytes (omega (arith, strips, short, long))) ∙ ap (λ k. take k front) strips ∙ strip_front front in
+    record {
+      leads = subst (λ l. Leads ended bytes l (drop (n + 1) bytes)) (sym at) (leads_line ended bytes n is within);
+      within = omega (arith, within);
+      some = omega arith;
+      shorter = omega (arith, strips, short, long);
+      last = λ full. absurd (omega (arith, full, strips, short, long));
+      newline = λ more. ap (λ k. k + 1) is;
+      strips = λ more. at ∙ ap (λ k. strip_carriage_return (take k bytes)) is;
+    }
+
+-- a last line without one
+pub line_without_newline : (bytes : List ℕ) → length bytes ≤ line_length bytes → 0 < length bytes → IsLineAt true bytes (length bytes) (length bytes)
+line_without_newline bytes all some =
+    record {
+      leads = subst (λ r. Leads true bytes (take (length bytes) bytes) r) (sym (drop_all (length bytes) bytes (omega arith)))
+          (subst (λ l. Leads true bytes l []) (sym (take_all (length bytes) bytes (omega arith))) (leads_last bytes all some));
+      within = omega arith;
+      some = some;
+      shorter = omega arith;
+      last = λ full. refl;
+      newline = λ more. absurd (omega (arith, more));
+      strips = λ more. absurd (omega (arith, more));
+    }

@@ -7,3 +7,7 @@ pub mod Settings
 pub mod Entering
 pub mod Taking
 pub mod Scanning
+pub mod Sources
+pub mod Pieces
+pub mod Waiting
+pub mod Ends

@@ -11,11 +11,7 @@ use Rattle.command_read.specs.Asking.{Asked, fault_on}
 use Rattle.command_read.specs.LineCommands.{line_command}
 use Rattle.command_read.specs.Blocks.{block_command}
 use Rattle.command_read.specs.Scripts.{Stand, Outside, Within, stand_behind, asked_at, asked_last, asked_by, asks}
-use Rattle.command_read.proofs.FirstLines.{nothing}
-
--- what bytes ask for, the first of which begin that line, is what their lines from a place on ask for
-pub record Scanned (ended : Bool) (number : ℕ) (bytes : List ℕ) (stand : Stand) (line next : ℕ) : Type 0 where
-  pub rest : (more : List ℕ) (end : Bool) → MayFollow ended more end → asks end number (bytes ++ more) ≡ asked_by end stand line (script_lines end (drop next bytes ++ more))
+use Rattle.command_read.specs.Scanned.{Scanned}
 
 pub scan_front : (ended : Bool) (number : ℕ) (bytes : List ℕ) → Scanned ended number bytes Outside number 0
 unfolding asks

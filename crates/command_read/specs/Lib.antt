@@ -5,7 +5,10 @@ pub mod LineCommands
 pub mod Blocks
 pub mod Scripts
 pub mod Known
+pub mod Scanned
 pub mod Spoken
 pub mod Sound
 pub mod Leading
+pub mod LineEnds
 pub mod Readers
+pub mod Found

@@ -54,7 +54,7 @@ pub record Takes (before behind : Option (List ℕ)) (faults count : ℕ) (old n
   pub failed : stopped new ≡ Some stop.Fault → Rose faults count
   pub unfailed : (stopped new ≡ Some stop.Fault → ⊥) → count ≡ faults
   pub ended : has_ended new ≡ true → (has_ended old ≡ true) ⊎ IsAtEnd behind
-  pub quiet : has_ended old ≡ true → (came ≡ []) × (kept ≡ []) × (has_ended new ≡ true)
+  pub quiet : has_ended old ≡ true → (came ≡ []) × (kept ≡ []) × (has_ended new ≡ true) × (behind ≡ before)
 
 -- what was asked for is what is told, and then what is still asked for, whatever comes behind the bytes that were kept
 abbrev pub HandsOut : (old new : Reader) → (told : List (Result Asked TextFault)) → (kept : List ℕ) → Type 0
