@@ -1,6 +1,6 @@
 -- Where lines end among the bytes that a reader holds.
 use Rattle.std.proofs.Common.{◌≡◌, ◌⊎◌, inl, inr, ℕ, ◌+◌, ◌-◌, ◌<◌, ◌≤◌, Bool, true, false, not, eqb, cond, List, [], ◌++◌, length, take, drop, Option, Some, None, refl, sym, ap, ◌∙◌, subst, append-nil, eqb-true, true≢false, arith}
-use Rattle.std.specs.Prelude.{is_none}
+use Rattle.std.specs.Prelude.{is_some}
 use Rattle.std.proofs.lemmas.Option.{none-some}
 use Rattle.std.proofs.lemmas.List.Folds.{prefix_len-append}
 use Rattle.command_read.specs.declared.stop.Stop.{Stop}
@@ -85,12 +85,16 @@ halted_so (Some s) ended from xs kept new is lost still none =
     let same : new ≡ xs = is ∙ ap (λ k. xs ++ k) (lost stopped) ∙ append-nil xs in
     inr (ap (λ l. script_lines false (drop from l)) same ∙ no_line (drop from xs) none, still stopped)
 
-pub going_from : (s : Option Stop) → is_none s ≡ true → s ≡ None
+pub going_from : (s : Option Stop) → is_some s ≡ false → s ≡ None
 going_from None is = refl
-going_from (Some s) is = absurd (true≢false (sym is))
+going_from (Some s) is = absurd (true≢false is)
+
+pub stopped_from : (s : Option Stop) → is_some s ≡ true → s ≡ None → ⊥
+stopped_from None is none = true≢false (sym is)
+stopped_from (Some s) is none = none-some s (sym none)
 
 -- where something is read for the first time, what was held before has no line there
-pub unread_so : {P : Type 0} {from : ℕ} {first now : List ℕ} → (P × (now ≡ first)) ⊎ (script_lines false (drop from first) ≡ []) → script_lines false (drop from now) ≡ []
-    → script_lines false (drop from first) ≡ []
-unread_so {from = from} (inl same) none = ap (λ l. script_lines false (drop from l)) (sym same.1) ∙ none
-unread_so (inr none) now_none = none
+pub unread_so : (P : Type 0) (from : ℕ) (first now : List ℕ) (begun ended : Bool) → (P × (now ≡ first) × (ended ≡ begun)) ⊎ ((begun ≡ false) × (script_lines false (drop from first) ≡ []))
+    → ended ≡ false → script_lines false (drop from now) ≡ [] → (begun ≡ false) × (script_lines false (drop from first) ≡ [])
+unread_so P from first now begun ended (inl same) more none = (sym same.2 ∙ more, ap (λ l. script_lines false (drop from l)) (sym same.1) ∙ none)
+unread_so P from first now begun ended (inr is) more none = is

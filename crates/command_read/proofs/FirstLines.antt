@@ -191,7 +191,7 @@ line_without_newline bytes all some =
       within = omega arith;
       some = some;
       shorter = omega arith;
-      last = λ full. refl;
+      last = λ full. (refl, refl);
       newline = λ more. absurd (omega (arith, more));
       strips = λ more. absurd (omega (arith, more));
     }

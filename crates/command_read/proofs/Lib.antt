@@ -11,3 +11,5 @@ pub mod Sources
 pub mod Pieces
 pub mod Waiting
 pub mod Ends
+pub mod Skipping
+pub mod InBlocks

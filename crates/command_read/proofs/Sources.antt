@@ -117,3 +117,13 @@ takes_failed before behind f g old new kept rose failed taken same more = record
   ended = λ ended. inl (sym same ∙ ended);
   quiet = λ ended. absurd (true≢false (sym ended ∙ more));
 }
+
+-- more is read behind what is held
+pub reads_on : (a b c : Option (List ℕ)) (f g h : ℕ) (old mid new : Reader) (c1 k1 c2 k2 : List ℕ) → Takes a b f g old mid c1 k1 → left mid ≡ left old ++ k1 → stopped mid ≡ None
+    → Takes b c g h mid new c2 k2 → left new ≡ left mid ++ k2 → (came : List ℕ) × (kept : List ℕ) × Takes a c f h old new came kept × (left new ≡ left old ++ kept)
+reads_on a b c f g h old mid new c1 k1 c2 k2 first holds going second more =
+    (c1 ++ c2, k1 ++ k2, takes_on a b c f g h old mid new c1 k1 c2 k2 first going second, more ∙ ap (λ l. l ++ k2) holds ∙ append_assoc (left old) k1 k2)
+
+pub only_same : (P A B Q : Type 0) → (P × A × B) ⊎ Q → P ⊎ Q
+only_same P A B Q (inl same) = inl same.0
+only_same P A B Q (inr is) = inr is

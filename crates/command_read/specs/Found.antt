@@ -27,10 +27,15 @@ abbrev pub AsksFirst : Reader → (first : Result Asked TextFault) → (bytes li
 AsksFirst r first bytes lines = (more : List ℕ) → (end : Bool) → MayFollow (has_ended r) more end
     → asked_of r more end ≡ first ∷ asks end (next_number r + lines) (drop bytes (left r) ++ more)
 
+-- what that asks for which stands at the front of what a reader holds
+abbrev pub item_asked : Reader → Item → Result Asked TextFault
+item_asked r (Line end next) = line_command (next_number r) (words (take end (left r)))
+item_asked r (Block body end next lines) = block_command (next_number r) (script_lines true (take (end - body) (drop body (left r))))
+item_asked r Open = Err (fault_on 66 (next_number r) [])
+
 -- that stands at the front of what a reader holds
 abbrev pub IsAtFront : Reader → Item → Type 0
-IsAtFront r (Line end next) =
-    (end ≤ next) × (next ≤ length (left r)) × (0 < next) × AsksFirst r (line_command (next_number r) (words (take end (left r)))) next 1
+IsAtFront r (Line end next) = (end ≤ next) × (next ≤ length (left r)) × (0 < next) × AsksFirst r (line_command (next_number r) (words (take end (left r)))) next 1
 IsAtFront r (Block body end next lines) =
     (body ≤ end) × (end ≤ next) × (next ≤ length (left r)) × (lines ≤ next) × (0 < next)
     × AsksFirst r (block_command (next_number r) (script_lines true (take (end - body) (drop body (left r))))) next lines

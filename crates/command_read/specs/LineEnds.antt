@@ -1,5 +1,5 @@
 -- Where a line ends among bytes.
-use Rattle.std.specs.Prelude.{◌≡◌, ℕ, ◌+◌, ◌<◌, ◌≤◌, ◌==◌, not, Bool, List, length, take, drop}
+use Rattle.std.specs.Prelude.{◌≡◌, ℕ, ◌+◌, ◌<◌, ◌≤◌, ◌==◌, not, Bool, true, List, length, take, drop}
 use Rattle.std.specs.List.{prefix_len}
 use Rattle.std.specs.Str.Lines.{strip_carriage_return}
 use Rattle.command_read.specs.Leading.{Leads}
@@ -14,6 +14,6 @@ pub record IsLineAt (ended : Bool) (bytes : List ℕ) (len next : ℕ) : Type 0 
   pub within : next ≤ length bytes
   pub some : 0 < next
   pub shorter : len ≤ next
-  pub last : next ≤ len → next ≡ length bytes
+  pub last : next ≤ len → (next ≡ length bytes) × (ended ≡ true)
   pub newline : len < next → next ≡ line_length bytes + 1
   pub strips : len < next → take len bytes ≡ strip_carriage_return (take (line_length bytes) bytes)

@@ -1,5 +1,5 @@
 -- What a reader holds, and what a call of it takes and hands out.
-use Rattle.std.specs.Prelude.{◌≡◌, ◌⊎◌, ℕ, ◌+◌, Bool, true, false, List, [], ◌∷◌, ◌++◌, length, drop, Option, Some, None, Result, Ok, Err, ⊤}
+use Rattle.std.specs.Prelude.{◌≡◌, ◌⊎◌, ℕ, ◌+◌, ◌<◌, Bool, true, false, List, [], ◌∷◌, ◌++◌, length, drop, Option, Some, None, Result, Ok, Err, ⊤}
 use Rattle.std.specs.Io.KnownBytes.{Consumes, IsAtEnd}
 use Rattle.ls_port.specs.Causes.{Rose}
 use Rattle.ls_text.specs.Readings.{TextFault, fault_view}
@@ -11,7 +11,9 @@ use Rattle.command_read.specs.declared.read_end.ReadEnd.TheVariants as read_end
 use Rattle.command_read.specs.Asking.{Asked}
 use Rattle.command_read.specs.Scripts.{asks}
 use Rattle.command_read.specs.Leading.{MayFollow}
-use Rattle.command_read.specs.Spoken.{spoken}
+use Rattle.command_read.specs.Spoken.{spoken, IsCommandWithin}
+use Rattle.std.specs.List.{All}
+use Rattle.ls_text.specs.declared.name_id.NameId.{NameId}
 
 -- the bytes that a reader has taken and not handed out
 abbrev pub left : Reader → List ℕ
@@ -84,3 +86,12 @@ end_of stop.End = read_end.End
 end_of stop.Fault = read_end.Fault
 end_of stop.TooMuch = read_end.TooMuch
 end_of stop.NoMemory = read_end.NoMemory
+
+-- the names that an answer tells are among so many
+abbrev pub IsReadEndWithin : ℕ → ReadEnd → Type 0
+IsReadEndWithin count (read_end.Command command) = IsCommandWithin count command
+IsReadEndWithin count (read_end.Refused fault) = All (λ (id : NameId). id.0 < count) fault.names
+IsReadEndWithin count read_end.End = ⊤
+IsReadEndWithin count read_end.Fault = ⊤
+IsReadEndWithin count read_end.TooMuch = ⊤
+IsReadEndWithin count read_end.NoMemory = ⊤

@@ -91,7 +91,8 @@ impl Reader {
         ensures ends { IfNone result (stopped self.new ≡ None → has_ended self.new ≡ true) }
         ensures open { (stopped self.new ≡ None → ⊥) → has_ended self.new ≡ false }
         ensures not_end { stopped self.new ≡ Some End → ⊥ }
-        ensures unread { (source.new ≡ source.old) ⊎ (script_lines false (drop from (left self.old)) ≡ []) }
+        ensures unread { ((source.new ≡ source.old) × (left self.new ≡ left self.old) × (has_ended self.new ≡ has_ended self.old))
+            ⊎ ((has_ended self.old ≡ false) × (script_lines false (drop from (left self.old)) ≡ [])) }
     {
         let mut seen = from;
         while self.stop.is_none() {
@@ -119,7 +120,8 @@ impl Reader {
         ensures none { IfNone result (asked_of self.new [] (has_ended self.new) ≡ []) }
         ensures ends { IfNone result (stopped self.new ≡ None → has_ended self.new ≡ true) }
         ensures not_end { stopped self.new ≡ Some End → ⊥ }
-        ensures unread { (source.new ≡ source.old) ⊎ (asked_of self.old [] false ≡ []) }
+        ensures unread { ((source.new ≡ source.old) × (has_ended self.new ≡ has_ended self.old) × (has_ended self.old ≡ false → asked_of self.new [] false ≡ asked_of self.old [] false))
+            ⊎ ((has_ended self.old ≡ false) × (asked_of self.old [] false ≡ [])) }
     {
         while let Some(found) = self.line_at(source, 0) {
             if !is_skipped(self.left().split_at(found.end).0) {
@@ -144,7 +146,7 @@ impl Reader {
         ensures none { IfNone result (asked_of self.new [] (has_ended self.new) ≡ []) }
         ensures halted { IfNone result (stopped self.new ≡ None → ⊥) }
         ensures not_end { stopped self.new ≡ Some End → ⊥ }
-        ensures unread { (source.new ≡ source.old) ⊎ (asked_of self.old [] false ≡ []) }
+        ensures unread { (source.new ≡ source.old) ⊎ ((has_ended self.old ≡ false) × (asked_of self.old [] false ≡ [])) }
     {
         let mut from = body;
         let mut lines = 1;
@@ -183,7 +185,7 @@ impl Reader {
         ensures none { IfNone result (asked_of self.new [] (has_ended self.new) ≡ []) }
         ensures ends { IfNone result (stopped self.new ≡ None → has_ended self.new ≡ true) }
         ensures not_end { stopped self.new ≡ Some End → ⊥ }
-        ensures unread { (source.new ≡ source.old) ⊎ (asked_of self.old [] false ≡ []) }
+        ensures unread { (source.new ≡ source.old) ⊎ ((has_ended self.old ≡ false) × (asked_of self.old [] false ≡ [])) }
     {
         let LineEnd { end, next } = self.first_line(source)?;
         if is_just(b"edit", self.left().split_at(end).0) {

@@ -19,7 +19,8 @@ invariant-loop-found g l = record {
   scanned : Scanned (has_ended l.self) (next_number l.self) (left l.self)
       (Within (next_number l.self) (script_lines true (take (l.from - l.body) (drop l.body (left l.self)))) l.in_text) (next_number l.self + l.lines) l.from;
   whole : IsCut (take (l.from - l.body) (drop l.body (left l.self)));
-  unread : (l.source ≡ l.initial.source) ⊎ (asked_of l.initial.self [] false ≡ []);
+  unread : ((l.source ≡ l.initial.source) × (left l.self ≡ left l.initial.self) × (has_ended l.self ≡ has_ended l.initial.self))
+      ⊎ ((has_ended l.initial.self ≡ false) × (asked_of l.initial.self [] false ≡ []));
 }
 
 abbrev pub decreases-loop-found : goal.decreases-loop-found

@@ -1,4 +1,4 @@
-use Rattle.std.proofs.Common.{◌≡◌, ◌⊎◌, inl, inr, ◌≤◌, ◌++◌, List, [], false, None, length, drop, refl, sym, ap, ◌∙◌, append-nil, append_assoc, length-append, arith}
+use Rattle.std.proofs.Common.{◌≡◌, ◌⊎◌, inl, inr, ◌≤◌, ◌++◌, List, [], false, None, length, drop, refl, not, sym, ap, ◌∙◌, append-nil, append_assoc, length-append, arith}
 use Rattle.std.proofs.lemmas.Option.{none-some}
 use Rattle.command_read.specs.declared.stop.Stop.TheVariants.{End}
 use Rattle.command_read.specs.Lines.{script_lines}
@@ -17,7 +17,7 @@ loop-self-init g c = record {
   high = c.requires.within;
   none = omega arith;
   halted = inl c.requires.going;
-  unread = inl (refl, refl);
+  unread = inl (refl, refl, refl);
   not_end = λ end. none-some End (sym c.requires.going ∙ end);
 }
 
@@ -28,7 +28,7 @@ loop-self-preserved g c =
     let so_far = c.loop-self.invariant in
     let first = so_far.takes in
     let second = c.fill.ensures.takes in
-    let going : stopped old ≡ None = going_from (stopped old) (sym c.is_none.ensures ∙ c.loop-self-test.true) in
+    let going : stopped old ≡ None = going_from (stopped old) (c.is_none.ensures ∙ ap not c.loop-self-test.true) in
     let from = c.args.from in
     let end = c.newline_from-end.result in
     let place = c.newline_from-end.ensures.value in
@@ -43,6 +43,6 @@ loop-self-preserved g c =
       high = omega (arith, c.newline_from-end.ensures.within, ap length second.3, length-append (left old) second.1);
       none = still_none from end (left old) second.1 (left new) within place second.3;
       halted = halted_so (stopped new) _ from (left old) second.1 (left new) second.3 second.4 c.fill.ensures.open seen;
-      unread = inr (unread_so so_far.unread (no_line (drop from (left old)) seen));
+      unread = inr (unread_so _ from (left c.args.self.now) (left old) _ _ so_far.unread c.if-self.false (no_line (drop from (left old)) seen));
       not_end = c.fill.ensures.not_end;
     }

@@ -17,7 +17,8 @@ invariant-loop-self g l = record {
   high : l.seen ≤ length (left l.self);
   none : l.seen - l.from ≤ line_length (drop l.from (left l.self));
   halted : (stopped l.self ≡ None) ⊎ ((script_lines false (drop l.from (left l.self)) ≡ []) × (has_ended l.self ≡ false));
-  unread : ((l.source ≡ l.initial.source) × (left l.self ≡ left l.initial.self)) ⊎ (script_lines false (drop l.from (left l.initial.self)) ≡ []);
+  unread : ((l.source ≡ l.initial.source) × (left l.self ≡ left l.initial.self) × (has_ended l.self ≡ has_ended l.initial.self))
+      ⊎ ((has_ended l.initial.self ≡ false) × (script_lines false (drop l.from (left l.initial.self)) ≡ []));
   not_end : stopped l.self ≡ Some End → ⊥;
 }
 
