@@ -13,3 +13,4 @@ pub mod Waiting
 pub mod Ends
 pub mod Skipping
 pub mod InBlocks
+pub mod Handing
