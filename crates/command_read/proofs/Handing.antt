@@ -31,7 +31,7 @@ hands_open old new item is front none ended =
     let last : MayFollow true more end = subst (λ e. MayFollow e more end) (ended ∙ here.0) follows in
     ap (λ m. asked_of old m end) last.0 ∙ ap (asked_of old []) last.1 ∙ here.1
     ∙ ap (λ a. item_asked old Open ∷ a) (sym (ap (λ m. asks end (next_number new) (left new ++ m)) last.0 ∙ ap (λ l. asks end (next_number new) (l ++ [])) none
-      ∙ ap (λ e. asks e (next_number new) []) last.1 ∙ asks_nothing (next_number new))))
+    ∙ ap (λ e. asks e (next_number new) []) last.1 ∙ asks_nothing (next_number new))))
 
 -- what tells nothing by one table tells nothing by another
 pub tells_nothing : (a b : List (List ℕ)) (r : ReadEnd) → told a r ≡ [] → told b r ≡ []

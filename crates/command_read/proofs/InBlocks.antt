@@ -51,7 +51,7 @@ pub moved_scan : (old new : Reader) (kept : List ℕ) (body from lines : ℕ) (i
 moved_scan old new kept body from lines in_text is number low high quiet scan =
     let more = scan_more (has_ended old) (has_ended new) (next_number old) (left old) kept _ _ from scan high quiet in
     let here = subst (λ t. Scanned (has_ended new) (next_number old) (left old ++ kept) (Within (next_number old) (script_lines true t) in_text) (next_number old + lines) from)
-        (sym (more_behind body from (left old) kept low high)) more in
+    (sym (more_behind body from (left old) kept low high)) more in
     let there = subst (λ l. Scanned (has_ended new) (next_number old) l (Within (next_number old) (script_lines true (block_text body from l)) in_text) (next_number old + lines) from) (sym is) here in
     subst (λ n. Scanned (has_ended new) n (left new) (Within n (script_lines true (block_text body from (left new))) in_text) (n + lines) from) (sym number) there
 
@@ -92,9 +92,10 @@ text_behind in_text line = cond in_text (not (bytes_eq line (codes "."))) (begin
 says_nothing : (n at : ℕ) (before : List (List ℕ)) (in_text : Bool) (line : List ℕ) → (in_text ≡ false → are_just (codes "end") (words line) ≡ false)
     → (asked_at (Within n before in_text) at line ≡ []) × (stand_behind (Within n before in_text) at line ≡ Within n (before ++ line ∷ []) (text_behind in_text line))
 says_nothing n at before true line other = (refl, refl)
-says_nothing n at before false line other =
-    (ap (λ b. cond b (block_command n before ∷ []) []) (other refl),
-      ap (λ b. cond b Outside (Within n (before ++ line ∷ []) (begin_with (codes "file") (words line)))) (other refl))
+says_nothing n at before false line other = (
+  ap (λ b. cond b (block_command n before ∷ []) []) (other refl),
+  ap (λ b. cond b Outside (Within n (before ++ line ∷ []) (begin_with (codes "file") (words line)))) (other refl),
+)
 
 -- another line is one more line of the block
 pub scans_line : (r : Reader) (body from lines : ℕ) (in_text : Bool) (f : LineEnd) (line : List ℕ)
@@ -108,7 +109,7 @@ scans_line r body from lines in_text f line scan found is other =
     let number : n + lines + 1 ≡ n + (lines + 1) = omega arith in
     subst (λ k. Scanned (has_ended r) n (left r) (Within n (before ++ line ∷ []) (text_behind in_text line)) k f.next) number
     (subst (λ s. Scanned (has_ended r) n (left r) s (n + lines + 1) f.next) nothing_said.1
-      (scan_line (has_ended r) n (left r) (Within n before in_text) (n + lines) from f.next line scan (leads_on r from f line found is) nothing_said.0))
+    (scan_line (has_ended r) n (left r) (Within n before in_text) (n + lines) from f.next line scan (leads_on r from f line found is) nothing_said.0))
 
 take_both : (n m : ℕ) (xs : List ℕ) → take (n + m) xs ≡ take n xs ++ take m (drop n xs)
 take_both n m xs =

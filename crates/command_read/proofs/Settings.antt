@@ -35,7 +35,7 @@ pub refused_settings : (names : List (List ℕ)) (e : Refusal) (line : ℕ) (xs 
 refused_settings names e line xs w ws all refused so_far =
     subst (Refuses names e) so_far
     (refused_on names e (first line w >>= λ v. settings line ws >>= λ vs. Ok (v ∷ vs)) (λ ys. Ok (xs ++ ys))
-      (refused_on names e (first line w) (λ v. settings line ws >>= λ vs. Ok (v ∷ vs)) refused))
+    (refused_on names e (first line w) (λ v. settings line ws >>= λ vs. Ok (v ∷ vs)) refused))
 
 pub all_settings : (line : ℕ) (xs : List (List ℕ × ℕ)) (ws all : List (List ℕ)) → ws ≡ [] → onto xs (settings line ws) ≡ settings line all → settings line all ≡ Ok xs
 all_settings line xs ws all none so_far = sym so_far ∙ ap (λ r. onto xs (settings line r)) none ∙ ap Ok (append-nil xs)

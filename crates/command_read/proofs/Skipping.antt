@@ -39,9 +39,12 @@ takes_same a b f g old mid new came kept takes taken stop ended = record {
 -- more is read behind what was skipped
 pub goes_on : (a b c : Option (List ℕ)) (f g h : ℕ) (old mid new : Reader) (c1 k1 c2 k2 : List ℕ) → Takes a b f g old mid c1 k1 → HandsOut old mid [] k1 → stopped mid ≡ None
     → Takes b c g h mid new c2 k2 → left new ≡ left mid ++ k2 → next_number new ≡ next_number mid → (came : List ℕ) × (kept : List ℕ) × Takes a c f h old new came kept × HandsOut old new [] kept
-goes_on a b c f g h old mid new c1 k1 c2 k2 first hands going second holds number =
-    (c1 ++ c2, k1 ++ k2, takes_on a b c f g h old mid new c1 k1 c2 k2 first going second,
-      hands_on old mid new [] [] k1 k2 hands (holds_more mid new k2 holds number) (λ ended. let still = second.quiet ended in (still.1, still.2)))
+goes_on a b c f g h old mid new c1 k1 c2 k2 first hands going second holds number = (
+  c1 ++ c2,
+  k1 ++ k2,
+  takes_on a b c f g h old mid new c1 k1 c2 k2 first going second,
+  hands_on old mid new [] [] k1 k2 hands (holds_more mid new k2 holds number) (λ ended. let still = second.quiet ended in (still.1, still.2)),
+)
 
 -- a line that is skipped is handed out, and nothing is told
 pub passes_line : (old new : Reader) (len next : ℕ) → IsLineAt (has_ended old) (left old) len next → is_skipped (words (take len (left old))) ≡ true → left new ≡ drop next (left old)
@@ -91,28 +94,36 @@ opens_block r len next is told edit =
 
 -- where a line is read, nothing was asked for before
 pub unread_line : (P Q R : Type 0) (first old new : Reader) → (P → Q → R) → (P × (has_ended old ≡ has_ended first) × (has_ended first ≡ false → asked_of old [] false ≡ asked_of first [] false))
-        ⊎ ((has_ended first ≡ false) × (asked_of first [] false ≡ []))
+    ⊎ ((has_ended first ≡ false) × (asked_of first [] false ≡ []))
     → (Q × (left new ≡ left old) × (has_ended new ≡ has_ended old)) ⊎ ((has_ended old ≡ false) × (script_lines false (left old) ≡ [])) → next_number new ≡ next_number old
     → (R × (has_ended new ≡ has_ended first) × (has_ended first ≡ false → asked_of new [] false ≡ asked_of first [] false))
     ⊎ ((has_ended first ≡ false) × (asked_of first [] false ≡ []))
 unread_line P Q R first old new join (inr is) next number = inr is
 unread_line P Q R first old new join (inl same) (inl still) number =
-    inl (join same.0 still.0, still.2 ∙ same.1, λ more.
-        ap (λ n. asks false n (left new ++ [])) number ∙ ap (λ l. asks false (next_number old) (l ++ [])) still.1 ∙ same.2 more)
+    inl (
+      join same.0 still.0,
+      still.2 ∙ same.1,
+      λ more.
+          ap (λ n. asks false n (left new ++ [])) number ∙ ap (λ l. asks false (next_number old) (l ++ [])) still.1 ∙ same.2 more,
+    )
 unread_line P Q R first old new join (inl same) (inr none) number =
     let more = sym same.1 ∙ none.0 in
     inr (more, sym (same.2 more) ∙ no_line_asks old false none.1)
 
 -- and so it stays as a line is skipped
 pub unread_skipped : (P : Type 0) (first old new : Reader) → (P × (has_ended old ≡ has_ended first) × (has_ended first ≡ false → asked_of old [] false ≡ asked_of first [] false))
-        ⊎ ((has_ended first ≡ false) × (asked_of first [] false ≡ []))
+    ⊎ ((has_ended first ≡ false) × (asked_of first [] false ≡ []))
     → HandsOut old new [] [] → has_ended new ≡ has_ended old
     → (P × (has_ended new ≡ has_ended first) × (has_ended first ≡ false → asked_of new [] false ≡ asked_of first [] false))
     ⊎ ((has_ended first ≡ false) × (asked_of first [] false ≡ []))
 unread_skipped P first old new (inr is) hands ended = inr is
 unread_skipped P first old new (inl same) hands ended =
-    inl (same.0, ended ∙ same.1, λ more.
-        sym (hands [] false (subst (λ e. MayFollow e [] false) (sym (ended ∙ same.1 ∙ more)) tt)) ∙ same.2 more)
+    inl (
+      same.0,
+      ended ∙ same.1,
+      λ more.
+          sym (hands [] false (subst (λ e. MayFollow e [] false) (sym (ended ∙ same.1 ∙ more)) tt)) ∙ same.2 more,
+    )
 
 -- a line that is skipped after one was read
 pub skipped_on : (old mid new : Reader) (kept : List ℕ) → HandsOut old mid [] kept → HandsOut mid new [] [] → has_ended new ≡ has_ended mid

@@ -49,12 +49,7 @@ fn read_file(alloc: Global, names: &mut Names, line: u64, rest: &[u8]) -> Result
 }
 
 // A register that goes on under another name.
-fn rename(
-    names: &mut Names,
-    owner: &[u8],
-    from: &[u8],
-    to: &[u8],
-) -> Result<RegOp, NoMemory>
+fn rename(names: &mut Names, owner: &[u8], from: &[u8], to: &[u8]) -> Result<RegOp, NoMemory>
     ensures op { IfOk result (λ op. operation names.new op ≡ Renames owner.now from.now to.now) }
     ensures within { IfOk result (HasNames (length names.new)) }
     ensures grows { Grows names.old names.new }
@@ -120,12 +115,7 @@ fn created_of(word: &[u8]) -> Option<(&[u8], &[u8], u128)>
 }
 
 // A register that begins at a value.
-fn create(
-    names: &mut Names,
-    owner: &[u8],
-    register: &[u8],
-    value: u128,
-) -> Result<RegOp, NoMemory>
+fn create(names: &mut Names, owner: &[u8], register: &[u8], value: u128) -> Result<RegOp, NoMemory>
     ensures op { IfOk result (λ op. operation names.new op ≡ Creates owner.now register.now value) }
     ensures within { IfOk result (HasNames (length names.new)) }
     ensures grows { Grows names.old names.new }

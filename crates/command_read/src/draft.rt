@@ -1,7 +1,7 @@
 // A block as far as it is read.
+use crate::OpLine;
 use crate::named_files::NamedFiles;
 use crate::open_text::OpenText;
-use crate::OpLine;
 use ls_text::NameId;
 
 /// A block as far as it is read.

@@ -31,11 +31,7 @@ fn room_after(taken: u64) -> usize
 }
 
 // Reads at most so many bytes into the front of a buffer.
-fn read_front<S: Source>(
-    source: &mut S,
-    buf: &mut [u8],
-    room: usize,
-) -> Result<usize, Failed>
+fn read_front<S: Source>(source: &mut S, buf: &mut [u8], room: usize) -> Result<usize, Failed>
     requires some { 0 < room }
     requires room { room ≤ length buf.old }
     ensures bound { IfOk result (λ n. n ≤ room) }
@@ -46,11 +42,7 @@ fn read_front<S: Source>(
 }
 
 // The same into a piece.
-fn read_piece<S: Source>(
-    source: &mut S,
-    piece: &mut Vec<u8>,
-    room: usize,
-) -> Result<usize, Failed>
+fn read_piece<S: Source>(source: &mut S, piece: &mut Vec<u8>, room: usize) -> Result<usize, Failed>
     requires some { 0 < room }
     requires room { room ≤ vec_len piece.old }
     ensures bound { IfOk result (λ n. n ≤ room) }

@@ -4,7 +4,10 @@
 #[derive(Clone, Copy, Debug, PartialEq, Eq)]
 pub enum Item {
     /// A line outside of blocks.
-    Line { end: usize, next: usize },
+    Line {
+        end: usize,
+        next: usize,
+    },
     /// A block: where the lines between its `edit` and its `end` begin and end, where the next line begins, and how many lines it has.
     Block {
         body: usize,

@@ -71,12 +71,7 @@ fn read_settings(
     Ok(values)
 }
 
-fn read_set(
-    alloc: Global,
-    names: &mut Names,
-    line: u64,
-    pairs: &[u8],
-) -> Result<Command, Refusal>
+fn read_set(alloc: Global, names: &mut Names, line: u64, pairs: &[u8]) -> Result<Command, Refusal>
     ensures gives { Gives names.new (spoken names.new) result (set_command line (words pairs.now)) }
     ensures within { IfOk result (IsCommandWithin (length names.new)) }
     ensures named { IfErr result (CanShow (length names.new)) }
@@ -138,12 +133,7 @@ fn passes_of(word: &[u8]) -> Option<u32>
     }
 }
 
-fn read_settle(
-    alloc: Global,
-    names: &mut Names,
-    line: u64,
-    rest: &[u8],
-) -> Result<Command, Refusal>
+fn read_settle(alloc: Global, names: &mut Names, line: u64, rest: &[u8]) -> Result<Command, Refusal>
     ensures gives { Gives names.new (spoken names.new) result (settle_command line (words rest.now)) }
     ensures within { IfOk result (IsCommandWithin (length names.new)) }
     ensures named { IfErr result (CanShow (length names.new)) }

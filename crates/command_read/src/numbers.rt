@@ -15,9 +15,7 @@ fn number_in(base: u32, digits: &[u8]) -> Option<u128>
     let mut value = 0u128;
     for byte in digits {
         let digit = char::from(*byte).to_digit(base)?;
-        value = value
-            .checked_mul(base as u128)?
-            .checked_add(digit as u128)?;
+        value = value.checked_mul(base as u128)?.checked_add(digit as u128)?;
     }
     Some(value)
 }

@@ -72,7 +72,12 @@ impl Reader {
     {
         let left = self.left();
         match item {
-            Item::Line { end, .. } => read_line(self.alloc, names, self.number, left.split_at(end).0),
+            Item::Line { end, .. } => read_line(
+                self.alloc,
+                names,
+                self.number,
+                left.split_at(end).0,
+            ),
             Item::Block { body, end, .. } => {
                 read_block(self.alloc, names, self.number, &left[body..end])
             }

@@ -39,10 +39,15 @@ returns-then-is_just-clause-found g c =
     let f = c.in-Some.found in
     let found = c.in-Some.ensures.found in
     let scan = moved_scan old new second.1 c.args.body from c.loop-found.lines c.loop-found.in_text second.3 c.line_at.ensures.number so.low so.high
-        (λ e. let still = second.2.quiet e in (still.1, still.2)) so.scanned in
-    let is = ap (λ l. take (f.end - from) (drop from l)) c.left.ensures in
-    (so.low, omega (arith, found.more), found.high, omega (arith, so.few, found.more), omega (arith, found.more),
-      ends_block new c.args.body from c.loop-found.lines c.loop-found.in_text f _ scan found is c.if-not-in_text.true (sym c.is_just.ensures ∙ c.if-is_just.true))
+    (λ e. let still = second.2.quiet e in (still.1, still.2)) so.scanned in
+    let is = ap (λ l. take (f.end - from) (drop from l)) c.left.ensures in (
+      so.low,
+      omega (arith, found.more),
+      found.high,
+      omega (arith, so.few, found.more),
+      omega (arith, found.more),
+      ends_block new c.args.body from c.loop-found.lines c.loop-found.in_text f _ scan found is c.if-not-in_text.true (sym c.is_just.ensures ∙ c.if-is_just.true),
+    )
 
 pub returns-then-is_just-clause-unread : goal.returns-then-is_just-clause-unread
 returns-then-is_just-clause-unread g c =
@@ -66,11 +71,11 @@ returns-then-found-clause-found g c =
     let found = c.in-Some.ensures.found in
     let line = take (f.end - from) (drop from c.left.result.now) in
     let scan = moved_scan old new second.1 c.args.body from c.loop-found.lines c.loop-found.in_text second.3 c.line_at.ensures.number so.low so.high
-        (λ e. let still = second.2.quiet e in (still.1, still.2)) so.scanned in
+    (λ e. let still = second.2.quiet e in (still.1, still.2)) so.scanned in
     let is = ap (λ l. take (f.end - from) (drop from l)) c.left.ensures in
     let other : c.loop-found.in_text ≡ false → are_just (codes "end") (words line) ≡ false
     = elim c.else-not-in_text.branch [
-      else-not-in_text-via-then-not-in_text+else-is_just w ↦ λ outside. sym w.is_just.ensures ∙ w.if-is_just.false
+      | else-not-in_text-via-then-not-in_text+else-is_just w ↦ λ outside. sym w.is_just.ensures ∙ w.if-is_just.false
       | else-not-in_text-via-else-not-in_text w ↦ λ outside. absurd (true≢false (sym w.if-not-in_text.false ∙ outside))
     ] in
     let done = no_more_lines new from f found c.if-found.true in
@@ -94,12 +99,12 @@ loop-found-preserved g c =
     let found = c.in-Some.ensures.found in
     let line = take (f.end - from) (drop from c.left.result.now) in
     let scan = moved_scan old new second.1 body from lines c.loop-found.in_text second.3 c.line_at.ensures.number so.low so.high
-        (λ e. let still = second.2.quiet e in (still.1, still.2)) so.scanned in
+    (λ e. let still = second.2.quiet e in (still.1, still.2)) so.scanned in
     let whole = moved_whole body from (left old) second.1 (left new) so.low so.high second.3 so.whole in
     let is = ap (λ l. take (f.end - from) (drop from l)) c.left.ensures in
     let other : c.loop-found.in_text ≡ false → are_just (codes "end") (words line) ≡ false
     = elim c.else-not-in_text.branch [
-      else-not-in_text-via-then-not-in_text+else-is_just w ↦ λ outside. sym w.is_just.ensures ∙ w.if-is_just.false
+      | else-not-in_text-via-then-not-in_text+else-is_just w ↦ λ outside. sym w.is_just.ensures ∙ w.if-is_just.false
       | else-not-in_text-via-else-not-in_text w ↦ λ outside. absurd (true≢false (sym w.if-not-in_text.false ∙ outside))
     ] in
     let more : f.end < f.next = omega (arith, found.order, c.if-found.false) in
@@ -130,7 +135,7 @@ returns-then-is_none-clause-found g c =
     let second = c.line_at.ensures.takes in
     let new = c.line_at.new.self in
     let scan = moved_scan c.loop-found.self new second.1 c.args.body c.loop-found.from c.loop-found.lines c.loop-found.in_text second.3 c.line_at.ensures.number so.low so.high
-        (λ e. let still = second.2.quiet e in (still.1, still.2)) so.scanned in
+    (λ e. let still = second.2.quiet e in (still.1, still.2)) so.scanned in
     let ended = c.in_default.ensures.ends (going_from (stopped new) (c.is_none.ensures ∙ ap not c.if-is_none.true)) in
     (ended, cut_block new _ _ _ c.loop-found.from scan c.in_default.ensures.none ended)
 
@@ -151,7 +156,7 @@ returns-else-is_none-clause-none g c =
     let second = c.line_at.ensures.takes in
     let new = c.line_at.new.self in
     let scan = moved_scan c.loop-found.self new second.1 c.args.body c.loop-found.from c.loop-found.lines c.loop-found.in_text second.3 c.line_at.ensures.number so.low so.high
-        (λ e. let still = second.2.quiet e in (still.1, still.2)) so.scanned in
+    (λ e. let still = second.2.quiet e in (still.1, still.2)) so.scanned in
     let more = c.in_default.ensures.open (stopped_from (stopped new) (c.is_none.ensures ∙ ap not c.if-is_none.false)) in
     ap (asked_of new []) more ∙ open_block new (has_ended new) _ _ _ c.loop-found.from scan c.in_default.ensures.none more
 

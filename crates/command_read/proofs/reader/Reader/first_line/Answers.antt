@@ -30,8 +30,12 @@ loop-found-preserved g c =
     let is = line_at_front mid found c.in-Some.ensures.found in
     let hands = passes_line mid new found.end found.next is skipped c.pass.ensures.held c.pass.ensures.number c.pass.ensures.ended in
     record {
-      goes = (gone.0, gone.1, takes_same _ _ _ _ old mid new gone.0 gone.1 gone.2 c.pass.ensures.taken c.pass.ensures.stop c.pass.ensures.ended,
-        skipped_on old mid new gone.1 gone.3 hands c.pass.ensures.ended);
+      goes = (
+        gone.0,
+        gone.1,
+        takes_same _ _ _ _ old mid new gone.0 gone.1 gone.2 c.pass.ensures.taken c.pass.ensures.stop c.pass.ensures.ended,
+        skipped_on old mid new gone.1 gone.3 hands c.pass.ensures.ended,
+      );
       going = c.pass.ensures.stop ∙ c.in-Some.ensures.going;
       unread = unread_skipped _ old mid new (unread_line _ _ _ old c.loop-found.self mid (λ p q. q ∙ p) so_far.unread c.line_at.ensures.unread c.line_at.ensures.number) hands c.pass.ensures.ended;
     }

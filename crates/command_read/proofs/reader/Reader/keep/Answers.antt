@@ -11,8 +11,9 @@ returns-then-self-gt-MAX_INPUT-clause-kept c =
 
 pub returns-else-is_err-clause-kept : goal.returns-else-is_err-clause-kept
 returns-else-is_err-clause-kept c =
-    let some = take c.args.count c.args.self.now.piece.items in
-    (some,
+    let some = take c.args.count c.args.self.now.piece.items in (
+      some,
       left_more c.args.self.now.at c.args.self.now.held.items c.extend_from_slice.new.self.items some (omega (arith, c.args.self.now.sound.within, c.args.self.now.held.ok)) (grind (arith, common_steps)),
       subst (λ s. AreKept s some some) (sym c.requires.going) refl,
-      λ stopped. absurd (stopped c.requires.going))
+      λ stopped. absurd (stopped c.requires.going),
+    )

@@ -36,8 +36,12 @@ loop-self-preserved g c =
     let seen = all_seen from end (left old) place full in
     let within : from ≤ length (left old) = omega (arith, so_far.low, so_far.high) in
     record {
-      takes = (first.0 ++ second.0, first.1 ++ second.1, takes_on _ _ _ _ _ _ c.args.self.now old new first.0 first.1 second.0 second.1 first.2 going second.2,
-        second.3 ∙ ap (λ l. l ++ second.1) first.3 ∙ append_assoc (left c.args.self.now) first.1 second.1);
+      takes = (
+        first.0 ++ second.0,
+        first.1 ++ second.1,
+        takes_on _ _ _ _ _ _ c.args.self.now old new first.0 first.1 second.0 second.1 first.2 going second.2,
+        second.3 ∙ ap (λ l. l ++ second.1) first.3 ∙ append_assoc (left c.args.self.now) first.1 second.1,
+      );
       number = c.fill.ensures.number ∙ so_far.number;
       low = omega (arith, place);
       high = omega (arith, c.newline_from-end.ensures.within, ap length second.3, length-append (left old) second.1);
