@@ -14,3 +14,5 @@ pub mod Ends
 pub mod Skipping
 pub mod InBlocks
 pub mod Handing
+pub mod Cutting
+pub mod Worked

@@ -12,3 +12,4 @@ pub mod Leading
 pub mod LineEnds
 pub mod Readers
 pub mod Found
+pub mod Runs

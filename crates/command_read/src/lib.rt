@@ -17,6 +17,7 @@ mod file_lines;
 mod filling;
 mod finding;
 mod item;
+pub mod laws;
 mod line_commands;
 mod line_end;
 mod lines;
