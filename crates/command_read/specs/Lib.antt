@@ -1,0 +1,15 @@
+pub mod Lines
+pub mod Values
+pub mod Asking
+pub mod LineCommands
+pub mod Blocks
+pub mod Scripts
+pub mod Known
+pub mod Scanned
+pub mod Spoken
+pub mod Sound
+pub mod Leading
+pub mod LineEnds
+pub mod Readers
+pub mod Found
+pub mod Runs
