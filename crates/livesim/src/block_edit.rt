@@ -5,7 +5,7 @@ ghost use Rattle.livesim.specs.Blocks.{block};
 ghost use Rattle.livesim.specs.Edits.{IsEditOf};
 
 use crate::block::Block;
-use command_read::{Edit, FileLine, FileLines, LoadLines};
+use command_read::{Edit, FileLine, FileLines, LoadLines, OpLines};
 use ls_text::{NameId, Names, NoMemory, SourceFile, TextBytes};
 use std::alloc::Global;
 use std::slice;
@@ -38,6 +38,7 @@ pub fn block_edit(
         clock: Some(clock),
         files: FileLines::new(vec![in alloc; given]?),
         loads: LoadLines::new(Vec::new(alloc)),
+        ops: OpLines::new(Vec::new(alloc)),
     })
 }
 
