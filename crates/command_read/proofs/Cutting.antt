@@ -20,7 +20,7 @@ lines_begin end begun (b ∷ bs) more =
     by : (c : Bool) → (rest : List (List ℕ)) × (lines_behind end [] (bs ++ more) ≡ lines_behind false [] bs ++ rest)
         → (rest : List (List ℕ)) × (lines_behind end (begun ++ b ∷ []) (bs ++ more) ≡ lines_behind false (begun ++ b ∷ []) bs ++ rest)
         → (rest : List (List ℕ)) × (cond c (strip_carriage_return begun ∷ lines_behind end [] (bs ++ more)) (lines_behind end (begun ++ b ∷ []) (bs ++ more))
-          ≡ cond c (strip_carriage_return begun ∷ lines_behind false [] bs) (lines_behind false (begun ++ b ∷ []) bs) ++ rest)
+        ≡ cond c (strip_carriage_return begun ∷ lines_behind false [] bs) (lines_behind false (begun ++ b ∷ []) bs) ++ rest)
     by true one other = (one.0, ap (λ ls. strip_carriage_return begun ∷ ls) one.1)
     by false one other = other
 
@@ -60,9 +60,11 @@ pub commands_begin : (bytes more : List ℕ) (end : Bool) → length bytes ≤ 6
 unfolding commands
 commands_begin bytes more end few =
     let rest = asks_begin end 1 bytes (take (67108864 - length bytes) more) in
-    let quits = quits_begin (asks false 1 bytes) rest.0 in
-    (quits.0, ap (λ b. up_to_quit (asks end 1 b)) (taken 67108864 bytes more few) ∙ ap up_to_quit rest.1 ∙ quits.1
-      ∙ ap (λ b. up_to_quit (asks false 1 b) ++ quits.0) (sym (take_all 67108864 bytes few)))
+    let quits = quits_begin (asks false 1 bytes) rest.0 in (
+      quits.0,
+      ap (λ b. up_to_quit (asks end 1 b)) (taken 67108864 bytes more few) ∙ ap up_to_quit rest.1 ∙ quits.1
+          ∙ ap (λ b. up_to_quit (asks false 1 b) ++ quits.0) (sym (take_all 67108864 bytes few)),
+    )
 
 -- what a reader has told
 pub told_begins : (r : Reader) → left r ≡ [] → next_number r ≡ 1 → HasTold r [] []
