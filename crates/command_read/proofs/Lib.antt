@@ -16,3 +16,4 @@ pub mod InBlocks
 pub mod Handing
 pub mod Cutting
 pub mod Worked
+pub mod Soon

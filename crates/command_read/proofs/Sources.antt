@@ -21,7 +21,7 @@ kept_on (Some stop.Fault) before came kept is = ap (λ c. before ++ c) is
 kept_on (Some stop.TooMuch) before came kept is = (is.0, ap (λ c. before ++ c) is.1 ∙ sym (append_assoc before kept (is.0 ∷ [])))
 kept_on (Some stop.NoMemory) before came kept is = (is.0, ap (λ c. before ++ c) is.1 ∙ sym (append_assoc before kept is.0))
 
-going_kept : (s : Option Stop) (came kept : List ℕ) → s ≡ None → AreKept s came kept → came ≡ kept
+pub going_kept : (s : Option Stop) (came kept : List ℕ) → s ≡ None → AreKept s came kept → came ≡ kept
 going_kept s came kept going is = subst (λ t. AreKept t came kept) going is
 
 not_failed : (s : Option Stop) → s ≡ None → s ≡ Some stop.Fault → ⊥

@@ -1,5 +1,5 @@
 -- What a reader holds, and what a call of it takes and hands out.
-use Rattle.std.specs.Prelude.{◌≡◌, ◌⊎◌, ℕ, ◌+◌, ◌<◌, Bool, true, false, List, [], ◌∷◌, ◌++◌, length, drop, Option, Some, None, Result, Ok, Err, ⊤}
+use Rattle.std.specs.Prelude.{◌≡◌, ◌⊎◌, ℕ, ◌+◌, ◌<◌, ◌≤◌, Bool, true, false, List, [], ◌∷◌, ◌++◌, length, drop, Option, Some, None, Result, Ok, Err, ⊤}
 use Rattle.std.specs.Io.KnownBytes.{Consumes, IsAtEnd}
 use Rattle.ls_port.specs.Causes.{Rose}
 use Rattle.ls_text.specs.Readings.{TextFault, fault_view}
@@ -8,6 +8,7 @@ use Rattle.command_read.specs.declared.stop.Stop.{Stop}
 use Rattle.command_read.specs.declared.stop.Stop.TheVariants as stop
 use Rattle.command_read.specs.declared.read_end.ReadEnd.{ReadEnd}
 use Rattle.command_read.specs.declared.read_end.ReadEnd.TheVariants as read_end
+use Rattle.command_read.specs.Lines.{script_lines}
 use Rattle.command_read.specs.Asking.{Asked}
 use Rattle.command_read.specs.Scripts.{asks}
 use Rattle.command_read.specs.Leading.{MayFollow}
@@ -61,6 +62,17 @@ pub record Takes (before behind : Option (List ℕ)) (faults count : ℕ) (old n
 -- what was asked for is what is told, and then what is still asked for, whatever comes behind the bytes that were kept
 abbrev pub HandsOut : (old new : Reader) → (told : List (Result Asked TextFault)) → (kept : List ℕ) → Type 0
 HandsOut old new told kept = (more : List ℕ) → (end : Bool) → MayFollow (has_ended new) more end → asked_of old (kept ++ more) end ≡ told ++ asked_of new more end
+
+-- Of the bytes that came those of the last read, at most 65,536, are behind others with which no line from that place on was complete.
+abbrev pub IsSoonAt : (from : ℕ) → Reader → (came : List ℕ) → Type 0
+IsSoonAt from old came =
+    (came ≡ []) ⊎ ((early : List ℕ) × (last : List ℕ) × (came ≡ early ++ last) × (length last ≤ 65536) × (has_ended old ≡ false)
+    × (script_lines false (drop from (left old ++ early)) ≡ []))
+
+-- Of the bytes that came those of the last read, at most 65,536, are behind others with which nothing was asked for: once something is complete, nothing is read.
+abbrev pub IsSoon : Reader → (came : List ℕ) → Type 0
+IsSoon old came =
+    (came ≡ []) ⊎ ((early : List ℕ) × (last : List ℕ) × (came ≡ early ++ last) × (length last ≤ 65536) × (has_ended old ≡ false) × (asked_of old early false ≡ []))
 
 -- what an answer tells
 abbrev pub told : List (List ℕ) → ReadEnd → List (Result Asked TextFault)

@@ -4,7 +4,7 @@ ghost use Rattle.std.specs.Str.{bytes_eq};
 ghost use Rattle.command_read.specs.Lines.{script_lines, words, is_skipped, begin_with};
 ghost use Rattle.command_read.specs.LineEnds.{IsLineAt, line_length};
 ghost use Rattle.command_read.specs.Scripts.{Within};
-ghost use Rattle.command_read.specs.Readers.{left, next_number, has_ended, count_taken, stopped, asked_of, Takes, HandsOut};
+ghost use Rattle.command_read.specs.Readers.{left, next_number, has_ended, count_taken, stopped, asked_of, IsSoon, IsSoonAt, Takes, HandsOut};
 ghost use Rattle.command_read.specs.Found.{IsEndOf, IsAtFront};
 ghost use Rattle.command_read.specs.declared.stop.Stop.TheVariants.{End};
 ghost use Rattle.command_read.specs.Scanned.{Scanned};
@@ -83,7 +83,7 @@ impl Reader {
         requires going { stopped self.old ≡ None }
         requires within { from ≤ length (left self.old) }
         ensures takes { (came : List ℕ) × (kept : List ℕ) × Takes (S.left source.old) (S.left source.new) (S.faults source.old) (S.faults source.new) self.old self.new came kept
-            × (left self.new ≡ left self.old ++ kept) }
+            × (left self.new ≡ left self.old ++ kept) × IsSoonAt from self.old came }
         ensures number { next_number self.new ≡ next_number self.old }
         ensures found { IfSome result (IsEndOf self.new from) }
         ensures going { OnSome result (stopped self.new ≡ None) }
@@ -113,7 +113,7 @@ impl Reader {
     fn first_line<S: Source>(&mut self, source: &mut S) -> Option<LineEnd>
         requires going { stopped self.old ≡ None }
         ensures goes { (came : List ℕ) × (kept : List ℕ) × Takes (S.left source.old) (S.left source.new) (S.faults source.old) (S.faults source.new) self.old self.new came kept
-            × HandsOut self.old self.new [] kept }
+            × HandsOut self.old self.new [] kept × IsSoon self.old came }
         ensures found { IfSome result (IsEndOf self.new 0) }
         ensures told { IfSome result (λ f. is_skipped (words (take f.end (left self.new))) ≡ false) }
         ensures going { OnSome result (stopped self.new ≡ None) }
@@ -139,7 +139,7 @@ impl Reader {
         requires some { 0 < body }
         requires begun { Scanned (has_ended self.old) (next_number self.old) (left self.old) (Within (next_number self.old) [] false) (next_number self.old + 1) body }
         ensures takes { (came : List ℕ) × (kept : List ℕ) × Takes (S.left source.old) (S.left source.new) (S.faults source.old) (S.faults source.new) self.old self.new came kept
-            × (left self.new ≡ left self.old ++ kept) }
+            × (left self.new ≡ left self.old ++ kept) × IsSoon self.old came }
         ensures number { next_number self.new ≡ next_number self.old }
         ensures found { IfSome result (IsAtFront self.new) }
         ensures going { OnSome result (stopped self.new ≡ None) }
@@ -179,7 +179,7 @@ impl Reader {
     pub(crate) fn item<S: Source>(&mut self, source: &mut S) -> Option<Item>
         requires going { stopped self.old ≡ None }
         ensures goes { (came : List ℕ) × (kept : List ℕ) × Takes (S.left source.old) (S.left source.new) (S.faults source.old) (S.faults source.new) self.old self.new came kept
-            × HandsOut self.old self.new [] kept }
+            × HandsOut self.old self.new [] kept × IsSoon self.old came }
         ensures found { IfSome result (IsAtFront self.new) }
         ensures going { OnSome result (stopped self.new ≡ None) }
         ensures none { IfNone result (asked_of self.new [] (has_ended self.new) ≡ []) }

@@ -4,7 +4,7 @@ ghost use Rattle.ls_text.specs.Texts.{Grows};
 ghost use Rattle.ls_text.specs.Readings.{CanShow, Gives};
 ghost use Rattle.command_read.specs.Spoken.{spoken, IsCommandWithin};
 ghost use Rattle.command_read.specs.Sound.{is_too_much};
-ghost use Rattle.command_read.specs.Readers.{left, next_number, has_ended, count_taken, stopped, asked_of, Takes, HandsOut, told, stop_of, end_of, IsReadEndWithin};
+ghost use Rattle.command_read.specs.Readers.{left, next_number, has_ended, count_taken, stopped, asked_of, IsSoon, Takes, HandsOut, told, stop_of, end_of, IsReadEndWithin};
 ghost use Rattle.command_read.specs.Found.{IsAtFront, item_asked};
 ghost use Rattle.command_read.specs.declared.stop.Stop.TheVariants.{End, NoMemory as OutOfMemory};
 
@@ -137,10 +137,10 @@ impl Reader {
     /// A read asks for 65,536 bytes, or for those up to the 67,108,864th where these are fewer; where that one is taken and nothing is left to hand out,
     /// for one byte more, which belongs to no command. After `End`, `Fault`, `TooMuch` and `NoMemory` it answers the same again.
     pub fn read_command<S: Source>(&mut self, names: &mut Names, source: &mut S) -> ReadEnd
-        // What was asked for is what is told, and then what is still asked for, whatever comes behind.
+        // What was asked for is what is told, and then what is still asked for, whatever comes behind; and once that was complete nothing more was read.
         ensures goes { stopped self.old ≡ None → (came : List ℕ) × (kept : List ℕ)
             × Takes (S.left source.old) (S.left source.new) (S.faults source.old) (S.faults source.new) self.old self.new came kept
-            × HandsOut self.old self.new (told names.new result) kept }
+            × HandsOut self.old self.new (told names.new result) kept × IsSoon self.old came }
 
         // Why it stopped, and that nothing was left to hand out then; where memory ran out that isn't said.
         ensures stop { stopped self.new ≡ stop_of result }

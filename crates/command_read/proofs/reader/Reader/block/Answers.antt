@@ -5,14 +5,15 @@ use Rattle.command_read.specs.Scripts.{Within}
 use Rattle.command_read.specs.Scanned.{Scanned}
 use Rattle.command_read.specs.Readers.{left, next_number, has_ended, stopped, asked_of}
 use Rattle.command_read.proofs.Ends.{going_from, stopped_from}
-use Rattle.command_read.proofs.Sources.{takes_nothing, reads_on, only_same}
+use Rattle.command_read.proofs.Sources.{takes_nothing, only_same}
+use Rattle.command_read.proofs.Soon.{reads_soon, soon_within}
 use Rattle.command_read.proofs.InBlocks.{before_of, text_behind, begins_block, begins_whole, moved_scan, moved_whole, ends_block, scans_line, whole_on, lines_on, cut_block, open_block, no_more_lines, unread_block}
 use Rattle.command_read.proofs.reader.Reader.block.Goals as goal
 use Rattle.command_read.proofs.reader.Reader.block.Goals.{else-not-in_text-via-then-not-in_text+else-is_just, else-not-in_text-via-else-not-in_text}
 
 pub loop-found-init : goal.loop-found-init
 loop-found-init g c = record {
-  takes = ([], [], takes_nothing _ _ c.args.self.now c.requires.going, sym (append-nil (left c.args.self.now)));
+  takes = ([], [], takes_nothing _ _ c.args.self.now c.requires.going, sym (append-nil (left c.args.self.now)), inl refl);
   number = refl;
   going = c.requires.going;
   low = omega arith;
@@ -27,7 +28,8 @@ pub returns-then-is_just-clause-takes : goal.returns-then-is_just-clause-takes
 returns-then-is_just-clause-takes g c =
     let so = c.loop-found.invariant in
     let second = c.line_at.ensures.takes in
-    reads_on _ _ _ _ _ _ c.args.self.now c.loop-found.self c.line_at.new.self so.takes.0 so.takes.1 second.0 second.1 so.takes.2 so.takes.3 so.going second.2 second.3
+    reads_soon _ _ _ _ _ _ c.args.self.now c.loop-found.self c.line_at.new.self so.takes.0 so.takes.1 second.0 second.1 so.takes.2 so.takes.3 so.number so.takes.4 so.going second.2 second.3
+    (soon_within c.loop-found.self _ _ _ c.loop-found.from second.0 so.scanned so.high second.4)
 
 pub returns-then-is_just-clause-found : goal.returns-then-is_just-clause-found
 returns-then-is_just-clause-found g c =
@@ -58,7 +60,8 @@ pub returns-then-found-clause-takes : goal.returns-then-found-clause-takes
 returns-then-found-clause-takes g c =
     let so = c.loop-found.invariant in
     let second = c.line_at.ensures.takes in
-    reads_on _ _ _ _ _ _ c.args.self.now c.loop-found.self c.line_at.new.self so.takes.0 so.takes.1 second.0 second.1 so.takes.2 so.takes.3 so.going second.2 second.3
+    reads_soon _ _ _ _ _ _ c.args.self.now c.loop-found.self c.line_at.new.self so.takes.0 so.takes.1 second.0 second.1 so.takes.2 so.takes.3 so.number so.takes.4 so.going second.2 second.3
+    (soon_within c.loop-found.self _ _ _ c.loop-found.from second.0 so.scanned so.high second.4)
 
 pub returns-then-found-clause-found : goal.returns-then-found-clause-found
 returns-then-found-clause-found g c =
@@ -112,7 +115,8 @@ loop-found-preserved g c =
     let n = next_number new in
     let before = subst (λ ls. Scanned (has_ended new) n (left new) (Within n ls (text_behind c.loop-found.in_text line)) (n + (lines + 1)) f.next) (sym (lines_on new body from f line found is so.low more whole)) next in
     record {
-      takes = reads_on _ _ _ _ _ _ c.args.self.now old new so.takes.0 so.takes.1 second.0 second.1 so.takes.2 so.takes.3 so.going second.2 second.3;
+      takes = reads_soon _ _ _ _ _ _ c.args.self.now old new so.takes.0 so.takes.1 second.0 second.1 so.takes.2 so.takes.3 so.number so.takes.4 so.going second.2 second.3
+          (soon_within old _ _ _ c.loop-found.from second.0 so.scanned so.high second.4);
       number = c.line_at.ensures.number ∙ so.number;
       going = c.in-Some.ensures.going;
       low = omega (arith, so.low, found.more);
@@ -127,7 +131,8 @@ pub returns-then-is_none-clause-takes : goal.returns-then-is_none-clause-takes
 returns-then-is_none-clause-takes g c =
     let so = c.loop-found.invariant in
     let second = c.line_at.ensures.takes in
-    reads_on _ _ _ _ _ _ c.args.self.now c.loop-found.self c.line_at.new.self so.takes.0 so.takes.1 second.0 second.1 so.takes.2 so.takes.3 so.going second.2 second.3
+    reads_soon _ _ _ _ _ _ c.args.self.now c.loop-found.self c.line_at.new.self so.takes.0 so.takes.1 second.0 second.1 so.takes.2 so.takes.3 so.number so.takes.4 so.going second.2 second.3
+    (soon_within c.loop-found.self _ _ _ c.loop-found.from second.0 so.scanned so.high second.4)
 
 pub returns-then-is_none-clause-found : goal.returns-then-is_none-clause-found
 returns-then-is_none-clause-found g c =
@@ -148,7 +153,8 @@ pub returns-else-is_none-clause-takes : goal.returns-else-is_none-clause-takes
 returns-else-is_none-clause-takes g c =
     let so = c.loop-found.invariant in
     let second = c.line_at.ensures.takes in
-    reads_on _ _ _ _ _ _ c.args.self.now c.loop-found.self c.line_at.new.self so.takes.0 so.takes.1 second.0 second.1 so.takes.2 so.takes.3 so.going second.2 second.3
+    reads_soon _ _ _ _ _ _ c.args.self.now c.loop-found.self c.line_at.new.self so.takes.0 so.takes.1 second.0 second.1 so.takes.2 so.takes.3 so.number so.takes.4 so.going second.2 second.3
+    (soon_within c.loop-found.self _ _ _ c.loop-found.from second.0 so.scanned so.high second.4)
 
 pub returns-else-is_none-clause-none : goal.returns-else-is_none-clause-none
 returns-else-is_none-clause-none g c =

@@ -2,7 +2,7 @@ use Rattle.std.proofs.Common.{◌≡◌, ◌⊎◌, ◌+◌, ◌-◌, ◌<◌, �
 use Rattle.command_read.specs.Lines.{script_lines}
 use Rattle.command_read.specs.Scripts.{Within}
 use Rattle.command_read.specs.Scanned.{Scanned}
-use Rattle.command_read.specs.Readers.{left, next_number, has_ended, stopped, asked_of, Takes}
+use Rattle.command_read.specs.Readers.{left, next_number, has_ended, stopped, asked_of, IsSoon, Takes}
 use Rattle.command_read.proofs.FirstLines.{IsCut}
 use Rattle.command_read.proofs.reader.Reader.block.Given as goal
 
@@ -10,7 +10,7 @@ use Rattle.command_read.proofs.reader.Reader.block.Given as goal
 abbrev pub invariant-loop-found : goal.invariant-loop-found
 invariant-loop-found g l = record {
   takes : (came : List ℕ) × (kept : List ℕ) × Takes (g.S.Source.left l.initial.source) (g.S.Source.left l.source) (g.S.Source.faults l.initial.source) (g.S.Source.faults l.source) l.initial.self l.self came kept
-      × (left l.self ≡ left l.initial.self ++ kept);
+      × (left l.self ≡ left l.initial.self ++ kept) × IsSoon l.initial.self came;
   number : next_number l.self ≡ next_number l.initial.self;
   going : stopped l.self ≡ None;
   low : l.body ≤ l.from;

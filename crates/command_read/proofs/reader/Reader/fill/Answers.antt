@@ -12,6 +12,7 @@ returns-in-Ok-eq0-clause-takes g c =
           c.compact.ensures.taken (c.compact.ensures.stop ∙ c.requires.going) c.requires.more,
       c.compact.ensures.held ∙ sym (append-nil _),
       λ stopped. refl,
+      omega arith,
     )
 
 pub returns-in-Err-clause-takes : goal.returns-in-Err-clause-takes
@@ -22,4 +23,5 @@ returns-in-Err-clause-takes g c =
       takes_failed _ _ _ _ _ _ told.bytes told.cause.failed refl c.compact.ensures.taken c.compact.ensures.ended c.requires.more,
       c.compact.ensures.held ∙ sym (append-nil _),
       λ stopped. refl,
+      omega arith,
     )

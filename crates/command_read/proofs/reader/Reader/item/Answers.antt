@@ -2,7 +2,8 @@ use Rattle.std.proofs.Common.{◌≡◌, take, true, false, sym, ap, ◌∙◌, 
 use Rattle.std.specs.Prelude.{codes}
 use Rattle.command_read.specs.Lines.{words, are_just}
 use Rattle.command_read.specs.Readers.{left}
-use Rattle.command_read.proofs.Skipping.{goes_on, line_at_front, asks_line, opens_block}
+use Rattle.command_read.proofs.Skipping.{line_at_front, asks_line, opens_block}
+use Rattle.command_read.proofs.Soon.{goes_soon}
 use Rattle.command_read.proofs.reader.Reader.item.Goals as goal
 
 pub block-requires-clause-begun : goal.block-requires-clause-begun
@@ -17,8 +18,8 @@ pub returns-then-is_just-clause-goes : goal.returns-then-is_just-clause-goes
 returns-then-is_just-clause-goes g c =
     let first = c.first_line.ensures.goes in
     let second = c.block.ensures.takes in
-    goes_on _ _ _ _ _ _ c.args.self.now c.first_line.new.self c.block.new.self first.0 first.1 second.0 second.1 first.2 first.3 c.in_ok-end.ensures.going second.2 second.3
-    c.block.ensures.number
+    goes_soon _ _ _ _ _ _ c.args.self.now c.first_line.new.self c.block.new.self first.0 first.1 second.0 second.1 first.2 first.3 first.4 c.in_ok-end.ensures.going second.2 second.3
+    second.4 c.block.ensures.number
 
 pub returns-else-is_just-clause-found : goal.returns-else-is_just-clause-found
 returns-else-is_just-clause-found g c =

@@ -6,12 +6,13 @@ use Rattle.command_read.specs.LineEnds.{line_length}
 use Rattle.command_read.specs.Readers.{left, stopped}
 use Rattle.command_read.proofs.FirstLines.{no_line}
 use Rattle.command_read.proofs.Sources.{takes_nothing, takes_on}
+use Rattle.command_read.proofs.Soon.{soon_read}
 use Rattle.command_read.proofs.Ends.{all_seen, still_none, halted_so, going_from, unread_so}
 use Rattle.command_read.proofs.reader.Reader.line_at.Goals as goal
 
 pub loop-self-init : goal.loop-self-init
 loop-self-init g c = record {
-  takes = ([], [], takes_nothing _ _ c.args.self.now c.requires.going, sym (append-nil (left c.args.self.now)));
+  takes = ([], [], takes_nothing _ _ c.args.self.now c.requires.going, sym (append-nil (left c.args.self.now)), inl refl);
   number = refl;
   low = omega arith;
   high = c.requires.within;
@@ -41,6 +42,7 @@ loop-self-preserved g c =
         first.1 ++ second.1,
         takes_on _ _ _ _ _ _ c.args.self.now old new first.0 first.1 second.0 second.1 first.2 going second.2,
         second.3 ∙ ap (λ l. l ++ second.1) first.3 ∙ append_assoc (left c.args.self.now) first.1 second.1,
+        soon_read _ _ _ _ from c.args.self.now old first.0 first.1 second.0 first.2 going first.3 c.if-self.false (no_line (drop from (left old)) seen) second.5,
       );
       number = c.fill.ensures.number ∙ so_far.number;
       low = omega (arith, place);

@@ -3,7 +3,7 @@ use Rattle.command_read.specs.declared.stop.Stop.{Stop}
 use Rattle.command_read.specs.declared.stop.Stop.TheVariants.{End}
 use Rattle.command_read.specs.Lines.{script_lines}
 use Rattle.command_read.specs.LineEnds.{line_length}
-use Rattle.command_read.specs.Readers.{left, next_number, has_ended, count_taken, stopped, Takes}
+use Rattle.command_read.specs.Readers.{left, next_number, has_ended, count_taken, stopped, IsSoonAt, Takes}
 use Rattle.command_read.proofs.Waiting.{waits}
 use Rattle.command_read.proofs.reader.Reader.line_at.Given as goal
 
@@ -11,7 +11,7 @@ use Rattle.command_read.proofs.reader.Reader.line_at.Given as goal
 abbrev pub invariant-loop-self : goal.invariant-loop-self
 invariant-loop-self g l = record {
   takes : (came : List ℕ) × (kept : List ℕ) × Takes (g.S.Source.left l.initial.source) (g.S.Source.left l.source) (g.S.Source.faults l.initial.source) (g.S.Source.faults l.source) l.initial.self l.self came kept
-      × (left l.self ≡ left l.initial.self ++ kept);
+      × (left l.self ≡ left l.initial.self ++ kept) × IsSoonAt l.from l.initial.self came;
   number : next_number l.self ≡ next_number l.initial.self;
   low : l.from ≤ l.seen;
   high : l.seen ≤ length (left l.self);

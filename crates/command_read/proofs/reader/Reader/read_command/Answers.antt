@@ -10,4 +10,5 @@ returns-in-None-clause-goes g c = λ going.
       gone.1,
       takes_halted _ _ _ _ c.args.self.now c.item.new.self c.halt.new.self gone.0 gone.1 gone.2 halt.stop halt.taken halt.ended,
       hands_halted c.args.self.now c.item.new.self c.halt.new.self gone.1 _ (tells_nothing [] c.args.names.now c.halt.result halt.told) gone.3 halt.left halt.number halt.ended,
+      gone.4,
     )
