@@ -1,11 +1,11 @@
 -- Scripts whose commands are worked out by hand.
-use Rattle.std.proofs.Common.{◌≡◌, ℕ, true, false, List, [], ◌∷◌, Some, None, Result, Ok, Err, refl}
+use Rattle.std.proofs.Common.{◌≡◌, true, false, [], ◌∷◌, Some, None, Ok, Err, refl}
 use Rattle.std.specs.Prelude.{codes}
 use Rattle.command_read.specs.Lines.{script_lines, words}
-use Rattle.command_read.specs.Values.{is_identifier, is_file_name, number_in, count_of, hex_of, parted_at, register_of, setting_of, created_of, shown_of}
-use Rattle.command_read.specs.Asking.{Block, Edits, Sets, Runs, Shows, Settles, Quits, fault_on}
+use Rattle.command_read.specs.Values.{is_identifier, is_file_name, number_in, count_of, hex_of, parted_at, setting_of, shown_of}
+use Rattle.command_read.specs.Asking.{Edits, Sets, Runs, Shows, Quits, fault_on}
 use Rattle.command_read.specs.LineCommands.{run_command, line_command}
-use Rattle.command_read.specs.Blocks.{rename_entry, create_entry, delete_entry, block_entry, block_command}
+use Rattle.command_read.specs.Blocks.{block_entry, block_command}
 use Rattle.command_read.specs.Scripts.{asks, commands}
 
 pub lines_worked : commands (codes "run 5\n# x\nshow a") true ≡ Ok (Runs 1 5) ∷ Ok (Shows 3 (codes "a")) ∷ []

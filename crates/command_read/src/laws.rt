@@ -7,8 +7,8 @@ ghost use Rattle.command_read.specs.Readers.{left, next_number, has_ended, asked
 ghost use Rattle.command_read.specs.Runs.{Continues, HasTold};
 ghost use Rattle.command_read.specs.declared.reader.Reader.{Reader};
 
-/// What a reader has told since its beginning is what the bytes ask for that it has kept: it holds at the beginning and from call to call, and where nothing
-/// is left to hand out that is all. So readers of the same bytes have told the same, in whatever pieces these came.
+/// What a reader has told since its beginning is what the bytes ask for that it has kept: it holds at the beginning and from call to call,
+/// and where nothing is left to hand out that is all. So readers of the same bytes have told the same, in whatever pieces these came.
 #[tactic(none)]
 pub fn readers_tell_what_bytes_ask_for()
     ensures begins { (r : Reader) → left r ≡ [] → next_number r ≡ 1 → HasTold r [] [] }
@@ -24,7 +24,8 @@ pub fn readers_tell_what_bytes_ask_for()
 #[tactic(none)]
 pub fn cut_scripts_begin_whole_ones()
     ensures asked { (end : Bool) (number : ℕ) (bytes more : List ℕ) → Continues (asks false number bytes) (asks end number (bytes ++ more)) }
-    ensures commands { (bytes more : List ℕ) (end : Bool) → length bytes ≤ 67108864 → Continues (commands bytes false) (commands (bytes ++ more) end) }
+    ensures commands { (bytes more : List ℕ) (end : Bool) → length bytes ≤ 67108864
+        → Continues (commands bytes false) (commands (bytes ++ more) end) }
 {}
 
 /// Scripts whose commands are worked out by hand.

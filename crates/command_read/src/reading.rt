@@ -134,10 +134,12 @@ impl Reader {
 
     /// The next command of the source, or the next line that is refused, as soon as its last line is complete: then nothing more is read.
     ///
-    /// A read asks for 65,536 bytes, or for those up to the 67,108,864th where these are fewer; where that one is taken and nothing is left to hand out,
-    /// for one byte more, which belongs to no command. After `End`, `Fault`, `TooMuch` and `NoMemory` it answers the same again.
+    /// A read asks for 65,536 bytes, or for those up to the 67,108,864th where these are fewer; where that one is taken and nothing is left
+    /// to hand out, for one byte more, which belongs to no command. After `End`, `Fault`, `TooMuch` and `NoMemory` it answers the same
+    /// again.
     pub fn read_command<S: Source>(&mut self, names: &mut Names, source: &mut S) -> ReadEnd
-        // What was asked for is what is told, and then what is still asked for, whatever comes behind; and once that was complete nothing more was read.
+        // What was asked for is what is told, and then what is still asked for, whatever comes behind; and once that was complete nothing
+        // more was read.
         ensures goes { stopped self.old ≡ None → (came : List ℕ) × (kept : List ℕ)
             × Takes (S.left source.old) (S.left source.new) (S.faults source.old) (S.faults source.new) self.old self.new came kept
             × HandsOut self.old self.new (told names.new result) kept × IsSoon self.old came }
@@ -153,7 +155,8 @@ impl Reader {
         ensures unread { stopped self.old ≡ None → (source.new ≡ source.old) ⊎ ((has_ended self.old ≡ false) × (asked_of self.old [] false ≡ [])) }
 
         // A stopped reader answers the same again.
-        ensures again { (stop : Stop) → stopped self.old ≡ Some stop → (result ≡ end_of stop) × (self.new ≡ self.old) × (source.new ≡ source.old) × (names.new ≡ names.old) }
+        ensures again { (stop : Stop) → stopped self.old ≡ Some stop
+            → (result ≡ end_of stop) × (self.new ≡ self.old) × (source.new ≡ source.old) × (names.new ≡ names.old) }
 
         // The table only grows, and all names that are told are its.
         ensures within { IsReadEndWithin (length names.new) result }

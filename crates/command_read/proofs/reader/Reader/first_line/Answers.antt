@@ -1,4 +1,4 @@
-use Rattle.std.proofs.Common.{◌≡◌, ◌∙◌, [], take, drop, true, false, not, sym, ap, refl}
+use Rattle.std.proofs.Common.{◌≡◌, ◌∙◌, take, true, sym, ap}
 use Rattle.command_read.specs.Lines.{words, is_skipped}
 use Rattle.command_read.specs.Readers.{left, has_ended}
 use Rattle.command_read.proofs.Skipping.{takes_same, passes_line, skipped_on, line_at_front, no_line_asks, unread_line, unread_skipped}

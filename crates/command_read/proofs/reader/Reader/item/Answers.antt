@@ -1,4 +1,4 @@
-use Rattle.std.proofs.Common.{◌≡◌, take, true, false, sym, ap, ◌∙◌, arith}
+use Rattle.std.proofs.Common.{◌≡◌, take, true, false, sym, ap, ◌∙◌}
 use Rattle.std.specs.Prelude.{codes}
 use Rattle.command_read.specs.Lines.{words, are_just}
 use Rattle.command_read.specs.Readers.{left}
