@@ -7,7 +7,7 @@ use Rattle.command_read.specs.declared.reader.Reader.{Reader}
 use Rattle.command_read.specs.Lines.{lines_behind, script_lines}
 use Rattle.command_read.specs.Leading.{MayFollow}
 use Rattle.command_read.specs.Asking.{Asked}
-use Rattle.command_read.specs.Scripts.{Stand, Outside, Within, stand_behind, asked_at, asked_last, asked_by, asks, is_quit, up_to_quit, commands}
+use Rattle.command_read.specs.Scripts.{Stand, Outside, Within, stand_behind, asked_at, asked_by, asks, is_quit, up_to_quit, commands}
 use Rattle.command_read.specs.Readers.{left, next_number, has_ended, asked_of, HandsOut}
 use Rattle.command_read.specs.Runs.{Continues, HasTold}
 

@@ -7,7 +7,6 @@ use Rattle.command_read.specs.declared.stop.Stop.{Stop}
 use Rattle.std.proofs.lemmas.List.{length-drop, drop-drop, drop-append-le}
 use Rattle.std.specs.Str.Lines.{strip_carriage_return}
 use Rattle.command_read.specs.declared.reader.Reader.{Reader}
-use Rattle.command_read.specs.declared.line_end.LineEnd.{LineEnd}
 use Rattle.command_read.specs.Lines.{script_lines}
 use Rattle.command_read.specs.LineEnds.{line_length, IsLineAt}
 use Rattle.command_read.specs.Readers.{left, has_ended}

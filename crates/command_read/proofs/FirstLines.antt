@@ -1,11 +1,10 @@
 -- The first line of bytes, and the lines after it.
 use Rattle.std.proofs.Common.{◌≡◌, ℕ, zero, suc, ◌+◌, ◌-◌, ◌<◌, ◌≤◌, Bool, true, false, not, eqb, cond, List, [], ◌∷◌, ◌++◌, length, take, drop, refl, sym, ap, ◌∙◌, subst, append-nil, append_assoc, take-append-drop, arith}
 use Rattle.std.proofs.lemmas.List.{nil_from_length, take_all, drop_all, length-take, length-take-le, take-take}
-use Rattle.std.specs.List.{prefix_len}
 use Rattle.std.specs.Prelude.{slice_index}
 use Rattle.std.specs.Str.Lines.{strip_carriage_return}
 use Rattle.command_read.specs.Lines.{with_any, lines_behind, script_lines}
-use Rattle.command_read.specs.Leading.{MayFollow, Leads}
+use Rattle.command_read.specs.Leading.{Leads}
 use Rattle.command_read.specs.LineEnds.{line_length, IsLineAt}
 
 -- a newline ends the first line, which began with other bytes

@@ -1,5 +1,5 @@
 -- What is handed out.
-use Rattle.std.proofs.Common.{◌≡◌, ℕ, Bool, true, cond, List, [], ◌∷◌, ◌++◌, length, Option, Some, None, Result, refl, sym, ap, ◌∙◌, subst, arith}
+use Rattle.std.proofs.Common.{◌≡◌, ℕ, true, cond, List, [], ◌∷◌, ◌++◌, length, Option, Some, None, Result, refl, sym, ap, ◌∙◌, subst, arith}
 use Rattle.std.specs.Prelude.{is_some}
 use Rattle.std.proofs.lemmas.Option.{none-some}
 use Rattle.ls_text.specs.Readings.{TextFault}
@@ -61,6 +61,9 @@ takes_halted a b f g old mid new came kept takes halted taken ended =
           unfailed = λ other. takes.unfailed (λ failed. none-some stop.Fault (sym is ∙ failed));
           ended = λ e. takes.ended (sym ended ∙ e);
           quiet = λ e. let still = takes.quiet e in (still.0, still.1, ended ∙ still.2, still.3);
+          whole = λ e. takes.whole (sym ended ∙ e);
+          faultless = λ e failed. cc;
+          few = λ e much. cc;
         }
 
 pub hands_halted : (old mid new : Reader) (kept : List ℕ) (tells : List (Result Asked TextFault)) → tells ≡ [] → HandsOut old mid [] kept → left new ≡ left mid → next_number new ≡ next_number mid

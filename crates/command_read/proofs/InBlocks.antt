@@ -1,18 +1,16 @@
 -- Lines of a block.
-use Rattle.std.proofs.Common.{◌≡◌, ◌⊎◌, inl, inr, ℕ, ◌+◌, ◌-◌, ◌<◌, ◌≤◌, Bool, true, false, not, cond, List, [], ◌∷◌, ◌++◌, length, take, drop, Option, Some, None, Result, Err, refl, sym, ap, ◌∙◌, subst, append-nil, append_assoc, arith}
+use Rattle.std.proofs.Common.{◌≡◌, ◌⊎◌, inl, inr, ℕ, ◌+◌, ◌-◌, ◌<◌, ◌≤◌, Bool, true, false, not, cond, List, [], ◌∷◌, ◌++◌, length, take, drop, Err, refl, sym, ap, ◌∙◌, subst, append-nil, arith}
 use Rattle.std.proofs.lemmas.List.{drop-append-le, drop-drop, length-drop, drop_all, take-append-le, take-take, take-append-drop, drop-take}
 use Rattle.std.specs.Prelude.{codes}
 use Rattle.std.specs.Str.{bytes_eq}
-use Rattle.std.specs.Str.Lines.{strip_carriage_return}
-use Rattle.ls_text.specs.Readings.{TextFault}
 use Rattle.command_read.specs.declared.reader.Reader.{Reader}
 use Rattle.command_read.specs.declared.line_end.LineEnd.{LineEnd}
 use Rattle.command_read.specs.Lines.{script_lines, words, are_just, begin_with}
-use Rattle.command_read.specs.Leading.{MayFollow, Leads}
-use Rattle.command_read.specs.LineEnds.{line_length, IsLineAt}
-use Rattle.command_read.specs.Asking.{Asked, fault_on}
+use Rattle.command_read.specs.Leading.{Leads}
+use Rattle.command_read.specs.LineEnds.{line_length}
+use Rattle.command_read.specs.Asking.{fault_on}
 use Rattle.command_read.specs.Blocks.{block_command}
-use Rattle.command_read.specs.Scripts.{Stand, Outside, Within, asked_at, asked_last, stand_behind, asked_by, asks}
+use Rattle.command_read.specs.Scripts.{Outside, Within, asked_at, asked_last, stand_behind, asked_by, asks}
 use Rattle.command_read.specs.Scanned.{Scanned}
 use Rattle.command_read.specs.Readers.{left, next_number, has_ended, asked_of}
 use Rattle.command_read.specs.Found.{IsEndOf, AsksFirst}

@@ -17,3 +17,7 @@ pub mod Handing
 pub mod Cutting
 pub mod Worked
 pub mod Soon
+mod Still
+pub mod SmallValues
+pub mod Forms
+pub mod FormedEdits

@@ -1,9 +1,8 @@
 -- What a refusal says of a reading.
-use Rattle.std.proofs.Common.{◌≡◌, ℕ, ◌<◌, List, [], ◌∷◌, Result, Ok, Err, refl, sym, ap, ◌∙◌}
-use Rattle.ls_text.specs.declared.fault.Fault.{Fault}
+use Rattle.std.proofs.Common.{◌≡◌, ℕ, List, Result, Err, sym, ap, ◌∙◌}
 use Rattle.ls_text.specs.declared.refusal.Refusal.{Refusal}
 use Rattle.ls_text.specs.declared.refusal.Refusal.TheVariants as refusal
-use Rattle.ls_text.specs.Readings.{TextFault, Gives, Refuses, fault_view, CanShow, IsNameless}
+use Rattle.ls_text.specs.Readings.{TextFault, Refuses}
 use Rattle.command_read.specs.Spoken.{IsFault}
 
 -- a refusal that is a fault refuses a reading that gives that fault

@@ -1,15 +1,12 @@
 -- What the lines from a place on ask for.
-use Rattle.std.proofs.Common.{◌≡◌, ℕ, ◌+◌, ◌≤◌, Bool, true, false, not, eqb, cond, ◌||◌, List, [], ◌∷◌, ◌++◌, length, drop, get_or, Option, Some, None, Result, Ok, Err, refl, sym, ap, ◌∙◌, subst, append-nil, append_assoc, arith, true≢false}
+use Rattle.std.proofs.Common.{◌≡◌, ℕ, ◌+◌, ◌≤◌, Bool, true, false, eqb, cond, ◌||◌, List, [], ◌∷◌, ◌++◌, length, drop, refl, sym, ap, ◌∙◌, subst, append-nil, append_assoc, true≢false}
 use Rattle.std.specs.Prelude.{codes, slice_index}
 use Rattle.std.specs.Str.{bytes_eq}
 use Rattle.std.specs.Cmp.Lexicographic.{bytes_decides}
 use Rattle.std.proofs.lemmas.List.{drop-append-le}
-use Rattle.ls_text.specs.Readings.{TextFault}
-use Rattle.command_read.specs.Lines.{script_lines, words, is_skipped, are_just, is_alone}
+use Rattle.command_read.specs.Lines.{script_lines, words, is_skipped, are_just}
 use Rattle.command_read.specs.Leading.{MayFollow, Leads}
-use Rattle.command_read.specs.Asking.{Asked, fault_on}
 use Rattle.command_read.specs.LineCommands.{line_command}
-use Rattle.command_read.specs.Blocks.{block_command}
 use Rattle.command_read.specs.Scripts.{Stand, Outside, Within, stand_behind, asked_at, asked_last, asked_by, asks}
 use Rattle.command_read.specs.Scanned.{Scanned}
 

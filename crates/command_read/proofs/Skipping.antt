@@ -1,13 +1,11 @@
 -- Lines outside of blocks.
-use Rattle.std.proofs.Common.{◌≡◌, ◌⊎◌, inl, inr, ℕ, ◌+◌, ◌-◌, ◌≤◌, Bool, true, false, cond, ◌||◌, List, [], ◌∷◌, ◌++◌, length, take, drop, Option, Some, None, Result, refl, sym, ap, ◌∙◌, subst, append-nil, arith}
+use Rattle.std.proofs.Common.{◌≡◌, ◌⊎◌, inl, inr, ℕ, ◌+◌, ◌-◌, Bool, true, false, cond, ◌||◌, List, [], ◌∷◌, ◌++◌, take, drop, Option, None, refl, sym, ap, ◌∙◌, subst, append-nil, arith}
 use Rattle.std.specs.Prelude.{codes}
-use Rattle.ls_text.specs.Readings.{TextFault}
 use Rattle.command_read.specs.declared.reader.Reader.{Reader}
 use Rattle.command_read.specs.declared.line_end.LineEnd.{LineEnd}
 use Rattle.command_read.specs.Lines.{script_lines, words, is_skipped, are_just}
-use Rattle.command_read.specs.Leading.{MayFollow, Leads}
+use Rattle.command_read.specs.Leading.{MayFollow}
 use Rattle.command_read.specs.LineEnds.{IsLineAt}
-use Rattle.command_read.specs.Asking.{Asked}
 use Rattle.command_read.specs.LineCommands.{line_command}
 use Rattle.command_read.specs.Scripts.{Outside, Within, asked_at, stand_behind, asked_by, asks}
 use Rattle.command_read.specs.Scanned.{Scanned}
@@ -34,6 +32,9 @@ takes_same a b f g old mid new came kept takes taken stop ended = record {
   unfailed = λ other. takes.unfailed (λ failed. other (stop ∙ failed));
   ended = λ is. takes.ended (sym ended ∙ is);
   quiet = λ is. let still = takes.quiet is in (still.0, still.1, ended ∙ still.2, still.3);
+  whole = λ is. takes.whole (sym ended ∙ is);
+  faultless = λ is failed. takes.faultless (sym ended ∙ is) (sym stop ∙ failed);
+  few = λ is much. takes.few (sym ended ∙ is) (sym stop ∙ much);
 }
 
 -- more is read behind what was skipped

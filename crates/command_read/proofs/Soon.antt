@@ -1,12 +1,9 @@
 -- Nothing is read once something is complete.
-use Rattle.std.proofs.Common.{◌≡◌, ◌⊎◌, inl, inr, ℕ, ◌≤◌, Bool, true, false, List, [], ◌++◌, length, drop, Option, Some, None, Result, refl, sym, ap, ◌∙◌, subst, append-nil, append_assoc, true≢false}
+use Rattle.std.proofs.Common.{◌≡◌, inl, inr, ℕ, ◌≤◌, Bool, true, false, List, [], ◌++◌, length, drop, Option, None, refl, sym, ap, ◌∙◌, subst, append-nil, append_assoc, true≢false}
 use Rattle.std.proofs.lemmas.List.{drop-append-le}
-use Rattle.ls_text.specs.Readings.{TextFault}
 use Rattle.command_read.specs.declared.reader.Reader.{Reader}
-use Rattle.command_read.specs.declared.stop.Stop.{Stop}
 use Rattle.command_read.specs.Lines.{script_lines}
 use Rattle.command_read.specs.Leading.{MayFollow}
-use Rattle.command_read.specs.Asking.{Asked}
 use Rattle.command_read.specs.Scripts.{Outside, Within, asked_by, asks}
 use Rattle.command_read.specs.Scanned.{Scanned}
 use Rattle.command_read.specs.Readers.{left, next_number, has_ended, stopped, asked_of, IsSoon, IsSoonAt, Takes, HandsOut}

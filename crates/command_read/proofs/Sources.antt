@@ -1,5 +1,5 @@
 -- What calls that read from a source take together.
-use Rattle.std.proofs.Common.{◌≡◌, ◌⊎◌, inl, inr, ℕ, ◌+◌, Bool, true, false, List, [], ◌∷◌, ◌++◌, length, Option, Some, None, refl, sym, ap, ◌∙◌, subst, append-nil, append_assoc, length-append, take, ◌<◌, true≢false, arith}
+use Rattle.std.proofs.Common.{◌≡◌, ◌⊎◌, inl, inr, ℕ, Bool, true, false, List, [], ◌∷◌, ◌++◌, length, Option, Some, None, refl, sym, ap, ◌∙◌, subst, append_assoc, length-append, take, ◌<◌, true≢false, arith}
 use Rattle.std.proofs.lemmas.Option.{none-some}
 use Rattle.std.specs.Io.KnownBytes.{Consumes, IsAtEnd, Keeps}
 use Rattle.std.proofs.KnownBytes.{Consumes-nil, Consumes-trans}
@@ -24,8 +24,11 @@ kept_on (Some stop.NoMemory) before came kept is = (is.0, ap (λ c. before ++ c)
 pub going_kept : (s : Option Stop) (came kept : List ℕ) → s ≡ None → AreKept s came kept → came ≡ kept
 going_kept s came kept going is = subst (λ t. AreKept t came kept) going is
 
+not_stopped : (s : Option Stop) (t : Stop) → s ≡ None → s ≡ Some t → ⊥
+not_stopped s t going stopped = none-some t (sym going ∙ stopped)
+
 not_failed : (s : Option Stop) → s ≡ None → s ≡ Some stop.Fault → ⊥
-not_failed s going failed = none-some stop.Fault (sym going ∙ failed)
+not_failed s going failed = not_stopped s stop.Fault going failed
 
 -- nothing is taken
 pub takes_nothing : (before : Option (List ℕ)) (faults : ℕ) (r : Reader) → stopped r ≡ None → Takes before before faults faults r r [] []
@@ -37,6 +40,9 @@ takes_nothing before faults r going = record {
   unfailed = λ other. refl;
   ended = λ ended. inl ended;
   quiet = λ ended. (refl, refl, ended, refl);
+  whole = λ ended. refl;
+  faultless = λ ended failed. not_failed (stopped r) going failed;
+  few = λ ended much. not_stopped (stopped r) stop.TooMuch going much;
 }
 
 -- one call after another
@@ -56,6 +62,9 @@ takes_on a b c f g h old mid new c1 k1 c2 k2 first going second =
           let once = first.quiet ended in
           let twice = second.quiet once.2 in
           (ap (λ l. l ++ c2) once.0 ∙ twice.0, ap (λ l. l ++ k2) once.1 ∙ twice.1, twice.2, twice.3 ∙ once.3);
+      whole = λ ended. ap (λ l. l ++ c2) same ∙ ap (λ l. k1 ++ l) (second.whole ended);
+      faultless = second.faultless;
+      few = second.few;
     }
   where
     by_mid : (has_ended mid ≡ true) → (has_ended old ≡ true) ⊎ IsAtEnd b → (has_ended old ≡ true) ⊎ IsAtEnd c
@@ -103,6 +112,9 @@ takes_end before behind f g old new piece n none consumed end some same taken go
   unfailed = λ other. same;
   ended = λ ended. inr (end none some);
   quiet = λ ended. absurd (true≢false (sym ended ∙ more));
+  whole = λ ended. refl;
+  faultless = λ ended failed. not_failed (stopped new) going failed;
+  few = λ ended much. not_stopped (stopped new) stop.TooMuch going much;
 }
 
 -- a read that failed
@@ -116,6 +128,9 @@ takes_failed before behind f g old new kept rose failed taken same more = record
   unfailed = λ other. absurd (other failed);
   ended = λ ended. inl (sym same ∙ ended);
   quiet = λ ended. absurd (true≢false (sym ended ∙ more));
+  whole = λ ended. refl;
+  faultless = λ ended stopped. true≢false (sym ended ∙ same ∙ more);
+  few = λ ended stopped. true≢false (sym ended ∙ same ∙ more);
 }
 
 -- more is read behind what is held

@@ -1,5 +1,5 @@
 -- One line more of a block.
-use Rattle.std.proofs.Common.{◌≡◌, ℕ, ◌+◌, ◌<◌, List, [], ◌∷◌, length, Option, Some, None, IfSome, Result, Ok, Err, refl, sym, ap, ◌∙◌, subst}
+use Rattle.std.proofs.Common.{◌≡◌, ℕ, ◌+◌, ◌<◌, List, ◌∷◌, length, Option, None, IfSome, Result, Ok, sym, ap, ◌∙◌, subst}
 use Rattle.std.specs.Option.{option_map}
 use Rattle.ls_text.specs.Texts.{Grows}
 use Rattle.ls_text.specs.Readings.{TextFault, Gives, Refuses, ◌>>=◌}
@@ -11,7 +11,7 @@ use Rattle.command_read.specs.declared.open_text.OpenText.{OpenText}
 use Rattle.command_read.specs.Lines.{words}
 use Rattle.command_read.specs.Blocks.{Reading, block_entry, with_entry, reading_behind, reading_of}
 use Rattle.command_read.specs.Spoken.{drafted, entry, open_file, reading, IsDraftWithin}
-use Rattle.command_read.proofs.Grown.{grown_drafted, grown_text_read, grown_within}
+use Rattle.command_read.proofs.Grown.{grown_drafted, grown_text_read}
 
 -- a line outside of texts, whose entry is added by a table that has grown
 pub take_entry : {A : Type 0} (old new : List (List ℕ)) (d : Draft) (number : ℕ) (line : List ℕ) (said : BlockLine) (view : A → Reading) (result : Result A Refusal)

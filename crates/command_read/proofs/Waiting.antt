@@ -1,5 +1,5 @@
 -- How long a reader can go on reading.
-use Rattle.std.proofs.Common.{◌≡◌, ℕ, ◌+◌, ◌-◌, ◌<◌, ◌≤◌, Bool, true, false, Option, Some, None, arith}
+use Rattle.std.proofs.Common.{ℕ, ◌+◌, ◌-◌, Bool, true, false, Option, Some, None}
 use Rattle.command_read.specs.declared.stop.Stop.{Stop}
 
 abbrev pub open_yet : Bool → ℕ

@@ -1,11 +1,11 @@
 -- Scripts whose commands are worked out by hand.
-use Rattle.std.proofs.Common.{◌≡◌, ℕ, true, false, List, [], ◌∷◌, Some, None, Result, Ok, Err, refl}
+use Rattle.std.proofs.Common.{◌≡◌, true, false, [], ◌∷◌, Some, None, Ok, Err, refl}
 use Rattle.std.specs.Prelude.{codes}
 use Rattle.command_read.specs.Lines.{script_lines, words}
-use Rattle.command_read.specs.Values.{is_identifier, is_file_name, number_in, count_of, hex_of, parted_at, register_of, setting_of, created_of, shown_of}
-use Rattle.command_read.specs.Asking.{Block, Edits, Sets, Runs, Shows, Settles, Quits, fault_on}
+use Rattle.command_read.specs.Values.{is_identifier, is_file_name, number_in, count_of, hex_of, parted_at, setting_of, shown_of}
+use Rattle.command_read.specs.Asking.{Edits, Sets, Runs, Shows, Quits, fault_on}
 use Rattle.command_read.specs.LineCommands.{run_command, line_command}
-use Rattle.command_read.specs.Blocks.{rename_entry, create_entry, delete_entry, block_entry, block_command}
+use Rattle.command_read.specs.Blocks.{block_entry, block_command}
 use Rattle.command_read.specs.Scripts.{asks, commands}
 
 pub lines_worked : commands (codes "run 5\n# x\nshow a") true ≡ Ok (Runs 1 5) ∷ Ok (Shows 3 (codes "a")) ∷ []
@@ -26,7 +26,7 @@ values_worked = refl
 
 pub block_worked : commands (codes "edit\ntop t\nfile a\nx\r\n.\nend\nquit\nrun 1\n") true
     ≡ Ok (Edits (record { line = 1; top = Some (codes "t"); clock = None; files = (record { line = 3; name = codes "a"; text = codes "x\n" }) ∷ []; loads = []; ops = [] })) ∷ Ok (Quits 7) ∷ []
-unfolding commands asks script_lines words line_command run_command count_of number_in block_command block_entry is_file_name
+unfolding commands asks script_lines words line_command run_command count_of number_in block_command block_entry is_file_name is_identifier
 block_worked = refl
 
 pub unfinished_worked : commands (codes "edit\ntop top\n") true ≡ Err (fault_on 66 1 []) ∷ []

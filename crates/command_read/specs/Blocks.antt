@@ -1,11 +1,11 @@
 -- What a block asks for: its lines up to `end`, one after the other.
-use Rattle.std.specs.Prelude.{ℕ, ◌+◌, ◌||◌, ◌==◌, nat_lt, Bool, true, false, if◌then◌else◌, List, [], ◌∷◌, ◌++◌, length, codes, slice_index, Option, Some, None, Result, Ok, Err}
+use Rattle.std.specs.Prelude.{ℕ, ◌+◌, ◌||◌, ◌==◌, nat_lt, Bool, if◌then◌else◌, List, [], ◌∷◌, ◌++◌, length, codes, slice_index, Option, Some, None, Result, Ok, Err}
 use Rattle.std.specs.List.{list_any}
 use Rattle.std.specs.Str.{bytes_eq}
 use Rattle.ls_text.specs.Readings.{TextFault, ◌>>=◌}
 use Rattle.reg_ops.specs.Operations.{Operation, Renames, Creates, Deletes}
 use Rattle.command_read.specs.Lines.{words, both}
-use Rattle.command_read.specs.Values.{is_file_name, register_of, created_of}
+use Rattle.command_read.specs.Values.{is_identifier, is_file_name, register_of, created_of}
 use Rattle.command_read.specs.Asking.{GivenFile, LoadedFile, LineOperation, Block, Asked, Edits, fault_on, bad_command, bad_value, of_form, of_number}
 use Rattle.command_read.specs.LineCommands.{just_one}
 
@@ -18,6 +18,13 @@ pub data Entry : Type 0 where
   Gives : (name : List ℕ) → Entry
   Loads : (name : List ℕ) → Entry
   Operates : (op : Operation) → Entry
+
+-- NAME of a module or a clock, or 61
+abbrev pub design_name : (line : ℕ) → (word : List ℕ) → Result (List ℕ) TextFault
+design_name line word = if is_identifier word then Ok word else bad_value line word
+
+abbrev pub just_name : (line : ℕ) → List (List ℕ) → Result (List ℕ) TextFault
+just_name line ws = just_one line ws >>= λ word. design_name line word
 
 -- FILE, or 61
 abbrev pub file_name : (line : ℕ) → (word : List ℕ) → Result (List ℕ) TextFault
@@ -55,8 +62,8 @@ delete_entry line ws = do
 abbrev pub entry_of : (line : ℕ) → (word : List ℕ) → List (List ℕ) → Result Entry TextFault
 entry_of line word ws =
     if slice_index word 0 == 35 then Ok Skipped
-    else if bytes_eq word (codes "top") then just_one line ws >>= (λ name. Ok (Top name))
-    else if bytes_eq word (codes "clock") then just_one line ws >>= (λ name. Ok (Clock name))
+    else if bytes_eq word (codes "top") then just_name line ws >>= (λ name. Ok (Top name))
+    else if bytes_eq word (codes "clock") then just_name line ws >>= (λ name. Ok (Clock name))
     else if bytes_eq word (codes "file") then just_file line ws >>= (λ name. Ok (Gives name))
     else if bytes_eq word (codes "load") then just_file line ws >>= (λ name. Ok (Loads name))
     else if bytes_eq word (codes "rename") then rename_entry line ws >>= (λ op. Ok (Operates op))

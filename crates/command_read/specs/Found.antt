@@ -1,5 +1,5 @@
 -- What a reader finds among the bytes that it holds.
-use Rattle.std.specs.Prelude.{◌≡◌, ℕ, ◌+◌, ◌-◌, ◌<◌, ◌≤◌, Bool, true, false, List, [], ◌∷◌, ◌++◌, length, take, drop, Result, Err}
+use Rattle.std.specs.Prelude.{◌≡◌, ℕ, ◌+◌, ◌-◌, ◌<◌, ◌≤◌, Bool, true, List, [], ◌∷◌, ◌++◌, length, take, drop, Result, Err}
 use Rattle.ls_text.specs.Readings.{TextFault}
 use Rattle.command_read.specs.declared.reader.Reader.{Reader}
 use Rattle.command_read.specs.declared.line_end.LineEnd.{LineEnd}
@@ -35,7 +35,8 @@ item_asked r Open = Err (fault_on 66 (next_number r) [])
 
 -- that stands at the front of what a reader holds
 abbrev pub IsAtFront : Reader → Item → Type 0
-IsAtFront r (Line end next) = (end ≤ next) × (next ≤ length (left r)) × (0 < next) × AsksFirst r (line_command (next_number r) (words (take end (left r)))) next 1
+IsAtFront r (Line end next) = (end ≤ next) × (next ≤ length (left r)) × (0 < next)
+    × AsksFirst r (line_command (next_number r) (words (take end (left r)))) next 1
 IsAtFront r (Block body end next lines) =
     (body ≤ end) × (end ≤ next) × (next ≤ length (left r)) × (lines ≤ next) × (0 < next)
     × AsksFirst r (block_command (next_number r) (script_lines true (take (end - body) (drop body (left r))))) next lines

@@ -13,3 +13,4 @@ pub mod LineEnds
 pub mod Readers
 pub mod Found
 pub mod Runs
+pub mod Formed

@@ -1,5 +1,5 @@
 -- What a reader holds, and what a call of it takes and hands out.
-use Rattle.std.specs.Prelude.{◌≡◌, ◌⊎◌, ℕ, ◌+◌, ◌<◌, ◌≤◌, Bool, true, false, List, [], ◌∷◌, ◌++◌, length, drop, Option, Some, None, Result, Ok, Err, ⊤}
+use Rattle.std.specs.Prelude.{◌≡◌, ◌⊎◌, ℕ, ◌+◌, ◌-◌, ◌<◌, ◌≤◌, Bool, true, false, List, [], ◌∷◌, ◌++◌, length, drop, Option, Some, None, Result, Ok, Err, ⊤}
 use Rattle.std.specs.Io.KnownBytes.{Consumes, IsAtEnd}
 use Rattle.ls_port.specs.Causes.{Rose}
 use Rattle.ls_text.specs.Readings.{TextFault, fault_view}
@@ -32,6 +32,10 @@ has_ended r = r.ended
 abbrev pub count_taken : Reader → ℕ
 count_taken r = r.taken
 
+-- how many bytes it may hand out yet: those that it may take, and those that it holds
+abbrev pub still_of : Reader → ℕ
+still_of r = (67108865 - count_taken r) + length (left r)
+
 -- why it hands nothing out any more
 abbrev pub stopped : Reader → Option Stop
 stopped r = r.stop
@@ -48,8 +52,9 @@ AreKept (Some stop.Fault) came kept = came ≡ kept
 AreKept (Some stop.TooMuch) came kept = (last : ℕ) × (came ≡ kept ++ last ∷ [])
 AreKept (Some stop.NoMemory) came kept = (lost : List ℕ) × (came ≡ kept ++ lost)
 
--- A call took those bytes of a source, which has what it has left before and behind the call and a count of faults, and the reader has kept those. The count
--- rises where the source failed and nowhere else. Where the input's end was seen nothing is left, and nothing is taken from then on.
+-- A call took those bytes of a source, which has what it has left before and behind the call and a count of faults, and the reader has kept
+-- those. The count rises where the source failed and nowhere else. Where the input's end was seen nothing is left, and nothing is taken
+-- from then on. Where it is seen, all that came is kept, and neither a fault nor the limit has stopped the reader.
 pub record Takes (before behind : Option (List ℕ)) (faults count : ℕ) (old new : Reader) (came kept : List ℕ) : Type 0 where
   pub consumed : Consumes before behind came
   pub counted : count_taken new ≡ count_taken old + length came
@@ -58,10 +63,14 @@ pub record Takes (before behind : Option (List ℕ)) (faults count : ℕ) (old n
   pub unfailed : (stopped new ≡ Some stop.Fault → ⊥) → count ≡ faults
   pub ended : has_ended new ≡ true → (has_ended old ≡ true) ⊎ IsAtEnd behind
   pub quiet : has_ended old ≡ true → (came ≡ []) × (kept ≡ []) × (has_ended new ≡ true) × (behind ≡ before)
+  pub whole : has_ended new ≡ true → came ≡ kept
+  pub faultless : has_ended new ≡ true → stopped new ≡ Some stop.Fault → ⊥
+  pub few : has_ended new ≡ true → stopped new ≡ Some stop.TooMuch → ⊥
 
 -- what was asked for is what is told, and then what is still asked for, whatever comes behind the bytes that were kept
 abbrev pub HandsOut : (old new : Reader) → (told : List (Result Asked TextFault)) → (kept : List ℕ) → Type 0
-HandsOut old new told kept = (more : List ℕ) → (end : Bool) → MayFollow (has_ended new) more end → asked_of old (kept ++ more) end ≡ told ++ asked_of new more end
+HandsOut old new told kept = (more : List ℕ) → (end : Bool) → MayFollow (has_ended new) more end → asked_of old (kept ++ more) end
+    ≡ told ++ asked_of new more end
 
 -- Of the bytes that came those of the last read, at most 65,536, are behind others with which no line from that place on was complete.
 abbrev pub IsSoonAt : (from : ℕ) → Reader → (came : List ℕ) → Type 0
@@ -69,10 +78,12 @@ IsSoonAt from old came =
     (came ≡ []) ⊎ ((early : List ℕ) × (last : List ℕ) × (came ≡ early ++ last) × (length last ≤ 65536) × (has_ended old ≡ false)
     × (script_lines false (drop from (left old ++ early)) ≡ []))
 
--- Of the bytes that came those of the last read, at most 65,536, are behind others with which nothing was asked for: once something is complete, nothing is read.
+-- Of the bytes that came those of the last read, at most 65,536, are behind others with which nothing was asked for: once something is
+-- complete, nothing is read.
 abbrev pub IsSoon : Reader → (came : List ℕ) → Type 0
 IsSoon old came =
-    (came ≡ []) ⊎ ((early : List ℕ) × (last : List ℕ) × (came ≡ early ++ last) × (length last ≤ 65536) × (has_ended old ≡ false) × (asked_of old early false ≡ []))
+    (came ≡ []) ⊎ ((early : List ℕ) × (last : List ℕ) × (came ≡ early ++ last) × (length last ≤ 65536) × (has_ended old ≡ false)
+    × (asked_of old early false ≡ []))
 
 -- what an answer tells
 abbrev pub told : List (List ℕ) → ReadEnd → List (Result Asked TextFault)

@@ -13,7 +13,8 @@ pub data Stand : Type 0 where
   -- in the block whose `edit` has that line, behind these lines of it; in a text or not
   Within : (first : ℕ) (before : List (List ℕ)) (in_text : Bool) → Stand
 
--- A lone `edit` outside of a block opens one, a lone `end` in it, outside of its texts, ends it. A line that begins with `file` opens a text, `.` ends it.
+-- A lone `edit` outside of a block opens one, a lone `end` in it, outside of its texts, ends it. A line that begins with `file` opens a
+-- text, `.` ends it.
 abbrev pub stand_behind : Stand → (number : ℕ) → (line : List ℕ) → Stand
 stand_behind Outside number line = if are_just (codes "edit") (words line) then Within number [] false else Outside
 stand_behind (Within first before true) number line = Within first (before ++ line ∷ []) (not (bytes_eq line (codes ".")))

@@ -10,7 +10,8 @@ is_too_much (Some Fault) = false
 is_too_much (Some TooMuch) = true
 is_too_much (Some NoMemory) = false
 
--- A read has room for 65,536 bytes; what is handed out was held; each line takes a byte; and a reader that has taken the byte above the limit has stopped.
+-- A read has room for 65,536 bytes; what is handed out was held; each line takes a byte; and a reader that has taken the byte above the
+-- limit has stopped.
 pub record IsSound (room held at number taken : ℕ) (stop : Option Stop) : Type 0 where
   pub piece : room ≡ 65536
   pub within : at ≤ held

@@ -1,7 +1,7 @@
 -- What commands, and what is read of them so far, mean by a table of names.
-use Rattle.std.specs.Prelude.{◌≡◌, ℕ, ◌<◌, ◌||◌, ◌==◌, Bool, List, [], ◌∷◌, map, Option, Some, None, IfSome, ⊤}
+use Rattle.std.specs.Prelude.{◌≡◌, ℕ, ◌<◌, List, map, Option, IfSome, ⊤}
 use Rattle.std.specs.Option.{option_map}
-use Rattle.std.specs.List.{All, list_any}
+use Rattle.std.specs.List.{All}
 use Rattle.ls_text.specs.Texts.{text_at}
 use Rattle.ls_text.specs.Readings.{TextFault, fault_view}
 use Rattle.ls_text.specs.declared.name_id.NameId.{NameId}

@@ -6,28 +6,33 @@ ghost use Rattle.ls_text.specs.Readings.{CanShow, Gives};
 ghost use Rattle.reg_ops.specs.Operations.{operation, HasNames, Renames, Creates, Deletes};
 ghost use Rattle.command_read.specs.Lines.{words};
 ghost use Rattle.command_read.specs.Values.{created_of};
-ghost use Rattle.command_read.specs.LineCommands.{just_one};
-ghost use Rattle.command_read.specs.Blocks.{just_file, renamed, rename_entry, create_entry, delete_entry, entry_of, block_entry};
+ghost use Rattle.command_read.specs.Blocks.{just_file, just_name, renamed, rename_entry, create_entry, delete_entry, entry_of, block_entry};
 ghost use Rattle.command_read.specs.Spoken.{entry, name_of, IsEntryWithin};
 
 use crate::block_line::BlockLine;
 use crate::faults::{showing, wordless};
 use crate::numbers::hex_of;
-use crate::scan::{is_file_name, next_word, only_word, parted_at, register_of, two_words};
+use crate::scan::{
+    is_file_name, is_identifier, next_word, only_word, parted_at, register_of, two_words,
+};
 use ls_text::{NameId, Names, NoMemory, Refusal, byte_at};
 use reg_ops::RegOp;
 use std::alloc::Global;
 
 // NAME.
 fn read_name(alloc: Global, names: &mut Names, line: u64, rest: &[u8]) -> Result<NameId, Refusal>
-    ensures gives { Gives names.new (name_of names.new) result (just_one line (words rest.now)) }
+    ensures gives { Gives names.new (name_of names.new) result (just_name line (words rest.now)) }
     ensures within { IfOk result (λ id. id.0 < length names.new) }
     ensures named { IfErr result (CanShow (length names.new)) }
     ensures grows { Grows names.old names.new }
 {
-    match only_word(rest) {
-        Some(word) => Ok(names.intern(word)?),
-        None => Err(Refusal::Fault(wordless(alloc, 60, line))),
+    let Some(word) = only_word(rest) else {
+        return Err(Refusal::Fault(wordless(alloc, 60, line)));
+    };
+    if is_identifier(word) {
+        Ok(names.intern(word)?)
+    } else {
+        Err(showing(alloc, names, 61, line, word))
     }
 }
 

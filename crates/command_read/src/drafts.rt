@@ -93,7 +93,8 @@ fn more_text(begun: OpenText, line: &[u8]) -> Result<OpenText, NoMemory>
 // Adds a file whose text is whole, unless it has more than 4,194,304 bytes.
 fn close(alloc: Global, draft: &mut Draft, begun: OpenText) -> Result<(), Refusal>
     requires { draft.old.text ≡ None }
-    ensures gives { (names : List (List ℕ)) → Gives names (λ _. reading names draft.new) result (with_text (drafted names draft.old) (open_file names begun)) }
+    ensures gives { (names : List (List ℕ))
+        → Gives names (λ _. reading names draft.new) result (with_text (drafted names draft.old) (open_file names begun)) }
     ensures within { (count : ℕ) → IsDraftWithin count draft.old → begun.name.0 < count → OnOk result (IsDraftWithin count draft.new) }
     ensures named { (count : ℕ) → begun.name.0 < count → IfErr result (CanShow count) }
 {

@@ -96,7 +96,8 @@ impl Reader {
     pub(crate) fn fill<S: Source>(&mut self, source: &mut S)
         requires going { stopped self.old ≡ None }
         requires more { has_ended self.old ≡ false }
-        ensures takes { (came : List ℕ) × (kept : List ℕ) × Takes (S.left source.old) (S.left source.new) (S.faults source.old) (S.faults source.new) self.old self.new came kept
+        ensures takes { (came : List ℕ) × (kept : List ℕ)
+            × Takes (S.left source.old) (S.left source.new) (S.faults source.old) (S.faults source.new) self.old self.new came kept
             × (left self.new ≡ left self.old ++ kept) × ((stopped self.new ≡ None → ⊥) → kept ≡ []) × (length came ≤ 65536) }
         ensures number { next_number self.new ≡ next_number self.old }
         ensures progress { stopped self.new ≡ None → has_ended self.new ≡ false → count_taken self.old < count_taken self.new }

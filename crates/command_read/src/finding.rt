@@ -4,7 +4,7 @@ ghost use Rattle.std.specs.Str.{bytes_eq};
 ghost use Rattle.command_read.specs.Lines.{script_lines, words, is_skipped, begin_with};
 ghost use Rattle.command_read.specs.LineEnds.{IsLineAt, line_length};
 ghost use Rattle.command_read.specs.Scripts.{Within};
-ghost use Rattle.command_read.specs.Readers.{left, next_number, has_ended, count_taken, stopped, asked_of, IsSoon, IsSoonAt, Takes, HandsOut};
+ghost use Rattle.command_read.specs.Readers.{left, still_of, next_number, has_ended, count_taken, stopped, asked_of, IsSoon, IsSoonAt, Takes, HandsOut};
 ghost use Rattle.command_read.specs.Found.{IsEndOf, IsAtFront};
 ghost use Rattle.command_read.specs.declared.stop.Stop.TheVariants.{End};
 ghost use Rattle.command_read.specs.Scanned.{Scanned};
@@ -82,7 +82,8 @@ impl Reader {
     fn line_at<S: Source>(&mut self, source: &mut S, from: usize) -> Option<LineEnd>
         requires going { stopped self.old ≡ None }
         requires within { from ≤ length (left self.old) }
-        ensures takes { (came : List ℕ) × (kept : List ℕ) × Takes (S.left source.old) (S.left source.new) (S.faults source.old) (S.faults source.new) self.old self.new came kept
+        ensures takes { (came : List ℕ) × (kept : List ℕ)
+            × Takes (S.left source.old) (S.left source.new) (S.faults source.old) (S.faults source.new) self.old self.new came kept
             × (left self.new ≡ left self.old ++ kept) × IsSoonAt from self.old came }
         ensures number { next_number self.new ≡ next_number self.old }
         ensures found { IfSome result (IsEndOf self.new from) }
@@ -112,15 +113,18 @@ impl Reader {
     // The first line that isn't skipped, which then stands at the front.
     fn first_line<S: Source>(&mut self, source: &mut S) -> Option<LineEnd>
         requires going { stopped self.old ≡ None }
-        ensures goes { (came : List ℕ) × (kept : List ℕ) × Takes (S.left source.old) (S.left source.new) (S.faults source.old) (S.faults source.new) self.old self.new came kept
+        ensures goes { (came : List ℕ) × (kept : List ℕ)
+            × Takes (S.left source.old) (S.left source.new) (S.faults source.old) (S.faults source.new) self.old self.new came kept
             × HandsOut self.old self.new [] kept × IsSoon self.old came }
+        ensures still { still_of self.new ≤ still_of self.old }
         ensures found { IfSome result (IsEndOf self.new 0) }
         ensures told { IfSome result (λ f. is_skipped (words (take f.end (left self.new))) ≡ false) }
         ensures going { OnSome result (stopped self.new ≡ None) }
         ensures none { IfNone result (asked_of self.new [] (has_ended self.new) ≡ []) }
         ensures ends { IfNone result (stopped self.new ≡ None → has_ended self.new ≡ true) }
         ensures not_end { stopped self.new ≡ Some End → ⊥ }
-        ensures unread { ((source.new ≡ source.old) × (has_ended self.new ≡ has_ended self.old) × (has_ended self.old ≡ false → asked_of self.new [] false ≡ asked_of self.old [] false))
+        ensures unread { ((source.new ≡ source.old) × (has_ended self.new ≡ has_ended self.old)
+            × (has_ended self.old ≡ false → asked_of self.new [] false ≡ asked_of self.old [] false))
             ⊎ ((has_ended self.old ≡ false) × (asked_of self.old [] false ≡ [])) }
     {
         while let Some(found) = self.line_at(source, 0) {
@@ -138,7 +142,8 @@ impl Reader {
         requires within { body ≤ length (left self.old) }
         requires some { 0 < body }
         requires begun { Scanned (has_ended self.old) (next_number self.old) (left self.old) (Within (next_number self.old) [] false) (next_number self.old + 1) body }
-        ensures takes { (came : List ℕ) × (kept : List ℕ) × Takes (S.left source.old) (S.left source.new) (S.faults source.old) (S.faults source.new) self.old self.new came kept
+        ensures takes { (came : List ℕ) × (kept : List ℕ)
+            × Takes (S.left source.old) (S.left source.new) (S.faults source.old) (S.faults source.new) self.old self.new came kept
             × (left self.new ≡ left self.old ++ kept) × IsSoon self.old came }
         ensures number { next_number self.new ≡ next_number self.old }
         ensures found { IfSome result (IsAtFront self.new) }
@@ -178,8 +183,10 @@ impl Reader {
     /// What is complete first. None at the input's end, or where the reader stops.
     pub(crate) fn item<S: Source>(&mut self, source: &mut S) -> Option<Item>
         requires going { stopped self.old ≡ None }
-        ensures goes { (came : List ℕ) × (kept : List ℕ) × Takes (S.left source.old) (S.left source.new) (S.faults source.old) (S.faults source.new) self.old self.new came kept
+        ensures goes { (came : List ℕ) × (kept : List ℕ)
+            × Takes (S.left source.old) (S.left source.new) (S.faults source.old) (S.faults source.new) self.old self.new came kept
             × HandsOut self.old self.new [] kept × IsSoon self.old came }
+        ensures still { still_of self.new ≤ still_of self.old }
         ensures found { IfSome result (IsAtFront self.new) }
         ensures going { OnSome result (stopped self.new ≡ None) }
         ensures none { IfNone result (asked_of self.new [] (has_ended self.new) ≡ []) }

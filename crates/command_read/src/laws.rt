@@ -5,10 +5,11 @@ ghost use Rattle.command_read.specs.Asking.{Asked, Edits, Sets, Runs, Shows, Qui
 ghost use Rattle.command_read.specs.Scripts.{asks, commands};
 ghost use Rattle.command_read.specs.Readers.{left, next_number, has_ended, asked_of, HandsOut};
 ghost use Rattle.command_read.specs.Runs.{Continues, HasTold};
+ghost use Rattle.command_read.specs.Formed.{AsksFormed, AsksFormedFirst};
 ghost use Rattle.command_read.specs.declared.reader.Reader.{Reader};
 
-/// What a reader has told since its beginning is what the bytes ask for that it has kept: it holds at the beginning and from call to call, and where nothing
-/// is left to hand out that is all. So readers of the same bytes have told the same, in whatever pieces these came.
+/// What a reader has told since its beginning is what the bytes ask for that it has kept: it holds at the beginning and from call to call,
+/// and where nothing is left to hand out that is all. So readers of the same bytes have told the same, in whatever pieces these came.
 #[tactic(none)]
 pub fn readers_tell_what_bytes_ask_for()
     ensures begins { (r : Reader) → left r ≡ [] → next_number r ≡ 1 → HasTold r [] [] }
@@ -24,7 +25,15 @@ pub fn readers_tell_what_bytes_ask_for()
 #[tactic(none)]
 pub fn cut_scripts_begin_whole_ones()
     ensures asked { (end : Bool) (number : ℕ) (bytes more : List ℕ) → Continues (asks false number bytes) (asks end number (bytes ++ more)) }
-    ensures commands { (bytes more : List ℕ) (end : Bool) → length bytes ≤ 67108864 → Continues (commands bytes false) (commands (bytes ++ more) end) }
+    ensures commands { (bytes more : List ℕ) (end : Bool) → length bytes ≤ 67108864
+        → Continues (commands bytes false) (commands (bytes ++ more) end) }
+{}
+
+/// Each command that bytes ask for is of its form, and so is the first one, which a reader hands out.
+#[tactic(none)]
+pub fn asked_commands_are_formed()
+    ensures each { AsksFormed }
+    ensures first { AsksFormedFirst }
 {}
 
 /// Scripts whose commands are worked out by hand.

@@ -1,8 +1,8 @@
 // The commands of a script: what they ask for, as plain types, and what reads them from a source.
 //
-// A `Reader` (`reader`) takes bytes of a source (`filling`), finds the first line or block that is complete (`finding`), and reads it (`reading`). Of a
-// line, `scan` and `numbers` have its words and the forms of its values, `line_commands` the commands of one line and `block_lines` what the lines of a
-// block say, which `drafts` puts together. What is wrong with a line is made in `faults`.
+// A `Reader` (`reader`) takes bytes of a source (`filling`), finds the first line or block that is complete (`finding`), and reads it
+// (`reading`). Of a line, `scan` and `numbers` have its words and the forms of its values, `line_commands` the commands of one line and
+// `block_lines` what the lines of a block say, which `drafts` puts together. What is wrong with a line is made in `faults`.
 #![tactic(auto)]
 
 mod block_line;

@@ -1,10 +1,10 @@
 // Reading commands.
-ghost use Rattle.std.specs.Prelude.{◌≡◌, ◌⊎◌, ◌∷◌, ℕ, List, [], length, nat_lt, true, false, None, Some, IfOk, IfErr, if◌then◌else◌, is_some, ◌≤◌};
+ghost use Rattle.std.specs.Prelude.{◌≡◌, ◌⊎◌, ◌∷◌, ◌<◌, ℕ, List, [], length, nat_lt, true, false, None, Some, IfOk, IfErr, if◌then◌else◌, is_some, ◌≤◌};
 ghost use Rattle.ls_text.specs.Texts.{Grows};
 ghost use Rattle.ls_text.specs.Readings.{CanShow, Gives};
 ghost use Rattle.command_read.specs.Spoken.{spoken, IsCommandWithin};
 ghost use Rattle.command_read.specs.Sound.{is_too_much};
-ghost use Rattle.command_read.specs.Readers.{left, next_number, has_ended, count_taken, stopped, asked_of, IsSoon, Takes, HandsOut, told, stop_of, end_of, IsReadEndWithin};
+ghost use Rattle.command_read.specs.Readers.{left, still_of, next_number, has_ended, count_taken, stopped, asked_of, IsSoon, Takes, HandsOut, told, stop_of, end_of, IsReadEndWithin};
 ghost use Rattle.command_read.specs.Found.{IsAtFront, item_asked};
 ghost use Rattle.command_read.specs.declared.stop.Stop.TheVariants.{End, NoMemory as OutOfMemory};
 
@@ -89,6 +89,7 @@ impl Reader {
     fn hand_out(&mut self, item: Item)
         requires { IsAtFront self.old item }
         ensures hands { HandsOut self.old self.new (item_asked self.old item ∷ []) [] }
+        ensures still { still_of self.new < still_of self.old }
         ensures taken { count_taken self.new ≡ count_taken self.old }
         ensures ended { has_ended self.new ≡ has_ended self.old }
         ensures stop { stopped self.new ≡ stopped self.old }
@@ -112,6 +113,7 @@ impl Reader {
         ensures taken { count_taken self.new ≡ count_taken self.old }
         ensures ended { has_ended self.new ≡ has_ended self.old }
         ensures stop { stopped self.new ≡ stop_of result }
+        ensures still { stop_of result ≡ None → still_of self.new < still_of self.old }
         ensures memory { (stopped self.new ≡ None) ⊎ (stopped self.new ≡ Some OutOfMemory) }
         ensures within { IsReadEndWithin (length names.new) result }
         ensures grows { Grows names.old names.new }
@@ -134,10 +136,12 @@ impl Reader {
 
     /// The next command of the source, or the next line that is refused, as soon as its last line is complete: then nothing more is read.
     ///
-    /// A read asks for 65,536 bytes, or for those up to the 67,108,864th where these are fewer; where that one is taken and nothing is left to hand out,
-    /// for one byte more, which belongs to no command. After `End`, `Fault`, `TooMuch` and `NoMemory` it answers the same again.
+    /// A read asks for 65,536 bytes, or for those up to the 67,108,864th where these are fewer; where that one is taken and nothing is left
+    /// to hand out, for one byte more, which belongs to no command. After `End`, `Fault`, `TooMuch` and `NoMemory` it answers the same
+    /// again.
     pub fn read_command<S: Source>(&mut self, names: &mut Names, source: &mut S) -> ReadEnd
-        // What was asked for is what is told, and then what is still asked for, whatever comes behind; and once that was complete nothing more was read.
+        // What was asked for is what is told, and then what is still asked for, whatever comes behind; and once that was complete nothing
+        // more was read.
         ensures goes { stopped self.old ≡ None → (came : List ℕ) × (kept : List ℕ)
             × Takes (S.left source.old) (S.left source.new) (S.faults source.old) (S.faults source.new) self.old self.new came kept
             × HandsOut self.old self.new (told names.new result) kept × IsSoon self.old came }
@@ -147,13 +151,17 @@ impl Reader {
         ensures nothing { stopped self.old ≡ None → (stopped self.new ≡ None → ⊥) → (stopped self.new ≡ Some OutOfMemory → ⊥)
             → asked_of self.new [] (has_ended self.new) ≡ [] }
         ensures end { stopped self.old ≡ None → stopped self.new ≡ Some End → has_ended self.new ≡ true }
+        // What it may hand out yet falls with each that it tells.
+        ensures still { stop_of result ≡ None → still_of self.new < still_of self.old }
+
         ensures much { is_too_much (stopped self.new) ≡ nat_lt 67108864 (count_taken self.new) }
 
         // Nothing is read where something is left to hand out, or the input has ended.
         ensures unread { stopped self.old ≡ None → (source.new ≡ source.old) ⊎ ((has_ended self.old ≡ false) × (asked_of self.old [] false ≡ [])) }
 
         // A stopped reader answers the same again.
-        ensures again { (stop : Stop) → stopped self.old ≡ Some stop → (result ≡ end_of stop) × (self.new ≡ self.old) × (source.new ≡ source.old) × (names.new ≡ names.old) }
+        ensures again { (stop : Stop) → stopped self.old ≡ Some stop
+            → (result ≡ end_of stop) × (self.new ≡ self.old) × (source.new ≡ source.old) × (names.new ≡ names.old) }
 
         // The table only grows, and all names that are told are its.
         ensures within { IsReadEndWithin (length names.new) result }

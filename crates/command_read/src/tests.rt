@@ -187,7 +187,7 @@ fn in_pieces(alloc: Global, script: &[u8], most: usize) -> Result<Vec<u8>, NoMem
 }
 
 // Scripts, and what the format makes of them.
-const ROWS: [(&[u8], &[u8]); 56] = [
+const ROWS: [(&[u8], &[u8]); 57] = [
     (b"", b"end\n"),
     (b"\n \t\n# run 1\n  #\nrun 1", b"5 run 1\nend\n"),
     (b"run 00000000000000000001\r\n", b"1 run 1\nend\n"),
@@ -289,6 +289,10 @@ const ROWS: [(&[u8], &[u8]); 56] = [
     (
         b"edit\ntop\nend\nedit\nclock a b\nend\n",
         b"refused 60 BadCommand @2 -\nrefused 60 BadCommand @5 -\nend\n",
+    ),
+    (
+        b"edit\ntop 1x\nend\nedit\nclock a.b\nend\n",
+        b"refused 61 BadValue @2 1x\nrefused 61 BadValue @5 a.b\nend\n",
     ),
     (
         b"edit\nfile a*b\n.\nend\n",

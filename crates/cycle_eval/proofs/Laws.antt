@@ -5,18 +5,18 @@ use Rattle.std.proofs.lemmas.List.{length-take}
 use Rattle.machine.specs.Rows.{between, Covers}
 use Rattle.typed_ir.specs.Valuations.{Valuation}
 use Rattle.typed_ir.specs.Orders.{Member, Distinct}
-use Rattle.typed_ir.specs.Cycles.{Flat, fill, seg}
+use Rattle.typed_ir.specs.Cycles.{Flat, fill}
 use Rattle.typed_ir.proofs.Cases.{by_cases}
-use Rattle.cycle_eval.specs.Kits.{run_of, register_widths}
+use Rattle.cycle_eval.specs.Kits.{driven, run_of, register_widths}
 use Rattle.cycle_eval.specs.States.{paired, state_values, are_alike}
 use Rattle.cycle_eval.specs.DesignLaws.{alike_is}
 use Rattle.std.specs.Prelude.{slice_get, Some}
 
 -- a run of at least one row
-pub run_is : {R : Type 0} (design : Flat) (rows : List R) (n : ℕ) (s : List (ℕ × ℕ)) → length rows ≡ n → 0 < n
-    → paired (register_widths design) (seg design (λ t. []) 0 n (state_values s)) ≡ run_of design rows s
-run_is design [] n s e h = absurd (omega (arith, e, h))
-run_is design (r ∷ rs) n s e h = ap (λ k. paired (register_widths design) (seg design (λ t. []) 0 k (state_values s))) (sym e)
+pub run_is : (design : Flat) (rows : List (List (ℕ × ℕ))) (s : List (ℕ × ℕ)) → 0 < length rows
+    → paired (register_widths design) (driven design rows (state_values s)) ≡ run_of design rows s
+run_is design [] s h = absurd (omega (arith, h))
+run_is design (row ∷ rows) s h = refl
 
 -- registers that were filled have what they were filled with
 pub map_same : (f g : ℕ → ℕ) (ts : List ℕ) → ((t : ℕ) → Member t ts → f t ≡ g t) → map f ts ≡ map g ts

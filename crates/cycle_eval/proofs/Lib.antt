@@ -7,3 +7,5 @@ pub mod PathTables
 pub mod Keys
 pub mod Laws
 pub mod InputRows
+pub mod Driving
+pub mod RowRuns

@@ -1,12 +1,14 @@
 -- The laws of a design as a machine.
 use Rattle.std.proofs.Common.{◌≡◌, ℕ, zero, suc, ◌+◌, ◌%◌, ◌^◌, true, ◌&&◌, ◌==◌, List, [], ◌∷◌, ◌++◌, length, map, refl, sym, ◌∙◌, ap, ap₂, ◌↔◌, true≢false}
 use Rattle.std.proofs.Math.Nat.{suc-add}
+use Rattle.std.proofs.Math.Numerals.{one-add}
 use Rattle.std.proofs.lemmas.Bool.{eqb-true, eq-eqb, and_from, and_parts}
-use Rattle.std.proofs.lemmas.List.{append-nil, length-append}
+use Rattle.std.proofs.lemmas.List.{append-nil}
 use Rattle.typed_ir.specs.RunLaws.{seg_more}
 use Rattle.typed_ir.specs.Stmts.{all_applied}
 use Rattle.typed_ir.specs.Cycles.{Flat, width_at, initial_at, wires, all_pending, input, step, seg}
-use Rattle.cycle_eval.specs.Kits.{run_of, register_widths, Fits, reset_of, carried_of, carried_value, register_at}
+use Rattle.cycle_eval.specs.Inputs.{row_values, values_at}
+use Rattle.cycle_eval.specs.Kits.{run_of, driven, register_widths, Fits, reset_of, carried_of, carried_value, register_at}
 use Rattle.cycle_eval.specs.States.{paired, state_widths, state_values, are_alike}
 
 -- each register's width with its value
@@ -30,28 +32,54 @@ step_values : (design : Flat) (state inputs : List ℕ) → state_values (paired
 unfolding step
 step_values design state inputs = paired_values (width_at design) (next_value design state inputs) design.registers
 
--- a run without rows is the same from each cycle on
-seg_at : (design : Flat) (a b n : ℕ) (state : List ℕ) → seg design (λ t. []) a n state ≡ seg design (λ t. []) b n state
-seg_at design a b zero state = refl
-seg_at design a b (suc n) state = ap (λ s. step design s (input design [])) (seg_at design a b n state)
+-- the rows of the later cycles
+pub seg_later : (design : Flat) (row : List (ℕ × ℕ)) (rows : List (List (ℕ × ℕ))) (a n : ℕ) (values : List ℕ)
+    → seg design (values_at design (row ∷ rows)) (suc a) n values ≡ seg design (values_at design rows) a n values
+seg_later design row rows a zero values = refl
+seg_later design row rows a (suc n) values =
+    ap₂ (λ s k. step design s (input design (values_at design (row ∷ rows) k))) (seg_later design row rows a n values) (suc-add a n)
 
--- runs without rows follow each other
-runs_follow : (design : Flat) (a b m n : ℕ) (state : List ℕ)
-    → seg design (λ t. []) a (m + n) state ≡ seg design (λ t. []) b n (seg design (λ t. []) a m state)
-runs_follow design a b m n state = sym (seg_more design (λ t. []) a m n state) ∙ seg_at design (a + m) b n (seg design (λ t. []) a m state)
+-- a cycle under the first row, and then those under the others
+pub seg_first : (design : Flat) (row : List (ℕ × ℕ)) (rows : List (List (ℕ × ℕ))) (n : ℕ) (values : List ℕ)
+    → seg design (values_at design (row ∷ rows)) 0 (suc n) values
+    ≡ seg design (values_at design rows) 0 n (step design values (input design (row_values design row)))
+seg_first design row rows n values =
+    ap (λ k. seg design (values_at design (row ∷ rows)) 0 k values) (sym (one-add n))
+    ∙ sym (seg_more design (values_at design (row ∷ rows)) 0 1 n values)
+    ∙ seg_later design row rows 0 n (step design values (input design (row_values design row)))
 
-pub run_more : {R : Type 0} (design : Flat) (xs ys : List R) (s : List (ℕ × ℕ)) → run_of design (xs ++ ys) s ≡ run_of design ys (run_of design xs s)
+pub driven_first : (design : Flat) (row : List (ℕ × ℕ)) (rows : List (List (ℕ × ℕ))) (values : List ℕ)
+    → driven design (row ∷ rows) values ≡ driven design rows (step design values (input design (row_values design row)))
+driven_first design row rows values = seg_first design row rows (length rows) values
+
+-- runs follow each other
+pub driven_more : (design : Flat) (xs ys : List (List (ℕ × ℕ))) (values : List ℕ) → driven design (xs ++ ys) values ≡ driven design ys (driven design xs values)
+driven_more design [] ys values = refl
+driven_more design (x ∷ xs) ys values =
+    driven_first design x (xs ++ ys) values
+    ∙ driven_more design xs ys (step design values (input design (row_values design x)))
+    ∙ ap (driven design ys) (sym (driven_first design x xs values))
+
+-- the values of a state after a run are those that were driven
+pub run_values : (design : Flat) (rows : List (List (ℕ × ℕ))) (s : List (ℕ × ℕ)) → state_values (run_of design rows s) ≡ driven design rows (state_values s)
+run_values design [] s = refl
+run_values design (row ∷ rows) s =
+    step_values design (seg design (values_at design (row ∷ rows)) 0 (length rows) (state_values s))
+    (input design (values_at design (row ∷ rows) (0 + length rows)))
+
+pub run_more : (design : Flat) (xs ys : List (List (ℕ × ℕ))) (s : List (ℕ × ℕ)) → run_of design (xs ++ ys) s ≡ run_of design ys (run_of design xs s)
 run_more design [] ys s = refl
-run_more design (x ∷ xs) [] s = ap (λ n. paired (register_widths design) (seg design (λ t. []) 0 (suc n) (state_values s))) (ap length (append-nil xs))
+run_more design (x ∷ xs) [] s = ap (λ rows. paired (register_widths design) (driven design (x ∷ rows) (state_values s))) (append-nil xs)
 run_more design (x ∷ xs) (y ∷ ys) s =
-    ap (λ n. paired (register_widths design) (seg design (λ t. []) 0 n (state_values s))) (ap suc (length-append xs (y ∷ ys)) ∙ sym (suc-add (length xs) (suc (length ys))))
-    ∙ ap (paired (register_widths design)) (runs_follow design 0 0 (suc (length xs)) (suc (length ys)) (state_values s))
-    ∙ ap (λ z. paired (register_widths design) (seg design (λ t. []) 0 (suc (length ys)) z))
-    (sym (step_values design (seg design (λ t. []) 0 (length xs) (state_values s)) (input design [])))
+    ap (paired (register_widths design))
+    (driven_more design (x ∷ xs) (y ∷ ys) (state_values s)
+    ∙ ap (driven design (y ∷ ys)) (sym (run_values design (x ∷ xs) s)))
 
-pub run_fits : {R : Type 0} (design : Flat) (xs : List R) (s : List (ℕ × ℕ)) → Fits design s → Fits design (run_of design xs s)
+pub run_fits : (design : Flat) (rows : List (List (ℕ × ℕ))) (s : List (ℕ × ℕ)) → Fits design s → Fits design (run_of design rows s)
 run_fits design [] s h = h
-run_fits design (x ∷ xs) s h = step_widths design (seg design (λ t. []) 0 (length xs) (state_values s)) (input design [])
+run_fits design (row ∷ rows) s h =
+    step_widths design (seg design (values_at design (row ∷ rows)) 0 (length rows) (state_values s))
+    (input design (values_at design (row ∷ rows) (0 + length rows)))
 
 pub reset_fits : (design : Flat) → Fits design (reset_of design)
 reset_fits design = paired_widths (width_at design) (initial_at design) design.registers

@@ -1,7 +1,8 @@
--- What a design does as a machine without rows: all data inputs read 0.
-use Rattle.std.specs.Prelude.{◌≡◌, ℕ, suc, ◌%◌, ◌^◌, Bool, true, false, ◌&&◌, ◌==◌, if◌then◌else◌, List, [], ◌∷◌, map, length}
+-- What a design does as a machine, under a row a cycle.
+use Rattle.std.specs.Prelude.{◌≡◌, ℕ, ◌%◌, ◌^◌, Bool, true, false, ◌&&◌, ◌==◌, if◌then◌else◌, List, [], ◌∷◌, map, length}
 use Rattle.typed_ir.specs.Cycles.{Signal, Flat, width_at, initial_at, reset, seg}
 use Rattle.typed_ir.specs.Orders.{at_or}
+use Rattle.cycle_eval.specs.Inputs.{values_at}
 use Rattle.cycle_eval.specs.States.{paired, state_values}
 
 abbrev pub register_widths : Flat → List ℕ
@@ -10,10 +11,14 @@ register_widths design = map (width_at design) design.registers
 abbrev pub reset_of : Flat → List (ℕ × ℕ)
 reset_of design = paired (register_widths design) (reset design)
 
--- the state after a cycle for each row of a list
-abbrev pub run_of : {R : Type 0} → Flat → List R → List (ℕ × ℕ) → List (ℕ × ℕ)
+-- the values of the registers after a cycle for each row of a list
+abbrev pub driven : Flat → List (List (ℕ × ℕ)) → List ℕ → List ℕ
+driven design rows values = seg design (values_at design rows) 0 (length rows) values
+
+-- the same of states
+abbrev pub run_of : Flat → List (List (ℕ × ℕ)) → List (ℕ × ℕ) → List (ℕ × ℕ)
 run_of design [] s = s
-run_of design (row ∷ rows) s = paired (register_widths design) (seg design (λ t. []) 0 (suc (length rows)) (state_values s))
+run_of design (row ∷ rows) s = paired (register_widths design) (driven design (row ∷ rows) (state_values s))
 
 -- a state has one value for each register, of its width
 abbrev pub Fits : Flat → List (ℕ × ℕ) → Type 0

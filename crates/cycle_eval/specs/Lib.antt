@@ -1,5 +1,6 @@
 pub mod Designs
 pub mod States
+pub mod Inputs
 pub mod Kits
 pub mod Paths
 pub mod PathNumbers

@@ -21,7 +21,10 @@ keyed_in numbers signals s = at_or (keyed numbers) (record { path = []; in_modul
 abbrev pub key_in : List ℕ → List Signal → ℕ → List ℕ
 key_in numbers signals s = (keyed_in numbers signals s).path
 
--- ---- widths and values
+-- ---- names, widths and values
+
+abbrev pub name_in : List Signal → ℕ → ℕ
+name_in signals s = slice_index (map (λ (x : Signal). x.name.0) signals) s
 
 abbrev pub width_in : List Signal → ℕ → ℕ
 width_in signals s = slice_index (signal_widths signals) s

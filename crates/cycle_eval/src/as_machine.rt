@@ -1,4 +1,4 @@
-// A design as a machine without rows and without operations.
+// A design as a machine over rows of its inputs, without operations.
 ghost use Rattle.std.specs.Prelude.{◌≡◌, ◌==◌, ◌&&◌, ℕ, refl, true};
 ghost use Rattle.cycle_eval.specs.Designs.{design_flat, work_of};
 ghost use Rattle.cycle_eval.specs.Kits.{Fits, reset_of, run_of, carried_of};
@@ -7,7 +7,6 @@ ghost use Rattle.cycle_eval.specs.DesignLaws.{run_more, run_fits, reset_fits, ca
 
 use crate::design::Design;
 use crate::no_ops::NoOps;
-use crate::no_row::NoRow;
 use bits::Bits;
 use machine::Machine;
 use machine::row_runs::RowRuns;
@@ -15,6 +14,7 @@ use machine::steps::Steps;
 use no_memory::NoMemory;
 use std::alloc::Global;
 use std::sync::ledger::Ledger;
+use stimulus::Row;
 use typed_ir::{RegState, RegisterId};
 
 // Whether two values have the same width and number.
@@ -44,7 +44,7 @@ fn alike(x: &RegState, y: &RegState) -> bool
 impl Machine for Design {
     type State = RegState;
 
-    type Row = NoRow;
+    type Row = Row;
 
     type Ops = NoOps;
 
@@ -68,7 +68,7 @@ impl Machine for Design {
     fn advance<L: Ledger>(
         &self,
         alloc: Global,
-        _rows: &RowRuns<NoRow>,
+        rows: &RowRuns<Row>,
         from: &RegState,
         a: u64,
         b: u64,
@@ -79,7 +79,7 @@ impl Machine for Design {
         }
         let mut env = self.loaded(alloc, from)?;
         let mut updates = self.room(alloc)?;
-        self.run(&mut env, &mut updates, b - a, steps);
+        self.run(&mut env, &mut updates, rows, a, b, steps);
         self.state_of(alloc, &env)
     }
 
@@ -101,12 +101,11 @@ impl Machine for Design {
         x.share()
     }
 
-    // All rows are the same, so that a record keeps one.
-    fn same_row(_one: &NoRow, _other: &NoRow) -> bool
-        ensures same { result ≡ true → _one.now ≡ _other.now }
-        ensures always { result ≡ true }
+    fn same_row(one: &Row, other: &Row) -> bool
+        ensures same { result ≡ true → one.now ≡ other.now }
+        ensures all { one.now ≡ other.now → result ≡ true }
     {
-        true
+        one.same(other)
     }
 
     ghost laws = { record {

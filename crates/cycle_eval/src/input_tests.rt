@@ -1,24 +1,24 @@
 // Data inputs that rows set, worked out by hand.
-ghost use Rattle.std.specs.Prelude.{◌≡◌, ◌≤◌, ◌<◌, vec_capacity};
-ghost use Rattle.typed_ir.specs.Flats.{signal_widths};
-ghost use Rattle.typed_ir.specs.Views.{widths};
-ghost use Rattle.cycle_eval.specs.Designs.{design_flat};
-ghost use Rattle.cycle_eval.specs.Updates.{all_updates};
+ghost use Rattle.std.specs.Prelude.{◌≡◌, ◌≤◌, ◌<◌, length};
+ghost use Rattle.stimulus.specs.Records.{rows_of};
 
 use crate::Design;
 use bits::Bits;
 use comb_order::{Parts, checked_flat, linked, no_block};
 use ls_text::NameId;
+use machine::Machine;
 use machine::steps::Steps;
 use no_memory::NoMemory;
 use std::alloc::Global;
 use std::marker::Brand;
 use std::process::Abort;
+use std::sync::Arc;
 use std::sync::ledger::{Blank, Ledger};
 use std::test::Fail;
+use stimulus::{Record, RecordRefusal, Row};
 use typed_ir::{
     ArithmeticOperator, BinaryOperator, InstanceId, InstanceTable, Lane, Node, RegState,
-    RegisterId, Signal, SignalId, Span, Stmt, Target, TargetForm, Typed, Update,
+    RegisterId, Signal, SignalId, Span, Stmt, Target, TargetForm, Typed,
 };
 
 // Signals of these widths and values at the beginning, all of one instance.
@@ -29,7 +29,7 @@ fn signals(rt: &impl Abort, alloc: Global, list: &[(u8, u128)]) -> Result<Vec<Si
         signals.push(Signal {
             in_module: NameId(0),
             instance: InstanceId(0),
-            name: NameId(signals.len() as u64),
+            name: NameId(10 + signals.len() as u64),
             lsb: 0,
             signed: false,
             width: *width,
@@ -58,17 +58,22 @@ fn whole(signal: u32, width: u8) -> Lane {
     }
 }
 
-// SIGNAL <= OTHER;
-fn later(alloc: Global, signal: u32, width: u8, other: u32) -> Result<Stmt, NoMemory>
-    requires at_least_one { 1 ≤ width }
-    requires at_most_128 { width ≤ 128 }
-{
+// SIGNAL <= E;
+fn later(alloc: Global, signal: u32, width: u8, e: Typed) -> Result<Stmt, NoMemory> {
     let mut targets = Vec::new(alloc);
     targets.push(Target::Fixed(whole(signal, width)))?;
-    Ok(Stmt::Later {
-        targets,
-        value: Typed::name(SignalId(other), width),
-    })
+    Ok(Stmt::Later { targets, value: e })
+}
+
+// s1 + s3, of eight bits
+fn both(alloc: Global) -> Result<Typed, NoMemory> {
+    let sum = BinaryOperator::Arithmetic(ArithmeticOperator::Sum);
+    Typed::binary(
+        alloc,
+        sum,
+        Typed::name(SignalId(1), 8),
+        Typed::name(SignalId(3), 8),
+    )
 }
 
 // assign s4 = s2 + 1; of four bits
@@ -114,6 +119,42 @@ fn design(rt: &impl Abort, alloc: Global, parts: Parts) -> Result<Design, NoMemo
     }
 }
 
+// input [3:0] d; input [7:0] e; reg [3:0] p = 7; reg [7:0] q = 7; wire [3:0] w = d + 1;
+// always @(posedge clk) p <= w; always @(posedge clk) q <= q + e;
+// Their names have the numbers 10 (p), 11 (q), 12 (d), 13 (e) and 14 (w).
+fn two_inputs(rt: &impl Abort, alloc: Global) -> Result<Design, NoMemory> {
+    let nodes = vec![in alloc; next(alloc)?]?;
+    let clocked = vec![in alloc;
+        later(alloc, 0, 4, Typed::name(SignalId(4), 4))?,
+        later(alloc, 1, 8, both(alloc)?)?,
+    ]?;
+    design(rt, alloc, parts(rt, alloc, nodes, clocked)?)
+}
+
+// The row that sets these names to these values.
+fn row_of(alloc: Global, list: &[(u64, u128)]) -> Result<Row, NoMemory> {
+    let mut row = Row::new(alloc);
+    for (name, value) in list {
+        row.put(NameId(*name), *value)?;
+    }
+    Ok(row)
+}
+
+// A record of these rows, each for so many cycles.
+fn record_of(
+    rt: &impl Abort,
+    alloc: Global,
+    list: &[(&[(u64, u128)], u64)],
+) -> Result<Record, RecordRefusal> {
+    let mut record = Record::new(alloc, 1000);
+    for (values, cycles) in list {
+        assert!(rt; 1 <= *cycles && *cycles <= 1000);
+        assert!(rt; record.len() <= 1000);
+        record.append(Arc::new(alloc, row_of(alloc, values)?)?, *cycles)?;
+    }
+    Ok(record)
+}
+
 // The numbers of a state.
 fn values_of(alloc: Global, state: &RegState) -> Result<Vec<u128>, NoMemory> {
     let mut values = Vec::new(alloc);
@@ -123,78 +164,82 @@ fn values_of(alloc: Global, state: &RegState) -> Result<Vec<u128>, NoMemory> {
     Ok(values)
 }
 
-// A cycle under the one row, and then one under the other.
-fn two_cycles<L: Ledger>(
-    design: &Design,
-    env: &mut [Bits],
-    updates: &mut Vec<Update>,
-    one: &[u128],
-    other: &[u128],
-    steps: &mut Steps<L>,
-)
-    requires widths { widths env.old ≡ signal_widths design.now.linked.design.signals.items }
-    requires room { all_updates (design_flat design.now).clocked ≤ vec_capacity updates.old }
-    ensures { widths env.new ≡ widths env.old }
-{
-    design.write_inputs(env, one);
-    design.cycle(env, updates, steps);
-    design.write_inputs(env, other);
-    design.cycle(env, updates, steps);
-}
-
-// What the registers have then.
-fn under<L: Ledger>(
+// The state after the cycles of a record, of which those before a cycle are run first and the others then.
+fn state_after<L: Ledger>(
     alloc: Global,
     design: &Design,
-    one: &[u128],
-    other: &[u128],
+    record: &Record,
+    middle: u64,
     blank: Blank,
-) -> Result<Vec<u128>, NoMemory>
+) -> Result<RegState, NoMemory>
+    requires middle { middle ≤ length (rows_of record.now) }
     requires name { blank.name ≡ L.name }
     requires parts { blank.parts ≡ L.parts }
     requires some { 0 < blank.parts }
 {
     let mut steps = Steps::<L>::start(blank);
+    let end = record.len();
+    let first = record.slice(alloc, 0, middle)?;
+    let others = record.slice(alloc, middle, end)?;
     let start = design.reset_state(alloc)?;
-    let mut env = design.loaded(alloc, &start)?;
-    let mut updates = design.room(alloc)?;
-    two_cycles(design, &mut env, &mut updates, one, other, &mut steps);
-    let state = design.state_of(alloc, &env)?;
-    values_of(alloc, &state)
+    let state = design.advance(alloc, &first, &start, 0, middle, &mut steps)?;
+    design.advance(alloc, &others, &state, middle, end, &mut steps)
 }
 
+// The registers then.
 fn after(
     alloc: Global,
     design: &Design,
-    one: &[u128],
-    other: &[u128],
-) -> Result<Vec<u128>, NoMemory> {
-    under::<Brand>(alloc, design, one, other, Blank::new(1))
-}
-
-// input [3:0] d; input [7:0] e; reg [3:0] p = 7; reg [7:0] q = 7; wire [3:0] w = d + 1;
-// always @(posedge clk) p <= w; always @(posedge clk) q <= e;
-fn two_inputs(rt: &impl Abort, alloc: Global) -> Result<Design, NoMemory> {
-    let nodes = vec![in alloc; next(alloc)?]?;
-    let clocked = vec![in alloc; later(alloc, 0, 4, 4)?, later(alloc, 1, 8, 3)?]?;
-    design(rt, alloc, parts(rt, alloc, nodes, clocked)?)
+    record: &Record,
+    middle: u64,
+) -> Result<Vec<u128>, NoMemory>
+    requires { middle ≤ length (rows_of record.now) }
+{
+    let state = state_after::<Brand>(alloc, design, record, middle, Blank::new(1))?;
+    values_of(alloc, &state)
 }
 
 #[test]
 fn inputs_by_rows(rt: HostRuntime) -> Result<(), Fail> {
     let alloc = rt.alloc();
     let design = two_inputs(&rt, alloc)?;
-    // The numbers of one row, of another, and the registers after a cycle under each. 21 is 16 + 5 and 300 is 256 + 44: each too wide for
-    // its input. An input that the row has no number for is 0, whatever it was. A number without an input does nothing.
-    let table: &[(&[u128], &[u128], &[u128])] = &[
-        (&[1, 2], &[21, 300], &[6, 44]),
-        (&[21, 300], &[3], &[4, 0]),
-        (&[21, 300], &[], &[1, 0]),
-        (&[], &[15, 255, 9], &[0, 255]),
+    // Rows with the numbers of their cycles, and the registers at the end. 21 is 16 + 5 and 300 is 256 + 44: each too wide for its input.
+    // An input that a row doesn't set is 0, whatever it was. A name that isn't an input does nothing.
+    let table: &[(&[(&[(u64, u128)], u64)], &[u128])] = &[
+        (
+            &[(&[(12, 1), (13, 2)], 2), (&[(12, 21), (13, 300)], 1)],
+            &[6, 55],
+        ),
+        (&[(&[(12, 21), (13, 300)], 1), (&[(12, 3)], 2)], &[4, 51]),
+        (&[(&[(12, 21), (13, 300)], 1), (&[], 1)], &[1, 51]),
+        (&[(&[(10, 5), (14, 9), (99, 3)], 2)], &[1, 7]),
+        (
+            &[(&[(13, 1)], 3), (&[(13, 2)], 2), (&[(13, 255)], 1)],
+            &[1, 13],
+        ),
     ];
-    for (one, other, wanted) in table {
-        let values = after(alloc, &design, one, other)?;
-        assert_eq!(rt; values.as_slice(), *wanted);
+    for (rows, wanted) in table {
+        let record = record_of(&rt, alloc, rows)?;
+        for middle in 0..=record.len() {
+            let values = after(alloc, &design, &record, middle)?;
+            assert_eq!(rt; values.as_slice(), *wanted);
+        }
+    }
+    Ok(())
+}
+
+#[test]
+fn widths_and_registers(rt: HostRuntime) -> Result<(), Fail> {
+    let alloc = rt.alloc();
+    let design = two_inputs(&rt, alloc)?;
+    assert_eq!(rt; design.input_width(NameId(12)), Some(4));
+    assert_eq!(rt; design.input_width(NameId(13)), Some(8));
+    assert_eq!(rt; design.input_width(NameId(10)), None);
+    assert_eq!(rt; design.input_width(NameId(99)), None);
+    let state = design.reset_state(alloc)?;
+    if design.registers().len() == 2 {
+        let q = design.read(&state, 1);
+        assert_eq!(rt; (q.width(), q.value()), (8, 7));
     }
     Ok(())
 }

@@ -1,9 +1,10 @@
 // The evaluator: cycles of a linked design, in place over one flat environment.
 //
-// `making` tests that a design's registers have room, `design` holds it, `inputs` writes a row's inputs, `cycle` settles the wires and applies
-// the updates, `run` is cycle after cycle from one state (`state`) to another, and `carrying` takes registers over from an older design:
-// `numbering` gives the paths of both numbers, and `places` finds registers by these. `parts` are what a table of registers shows, and
-// `as_machine` is the design as a machine; `input_tests` are rows of inputs worked out by hand.
+// `making` tests that a design's registers have room, `design` holds it, `inputs` writes what a row gives the inputs, by their names, and
+// tells their widths, `cycle` settles the wires and applies the updates, `run` goes from one state (`state`) to another, stretch by stretch of
+// equal rows, and `carrying` takes registers over from an older design: `numbering` gives the paths of both numbers, and `places` finds
+// registers by these. `parts` are what a table of registers shows, and `as_machine` is the design as a machine; `input_tests` are rows of
+// inputs worked out by hand.
 #![tactic(auto)]
 
 mod as_machine;
@@ -15,7 +16,6 @@ mod input_tests;
 mod inputs;
 mod making;
 mod no_ops;
-mod no_row;
 mod numbered;
 mod numbering;
 mod numbers;
@@ -29,4 +29,3 @@ mod state;
 
 pub use design::Design;
 pub use no_ops::NoOps;
-pub use no_row::NoRow;

@@ -1,10 +1,12 @@
 // What of a design a table of its registers shows.
-ghost use Rattle.std.specs.Prelude.{◌≡◌, IsTrue, length};
+ghost use Rattle.std.specs.Prelude.{◌≡◌, ◌<◌, IsTrue, length, slice_get};
 ghost use Rattle.typed_ir.specs.Flats.{are_below};
 ghost use Rattle.cycle_eval.specs.Designs.{design_flat, instances_of, signals_of};
+ghost use Rattle.cycle_eval.specs.Kits.{Fits};
 
 use crate::design::Design;
-use typed_ir::{InstanceName, Signal, SignalId};
+use bits::Bits;
+use typed_ir::{InstanceName, RegState, RegisterId, Signal, SignalId};
 
 impl Design {
     /// The instances, each behind the one that it stands in.
@@ -27,5 +29,14 @@ impl Design {
         ensures there { IsTrue (are_below result.now (length (signals_of self.now))) }
     {
         &self.linked.design.registers
+    }
+
+    /// The value that a register has in a state of the design, with its width.
+    pub fn read(&self, state: &RegState, register: u32) -> Bits
+        requires fits { Fits (design_flat self.now) state.now }
+        requires within { register < length (design_flat self.now).registers }
+        ensures { slice_get state.now register ≡ Some (result.width, result.value) }
+    {
+        state.get(RegisterId(register as usize))
     }
 }

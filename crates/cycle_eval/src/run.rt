@@ -1,21 +1,34 @@
-// Runs of a design, as a machine without rows.
-ghost use Rattle.std.specs.Prelude.{◌≡◌, ◌≤◌, ◌+◌, ◌*◌, ℕ, List, [], IfOk, map, length, vec_capacity};
-ghost use Rattle.typed_ir.specs.Cycles.{base, seg, IsReady};
+// Runs of a design, under a row a cycle.
+ghost use Rattle.std.specs.Prelude.{◌≡◌, ◌≤◌, ◌<◌, ◌+◌, ◌-◌, ◌*◌, ℕ, List, [], IfOk, map, vec_capacity};
+ghost use Rattle.machine.specs.Rows.{between, Covers};
+ghost use Rattle.typed_ir.specs.Cycles.{base, input, seg, IsReady};
 ghost use Rattle.typed_ir.specs.Flats.{signal_widths};
 ghost use Rattle.typed_ir.specs.Views.{widths, env_of};
 ghost use Rattle.cycle_eval.specs.Designs.{design_flat, work_of};
-ghost use Rattle.cycle_eval.specs.Kits.{Fits, register_widths};
+ghost use Rattle.cycle_eval.specs.Inputs.{row_values};
+ghost use Rattle.cycle_eval.specs.Kits.{Fits, register_widths, driven};
 ghost use Rattle.cycle_eval.specs.States.{paired, state_values};
 ghost use Rattle.cycle_eval.specs.Updates.{all_updates};
 
 use crate::design::Design;
 use crate::state::{load, stored, zeros};
 use bits::Bits;
+use machine::row_runs::RowRuns;
 use machine::steps::Steps;
 use no_memory::NoMemory;
 use std::alloc::Global;
 use std::sync::ledger::Ledger;
+use stimulus::Row;
 use typed_ir::{RegState, Update};
+
+// The earlier of two cycles.
+fn earlier(a: u64, b: u64) -> u64
+    ensures first { result ≤ a }
+    ensures second { result ≤ b }
+    ensures either { result < b → result ≡ a }
+{
+    if a < b { a } else { b }
+}
 
 impl Design {
     /// An environment with the registers of a state; all else is 0.
@@ -29,12 +42,13 @@ impl Design {
         Ok(env)
     }
 
-    /// So many cycles in place, all under the empty row, whatever the inputs were before. It takes no memory: `updates` has room for
-    /// those of a cycle.
-    pub(crate) fn run<L: Ledger>(
+    /// So many cycles in place, all under one row, whatever the inputs were before. Only before the first of them are the inputs
+    /// looked up by their names. It takes no memory: `updates` has room for those of a cycle.
+    pub(crate) fn run_under<L: Ledger>(
         &self,
         env: &mut [Bits],
         updates: &mut Vec<Update>,
+        row: &Row,
         cycles: u64,
         steps: &mut Steps<L>,
     )
@@ -44,12 +58,50 @@ impl Design {
         ensures value { (state inputs : List ℕ)
             → IsReady (design_flat self.now) state inputs (env_of env.old)
             → map (env_of env.old) self.now.linked.design.registers.items ≡ state
-            → map (env_of env.new) self.now.linked.design.registers.items ≡ seg (design_flat self.now) (λ t. []) 0 cycles state }
+            → map (env_of env.new) self.now.linked.design.registers.items ≡ seg (design_flat self.now) (λ t. row_values (design_flat self.now) row.now) 0 cycles state }
+
+        // It is ready for more cycles under the row.
+        ensures ready { (state inputs : List ℕ)
+            → IsReady (design_flat self.now) state inputs (env_of env.old)
+            → map (env_of env.old) self.now.linked.design.registers.items ≡ state
+            → IsReady (design_flat self.now) (seg (design_flat self.now) (λ t. row_values (design_flat self.now) row.now) 0 cycles state)
+            (input (design_flat self.now) (row_values (design_flat self.now) row.now)) (env_of env.new) }
+        ensures capacity { vec_capacity updates.new ≡ vec_capacity updates.old }
         ensures taken { steps.new ≡ steps.old + cycles * work_of self.now }
     {
-        self.write_inputs(env, &[]);
+        self.write_inputs(env, row);
         for _cycle in 0..cycles {
             self.cycle(env, updates, steps);
+        }
+    }
+
+    /// The cycles from `a` to `b` - 1 in place, stretch by stretch of the rows. It takes no memory: `updates` has room for those of a
+    /// cycle.
+    pub(crate) fn run<L: Ledger>(
+        &self,
+        env: &mut [Bits],
+        updates: &mut Vec<Update>,
+        rows: &RowRuns<Row>,
+        a: u64,
+        b: u64,
+        steps: &mut Steps<L>,
+    )
+        requires covers { Covers rows.now a b }
+        requires widths { widths env.old ≡ signal_widths self.now.linked.design.signals.items }
+        requires room { all_updates (design_flat self.now).clocked ≤ vec_capacity updates.old }
+        ensures widths { widths env.new ≡ widths env.old }
+        ensures value { (state inputs : List ℕ)
+            → IsReady (design_flat self.now) state inputs (env_of env.old)
+            → map (env_of env.old) self.now.linked.design.registers.items ≡ state
+            → map (env_of env.new) self.now.linked.design.registers.items ≡ driven (design_flat self.now) (between rows.now a b) state }
+        ensures taken { steps.new ≡ steps.old + (b - a) * work_of self.now }
+    {
+        let mut at = a;
+        while at < b {
+            let stretch = rows.stretch_at(at);
+            let end = earlier(stretch.end, b);
+            self.run_under(env, updates, stretch.row, end - at, steps);
+            at = end;
         }
     }
 

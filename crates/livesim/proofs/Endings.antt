@@ -1,206 +1,189 @@
--- What a run took and wrote, by how its reading ended.
-use Rattle.std.proofs.Common.{◌≡◌, ◌≢◌, ◌⊎◌, ⊎_elim, inl, inr, ℕ, ◌<◌, ◌≤◌, Bool, true, false, eqb, if◌then◌else◌, List, [], ◌∷◌, length, ◌++◌, Option, Some, None, Result, Ok, Err, refl, sym, ap, ◌∙◌, append_assoc, true≢false, arith}
-use Rattle.std.proofs.lemmas.Bool.Decides.{eqb_tells}
-use Rattle.std.specs.Io.KnownBytes.{Consumes, IsAtEnd}
-use Rattle.std.specs.Int.{from_bool}
-use Rattle.ls_port.specs.declared.sink_refusal.SinkRefusal.{SinkRefusal}
-use Rattle.livesim.specs.Endings.{Carries, Finishes, has_ended, status_of}
-use Rattle.livesim.specs.Runs.{Begins, Lived, LeavesToWrite, IsComplete, true_display}
-use Rattle.livesim.specs.Commands.{Command, Display, commands}
-use Rattle.livesim.specs.Worlds.{Told, fresh, after, world_after, any_refused, command_verdict, display_verdict}
-use Rattle.livesim.specs.Replies.{answer_text, lines, reply}
-use Rattle.livesim.specs.Spelled.{Spelled}
-use Rattle.livesim.proofs.Begins.{commands_begin}
-use Rattle.livesim.proofs.Turns.{lines-append}
+-- What a run took and wrote, by how it ended.
+use Rattle.std.proofs.Common.{◌≡◌, ◌≢◌, ◌⊎◌, inl, inr, ℕ, ◌+◌, ◌<◌, ◌≤◌, nat_lt, Bool, true, false, cond, if◌then◌else◌, List, [], ◌∷◌, ◌++◌, length, take, Option, Result, Ok, Err, refl, sym, ap, ◌∙◌, subst, append-nil, length-append, arith}
+use Rattle.std.proofs.lemmas.Bool.Decides.{nat_tests}
+use Rattle.std.proofs.KnownBytes.{Consumes-trans}
+use Rattle.std.specs.Io.KnownBytes.{Appends, Consumes, IsAtEnd}
+use Rattle.ls_text.specs.Readings.{TextFault}
+use Rattle.ls_port.specs.declared.shelf_answer.ShelfAnswer.{ShelfAnswer}
+use Rattle.command_read.specs.Asking.{Asked}
+use Rattle.command_read.specs.Leading.{MayFollow}
+use Rattle.command_read.specs.Readers.{has_ended, count_taken, stopped, asked_of as still_asked}
+use Rattle.command_read.specs.Runs.{Continues, HasTold}
+use Rattle.command_read.specs.Scripts.{commands, up_to_quit}
+use Rattle.command_read.specs.Sound.{is_too_much}
+use Rattle.command_read.specs.declared.reader.Reader.{Reader}
+use Rattle.command_read.proofs.Cutting.{told_on}
+use Rattle.live_session.specs.Forms.{any_refused}
+use Rattle.live_session.specs.Loads.{AddsAnswers, AreToFirst}
+use Rattle.live_session.specs.Readings.{AreRight}
+use Rattle.live_session.specs.Replies.{lines, asked_of, answers_of}
+use Rattle.live_session.specs.Settings.{Settings}
+use Rattle.live_session.specs.Verdicts.{Told}
+use Rattle.live_session.specs.Worlds.{fresh}
+use Rattle.live_session.specs.declared.session.Session.{Session}
+use Rattle.livesim.specs.Runs.{Lived, AreSoon, RisesBy, WritesFront, WritesAtLeast, count_broken, end_with_quit, loads_first}
+use Rattle.livesim.specs.Turns.{Sources, Shelves, Ends}
 use Rattle.livesim.specs.declared.ending.Ending.{Ending}
-use Rattle.livesim.specs.declared.ending.Ending.TheVariants.{Whole, Failed, TooMuch}
+use Rattle.livesim.proofs.Displays.{shown_truth}
+use Rattle.livesim.proofs.OneTurn.{may_end}
+use Rattle.livesim.proofs.Quits.{counted, commands_are, commands_then, few_front}
+use Rattle.livesim.proofs.Steps.{lines-append}
+use Rattle.livesim.proofs.Turns.{Done, adds_more}
+use Rattle.livesim.proofs.Written.{front_all}
 
--- commands that begin those of the bytes begin those that the bytes have where the input ends with them
-begins_all : (bytes : List ℕ) (ended : Bool) (front : List Command) → Begins front (commands bytes ended) → Begins front (commands bytes true)
-begins_all bytes true front begins = begins
-begins_all bytes false front begins =
-    let more = commands_begin bytes in
-    (begins.0 ++ more.0, sym (append_assoc front begins.0 more.0) ∙ ap (λ cs. cs ++ more.0) begins.1 ∙ sym more.1)
+-- These bytes were taken, and of their commands these were carried out, with that rest; the shelf answered those, and that to the next one.
+pub record Finished (st : Settings) (from to : Sources) (shelf shelved : Shelves) (bytes : List ℕ) (ended refused : Bool) (told : List Told)
+    (rest : List (Result Asked TextFault)) (lost : List ShelfAnswer) : Type 0 where
+  pub consumed : Consumes from.left to.left bytes
+  pub at_end : ended ≡ true → IsAtEnd to.left
+  pub right : AreRight st fresh told
+  pub begins : commands bytes ended ≡ asked_of told ++ rest
+  pub begins_all : Continues (asked_of told) (commands bytes true)
+  pub answered : AddsAnswers shelf.answers shelved.answers (answers_of told ++ lost)
+  pub first : AreToFirst (loads_first rest) lost
+  pub judged : refused ≡ any_refused st told fresh
 
--- nothing was written
-nothing : (o : Option (List ℕ)) → LeavesToWrite o o [] []
-nothing None = tt
-nothing (Some xs) = refl
+-- what the status says of them
+pub record IsStatus (bytes : List ℕ) (ended refused : Bool) (rest : List (Result Asked TextFault)) (lost : List ShelfAnswer) (status : ℕ) : Type 0 where
+  pub none_left : status ≢ 4 → status ≢ 5 → rest ≡ []
+  pub none_lost : status ≢ 5 → lost ≡ []
+  pub whole : (status ≡ 0) ⊎ (status ≡ 1) → (ended ≡ true) ⊎ (end_with_quit (commands bytes ended) ≡ true)
+  pub judged : (status ≡ 0) ⊎ (status ≡ 1) → status ≡ (if refused then 1 else 0)
+  pub cut : (status ≡ 3) ⊎ (status ≡ 6) → ended ≡ false
+  pub too_much : status ≡ 6 → 67108864 < length bytes
+  pub not_too_much : 67108864 < length bytes → status ≡ 6
 
--- a display of a design tells its truth
-pub displays_truth : (before : List Told) (line : ℕ) (t : Told) (design : Spelled) → t.command ≡ Display line → (world_after before fresh).design ≡ Some design
-    → reply t (world_after before fresh) ≡ true_display (world_after before fresh).cycle design
-displays_truth before line t design command is =
-    ap (λ c. answer_text c (command_verdict c t.answer (world_after before fresh))) command
-    ∙ ap (λ d. answer_text (Display line) (display_verdict line (world_after before fresh).cycle d)) is
-
--- and so do the lines of commands among which it stands
-shown_truth : (told before rest : List Told) (line : ℕ) (t : Told) (design : Spelled) → before ++ t ∷ rest ≡ told → t.command ≡ Display line
-    → (world_after before fresh).design ≡ Some design
-    → lines told fresh ≡ lines before fresh ++ (true_display (world_after before fresh).cycle design ++ lines rest (after t (world_after before fresh)))
-shown_truth told before rest line t design at command is =
-    ap (λ ts. lines ts fresh) (sym at) ∙ lines-append before (t ∷ rest) fresh
-    ∙ ap (λ shown. lines before fresh ++ (shown ++ lines rest (after t (world_after before fresh)))) (displays_truth before line t design command is)
-
--- memory ran out while it was read
-pub cut_short : (left_old left_new written : Option (List ℕ)) (bytes : List ℕ) → Consumes left_old left_new bytes → Lived left_old left_new written written bytes false 5
-cut_short left_old left_new written bytes consumed = record {
-  consumed = consumed;
-  at_end = λ e. absurd (true≢false (sym e));
-  told = [];
-  right = tt;
-  all = λ four five. absurd (five refl);
-  begins = (commands bytes false, refl);
-  begins_all = (commands bytes true, refl);
-  whole = λ h. absurd (other 5 refl h);
-  judged = λ h. absurd (other 5 refl h);
-  cut = λ h. refl;
-  written = λ four five. absurd (five refl);
-  front = ([], nothing written);
-  settled = shown_truth [];
-  too_much = λ e. absurd (omega (arith, e));
-  not_too_much = λ big four five. absurd (five refl);
-}
-  where
-    other : (s : ℕ) → s ≡ 5 → (s ≡ 0) ⊎ (s ≡ 1) → ⊥
-    other s five h = ⊎_elim (λ e. omega (arith, five, e)) (λ e. omega (arith, five, e)) h
-
-small : (b : Bool) → (if b then 1 else 0) < 2
-small true = omega arith
-small false = omega arith
-
-module _ (left_old left_new written_old written_new : Option (List ℕ)) (bytes : List ℕ) (status : ℕ) where
-  -- the status of the ending, where it is one below 4 or 6
-  status_is : (ending : Ending) (f : Finishes ending written_old written_new bytes status) (n : ℕ) → status ≡ n → n ≢ 4 → n ≢ 5 → n ≡ status_of ending (any_refused f.told fresh)
-  status_is ending f n is four five = sym is ∙ f.says (λ e. four (sym is ∙ e)) (λ e. five (sym is ∙ e))
-
-  -- the whole input was read
-  whole : Consumes left_old left_new bytes → IsAtEnd left_new → (67108864 < length bytes → ⊥) → Finishes Whole written_old written_new bytes status → Lived left_old left_new written_old written_new bytes true status
-  whole consumed at_end few f =
-      let below = small (any_refused f.told fresh) in
-      record {
-        consumed = consumed;
-        at_end = λ e. at_end;
-        told = f.told;
-        right = f.right;
-        all = f.all;
-        begins = f.begins;
-        begins_all = f.begins;
-        whole = λ h. refl;
-        judged = λ h. ⊎_elim (λ z. z ∙ status_is Whole f 0 z (λ e. omega (arith, e)) (λ e. omega (arith, e))) (λ z. z ∙ status_is Whole f 1 z (λ e. omega (arith, e)) (λ e. omega (arith, e))) h;
-        cut = λ h. absurd (⊎_elim
-            (λ z. let e = status_is Whole f 3 z (λ e. omega (arith, e)) (λ e. omega (arith, e)) in omega (arith, e, below))
-            (λ z. let e = status_is Whole f 6 z (λ e. omega (arith, e)) (λ e. omega (arith, e)) in omega (arith, e, below)) h);
-        written = f.written;
-        front = f.front;
-        settled = shown_truth f.told;
-        too_much = λ z. absurd (let e = status_is Whole f 6 z (λ e. omega (arith, e)) (λ e. omega (arith, e)) in omega (arith, e, below));
-        not_too_much = λ big four five. absurd (few big);
-      }
-
-  -- the reading was cut: by a fault (3), or by the limit (6)
-  cut : (ending : Ending) (n : ℕ) → 2 ≤ n → has_ended ending ≡ false → ((b : Bool) → status_of ending b ≡ n) → (n ≡ 6 → 67108864 < length bytes) → (67108864 < length bytes → n ≡ 6) → Consumes left_old left_new bytes → Finishes ending written_old written_new bytes status → Lived left_old left_new written_old written_new bytes (has_ended ending) status
-  cut ending n two unended is six big consumed f = record {
-    consumed = consumed;
-    at_end = λ e. absurd (true≢false (sym e ∙ unended));
-    told = f.told;
+module _ (st : Settings) (from to : Sources) (shelf shelved : Shelves) (old new : Option (List ℕ)) (bytes : List ℕ) (ended refused : Bool) (told : List Told)
+    (rest : List (Result Asked TextFault)) (lost : List ShelfAnswer) (status : ℕ) where
+  pub lived : Finished st from to shelf shelved bytes ended refused told rest lost → IsStatus bytes ended refused rest lost status
+      → RisesBy (count_broken told) shelf.faults shelved.faults ⊎ ((status ≡ 5) × RisesBy (count_broken told + 1) shelf.faults shelved.faults)
+      → (status ≢ 4 → status ≢ 5 → Appends old new (lines st told fresh)) → WritesFront old new (lines st told fresh)
+      → ((before : List Told) (last : Told) → before ++ last ∷ [] ≡ told → WritesAtLeast old new (lines st before fresh))
+      → ((status ≡ 4) ⊎ (end_with_quit (asked_of told) ≡ true) → AreSoon (length told) bytes)
+      → Lived st from.left to.left old new shelf.answers shelved.answers shelf.faults shelved.faults bytes ended status
+  lived f s failed written front most soon = record {
+    consumed = f.consumed;
+    at_end = f.at_end;
+    told = told;
     right = f.right;
-    all = f.all;
-    begins = f.begins;
-    begins_all = begins_all bytes (has_ended ending) _ f.begins;
-    whole = λ h. absurd (no h);
-    judged = λ h. absurd (no h);
-    cut = λ h. unended;
-    written = f.written;
-    front = f.front;
-    settled = shown_truth f.told;
-    too_much = λ z. six (sym (status_is ending f 6 z (λ e. omega (arith, e)) (λ e. omega (arith, e)) ∙ is (any_refused f.told fresh)));
-    not_too_much = λ many four five. f.says four five ∙ is (any_refused f.told fresh) ∙ big many;
+    all = λ four five. sym (append-nil (asked_of told)) ∙ ap (λ r. asked_of told ++ r) (sym (s.none_left four five)) ∙ sym f.begins;
+    begins = (rest, f.begins);
+    begins_all = f.begins_all;
+    whole = s.whole;
+    judged = λ which. s.judged which ∙ ap (λ b. cond b 1 0) f.judged;
+    cut = s.cut;
+    lost = lost;
+    answered = f.answered;
+    none_lost = s.none_lost;
+    lost_first = f.first;
+    failed = failed;
+    written = written;
+    front = front;
+    most = most;
+    settled = shown_truth st told;
+    too_much = s.too_much;
+    not_too_much = s.not_too_much;
+    soon = soon;
   }
+
+  -- where all lines were written
+  pub lived_all : Finished st from to shelf shelved bytes ended refused told rest lost → IsStatus bytes ended refused rest lost status
+      → RisesBy (count_broken told) shelf.faults shelved.faults ⊎ ((status ≡ 5) × RisesBy (count_broken told + 1) shelf.faults shelved.faults)
+      → Appends old new (lines st told fresh)
+      → ((status ≡ 4) ⊎ (end_with_quit (asked_of told) ≡ true) → AreSoon (length told) bytes)
+      → Lived st from.left to.left old new shelf.answers shelved.answers shelf.faults shelved.faults bytes ended status
+  lived_all f s failed written soon = lived f s failed (λ four five. written) (front_all old new (lines st told fresh) written) at_least soon
     where
-      no : (status ≡ 0) ⊎ (status ≡ 1) → ⊥
-      no h = ⊎_elim
-          (λ z. let e = status_is ending f 0 z (λ e. omega (arith, e)) (λ e. omega (arith, e)) ∙ is (any_refused f.told fresh) in omega (arith, e, two))
-          (λ z. let e = status_is ending f 1 z (λ e. omega (arith, e)) (λ e. omega (arith, e)) ∙ is (any_refused f.told fresh) in omega (arith, e, two)) h
+      at_least : (before : List Told) (last : Told) → before ++ last ∷ [] ≡ told → WritesAtLeast old new (lines st before fresh)
+      at_least before last is =
+          (_, subst (Appends old new) (ap (λ t. lines st t fresh) (sym is) ∙ lines-append st before (last ∷ []) fresh) written)
 
-  -- however the reading ended
-  pub finished : (ending : Ending) → Consumes left_old left_new bytes → (ending ≡ Whole → IsAtEnd left_new) → (ending ≡ TooMuch → 67108864 < length bytes) → (67108864 < length bytes → ending ≡ TooMuch) → Finishes ending written_old written_new bytes status → Lived left_old left_new written_old written_new bytes (has_ended ending) status
-  finished Whole consumed at_end much few f = whole consumed (at_end refl) (λ big. grind arith) f
-  finished Failed consumed at_end much few f = cut Failed 3 (omega arith) refl (λ b. refl) (λ e. absurd (omega (arith, e))) (λ big. grind arith) consumed f
-  finished TooMuch consumed at_end much few f = cut TooMuch 6 (omega arith) refl (λ b. refl) (λ e. much refl) (λ big. refl) consumed f
+-- ---- where it ends behind a command
 
--- a test as a number
-pub byte_is : (b : Bool) → from_bool b ≡ (if b then 1 else 0)
-byte_is true = refl
-byte_is false = refl
+may_here : (ended : Bool) → MayFollow ended [] ended
+may_here true = (refl, refl)
+may_here false = tt
 
--- the status that answers what was carried out
-abbrev pub Answers : Ending → ℕ → Result Bool SinkRefusal → Type 0
-Answers ending status (Ok refused) = status ≡ status_of ending refused
-Answers ending status (Err e) = (status ≡ 4) ⊎ (status ≡ 5)
+adds_no_more : (before behind : Option (List ShelfAnswer)) (more : List ShelfAnswer) → AddsAnswers before behind more → AddsAnswers before behind (more ++ [])
+adds_no_more before behind more adds = subst (AddsAnswers before behind) (sym (append-nil more)) adds
 
--- commands that were carried out, with their status
-pub finishes : (ending : Ending) (old new : Option (List ℕ)) (bytes : List ℕ) (all : List Command) (r : Result Bool SinkRefusal) (status : ℕ) → Carries all old new r → all ≡ commands bytes (has_ended ending) → Answers ending status r → Finishes ending old new bytes status
-finishes ending old new bytes all (Ok refused) status c is says = record {
-  told = c.told;
-  right = c.right;
-  begins = (c.begins.0, c.begins.1 ∙ is);
-  front = c.front;
-  all = λ four five. c.whole.0 ∙ is;
-  written = λ four five. c.whole.1;
-  says = λ four five. says ∙ ap (status_of ending) c.whole.2;
-}
-finishes ending old new bytes all (Err e) status c is says = record {
-  told = c.told;
-  right = c.right;
-  begins = (c.begins.0, c.begins.1 ∙ is);
-  front = c.front;
-  all = λ four five. absurd (⊎_elim four five says);
-  written = λ four five. absurd (⊎_elim four five says);
-  says = λ four five. absurd (⊎_elim four five says);
-}
-
--- nothing outside failed, and the script isn't too long
-pub completed : (SourceRose SinkRose : Type 0) (written_old written_new : Option (List ℕ)) (bytes : List ℕ) (status : ℕ) (ending : Ending) → Finishes ending written_old written_new bytes status → (ending ≡ Failed → SourceRose) → (status ≡ 4 → SinkRose) → (ending ≡ TooMuch → 67108864 < length bytes) → (SourceRose → ⊥) → (SinkRose → ⊥) → length bytes ≤ 67108864 → IsComplete status
-completed SourceRose SinkRose written_old written_new bytes status ending f source_rose sink_rose much source sink few =
-    by (eqb_tells status 4) (eqb_tells status 5)
+-- a reader that goes on has taken no byte too many
+pub few_taken : (r : Reader) → is_too_much (stopped r) ≡ false → count_taken r ≤ 67108864
+few_taken r going = small (count_taken r) (sym r.sound.much ∙ going)
   where
-    zero_one : (b : Bool) → status ≡ (if b then 1 else 0) → IsComplete status
-    zero_one true e = inr (inl e)
-    zero_one false e = inl e
+    small : (n : ℕ) → nat_lt 67108864 n ≡ false → n ≤ 67108864
+    small n is = grind (arith, nat_tests)
 
-    ended : (e : Ending) (b : Bool) → (e ≡ Failed → SourceRose) → (e ≡ TooMuch → 67108864 < length bytes) → status ≡ status_of e b → IsComplete status
-    ended Whole b failed over is = zero_one b is
-    ended Failed b failed over is = absurd (source (failed refl))
-    ended TooMuch b failed over is = absurd (let many = over refl in omega (arith, many, few))
-
-    by : ((eqb status 4 ≡ true) × (status ≡ 4)) ⊎ ((eqb status 4 ≡ false) × (status ≢ 4)) → ((eqb status 5 ≡ true) × (status ≡ 5)) ⊎ ((eqb status 5 ≡ false) × (status ≢ 5)) → IsComplete status
-    by (inl four) five = absurd (sink (sink_rose four.1))
-    by (inr four) (inl five) = inr (inr five.1)
-    by (inr four) (inr five) = ended ending (any_refused f.told fresh) source_rose much (f.says four.1 five.1)
-
--- at 0, 1 and 6 the reading didn't fail
-pub unfailed : {Kept : Type 0} (written_old written_new : Option (List ℕ)) (bytes : List ℕ) (status : ℕ) (ending : Ending) → Finishes ending written_old written_new bytes status → (ending ≡ Whole → Kept) → (ending ≡ TooMuch → Kept) → (status ≡ 0) ⊎ ((status ≡ 1) ⊎ (status ≡ 6)) → Kept
-unfailed {Kept} written_old written_new bytes status ending f whole much which = by ending whole much (f.says four five)
+pub many_taken : (r : Reader) → is_too_much (stopped r) ≡ true → 67108864 < count_taken r
+many_taken r stopped = large (count_taken r) (sym r.sound.much ∙ stopped)
   where
-    other : (n : ℕ) → 1 < n → n ≢ 6 → status ≢ n
-    other n some six e = at which
-      where
-        at : (status ≡ 0) ⊎ ((status ≡ 1) ⊎ (status ≡ 6)) → ⊥
-        at (inl z) = omega (arith, some, z, e)
-        at (inr (inl z)) = omega (arith, some, z, e)
-        at (inr (inr z)) = six (sym e ∙ z)
+    large : (n : ℕ) → nat_lt 67108864 n ≡ true → 67108864 < n
+    large n is = grind (arith, nat_tests)
 
-    four : status ≢ 4
-    four = other 4 (omega arith) (λ e. omega (arith, e))
+pub most_taken : (r : Reader) → count_taken r ≤ 67108865
+most_taken r = r.sound.most
 
-    five : status ≢ 5
-    five = other 5 (omega arith) (λ e. omega (arith, e))
+pub finished_now : (st : Settings) (from to : Sources) (shelf shelved : Shelves) (session : Session) (r : Reader) (refused quit : Bool) (told : List Told)
+    → (d : Done st from to shelf shelved session r refused quit told) → count_taken r ≤ 67108864
+    → Finished st from to shelf shelved d.bytes (has_ended r) refused told (counted quit (still_asked r [] (has_ended r))) []
+finished_now st from to shelf shelved session r refused quit told d few =
+    let front : take 67108864 d.bytes ≡ d.bytes ++ [] = few_front 67108864 d.bytes (omega (arith, few, d.count)) ∙ sym (append-nil d.bytes) in
+    record {
+      consumed = d.consumed;
+      at_end = d.at_end;
+      right = d.right;
+      begins = commands_are r d.bytes d.bytes [] (asked_of told) quit (has_ended r) d.has (may_here (has_ended r)) front d.ends;
+      begins_all = (_, commands_are r d.bytes d.bytes [] (asked_of told) quit true d.has (may_end (has_ended r)) front d.ends);
+      answered = adds_no_more shelf.answers shelved.answers (answers_of told) d.answered;
+      first = tt;
+      judged = d.judged;
+    }
 
-    three : status ≢ 3
-    three = other 3 (omega arith) (λ e. omega (arith, e))
+-- ---- where no command is read any more
 
-    by : (e : Ending) → (e ≡ Whole → Kept) → (e ≡ TooMuch → Kept) → status ≡ status_of e (any_refused f.told fresh) → Kept
-    by Whole kept kept' is = kept refl
-    by Failed kept kept' is = absurd (three is)
-    by TooMuch kept kept' is = kept' refl
+-- of the bytes that came those are kept of which the first 67,108,864 are told, and then that
+pub record AreCut (r : Reader) (came kept lost : List ℕ) : Type 0 where
+  pub front : take 67108864 came ≡ kept ++ lost
+  pub whole : has_ended r ≡ true → lost ≡ []
+
+follows : (b end : Bool) (lost : List ℕ) → (b ≡ true → (lost ≡ []) × (end ≡ true)) → MayFollow b lost end
+follows false end lost so = tt
+follows true end lost so = so refl
+
+lost_first : (told more : List (Result Asked TextFault)) (lost : List ShelfAnswer) → AreToFirst (loads_first told) lost
+    → AreToFirst (loads_first (up_to_quit (told ++ more))) lost
+lost_first told more [] first = tt
+lost_first [] more (a ∷ lost) first = absurd first
+lost_first (Ok asked ∷ told) more (a ∷ lost) first = first
+lost_first (Err fault ∷ told) more (a ∷ lost) first = absurd first
+
+module _ (st : Settings) (from mid to : Sources) (shelf mid_shelf shelved : Shelves) (session : Session) (old new : Reader) (refused : Bool) (told : List Told)
+    (ending : Ending) (d : Done st from mid shelf mid_shelf session old refused false told) (e : Ends mid to mid_shelf shelved old new ending) where
+  at_end_then : has_ended new ≡ true → IsAtEnd to.left
+  at_end_then ended = by (e.reads.takes.ended ended)
+    where
+      by : (has_ended old ≡ true) ⊎ IsAtEnd to.left → IsAtEnd to.left
+      by (inl before) = subst IsAtEnd (sym (e.reads.takes.quiet before).3) (d.at_end before)
+      by (inr now) = now
+
+  has_then : HasTold new (d.bytes ++ e.reads.kept) (asked_of told ++ e.told)
+  has_then =
+      told_on old new d.bytes e.reads.kept (asked_of told) e.told d.has (λ ended. let still = e.reads.takes.quiet ended in (still.1, still.2)) e.reads.hands
+
+  pub taken_then : length (d.bytes ++ e.reads.came) ≡ count_taken new
+  taken_then = omega (arith, e.reads.takes.counted, d.count, length-append d.bytes e.reads.came)
+
+  pub finished_then : (lost : List ℕ) → AreCut new (d.bytes ++ e.reads.came) (d.bytes ++ e.reads.kept) lost
+      → Finished st from to shelf shelved (d.bytes ++ e.reads.came) (has_ended new) refused told
+      (up_to_quit (e.told ++ still_asked new lost (has_ended new))) e.lost
+  finished_then lost cut = record {
+    consumed = Consumes-trans from.left mid.left to.left d.bytes e.reads.came d.consumed e.reads.takes.consumed;
+    at_end = at_end_then;
+    right = d.right;
+    begins = commands_then new _ _ lost (asked_of told) e.told (has_ended new) has_then
+        (follows (has_ended new) (has_ended new) lost (λ ended. (cut.whole ended, ended))) cut.front d.ends;
+    begins_all = (_, commands_then new _ _ lost (asked_of told) e.told true has_then (follows (has_ended new) true lost (λ ended. (cut.whole ended, refl))) cut.front d.ends);
+    answered = adds_more shelf.answers mid_shelf.answers shelved.answers _ _ d.answered e.adds;
+    first = lost_first e.told (still_asked new lost (has_ended new)) e.lost e.first;
+    judged = d.judged;
+  }

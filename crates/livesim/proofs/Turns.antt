@@ -1,152 +1,130 @@
--- One turn of a run: what it answers, and what was carried out.
-use Rattle.std.proofs.Common.{◌≡◌, ℕ, Bool, true, false, ◌||◌, List, [], ◌∷◌, ◌++◌, Option, Some, None, Result, Ok, Err, refl, sym, ap, ◌∙◌, subst, append-nil, append_assoc, true≢false}
-use Rattle.std.proofs.Math.Bool.{or-false, or_assoc}
-use Rattle.std.proofs.KnownBytes.{Appends-nil, Appends-trans}
-use Rattle.std.proofs.lemmas.List.{map-append}
-use Rattle.std.specs.Prelude.{is_err, IsErr}
-use Rattle.std.specs.Io.KnownBytes.{Appends}
-use Rattle.ls_port.specs.declared.sink_refusal.SinkRefusal.{SinkRefusal}
-use Rattle.livesim.specs.Script.{script_line}
-use Rattle.livesim.specs.Commands.{Command, command_at, commands_after, commands_from}
-use Rattle.livesim.specs.declared.script_line.ScriptLine.{ScriptLine}
-use Rattle.livesim.specs.Endings.{Carries}
-use Rattle.livesim.specs.Worlds.{World, Told, no_answer, plain, fresh, after, commands_of, verdict, any_refused, world_after, IsRight, AreRight}
-use Rattle.livesim.specs.Replies.{reply, lines, Replies, RepliesTo, RepliesAll}
-use Rattle.livesim.specs.Runs.{LeavesToWrite, WritesFront}
+-- What a run has done, and one turn more.
+use Rattle.std.proofs.Common.{◌≡◌, ◌⊎◌, inl, inr, ℕ, Bool, true, false, ◌||◌, List, [], ◌∷◌, ◌++◌, length, Option, Some, None, refl, sym, ap, ◌∙◌, subst, length-append, append_assoc, true≢false, arith}
+use Rattle.std.specs.List.{list_any}
+use Rattle.std.proofs.KnownBytes.{Consumes-nil, Consumes-trans, Appends-trans}
+use Rattle.std.specs.Io.KnownBytes.{Appends, Consumes, IsAtEnd}
+use Rattle.ls_port.specs.declared.shelf_answer.ShelfAnswer.{ShelfAnswer}
+use Rattle.command_read.specs.Readers.{left, next_number, has_ended, count_taken, AreKept}
+use Rattle.command_read.specs.Runs.{HasTold}
+use Rattle.command_read.specs.declared.reader.Reader.{Reader}
+use Rattle.command_read.proofs.Cutting.{told_begins, told_on}
+use Rattle.live_options.specs.Words.{OptionsOf}
+use Rattle.live_session.specs.Forms.{world_after, any_refused}
+use Rattle.live_session.specs.Loads.{AddsAnswers, is_broken}
+use Rattle.live_session.specs.Readings.{AreRight}
+use Rattle.live_session.specs.Replies.{lines, asked_of, answers_of}
+use Rattle.live_session.specs.Sessions.{world, settings_of}
+use Rattle.live_session.specs.Settings.{Settings}
+use Rattle.live_session.specs.Verdicts.{Told}
+use Rattle.live_session.specs.Worlds.{fresh}
+use Rattle.live_session.specs.declared.reply.Reply.{Reply}
+use Rattle.live_session.specs.declared.session.Session.{Session}
+use Rattle.livesim.specs.Runs.{RisesBy, count_broken}
+use Rattle.livesim.specs.Settings.{settings}
+use Rattle.livesim.specs.Turns.{Sources, Shelves, Answers, HasLimits}
+use Rattle.livesim.proofs.Counts.{rises_more, broken_more}
+use Rattle.livesim.proofs.OneTurn.{adds_none}
+use Rattle.livesim.proofs.Quits.{EndsAt, more_ends}
+use Rattle.livesim.proofs.Soon.{IsSoonDone, soon_more}
+use Rattle.livesim.proofs.Steps.{IsStep, step_told, step_in, after-append, right-append, lines-append, refused-append, asked-more, answers-more}
 
-after-append : (xs ys : List Told) (w : World) → world_after (xs ++ ys) w ≡ world_after ys (world_after xs w)
-after-append [] ys w = refl
-after-append (x ∷ xs) ys w = after-append xs ys (after x w)
-
-right-append : (xs ys : List Told) (w : World) → AreRight w xs → AreRight (world_after xs w) ys → AreRight w (xs ++ ys)
-right-append [] ys w front back = back
-right-append (x ∷ xs) ys w front back = (front.0, right-append xs ys (after x w) front.1 back)
-
-pub lines-append : (xs ys : List Told) (w : World) → lines (xs ++ ys) w ≡ lines xs w ++ lines ys (world_after xs w)
-lines-append [] ys w = refl
-lines-append (x ∷ xs) ys w =
-    ap (λ more. reply x w ++ more) (lines-append xs ys (after x w))
-    ∙ sym (append_assoc (reply x w) (lines xs (after x w)) (lines ys (world_after xs (after x w))))
-
-any_refused-append : (xs ys : List Told) (w : World) → any_refused (xs ++ ys) w ≡ (any_refused xs w || any_refused ys (world_after xs w))
-any_refused-append [] ys w = refl
-any_refused-append (x ∷ xs) ys w =
-    ap (λ more. is_err (verdict x w) || more) (any_refused-append xs ys (after x w))
-    ∙ sym (or_assoc (is_err (verdict x w)) (any_refused xs (after x w)) (any_refused ys (world_after xs (after x w))))
-
--- one text, and a front of another
-leaves_more : (old mid new : Option (List ℕ)) (front back rest : List ℕ) → Appends old mid front → LeavesToWrite mid new rest back → LeavesToWrite old new rest (front ++ back)
-leaves_more None mid new front back rest h w = tt
-leaves_more (Some xs) None new front back rest h w = absurd h
-leaves_more (Some xs) (Some ys) None front back rest h w = absurd w
-leaves_more (Some xs) (Some ys) (Some zs) front back rest h w = w ∙ ap (λ z. z ++ back) h ∙ append_assoc xs front back
-
--- a whole text is a front of it
-front_all : (old new : Option (List ℕ)) (all : List ℕ) → Appends old new all → WritesFront old new all
-front_all None new all h = ([], tt)
-front_all (Some xs) None all h = absurd h
-front_all (Some xs) (Some ys) all h = ([], append-nil ys ∙ h)
-
--- the commands of the lines that are left, of which there is a first
-pub next_commands : (ended : Bool) (n : ℕ) (left : List (List ℕ)) (line : List ℕ) (after_line : List (List ℕ)) (form : ScriptLine) → left ≡ line ∷ after_line → form ≡ script_line line → commands_from ended n 0 left ≡ command_at ended n form after_line ++ commands_after ended n form after_line
-next_commands ended n left line after_line form is same =
-    ap (commands_from ended n 0) is
-    ∙ ap (λ f. command_at ended n f after_line ++ commands_after ended n f after_line) (sym same)
-
--- Some commands are carried out, and these are left: the world that they lead to, what was written, and whether one was
--- refused.
-pub record Done (all left : List Command) (w : World) (old new : Option (List ℕ)) (refused : Bool) : Type 0 where
-  pub told : List Told
-  pub split : commands_of told ++ left ≡ all
-  pub right : AreRight fresh told
-  pub world : w ≡ world_after told fresh
-  pub written : Appends old new (lines told fresh)
-  pub judged : refused ≡ any_refused told fresh
+-- These commands are carried out, and the reader has taken those bytes: the world that they lead to, what the shelf answered, whether one was
+-- refused, and whether the last one is `quit`.
+pub record Done (st : Settings) (from to : Sources) (shelf shelved : Shelves) (session : Session) (reader : Reader) (refused quit : Bool) (told : List Told) : Type 0
+  where
+    pub bytes : List ℕ
+    pub right : AreRight st fresh told
+    pub goes : world session (world_after st told fresh).grid ≡ world_after st told fresh
+    pub has : HasTold reader bytes (asked_of told)
+    pub count : count_taken reader ≡ length bytes
+    pub consumed : Consumes from.left to.left bytes
+    pub at_end : has_ended reader ≡ true → IsAtEnd to.left
+    pub ends : EndsAt quit (asked_of told)
+    pub answered : AddsAnswers shelf.answers shelved.answers (answers_of told)
+    pub failed : RisesBy (count_broken told) shelf.faults shelved.faults
+    pub judged : refused ≡ any_refused st told fresh
+    pub soon : IsSoonDone told bytes
 
 -- before the first
-pub none_done : (all : List Command) (w : World) (o : Option (List ℕ)) → w ≡ fresh → Done all all w o o false
-none_done all w o is = record { told = []; split = refl; right = tt; world = is; written = Appends-nil o; judged = refl }
+pub none_done : (st : Settings) (from : Sources) (shelf : Shelves) (session : Session) (reader : Reader) → ((grid : List ℕ) → world session grid ≡ fresh)
+    → left reader ≡ [] → next_number reader ≡ 1 → count_taken reader ≡ 0 → has_ended reader ≡ false → Done st from from shelf shelf session reader false false []
+none_done st from shelf session reader begins nothing first none more = record {
+  bytes = [];
+  right = tt;
+  goes = begins [];
+  has = told_begins reader nothing first;
+  count = none;
+  consumed = Consumes-nil from.left;
+  at_end = λ ended. absurd (true≢false (sym ended ∙ more));
+  ends = refl;
+  answered = adds_none shelf.answers;
+  failed = refl;
+  judged = refl;
+  soon = inl (refl, refl);
+}
 
-module _ (all left now later : List Command) (w x : World) (old mid new : Option (List ℕ)) (text : List ℕ) (refused so_far : Bool) (d : Done all left w old mid so_far) (is : left ≡ now ++ later) (r : RepliesAll now w x text refused) where
-  split_more : commands_of (d.told ++ r.told) ++ later ≡ all
-  split_more =
-      ap (λ cs. cs ++ later) (map-append (λ (t : Told). t.command) d.told r.told)
-      ∙ append_assoc (commands_of d.told) (commands_of r.told) later
-      ∙ ap (λ cs. commands_of d.told ++ (cs ++ later)) r.same
-      ∙ ap (λ cs. commands_of d.told ++ cs) (sym is) ∙ d.split
+pub adds_more : (a b c : Option (List ShelfAnswer)) (front more : List ShelfAnswer) → AddsAnswers a b front → AddsAnswers b c more → AddsAnswers a c (front ++ more)
+adds_more None b c front more first second = tt
+adds_more (Some xs) None c front more first second = absurd first
+adds_more (Some xs) (Some ys) None front more first second = absurd second
+adds_more (Some xs) (Some ys) (Some zs) front more first second = second ∙ ap (λ y. y ++ more) first ∙ append_assoc xs front more
 
-  right_more : AreRight fresh (d.told ++ r.told)
-  right_more = right-append d.told r.told fresh d.right (subst (λ v. AreRight v r.told) d.world r.right)
+module _ (o : OptionsOf) (from mid to : Sources) (shelf mid_shelf shelved : Shelves) (session behind : Session) (old new : Reader) (refused : Bool) (told : List Told) (r : Reply)
+    (limits : HasLimits session) (d : Done (settings o) from mid shelf mid_shelf session old refused false told) (a : Answers mid to mid_shelf shelved old new session behind r) where
+  -- what is told of it
+  abbrev pub turn_told : Told
+  turn_told = step_told a.asked _ _ _ _ _ _ _ _ a.steps
 
-  lines_more : lines (d.told ++ r.told) fresh ≡ lines d.told fresh ++ text
+  pub step : IsStep (settings o) (world_after (settings o) told fresh) turn_told behind r.lines r.refused
+  step =
+      step_in a.asked _ _ _ _ _ _ _ _ a.steps o (world_after (settings o) told fresh)
+      (ap (settings_of o.interval o.lookback) a.limits ∙ limits o) (a.same (world_after (settings o) told fresh).grid ∙ d.goes)
+
+  -- the lines with its own
+  pub lines_more : lines (settings o) (told ++ turn_told ∷ []) fresh ≡ lines (settings o) told fresh ++ r.lines
   lines_more =
-      lines-append d.told r.told fresh
-      ∙ ap (λ v. lines d.told fresh ++ lines r.told v) (sym d.world) ∙ ap (λ t. lines d.told fresh ++ t) (sym r.text)
+      lines-append (settings o) told (turn_told ∷ []) fresh
+      ∙ ap (λ text. lines (settings o) told fresh ++ text) step.lines_are
+
+  same_kept : a.reads.came ≡ a.reads.kept
+  same_kept = subst (λ s. AreKept s a.reads.came a.reads.kept) a.going a.reads.takes.holds
+
+  at_end_more : has_ended new ≡ true → IsAtEnd to.left
+  at_end_more ended = by (a.reads.takes.ended ended)
+    where
+      by : (has_ended old ≡ true) ⊎ IsAtEnd to.left → IsAtEnd to.left
+      by (inl before) = subst IsAtEnd (sym (a.reads.takes.quiet before).3) (d.at_end before)
+      by (inr now) = now
 
   -- one turn more
-  pub more_done : Appends mid new text → Done all later x old new (so_far || refused)
-  more_done written = record {
-    told = d.told ++ r.told;
-    split = split_more;
-    right = right_more;
-    world = r.world ∙ ap (world_after r.told) d.world ∙ sym (after-append d.told r.told fresh);
-    written = subst (Appends old new) (sym lines_more) (Appends-trans old mid new (lines d.told fresh) text d.written written);
-    judged = ap (λ b. b || refused) d.judged ∙ ap (λ b. any_refused d.told fresh || b) r.refused
-        ∙ ap (λ v. any_refused d.told fresh || any_refused r.told v) d.world ∙ sym (any_refused-append d.told r.told fresh);
+  pub more_done : Done (settings o) from to shelf shelved behind new (refused || r.refused) r.quit (told ++ turn_told ∷ [])
+  more_done = record {
+    bytes = d.bytes ++ a.reads.came;
+    right = right-append (settings o) told (turn_told ∷ []) fresh d.right (step.right, tt);
+    goes = subst (λ x. world behind x.grid ≡ x) (sym (after-append (settings o) told (turn_told ∷ []) fresh)) step.goes;
+    has = subst (λ k. HasTold new (d.bytes ++ k) (asked_of (told ++ turn_told ∷ []))) (sym same_kept)
+        (subst (HasTold new (d.bytes ++ a.reads.kept)) (sym (asked-more told turn_told))
+        (told_on old new d.bytes a.reads.kept (asked_of told) (a.asked ∷ []) d.has (λ ended. let still = a.reads.takes.quiet ended in (still.1, still.2)) a.reads.hands));
+    count = omega (arith, a.reads.takes.counted, d.count, length-append d.bytes a.reads.came);
+    consumed = Consumes-trans from.left mid.left to.left d.bytes a.reads.came d.consumed a.reads.takes.consumed;
+    at_end = at_end_more;
+    ends = subst (EndsAt r.quit) (sym (asked-more told turn_told)) (subst (λ q. EndsAt q (asked_of told ++ a.asked ∷ [])) (sym a.quits) (more_ends (asked_of told) a.asked d.ends));
+    answered = subst (AddsAnswers shelf.answers shelved.answers) (sym (answers-more told turn_told))
+        (adds_more shelf.answers mid_shelf.answers shelved.answers _ _ d.answered a.steps.adds);
+    failed = subst (λ n. RisesBy n shelf.faults shelved.faults) (sym (broken_more told turn_told))
+        (rises_more (count_broken told) shelf.faults mid_shelf.faults shelved.faults (list_any is_broken a.steps.loads) d.failed a.steps.cause);
+    judged = ap (λ b. b || r.refused) d.judged ∙ ap (λ b. any_refused (settings o) told fresh || b) (sym step.refuses)
+        ∙ sym (refused-append (settings o) told (turn_told ∷ []) fresh);
+    soon = inr (soon_more old d.bytes a.reads.came told turn_told d.has d.soon a.reads.soon);
   }
 
-  -- one turn of which only a front was written
-  pub front_carries : (e : SinkRefusal) → WritesFront mid new text → Carries all old new (Err e)
-  front_carries e front = record {
-    told = d.told ++ r.told;
-    right = right_more;
-    begins = (later, split_more);
-    front = (front.0, subst (LeavesToWrite old new front.0) (sym lines_more) (leaves_more old mid new (lines d.told fresh) text front.0 d.written front.1));
-    whole = tt;
-  }
-
--- an answer that is an error
-pub err_carries : (all : List Command) (old new : Option (List ℕ)) (r : Result Bool SinkRefusal) → IsErr r → ((e : SinkRefusal) → Carries all old new (Err e)) → Carries all old new r
-err_carries all old new (Ok refused) is carries = absurd (true≢false (sym is))
-err_carries all old new (Err e) is carries = carries e
-
--- a run that breaks off between turns
-pub cut_carries : (all left : List Command) (w : World) (old new : Option (List ℕ)) (refused : Bool) (e : SinkRefusal) → Done all left w old new refused → Carries all old new (Err e)
-cut_carries all left w old new refused e d = record {
-  told = d.told;
-  right = d.right;
-  begins = (left, d.split);
-  front = front_all old new (lines d.told fresh) d.written;
-  whole = tt;
-}
-
--- a run whose commands are all carried out
-pub whole_carries : (all : List Command) (ended : Bool) (n : ℕ) (ls : List (List ℕ)) (w : World) (old new : Option (List ℕ)) (refused : Bool) → ls ≡ [] → Done all (commands_from ended n 0 ls) w old new refused → Carries all old new (Ok refused)
-whole_carries all ended n ls w old new refused none d = record {
-  told = d.told;
-  right = d.right;
-  begins = (commands_from ended n 0 ls, d.split);
-  front = front_all old new (lines d.told fresh) d.written;
-  whole = (sym (append-nil (commands_of d.told)) ∙ ap (λ cs. commands_of d.told ++ cs) (sym (ap (commands_from ended n 0) none)) ∙ d.split, d.written, d.judged);
-}
-
--- a line without a command
-pub none_told : (w : World) → RepliesAll [] w w [] false
-none_told w = record { told = []; same = refl; right = tt; text = refl; world = refl; refused = refl }
-
--- one command
-pub one_told : (c : Command) (old new : World) (text : List ℕ) (refused : Bool) → RepliesTo c old new text refused → RepliesAll (c ∷ []) old new text refused
-one_told c old new text refused r =
-    let t : Told = record { command = c; answer = r.answer } in
-    record {
-      told = t ∷ [];
-      same = refl;
-      right = (r.right, tt);
-      text = r.replies.text ∙ sym (append-nil (reply t old));
-      world = r.replies.world;
-      refused = r.replies.refused ∙ sym (or-false (is_err (verdict t old)));
-    }
-
--- one that has no text
-pub plain_told : (c : Command) (old new : World) (text : List ℕ) (refused : Bool) → IsRight old (plain c) → Replies (plain c) old new text refused → RepliesAll (c ∷ []) old new text refused
-plain_told c old new text refused right r = one_told c old new text refused (record { answer = no_answer; right = right; replies = r })
+  -- one turn more, whose lines were written
+  pub turn_done : (old_text mid_text new_text : Option (List ℕ)) (also quits : Bool) → (refused || r.refused) ≡ also → r.quit ≡ quits
+      → Appends old_text mid_text (lines (settings o) told fresh) → Appends mid_text new_text r.lines
+      → (all : List Told) × Done (settings o) from to shelf shelved behind new also quits all × Appends old_text new_text (lines (settings o) all fresh)
+  turn_done old_text mid_text new_text also quits refuses ends before now = (
+    told ++ turn_told ∷ [],
+    subst (λ b. Done (settings o) from to shelf shelved behind new b quits (told ++ turn_told ∷ [])) refuses
+        (subst (λ q. Done (settings o) from to shelf shelved behind new (refused || r.refused) q (told ++ turn_told ∷ [])) ends more_done),
+    subst (Appends old_text new_text) (sym lines_more) (Appends-trans old_text mid_text new_text (lines (settings o) told fresh) r.lines before now),
+  )

@@ -1,17 +1,23 @@
--- A whole run: what it took, what it wrote, and its status.
-use Rattle.std.specs.Prelude.{◌≡◌, ◌≢◌, ◌⊎◌, ◌<◌, ℕ, Bool, true, false, List, [], ◌∷◌, length, ◌++◌, ⊤, Option, Some, None, if◌then◌else◌}
+-- A whole run: what it took, what it asked of the shelf, what it wrote, and its status.
+use Rattle.std.specs.Prelude.{◌≡◌, ◌≢◌, ◌⊎◌, ◌<◌, ◌≤◌, ◌^◌, ◌+◌, ◌-◌, min, ℕ, zero, suc, Bool, true, false, List, [], ◌∷◌, length, ◌++◌, ⊤, Result, Ok, Err, if◌then◌else◌}
+use Rattle.std.specs.List.{list_any}
+use Rattle.std.specs.declared.option.Option.{Option}
+use Rattle.std.specs.declared.option.Option.TheVariants.{Some, None}
 use Rattle.std.specs.Io.KnownBytes.{Consumes, Appends, IsAtEnd}
-use Rattle.typed_ir.specs.Cycles.{truth}
+use Rattle.ls_text.specs.Readings.{TextFault}
+use Rattle.ls_port.specs.declared.shelf_answer.ShelfAnswer.{ShelfAnswer}
 use Rattle.wave_report.specs.Replies.{show_text}
-use Rattle.livesim.specs.Rows.{no_rows}
-use Rattle.livesim.specs.Spelled.{Spelled}
-use Rattle.livesim.specs.Commands.{Command, Display, commands}
-use Rattle.livesim.specs.Worlds.{Told, fresh, commands_of, after, world_after, any_refused, AreRight}
-use Rattle.livesim.specs.Replies.{lines, table_lines}
-
--- the first commands, and then the rest, are all
-abbrev pub Begins : List Command → List Command → Type 0
-Begins front all = (rest : List Command) × (front ++ rest ≡ all)
+use Rattle.command_read.specs.Asking.{Asked, Shows, LoadedFile}
+use Rattle.command_read.specs.Runs.{Continues}
+use Rattle.command_read.specs.Scripts.{asks, commands, is_quit}
+use Rattle.live_session.specs.Forms.{after, world_after, any_refused}
+use Rattle.live_session.specs.Loads.{AddsAnswers, AreToFirst, is_broken, loads_of}
+use Rattle.live_session.specs.Readings.{AreRight}
+use Rattle.live_session.specs.Replies.{lines, table_lines, true_registers, asked_of, answers_of}
+use Rattle.live_session.specs.Settings.{Settings}
+use Rattle.live_session.specs.Spelled.{Spelled}
+use Rattle.live_session.specs.Verdicts.{Told}
+use Rattle.live_session.specs.Worlds.{World, fresh, cycle}
 
 -- what was written, with the rest, is what was there before with all
 abbrev pub LeavesToWrite : Option (List ℕ) → Option (List ℕ) → List ℕ → List ℕ → Type 0
@@ -23,39 +29,82 @@ LeavesToWrite (Some xs) (Some ys) rest all = ys ++ rest ≡ xs ++ all
 abbrev pub WritesFront : Option (List ℕ) → Option (List ℕ) → List ℕ → Type 0
 WritesFront old new all = (rest : List ℕ) × LeavesToWrite old new rest all
 
--- the lines that tell the truth of a design at a cycle: the registers of a run from reset, and that they are settled
-abbrev pub true_display : ℕ → Spelled → List ℕ
-true_display cycle design = show_text cycle 1 ++ table_lines design design.flat.registers (truth design.flat no_rows cycle)
+-- at least that was written
+abbrev pub WritesAtLeast : Option (List ℕ) → Option (List ℕ) → List ℕ → Type 0
+WritesAtLeast old new front = (more : List ℕ) × Appends old new (front ++ more)
 
--- These bytes were taken, and the input ended with them or not. The lines of their commands were written, but at
--- 4 and 5 perhaps only a front of these.
-pub record Lived (left_old left_new written_old written_new : Option (List ℕ)) (bytes : List ℕ) (ended : Bool) (status : ℕ) : Type 0 where
+-- whether the last of these is `quit`
+abbrev pub end_with_quit : List (Result Asked TextFault) → Bool
+end_with_quit [] = false
+end_with_quit (x ∷ []) = is_quit x
+end_with_quit (x ∷ y ∷ xs) = end_with_quit (y ∷ xs)
+
+-- Of these bytes those of the last read, at most 65,536, are behind others that ask for fewer commands than so many.
+abbrev pub AreSoon : (count : ℕ) → (bytes : List ℕ) → Type 0
+AreSoon count bytes =
+    (early : List ℕ) × (last : List ℕ) × (bytes ≡ early ++ last) × (length last ≤ 65536) × (length (asks false 1 early) < count)
+
+-- at how many of these the shelf failed
+abbrev pub count_broken : List Told → ℕ
+count_broken [] = 0
+count_broken (t ∷ ts) = (if list_any is_broken t.loads then 1 else 0) + count_broken ts
+
+-- the count of faults has risen by so many, or stands at its last value
+abbrev pub RisesBy : (count before behind : ℕ) → Type 0
+RisesBy zero before behind = behind ≡ before
+RisesBy (suc n) before behind = behind ≡ min (before + suc n) (2 ^ 64 - 1)
+
+-- the loads of the first of these, where that is an edit
+abbrev pub loads_first : List (Result Asked TextFault) → List LoadedFile
+loads_first [] = []
+loads_first (Ok asked ∷ rest) = loads_of asked
+loads_first (Err fault ∷ rest) = []
+
+-- the lines that tell the truth of a design at a world's cycle: the registers of a run from reset on the record, and that they are settled
+abbrev pub true_display : World → (prefix : List ℕ) → Spelled → List ℕ
+true_display w prefix design =
+    show_text (cycle w) w.version ++ table_lines design prefix design.flat.registers (true_registers design w.record_ (cycle w))
+
+-- These bytes were taken, and the input ended with them or not. The lines of their commands were written, but at 4 and 5 perhaps only a front
+-- of these.
+pub record Lived (st : Settings) (left_old left_new written_old written_new : Option (List ℕ)) (answers_old answers_new : Option (List ShelfAnswer))
+    (faults_old faults_new : ℕ) (bytes : List ℕ) (ended : Bool) (status : ℕ) : Type 0 where
   -- what the source had left is the bytes taken, and then what it has left now
   pub consumed : Consumes left_old left_new bytes
   pub at_end : ended ≡ true → IsAtEnd left_new
-  -- commands from the first on, each with what its text comes to
+  -- commands from the first on, each with what the shelf answered and its files come to
   pub told : List Told
-  pub right : AreRight fresh told
+  pub right : AreRight st fresh told
   -- they are all commands of these bytes, but at 4 and 5 perhaps only the first ones
-  pub all : status ≢ 4 → status ≢ 5 → commands_of told ≡ commands bytes ended
-  pub begins : Begins (commands_of told) (commands bytes ended)
-  -- and begin those that these bytes have where the input ends with them: so at 4 and 5 it is one whether or not the
-  -- source has anything left
-  pub begins_all : Begins (commands_of told) (commands bytes true)
-  -- at 0 and 1 the input was read to its end, and 1 says that a command was refused
-  pub whole : (status ≡ 0) ⊎ (status ≡ 1) → ended ≡ true
-  pub judged : (status ≡ 0) ⊎ (status ≡ 1) → status ≡ (if any_refused told fresh then 1 else 0)
+  pub all : status ≢ 4 → status ≢ 5 → asked_of told ≡ commands bytes ended
+  pub begins : (rest : List (Result Asked TextFault)) × (commands bytes ended ≡ asked_of told ++ rest)
+  -- and begin those that these bytes have where the input ends with them: so at 4 and 5 it is one whether or not the source has anything left
+  pub begins_all : Continues (asked_of told) (commands bytes true)
+  -- at 0 and 1 the input was read to its end or to `quit`, and 1 says that a command was refused
+  pub whole : (status ≡ 0) ⊎ (status ≡ 1) → (ended ≡ true) ⊎ (end_with_quit (commands bytes ended) ≡ true)
+  pub judged : (status ≡ 0) ⊎ (status ≡ 1) → status ≡ (if any_refused st told fresh then 1 else 0)
   -- at 3 and 6 it wasn't
   pub cut : (status ≡ 3) ⊎ (status ≡ 6) → ended ≡ false
-  pub written : status ≢ 4 → status ≢ 5 → Appends written_old written_new (lines told fresh)
-  pub front : WritesFront written_old written_new (lines told fresh)
-  -- where a display of a design stands among the commands, the lines tell its truth
-  pub settled : (before rest : List Told) (line : ℕ) (t : Told) (design : Spelled) → before ++ t ∷ rest ≡ told → t.command ≡ Display line
-      → (world_after before fresh).design ≡ Some design
-      → lines told fresh ≡ lines before fresh ++ (true_display (world_after before fresh).cycle design ++ lines rest (after t (world_after before fresh)))
-  -- 6 comes exactly where too much was taken, but where the sink failed or memory ran out
+  -- what the shelf answered: to each load that is reached, in their order; where memory ran out also to the first loads of the next command
+  pub lost : List ShelfAnswer
+  pub answered : AddsAnswers answers_old answers_new (answers_of told ++ lost)
+  pub none_lost : status ≢ 5 → lost ≡ []
+  pub lost_first : AreToFirst (loads_first begins.0) lost
+  -- its count has risen by as many as there are commands at which it failed; where memory ran out perhaps by one more
+  pub failed : RisesBy (count_broken told) faults_old faults_new ⊎ ((status ≡ 5) × RisesBy (count_broken told + 1) faults_old faults_new)
+  -- what was written: the lines of these commands; at 4 and 5 a front of them, with at least those of all but the last command
+  pub written : status ≢ 4 → status ≢ 5 → Appends written_old written_new (lines st told fresh)
+  pub front : WritesFront written_old written_new (lines st told fresh)
+  pub most : (before : List Told) (last : Told) → before ++ last ∷ [] ≡ told → WritesAtLeast written_old written_new (lines st before fresh)
+  -- where a display that there is room for stands among the commands, behind an accepted edit, the lines tell its truth
+  pub settled : (before rest : List Told) (line : ℕ) (prefix : List ℕ) (t : Told) (design : Spelled) → before ++ t ∷ rest ≡ told → t.asked ≡ Ok (Shows line prefix)
+      → (world_after st before fresh).design ≡ Some design → (world_after st before fresh).charge < st.room
+      → lines st told fresh ≡ lines st before fresh ++ (true_display (world_after st before fresh) prefix design ++ lines st rest (after st t (world_after st before fresh)))
+  -- 6 comes exactly where too much was taken
   pub too_much : status ≡ 6 → 67108864 < length bytes
-  pub not_too_much : 67108864 < length bytes → status ≢ 4 → status ≢ 5 → status ≡ 6
+  pub not_too_much : 67108864 < length bytes → status ≡ 6
+  -- at 4, and where the script quit: once the last command that is told was complete, nothing more was read
+  pub soon : (status ≡ 4) ⊎ (end_with_quit (asked_of told) ≡ true) → AreSoon (length told) bytes
 
 -- at status 0, 1 or 5, where nothing outside failed and the script isn't too long
 abbrev pub IsComplete : ℕ → Type 0

@@ -1,28 +1,17 @@
 // The top call: a script's bytes come in, reply bytes go out.
 //
-// `live` reads the input and writes the replies; `script` and `scan` cut it into lines, words and blocks; `session` carries commands out and
-// answers each with a `reply`: `take_block` has a first block planned (`block_edit`, `taken`), and `running` is the design that runs, by `advancing`.
-// `laws` says that texts and commands have one answer, and that displays tell the truth.
+// `live` reads the words of the command line, and then command after command: `turning` reads one and has a session carry it out, which comes to a
+// `turn`, and `writing` writes its lines before more is read. `ending` says how the reading ended, `outcome` how the run did.
 #![tactic(auto)]
 
-mod advancing;
-mod block;
-mod block_edit;
-mod block_head;
 mod ending;
-mod laws;
+#[cfg(test)]
+mod limit_tests;
 mod live;
 mod outcome;
-mod reply;
-mod running;
-mod scan;
-mod script;
-mod script_line;
-mod session;
-mod take_block;
-mod taken;
 mod turn;
+mod turning;
+mod writing;
 
-pub use laws::{commands_have_one_output, displays_tell_the_truth, texts_have_one_answer};
 pub use live::live_run;
 pub use outcome::Outcome;

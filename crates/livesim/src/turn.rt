@@ -1,10 +1,10 @@
-// A turn of the run.
-use crate::reply::Reply;
+// A turn of a run.
+use crate::ending::Ending;
+use live_session::Reply;
 
-/// The reply to some commands, the number of the next line, and what is left from there on.
-#[derive(Drop)]
-pub struct Turn<'a> {
-    pub reply: Reply,
-    pub number: u64,
-    pub rest: &'a [u8],
+/// What comes of one command: its reply, or the end.
+#[derive(Debug, Drop)]
+pub enum Turn {
+    Answered(Reply),
+    Over(Ending),
 }

@@ -1,11 +1,11 @@
-// The program: a script on standard input, its replies on standard output.
+// The program: a script on standard input, its replies on standard output, files below the folder that it is run in.
 #![tactic(auto)]
 
 ghost use Rattle.std.specs.Prelude.{◌≡◌, ◌↔◌, ◌⊎◌};
 ghost use Rattle.std.specs.declared.io.ErrorKind.TheVariants.{OutOfMemory};
 
 use livesim::live_run;
-use ls_port::{StdSink, StdSource};
+use ls_port::{FileShelf, StdSink, StdSource};
 use std::process::ExitCode;
 use std::{env, io};
 
@@ -31,6 +31,7 @@ fn main(rt: HostRuntime) -> ExitCode {
     }
     let mut source = StdSource::new(rt.reader());
     let mut sink = StdSink::new(io::writer(&rt));
-    let outcome = live_run(&rt, rt.alloc(), &words, &mut source, &mut sink);
+    let mut shelf = FileShelf::new(&rt);
+    let outcome = live_run(&rt, rt.alloc(), &words, &mut source, &mut sink, &mut shelf);
     ExitCode::from(outcome.status)
 }

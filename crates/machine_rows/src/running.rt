@@ -3,7 +3,7 @@ ghost use Rattle.std.specs.Prelude.{◌≡◌, ◌<◌, IfOk};
 ghost use Rattle.machine.specs.Rows.{Covers};
 
 use crate::designs::design_in;
-use cycle_eval::{Design, NoRow};
+use cycle_eval::Design;
 use machine::Machine;
 use machine::row_run::RowRun;
 use machine::row_runs::RowRuns;
@@ -14,6 +14,7 @@ use std::alloc::Global;
 use std::marker::Brand;
 use std::sync::Arc;
 use std::sync::ledger::{Blank, Ledger};
+use stimulus::Row;
 use typed_ir::{RegState, RegisterId};
 
 /// The values of a state, in hexadecimal, with spaces between them.
@@ -27,15 +28,15 @@ pub fn push_state(out: &mut Vec<u8>, state: &RegState) -> Result<(), NoMemory> {
     Ok(())
 }
 
-// So many rows from cycle 0 on.
-fn rows(alloc: Global, cycles: u64) -> Result<RowRuns<NoRow>, NoMemory>
+// So many rows from cycle 0 on, which set nothing.
+fn rows(alloc: Global, cycles: u64) -> Result<RowRuns<Row>, NoMemory>
     ensures { IfOk result (λ r. Covers r 0 cycles) }
 {
     let mut runs = Vec::new(alloc);
     runs.push(RowRun {
         start: 0,
         end: cycles,
-        row: Arc::new(alloc, NoRow)?,
+        row: Arc::new(alloc, Row::new(alloc))?,
     })?;
     RowRuns::new(0, cycles, runs)
 }

@@ -4,7 +4,7 @@ ghost use Rattle.cycle_eval.specs.Designs.{work_of};
 
 use crate::designs::state_after;
 use bits::Bits;
-use cycle_eval::{Design, NoOps, NoRow};
+use cycle_eval::{Design, NoOps};
 use ls_text::{NameId, Refusal};
 use machine::Machine;
 use machine::steps::Steps;
@@ -13,6 +13,7 @@ use std::alloc::Global;
 use std::marker::Brand;
 use std::sync::ledger::{Blank, Ledger};
 use std::test::Fail;
+use stimulus::Row;
 use typed_ir::{
     ArithmeticOperator, BinaryOperator, Flat, InstanceId, InstanceTable, Lane, Linked, RegState,
     RegisterId, Signal, SignalId, Span, Stmt, Target, Typed,
@@ -105,9 +106,14 @@ fn counts_by_three(rt: HostRuntime) -> Result<(), Fail> {
     Ok(())
 }
 
-// Any two rows are the same, so that a record keeps one run of them.
+// Rows with the same values are the same, so that a record keeps one run of them; a row in which a name is set to 0 is another one.
 #[test]
 fn equal_rows_are_one_run(rt: HostRuntime) -> Result<(), Fail> {
-    assert!(rt; <Design as Machine>::same_row(&NoRow, &NoRow));
+    let alloc = rt.alloc();
+    let none = Row::new(alloc);
+    let zero = none.with(alloc, NameId(3), 0)?;
+    let again = none.with(alloc, NameId(3), 7)?.with(alloc, NameId(3), 0)?;
+    assert!(rt; <Design as Machine>::same_row(&zero, &again));
+    assert!(rt; !<Design as Machine>::same_row(&none, &zero));
     Ok(())
 }

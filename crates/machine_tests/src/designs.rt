@@ -9,7 +9,7 @@ ghost use Rattle.machine.specs.Rows.{Covers};
 
 use bits::Bits;
 use comb_order::{Parts, checked_flat, linked, no_block};
-use cycle_eval::{Design, NoRow};
+use cycle_eval::Design;
 use ls_text::NameId;
 use machine::Machine;
 use machine::row_run::RowRun;
@@ -20,6 +20,7 @@ use std::alloc::Global;
 use std::process::Abort;
 use std::sync::Arc;
 use std::sync::ledger::Ledger;
+use stimulus::Row;
 use typed_ir::{
     ArithmeticOperator, BinaryOperator, InstanceId, InstanceTable, Lane, Node, RegState,
     RegisterId, Signal, SignalId, Span, Stmt, Target, TargetForm, Typed,
@@ -85,15 +86,15 @@ pub fn values_of(alloc: Global, state: &RegState) -> Result<Vec<u128>, NoMemory>
     Ok(values)
 }
 
-// The rows of the cycles 0 to N - 1.
-pub fn rows(alloc: Global, cycles: u64) -> Result<RowRuns<NoRow>, NoMemory>
+// The rows of the cycles 0 to N - 1, which set nothing.
+pub fn rows(alloc: Global, cycles: u64) -> Result<RowRuns<Row>, NoMemory>
     ensures { IfOk result (λ r. Covers r 0 cycles) }
 {
     let mut runs = Vec::new(alloc);
     runs.push(RowRun {
         start: 0,
         end: cycles,
-        row: Arc::new(alloc, NoRow)?,
+        row: Arc::new(alloc, Row::new(alloc))?,
     })?;
     RowRuns::new(0, cycles, runs)
 }

@@ -1,7 +1,7 @@
 // Operations on the registers of an edited design.
 //
-// An edit may say what becomes of registers of a module, in each of its instances: one goes on under another name, a new one begins at a value, one is
-// dropped (`reg_op`). `reg_ops` is a list of these.
+// An edit may say what becomes of registers of a module, in each of its instances: one goes on under another name, a new one begins at a
+// value, one is dropped (`reg_op`). `reg_ops` is a list of these.
 #![tactic(auto)]
 
 mod reg_op;

@@ -12,15 +12,16 @@ mod tests;
 
 use crate::page::{example_of, has, row_of};
 use livesim::live_run;
-use ls_port::{SolidSink, SolidSource};
+use ls_port::{FileShelf, Shelf, SolidSink, SolidSource};
 use std::alloc::Global;
 use std::thread::Threads;
 use std::{fs, io};
 
 // How a script ends and the first line of it that is another one, where it doesn't end with this status and write these lines.
-fn difference<R: Threads + Sync>(
+fn difference<R: Threads + Sync, F: Shelf>(
     rt: &R,
     alloc: Global,
+    shelf: &mut F,
     script: &str,
     lines: &str,
     status: &str,
@@ -28,7 +29,7 @@ fn difference<R: Threads + Sync>(
     let words = vec![in alloc; String::from_str(alloc, "livesim")?]?;
     let mut source = SolidSource::new(Vec::from_slice(alloc, script.as_bytes())?);
     let mut sink = SolidSink::new(alloc);
-    let outcome = live_run(rt, alloc, &words, &mut source, &mut sink);
+    let outcome = live_run(rt, alloc, &words, &mut source, &mut sink, shelf);
     let ended = format!(in alloc; "{}", outcome.status)?;
     if ended.as_str() == status && sink.bytes() == lines.as_bytes() {
         return Ok(None);
@@ -106,7 +107,15 @@ fn main(rt: HostRuntime) -> io::Result<()> {
         let script = format!(in alloc; "{name}.live")?;
         let script = fs::read_to_string(&rt, script.as_str())?;
         let lines = lines_of(&rt, alloc, name)?;
-        match difference(&rt, alloc, script.as_str(), lines.as_str(), status)? {
+        let mut shelf = FileShelf::new(&rt);
+        match difference(
+            &rt,
+            alloc,
+            &mut shelf,
+            script.as_str(),
+            lines.as_str(),
+            status,
+        )? {
             None => count = count.saturating_add(1),
             Some(found) => println!(rt; "{name} differs: {found}")?,
         }

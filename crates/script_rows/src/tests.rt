@@ -1,6 +1,7 @@
 // What no script can reach: reads and writes that fail, scripts that are cut, and limits.
 use livesim::{Outcome, live_run};
-use ls_port::{MemSink, MemSource};
+use ls_port::{MemShelf, MemSink, MemSource, NamedText, Shelf, SolidShelf};
+use ls_text::TextBytes;
 use no_memory::NoMemory;
 use std::alloc::Global;
 use std::test::Fail;
@@ -12,7 +13,32 @@ const TAIL: &[u8] = b"\nendmodule\n.\nend\n";
 
 const OK_EDIT: &[u8] = b"ok edit v=1 built=1 kept=0 from=0\n";
 
-// A script, with the calls that fail: how it ended, and what was written.
+// The words of a command line.
+fn words_of(alloc: Global, given: &[&str]) -> Result<Vec<String>, NoMemory> {
+    let mut words = vec![in alloc; String::from_str(alloc, "livesim")?]?;
+    for word in given {
+        words.push(String::from_str(alloc, word)?)?;
+    }
+    Ok(words)
+}
+
+// A script over a shelf, with the calls that fail: how it ended, and what was written.
+fn shelved<R: Threads + Sync, F: Shelf>(
+    rt: &R,
+    alloc: Global,
+    script: Vec<u8>,
+    reads: Vec<u64>,
+    writes: Vec<u64>,
+    shelf: &mut F,
+) -> Result<(Outcome, Vec<u8>), NoMemory> {
+    let words = words_of(alloc, &[])?;
+    let mut source = MemSource::new(script, reads);
+    let mut sink = MemSink::new(alloc, writes);
+    let outcome = live_run(rt, alloc, &words, &mut source, &mut sink, shelf);
+    Ok((outcome, Vec::from_slice(alloc, sink.bytes())?))
+}
+
+// The same over an empty shelf.
 fn lived<R: Threads + Sync>(
     rt: &R,
     alloc: Global,
@@ -20,11 +46,8 @@ fn lived<R: Threads + Sync>(
     reads: Vec<u64>,
     writes: Vec<u64>,
 ) -> Result<(Outcome, Vec<u8>), NoMemory> {
-    let words = vec![in alloc; String::from_str(alloc, "livesim")?]?;
-    let mut source = MemSource::new(script, reads);
-    let mut sink = MemSink::new(alloc, writes);
-    let outcome = live_run(rt, alloc, &words, &mut source, &mut sink);
-    Ok((outcome, Vec::from_slice(alloc, sink.bytes())?))
+    let mut shelf = SolidShelf::new(alloc, Vec::new(alloc));
+    shelved(rt, alloc, script, reads, writes, &mut shelf)
 }
 
 // The bytes of some parts, one after another.
@@ -69,6 +92,38 @@ fn limits_of_a_text(rt: HostRuntime) -> Result<(), Fail> {
     Ok(())
 }
 
+// What a script answers to its first lines, cut behind so many bytes of the block or of what follows it.
+fn answer_to_the_block(length: usize, whole: usize) -> &'static [u8] {
+    match length {
+        0 => b"",
+        1 => b"refused 60 BadCommand @1 e\n",
+        2 => b"refused 60 BadCommand @1 ed\n",
+        3 => b"refused 60 BadCommand @1 edi\n",
+        _ if length < whole => b"refused 66 Unfinished @1 -\n",
+        _ => b"refused 29 UnknownName a.v:3:36 e\n",
+    }
+}
+
+fn answer_to_the_run(behind: usize) -> &'static [u8] {
+    match behind {
+        0 | 1 => b"",
+        2 => b"refused 60 BadCommand @11 r\n",
+        3 => b"refused 60 BadCommand @11 ru\n",
+        4 | 5 => b"refused 60 BadCommand @11 -\n",
+        _ => b"refused 62 NoDesign @11 -\n",
+    }
+}
+
+fn answer_to_the_show(behind: usize) -> &'static [u8] {
+    match behind {
+        0..=7 => b"",
+        8 => b"refused 60 BadCommand @12 s\n",
+        9 => b"refused 60 BadCommand @12 sh\n",
+        10 => b"refused 60 BadCommand @12 sho\n",
+        _ => b"refused 62 NoDesign @12 -\n",
+    }
+}
+
 // A script, cut at each of its lengths.
 #[test]
 fn scripts_are_cut(rt: HostRuntime) -> Result<(), Fail> {
@@ -84,22 +139,14 @@ fn scripts_are_cut(rt: HostRuntime) -> Result<(), Fail> {
     let script = joined(alloc, &[&block, b"\nrun 5\nshow\n"])?;
     for length in 0..script.len() + 1 {
         let behind = length.saturating_sub(block.len());
-        let first: &[u8] = match length {
-            0 => b"",
-            _ if length < block.len() => b"refused 90 NotBuilt @1 -\n",
-            _ => b"refused 29 UnknownName a.v:3:36 e\n",
-        };
-        let second: &[u8] = match behind {
-            0 | 1 => b"",
-            2..=5 => b"refused 90 NotBuilt @11 -\n",
-            _ => b"refused 62 NoDesign @11 -\n",
-        };
-        let third: &[u8] = match behind {
-            0..=7 => b"",
-            8..=10 => b"refused 90 NotBuilt @12 -\n",
-            _ => b"refused 62 NoDesign @12 -\n",
-        };
-        let want = joined(alloc, &[first, second, third])?;
+        let want = joined(
+            alloc,
+            &[
+                answer_to_the_block(length, block.len()),
+                answer_to_the_run(behind),
+                answer_to_the_show(behind),
+            ],
+        )?;
         let bytes = Vec::from_slice(alloc, &script[..length])?;
         let (outcome, written) = lived(&rt, alloc, bytes, Vec::new(alloc), Vec::new(alloc))?;
         assert_eq!(rt; outcome.status, u8::from(length > 0));
@@ -109,7 +156,7 @@ fn scripts_are_cut(rt: HostRuntime) -> Result<(), Fail> {
     Ok(())
 }
 
-// Three commands, each behind a comment of 65,536 bytes, with a read or a write that fails.
+// Three commands, each behind a comment of 65,536 bytes, with a read or a write that fails. Each is answered before more is read.
 #[test]
 fn the_outside_fails(rt: HostRuntime) -> Result<(), Fail> {
     let alloc = rt.alloc();
@@ -121,20 +168,20 @@ fn the_outside_fails(rt: HostRuntime) -> Result<(), Fail> {
         script.extend_from_slice(b"\nfrob\n")?;
     }
     let lines: &[u8] =
-        b"refused 90 NotBuilt @2 -\nrefused 90 NotBuilt @4 -\nrefused 90 NotBuilt @6 -\n";
+        b"refused 60 BadCommand @2 frob\nrefused 60 BadCommand @4 frob\nrefused 60 BadCommand @6 frob\n";
     // The read and the write that fail, the status, the bytes taken and the bytes written.
     let rows: [(u64, u64, u8, u64, usize); 11] = [
         (0, 9, 3, 0, 0),
         (1, 9, 3, 65_536, 0),
-        (2, 9, 3, 131_072, 25),
-        (3, 9, 3, 196_608, 50),
-        (4, 9, 3, 196_623, 75),
-        (5, 9, 1, 196_623, 75),
-        (9, 0, 4, 196_623, 0),
-        (9, 1, 4, 196_623, 25),
-        (9, 2, 4, 196_623, 50),
-        (9, 3, 1, 196_623, 75),
-        (3, 1, 4, 196_608, 25),
+        (2, 9, 3, 131_072, 30),
+        (3, 9, 3, 196_608, 60),
+        (4, 9, 3, 196_623, 90),
+        (5, 9, 1, 196_623, 90),
+        (9, 0, 4, 131_072, 0),
+        (9, 1, 4, 196_608, 30),
+        (9, 2, 4, 196_623, 60),
+        (9, 3, 1, 196_623, 90),
+        (3, 1, 4, 196_608, 30),
     ];
     for (read, write, status, taken, length) in rows {
         let bytes = Vec::from_slice(alloc, &script)?;
@@ -149,6 +196,54 @@ fn the_outside_fails(rt: HostRuntime) -> Result<(), Fail> {
         assert_eq!(rt; outcome.taken, taken);
         assert!(rt; written.as_slice() == &lines[..length]);
     }
+    Ok(())
+}
+
+// A read that fails behind all commands leaves their lines; behind `quit` there is none.
+#[test]
+fn a_read_fails_behind_the_commands(rt: HostRuntime) -> Result<(), Fail> {
+    let alloc = rt.alloc();
+    let body: &[u8] = b"reg [7:0] acc = 8'h00;\nalways @(posedge clk) acc <= acc + 8'h03;";
+    let lines: &[u8] =
+        b"ok edit v=1 built=1 kept=0 from=0\nok run cycle=5\nshow cycle=5 settled v=1\ntop.acc 0f\n";
+    let script = joined(alloc, &[HEAD, body, TAIL, b"run 5\nshow\n"])?;
+    let (outcome, written) = lived(&rt, alloc, script, vec![in alloc; 1]?, Vec::new(alloc))?;
+    assert_eq!(rt; outcome.status, 3);
+    assert!(rt; written.as_slice() == lines);
+    let script = Vec::from_slice(alloc, b"quit\nfrob\n")?;
+    let (outcome, written) = lived(&rt, alloc, script, vec![in alloc; 1]?, Vec::new(alloc))?;
+    assert_eq!(rt; outcome.status, 0);
+    assert_eq!(rt; outcome.taken, 10);
+    assert!(rt; written.as_slice() == b"ok quit\n".as_slice());
+    Ok(())
+}
+
+// A shelf that fails once: the edit is refused and the run goes on.
+#[test]
+fn a_shelf_fails_once(rt: HostRuntime) -> Result<(), Fail> {
+    let alloc = rt.alloc();
+    let text = b"module top(input clk);\nreg acc;\nalways @(posedge clk) acc <= 1'b1;\nendmodule\n";
+    let texts = vec![in alloc;
+        NamedText {
+            name: TextBytes::new(Vec::from_slice(alloc, b"a.v")?),
+            text: TextBytes::new(Vec::from_slice(alloc, text)?),
+        },
+    ]?;
+    let mut shelf = MemShelf::new(alloc, texts, vec![in alloc; 0]?);
+    let block: &[u8] = b"edit\ntop top\nload a.v\nend\n";
+    let script = joined(alloc, &[block, block])?;
+    let (outcome, written) = shelved(
+        &rt,
+        alloc,
+        script,
+        Vec::new(alloc),
+        Vec::new(alloc),
+        &mut shelf,
+    )?;
+    let want = joined(alloc, &[b"refused 67 ShelfFault @3 a.v\n", OK_EDIT])?;
+    assert_eq!(rt; outcome.status, 1);
+    assert!(rt; written.as_slice() == want.as_slice());
+    assert_eq!(rt; shelf.answers().len(), 2);
     Ok(())
 }
 
@@ -201,20 +296,48 @@ fn limit_of_the_input(rt: HostRuntime) -> Result<(), Fail> {
 #[test]
 fn other_words_are_refused(rt: HostRuntime) -> Result<(), Fail> {
     let alloc = rt.alloc();
-    let words = vec![in alloc;
-        String::from_str(alloc, "livesim")?,
-        String::from_str(alloc, "x")?,
-    ]?;
-    let mut source = MemSource::new(Vec::from_slice(alloc, b"show\n")?, Vec::new(alloc));
-    let mut sink = MemSink::new(alloc, Vec::new(alloc));
-    let outcome = live_run(&rt, alloc, &words, &mut source, &mut sink);
-    assert_eq!(rt;
-        outcome,
-        Outcome {
-            status: 2,
-            taken: 0
-        }
-    );
-    assert!(rt; sink.bytes().is_empty());
+    let rows: [[&str; 2]; 3] = [["--workers", "65"], ["--interval", "0"], ["x", "y"]];
+    for given in rows {
+        let words = words_of(alloc, &given)?;
+        let mut source = MemSource::new(Vec::from_slice(alloc, b"show\n")?, Vec::new(alloc));
+        let mut sink = MemSink::new(alloc, Vec::new(alloc));
+        let mut shelf = SolidShelf::new(alloc, Vec::new(alloc));
+        let outcome = live_run(&rt, alloc, &words, &mut source, &mut sink, &mut shelf);
+        assert_eq!(rt;
+            outcome,
+            Outcome {
+                status: 2,
+                taken: 0
+            }
+        );
+        assert!(rt; sink.bytes().is_empty());
+    }
+    Ok(())
+}
+
+// Words that are taken.
+#[test]
+fn options_are_taken(rt: HostRuntime) -> Result<(), Fail> {
+    let alloc = rt.alloc();
+    let rows: [&[&str]; 3] = [
+        &["--workers", "0", "--interval", "2", "--lookback", "1"],
+        &["--lookback=1099511627776", "--workers=64"],
+        &["--interval", "1000000000"],
+    ];
+    for given in rows {
+        let words = words_of(alloc, given)?;
+        let mut source = MemSource::new(Vec::from_slice(alloc, b"quit\nfrob\n")?, Vec::new(alloc));
+        let mut sink = MemSink::new(alloc, Vec::new(alloc));
+        let mut shelf = SolidShelf::new(alloc, Vec::new(alloc));
+        let outcome = live_run(&rt, alloc, &words, &mut source, &mut sink, &mut shelf);
+        assert_eq!(rt;
+            outcome,
+            Outcome {
+                status: 0,
+                taken: 10
+            }
+        );
+        assert!(rt; sink.bytes() == b"ok quit\n".as_slice());
+    }
     Ok(())
 }

@@ -31,3 +31,4 @@ pub mod LinkAlike
 pub mod ShownFault
 pub mod TwoPlans
 pub mod PlansAreOne
+pub mod PlanNames

@@ -22,6 +22,7 @@ use Rattle.rename_laws.specs.Findings.{unit_signal_as}
 use Rattle.link.specs.Faults.{IsLinkFault, too_many, loop_of, HasNoLinkFault}
 use Rattle.link.specs.Names.{joined, select_text, first_target, target_text, form_of, node_text}
 use Rattle.unit_laws.specs.FlatRenaming.{flat_as}
+use Rattle.version_swap.specs.OnePlan.{last_text}
 use Rattle.version_swap.proofs.FlatAlike.{IsSignalIn}
 
 -- ---- paths
@@ -41,6 +42,19 @@ path_spelled f texts others [] same = refl
 path_spelled f texts others (n ∷ []) same = same (record { 0 = n })
 path_spelled f texts others (n ∷ m ∷ path) same =
     ap₂ (λ (text more : List ℕ). text ++ (codes "." ++ more)) (same (record { 0 = n })) (path_spelled f texts others (m ∷ path) same)
+
+pub own_grown : (old new : List (List ℕ)) (path : List ℕ) → Grows old new → All (λ (n : ℕ). n < length old) path
+    → last_text new path ≡ last_text old path
+own_grown old new [] grows within = refl
+own_grown old new (n ∷ []) grows within = grown_text old new n grows (All-head (λ (m : ℕ). m < length old) n [] within)
+own_grown old new (n ∷ m ∷ path) grows within =
+    own_grown old new (m ∷ path) grows (All-tail (λ (k : ℕ). k < length old) n (m ∷ path) within)
+
+pub own_spelled : (f : NameId → NameId) (texts others : List (List ℕ)) (path : List ℕ) → SpellsSame f texts others
+    → last_text others (map (number_as f) path) ≡ last_text texts path
+own_spelled f texts others [] same = refl
+own_spelled f texts others (n ∷ []) same = same (record { 0 = n })
+own_spelled f texts others (n ∷ m ∷ path) same = own_spelled f texts others (m ∷ path) same
 
 -- ---- nodes
 

@@ -1,5 +1,5 @@
 -- When two plans are one, whatever tables of names they are read with: their texts are the same, and all that has numbers but those of names.
-use Rattle.std.specs.Prelude.{◌≡◌, ◌<◌, ⊤, ℕ, List, [], length, map, Option, Some, None, Result, Ok, Err}
+use Rattle.std.specs.Prelude.{◌≡◌, ◌<◌, ⊤, ℕ, List, [], ◌∷◌, length, map, Option, Some, None, Result, Ok, Err}
 use Rattle.ls_text.specs.declared.name_id.NameId.{NameId}
 use Rattle.ls_text.specs.declared.source_file.SourceFile.{SourceFile}
 use Rattle.ls_text.specs.Readings.{TextFault}
@@ -20,6 +20,16 @@ nameless x = record x { in_module = 0; path = [] }
 abbrev pub path_text : (names : List (List ℕ)) → Signal → List ℕ
 path_text names x = joined names x.path
 
+-- the text of the last of these names
+abbrev pub last_text : (names : List (List ℕ)) → List ℕ → List ℕ
+last_text names [] = []
+last_text names (n ∷ []) = text_at names n
+last_text names (n ∷ m ∷ ns) = last_text names (m ∷ ns)
+
+-- what a signal is called within its instance
+abbrev pub own_text : (names : List (List ℕ)) → Signal → List ℕ
+own_text names x = last_text names x.path
+
 abbrev pub module_text : (names : List (List ℕ)) → Signal → List ℕ
 module_text names x = text_at names x.in_module
 
@@ -28,6 +38,7 @@ pub record IsSameDesign (names others : List (List ℕ)) (d e : DesignOfTexts) :
   pub keys : d.keys ≡ e.keys
   pub signals : map nameless d.design.signals ≡ map nameless e.design.signals
   pub paths : map (path_text names) d.design.signals ≡ map (path_text others) e.design.signals
+  pub own : map (own_text names) d.design.signals ≡ map (own_text others) e.design.signals
   pub modules : map (module_text names) d.design.signals ≡ map (module_text others) e.design.signals
   pub registers : d.design.registers ≡ e.design.registers
   pub inputs : d.design.inputs ≡ e.design.inputs

@@ -1,4 +1,4 @@
-use Rattle.std.proofs.Common.{◌≡◌, ◌+◌, ◌≤◌, ◌<◌, true, length}
+use Rattle.std.proofs.Common.{◌≡◌, ◌+◌, ◌≤◌, true, length}
 use Rattle.ls_text.specs.Texts.{Grows}
 use Rattle.command_read.specs.Lines.{script_lines}
 use Rattle.command_read.specs.Blocks.{reading_of, begun_at}

@@ -1,45 +1,66 @@
-use Rattle.std.proofs.Common.{◌≡◌, List, ℕ, subst, ◌||◌, ◌++◌, sym, ap, ◌∙◌, arith}
-use Rattle.livesim.specs.Script.{script_lines}
-use Rattle.livesim.specs.Commands.{command_at, commands_from}
-use Rattle.livesim.specs.Runs.{LeavesToWrite}
-use Rattle.livesim.specs.Sessions.{world}
-use Rattle.livesim.proofs.Turns.{Done, next_commands, more_done, front_carries, err_carries}
+use Rattle.std.proofs.Common.{◌≡◌, ◌||◌, inl, inr, [], refl, ap, ◌∙◌, subst, arith}
+use Rattle.std.proofs.KnownBytes.{Appends-nil}
+use Rattle.std.specs.Io.KnownBytes.{Appends}
+use Rattle.live_session.specs.Sessions.{settings_of}
+use Rattle.livesim.specs.Settings.{settings}
+use Rattle.livesim.specs.Writing.{Writes}
+use Rattle.livesim.proofs.Over.{over_lived, quit_lived, sink_lived}
+use Rattle.livesim.proofs.Turns.{none_done, turn_done}
 use Rattle.livesim.proofs.live.carry_out.Goals as goal
 use Rattle.livesim.proofs.live.carry_out.Goals.{then-refused, else-refused}
 
-pub loop-line-preserved : goal.loop-line-preserved
-loop-line-preserved g c =
-    let turn = c.in-Ok.turn in
-    let after = script_lines c.in-Some.after.now in
-    let now = command_at c.args.ended c.loop-line.number c.read_line-form.result after in
-    let later = commands_from c.args.ended turn.number 0 (script_lines turn.rest.now) in
-    let split = next_commands c.args.ended c.loop-line.number (script_lines c.loop-line.rest.now) c.in-Some.line.now after c.read_line-form.result c.in-Some.ensures.line c.read_line-form.ensures.form
-    ∙ ap (λ os. now ++ os) c.in-Ok.ensures.rest in
-    let so_far : c.if-refused.refused ≡ (c.loop-line.refused || turn.reply.refused)
-    = elim c.if-refused.branch [ then-refused w ↦ grind arith | else-refused w ↦ grind arith ] in
-    let x = world c.line_turn.new.session in
-    let text = turn.reply.text.items in
-    let written = rw c.deref.ensures.value at c.in_ok-write_all.ensures.written in
-    let more = more_done _ _ now later _ x _ _ _ text turn.reply.refused c.loop-line.refused c.loop-line.invariant.done split c.in-Ok.ensures.replies written in
-    record {
-      done = subst (Done _ later x _ _) (sym so_far) more;
-      few = omega (arith, c.in-Some.ensures.shorter, c.in-Ok.ensures.shorter);
-      later = omega (arith, c.in_ok-write_all.ensures.later);
-      kept = c.in_ok-write_all.ensures.kept ∙ c.loop-line.invariant.kept;
-    }
+pub commands-init : goal.commands-init
+commands-init g c = record {
+  done = λ o. (
+    [],
+    none_done (settings o) _ _ c.args.session.now c.args.reader.now c.requires.begins c.requires.left c.requires.number c.requires.taken c.requires.ended,
+    Appends-nil _,
+  );
+  limits = c.requires.limits;
+  going = c.requires.going;
+  read = refl;
+  kept = refl;
+}
 
-pub returns-in_err-write_all-clause-carries : goal.returns-in_err-write_all-clause-carries
-returns-in_err-write_all-clause-carries g c =
-    let turn = c.in-Ok.turn in
-    let after = script_lines c.in-Some.after.now in
-    let now = command_at c.args.ended c.loop-line.number c.read_line-form.result after in
-    let later = commands_from c.args.ended turn.number 0 (script_lines turn.rest.now) in
-    let split = next_commands c.args.ended c.loop-line.number (script_lines c.loop-line.rest.now) c.in-Some.line.now after c.read_line-form.result c.in-Some.ensures.line c.read_line-form.ensures.form
-    ∙ ap (λ os. now ++ os) c.in-Ok.ensures.rest in
-    let x = world c.line_turn.new.session in
-    let text = turn.reply.text.items in
-    let front = c.write_all.ensures.front in
-    let Left : List ℕ → Type 0 = λ t. LeavesToWrite (g.K.Sink.written c.loop-line.sink) (g.K.Sink.written c.write_all.new.sink) front.0 t in
-    let written = subst Left c.deref.ensures.value front.1 in
-    err_carries _ _ _ _ c.from_residual.ensures.0
-    (λ e. front_carries _ _ now later _ x _ _ _ text turn.reply.refused c.loop-line.refused c.loop-line.invariant.done split c.in-Ok.ensures.replies e (front.0, written))
+pub returns-in-Over-clause-lived : goal.returns-in-Over-clause-lived
+returns-in-Over-clause-lived g c = λ o.
+    let so = c.commands.invariant.done o in
+    over_lived (settings o) _ _ _ _ _ _ _ _ c.commands.session c.commands.reader c.turn.new.reader c.commands.refused so.0 so.2 so.1 c.in-Over.ending c.in-Over.ensures.turned _ c.status_of.ensures
+
+pub returns-in-Err-Failed-clause-lived : goal.returns-in-Err-Failed-clause-lived
+returns-in-Err-Failed-clause-lived g c = λ o.
+    let so = c.commands.invariant.done o in
+    sink_lived o _ _ _ _ _ _ c.commands.session c.turn.new.session c.commands.reader c.turn.new.reader c.commands.refused so.0 c.in-Answered.reply c.commands.invariant.limits
+    so.1 c.in-Answered.ensures.turned _ _ _ so.2 (subst (Writes _ _) c.bytes.ensures c.in-Err-Failed.ensures.front) 4 (inl refl)
+
+pub returns-in-Err-NoMemory-clause-lived : goal.returns-in-Err-NoMemory-clause-lived
+returns-in-Err-NoMemory-clause-lived g c = λ o.
+    let so = c.commands.invariant.done o in
+    sink_lived o _ _ _ _ _ _ c.commands.session c.turn.new.session c.commands.reader c.turn.new.reader c.commands.refused so.0 c.in-Answered.reply c.commands.invariant.limits
+    so.1 c.in-Answered.ensures.turned _ _ _ so.2 (subst (Writes _ _) c.bytes.ensures c.in-Err-NoMemory.ensures.front) 5 (inr refl)
+
+pub returns-then-reply-clause-lived : goal.returns-then-reply-clause-lived
+returns-then-reply-clause-lived g c = λ o.
+    let so = c.commands.invariant.done o in
+    let a = c.in-Answered.ensures.turned in
+    let refuses : (c.commands.refused || c.in-Answered.reply.refused) ≡ c.if-refused.refused
+    = elim c.if-refused.branch [ then-refused w ↦ grind arith | else-refused w ↦ grind arith ] in
+    let done = turn_done o _ _ _ _ _ _ c.commands.session c.turn.new.session c.commands.reader c.turn.new.reader c.commands.refused so.0 c.in-Answered.reply
+    c.commands.invariant.limits so.1 a _ _ _ c.if-refused.refused _ refuses c.if-reply.true so.2 (subst (Appends _ _) c.bytes.ensures c.in-Ok.ensures.written) in
+    quit_lived (settings o) _ _ _ _ _ _ c.turn.new.session c.turn.new.reader c.if-refused.refused _ done.0 done.2 done.1 refl a.going _ c.status_of-then-reply.ensures
+
+pub commands-preserved : goal.commands-preserved
+commands-preserved g c =
+    let a = c.in-Answered.ensures.turned in
+    let refuses : (c.commands.refused || c.in-Answered.reply.refused) ≡ c.if-refused.refused
+    = elim c.if-refused.branch [ then-refused w ↦ grind arith | else-refused w ↦ grind arith ] in
+    record {
+      done = λ o.
+          let so = c.commands.invariant.done o in
+          turn_done o _ _ _ _ _ _ c.commands.session c.turn.new.session c.commands.reader c.turn.new.reader c.commands.refused so.0 c.in-Answered.reply
+          c.commands.invariant.limits so.1 a _ _ _ c.if-refused.refused _ refuses c.if-reply.false so.2 (subst (Appends _ _) c.bytes.ensures c.in-Ok.ensures.written);
+      limits = λ options. ap (settings_of options.interval options.lookback) c.turn.ensures.limits ∙ c.commands.invariant.limits options;
+      going = a.going;
+      read = a.reads.takes.unfailed (λ failed. grind arith) ∙ c.commands.invariant.read;
+      kept = c.in-Ok.ensures.kept ∙ c.commands.invariant.kept;
+    }

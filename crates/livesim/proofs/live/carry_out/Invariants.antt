@@ -1,18 +1,29 @@
-use Rattle.std.proofs.Common.{◌≡◌, ◌+◌, ◌≤◌, length}
-use Rattle.livesim.specs.Script.{script_lines}
-use Rattle.livesim.specs.Commands.{commands_from, line_commands}
-use Rattle.livesim.specs.Sessions.{world}
+use Rattle.std.proofs.Common.{◌≡◌, List, None, false}
+use Rattle.std.specs.Io.KnownBytes.{Appends}
+use Rattle.command_read.specs.Readers.{still_of, stopped}
+use Rattle.live_options.specs.Words.{OptionsOf}
+use Rattle.live_session.specs.Replies.{lines}
+use Rattle.live_session.specs.Verdicts.{Told}
+use Rattle.live_session.specs.Worlds.{fresh}
+use Rattle.livesim.specs.Settings.{settings}
+use Rattle.livesim.specs.Turns.{HasLimits, source_at, shelf_at}
 use Rattle.livesim.proofs.Turns.{Done}
 use Rattle.livesim.proofs.live.carry_out.Given as goal
 
--- what was carried out, and the commands that are left
-abbrev pub invariant-loop-line : goal.invariant-loop-line
-invariant-loop-line g l = record {
-  done : Done (line_commands l.ended l.bytes) (commands_from l.ended l.number 0 (script_lines l.rest)) (world l.session) (g.K.Sink.written l.initial.sink) (g.K.Sink.written l.sink) l.refused;
-  few : l.number + length l.rest ≤ length l.bytes + 1;
-  later : g.K.Sink.faults l.initial.sink ≤ g.K.Sink.faults l.sink;
+-- the commands so far are carried out and their lines written, whatever the options are
+abbrev pub invariant-commands : goal.invariant-commands
+invariant-commands g l = record {
+  done : (o : OptionsOf)
+      → (told : List Told)
+      × Done (settings o) (source_at (g.S.Source.left l.initial.source) (g.S.Source.faults l.initial.source)) (source_at (g.S.Source.left l.source) (g.S.Source.faults l.source))
+      (shelf_at (g.F.Shelf.answers l.initial.shelf) (g.F.Shelf.faults l.initial.shelf)) (shelf_at (g.F.Shelf.answers l.shelf) (g.F.Shelf.faults l.shelf)) l.session l.reader
+      l.refused false told
+      × Appends (g.K.Sink.written l.initial.sink) (g.K.Sink.written l.sink) (lines (settings o) told fresh);
+  limits : HasLimits l.session;
+  going : stopped l.reader ≡ None;
+  read : g.S.Source.faults l.source ≡ g.S.Source.faults l.initial.source;
   kept : g.K.Sink.faults l.sink ≡ g.K.Sink.faults l.initial.sink;
 }
 
-abbrev pub decreases-loop-line : goal.decreases-loop-line
-decreases-loop-line g l = length l.rest
+abbrev pub decreases-commands : goal.decreases-commands
+decreases-commands g l = still_of l.reader

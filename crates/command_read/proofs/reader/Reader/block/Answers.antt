@@ -1,4 +1,4 @@
-use Rattle.std.proofs.Common.{◌≡◌, ◌⊎◌, inl, inr, ◌+◌, ◌-◌, ◌<◌, ◌∙◌, ◌++◌, ◌∷◌, List, ℕ, [], take, drop, true, false, not, sym, ap, refl, subst, append-nil, true≢false, arith}
+use Rattle.std.proofs.Common.{◌≡◌, inl, ◌+◌, ◌-◌, ◌<◌, ◌∙◌, [], take, drop, false, not, sym, ap, refl, subst, append-nil, true≢false, arith}
 use Rattle.std.specs.Prelude.{codes}
 use Rattle.command_read.specs.Lines.{words, are_just}
 use Rattle.command_read.specs.Scripts.{Within}

@@ -1,4 +1,4 @@
-use Rattle.std.proofs.Common.{◌≡◌, ◌⊎◌, ◌+◌, ◌-◌, ◌<◌, ◌≤◌, ◌++◌, List, ℕ, [], length, take, drop, true, false, None}
+use Rattle.std.proofs.Common.{◌≡◌, ◌⊎◌, ◌+◌, ◌-◌, ◌≤◌, ◌++◌, List, ℕ, [], length, take, drop, true, false, None}
 use Rattle.command_read.specs.Lines.{script_lines}
 use Rattle.command_read.specs.Scripts.{Within}
 use Rattle.command_read.specs.Scanned.{Scanned}

@@ -1,4 +1,4 @@
-use Rattle.std.proofs.Common.{◌++◌, ◌<◌, [], length, refl, sym, append-nil, ◌∙◌, arith}
+use Rattle.std.proofs.Common.{◌<◌, [], length, refl, sym, append-nil, ◌∙◌, arith}
 use Rattle.command_read.proofs.Sources.{takes_end, takes_failed}
 use Rattle.command_read.proofs.reader.Reader.fill.Goals as goal
 

@@ -1,8 +1,9 @@
-use Rattle.std.proofs.Common.{◌≡◌, ◌∙◌, [], take, drop, true, false, not, sym, ap, refl}
+use Rattle.std.proofs.Common.{◌≡◌, ◌∙◌, take, true, sym, ap, arith}
 use Rattle.command_read.specs.Lines.{words, is_skipped}
 use Rattle.command_read.specs.Readers.{left, has_ended}
 use Rattle.command_read.proofs.Skipping.{takes_same, passes_line, skipped_on, line_at_front, no_line_asks, unread_line, unread_skipped}
 use Rattle.command_read.proofs.Soon.{goes_soon, soon_outside}
+use Rattle.command_read.proofs.Still.{still_kept, still_passed}
 use Rattle.command_read.proofs.reader.Reader.first_line.Goals as goal
 
 pub returns-then-not-is_skipped-clause-goes : goal.returns-then-not-is_skipped-clause-goes
@@ -39,6 +40,12 @@ loop-found-preserved g c =
         takes_same _ _ _ _ old mid new gone.0 gone.1 gone.2 c.pass.ensures.taken c.pass.ensures.stop c.pass.ensures.ended,
         skipped_on old mid new gone.1 gone.3 hands c.pass.ensures.ended,
         gone.4,
+      );
+      still = omega (
+        arith,
+        still_passed mid new found.next c.pass.ensures.held c.pass.ensures.taken c.in-Some.ensures.found.more c.in-Some.ensures.found.high,
+        still_kept c.loop-found.self mid second.0 second.1 second.2.counted second.2.holds second.3 mid.sound.most,
+        so_far.still,
       );
       going = c.pass.ensures.stop ∙ c.in-Some.ensures.going;
       unread = unread_skipped _ old mid new (unread_line _ _ _ old c.loop-found.self mid (λ p q. q ∙ p) so_far.unread c.line_at.ensures.unread c.line_at.ensures.number) hands c.pass.ensures.ended;

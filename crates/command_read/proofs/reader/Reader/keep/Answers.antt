@@ -1,4 +1,4 @@
-use Rattle.std.proofs.Common.{◌++◌, [], take, refl, sym, subst, append-nil, arith}
+use Rattle.std.proofs.Common.{[], take, refl, sym, subst, append-nil, arith}
 use Rattle.std.proofs.lemmas.Grind.{common_steps}
 use Rattle.command_read.specs.Readers.{AreKept}
 use Rattle.command_read.proofs.Pieces.{single, left_more}

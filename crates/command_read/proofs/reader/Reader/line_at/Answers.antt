@@ -1,8 +1,6 @@
-use Rattle.std.proofs.Common.{◌≡◌, ◌⊎◌, inl, inr, ◌≤◌, ◌++◌, List, [], false, None, length, drop, refl, not, sym, ap, ◌∙◌, append-nil, append_assoc, length-append, arith}
+use Rattle.std.proofs.Common.{◌≡◌, inl, inr, ◌≤◌, ◌++◌, [], None, length, drop, refl, not, sym, ap, ◌∙◌, append-nil, append_assoc, length-append, arith}
 use Rattle.std.proofs.lemmas.Option.{none-some}
 use Rattle.command_read.specs.declared.stop.Stop.TheVariants.{End}
-use Rattle.command_read.specs.Lines.{script_lines}
-use Rattle.command_read.specs.LineEnds.{line_length}
 use Rattle.command_read.specs.Readers.{left, stopped}
 use Rattle.command_read.proofs.FirstLines.{no_line}
 use Rattle.command_read.proofs.Sources.{takes_nothing, takes_on}

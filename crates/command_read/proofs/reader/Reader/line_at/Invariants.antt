@@ -1,5 +1,4 @@
-use Rattle.std.proofs.Common.{◌≡◌, ◌⊎◌, ℕ, ◌+◌, ◌-◌, ◌≤◌, ◌++◌, Bool, true, false, cond, List, [], length, drop, Option, Some, None}
-use Rattle.command_read.specs.declared.stop.Stop.{Stop}
+use Rattle.std.proofs.Common.{◌≡◌, ◌⊎◌, ℕ, ◌-◌, ◌≤◌, ◌++◌, false, List, [], length, drop, Some, None}
 use Rattle.command_read.specs.declared.stop.Stop.TheVariants.{End}
 use Rattle.command_read.specs.Lines.{script_lines}
 use Rattle.command_read.specs.LineEnds.{line_length}

@@ -1,13 +1,13 @@
-use Rattle.std.proofs.Common.{◌≡◌, ◌-◌, ◌<◌, ◌∙◌, ℕ, [], map, length, sym, ap, subst, arith}
+use Rattle.std.proofs.Common.{◌≡◌, ◌<◌, ◌∙◌, ℕ, [], map, length, sym, ap, subst, arith}
 use Rattle.std.specs.Prelude.{IfOk}
 use Rattle.std.proofs.Math.Logic.{∥∥₁_elim}
 use Rattle.std.proofs.Props.{props}
 use Rattle.std.proofs.lemmas.List.{length-map}
 use Rattle.typed_ir.specs.Valuations.{look}
-use Rattle.typed_ir.specs.Cycles.{base, seg, fill, width_at, IsReady}
+use Rattle.typed_ir.specs.Cycles.{base, fill, width_at, IsReady}
 use Rattle.typed_ir.specs.Views.{env_of}
 use Rattle.cycle_eval.specs.Designs.{design_flat}
-use Rattle.cycle_eval.specs.Kits.{run_of, register_widths}
+use Rattle.cycle_eval.specs.Kits.{driven, run_of, register_widths}
 use Rattle.cycle_eval.specs.States.{paired, state_values}
 use Rattle.typed_ir.proofs.Lists.{written_back}
 use Rattle.cycle_eval.proofs.Laws.{run_is, fill_back, between_length}
@@ -22,7 +22,6 @@ returns-clause-value g c =
     let from = c.args.from.now in
     let xs = state_values from in
     let env = c.in_ok-env.env in
-    let n = c.args.b - c.args.a in
     let start : env_of c.deref_mut.result.now ≡ base flat xs [] = ap env_of c.deref_mut.ensures.value ∙ c.in_ok-env.ensures.value in
     let ready : IsReady flat xs [] (env_of c.deref_mut.result.now) = λ s i free. ap (λ v. look v s i) start in
     let count : length xs ≡ length rs =
@@ -30,13 +29,14 @@ returns-clause-value g c =
     let held : map (env_of c.deref_mut.result.now) rs ≡ xs =
     ap (λ v. map v rs) start
     ∙ ∥∥₁_elim self.linked.design.sound (hlevel props) (λ f. fill_back rs xs (fill flat.inputs [] (λ s. 0)) f.registers_once count) in
-    let ends : map (env_of c.run.new.env) rs ≡ seg flat (λ t. []) 0 n xs = c.run.ensures.value xs [] ready held in
+    let rows = between c.args.rows.now c.args.a c.args.b in
+    let ends : map (env_of c.run.new.env) rs ≡ driven flat rows xs = c.run.ensures.value xs [] ready held in
     let whole : c.deref.result.now ≡ c.run.new.env =
     c.deref.ensures.value ∙ written_back env.len c.run.new.env env.items
     (omega (arith, c.run.auto.env, ap length c.deref_mut.ensures.value)) (omega (arith, c.run.auto.env, c.deref_mut.ensures.len)) in
-    let rows = between c.args._rows.now c.args.a c.args.b in
-    let some : 0 < n = omega (arith, c.requires.covers.rises, c.if-a-b.false) in
+    let some : 0 < length rows =
+    omega (arith, between_length c.args.rows.now c.args.a c.args.b c.requires.covers, c.requires.covers.rises, c.if-a-b.false) in
     let same : paired (register_widths flat) (map (env_of c.deref.result.now) rs) ≡ run_of flat rows from =
     ap (λ e. paired (register_widths flat) (map (env_of e) rs)) whole ∙ ap (paired (register_widths flat)) ends
-    ∙ run_is flat rows n from (between_length c.args._rows.now c.args.a c.args.b c.requires.covers) some in
+    ∙ run_is flat rows from some in
     subst (λ z. IfOk c.state_of.result (λ s. s ≡ z)) same c.state_of.ensures

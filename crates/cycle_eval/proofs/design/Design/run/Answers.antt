@@ -1,30 +1,71 @@
-use Rattle.std.proofs.Common.{◌≡◌, suc, ◌+◌, ◌*◌, ◌∙◌, [], subst, ap, map, arith}
-use Rattle.std.proofs.Math.Nat.{suc-mul}
-use Rattle.typed_ir.specs.Cycles.{input, seg, IsReady}
+use Rattle.std.proofs.Common.{◌≡◌, ◌≤◌, ◌+◌, ◌-◌, ◌*◌, ◌∙◌, map, sym, ap, subst, refl, inl, inr, eq-or-lt_of_le, arith}
+use Rattle.std.proofs.Math.Nat.{add-mul}
+use Rattle.machine.specs.Rows.{between}
+use Rattle.typed_ir.specs.Cycles.{seg, input, IsReady}
 use Rattle.typed_ir.specs.Views.{env_of}
 use Rattle.cycle_eval.specs.Designs.{design_flat, work_of}
+use Rattle.cycle_eval.specs.Inputs.{row_values}
+use Rattle.cycle_eval.specs.Kits.{driven}
+use Rattle.cycle_eval.proofs.Driving.{driven_stretch, nothing_between}
 use Rattle.cycle_eval.proofs.design.Design.run.Goals as goal
 
-pub loop-cycle-preserved : goal.loop-cycle-preserved
-loop-cycle-preserved g c =
+pub loop-at-init : goal.loop-at-init
+loop-at-init g c = record {
+  from = omega arith;
+  within = c.requires.covers.rises;
+  kept = refl;
+  ready = λ state inputs ready start. (inputs, subst (λ s. IsReady (design_flat c.args.self.now) s inputs (env_of c.args.env.now)) (sym start) ready);
+  value = λ state inputs ready start. ap (driven (design_flat c.args.self.now) (between c.args.rows.now c.args.a c.args.b)) start;
+  room = refl;
+  taken = let none : c.args.a - c.args.a ≡ 0 = omega arith in omega (arith, ap (λ k. k * work_of c.args.self.now) none);
+}
+
+pub loop-at-preserved : goal.loop-at-preserved
+loop-at-preserved g c =
     let self = c.args.self.now in
     let flat = design_flat self in
-    let n = c.loop-cycle._cycle in
-    let more : suc n ≡ n + 1 = omega arith in
-    let row : (n + 1) * work_of self ≡ n * work_of self + work_of self = ap (λ k. k * work_of self) (omega arith) ∙ suc-mul n (work_of self) in
+    let rs = self.linked.design.registers.items in
+    let row = c.stretch_at-stretch.result.row.now in
+    let at = c.loop-at.at in
+    let end = c.earlier-end.result in
+    let b = c.args.b in
+    let n = end - at in
+    let h = c.loop-at.invariant in
+    let now = map (env_of c.loop-at.env) rs in
+    let upto : at ≤ end =
+    elim (eq-or-lt_of_le c.earlier-end.ensures.second) [
+      | inl same ↦ omega (arith, same, h.within)
+      | inr less ↦ omega (arith, c.earlier-end.ensures.either less, c.stretch_at-stretch.ensures.after)
+    ] in
+    let count : at + n ≡ end = omega (arith, upto) in
+    let cycles : end - c.args.a ≡ (at - c.args.a) + n = omega (arith, upto, h.from) in
+    let steps : (end - c.args.a) * work_of self ≡ (at - c.args.a) * work_of self + n * work_of self =
+    ap (λ k. k * work_of self) cycles ∙ add-mul (at - c.args.a) n (work_of self) in
     record {
-      kept = c.cycle.ensures.widths ∙ c.loop-cycle.invariant.kept;
-      ready = λ state h. subst (λ k. IsReady flat (seg flat (λ t. []) 0 k state) (input flat []) (env_of c.cycle.new.env)) more
-          (c.cycle.ensures.ready (seg flat (λ t. []) 0 n state) (input flat []) (c.loop-cycle.invariant.ready state h));
-      value = λ state h start. subst (λ k. map (env_of c.cycle.new.env) self.linked.design.registers.items ≡ seg flat (λ t. []) 0 k state) more
-          (c.cycle.ensures.value (seg flat (λ t. []) 0 n state) (input flat []) (c.loop-cycle.invariant.ready state h));
-      room = c.cycle.ensures.capacity ∙ c.loop-cycle.invariant.room;
-      taken = c.cycle.ensures.taken ∙ omega (arith, row, c.loop-cycle.invariant.taken);
+      from = omega (arith, upto, h.from);
+      within = c.earlier-end.ensures.second;
+      kept = c.run_under.ensures.widths ∙ h.kept;
+      ready = λ state inputs ready start.
+          let held = h.ready state inputs ready start in (
+            input flat (row_values flat row),
+            subst (λ s. IsReady flat s (input flat (row_values flat row)) (env_of c.run_under.new.env)) (sym (c.run_under.ensures.value now held.0 held.1 refl))
+                (c.run_under.ensures.ready now held.0 held.1 refl),
+          );
+      value = λ state inputs ready start.
+          let held = h.ready state inputs ready start in
+          ap (driven flat (between c.args.rows.now end b)) (c.run_under.ensures.value now held.0 held.1 refl)
+          ∙ ap (λ t. driven flat (between c.args.rows.now t b) (seg flat (λ t. row_values flat row) 0 n now)) (sym count)
+          ∙ driven_stretch flat c.args.rows.now row at end b n now
+          (λ t from before. c.stretch_at-stretch.ensures.rows t b from (omega (arith, before, c.earlier-end.ensures.first)) (omega (arith, before, c.earlier-end.ensures.second)))
+          (omega (arith, count))
+          ∙ h.value state inputs ready start;
+      room = c.run_under.ensures.capacity ∙ h.room;
+      taken = c.run_under.ensures.taken ∙ omega (arith, steps, h.taken);
     }
 
 pub returns-clause-value : goal.returns-clause-value
 returns-clause-value g c = λ state inputs ready start.
     let flat = design_flat c.args.self.now in
-    let last : c.loop-cycle._cycle ≡ c.args.cycles = omega (arith, c.loop-cycle-test.false, c.loop-cycle.auto._cycle-end) in
-    c.loop-cycle.invariant.value state (c.write_inputs.ensures.ready state inputs ready) (c.write_inputs.ensures.registers ∙ start)
-    ∙ ap (λ n. seg flat (λ t. []) 0 n state) last
+    let rs = c.args.self.now.linked.design.registers.items in
+    ap (λ xs. driven flat xs (map (env_of c.loop-at.env) rs)) (sym (nothing_between c.args.rows.now c.loop-at.at c.args.b (omega (arith, c.loop-at-test.false))))
+    ∙ c.loop-at.invariant.value state inputs ready start

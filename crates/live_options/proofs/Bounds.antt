@@ -1,0 +1,57 @@
+-- Options are within their bounds.
+use Rattle.std.proofs.Common.{◌≡◌, ℕ, ◌≤◌, Bool, true, false, leb, ◌&&◌, List, [], ◌∷◌, Option, Some, None, option_map, refl, subst, sym, codes, arith}
+use Rattle.std.specs.Prelude.{IfSome}
+use Rattle.std.proofs.lemmas.Bool.{leb-true}
+use Rattle.clap.specs.Words.{Row, first_of, matches_of, takes}
+use Rattle.clap.proofs.WalkLemmas.{both}
+use Rattle.ls_text.specs.Options.{guard, ◌>>=◌}
+use Rattle.live_options.specs.declared.options.Options.{Options}
+use Rattle.live_options.specs.Words.{livesim_app, number_of, options, options_in, options_of, value_of, value_within}
+use Rattle.live_options.specs.Bounds.{AreWithin, AskWithin}
+
+-- a reading that goes on keeps what each step gives
+then_some : {A B : Type 0} (P : A → Type 0) (Q : B → Type 0) (o : Option A) (f : A → Option B) → IfSome o P → ((x : A) → P x → IfSome (f x) Q) → IfSome (o >>= f) Q
+then_some P Q (Some x) f h next = next x h
+then_some P Q None f h next = tt
+
+any_some : {A B : Type 0} (Q : B → Type 0) (o : Option A) (f : A → Option B) → ((x : A) → IfSome (f x) Q) → IfSome (o >>= f) Q
+any_some Q (Some x) f next = next x
+any_some Q None f next = tt
+
+abbrev IsBetween : (least most : ℕ) → ℕ → Type 0
+IsBetween least most n = (least ≤ n) × (n ≤ most)
+
+between : (least most n : ℕ) → IfSome (guard (leb least n && leb n most) n) (IsBetween least most)
+between least most n = by (leb least n && leb n most) (λ h. let each = both (leb least n) (leb n most) h in (leb-true _ _ each.0, leb-true _ _ each.1))
+  where
+    by : (b : Bool) → (b ≡ true → IsBetween least most n) → IfSome (guard b n) (IsBetween least most)
+    by true h = h refl
+    by false h = tt
+
+value_between : (default least most : ℕ) (given : Option (List ℕ)) → least ≤ default → default ≤ most → IfSome (value_within default least most given) (IsBetween least most)
+value_between default least most None low high = (low, high)
+value_between default least most (Some text) low high =
+    any_some (IsBetween least most) (number_of text) (λ n. guard (leb least n && leb n most) n) (λ n. between least most n)
+
+found_within : (found : List Row) → IfSome (options_in found) AreWithin
+found_within found =
+    then_some (IsBetween 0 64) AreWithin (value_of (codes "workers") 2 0 64 found) _ (value_between 2 0 64 (first_of (codes "workers") found) (omega arith) (omega arith))
+    (λ workers few. then_some (IsBetween 1 1000000000) AreWithin (value_of (codes "interval") 10000 1 1000000000 found) _
+    (value_between 10000 1 1000000000 (first_of (codes "interval") found) (omega arith) (omega arith))
+    (λ interval short. then_some (IsBetween 0 1099511627776) AreWithin (value_of (codes "lookback") 10000 0 1099511627776 found) _
+    (value_between 10000 0 1099511627776 (first_of (codes "lookback") found) (omega arith) (omega arith))
+    (λ lookback near. record { workers = few.1; some = short.0; interval = short.1; lookback = near.1 })))
+
+pub options_within : AskWithin
+unfolding options
+options_within [] = tt
+options_within (w ∷ ws) =
+    any_some AreWithin (guard (takes livesim_app (w ∷ ws)) (matches_of livesim_app (w ∷ ws))) (λ found. options_in found) found_within
+
+-- so are those that are read
+pub read_within : (read : Option Options) (words : List (List ℕ)) → option_map options_of read ≡ options words → IfSome read (λ o. AreWithin (options_of o))
+read_within read words is = by read (subst (λ o. IfSome o AreWithin) (sym is) (options_within words))
+  where
+    by : (o : Option Options) → IfSome (option_map options_of o) AreWithin → IfSome o (λ x. AreWithin (options_of x))
+    by (Some x) h = h
+    by None h = tt

@@ -1,0 +1,5 @@
+pub mod Numbers
+pub mod Taken
+pub mod Words
+pub mod Bounds
+pub mod Worked

@@ -1,0 +1,15 @@
+// The words of the program's command line: how many workers it has, and how it keeps its history.
+//
+// `read_options` reads the words by `clap`, takes the value of each option (`values`) and answers the options, or none for faulty words.
+#![tactic(auto)]
+
+pub mod laws;
+mod options;
+mod reading;
+mod values;
+
+pub use options::Options;
+pub use reading::read_options;
+
+#[cfg(test)]
+mod tests;

@@ -1,0 +1,39 @@
+-- What a session keeps of its design where some of it changes.
+use Rattle.std.proofs.Common.{◌≡◌, ◌≤◌, ◌<◌, ℕ, List, length, sym, subst}
+use Rattle.std.specs.List.{All}
+use Rattle.std.specs.Prelude.{Ok, IfSome}
+use Rattle.cycle_eval.specs.declared.design.Design.{Design}
+use Rattle.module_registry.specs.Keys.{KeyData}
+use Rattle.stimulus.specs.Records.{limit_of, rows_of}
+use Rattle.version_swap.specs.Behind.{design_of}
+use Rattle.version_swap.specs.Plans.{Plans}
+use Rattle.version_swap.specs.declared.texts.Texts.{Texts}
+use Rattle.live_session.specs.Kept.{AreNamed, IsKept}
+use Rattle.live_session.specs.declared.limits.Limits.{Limits}
+use Rattle.live_session.specs.declared.running.Running.{Running}
+use Rattle.live_session.proofs.AscendingRows.{AreWithin}
+
+-- the texts, the design and its keys stay
+pub record StaysIn (old new : Running) : Type 0 where
+  pub texts : new.texts ≡ old.texts
+  pub design : new.design ≡ old.design
+  pub keys : new.keys ≡ old.keys
+
+pub kept_on : (names : List (List ℕ)) (limits : Limits) (old new : Running) → IsKept names limits old → StaysIn old new
+    → AreWithin (length names) new.row.value → All (AreWithin (length names)) (rows_of new.record_)
+    → new.charge ≤ limits.rooms.session → limit_of new.record_ ≡ limits.stimulus → IsKept names limits new
+kept_on names limits old new kept stays row rows charge stimulus = record {
+  named = record {
+    files = subst (λ (t : Texts). All (λ f. f.name.0 < length names) t.files) (sym stays.texts) kept.named.files;
+    top = subst (λ (t : Texts). IfSome t.top (λ id. id.0 < length names)) (sym stays.texts) kept.named.top;
+    clock = subst (λ (t : Texts). t.clock.0 < length names) (sym stays.texts) kept.named.clock;
+    row = row;
+    rows = rows;
+  };
+  plans =
+      subst (λ (ks : List KeyData). ∥ Plans names new.texts.files new.texts.top new.texts.clock (Ok (design_of new.design ks)) ∥₁) (sym stays.keys)
+      (subst (λ (d : Design). ∥ Plans names new.texts.files new.texts.top new.texts.clock (Ok (design_of d old.keys)) ∥₁) (sym stays.design)
+      (subst (λ (t : Texts). ∥ Plans names t.files t.top t.clock (Ok (design_of old.design old.keys)) ∥₁) (sym stays.texts) kept.plans));
+  charge = charge;
+  stimulus = stimulus;
+}

@@ -1,0 +1,14 @@
+use Rattle.live_session.proofs.OneOutput.{one_output}
+use Rattle.live_session.proofs.laws.commands_have_one_output.Goals as goal
+
+pub returns-clause-lines : goal.returns-clause-lines
+returns-clause-lines c st w ts us rest others p q same begun =
+    (one_output c.texts_have_one_answer.ensures st ts us w rest others p q same begun).lines
+
+pub returns-clause-refused : goal.returns-clause-refused
+returns-clause-refused c st w ts us rest others p q same begun =
+    (one_output c.texts_have_one_answer.ensures st ts us w rest others p q same begun).refused
+
+pub returns-clause-world : goal.returns-clause-world
+returns-clause-world c st w ts us rest others p q same begun =
+    (one_output c.texts_have_one_answer.ensures st ts us w rest others p q same begun).world

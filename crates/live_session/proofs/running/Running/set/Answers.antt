@@ -1,0 +1,57 @@
+use Rattle.std.proofs.Common.{◌≡◌, ◌∙◌, ◌+◌, ℕ, List, [], ◌∷◌, map, get_or, refl, sym, ap}
+use Rattle.std.specs.Prelude.{Option, Some, None}
+use Rattle.command_read.specs.Asking.{Sets}
+use Rattle.command_read.specs.Spoken.{setting}
+use Rattle.command_read.specs.declared.port_value.PortValue.{PortValue}
+use Rattle.cycle_eval.specs.Designs.{design_flat}
+use Rattle.cycle_eval.specs.Inputs.{input_width_of}
+use Rattle.ls_text.specs.Texts.{text_at}
+use Rattle.module_registry.specs.Entries.{Entry}
+use Rattle.version_swap.specs.Behind.{design_of}
+use Rattle.live_session.specs.Sessions.{world_of}
+use Rattle.live_session.specs.Spelled.{spelled}
+use Rattle.live_session.specs.Verdicts.{with_row}
+use Rattle.live_session.specs.Worlds.{refused_at}
+use Rattle.live_session.proofs.Judged.{accepted_by, refuses_in}
+use Rattle.live_session.proofs.SetRows.{all_set, put_there, refused_there}
+use Rattle.live_session.proofs.TextTables.{width_spelled}
+use Rattle.live_session.proofs.running.Running.set.Goals as goal
+
+not_some : (o : Option ℕ) → ((x : ℕ) → o ≡ Some x → ⊥) → o ≡ None
+not_some None not = refl
+not_some (Some x) not = absurd (not x refl)
+
+abbrev no_value : PortValue
+no_value = record { port = record { 0 = 0 }; value = 0 }
+
+pub returns-in-Some-clause-answers : goal.returns-in-Some-clause-answers
+returns-in-Some-clause-answers c =
+    let r = c.args.self.now in
+    let names = c.args.names.now in
+    let d = design_of r.design r.keys in
+    let i = c.loop-value.value-index in
+    let v = get_or c.args.values.now i no_value in
+    let below = c.loop-value-test.true in
+    let width = width_spelled names c.has_each_once.ensures r.texts.files r.texts.top r.texts.clock d c.requires.kept.plans v.port.0
+    (c.requires.within i no_value below) in
+    let refused = refused_there names c.has_each_once.ensures (spelled names d) c.args.values.now r.row.value c.loop-value.row i no_value below
+    c.loop-value.invariant (input_width_of (design_flat r.design) v.port.0) c.args.line c.in-Some.code c.port_fault.result width c.in-Some.is
+    (c.port_fault.ensures c.args.line (text_at names v.port.0)) in
+    refuses_in names c.args.limits (Sets c.args.line (map (setting names) c.args.values.now)) r r c.refused_name.result
+    (refused_at c.in-Some.code c.args.line (text_at names v.port.0 ∷ []))
+    (λ (interval lookback : ℕ) (entries : List Entry) (grid : List ℕ). ap (with_row (world_of names entries grid r)) refused)
+    (λ ns es g. refl) c.refused_name.ensures
+
+pub loop-value-preserved : goal.loop-value-preserved
+loop-value-preserved c =
+    let r = c.args.self.now in
+    let names = c.args.names.now in
+    let d = design_of r.design r.keys in
+    let i = c.loop-value.value-index in
+    let v = get_or c.args.values.now i no_value in
+    let below = c.loop-value-test.true in
+    let lt = c.requires.within i no_value below in
+    let width = width_spelled names c.has_each_once.ensures r.texts.files r.texts.top r.texts.clock d c.requires.kept.plans v.port.0 lt in
+    put_there names c.has_each_once.ensures (spelled names d) c.args.values.now r.row.value c.loop-value.row i no_value below c.loop-value.invariant
+    (input_width_of (design_flat r.design) v.port.0) c.port_fault.result c.put.new.self width (not_some c.port_fault.result c.in_default.not-Some)
+    (λ (line : ℕ). c.port_fault.ensures line (text_at names v.port.0)) c.loop-value.invariant.within lt c.in_ok-put.ensures.ok

@@ -1,0 +1,25 @@
+// A session: commands come in, each is answered by its lines.
+//
+// `session` has the calls and the table of names, the units and what makes them. `loading` reads the files that a block loads from a shelf,
+// `planning` makes the first version of a block, and `running` is the design that runs, with its stimulus: `setting` changes the row, `advancing`
+// runs cycles, `showing` is a display. `refusing` writes refusals. `laws` says that commands have one output, whatever is told of their texts.
+#![tactic(auto)]
+
+mod advancing;
+mod begun;
+mod laws;
+mod limits;
+mod loading;
+mod loads;
+mod planning;
+mod refusing;
+mod reply;
+mod running;
+mod session;
+mod setting;
+mod showing;
+
+pub use laws::{commands_have_one_output, displays_tell_the_truth, texts_have_one_answer};
+pub use limits::Limits;
+pub use reply::Reply;
+pub use session::Session;

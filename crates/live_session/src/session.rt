@@ -1,0 +1,398 @@
+// A session, and what commands do to it.
+ghost use Rattle.std.specs.Prelude.{◌≡◌, ◌≤◌, ◌<◌, ◌^◌, false, is_some, length, codes, IfSome};
+ghost use Rattle.std.proofs.Props.{props};
+ghost use Rattle.ls_text.specs.Texts.{text_at};
+ghost use Rattle.module_registry.specs.Views.{entries_of};
+ghost use Rattle.live_session.specs.Kept.{IsKept};
+
+use crate::begun::Begun;
+use crate::limits::Limits;
+use crate::loading::loaded;
+use crate::loads::Loads;
+use crate::planning::begin;
+use crate::refusing::{refused_line, refused_text};
+use crate::reply::Reply;
+use crate::running::Running;
+use crate::setting::has_each_once;
+use command_read::{Command, Edit, PortValue, ReadEnd, Reader};
+use ls_port::{Shelf, Source};
+use ls_text::{Fault, NameId, Names, NoMemory, SourceFile, TextBytes};
+use machine::steps::Steps;
+use module_registry::Registry;
+use std::alloc::Global;
+use std::marker::Brand;
+use std::sync::ledger::{Blank, Ledger};
+use std::thread::Threads;
+use unit_forge::RayonForge;
+use wave_report::{ReplyKind, reply_line};
+
+/// A session: its table of names, the units that it has, what makes these, its limits, and the design that runs, where there is one.
+///
+/// The table only grows, and before the first design there are no units.
+#[derive(Drop)]
+pub struct Session {
+    names: Names,
+    /// The clock's name, where no block has named one.
+    clock: NameId,
+    registry: Registry,
+    forge: RayonForge,
+    limits: Limits,
+    running: Option<Running>,
+    ghost clock_is: { text_at names clock.0 ≡ codes "clk" },
+    ghost clock_in: { clock.0 < length names },
+    ghost in_range: { limits.cycles ≤ 2 ^ 40 },
+    ghost none_before: { is_some running ≡ false → length (entries_of registry) ≡ 0 },
+    ghost kept: { IfSome running (λ r. IsKept names limits r) } by { Prim.hlevel props },
+}
+
+impl Session {
+    ghost use Rattle.std.specs.Prelude.{◌⊎◌, ◌+◌, ◌*◌, ℕ, List, [], map, nat_lt, true, None, Some, Ok, Err, IfOk, OnErr};
+    ghost use Rattle.std.specs.List.{All};
+    ghost use Rattle.std.specs.declared.option.Option.{Option};
+    ghost use Rattle.ls_text.specs.Texts.{Grows};
+    ghost use Rattle.ls_text.specs.Readings.{fault_view};
+    ghost use Rattle.ls_port.specs.Causes.{Rose};
+    ghost use Rattle.ls_port.specs.declared.shelf_answer.ShelfAnswer.{ShelfAnswer};
+    ghost use Rattle.command_read.specs.Asking.{Edits, Sets, Runs, Shows};
+    ghost use Rattle.command_read.specs.Formed.{IsFormed};
+    ghost use Rattle.command_read.specs.Readers.{
+      left,
+      still_of,
+      has_ended,
+      count_taken,
+      stopped,
+      asked_of,
+      IsSoon,
+      Takes,
+      HandsOut,
+      told,
+      stop_of,
+      end_of,
+      IsReadEndWithin,
+    };
+    ghost use Rattle.command_read.specs.Scripts.{is_quit};
+    ghost use Rattle.command_read.specs.Sound.{is_too_much};
+    ghost use Rattle.command_read.specs.Spoken.{spoken, setting, edited, IsCommandWithin, IsEditWithin};
+    ghost use Rattle.command_read.specs.declared.stop.Stop.{Stop};
+    ghost use Rattle.command_read.specs.declared.stop.Stop.TheVariants.{End, NoMemory as OutOfMemory};
+    ghost use Rattle.live_session.specs.Files.{text_file};
+    ghost use Rattle.live_session.specs.Forms.{edit_line};
+    ghost use Rattle.live_session.specs.Loaded.{AreUsable, result_of};
+    ghost use Rattle.live_session.specs.Loads.{LosesAnswers};
+    ghost use Rattle.live_session.specs.Sessions.{world, limits_of, names_of, work};
+    ghost use Rattle.live_session.specs.Steps.{StepsTo};
+    ghost use Rattle.live_session.specs.Taken.{TakesBlock};
+    ghost use Rattle.live_session.specs.Turns.{Answers};
+    ghost use Rattle.live_session.specs.Worlds.{fresh};
+
+    /// A session without a design, with these limits. At most 2^40 cycles are run.
+    pub fn new(alloc: Global, limits: Limits) -> Result<Session, NoMemory>
+        requires { limits.cycles ≤ 2 ^ 40 }
+        ensures fresh { IfOk result (λ s. (grid : List ℕ) → world s grid ≡ fresh) }
+        ensures limits { IfOk result (λ s. limits_of s ≡ limits) }
+    {
+        let mut names = Names::new(alloc);
+        let clock = names.intern(b"clk")?;
+        Ok(Session {
+            names,
+            clock,
+            registry: Registry::new(alloc),
+            forge: RayonForge::new(alloc),
+            limits,
+            running: None,
+        })
+    }
+
+    /// Reads the next command with the session's table of names; nothing else of it changes.
+    pub fn read<S: Source>(&mut self, reader: &mut Reader, source: &mut S) -> ReadEnd
+        // What was asked for is what is told, and then what is still asked for, whatever comes behind; and once that was complete nothing
+        // more was read.
+        ensures goes { stopped reader.old ≡ None → (came : List ℕ) × (kept : List ℕ)
+            × Takes (S.left source.old) (S.left source.new) (S.faults source.old) (S.faults source.new) reader.old reader.new came kept
+            × HandsOut reader.old reader.new (told (names_of self.new) result) kept × IsSoon reader.old came }
+
+        // Why it stopped, and that nothing was left to hand out then; where memory ran out that isn't said.
+        ensures stop { stopped reader.new ≡ stop_of result }
+        ensures nothing { stopped reader.old ≡ None → (stopped reader.new ≡ None → ⊥) → (stopped reader.new ≡ Some OutOfMemory → ⊥)
+            → asked_of reader.new [] (has_ended reader.new) ≡ [] }
+        ensures end { stopped reader.old ≡ None → stopped reader.new ≡ Some End → has_ended reader.new ≡ true }
+        // What it may hand out yet falls with each that it tells.
+        ensures still { stop_of result ≡ None → still_of reader.new < still_of reader.old }
+
+        ensures much { is_too_much (stopped reader.new) ≡ nat_lt 67108864 (count_taken reader.new) }
+
+        // Nothing is read where something is left to hand out, or the input has ended.
+        ensures unread { stopped reader.old ≡ None → (source.new ≡ source.old)
+            ⊎ ((has_ended reader.old ≡ false) × (asked_of reader.old [] false ≡ [])) }
+
+        // A stopped reader answers the same again.
+        ensures again { (stop : Stop) → stopped reader.old ≡ Some stop
+            → (result ≡ end_of stop) × (reader.new ≡ reader.old) × (source.new ≡ source.old) × (names_of self.new ≡ names_of self.old) }
+
+        // The table only grows, and all names that are told are its; what the session means stays.
+        ensures within { IsReadEndWithin (length (names_of self.new)) result }
+        ensures grows { Grows (names_of self.old) (names_of self.new) }
+        ensures kept { (grid : List ℕ) → world self.new grid ≡ world self.old grid }
+        ensures limits { limits_of self.new ≡ limits_of self.old }
+    {
+        has_each_once(&self.names);
+        let end = reader.read_command(&mut self.names, source);
+        has_each_once(&self.names);
+        end
+    }
+
+    /// The reply that refuses a line which `read` refused.
+    pub fn refusal(&self, alloc: Global, fault: &Fault) -> Result<Reply, NoMemory>
+        requires { All (λ id. id.0 < length (names_of self.now)) fault.now.names }
+        ensures steps { IfOk result (λ r. (answers : Option (List ShelfAnswer)) (faults : ℕ)
+            → StepsTo (Err (fault_view (names_of self.now) fault.now)) answers answers faults faults self.now self.now r.lines r.refused) }
+        ensures quits { IfOk result (λ r. r.quit ≡ false) }
+    {
+        refused_text(alloc, &self.names, &[], 0, fault)
+    }
+
+    // The line of a form in a block that isn't built: any block behind the first that was accepted, and operations.
+    fn unbuilt(&self, edit: &Edit) -> Option<u64>
+        ensures { (grid : List ℕ) → result ≡ edit_line (world self.now grid).design (edited (names_of self.now) edit.now) }
+    {
+        if self.running.is_some() {
+            return Some(edit.line);
+        }
+        edit.ops.as_slice().first().map(|op| op.line)
+    }
+
+    // Takes the first block, whose loads gave these files.
+    fn begin<R: Threads + Sync>(
+        &mut self,
+        rt: &R,
+        alloc: Global,
+        edit: &Edit,
+        loaded: &[SourceFile],
+    ) -> Result<Reply, NoMemory>
+        requires none { self.old.running ≡ None }
+        requires room { 1 ≤ (limits_of self.old).rooms.session }
+        requires edit { IsEditWithin (length (names_of self.old)) edit.now }
+        requires ops { edit.now.ops ≡ [] }
+        requires given { All (λ g. length g.file.text ≤ 4194304) edit.now.files }
+        requires loads { length loaded.now ≡ length edit.now.loads }
+        requires loaded { All (λ f. length f.text ≤ 4194304) loaded.now }
+        requires named { All (λ f. f.name.0 < length (names_of self.old)) loaded.now }
+        ensures takes { IfOk result (TakesBlock (edited (names_of self.old) edit.now) (Ok (map (text_file (names_of self.old)) loaded.now))
+            self.old self.new) }
+        ensures goes_on { IfOk result (λ r. r.quit ≡ false) }
+        ensures kept { OnErr result ((grid : List ℕ) → world self.new grid ≡ world self.old grid) }
+        ensures limits { limits_of self.new ≡ limits_of self.old }
+        ensures grows { Grows (names_of self.old) (names_of self.new) }
+    {
+        let names = &mut self.names;
+        let begun = begin(
+            rt,
+            alloc,
+            names,
+            &mut self.registry,
+            &mut self.forge,
+            self.clock,
+            self.limits,
+            edit,
+            loaded,
+        )?;
+        match begun {
+            Begun::Refused(reply) => Ok(reply),
+            Begun::Accepted { running, line } => {
+                self.running = Some(running);
+                Ok(Reply {
+                    lines: TextBytes::new(line),
+                    refused: false,
+                    quit: false,
+                })
+            }
+        }
+    }
+
+    // Takes the first block, whose loads came to these.
+    fn take<R: Threads + Sync>(
+        &mut self,
+        rt: &R,
+        alloc: Global,
+        edit: &Edit,
+        loads: &Loads,
+    ) -> Result<Reply, NoMemory>
+        requires none { self.old.running ≡ None }
+        requires room { 1 ≤ (limits_of self.old).rooms.session }
+        requires edit { IsEditWithin (length (names_of self.old)) edit.now }
+        requires ops { edit.now.ops ≡ [] }
+        requires given { All (λ g. length g.file.text ≤ 4194304) edit.now.files }
+        requires usable { AreUsable (length (names_of self.old)) edit.now.loads loads.now }
+        ensures takes { IfOk result (TakesBlock (edited (names_of self.old) edit.now) (result_of (names_of self.old) loads.now) self.old self.new) }
+        ensures goes_on { IfOk result (λ r. r.quit ≡ false) }
+        ensures kept { OnErr result ((grid : List ℕ) → world self.new grid ≡ world self.old grid) }
+        ensures limits { limits_of self.new ≡ limits_of self.old }
+        ensures grows { Grows (names_of self.old) (names_of self.new) }
+    {
+        match loads {
+            Loads::Given(files) => self.begin(rt, alloc, edit, files),
+            Loads::Refused(fault) => refused_text(alloc, &self.names, &[], 0, fault),
+        }
+    }
+
+    // Takes the first block: the faults of its loads, and then those of its files.
+    fn load<R: Threads + Sync, F: Shelf>(
+        &mut self,
+        rt: &R,
+        alloc: Global,
+        shelf: &mut F,
+        edit: &Edit,
+    ) -> Result<Reply, NoMemory>
+        requires none { self.old.running ≡ None }
+        requires room { 1 ≤ (limits_of self.old).rooms.session }
+        requires edit { IsEditWithin (length (names_of self.old)) edit.now }
+        requires ops { edit.now.ops ≡ [] }
+        requires given { All (λ g. length g.file.text ≤ 4194304) edit.now.files }
+        ensures steps { IfOk result (λ r. StepsTo (Ok (Edits (edited (names_of self.old) edit.now))) (F.answers shelf.old) (F.answers shelf.new)
+            (F.faults shelf.old) (F.faults shelf.new) self.old self.new r.lines r.refused) }
+        ensures goes_on { IfOk result (λ r. r.quit ≡ false) }
+        ensures kept { OnErr result ((grid : List ℕ) → world self.new grid ≡ world self.old grid) }
+        ensures lost { OnErr result (LosesAnswers (Edits (edited (names_of self.old) edit.now)) (F.answers shelf.old) (F.answers shelf.new)) }
+        ensures cause { OnErr result ((F.faults shelf.new ≡ F.faults shelf.old) ⊎ Rose (F.faults shelf.old) (F.faults shelf.new)) }
+        ensures limits { limits_of self.new ≡ limits_of self.old }
+        ensures grows { Grows (names_of self.old) (names_of self.new) }
+    {
+        let loads = loaded(alloc, &self.names, shelf, edit.loads.as_slice())?;
+        self.take(rt, alloc, edit, &loads)
+    }
+
+    // Takes a block: 90 for a form that isn't built, 68 where the session's room is full, then the faults of its loads and of its files.
+    fn edit<R: Threads + Sync, F: Shelf>(
+        &mut self,
+        rt: &R,
+        alloc: Global,
+        shelf: &mut F,
+        edit: &Edit,
+    ) -> Result<Reply, NoMemory>
+        requires edit { IsEditWithin (length (names_of self.old)) edit.now }
+        requires given { All (λ g. length g.file.text ≤ 4194304) edit.now.files }
+        ensures steps { IfOk result (λ r. StepsTo (Ok (Edits (edited (names_of self.old) edit.now))) (F.answers shelf.old) (F.answers shelf.new)
+            (F.faults shelf.old) (F.faults shelf.new) self.old self.new r.lines r.refused) }
+        ensures goes_on { IfOk result (λ r. r.quit ≡ false) }
+        ensures kept { OnErr result ((grid : List ℕ) → world self.new grid ≡ world self.old grid) }
+        ensures lost { OnErr result (LosesAnswers (Edits (edited (names_of self.old) edit.now)) (F.answers shelf.old) (F.answers shelf.new)) }
+        ensures cause { OnErr result ((F.faults shelf.new ≡ F.faults shelf.old) ⊎ Rose (F.faults shelf.old) (F.faults shelf.new)) }
+        ensures limits { limits_of self.new ≡ limits_of self.old }
+        ensures grows { Grows (names_of self.old) (names_of self.new) }
+    {
+        if let Some(line) = self.unbuilt(edit) {
+            return refused_line(alloc, &self.names, 90, line);
+        }
+        if self.limits.rooms.session == 0 {
+            return refused_line(alloc, &self.names, 68, edit.line);
+        }
+        self.load(rt, alloc, shelf, edit)
+    }
+
+    // Sets inputs; 62 without a design.
+    fn set(&mut self, alloc: Global, line: u64, values: &[PortValue]) -> Result<Reply, NoMemory>
+        requires { All (λ v. v.port.0 < length (names_of self.old)) values.now }
+        ensures answers { IfOk result (Answers (Sets line (map (setting (names_of self.old)) values.now)) self.old self.new) }
+        ensures goes_on { IfOk result (λ r. r.quit ≡ false) }
+        ensures kept { OnErr result ((grid : List ℕ) → world self.new grid ≡ world self.old grid) }
+        ensures limits { limits_of self.new ≡ limits_of self.old }
+        ensures grows { Grows (names_of self.old) (names_of self.new) }
+    {
+        match &mut self.running {
+            Some(running) => running.set(alloc, &self.names, self.limits, line, values),
+            None => refused_line(alloc, &self.names, 62, line),
+        }
+    }
+
+    // Runs so many cycles, whose steps are counted; 62 without a design.
+    fn run<L: Ledger>(
+        &mut self,
+        alloc: Global,
+        line: u64,
+        cycles: u64,
+        steps: &mut Steps<L>,
+    ) -> Result<Reply, NoMemory>
+        ensures answers { IfOk result (Answers (Runs line cycles) self.old self.new) }
+        ensures goes_on { IfOk result (λ r. r.quit ≡ false) }
+        ensures kept { OnErr result ((grid : List ℕ) → world self.new grid ≡ world self.old grid) }
+        ensures counted { steps.new ≤ steps.old + cycles * work self.old }
+        ensures limits { limits_of self.new ≡ limits_of self.old }
+        ensures grows { Grows (names_of self.old) (names_of self.new) }
+    {
+        match &mut self.running {
+            Some(running) => running.run(alloc, &self.names, self.limits, line, cycles, steps),
+            None => refused_line(alloc, &self.names, 62, line),
+        }
+    }
+
+    // The same with a counter of this blank.
+    fn counted_run<L: Ledger>(
+        &mut self,
+        alloc: Global,
+        line: u64,
+        cycles: u64,
+        blank: Blank,
+    ) -> Result<Reply, NoMemory>
+        requires name { blank.name ≡ L.name }
+        requires parts { blank.parts ≡ L.parts }
+        requires some { 0 < blank.parts }
+        ensures answers { IfOk result (Answers (Runs line cycles) self.old self.new) }
+        ensures goes_on { IfOk result (λ r. r.quit ≡ false) }
+        ensures kept { OnErr result ((grid : List ℕ) → world self.new grid ≡ world self.old grid) }
+        ensures limits { limits_of self.new ≡ limits_of self.old }
+        ensures grows { Grows (names_of self.old) (names_of self.new) }
+    {
+        let mut steps = Steps::<L>::start(blank);
+        self.run(alloc, line, cycles, &mut steps)
+    }
+
+    // Shows registers; 62 without a design.
+    fn show(&mut self, alloc: Global, line: u64, prefix: &[u8]) -> Result<Reply, NoMemory>
+        ensures answers { IfOk result (Answers (Shows line prefix.now) self.old self.new) }
+        ensures goes_on { IfOk result (λ r. r.quit ≡ false) }
+        ensures kept { OnErr result ((grid : List ℕ) → world self.new grid ≡ world self.old grid) }
+        ensures limits { limits_of self.new ≡ limits_of self.old }
+        ensures grows { Grows (names_of self.old) (names_of self.new) }
+    {
+        match &mut self.running {
+            Some(running) => running.show(alloc, &self.names, self.limits, line, prefix),
+            None => refused_line(alloc, &self.names, 62, line),
+        }
+    }
+
+    /// Carries out a command, and answers it. A refused command changes nothing but the shelf's answers and count and the table of names; nor
+    /// does one for which memory runs out, but for some of the shelf's answers to a block's loads and a failure of it.
+    pub fn step<R: Threads + Sync, F: Shelf>(
+        &mut self,
+        rt: &R,
+        alloc: Global,
+        shelf: &mut F,
+        command: Command,
+    ) -> Result<Reply, NoMemory>
+        requires within { IsCommandWithin (length (names_of self.old)) command }
+        requires formed { IsFormed (spoken (names_of self.old) command) }
+        ensures steps { IfOk result (λ r. StepsTo (Ok (spoken (names_of self.old) command)) (F.answers shelf.old) (F.answers shelf.new)
+            (F.faults shelf.old) (F.faults shelf.new) self.old self.new r.lines r.refused) }
+        ensures quits { IfOk result (λ r. r.quit ≡ is_quit (Ok (spoken (names_of self.old) command))) }
+        ensures kept { OnErr result ((grid : List ℕ) → world self.new grid ≡ world self.old grid) }
+        ensures lost { OnErr result (LosesAnswers (spoken (names_of self.old) command) (F.answers shelf.old) (F.answers shelf.new)) }
+        ensures cause { OnErr result ((F.faults shelf.new ≡ F.faults shelf.old) ⊎ Rose (F.faults shelf.old) (F.faults shelf.new)) }
+        ensures limits { limits_of self.new ≡ limits_of self.old }
+        ensures grows { Grows (names_of self.old) (names_of self.new) }
+    {
+        match command {
+            Command::Edit(edit) => self.edit(rt, alloc, shelf, &edit),
+            Command::Set { line, values } => self.set(alloc, line, values.as_slice()),
+            Command::Run { line, n } => { self.counted_run::<Brand>(alloc, line, n, Blank::new(1)) }
+            Command::Show { line, prefix } => self.show(alloc, line, prefix.bytes()),
+            Command::Settle { line, .. } | Command::Status { line } => {
+                refused_line(alloc, &self.names, 90, line)
+            }
+            Command::Quit { .. } => Ok(Reply {
+                lines: TextBytes::new(reply_line(alloc, &ReplyKind::Quit)?),
+                refused: false,
+                quit: true,
+            }),
+        }
+    }
+}

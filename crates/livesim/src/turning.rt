@@ -1,0 +1,49 @@
+// One turn: a command is read and carried out.
+ghost use Rattle.std.specs.Prelude.{◌≡◌, None};
+ghost use Rattle.command_read.specs.Readers.{stopped};
+ghost use Rattle.live_session.specs.Sessions.{limits_of};
+ghost use Rattle.livesim.specs.Turns.{IsTurn, source_at, shelf_at, turn_of};
+
+use crate::ending::Ending;
+use crate::turn::Turn;
+use command_read::{ReadEnd, Reader};
+use live_session::{Reply, Session};
+use ls_port::{Shelf, Source};
+use ls_text::NoMemory;
+use std::alloc::Global;
+use std::thread::Threads;
+
+// A reply, or the end for want of memory.
+fn answered(reply: Result<Reply, NoMemory>) -> Turn
+    ensures { result ≡ turn_of reply }
+{
+    match reply {
+        Ok(reply) => Turn::Answered(reply),
+        Err(NoMemory) => Turn::Over(Ending::NoMemory),
+    }
+}
+
+/// Reads a command and carries it out, before more is read.
+pub fn turn<R: Threads + Sync, S: Source, F: Shelf>(
+    rt: &R,
+    alloc: Global,
+    session: &mut Session,
+    reader: &mut Reader,
+    source: &mut S,
+    shelf: &mut F,
+) -> Turn
+    requires going { stopped reader.old ≡ None }
+    ensures turned { IsTurn (source_at (S.left source.old) (S.faults source.old)) (source_at (S.left source.new) (S.faults source.new))
+        (shelf_at (F.answers shelf.old) (F.faults shelf.old)) (shelf_at (F.answers shelf.new) (F.faults shelf.new))
+        reader.old reader.new session.old session.new result }
+    ensures limits { limits_of session.new ≡ limits_of session.old }
+{
+    match session.read(reader, source) {
+        ReadEnd::Command(command) => answered(session.step(rt, alloc, shelf, command)),
+        ReadEnd::Refused(fault) => answered(session.refusal(alloc, &fault)),
+        ReadEnd::End => Turn::Over(Ending::Whole),
+        ReadEnd::Fault => Turn::Over(Ending::Failed),
+        ReadEnd::TooMuch => Turn::Over(Ending::TooMuch),
+        ReadEnd::NoMemory => Turn::Over(Ending::NoMemory),
+    }
+}
