@@ -156,6 +156,85 @@ fn scripts_are_cut(rt: HostRuntime) -> Result<(), Fail> {
     Ok(())
 }
 
+// Commands, each cut behind each of its bytes, behind a design that stands: a word that is cut is no command's, and a command that
+// lacks words or has half a value isn't carried out.
+#[test]
+fn commands_are_cut(rt: HostRuntime) -> Result<(), Fail> {
+    let alloc = rt.alloc();
+    let block = joined(
+        alloc,
+        &[
+            b"edit\ntop top\nclock clk\nfile a.v\nmodule top(input clk, input [7:0] d);\n",
+            b"reg [7:0] acc = 8'h00;\nalways @(posedge clk) acc <= acc + d;",
+            TAIL,
+        ],
+    )?;
+    let table: &[u8] = b"show cycle=0 settled v=1\ntop.acc 00\n";
+    // What is left of the command, and what answers it.
+    let rows: [(&[u8], &[u8]); 38] = [
+        (b"", b""),
+        (b"s", b"refused 60 BadCommand @11 s\n"),
+        (b"se", b"refused 60 BadCommand @11 se\n"),
+        (b"set", b"refused 60 BadCommand @11 -\n"),
+        (b"set ", b"refused 60 BadCommand @11 -\n"),
+        (b"set d", b"refused 61 BadValue @11 d\n"),
+        (b"set d=", b"refused 61 BadValue @11 d\n"),
+        (b"set d=0", b"ok set\n"),
+        (b"set d=03", b"ok set\n"),
+        (b"r", b"refused 60 BadCommand @11 r\n"),
+        (b"ru", b"refused 60 BadCommand @11 ru\n"),
+        (b"run", b"refused 60 BadCommand @11 -\n"),
+        (b"run ", b"refused 60 BadCommand @11 -\n"),
+        (b"run 1", b"ok run cycle=1\n"),
+        (b"run 12", b"ok run cycle=12\n"),
+        (b"sh", b"refused 60 BadCommand @11 sh\n"),
+        (b"sho", b"refused 60 BadCommand @11 sho\n"),
+        (b"show", table),
+        (b"show ", table),
+        (b"show t", table),
+        (b"show to", table),
+        (b"show top", table),
+        (b"show top.", table),
+        (b"show top.a", table),
+        (b"sett", b"refused 60 BadCommand @11 sett\n"),
+        (b"settl", b"refused 60 BadCommand @11 settl\n"),
+        (b"st", b"refused 60 BadCommand @11 st\n"),
+        (b"sta", b"refused 60 BadCommand @11 sta\n"),
+        (b"stat", b"refused 60 BadCommand @11 stat\n"),
+        (b"statu", b"refused 60 BadCommand @11 statu\n"),
+        (b"q", b"refused 60 BadCommand @11 q\n"),
+        (b"qu", b"refused 60 BadCommand @11 qu\n"),
+        (b"qui", b"refused 60 BadCommand @11 qui\n"),
+        (b"quit", b"ok quit\n"),
+        (b"e", b"refused 60 BadCommand @11 e\n"),
+        (b"ed", b"refused 60 BadCommand @11 ed\n"),
+        (b"edi", b"refused 60 BadCommand @11 edi\n"),
+        (b"edit", b"refused 66 Unfinished @11 -\n"),
+    ];
+    for (command, line) in rows {
+        let script = joined(alloc, &[&block, command])?;
+        let want = joined(alloc, &[OK_EDIT, line])?;
+        let (outcome, written) = lived(&rt, alloc, script, Vec::new(alloc), Vec::new(alloc))?;
+        assert_eq!(rt; outcome.status, u8::from(line.starts_with(b"refused")));
+        assert!(rt; written.as_slice() == want.as_slice());
+    }
+    Ok(())
+}
+
+// A block with each of its lines, cut behind each byte from `edit` on: it isn't finished, whatever the last line was to be.
+#[test]
+fn blocks_are_cut(rt: HostRuntime) -> Result<(), Fail> {
+    let alloc = rt.alloc();
+    let whole: &[u8] = b"edit\ntop top\nclock clk\nload a.v\nfile b.v\nmodule\n.\nrename m.a m.b\ncreate m.c=0f\ndelete m.d\nen";
+    for length in 4..whole.len() + 1 {
+        let script = Vec::from_slice(alloc, &whole[..length])?;
+        let (outcome, written) = lived(&rt, alloc, script, Vec::new(alloc), Vec::new(alloc))?;
+        assert_eq!(rt; outcome.status, 1);
+        assert!(rt; written.as_slice() == b"refused 66 Unfinished @1 -\n".as_slice());
+    }
+    Ok(())
+}
+
 // Three commands, each behind a comment of 65,536 bytes, with a read or a write that fails. Each is answered before more is read.
 #[test]
 fn the_outside_fails(rt: HostRuntime) -> Result<(), Fail> {
