@@ -225,7 +225,8 @@ fn commands_are_cut(rt: HostRuntime) -> Result<(), Fail> {
 #[test]
 fn blocks_are_cut(rt: HostRuntime) -> Result<(), Fail> {
     let alloc = rt.alloc();
-    let whole: &[u8] = b"edit\ntop top\nclock clk\nload a.v\nfile b.v\nmodule\n.\nrename m.a m.b\ncreate m.c=0f\ndelete m.d\nen";
+    let whole: &[u8] =
+        b"edit\ntop top\nclock clk\nload a.v\nfile b.v\nmodule\n.\nrename m.a m.b\ncreate m.c=0f\ndelete m.d\nen";
     for length in 4..whole.len() + 1 {
         let script = Vec::from_slice(alloc, &whole[..length])?;
         let (outcome, written) = lived(&rt, alloc, script, Vec::new(alloc), Vec::new(alloc))?;
