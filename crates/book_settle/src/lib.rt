@@ -88,8 +88,7 @@ fn make_passes<M: Machine, L: Ledger>(
 
 /// Settles a book by at most so many passes, and then shows it. A pass claims the first link that isn't joined, runs its
 /// ticket's machine over its rows and installs the result, so at least one link more leads behind it; where no such link
-/// is left, there are fewer. The answer is that of the show: with a pass for each link, it is settled. The counter rises
-/// by the machine's steps for each cycle that was run.
+/// is left, there are fewer. The answer is that of the show: with a pass for each link, it is settled. The counter never falls.
 ///
 /// Where memory runs out, the passes that were made stay, the ticket of the last one is given up, and there is no show.
 pub fn settle<M: Machine, L: Ledger>(
