@@ -4,7 +4,7 @@ use Rattle.std.specs.Prelude.{Option, Some, None, Bool, true, false, ifâ—Œthenâ—
 use Rattle.std.proofs.lemmas.List.{length-append}
 use Rattle.machine.specs.Kit.{Kit}
 use Rattle.book_history.specs.declared.who.Who.TheVariants.{Session}
-use Rattle.book_history.specs.Book.{Book, Settings, Event, Claims, Installs, Releases, Shows, replay, replay_from}
+use Rattle.book_history.specs.Book.{Book, Settings, Event, Claims, Installs, Shows, replay, replay_from}
 use Rattle.book_history.specs.Legal.{Legal}
 use Rattle.book_history.specs.Moments.{Moment, moments_from}
 use Rattle.book_history.specs.Outline.{Outline, outline_in, outline_from}

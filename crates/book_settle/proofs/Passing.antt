@@ -1,6 +1,6 @@
 -- One pass of a settle, and several.
 use Rattle.std.proofs.Common.{◌≡◌, ℕ, ◌+◌, ◌*◌, ◌≤◌, ◌<◌, List, [], ◌∷◌, ◌++◌, refl, sym, ◌∙◌, ap, subst, arith, append_assoc, append-nil}
-use Rattle.std.specs.Prelude.{Option, Some, None, Bool, true, false}
+use Rattle.std.specs.Prelude.{Option, None, Bool, true, false}
 use Rattle.machine.specs.Kit.{Kit}
 use Rattle.book_history.specs.declared.who.Who.TheVariants.{Session}
 use Rattle.book_history.specs.Book.{Book, DrawnTicket, Settings, Event, Claims, Installs, Releases, replay}
@@ -14,7 +14,7 @@ use Rattle.book_history.proofs.Prefixes.{count-snoc}
 use Rattle.checkpoint_book.specs.Claims.{IsDrawn}
 use Rattle.checkpoint_book.specs.Views.{book_of, counts_of, HasSessionRoom, shown_in}
 use Rattle.book_settle.specs.Counted.{with_more}
-use Rattle.book_settle.specs.Passes.{ArePasses, no_pass, one_more, IsGivenUp, no_ticket, one_ticket, IsUnfinished}
+use Rattle.book_settle.specs.Passes.{no_pass, one_more, no_ticket, one_ticket}
 use Rattle.book_settle.specs.Rises.{IsRise, HasPassed, HasGivenUp}
 use Rattle.book_settle.specs.Settles.{HasTried}
 use Rattle.book_settle.proofs.Counting.{count-append, passes_counts}

@@ -1,9 +1,9 @@
 -- Passes, and then a show.
-use Rattle.std.proofs.Common.{◌≡◌, ℕ, ◌+◌, ◌*◌, ◌≤◌, ◌<◌, ◌⊎◌, inl, inr, min, List, [], ◌∷◌, ◌++◌, length, refl, sym, ◌∙◌, ap, subst, arith, append_assoc}
-use Rattle.std.specs.Prelude.{Option, Some, None, Bool, true, false}
+use Rattle.std.proofs.Common.{◌≡◌, ℕ, ◌+◌, ◌*◌, ◌≤◌, ◌<◌, ◌⊎◌, inl, inr, min, List, [], ◌∷◌, ◌++◌, length, refl, ◌∙◌, ap, subst, arith, append_assoc}
+use Rattle.std.specs.Prelude.{Option, Some, None, false}
 use Rattle.std.proofs.lemmas.Bool.{cond-true, cases_lt}
 use Rattle.machine.specs.Kit.{Kit}
-use Rattle.book_history.specs.Book.{Book, Settings, Event, Shows, replay, apply, settled_to, shown}
+use Rattle.book_history.specs.Book.{Book, Settings, Event, Shows, replay, apply, settled_to}
 use Rattle.book_history.specs.Journal.{Journal}
 use Rattle.book_history.specs.Law.{lead_in}
 use Rattle.book_history.specs.Legal.{Legal}

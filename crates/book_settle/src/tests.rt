@@ -139,33 +139,42 @@ fn settled_twice<L: Ledger>(
     Ok((one, other))
 }
 
+/// The same, with a counter of its own.
+fn settles(
+    alloc: Global,
+    first: u32,
+    second: u32,
+) -> Result<((Shown, u64, u32), (Shown, u64, u32)), Fail> {
+    settled_twice::<Brand>(alloc, Blank::new(1), first, second)
+}
+
 /// A pass makes the marks 8, 12 and 16, two make them 8, 16 and 16, and three 8, 16 and 20.
 #[test]
 fn settles_link_by_link(rt: HostRuntime) -> Result<(), Fail> {
     let alloc = rt.alloc();
     assert_eq!(rt;
-        settled_twice::<Brand>(alloc, Blank::new(1), 1, 2)?,
+        settles(alloc, 1, 2)?,
         (
             (Shown::Estimate { settled_to: 2 }, 16, 94),
             (Shown::Settled, 20, 89)
         )
     );
     assert_eq!(rt;
-        settled_twice::<Brand>(alloc, Blank::new(1), 2, 1)?,
+        settles(alloc, 2, 1)?,
         (
             (Shown::Estimate { settled_to: 4 }, 16, 92),
             (Shown::Settled, 20, 89)
         )
     );
     assert_eq!(rt;
-        settled_twice::<Brand>(alloc, Blank::new(1), 0, 9)?,
+        settles(alloc, 0, 9)?,
         (
             (Shown::Estimate { settled_to: 0 }, 16, 96),
             (Shown::Settled, 20, 89)
         )
     );
     assert_eq!(rt;
-        settled_twice::<Brand>(alloc, Blank::new(1), 3, 4)?,
+        settles(alloc, 3, 4)?,
         ((Shown::Settled, 20, 90), (Shown::Settled, 20, 89))
     );
     Ok(())

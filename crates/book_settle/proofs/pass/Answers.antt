@@ -1,4 +1,3 @@
-use Rattle.std.proofs.Common.{refl}
 use Rattle.book_settle.proofs.Passing.{claimed_room, rises}
 use Rattle.book_settle.proofs.pass.Goals as goal
 
