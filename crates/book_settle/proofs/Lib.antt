@@ -1,0 +1,3 @@
+pub mod Passing
+pub mod Counting
+pub mod Settling

@@ -1,0 +1,4 @@
+pub mod Passes
+pub mod Rises
+pub mod Settles
+pub mod Counted
