@@ -8,7 +8,7 @@ use Rattle.module_registry.specs.Entries.{Entry}
 use Rattle.stimulus.specs.Records.{rows_of}
 use Rattle.typed_ir.specs.Cycles.{truth}
 use Rattle.cycle_eval.specs.Inputs.{values_at}
-use Rattle.cycle_eval.specs.States.{state_values}
+use Rattle.reg_transform.specs.States.{state_values}
 use Rattle.version_swap.specs.Behind.{design_of}
 use Rattle.wave_report.specs.Replies.{show_text}
 use Rattle.wave_report.specs.Tables.{table_text}

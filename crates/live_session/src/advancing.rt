@@ -4,7 +4,7 @@ ghost use Rattle.command_read.specs.Asking.{Runs};
 ghost use Rattle.cycle_eval.specs.Designs.{design_flat, work_of};
 ghost use Rattle.cycle_eval.specs.Inputs.{values_at};
 ghost use Rattle.cycle_eval.specs.Kits.{Fits};
-ghost use Rattle.cycle_eval.specs.States.{state_values};
+ghost use Rattle.reg_transform.specs.States.{state_values};
 ghost use Rattle.stimulus.specs.Records.{limit_of, rows_of};
 ghost use Rattle.stimulus.specs.Rows.{are_same, names_set};
 ghost use Rattle.typed_ir.specs.Cycles.{truth};

@@ -8,7 +8,7 @@ ghost use Rattle.stimulus.specs.Rows.{AreAscending};
 ghost use Rattle.cycle_eval.specs.Designs.{design_flat};
 ghost use Rattle.cycle_eval.specs.Inputs.{values_at};
 ghost use Rattle.cycle_eval.specs.Kits.{Fits};
-ghost use Rattle.cycle_eval.specs.States.{state_values};
+ghost use Rattle.reg_transform.specs.States.{state_values};
 
 use cycle_eval::Design;
 use std::alloc::Global;

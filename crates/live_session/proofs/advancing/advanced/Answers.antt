@@ -6,7 +6,7 @@ use Rattle.typed_ir.specs.Cycles.{truth}
 use Rattle.cycle_eval.specs.Designs.{design_flat}
 use Rattle.cycle_eval.specs.Inputs.{values_at}
 use Rattle.cycle_eval.specs.Kits.{run_of}
-use Rattle.cycle_eval.specs.States.{state_values}
+use Rattle.reg_transform.specs.States.{state_values}
 use Rattle.cycle_eval.proofs.RowRuns.{fits_on, true_answer}
 use Rattle.live_session.proofs.advancing.advanced.Goals as goal
 

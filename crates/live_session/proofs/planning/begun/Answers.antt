@@ -7,7 +7,7 @@ use Rattle.cycle_eval.specs.DesignLaws.{reset_fits}
 use Rattle.cycle_eval.specs.Designs.{design_flat}
 use Rattle.cycle_eval.specs.Inputs.{values_at}
 use Rattle.cycle_eval.specs.Kits.{Fits}
-use Rattle.cycle_eval.specs.States.{state_values}
+use Rattle.reg_transform.specs.States.{state_values}
 use Rattle.cycle_eval.proofs.RowRuns.{reset_values}
 use Rattle.live_session.proofs.planning.begun.Goals as goal
 

@@ -7,7 +7,7 @@ use Rattle.stimulus.specs.Rows.{names_set, are_same as same_numbers}
 use Rattle.typed_ir.specs.Cycles.{truth}
 use Rattle.cycle_eval.specs.Designs.{design_flat}
 use Rattle.cycle_eval.specs.Inputs.{values_at}
-use Rattle.cycle_eval.specs.States.{state_values}
+use Rattle.reg_transform.specs.States.{state_values}
 use Rattle.cycle_eval.proofs.RowRuns.{true_before}
 use Rattle.wave_report.specs.Replies.{run_text}
 use Rattle.live_session.specs.Runs.{rows_behind}
