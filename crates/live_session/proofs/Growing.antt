@@ -97,7 +97,7 @@ module _ (old new : List (List ℕ)) (grows : Grows old new) where
     files = files;
     top = top;
     clock = clock;
-    version = r.version;
+    version = r.version.value.number;
     design = Some design;
     row = row;
     record_ = rows;
@@ -109,19 +109,19 @@ module _ (old new : List (List ℕ)) (grows : Grows old new) where
   module _ (once : HasEachOnce old) (also : HasEachOnce new) (entries : List Entry) (grid : List ℕ) (r : Running)
       (files : AreSourcesWithin (length old) r.texts.files) (top : IsWithin (length old) r.texts.top) (clock : r.texts.clock.0 < length old)
       (row : AreWithin (length old) r.row.value) (rows : All (AreWithin (length old)) (rows_of r.record_))
-      (plan : ∥ Plans old r.texts.files r.texts.top r.texts.clock (Ok (design_of r.design r.keys)) ∥₁) where
+      (plan : ∥ Plans old r.texts.files r.texts.top r.texts.clock (Ok (design_of r.version.value.machine.value r.keys)) ∥₁) where
     -- what runs is as before
     pub world_grown : world_of new entries grid r ≡ world_of old entries grid r
     world_grown =
         ap₂ (λ (fs : List TextFile) (t : Option (List ℕ)). world_from entries grid r fs t (text_at new r.texts.clock.0)
-        (spelled new (design_of r.design r.keys)) (row_of new r.row.value) (map (row_of new) (rows_of r.record_)))
+        (spelled new (design_of r.version.value.machine.value r.keys)) (row_of new r.row.value) (map (row_of new) (rows_of r.record_)))
         (files_grown r.texts.files files) (top_grown r.texts.top top)
         ∙ ap₂ (λ (c : List ℕ) (d : Spelled). world_from entries grid r (map (text_file old) r.texts.files)
         (option_map (λ (id : NameId). text_at old id.0) r.texts.top) c d (row_of new r.row.value) (map (row_of new) (rows_of r.record_)))
         (grown_text old new r.texts.clock.0 grows clock)
-        (spelled_grown once also r.texts.files r.texts.top r.texts.clock top clock (design_of r.design r.keys) plan)
+        (spelled_grown once also r.texts.files r.texts.top r.texts.clock top clock (design_of r.version.value.machine.value r.keys) plan)
         ∙ ap₂ (λ (x : Row) (xs : List Row). world_from entries grid r (map (text_file old) r.texts.files)
-        (option_map (λ (id : NameId). text_at old id.0) r.texts.top) (text_at old r.texts.clock.0) (spelled old (design_of r.design r.keys)) x xs)
+        (option_map (λ (id : NameId). text_at old id.0) r.texts.top) (text_at old r.texts.clock.0) (spelled old (design_of r.version.value.machine.value r.keys)) x xs)
         (row_grown r.row.value row) (rows_grown (rows_of r.record_) rows)
 
   -- ---- what a session keeps
@@ -150,7 +150,9 @@ module _ (old new : List (List ℕ)) (grows : Grows old new) where
   kept_grown limits r h = record {
     named = named_grown r h.named;
     plans = ∥∥₁_elim h.plans ∥∥₁_prop
-        (λ plan. ∣ plans_grown r.texts.files r.texts.top r.texts.clock (design_of r.design r.keys) plan ∣₁);
+        (λ plan. ∣ plans_grown r.texts.files r.texts.top r.texts.clock (design_of r.version.value.machine.value r.keys) plan ∣₁);
+    digests = h.digests;
+    short = h.short;
     charge = h.charge;
     stimulus = h.stimulus;
   }

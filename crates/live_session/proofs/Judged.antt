@@ -1,61 +1,144 @@
--- Replies by a verdict.
-use Rattle.std.proofs.Common.{◌≡◌, ◌∙◌, ℕ, false, List, [], map, Option, Some, None, Result, Ok, Err, refl, sym, ap, subst}
-use Rattle.std.specs.Prelude.{IfOk, is_err}
-use Rattle.command_read.specs.Asking.{Asked}
+-- What a command did, by its verdict and by the entries that it added.
+use Rattle.std.proofs.Common.{◌≡◌, ◌∙◌, ℕ, false, List, [], ◌∷◌, ◌++◌, map, Option, Some, None, Result, Ok, Err, refl, sym, ap, subst, append-nil}
+use Rattle.std.specs.Prelude.{IfOk, codes}
+use Rattle.ls_text.specs.Texts.{HasEachOnce}
+use Rattle.book_history.specs.Book.{Book}
+use Rattle.book_history.specs.Outline.{outline_in}
+use Rattle.book_history.specs.Owned.{owned}
+use Rattle.book_settle.specs.Passes.{IsUnfinished, no_pass, no_ticket}
+use Rattle.command_read.specs.Asking.{Asked, Sets}
+use Rattle.command_read.specs.Spoken.{setting}
+use Rattle.command_read.specs.declared.port_value.PortValue.{PortValue}
+use Rattle.cycle_eval.specs.declared.design.Design.{Design}
 use Rattle.module_registry.specs.Entries.{Entry}
 use Rattle.version_swap.specs.Behind.{design_of}
-use Rattle.live_session.specs.Forms.{world_or}
-use Rattle.live_session.specs.Replies.{answer_text, command_text}
+use Rattle.live_session.specs.Beside.{Stands, settings_by}
+use Rattle.live_session.specs.Done.{IsDone}
+use Rattle.live_session.specs.Logs.{InputRow, Log, LogEvent, LogMoment, State, marks_of, moments_after}
+use Rattle.live_session.specs.Replies.{command_text}
 use Rattle.live_session.specs.Rows.{row_of}
-use Rattle.live_session.specs.Sessions.{settings_of, world_of}
+use Rattle.live_session.specs.Scripts.{Agrees, AllAgree, IsAccepted, entry_worlds}
+use Rattle.live_session.specs.Sessions.{world_of}
 use Rattle.live_session.specs.Settings.{Settings}
-use Rattle.live_session.specs.Turns.{Accepts, AnswersIn, IsAsBefore, IsBy, Refuses, no_answer}
-use Rattle.live_session.specs.Verdicts.{command_verdict}
+use Rattle.live_session.specs.Spelled.{spelled}
+use Rattle.live_session.specs.Turns.{Accepts, AnswersIn, Refuses, StopsIn, no_answer, undone_in, lost_in}
+use Rattle.live_session.specs.Verdicts.{command_verdict, set_row, with_row}
 use Rattle.live_session.specs.Worlds.{World, Refused}
 use Rattle.live_session.specs.declared.limits.Limits.{Limits}
 use Rattle.live_session.specs.declared.reply.Reply.{Reply}
 use Rattle.live_session.specs.declared.running.Running.{Running}
+use Rattle.live_session.proofs.Standing.{Adds}
 
-module _ (st : Settings) (asked : Asked) (old : World) (new : List ℕ → World) (v : Result World Refused) (r : Reply) where
-  abbrev leads : Result World Refused → Type 0
-  leads x = let w = world_or old x in new w.grid ≡ w
+module _ (st : Settings) (asked : Asked) (names : List (List ℕ)) (once : HasEachOnce names) (old new : World) (v : Result World Refused) (r : Reply) where
+  -- it was refused: no entry is new, and the world is as before
+  pub refused_done : (j : Log) (refused : Refused) → v ≡ Err refused → Refuses refused r → new ≡ old
+      → IsDone st (Ok asked) old new v j j r.lines r.refused
+  refused_done j refused is says same =
+      subst (λ (x : Result World Refused). IsDone st (Ok asked) old new x j j r.lines r.refused) (sym is)
+      (record {
+        added = [];
+        settings = refl;
+        events = sym (append-nil j.events);
+        goes = same;
+        refusal = says.refusal;
+        part = record { names = names; once = once; is = refl };
+        tells = λ (rest : List LogMoment). ap (λ (text : List ℕ). Some (text, rest)) (sym says.text);
+        agree = tt;
+      })
 
-  pub refused_by : (refused : Refused) → v ≡ Err refused → Refuses refused r → new old.grid ≡ old → IsBy st asked old new v r
-  refused_by refused is says same = record {
-    text = says.text ∙ sym (ap (answer_text st (Ok asked) old) is);
-    goes = subst leads (sym is) same;
-    refusal = says.refusal ∙ sym (ap is_err is);
-  }
+  -- it was accepted, and has no entry of its own
+  pub told_done : (j : Log) (w : World) → v ≡ Ok w → new ≡ w → IsAccepted names st old w [] asked → entry_worlds old asked ≡ []
+      → ((rest : List LogMoment) → command_text st asked old w rest ≡ Some (r.lines, rest)) → r.refused ≡ false
+      → IsDone st (Ok asked) old new v j j r.lines r.refused
+  told_done j w is same part none says accepts =
+      subst (λ (x : Result World Refused). IsDone st (Ok asked) old new x j j r.lines r.refused) (sym is)
+      (record {
+        added = [];
+        settings = refl;
+        events = sym (append-nil j.events);
+        goes = same;
+        refusal = accepts;
+        part = record { names = names; once = once; is = part };
+        tells = says;
+        agree = subst (λ (ws : List World). AllAgree ws []) (sym none) tt;
+      })
 
-  pub accepted_by : (w : World) → v ≡ Ok w → r.lines ≡ command_text st asked old w → r.refused ≡ false → new w.grid ≡ w → IsBy st asked old new v r
-  accepted_by w is says accepts same = record {
-    text = says ∙ sym (ap (answer_text st (Ok asked) old) is);
-    goes = subst leads (sym is) same;
-    refusal = accepts ∙ sym (ap is_err is);
-  }
+  -- it was accepted, and one of the entries is its own
+  pub entry_done : (was is : Log) (es own : List LogEvent) → Adds was is es → owned es ≡ own → (m : LogMoment) → moments_after was es ≡ m ∷ []
+      → (w : World) → v ≡ Ok w → new ≡ w → IsAccepted names st old w own asked → entry_worlds old asked ≡ old ∷ [] → Agrees old (outline_in m.book)
+      → ((rest : List LogMoment) → command_text st asked old w (m ∷ rest) ≡ Some (r.lines, rest)) → r.refused ≡ false
+      → IsDone st (Ok asked) old new v was is r.lines r.refused
+  entry_done was is es own adds mine m moments w judged same part at_one agrees says accepts =
+      subst (λ (x : Result World Refused). IsDone st (Ok asked) old new x was is r.lines r.refused) (sym judged)
+      (record {
+        added = es;
+        settings = adds.settings;
+        events = adds.events;
+        goes = same;
+        refusal = accepts;
+        part = record {
+          names = names;
+          once = once;
+          is = subst (λ (xs : List LogEvent). IsAccepted names st old w xs asked) (sym mine) part;
+        };
+        tells = λ (rest : List LogMoment). ap (λ (ms : List LogMoment). command_text st asked old w (ms ++ rest)) moments ∙ says rest;
+        agree = subst (λ (ws : List World). AllAgree ws (moments_after was es)) (sym at_one)
+            (subst (λ (ms : List LogMoment). AllAgree (old ∷ []) ms) (sym moments) (agrees, tt));
+      })
 
--- a design that runs refuses, and its world is as before
-pub refuses_as : {E : Type 0} (names : List (List ℕ)) (limits : Limits) (asked : Asked) (old : Running) (new : List Entry → (grid : List ℕ) → World)
-    (r : Result Reply E) (refused : Refused)
-    → ((interval lookback : ℕ) (entries : List Entry) (grid : List ℕ)
-    → command_verdict (settings_of interval lookback limits) (world_of names entries grid old) asked [] no_answer ≡ Err refused)
-    → ((entries : List Entry) (grid : List ℕ) → new entries grid ≡ world_of names entries grid old) → IfOk r (Refuses refused)
-    → IfOk r (λ (x : Reply). (interval lookback : ℕ) (entries : List Entry) (grid : List ℕ)
-    → IsBy (settings_of interval lookback limits) asked (world_of names entries grid old) (new entries)
-    (command_verdict (settings_of interval lookback limits) (world_of names entries grid old) asked [] no_answer) x)
-refuses_as names limits asked old new (Ok r) refused is same says = λ (interval lookback : ℕ) (entries : List Entry) (grid : List ℕ).
-    refused_by (settings_of interval lookback limits) asked (world_of names entries grid old) (new entries)
-    (command_verdict (settings_of interval lookback limits) (world_of names entries grid old) asked [] no_answer) r refused
-    (is interval lookback entries grid) says (same entries grid)
-refuses_as names limits asked old new (Err e) refused is same says = tt
+-- two states of what runs that are one to a session, but for the charge
+abbrev pub IsSameIn : (names : List (List ℕ)) → (old new : Running) → Type 0
+IsSameIn names old new =
+    (entries : List Entry) (grid : List ℕ) → world_of names entries grid new ≡ record (world_of names entries grid old) { charge = new.charge }
 
-pub refuses_in : {E : Type 0} (names : List (List ℕ)) (limits : Limits) (asked : Asked) (old new : Running) (r : Result Reply E) (refused : Refused)
-    → ((interval lookback : ℕ) (entries : List Entry) (grid : List ℕ)
-    → command_verdict (settings_of interval lookback limits) (world_of names entries grid old) asked [] no_answer ≡ Err refused)
-    → IsAsBefore old new → IfOk r (Refuses refused) → IfOk r (AnswersIn names limits asked old new)
-refuses_in names limits asked old new r refused is same says =
-    refuses_as names limits asked old (λ (entries : List Entry) (grid : List ℕ). world_of names entries grid new) r refused is (same names) says
+module _ {E : Type 0} (names : List (List ℕ)) (once : HasEachOnce names) (limits : Limits) (asked : Asked) (old new : Running) where
+  -- what runs refuses, and its world is as before
+  pub refuses_in : (j : Log) (r : Result Reply E) (refused : Refused)
+      → ((entries : List Entry) → command_verdict (settings_by limits j) (world_of names entries (marks_of j) old) asked [] no_answer ≡ Err refused)
+      → ((entries : List Entry) (grid : List ℕ) → world_of names entries grid new ≡ world_of names entries grid old) → IfOk r (Refuses refused)
+      → IfOk r (AnswersIn names limits asked old new j j)
+  refuses_in j (Ok r) refused is same says = λ (entries : List Entry).
+      refused_done (settings_by limits j) asked names once (world_of names entries (marks_of j) old) (world_of names entries (marks_of j) new)
+      (command_verdict (settings_by limits j) (world_of names entries (marks_of j) old) asked [] no_answer) r j refused (is entries) says
+      (same entries (marks_of j))
+  refuses_in j (Err e) refused is same says = tt
+
+-- memory ran out, and no entry is new
+pub stops_still : (names : List (List ℕ)) (limits : Limits) (asked : Asked) (old new : Running) (was is : Log) → Adds was is [] → IsSameIn names old new
+    → StopsIn names limits asked old new was is
+stops_still names limits asked old new was is adds same =
+    undone_in [] new.charge adds.settings adds.events
+    (record { passes = []; count = 0; last = []; split = refl; are = no_pass; gave_up = no_ticket }) same
 
 -- what runs with another record
 abbrev pub world_with : (names : List (List ℕ)) → List Entry → (grid : List ℕ) → Running → (rows : List (List (ℕ × ℕ))) → World
 world_with names entries grid r rows = let w = world_of names entries grid r in record w { record_ = map (row_of names) rows }
+
+-- a refusal beside whatever book
+pub refuses_any : {E : Type 0} (names : List (List ℕ)) (once : HasEachOnce names) (limits : Limits) (asked : Asked) (old new : Running) (r : Result Reply E)
+    (refused : Refused)
+    → ((j : Log) (entries : List Entry)
+    → command_verdict (settings_by limits j) (world_of names entries (marks_of j) old) asked [] no_answer ≡ Err refused)
+    → ((entries : List Entry) (grid : List ℕ) → world_of names entries grid new ≡ world_of names entries grid old) → IfOk r (Refuses refused)
+    → IfOk r (λ (x : Reply). (j : Log) → Stands limits (Some old) j → AnswersIn names limits asked old new j j x)
+refuses_any {E = E} names once limits asked old new (Ok r) refused is same says =
+    λ (j : Log) (stands : Stands limits (Some old) j). refuses_in {E = E} names once limits asked old new j (Ok r) refused (is j) same says
+refuses_any names once limits asked old new (Err e) refused is same says = tt
+
+-- inputs that were set
+pub set_done : (names : List (List ℕ)) (once : HasEachOnce names) (limits : Limits) (old : Running) (line : ℕ) (values : List PortValue)
+    (row : List (ℕ × ℕ)) (reply : Reply)
+    → set_row line (spelled names (design_of old.version.value.machine.value old.keys)) (row_of names old.row.value) (map (setting names) values)
+    ≡ Ok (row_of names row)
+    → Accepts (codes "ok set\n") reply → (j : Log) (entries : List Entry)
+    → IsDone (settings_by limits j) (Ok (Sets line (map (setting names) values))) (world_of names entries (marks_of j) old)
+    (let w = world_of names entries (marks_of j) old in record w { row = row_of names row })
+    (command_verdict (settings_by limits j) (world_of names entries (marks_of j) old) (Sets line (map (setting names) values)) [] no_answer)
+    j j reply.lines reply.refused
+set_done names once limits old line values row reply set says j entries =
+    let st = settings_by limits j in
+    let w = world_of names entries (marks_of j) old in
+    told_done st (Sets line (map (setting names) values)) names once w (record w { row = row_of names row })
+    (command_verdict st w (Sets line (map (setting names) values)) [] no_answer) reply j (record w { row = row_of names row })
+    (ap (with_row w) set) refl refl refl
+    (λ (rest : List LogMoment). ap (λ (text : List ℕ). Some (text, rest)) (sym says.text)) says.refusal

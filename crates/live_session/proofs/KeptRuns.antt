@@ -4,6 +4,7 @@ use Rattle.std.specs.List.{All}
 use Rattle.std.specs.Prelude.{Ok, IfSome}
 use Rattle.cycle_eval.specs.declared.design.Design.{Design}
 use Rattle.module_registry.specs.Keys.{KeyData}
+use Rattle.sha2.specs.Sha256.{sha256}
 use Rattle.stimulus.specs.Records.{limit_of, rows_of}
 use Rattle.version_swap.specs.Behind.{design_of}
 use Rattle.version_swap.specs.Plans.{Plans}
@@ -16,7 +17,7 @@ use Rattle.live_session.proofs.AscendingRows.{AreWithin}
 -- the texts, the design and its keys stay
 pub record StaysIn (old new : Running) : Type 0 where
   pub texts : new.texts ≡ old.texts
-  pub design : new.design ≡ old.design
+  pub machine : new.version.value.machine.value ≡ old.version.value.machine.value
   pub keys : new.keys ≡ old.keys
 
 pub kept_on : (names : List (List ℕ)) (limits : Limits) (old new : Running) → IsKept names limits old → StaysIn old new
@@ -31,9 +32,13 @@ kept_on names limits old new kept stays row rows charge stimulus = record {
     rows = rows;
   };
   plans =
-      subst (λ (ks : List KeyData). ∥ Plans names new.texts.files new.texts.top new.texts.clock (Ok (design_of new.design ks)) ∥₁) (sym stays.keys)
-      (subst (λ (d : Design). ∥ Plans names new.texts.files new.texts.top new.texts.clock (Ok (design_of d old.keys)) ∥₁) (sym stays.design)
-      (subst (λ (t : Texts). ∥ Plans names t.files t.top t.clock (Ok (design_of old.design old.keys)) ∥₁) (sym stays.texts) kept.plans));
+      subst (λ (ks : List KeyData). ∥ Plans names new.texts.files new.texts.top new.texts.clock (Ok (design_of new.version.value.machine.value ks)) ∥₁)
+      (sym stays.keys)
+      (subst (λ (d : Design). ∥ Plans names new.texts.files new.texts.top new.texts.clock (Ok (design_of d old.keys)) ∥₁) (sym stays.machine)
+      (subst (λ (t : Texts). ∥ Plans names t.files t.top t.clock (Ok (design_of old.version.value.machine.value old.keys)) ∥₁) (sym stays.texts)
+      kept.plans));
+  short = subst (λ (t : Texts). All (λ f. length f.text ≤ 4194304) t.files) (sym stays.texts) kept.short;
+  digests = subst (All (λ (k : KeyData). k.digest ≡ sha256 k.text)) (sym stays.keys) kept.digests;
   charge = charge;
   stimulus = stimulus;
 }

@@ -10,7 +10,9 @@ use Rattle.live_session.specs.Files.{TextFile}
 use Rattle.live_session.specs.Forms.{unbuilt, verdict_if, verdict_now, world_or, after, world_after, any_refused}
 use Rattle.live_session.specs.Loads.{LoadAnswer, Gave, Broke, AreAnswers, loaded_files, shelf_answer, shelf_answers}
 use Rattle.live_session.specs.Readings.{FilesRead, IsRightEdit, IsRightIf, IsRightAsked, IsRight, AreRight}
-use Rattle.live_session.specs.Replies.{answer_text, reply, lines, asked_of, answers_to, answers_of}
+use Rattle.live_session.specs.Logs.{LogMoment}
+use Rattle.live_session.specs.Replies.{answer_text, reply, lines as lines_of, text_then, asked_of, answers_to, answers_of}
+use Rattle.live_session.specs.Scripts.{judged_worlds, worlds}
 use Rattle.live_session.specs.Settings.{Settings}
 use Rattle.live_session.specs.Spelled.{Answer}
 use Rattle.live_session.specs.Verdicts.{Told, files_after, top_after, clock_after, loaded_verdict, planned_verdict, verdict}
@@ -164,16 +166,24 @@ module _ (one : OneAnswer) (st : Settings) where
       told : Result Asked TextFault → Told
       told c = record { asked = c; loads = u.loads; answer = u.answer }
 
-  same_reply : (w : World) (t u : Told) → verdict_now st t w ≡ verdict_now st u w → t.asked ≡ u.asked → reply st t w ≡ reply st u w
-  same_reply w t u judged is = ap (λ c. answer_text st c w (verdict_now st t w)) is ∙ ap (answer_text st u.asked w) judged
+  same_reply : (w : World) (t u : Told) → verdict_now st t w ≡ verdict_now st u w → t.asked ≡ u.asked → (ms : List LogMoment)
+      → reply st t w ms ≡ reply st u w ms
+  same_reply w t u judged is ms =
+      ap (λ c. answer_text st c w (verdict_now st t w) ms) is ∙ ap (λ v. answer_text st u.asked w v ms) judged
 
 -- ---- one output
 
--- what commands come to: their lines, whether one is refused, and the world behind them
+-- lines behind a reply
+same_then : (r : Option (List ℕ × List LogMoment)) (f g : List LogMoment → List ℕ) → ((ms : List LogMoment) → f ms ≡ g ms) → text_then r f ≡ text_then r g
+same_then None f g same = refl
+same_then (Some r) f g same = ap (λ (more : List ℕ). r.0 ++ more) (same r.1)
+
+-- what commands come to: their lines, whether one is refused, the world behind them, and those at the places of their entries
 pub record ComeToOne (st : Settings) (ts us : List Told) (w : World) : Type 0 where
-  pub lines : lines st ts w ≡ lines st us w
+  pub lines : (ms : List LogMoment) → lines_of st ts w ms ≡ lines_of st us w ms
   pub refused : any_refused st ts w ≡ any_refused st us w
   pub world : world_after st ts w ≡ world_after st us w
+  pub places : worlds st ts w ≡ worlds st us w
 
 abbrev first_or : Result Asked TextFault → List (Result Asked TextFault) → Result Asked TextFault
 first_or c [] = c
@@ -182,7 +192,7 @@ first_or c (x ∷ xs) = x
 module _ (one : OneAnswer) (st : Settings) where
   pub one_output : (ts us : List Told) (w : World) (rest others : List ShelfAnswer) → AreRight st w ts → AreRight st w us
       → asked_of ts ≡ asked_of us → answers_of ts ++ rest ≡ answers_of us ++ others → ComeToOne st ts us w
-  one_output [] [] w rest others p q same begun = record { lines = refl; refused = refl; world = refl }
+  one_output [] [] w rest others p q same begun = record { lines = λ ms. refl; refused = refl; world = refl; places = refl }
   one_output [] (u ∷ us) w rest others p q same begun = absurd (omega (arith, ap length same))
   one_output (t ∷ ts) [] w rest others p q same begun = absurd (omega (arith, ap length same))
   one_output (t ∷ ts) (u ∷ us) w rest others p q same begun =
@@ -195,9 +205,15 @@ module _ (one : OneAnswer) (st : Settings) where
       let behind : ComeToOne st ts us (after st t w) =
       one_output ts us (after st t w) rest others p.1 (subst (λ (v : World). AreRight st v us) (sym next) q.1) (ap (drop 1) same) judged.left in
       record {
-        lines = ap (λ r. r ++ lines st ts (after st t w)) (same_reply one st w t u judged.same first)
-            ∙ ap (λ r. reply st u w ++ r) (behind.lines ∙ ap (lines st us) next);
+        lines = λ (ms : List LogMoment).
+            ap (λ r. text_then r (λ (left : List LogMoment). lines_of st ts (after st t w) left)) (same_reply one st w t u judged.same first ms)
+            ∙ same_then (reply st u w ms) (λ (left : List LogMoment). lines_of st ts (after st t w) left) (λ (left : List LogMoment). lines_of st us (after st u w) left)
+            (λ (left : List LogMoment). behind.lines left ∙ ap (λ (v : World). lines_of st us v left) next);
         refused = ap (λ v. is_err v || any_refused st ts (after st t w)) judged.same
             ∙ ap (λ r. is_err (verdict_now st u w) || r) (behind.refused ∙ ap (any_refused st us) next);
         world = behind.world ∙ ap (world_after st us) next;
+        places =
+            ap (λ c. judged_worlds w c (verdict_now st t w) ++ worlds st ts (after st t w)) first
+            ∙ ap (λ v. judged_worlds w u.asked v ++ worlds st ts (after st t w)) judged.same
+            ∙ ap (λ ws. judged_worlds w u.asked (verdict_now st u w) ++ ws) (behind.places ∙ ap (worlds st us) next);
       }

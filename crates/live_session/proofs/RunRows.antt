@@ -1,11 +1,12 @@
 -- A run that is refused or recorded, by the names that its rows set and by the room of the session.
-use Rattle.std.proofs.Common.{◌≡◌, ◌∙◌, ℕ, zero, suc, ◌+◌, ◌<◌, ◌≤◌, ◌||◌, ◌==◌, Bool, true, false, not, cond, ltb, eqb, List, [], ◌∷◌, ◌++◌, map, take, length, replicate, Option, Some, None, Result, Ok, Err, refl, sym, ap, ap₂, subst, arith}
+use Rattle.std.proofs.Common.{◌≡◌, ◌∙◌, ℕ, zero, suc, ◌+◌, ◌<◌, ◌≤◌, ◌||◌, ◌==◌, Bool, true, false, not, cond, ltb, eqb, List, [], ◌∷◌, ◌++◌, map, take, drop, ◌-◌, length, replicate, Option, Some, None, Result, Ok, Err, refl, sym, ap, ap₂, subst, arith}
 use Rattle.std.specs.Prelude.{nat_lt}
 use Rattle.std.specs.List.{All}
 use Rattle.std.proofs.lemmas.Bool.{le-ltb, lt-ltb, ltb-false, ltb-true, ne_eqb}
-use Rattle.std.proofs.lemmas.List.{length-append, length-replicate, length-map, map-append}
-use Rattle.std.proofs.Math.Seq.{take-append_seam}
+use Rattle.std.proofs.lemmas.List.{length-append, length-replicate, length-map, map-append, take_all}
+use Rattle.std.proofs.Math.Seq.{drop-append_seam, take-append_seam}
 use Rattle.std.proofs.lemmas.List.Elements.{All-append, All-replicate}
+use Rattle.machine.specs.Rows.{slice}
 use Rattle.ls_text.specs.Texts.{HasEachOnce}
 use Rattle.stimulus.specs.Rows.{AreAscending, names_set, are_same as same_numbers}
 use Rattle.typed_ir.proofs.Cases.{by_cases}
@@ -60,7 +61,7 @@ module _ (st : Settings) (w : World) (line n : ℕ) (some : 1 ≤ n) (few : n �
 
 -- ---- rows
 
-map_replicate : {A B : Type 0} (f : A → B) (n : ℕ) (x : A) → map f (replicate n x) ≡ replicate n (f x)
+pub map_replicate : {A B : Type 0} (f : A → B) (n : ℕ) (x : A) → map f (replicate n x) ≡ replicate n (f x)
 map_replicate f zero x = refl
 map_replicate f (suc n) x = ap (λ xs. f x ∷ xs) (map_replicate f n x)
 
@@ -92,3 +93,12 @@ pub cycles_behind : (names : List (List ℕ)) (rows : List (List (ℕ × ℕ))) 
 cycles_behind names rows row n =
     length-append (map (row_of names) rows) (replicate n (row_of names row))
     ∙ ap₂ ◌+◌ (length-map rows (row_of names)) (length-replicate n (row_of names row))
+
+-- the rows behind a record are those that were added
+pub rows_added : (rows : List (List (ℕ × ℕ))) (row : List (ℕ × ℕ)) (n : ℕ)
+    → slice (rows ++ replicate n row) (length rows) (length (rows ++ replicate n row)) ≡ replicate n row
+rows_added rows row n =
+    let many : length (rows ++ replicate n row) - length rows ≡ n = omega (arith, length_run rows row n) in
+    ap (λ (k : ℕ). take k (drop (length rows) (rows ++ replicate n row))) many
+    ∙ ap (take n) (drop-append_seam rows (replicate n row))
+    ∙ take_all n (replicate n row) (omega (arith, length-replicate n row))

@@ -1,42 +1,45 @@
 -- Steps of a session by the replies of its calls.
-use Rattle.std.proofs.Common.{◌≡◌, ◌∙◌, ◌≤◌, ◌⊎◌, ℕ, Bool, true, false, cond, ltb, List, [], ◌∷◌, map, length, Result, Ok, Err, refl, sym, ap, subst, inl, inr, true≢false, arith}
+use Rattle.std.proofs.Common.{◌≡◌, ◌∙◌, ◌≤◌, ◌<◌, ◌+◌, ◌⊎◌, ℕ, Bool, true, false, cond, ltb, List, [], ◌∷◌, map, length, Result, Ok, Err, refl, sym, ap, subst, inl, inr, true≢false, arith, append-nil}
 use Rattle.std.specs.Prelude.{codes, IfOk, IfSome, OnErr, Some, None, is_err, is_some}
 use Rattle.std.specs.Bool.{MatchBool}
-use Rattle.std.specs.List.{All, list_any}
+use Rattle.std.specs.List.{All}
 use Rattle.std.specs.declared.option.Option.{Option}
 use Rattle.std.proofs.lemmas.Bool.{le-ltb, lt-ltb}
 use Rattle.std.proofs.lemmas.List.Elements.{All-cons, All-head, All-nil, All-tail}
+use Rattle.book_settle.proofs.Counting.{unfinished_outline}
+use Rattle.book_settle.specs.Passes.{no_pass, no_ticket}
 use Rattle.ls_port.specs.Causes.{Rose}
 use Rattle.ls_port.specs.declared.shelf_answer.ShelfAnswer.{ShelfAnswer}
 use Rattle.ls_text.specs.Readings.{TextFault}
-use Rattle.ls_text.specs.Texts.{Grows}
-use Rattle.command_read.specs.Asking.{Asked, AsksStatus, Block, Edits, GivenFile, LineOperation, LoadedFile, Quits, Settles}
+use Rattle.ls_text.specs.Texts.{Grows, HasEachOnce}
+use Rattle.command_read.specs.Asking.{Asked, Block, Edits, GivenFile, LoadedFile, Quits}
 use Rattle.command_read.specs.Formed.{IsFormed}
 use Rattle.command_read.specs.Spoken.{edited, given_file, line_operation, spoken}
 use Rattle.command_read.specs.declared.command.Command.{Command}
 use Rattle.command_read.specs.declared.command.Command.TheVariants as the_command
-use Rattle.command_read.specs.declared.file_line.FileLine.{FileLine}
 use Rattle.command_read.specs.declared.edit.Edit.{Edit}
+use Rattle.command_read.specs.declared.file_line.FileLine.{FileLine}
 use Rattle.command_read.specs.declared.op_line.OpLine.{OpLine}
 use Rattle.module_registry.specs.Entries.{Entry}
 use Rattle.module_registry.specs.Views.{entries_of}
-use Rattle.version_swap.specs.Behind.{design_of}
-use Rattle.live_session.specs.Begins.{IsBegun, IsRefused}
+use Rattle.book_history.specs.Outline.{Outline}
+use Rattle.cycle_eval.specs.declared.design.Design.{Design}
+use Rattle.live_session.specs.Beside.{StandsBeside, settings_by, settings_in, world_in}
+use Rattle.live_session.specs.Done.{IsDone, told}
 use Rattle.live_session.specs.Files.{TextFile}
-use Rattle.live_session.specs.Forms.{edit_line, first_line, unbuilt_command, verdict_if, verdict_now}
+use Rattle.live_session.specs.Forms.{first_line, unbuilt_command, verdict_if, verdict_now}
 use Rattle.live_session.specs.Kept.{IsKept}
 use Rattle.live_session.specs.Loaded.{ComesTo, result_of}
-use Rattle.live_session.specs.Loads.{LoadAnswer, Gave, Broke, AddsAnswers, AreToFirst, HasFailed, LosesAnswers, is_broken, loaded_files, name_in, shelf_answer, shelf_answers}
-use Rattle.live_session.specs.Operations.{operations_fault, registers_of}
-use Rattle.live_session.specs.Readings.{FilesRead, IsRight, IsRightBlock, IsRightCommand, IsRightEdit, IsRightIf}
+use Rattle.live_session.specs.Loads.{LoadAnswer, Gave, Broke, AddsAnswers, AreToFirst, HasFailed, LosesAnswers, loaded_files, name_in, shelf_answer, shelf_answers}
+use Rattle.live_session.specs.Logs.{InputRow, Log, LogMoment, marks_of, outline_of}
+use Rattle.live_session.specs.Readings.{IsRight, IsRightBlock, IsRightCommand, IsRightEdit, IsRightIf}
 use Rattle.live_session.specs.Replies.{answers_to_command}
-use Rattle.live_session.specs.Sessions.{limits_of, running_world, settings_of, world, world_of}
+use Rattle.live_session.specs.Sessions.{limits_of, running_world, world_of}
 use Rattle.live_session.specs.Settings.{Settings}
-use Rattle.live_session.specs.Spelled.{Answer, Spelled, spelled}
-use Rattle.live_session.specs.Steps.{StepsTo, told}
-use Rattle.live_session.specs.Taken.{TakesBlock}
-use Rattle.live_session.specs.Turns.{Answers, AnswersIn, IsAsBefore, IsBy, Refuses, no_answer}
-use Rattle.live_session.specs.Verdicts.{Told, clock_after, command_verdict, edited as edited_world, files_after, loaded_verdict, planned_verdict, top_after, unless}
+use Rattle.live_session.specs.Steps.{StepsTo, Stops, undone, lost}
+use Rattle.live_session.specs.Taken.{LosesBlock, TakesBlock, lost_lines, none_taken}
+use Rattle.live_session.specs.Turns.{Answers, AnswersFrom, AnswersIn, Refuses, StopsAt, StopsFrom, StopsIn, lost_at, lost_in, no_answer, undone_at, undone_in}
+use Rattle.live_session.specs.Verdicts.{Told, command_verdict, loaded_verdict}
 use Rattle.live_session.specs.Worlds.{World, Refused, fresh, refused_at, refused_text}
 use Rattle.live_session.specs.declared.limits.Limits.{Limits}
 use Rattle.live_session.specs.declared.loads.Loads.{Loads}
@@ -45,15 +48,12 @@ use Rattle.live_session.specs.declared.running.Running.{Running}
 use Rattle.live_session.specs.declared.session.Session.{Session}
 use Rattle.live_session.proofs.GivenLoads.{none_added}
 use Rattle.live_session.proofs.Growing.{kept_grown}
-use Rattle.live_session.proofs.Judged.{accepted_by, refused_by}
+use Rattle.live_session.proofs.Judged.{refused_done, told_done}
+use Rattle.live_session.proofs.Standing.{IsLegal, outline_behind}
 
--- ---- a design, or none
-
--- the world by the cycles of its own marks
-pub own_grid : (names : List (List ℕ)) (entries : List Entry) (grid : List ℕ) (running : Option Running)
-    → let w = running_world names entries grid running in running_world names entries w.grid running ≡ w
-own_grid names entries grid None = refl
-own_grid names entries grid (Some r) = refl
+-- no text stands twice in no table
+pub none_twice : HasEachOnce []
+none_twice = λ i j lt below. absurd (omega (arith, lt))
 
 -- what is kept of a design is kept by a table that has grown
 pub kept_on_names : (old new : List (List ℕ)) → Grows old new → (limits : Limits) (running : Option Running) → IfSome running (IsKept old limits)
@@ -61,91 +61,126 @@ pub kept_on_names : (old new : List (List ℕ)) → Grows old new → (limits : 
 kept_on_names old new grows limits None h = tt
 kept_on_names old new grows limits (Some r) h = kept_grown old new grows limits r h
 
--- the same world where the design stays that
-stays : (names : List (List ℕ)) (entries : List Entry) (running : Option Running) (r x : Running) → running ≡ Some r
-    → ((ns : List (List ℕ)) (es : List Entry) (grid : List ℕ) → world_of ns es grid x ≡ world_of ns es grid r)
-    → (grid : List ℕ) → running_world names entries grid (Some x) ≡ running_world names entries grid running
-stays names entries running r x is same grid = same names entries grid ∙ sym (ap (running_world names entries grid) is)
-
-pub stays_on : {E : Type 0} (names : List (List ℕ)) (entries : List Entry) (running : Option Running) (r x : Running) (result : Result Reply E)
-    → running ≡ Some r → OnErr result (IsAsBefore r x)
-    → OnErr result ((grid : List ℕ) → running_world names entries grid (Some x) ≡ running_world names entries grid running)
-stays_on names entries running r x (Ok reply) is same = tt
-stays_on names entries running r x (Err e) is same = stays names entries running r x is same
-
 -- ---- replies to commands that look at nothing outside
 
--- the reply to a command by a session with this design before and behind it
-abbrev pub GivesBy : (names : List (List ℕ)) → List Entry → Limits → Asked → (before after : Option Running) → Reply → Type 0
-GivesBy names entries limits asked before after reply =
-    (interval lookback : ℕ) (grid : List ℕ)
-    → IsBy (settings_of interval lookback limits) asked (running_world names entries grid before)
-    (λ (g : List ℕ). running_world names entries g after)
-    (verdict_if (unbuilt_command (running_world names entries grid before) asked)
-    (command_verdict (settings_of interval lookback limits) (running_world names entries grid before) asked [] no_answer)) reply
+-- a refusal leaves session and book as they are
+pub refuses_done : (st : Settings) (asked : Result Asked TextFault) (w : World) (v : Result World Refused) (j : Log) (refused : Refused) (r : Reply)
+    → v ≡ Err refused → Refuses refused r → IsDone st asked w w v j j r.lines r.refused
+refuses_done st (Ok asked) w v j refused r is says = refused_done st asked [] none_twice w w v r j refused is says refl
+refuses_done st (Err fault) w v j refused r is says =
+    subst (λ (x : Result World Refused). IsDone st (Err fault) w w x j j r.lines r.refused) (sym is)
+    (record {
+      added = [];
+      settings = refl;
+      events = sym (append-nil j.events);
+      goes = refl;
+      refusal = says.refusal;
+      part = record { names = []; once = none_twice; is = refl };
+      tells = λ (rest : List LogMoment). ap (λ (text : List ℕ). Some (text, rest)) (sym says.text);
+      agree = tt;
+    })
 
-module _ (names : List (List ℕ)) (entries : List Entry) (limits : Limits) (asked : Asked) (before : Option Running) where
+pub refuses_with : {E : Type 0} (asked : Asked) (s : Session) (j : Log) (refused : Refused) (result : Result Reply E)
+    → verdict_now (settings_in s j) (told (Ok asked) [] no_answer) (world_in s j) ≡ Err refused
+    → IfOk result (Refuses refused) → IfOk result (Answers asked s s j j)
+refuses_with asked s j refused (Err e) is says = tt
+refuses_with asked s j refused (Ok reply) is says =
+    refuses_done (settings_in s j) (Ok asked) (world_in s j) (verdict_now (settings_in s j) (told (Ok asked) [] no_answer) (world_in s j)) j refused reply is
+    says
+
+module _ (asked : Asked) (built : (w : World) → unbuilt_command w asked ≡ None) (old : Session) (was is : Log) (r x : Running)
+    (runs : old.running ≡ Some r) where
+  world_was : world_in old was ≡ world_of old.names (entries_of old.registry) (marks_of was) r
+  world_was = ap (running_world old.names (entries_of old.registry) (marks_of was)) runs
+
+  abbrev world_is : World
+  world_is = world_of old.names (entries_of old.registry) (marks_of is) x
+
   -- a design that runs answers for its session
-  pub answers_on : {E : Type 0} (r x : Running) (result : Result Reply E) → before ≡ Some r → ((w : World) → unbuilt_command w asked ≡ None)
-      → IfOk result (AnswersIn names limits asked r x) → IfOk result (GivesBy names entries limits asked before (Some x))
-  answers_on r x (Err e) is built h = tt
-  answers_on r x (Ok reply) is built h =
-      subst (λ (b : Option Running). GivesBy names entries limits asked b (Some x) reply) (sym is) (λ (interval lookback : ℕ) (grid : List ℕ).
-      let w = world_of names entries grid r in
-      let st = settings_of interval lookback limits in
-      subst (λ (o : Option ℕ). IsBy st asked w (λ (g : List ℕ). world_of names entries g x) (verdict_if o
-      (command_verdict st w asked [] no_answer)) reply)
-      (sym (built w)) (h interval lookback entries grid))
+  pub answers_for : (reply : Reply) → AnswersIn old.names old.limits asked r x was is reply
+      → AnswersFrom (settings_in old was) asked (world_in old was) world_is was is reply
+  answers_for reply h =
+      let st = settings_by old.limits was in
+      let before = world_of old.names (entries_of old.registry) (marks_of was) r in
+      subst (λ (w : World). IsDone st (Ok asked) w world_is (verdict_now st (told (Ok asked) [] no_answer) w) was is reply.lines reply.refused)
+      (sym world_was)
+      (subst (λ (o : Option ℕ). IsDone st (Ok asked) before world_is (verdict_if o (command_verdict st before asked [] no_answer)) was is reply.lines
+      reply.refused)
+      (sym (built before)) (h (entries_of old.registry)))
 
-  -- a refusal leaves the session as it is
-  pub refuses_with : {E : Type 0} (refused : Refused) (result : Result Reply E)
-      → ((st : Settings) (grid : List ℕ) → let w = running_world names entries grid before in
-      verdict_if (unbuilt_command w asked) (command_verdict st w asked [] no_answer) ≡ Err refused)
-      → IfOk result (Refuses refused) → IfOk result (GivesBy names entries limits asked before before)
-  refuses_with refused (Err e) is says = tt
-  refuses_with refused (Ok reply) is says = λ (interval lookback : ℕ) (grid : List ℕ).
-      let w = running_world names entries grid before in
-      let st = settings_of interval lookback limits in
-      refused_by st asked w (λ (g : List ℕ). running_world names entries g before)
-      (verdict_if (unbuilt_command w asked) (command_verdict st w asked [] no_answer)) reply refused (is st grid) says
-      (own_grid names entries grid before)
+  pub answers_on : {E : Type 0} (result : Result Reply E) → IfOk result (AnswersIn old.names old.limits asked r x was is)
+      → IfOk result (AnswersFrom (settings_in old was) asked (world_in old was) world_is was is)
+  answers_on (Err e) h = tt
+  answers_on (Ok reply) h = answers_for reply h
+
+  -- and stops for it
+  pub stops_for : IsLegal is → StopsIn old.names old.limits asked r x was is
+      → StopsFrom (settings_in old was) asked (world_in old was) world_is was is
+  stops_for legal (lost_in reply h) = lost_at reply (answers_for reply h)
+  stops_for legal (undone_in own charge settings events unfinished same) =
+      let marks : marks_of is ≡ marks_of was =
+      ap (λ (o : Outline Design InputRow). o.marks)
+      (outline_behind was is own (record { settings = settings; events = events }) legal
+      ∙ unfinished_outline was.settings (outline_of was) own unfinished) in
+      undone_at own charge settings events unfinished
+      (same (entries_of old.registry) (marks_of is)
+      ∙ ap (λ (g : List ℕ). record (world_of old.names (entries_of old.registry) g r) { charge = charge }) marks
+      ∙ ap (λ (w : World). record w { charge = charge }) (sym world_was))
+
+  pub stops_on : {E : Type 0} (result : Result Reply E) → IsLegal is → OnErr result (StopsIn old.names old.limits asked r x was is)
+      → OnErr result (StopsFrom (settings_in old was) asked (world_in old was) world_is was is)
+  stops_on (Ok reply) legal h = tt
+  stops_on (Err e) legal h = stops_for legal h
+
+-- nothing is new
+pub stops_still : {E : Type 0} (asked : Asked) (s : Session) (j : Log) (result : Result Reply E) → OnErr result (StopsAt asked s s j j)
+stops_still asked s j (Ok reply) = tt
+stops_still asked s j (Err e) =
+    undone_at [] (world_in s j).charge refl (sym (append-nil j.events))
+    (record { passes = []; count = 0; last = []; split = refl; are = no_pass; gave_up = no_ticket }) refl
+
+-- `quit`
+pub quits_so : (line : ℕ) (s : Session) (j : Log) (reply : Reply) → reply.lines ≡ codes "ok quit\n" → reply.refused ≡ false
+    → Answers (Quits line) s s j j reply
+quits_so line s j reply says accepts =
+    told_done (settings_in s j) (Quits line) [] none_twice (world_in s j) (world_in s j) (Ok (world_in s j)) reply j (world_in s j) refl refl refl refl
+    (λ (rest : List LogMoment). ap (λ (text : List ℕ). Some (text, rest)) (sym says)) accepts
 
 -- ---- steps
 
-module _ (asked : Asked) (loads : List LoadAnswer) (answer : Answer) (before behind : Option (List ShelfAnswer)) (faults count : ℕ)
-    (old new : Session) where
-  abbrev this : Told
-  this = told (Ok asked) loads answer
-
-  -- a step by the verdict on its command
-  pub steps_by : (reply : Reply) → AddsAnswers before behind (answers_to_command asked loads) → HasFailed (list_any is_broken loads) faults count
-      → limits_of new ≡ limits_of old
-      → ((interval lookback : ℕ) (grid : List ℕ) → IsRight (settings_of interval lookback (limits_of old)) (world old grid) this)
-      → ((interval lookback : ℕ) (grid : List ℕ) → IsBy (settings_of interval lookback (limits_of old)) asked (world old grid) (world new)
-      (verdict_now (settings_of interval lookback (limits_of old)) this (world old grid)) reply)
-      → StepsTo (Ok asked) before behind faults count old new reply.lines reply.refused
-  steps_by reply adds cause limits right by = record {
-    loads = loads;
-    answer = answer;
-    adds = adds;
-    cause = cause;
-    limits = limits;
-    right = right;
-    replies = λ (interval lookback : ℕ) (grid : List ℕ). (by interval lookback grid).text;
-    goes = λ (interval lookback : ℕ) (grid : List ℕ). (by interval lookback grid).goes;
-    refuses = λ (interval lookback : ℕ) (grid : List ℕ). (by interval lookback grid).refusal;
-  }
-
 -- nothing is looked at
-pub answered : {E : Type 0} (asked : Asked) (answers : Option (List ShelfAnswer)) (faults : ℕ) (old new : Session) (result : Result Reply E)
+pub answered : {E : Type 0} (asked : Asked) (answers : Option (List ShelfAnswer)) (faults : ℕ) (old new : Session) (was is : Log) (result : Result Reply E)
     → limits_of new ≡ limits_of old → answers_to_command asked [] ≡ [] → ((st : Settings) (w : World) → IsRight st w (told (Ok asked) [] no_answer))
-    → IfOk result (Answers asked old new)
-    → IfOk result (λ r. StepsTo (Ok asked) answers answers faults faults old new r.lines r.refused)
-answered asked answers faults old new (Err e) limits none right h = tt
-answered asked answers faults old new (Ok reply) limits none right h =
-    steps_by asked [] no_answer answers answers faults faults old new reply (subst (AddsAnswers answers answers) (sym none)
-    (none_added answers)) refl limits
-    (λ (interval lookback : ℕ) (grid : List ℕ). right (settings_of interval lookback (limits_of old)) (world old grid)) h
+    → StandsBeside new is → IfOk result (Answers asked old new was is)
+    → IfOk result (λ r. StepsTo (Ok asked) answers answers faults faults old new was is r.lines r.refused)
+answered asked answers faults old new was is (Err e) limits none right beside h = tt
+answered asked answers faults old new was is (Ok reply) limits none right beside h = record {
+  loads = [];
+  answer = no_answer;
+  adds = subst (AddsAnswers answers answers) (sym none) (none_added answers);
+  cause = refl;
+  limits = limits;
+  right = right (settings_in old was) (world_in old was);
+  done = h;
+  beside = beside;
+}
+
+step_of : (asked : Asked) (answers : Option (List ShelfAnswer)) (faults : ℕ) (old new : Session) (was is : Log) (reply : Reply)
+    → limits_of new ≡ limits_of old → answers_to_command asked [] ≡ [] → ((st : Settings) (w : World) → IsRight st w (told (Ok asked) [] no_answer))
+    → StandsBeside new is → Answers asked old new was is reply → StepsTo (Ok asked) answers answers faults faults old new was is reply.lines reply.refused
+step_of asked answers faults old new was is reply limits none right beside h =
+    answered {E = ℕ} asked answers faults old new was is (Ok reply) limits none right beside h
+
+pub stopped : {E : Type 0} (asked : Asked) (answers : Option (List ShelfAnswer)) (faults : ℕ) (old new : Session) (was is : Log) (result : Result Reply E)
+    → limits_of new ≡ limits_of old → answers_to_command asked [] ≡ [] → ((st : Settings) (w : World) → IsRight st w (told (Ok asked) [] no_answer))
+    → StandsBeside new is → OnErr result (StopsAt asked old new was is)
+    → OnErr result (Stops (Ok asked) answers answers faults faults old new was is)
+stopped asked answers faults old new was is (Ok reply) limits none right beside h = tt
+stopped asked answers faults old new was is (Err e) limits none right beside h = by h
+  where
+    by : StopsAt asked old new was is → Stops (Ok asked) answers answers faults faults old new was is
+    by (undone_at own charge settings events unfinished same) = undone own charge settings events unfinished same
+    by (lost_at reply done) = lost reply.lines reply.refused (step_of asked answers faults old new was is reply limits none right beside done)
 
 -- so nothing is lost
 pub none_lost : {E : Type 0} (asked : Asked) (answers : Option (List ShelfAnswer)) (result : Result Reply E)
@@ -155,19 +190,18 @@ none_lost asked answers (Err e) = record { more = []; adds = none_added answers;
 
 -- a line that is refused as it is read
 pub fault_steps : {E : Type 0} (fault : TextFault) (s : Session) (result : Result Reply E) → IfOk result (Refuses (refused_text [] 0 fault))
-    → IfOk result (λ r. (answers : Option (List ShelfAnswer)) (faults : ℕ)
-    → StepsTo (Err fault) answers answers faults faults s s r.lines r.refused)
+    → IfOk result (λ r. (answers : Option (List ShelfAnswer)) (faults : ℕ) (j : Log) → StandsBeside s j
+    → StepsTo (Err fault) answers answers faults faults s s j j r.lines r.refused)
 fault_steps fault s (Err e) says = tt
-fault_steps fault s (Ok reply) says = λ (answers : Option (List ShelfAnswer)) (faults : ℕ). record {
+fault_steps fault s (Ok reply) says = λ (answers : Option (List ShelfAnswer)) (faults : ℕ) (j : Log) (beside : StandsBeside s j). record {
   loads = [];
   answer = no_answer;
   adds = none_added answers;
   cause = refl;
   limits = refl;
-  right = λ (interval lookback : ℕ) (grid : List ℕ). refl;
-  replies = λ (interval lookback : ℕ) (grid : List ℕ). says.text;
-  goes = λ (interval lookback : ℕ) (grid : List ℕ). own_grid s.names (entries_of s.registry) grid s.running;
-  refuses = λ (interval lookback : ℕ) (grid : List ℕ). says.refusal;
+  right = refl;
+  done = refuses_done (settings_in s j) (Err fault) (world_in s j) (Err (refused_text [] 0 fault)) j (refused_text [] 0 fault) reply refl says;
+  beside = beside;
 }
 
 -- ---- answers to loads
@@ -191,209 +225,164 @@ none_given : (loads : List LoadedFile) → shelf_answers loads [] ≡ []
 none_given [] = refl
 none_given (load ∷ loads) = refl
 
--- ---- forms that aren't built
-
-pub not_some : (o : Option ℕ) → ((x : ℕ) → o ≡ Some x → ⊥) → o ≡ None
-not_some None not = refl
-not_some (Some x) not = absurd (not x refl)
-
-none_isn't : {A : Type 0} (x : A) → ◌≡◌ {A = Option A} None (Some x) → ⊥
-none_isn't x is = true≢false (sym (ap is_some is))
-
-module _ (names : List (List ℕ)) (entries : List Entry) where
-  pub none_runs : (running : Option Running) (block : Block) → None ≡ edit_line (running_world names entries [] running).design block
-      → running ≡ None
-  none_runs None block is = refl
-  none_runs (Some r) block is = absurd (none_isn't block.line is)
-
-  no_line : (ops : List OpLine) → None ≡ first_line (map (line_operation names) ops) → ops ≡ []
-  no_line [] is = refl
-  no_line (o ∷ os) is = absurd (none_isn't o.line is)
-
-  pub no_operations : (running : Option Running) (e : Edit) → None ≡ edit_line (running_world names entries [] running).design (edited names e)
-      → e.ops ≡ []
-  no_operations None e is = no_line e.ops is
-  no_operations (Some r) e is = absurd (none_isn't e.line is)
-
 abbrev nothing : List LoadAnswer
 nothing = []
 
-module _ (block : Block) (s : Session) (answers : Option (List ShelfAnswer)) (faults : ℕ) where
+-- ---- blocks that are refused before anything is loaded
+
+module _ (block : Block) (s : Session) (j : Log) (answers : Option (List ShelfAnswer)) (faults : ℕ) (beside : StandsBeside s j) where
   abbrev without : Told
   without = told (Ok (Edits block)) [] no_answer
 
-  -- nothing is loaded
-  refuses_block : {E : Type 0} (refused : Refused) (result : Result Reply E)
-      → ((st : Settings) (grid : List ℕ) → st.room ≡ (limits_of s).rooms.session → verdict_now st without (world s grid) ≡ Err refused)
-      → ((st : Settings) (grid : List ℕ) → st.room ≡ (limits_of s).rooms.session → IsRight st (world s grid) without)
-      → IfOk result (Refuses refused)
-      → IfOk result (λ r. StepsTo (Ok (Edits block)) answers answers faults faults s s r.lines r.refused)
+  refuses_block : {E : Type 0} (refused : Refused) (result : Result Reply E) → verdict_now (settings_in s j) without (world_in s j) ≡ Err refused
+      → IsRight (settings_in s j) (world_in s j) without → IfOk result (Refuses refused)
+      → IfOk result (λ r. StepsTo (Ok (Edits block)) answers answers faults faults s s j j r.lines r.refused)
   refuses_block refused (Err e) is right says = tt
-  refuses_block refused (Ok reply) is right says =
-      steps_by (Edits block) [] no_answer answers answers faults faults s s reply
-      (subst (AddsAnswers answers answers) (sym (none_given block.loads)) (none_added answers)) refl refl
-      (λ (interval lookback : ℕ) (grid : List ℕ). right (settings_of interval lookback (limits_of s)) grid refl)
-      (λ (interval lookback : ℕ) (grid : List ℕ).
-      let st = settings_of interval lookback (limits_of s) in
-      refused_by st (Edits block) (world s grid) (world s) (verdict_now st without (world s grid)) reply refused (is st grid refl) says
-      (own_grid s.names (entries_of s.registry) grid s.running))
-
-  -- 90
-  pub unbuilt_steps : {E : Type 0} (line : ℕ) (result : Result Reply E) → ((grid : List ℕ) → Some line ≡ edit_line (world s grid).design block)
-      → IfOk result (Refuses (refused_at 90 line []))
-      → IfOk result (λ r. StepsTo (Ok (Edits block)) answers answers faults faults s s r.lines r.refused)
-  unbuilt_steps line result unbuilt =
-      refuses_block (refused_at 90 line []) result
-      (λ (st : Settings) (grid : List ℕ) same. ap (λ (o : Option ℕ). verdict_if o (command_verdict st (world s grid) (Edits block) [] no_answer))
-      (sym (unbuilt grid)))
-      (λ (st : Settings) (grid : List ℕ) same. subst (λ (o : Option ℕ). IsRightIf o [] (IsRightCommand st (world s grid)
-      (Edits block) [] no_answer)) (unbuilt grid) refl)
-
-  -- 68
-  pub full_steps : {E : Type 0} (result : Result Reply E) → s.running ≡ None → first_line block.ops ≡ None → (limits_of s).rooms.session ≡ 0
-      → IfOk result (Refuses (refused_at 68 block.line []))
-      → IfOk result (λ r. StepsTo (Ok (Edits block)) answers answers faults faults s s r.lines r.refused)
-  full_steps result none built full =
-      refuses_block (refused_at 68 block.line []) result
-      (λ (st : Settings) (grid : List ℕ) same.
-      ap (λ (r : Option Running). verdict_now st without (running_world s.names (entries_of s.registry) grid r)) none
-      ∙ ap (λ (o : Option ℕ). verdict_if o (command_verdict st fresh (Edits block) [] no_answer)) built
-      ∙ ap (λ (no_room : Bool). cond no_room (Err (refused_at 68 block.line [])) (loaded_verdict fresh block no_answer
-      (loaded_files block.loads nothing)))
-      (lt-ltb st.room 1 (omega (arith, same, full))))
-      (λ (st : Settings) (grid : List ℕ) same.
-      subst (λ (r : Option Running). IsRight st (running_world s.names (entries_of s.registry) grid r) without) (sym none)
-      (subst (λ (o : Option ℕ). IsRightIf o nothing (IsRightBlock st fresh block nothing no_answer)) (sym built)
-      (subst (λ (no_room : Bool). MatchBool no_room (nothing ≡ nothing) (IsRightEdit fresh block nothing no_answer))
-      (sym (lt-ltb st.room 1 (omega (arith, same, full)))) refl)))
-
--- ---- the first block
-
-module _ (block : Block) (loaded : List TextFile) (old new : Session) where
-  abbrev files_or : Result (List TextFile) Refused → List TextFile
-  files_or (Ok files) = files
-  files_or (Err refused) = []
-
-  read_again : (answer : Answer) → FilesRead (files_after fresh block loaded) (top_after fresh block) (clock_after fresh block) answer
-      → (given : Result (List TextFile) Refused) → given ≡ Ok loaded
-      → (files : List TextFile) → given ≡ Ok files
-      → FilesRead (files_after fresh block files) (top_after fresh block) (clock_after fresh block) answer
-  read_again answer h given these files is =
-      subst (λ (fs : List TextFile). FilesRead (files_after fresh block fs) (top_after fresh block) (clock_after fresh block) answer)
-      (ap files_or (sym these ∙ is)) h
-
-  pub refused_takes : (entries : List Entry) (reply : Reply) → new.running ≡ None → IsRefused block loaded entries reply
-      → TakesBlock block (Ok loaded) old new reply
-  refused_takes entries reply none h = record {
-    answer = Err h.fault;
-    read = read_again (Err h.fault) h.read (Ok loaded) refl;
-    by = λ (interval lookback : ℕ).
-        refused_by (settings_of interval lookback (limits_of old)) (Edits block) fresh (world new) (planned_verdict fresh block loaded
-        (Err h.fault)) reply
-        (refused_text (files_after fresh block loaded) block.line h.fault) refl h.refuses (ap (running_world new.names
-        (entries_of new.registry) []) none);
+  refuses_block refused (Ok reply) is right says = record {
+    loads = [];
+    answer = no_answer;
+    adds = subst (AddsAnswers answers answers) (sym (none_given block.loads)) (none_added answers);
+    cause = refl;
+    limits = refl;
+    right = right;
+    done = refuses_done (settings_in s j) (Ok (Edits block)) (world_in s j) (verdict_now (settings_in s j) without (world_in s j)) j refused reply is says;
+    beside = beside;
   }
 
-  pub accepted_takes : (running : Running) (line : List ℕ) (reply : Reply) → new.running ≡ Some running → block.ops ≡ []
-      → IsBegun new.names (limits_of old) block loaded (entries_of new.registry) running line → reply.lines ≡ line → reply.refused ≡ false
-      → TakesBlock block (Ok loaded) old new reply
-  accepted_takes running line reply is none h says accepts =
-      let design : Spelled = spelled new.names (design_of running.design running.keys) in
-      record {
-        answer = Ok design;
-        read = read_again (Ok design) h.read (Ok loaded) refl;
-        by = λ (interval lookback : ℕ).
-            let st = settings_of interval lookback (limits_of old) in
-            accepted_by st (Edits block) fresh (world new) (planned_verdict fresh block loaded (Ok design)) reply
-            (edited_world fresh block loaded design)
-            (ap (λ (ops : List LineOperation). unless (operations_fault (registers_of None) (registers_of (Some design)) [] ops)
-            (edited_world fresh block loaded design)) none)
-            (says ∙ h.text st) accepts (ap (running_world new.names (entries_of new.registry) []) is ∙ h.world);
-      }
+  -- 90
+  pub unbuilt_steps : {E : Type 0} (line : ℕ) (result : Result Reply E) → first_line block.ops ≡ Some line → IfOk result (Refuses (refused_at 90 line []))
+      → IfOk result (λ r. StepsTo (Ok (Edits block)) answers answers faults faults s s j j r.lines r.refused)
+  unbuilt_steps line result unbuilt =
+      refuses_block (refused_at 90 line []) result
+      (ap (λ (o : Option ℕ). verdict_if o (command_verdict (settings_in s j) (world_in s j) (Edits block) [] no_answer)) unbuilt)
+      (subst (λ (o : Option ℕ). IsRightIf o [] (IsRightCommand (settings_in s j) (world_in s j) (Edits block) [] no_answer)) (sym unbuilt) refl)
+
+  -- 68
+  pub full_steps : {E : Type 0} (result : Result Reply E) → first_line block.ops ≡ None → (limits_of s).rooms.session ≤ (world_in s j).charge
+      → IfOk result (Refuses (refused_at 68 block.line []))
+      → IfOk result (λ r. StepsTo (Ok (Edits block)) answers answers faults faults s s j j r.lines r.refused)
+  full_steps result built full =
+      let w = world_in s j in
+      let no_room : ltb (limits_of s).rooms.session (w.charge + 1) ≡ true = lt-ltb (limits_of s).rooms.session (w.charge + 1) (omega (arith, full)) in
+      refuses_block (refused_at 68 block.line []) result
+      (ap (λ (o : Option ℕ). verdict_if o (command_verdict (settings_in s j) w (Edits block) [] no_answer)) built
+      ∙ ap (λ (b : Bool). cond b (Err (refused_at 68 block.line [])) (loaded_verdict w block no_answer (loaded_files block.loads nothing))) no_room)
+      (subst (λ (o : Option ℕ). IsRightIf o nothing (IsRightBlock (settings_in s j) w block nothing no_answer)) (sym built)
+      (subst (λ (b : Bool). MatchBool b (nothing ≡ nothing) (IsRightEdit w block nothing no_answer)) (sym no_room) refl))
+
+-- ---- blocks whose loads came to something
+
+-- by worlds that are the same
+module _ {E : Type 0} (st : Settings) (block : Block) (given : Result (List TextFile) Refused) (x y old new : World) (was is : Log) (result : Result Reply E)
+    (same : old ≡ x) (also : new ≡ y) where
+  pub takes_ok : IfOk result (λ r. TakesBlock st block given x y was is r.lines r.refused)
+      → IfOk result (λ r. TakesBlock st block given old new was is r.lines r.refused)
+  takes_ok h =
+      subst (λ (w : World). IfOk result (λ r. TakesBlock st block given w new was is r.lines r.refused)) (sym same)
+      (subst (λ (w : World). IfOk result (λ r. TakesBlock st block given x w was is r.lines r.refused)) (sym also) h)
+
+  pub loses_err : OnErr result (LosesBlock st block given x y was is) → OnErr result (LosesBlock st block given old new was is)
+  loses_err h =
+      subst (λ (w : World). OnErr result (LosesBlock st block given w new was is)) (sym same)
+      (subst (λ (w : World). OnErr result (LosesBlock st block given x w was is)) (sym also) h)
+
+-- no design runs
+pub no_running : (running : Option Running) → is_some running ≡ false → running ≡ None
+no_running None is = refl
+no_running (Some r) is = absurd (true≢false is)
+
+pub fresh_world : (names : List (List ℕ)) (entries : List Entry) (grid : List ℕ) (running : Option Running) → is_some running ≡ false
+    → running_world names entries grid running ≡ fresh
+fresh_world names entries grid running is = ap (running_world names entries grid) (no_running running is)
 
 -- a fault of its loads
-pub refused_loads : {E : Type 0} (block : Block) (s : Session) (refused : Refused) (result : Result Reply E) → s.running ≡ None
-    → IfOk result (Refuses refused)
-    → IfOk result (TakesBlock block (Err refused) s s)
-refused_loads block s refused (Err e) none says = tt
-refused_loads block s refused (Ok reply) none says = record {
+pub refused_loads : {E : Type 0} (block : Block) (s : Session) (j : Log) (refused : Refused) (result : Result Reply E) → IfOk result (Refuses refused)
+    → IfOk result (λ r. TakesBlock (settings_in s j) block (Err refused) (world_in s j) (world_in s j) j j r.lines r.refused)
+refused_loads block s j refused (Err e) says = tt
+refused_loads block s j refused (Ok reply) says = record {
   answer = no_answer;
   read = λ files is. absurd (true≢false (ap is_err is));
-  by = λ (interval lookback : ℕ).
-      refused_by (settings_of interval lookback (limits_of s)) (Edits block) fresh (world s) (loaded_verdict fresh block no_answer
-      (Err refused)) reply refused refl says
-      (ap (running_world s.names (entries_of s.registry) []) none);
+  done = refuses_done (settings_in s j) (Ok (Edits block)) (world_in s j) (Err refused) j refused reply refl says;
 }
 
--- ---- blocks
+pub none_is_new : {E : Type 0} (st : Settings) (block : Block) (given : Result (List TextFile) Refused) (w : World) (j : Log) (result : Result Reply E)
+    → OnErr result (LosesBlock st block given w w j j)
+none_is_new st block given w j (Ok reply) = tt
+none_is_new st block given w j (Err e) = none_taken refl refl refl
 
-module _ (names : List (List ℕ)) (e : Edit) (old new : Session) (before behind : Option (List ShelfAnswer)) (faults count : ℕ) where
-  abbrev block : Block
-  block = edited names e
+module _ (names : List (List ℕ)) (e : Edit) (old new : Session) (was is : Log) (before behind : Option (List ShelfAnswer)) (faults count : ℕ) where
+  abbrev asks : Block
+  asks = edited names e
 
-  module _ (none : old.running ≡ None) (ops : e.ops ≡ []) (limits : limits_of new ≡ limits_of old) where
-    is_fresh : (grid : List ℕ) → world old grid ≡ fresh
-    is_fresh grid = ap (running_world old.names (entries_of old.registry) grid) none
+  module _ (ops : e.ops ≡ []) (limits : limits_of new ≡ limits_of old) (beside : StandsBeside new is)
+      (room : (world_in old was).charge < (limits_of old).rooms.session) (l : Loads) (h : ComesTo names e.loads before behind faults count l) where
+    abbrev w : World
+    w = world_in old was
 
-    all_built : first_line block.ops ≡ None
+    abbrev st : Settings
+    st = settings_in old was
+
+    all_built : first_line asks.ops ≡ None
     all_built = ap (λ (os : List OpLine). first_line (map (line_operation names) os)) ops
 
-    module _ (l : Loads) (reply : Reply) (room : 1 ≤ (limits_of old).rooms.session) (h : ComesTo names e.loads before behind faults count l)
-        (t : TakesBlock block (result_of names l) old new reply) where
-      has_room : ltb (limits_of old).rooms.session 1 ≡ false
-      has_room = le-ltb (limits_of old).rooms.session 1 room
+    has_room : ltb (limits_of old).rooms.session (w.charge + 1) ≡ false
+    has_room = le-ltb (limits_of old).rooms.session (w.charge + 1) (omega (arith, room))
 
-      is_verdict : (interval lookback : ℕ)
-          → verdict_now (settings_of interval lookback (limits_of old)) (told (Ok (Edits block)) h.answers t.answer) fresh
-          ≡ loaded_verdict fresh block t.answer (result_of names l)
-      is_verdict interval lookback =
-          ap (λ (o : Option ℕ). verdict_if o (command_verdict (settings_of interval lookback (limits_of old)) fresh
-          (Edits block) h.answers t.answer)) all_built
-          ∙ ap (λ (full : Bool). cond full (Err (refused_at 68 block.line []))
-          (loaded_verdict fresh block t.answer (loaded_files block.loads h.answers))) has_room
-          ∙ ap (loaded_verdict fresh block t.answer) h.comes
+    -- a block whose loads came to that, and which was taken so
+    pub block_steps : (text : List ℕ) (refused : Bool) → TakesBlock st asks (result_of names l) w (world_in new is) was is text refused
+        → StepsTo (Ok (Edits asks)) before behind faults count old new was is text refused
+    block_steps text refused t =
+        let is_verdict : verdict_now st (told (Ok (Edits asks)) h.answers t.answer) w ≡ loaded_verdict w asks t.answer (result_of names l) =
+        ap (λ (o : Option ℕ). verdict_if o (command_verdict st w (Edits asks) h.answers t.answer)) all_built
+        ∙ ap (λ (b : Bool). cond b (Err (refused_at 68 asks.line [])) (loaded_verdict w asks t.answer (loaded_files asks.loads h.answers))) has_room
+        ∙ ap (loaded_verdict w asks t.answer) h.comes in
+        record {
+          loads = h.answers;
+          answer = t.answer;
+          adds = h.adds;
+          cause = h.cause;
+          limits = limits;
+          right =
+              subst (λ (o : Option ℕ). IsRightIf o h.answers (IsRightBlock st w asks h.answers t.answer)) (sym all_built)
+              (subst (λ (b : Bool). MatchBool b (h.answers ≡ nothing) (IsRightEdit w asks h.answers t.answer)) (sym has_room)
+              (record { loaded = h.right; read = λ files is. t.read files (sym h.comes ∙ is) }));
+          done = subst (λ (v : Result World Refused). IsDone st (Ok (Edits asks)) w (world_in new is) v was is text refused) (sym is_verdict) t.done;
+          beside = beside;
+        }
 
-      right_edit : IsRightEdit fresh block h.answers t.answer
-      right_edit = record { loaded = h.right; read = λ files is. t.read files (sym h.comes ∙ is) }
+    pub all_steps : {E : Type 0} (result : Result Reply E)
+        → IfOk result (λ r. TakesBlock st asks (result_of names l) w (world_in new is) was is r.lines r.refused)
+        → IfOk result (λ r. StepsTo (Ok (Edits asks)) before behind faults count old new was is r.lines r.refused)
+    all_steps (Err error) t = tt
+    all_steps (Ok reply) t = block_steps reply.lines reply.refused t
 
-      right_block : (interval lookback : ℕ)
-          → IsRight (settings_of interval lookback (limits_of old)) fresh (told (Ok (Edits block)) h.answers t.answer)
-      right_block interval lookback =
-          subst (λ (o : Option ℕ). IsRightIf o h.answers (IsRightBlock (settings_of interval lookback
-          (limits_of old)) fresh block h.answers t.answer)) (sym all_built)
-          (subst (λ (full : Bool). MatchBool full (h.answers ≡ nothing) (IsRightEdit fresh block h.answers t.answer)) (sym has_room) right_edit)
-
-      -- a block whose loads came to that, and which was taken so
-      pub block_steps : StepsTo (Ok (Edits block)) before behind faults count old new reply.lines reply.refused
-      block_steps =
-          steps_by (Edits block) h.answers t.answer before behind faults count old new reply h.adds h.cause limits
-          (λ (interval lookback : ℕ) (grid : List ℕ).
-          subst (λ (w : World). IsRight (settings_of interval lookback (limits_of old)) w (told (Ok (Edits block)) h.answers t.answer)) (sym
-          (is_fresh grid))
-          (right_block interval lookback))
-          (λ (interval lookback : ℕ) (grid : List ℕ).
-          let st = settings_of interval lookback (limits_of old) in
-          subst (λ (w : World). IsBy st (Edits block) w (world new) (verdict_now st (told (Ok (Edits block)) h.answers t.answer) w) reply) (sym
-          (is_fresh grid))
-          (subst (λ (v : Result World Refused). IsBy st (Edits block) fresh (world new) v reply) (sym (is_verdict interval lookback))
-          (t.by interval lookback)))
-
-    pub all_steps : {E : Type 0} (l : Loads) (result : Result Reply E) → 1 ≤ (limits_of old).rooms.session
-        → ComesTo names e.loads before behind faults count l
-        → IfOk result (TakesBlock block (result_of names l) old new)
-        → IfOk result (λ r. StepsTo (Ok (Edits block)) before behind faults count old new r.lines r.refused)
-    all_steps l (Err error) room h t = tt
-    all_steps l (Ok reply) room h t = block_steps l reply room h t
+    pub all_stops : {E : Type 0} (result : Result Reply E) → OnErr result (LosesBlock st asks (result_of names l) w (world_in new is) was is)
+        → OnErr result (Stops (Ok (Edits asks)) before behind faults count old new was is)
+    all_stops (Ok reply) t = tt
+    all_stops (Err error) t = by t
+      where
+        by : LosesBlock st asks (result_of names l) w (world_in new is) was is → Stops (Ok (Edits asks)) before behind faults count old new was is
+        by (none_taken settings events same) =
+            undone [] w.charge settings (events ∙ sym (append-nil was.events))
+            (record { passes = []; count = 0; last = []; split = refl; are = no_pass; gave_up = no_ticket }) same
+        by (lost_lines text refused t) = lost text refused (block_steps text refused t)
 
   -- all answers to its loads
   pub all_lost : {E : Type 0} (l : Loads) (result : Result Reply E) → ComesTo names e.loads before behind faults count l
-      → OnErr result (LosesAnswers (Edits block) before behind)
+      → OnErr result (LosesAnswers (Edits asks) before behind)
   all_lost l (Ok reply) h = tt
   all_lost l (Err error) h = record {
-    more = shelf_answers block.loads h.answers;
+    more = shelf_answers asks.loads h.answers;
     adds = h.adds;
-    first = all_to block.loads h.answers;
+    first = all_to asks.loads h.answers;
   }
+
+-- memory ran out before a block was taken
+pub stops_before : (block : Block) (s : Session) (j : Log) (before behind : Option (List ShelfAnswer)) (faults count : ℕ)
+    → Stops (Ok (Edits block)) before behind faults count s s j j
+stops_before block s j before behind faults count =
+    undone [] (world_in s j).charge refl (sym (append-nil j.events))
+    (record { passes = []; count = 0; last = []; split = refl; are = no_pass; gave_up = no_ticket }) refl
 
 -- ---- commands
 
@@ -411,44 +400,19 @@ pub given_short : (names : List (List ℕ)) (command : Command) (e : Edit) → c
 given_short names command e is formed =
     unmapped names e.files (subst (λ (c : Command). IsFormed (spoken names c)) is formed)
 
--- `quit`
-pub quits_so : (line : ℕ) (s : Session) (reply : Reply) → reply.lines ≡ codes "ok quit\n" → reply.refused ≡ false → Answers (Quits line) s s reply
-quits_so line s reply says accepts = λ (interval lookback : ℕ) (grid : List ℕ).
-    let w = world s grid in
-    accepted_by (settings_of interval lookback (limits_of s)) (Quits line) w (world s) (Ok w) reply w refl says accepts
-    (own_grid s.names (entries_of s.registry) grid s.running)
-
 -- a command that looks at nothing outside
-pub commanded : {E : Type 0} (names : List (List ℕ)) (command : Command) (asked : Asked) (answers : Option (List ShelfAnswer)) (faults : ℕ)
-    (old new : Session)
-    (result : Result Reply E) → spoken names command ≡ asked → limits_of new ≡ limits_of old → answers_to_command asked [] ≡ []
-    → ((st : Settings) (w : World) → IsRight st w (told (Ok asked) [] no_answer)) → IfOk result (Answers asked old new)
-    → IfOk result (λ r. StepsTo (Ok (spoken names command)) answers answers faults faults old new r.lines r.refused)
-commanded names command asked answers faults old new result is limits none right h =
-    subst (λ (a : Asked). IfOk result (λ r. StepsTo (Ok a) answers answers faults faults old new r.lines r.refused)) (sym is)
-    (answered asked answers faults old new result limits none right h)
+module _ {E : Type 0} (names : List (List ℕ)) (command : Command) (asked : Asked) (answers : Option (List ShelfAnswer)) (faults : ℕ) (old new : Session)
+    (was is : Log) (result : Result Reply E) (means : spoken names command ≡ asked) (limits : limits_of new ≡ limits_of old)
+    (none : answers_to_command asked [] ≡ []) (right : (st : Settings) (w : World) → IsRight st w (told (Ok asked) [] no_answer))
+    (beside : StandsBeside new is) where
+  pub commanded : IfOk result (Answers asked old new was is)
+      → IfOk result (λ r. StepsTo (Ok (spoken names command)) answers answers faults faults old new was is r.lines r.refused)
+  commanded h =
+      subst (λ (a : Asked). IfOk result (λ r. StepsTo (Ok a) answers answers faults faults old new was is r.lines r.refused)) (sym means)
+      (answered asked answers faults old new was is result limits none right beside h)
 
--- a form that isn't built, at its line
-pub refused_command : {E : Type 0} (names : List (List ℕ)) (command : Command) (asked : Asked) (line : ℕ) (answers : Option (List ShelfAnswer))
-    (faults : ℕ)
-    (s : Session) (result : Result Reply E) → spoken names command ≡ asked → ((w : World) → unbuilt_command w asked ≡ Some line)
-    → answers_to_command asked [] ≡ [] → IfOk result (Refuses (refused_at 90 line []))
-    → IfOk result (λ r. StepsTo (Ok (spoken names command)) answers answers faults faults s s r.lines r.refused)
-refused_command names command asked line answers faults s result is unbuilt none says =
-    commanded names command asked answers faults s s result is refl none
-    (λ (st : Settings) (w : World). subst (λ (o : Option ℕ). IsRightIf o nothing (IsRightCommand st w asked nothing no_answer)) (sym
-    (unbuilt w)) refl)
-    (refuses_with s.names (entries_of s.registry) (limits_of s) asked s.running (refused_at 90 line []) result
-    (λ (st : Settings) (grid : List ℕ).
-    let w = world s grid in
-    ap (λ (o : Option ℕ). verdict_if o (command_verdict st w asked nothing no_answer)) (unbuilt w)) says)
-
-pub settles_or_asks : {E : Type 0} (names : List (List ℕ)) (command : Command) (line : ℕ) (answers : Option (List ShelfAnswer)) (faults : ℕ)
-    (s : Session)
-    (result : Result Reply E) → ((passes : Option ℕ) × (command ≡ the_command.Settle line passes)) ⊎ (command ≡ the_command.Status line)
-    → IfOk result (Refuses (refused_at 90 line []))
-    → IfOk result (λ r. StepsTo (Ok (spoken names command)) answers answers faults faults s s r.lines r.refused)
-settles_or_asks names command line answers faults s result (inl (passes, is)) says =
-    refused_command names command (Settles line passes) line answers faults s result (ap (spoken names) is) (λ w. refl) refl says
-settles_or_asks names command line answers faults s result (inr is) says =
-    refused_command names command (AsksStatus line) line answers faults s result (ap (spoken names) is) (λ w. refl) refl says
+  pub command_stops : OnErr result (StopsAt asked old new was is)
+      → OnErr result (Stops (Ok (spoken names command)) answers answers faults faults old new was is)
+  command_stops h =
+      subst (λ (a : Asked). OnErr result (Stops (Ok a) answers answers faults faults old new was is)) (sym means)
+      (stopped asked answers faults old new was is result limits none right beside h)

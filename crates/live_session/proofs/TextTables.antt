@@ -17,7 +17,7 @@ use Rattle.version_swap.specs.Plans.{DesignOfTexts, Plans}
 use Rattle.version_swap.proofs.FlatAlike.{IsSignalIn}
 use Rattle.version_swap.proofs.PlanNames.{HasNames, IsCalled, plan_names}
 use Rattle.wave_report.specs.Tables.{joined, shown_line, signal_line, signal_lines, table_text}
-use Rattle.live_session.specs.Replies.{table_lines, true_registers}
+use Rattle.live_session.specs.Tables.{table_lines, true_registers}
 use Rattle.live_session.specs.Rows.{given_at, row_of, value_of}
 use Rattle.live_session.specs.Spelled.{nameless_flat, spelled, input_texts}
 use Rattle.live_session.specs.Verdicts.{width_in, input_width}

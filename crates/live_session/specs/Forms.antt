@@ -3,7 +3,6 @@ use Rattle.std.specs.Prelude.{ℕ, Bool, false, ◌||◌, List, [], ◌∷◌, O
 use Rattle.ls_text.specs.Readings.{TextFault}
 use Rattle.command_read.specs.Asking.{LineOperation, Block, Asked, Edits, Sets, Runs, Shows, Settles, AsksStatus, Quits}
 use Rattle.live_session.specs.Settings.{Settings}
-use Rattle.live_session.specs.Spelled.{Spelled}
 use Rattle.live_session.specs.Verdicts.{Told, verdict}
 use Rattle.live_session.specs.Worlds.{World, Refused, refused_at}
 
@@ -11,19 +10,14 @@ abbrev pub first_line : List LineOperation → Option ℕ
 first_line [] = None
 first_line (o ∷ os) = Some o.line
 
--- an edit behind an accepted one, at its `edit`; else the first operation
-abbrev pub edit_line : Option Spelled → Block → Option ℕ
-edit_line None block = first_line block.ops
-edit_line (Some design) block = Some block.line
-
--- the line of the form that isn't built
+-- the line of the form that isn't built: the first operation of a block
 abbrev pub unbuilt_command : World → Asked → Option ℕ
-unbuilt_command w (Edits block) = edit_line w.design block
+unbuilt_command w (Edits block) = first_line block.ops
 unbuilt_command w (Sets line values) = None
 unbuilt_command w (Runs line n) = None
 unbuilt_command w (Shows line prefix) = None
-unbuilt_command w (Settles line passes) = Some line
-unbuilt_command w (AsksStatus line) = Some line
+unbuilt_command w (Settles line passes) = None
+unbuilt_command w (AsksStatus line) = None
 unbuilt_command w (Quits line) = None
 
 abbrev pub unbuilt : World → Result Asked TextFault → Option ℕ

@@ -3,6 +3,8 @@ use Rattle.std.specs.Prelude.{◌≡◌, ◌≤◌, ◌<◌, ℕ, List, length, 
 use Rattle.std.specs.List.{All}
 use Rattle.ls_text.specs.declared.name_id.NameId.{NameId}
 use Rattle.ls_text.specs.declared.source_file.SourceFile.{SourceFile}
+use Rattle.module_registry.specs.Keys.{KeyData}
+use Rattle.sha2.specs.Sha256.{sha256}
 use Rattle.stimulus.specs.Records.{limit_of, rows_of}
 use Rattle.version_swap.specs.Behind.{design_of}
 use Rattle.version_swap.specs.Plans.{Plans}
@@ -19,11 +21,13 @@ pub record AreNamed (count : ℕ) (r : Running) : Type 0 where
 
 -- it is the design that its texts come to
 abbrev pub HasPlans : (names : List (List ℕ)) → Running → Type 0
-HasPlans names r = Plans names r.texts.files r.texts.top r.texts.clock (Ok (design_of r.design r.keys))
+HasPlans names r = Plans names r.texts.files r.texts.top r.texts.clock (Ok (design_of r.version.value.machine.value r.keys))
 
 -- the same with what the limits of its session allow
 pub record IsKept (names : List (List ℕ)) (limits : Limits) (r : Running) : Type 0 where
   pub named : AreNamed (length names) r
   pub plans : ∥ HasPlans names r ∥₁
+  pub short : All (λ (f : SourceFile). length f.text ≤ 4194304) r.texts.files
+  pub digests : All (λ (k : KeyData). k.digest ≡ sha256 k.text) r.keys
   pub charge : r.charge ≤ limits.rooms.session
   pub stimulus : limit_of r.record_ ≡ limits.stimulus

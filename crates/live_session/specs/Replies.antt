@@ -1,58 +1,27 @@
--- The lines that answer commands.
+-- The lines that answer commands, by the world at each one's place and what the history says at its own entry.
 use Rattle.std.specs.Prelude.{ℕ, ◌-◌, ◌==◌, if◌then◌else◌, List, [], ◌∷◌, ◌++◌, map, length, codes, decimal, Option, Some, None, Result, Ok, Err}
 use Rattle.std.specs.List.{flat_map}
 use Rattle.ls_text.specs.Faults.{code_name, line_text}
 use Rattle.ls_text.specs.Readings.{TextFault}
 use Rattle.ls_port.specs.declared.shelf_answer.ShelfAnswer.{ShelfAnswer}
-use Rattle.typed_ir.specs.Cycles.{width_at, truth}
-use Rattle.typed_ir.specs.Orders.{at_or}
-use Rattle.wave_report.specs.Replies.{edit_text, run_text, show_text}
-use Rattle.wave_report.specs.Tables.{shown_line}
+use Rattle.wave_report.specs.Replies.{edit_text, run_text}
+use Rattle.book_history.specs.Moments.{Moment}
 use Rattle.command_read.specs.Asking.{Asked, Edits, Sets, Runs, Shows, Settles, AsksStatus, Quits}
 use Rattle.live_session.specs.Forms.{verdict_now, after}
 use Rattle.live_session.specs.Loads.{LoadAnswer, shelf_answers}
-use Rattle.live_session.specs.Rows.{Row, given_at}
+use Rattle.live_session.specs.Logs.{State}
 use Rattle.live_session.specs.Settings.{Settings}
-use Rattle.live_session.specs.Spelled.{Spelled, input_texts}
+use Rattle.live_session.specs.Shown.{answer_of, display_text, last_values, settle_text}
+use Rattle.live_session.specs.Spelled.{Spelled}
+use Rattle.live_session.specs.Statuses.{status_lines}
 use Rattle.live_session.specs.Verdicts.{Told, missing_keys, chosen}
 use Rattle.live_session.specs.Worlds.{World, Where, InText, OnLine, Refused, cycle}
-
--- the registers of a design at a cycle as they are after a run from reset on the record
-abbrev pub true_registers : Spelled → (record_ : List Row) → (cycle : ℕ) → List ℕ
-true_registers design record_ cycle = truth design.flat (given_at (input_texts design) record_) cycle
-
--- a line for each of these registers whose path begins with the prefix, with its value
-abbrev pub table_lines : Spelled → (prefix : List ℕ) → (registers values : List ℕ) → List ℕ
-table_lines design prefix [] values = []
-table_lines design prefix (r ∷ rs) [] = []
-table_lines design prefix (r ∷ rs) (x ∷ xs) =
-    at_or (λ (path : List ℕ). shown_line prefix path (width_at design.flat r) x) [] design.paths r ++ table_lines design prefix rs xs
-
--- a display that is settled: the cycle and the version, and the true registers
-abbrev pub display_text : World → (prefix : List ℕ) → Option Spelled → List ℕ
-display_text w prefix None = []
-display_text w prefix (Some design) =
-    show_text (cycle w) w.version ++ table_lines design prefix design.flat.registers (true_registers design w.record_ (cycle w))
 
 -- how many units were built, and how many were there
 abbrev pub accepted_text : Settings → (old new : World) → Option Spelled → List ℕ
 accepted_text st old new None = []
 accepted_text st old new (Some design) =
     let built = length (missing_keys old.held design.keys) in edit_text new.version built (length design.keys - built) (chosen st old)
-
--- the lines of a command that is accepted and leads from the one world to the other
-abbrev pub command_text : Settings → Asked → (old new : World) → List ℕ
-command_text st (Edits block) old new = accepted_text st old new new.design
-command_text st (Sets line values) old new = codes "ok set\n"
-command_text st (Runs line n) old new = run_text (cycle new)
-command_text st (Shows line prefix) old new = display_text new prefix new.design
-command_text st (Settles line passes) old new = []
-command_text st (AsksStatus line) old new = []
-command_text st (Quits line) old new = codes "ok quit\n"
-
-abbrev pub asked_text : Settings → Result Asked TextFault → (old new : World) → List ℕ
-asked_text st (Ok asked) old new = command_text st asked old new
-asked_text st (Err fault) old new = []
 
 abbrev pub where_text : Where → List ℕ
 where_text (InText file line col) = file ++ (58 ∷ decimal line) ++ (58 ∷ decimal col)
@@ -68,18 +37,56 @@ refusal_text r =
     codes "refused " ++ decimal r.code ++ codes " " ++ code_name r.code ++ codes " "
     ++ where_text r.place ++ shown_names r.names ++ (10 ∷ [])
 
-abbrev pub answer_text : Settings → Result Asked TextFault → World → Result World Refused → List ℕ
-answer_text st asked old (Ok new) = asked_text st asked old new
-answer_text st asked old (Err refused) = refusal_text refused
+-- ---- the commands' own entries, each with the book before it
 
--- the lines that answer a command
-abbrev pub reply : Settings → Told → World → List ℕ
-reply st t w = answer_text st t.asked w (verdict_now st t w)
+module _ {D R O : Type 0} where
+  -- the lines of a command that is accepted and leads from the one world to the other, whose own entry that is
+  abbrev pub entry_text : Settings → Asked → (old new : World) → Moment D State R O → List ℕ
+  entry_text st (Edits block) old new m = accepted_text st old new new.design
+  entry_text st (Sets line values) old new m = []
+  entry_text st (Runs line n) old new m = run_text (cycle new)
+  entry_text st (Shows line prefix) old new m = display_text new prefix new.design (answer_of m.entry) (last_values m.book)
+  entry_text st (Settles line passes) old new m = settle_text new (answer_of m.entry)
+  entry_text st (AsksStatus line) old new m = []
+  entry_text st (Quits line) old new m = []
 
--- the lines that answer some commands
-abbrev pub lines : Settings → List Told → World → List ℕ
-lines st [] w = []
-lines st (t ∷ ts) w = reply st t w ++ lines st ts (after st t w)
+  -- the same with the next of the entries, and those that are left; none where it isn't there
+  abbrev pub next_text : Settings → Asked → (old new : World) → List (Moment D State R O) → Option (List ℕ × List (Moment D State R O))
+  next_text st asked old new [] = None
+  next_text st asked old new (m ∷ ms) = Some (entry_text st asked old new m, ms)
+
+  -- `set`, `status` and `quit` have no entry
+  abbrev pub command_text : Settings → Asked → (old new : World) → List (Moment D State R O) → Option (List ℕ × List (Moment D State R O))
+  command_text st (Edits block) old new ms = next_text st (Edits block) old new ms
+  command_text st (Sets line values) old new ms = Some (codes "ok set\n", ms)
+  command_text st (Runs line n) old new ms = next_text st (Runs line n) old new ms
+  command_text st (Shows line prefix) old new ms = next_text st (Shows line prefix) old new ms
+  command_text st (Settles line passes) old new ms = next_text st (Settles line passes) old new ms
+  command_text st (AsksStatus line) old new ms = Some (status_lines new new.design, ms)
+  command_text st (Quits line) old new ms = Some (codes "ok quit\n", ms)
+
+  abbrev pub asked_text : Settings → Result Asked TextFault → (old new : World) → List (Moment D State R O) → Option (List ℕ × List (Moment D State R O))
+  asked_text st (Ok asked) old new ms = command_text st asked old new ms
+  asked_text st (Err fault) old new ms = Some ([], ms)
+
+  -- a refused command has no entry
+  abbrev pub answer_text : Settings → Result Asked TextFault → World → Result World Refused → List (Moment D State R O)
+      → Option (List ℕ × List (Moment D State R O))
+  answer_text st asked old (Ok new) ms = asked_text st asked old new ms
+  answer_text st asked old (Err refused) ms = Some (refusal_text refused, ms)
+
+  -- the lines that answer a command, and the entries that are left
+  abbrev pub reply : Settings → Told → World → List (Moment D State R O) → Option (List ℕ × List (Moment D State R O))
+  reply st t w ms = answer_text st t.asked w (verdict_now st t w) ms
+
+  abbrev pub text_then : Option (List ℕ × List (Moment D State R O)) → (List (Moment D State R O) → List ℕ) → List ℕ
+  text_then None more = []
+  text_then (Some r) more = r.0 ++ more r.1
+
+  -- the lines that answer some commands; they stop at the first whose entry isn't there
+  abbrev pub lines : Settings → List Told → World → List (Moment D State R O) → List ℕ
+  lines st [] w ms = []
+  lines st (t ∷ ts) w ms = text_then (reply st t w ms) (λ (rest : List (Moment D State R O)). lines st ts (after st t w) rest)
 
 -- ---- what was told
 

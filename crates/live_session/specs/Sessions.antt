@@ -26,8 +26,8 @@ world_of names entries grid r = record {
   files = map (text_file names) r.texts.files;
   top = option_map (λ (id : NameId). text_at names id.0) r.texts.top;
   clock = text_at names r.texts.clock.0;
-  version = r.version;
-  design = Some (spelled names (design_of r.design r.keys));
+  version = r.version.value.number;
+  design = Some (spelled names (design_of r.version.value.machine.value r.keys));
   row = row_of names r.row.value;
   record_ = map (row_of names) (rows_of r.record_);
   grid = grid;
@@ -61,7 +61,7 @@ settings_of interval lookback limits = record {
 
 abbrev pub running_work : Option Running → ℕ
 running_work None = 0
-running_work (Some r) = work_of r.design
+running_work (Some r) = work_of r.version.value.machine.value
 
 -- the steps of one cycle
 abbrev pub work : Session → ℕ

@@ -1,20 +1,24 @@
--- What becomes of a session's first block.
-use Rattle.std.specs.Prelude.{◌≡◌, ℕ, List, Result, Ok}
+-- What becomes of a block whose loads came to something.
+use Rattle.std.specs.Prelude.{◌≡◌, ℕ, Bool, List, Result, Ok}
 use Rattle.command_read.specs.Asking.{Block, Edits}
+use Rattle.live_session.specs.Done.{IsDone}
 use Rattle.live_session.specs.Files.{TextFile}
+use Rattle.live_session.specs.Logs.{Log}
 use Rattle.live_session.specs.Readings.{FilesRead}
-use Rattle.live_session.specs.Sessions.{limits_of, settings_of, world}
+use Rattle.live_session.specs.Settings.{Settings}
 use Rattle.live_session.specs.Spelled.{Answer}
-use Rattle.live_session.specs.Turns.{IsBy}
 use Rattle.live_session.specs.Verdicts.{files_after, top_after, clock_after, loaded_verdict}
-use Rattle.live_session.specs.Worlds.{Refused, fresh}
-use Rattle.live_session.specs.declared.reply.Reply.{Reply}
-use Rattle.live_session.specs.declared.session.Session.{Session}
+use Rattle.live_session.specs.Worlds.{World, Refused}
 
--- for some answer of the files, which is right, the reply is by the verdict on what the loads gave
-pub record TakesBlock (block : Block) (given : Result (List TextFile) Refused) (old new : Session) (r : Reply) : Type 0 where
+-- for some answer of the files, which is right, the block was done by the verdict on what the loads gave
+pub record TakesBlock (st : Settings) (block : Block) (given : Result (List TextFile) Refused) (old new : World) (was is : Log) (text : List ℕ)
+    (refused : Bool) : Type 0 where
   pub answer : Answer
-  pub read : (files : List TextFile) → given ≡ Ok files
-      → FilesRead (files_after fresh block files) (top_after fresh block) (clock_after fresh block) answer
-  pub by : (interval lookback : ℕ)
-      → IsBy (settings_of interval lookback (limits_of old)) (Edits block) fresh (world new) (loaded_verdict fresh block answer given) r
+  pub read : (files : List TextFile) → given ≡ Ok files → FilesRead (files_after old block files) (top_after old block) (clock_after old block) answer
+  pub done : IsDone st (Ok (Edits block)) old new (loaded_verdict old block answer given) was is text refused
+
+-- memory ran out: nothing is new; or the block was done, and its lines are lost
+pub data LosesBlock (st : Settings) (block : Block) (given : Result (List TextFile) Refused) (old new : World) (was is : Log) : Type 0 where
+  none_taken : is.settings ≡ was.settings → is.events ≡ was.events → new ≡ old → LosesBlock st block given old new was is
+  lost_lines : (text : List ℕ) (refused : Bool) → TakesBlock st block given old new was is text refused
+      → LosesBlock st block given old new was is

@@ -1,14 +1,18 @@
--- What calls of a session answer to a command that looks at nothing outside.
-use Rattle.std.specs.Prelude.{◌≡◌, ℕ, Bool, true, false, List, [], Result, Ok, Err, is_err}
+-- What calls of a session, and of what it runs, answer to a command that looks at nothing outside.
+use Rattle.std.specs.Prelude.{◌≡◌, ℕ, true, false, List, [], ◌++◌, Ok, Err}
 use Rattle.ls_text.specs.declared.at.At.TheVariants.{Edit}
+use Rattle.book_settle.specs.Passes.{IsUnfinished}
 use Rattle.command_read.specs.Asking.{Asked}
 use Rattle.module_registry.specs.Entries.{Entry}
-use Rattle.live_session.specs.Forms.{verdict_now, world_or}
-use Rattle.live_session.specs.Replies.{answer_text, refusal_text}
-use Rattle.live_session.specs.Sessions.{limits_of, settings_of, world, world_of}
+use Rattle.live_session.specs.Beside.{settings_by, settings_in, world_in}
+use Rattle.live_session.specs.Done.{IsDone, told}
+use Rattle.live_session.specs.Forms.{verdict_now}
+use Rattle.live_session.specs.Logs.{Log, LogEvent, marks_of}
+use Rattle.live_session.specs.Replies.{refusal_text}
+use Rattle.live_session.specs.Sessions.{world_of}
 use Rattle.live_session.specs.Settings.{Settings}
 use Rattle.live_session.specs.Spelled.{Answer}
-use Rattle.live_session.specs.Verdicts.{Told, command_verdict}
+use Rattle.live_session.specs.Verdicts.{command_verdict}
 use Rattle.live_session.specs.Worlds.{World, Refused}
 use Rattle.live_session.specs.declared.limits.Limits.{Limits}
 use Rattle.live_session.specs.declared.reply.Reply.{Reply}
@@ -27,30 +31,37 @@ pub record Accepts (lines : List ℕ) (r : Reply) : Type 0 where
   pub refusal : r.refused ≡ false
   pub goes_on : r.quit ≡ false
 
--- a reply by this verdict on a command, behind which `new` has the world by the cycles of its marks
-pub record IsBy (st : Settings) (asked : Asked) (old : World) (new : (grid : List ℕ) → World) (v : Result World Refused) (r : Reply) : Type 0 where
-  pub text : r.lines ≡ answer_text st (Ok asked) old v
-  pub goes : let w = world_or old v in new w.grid ≡ w
-  pub refusal : r.refused ≡ is_err v
-
 -- what stands where nothing is looked at
 abbrev pub no_answer : Answer
 no_answer = Err (record { code = 0; at = Edit; words = [] })
 
--- what a call of a design that runs answers to a command
-abbrev pub AnswersIn : (names : List (List ℕ)) → Limits → Asked → (old new : Running) → Reply → Type 0
-AnswersIn names limits asked old new r =
-    (interval lookback : ℕ) (entries : List Entry) (grid : List ℕ)
-    → IsBy (settings_of interval lookback limits) asked (world_of names entries grid old) (λ (g : List ℕ). world_of names entries g new)
-    (command_verdict (settings_of interval lookback limits) (world_of names entries grid old) asked [] no_answer) r
+-- what a call of a design that runs answers to a command, whatever units are held
+abbrev pub AnswersIn : (names : List (List ℕ)) → Limits → Asked → (old new : Running) → (was is : Log) → Reply → Type 0
+AnswersIn names limits asked old new was is reply =
+    (entries : List Entry)
+    → IsDone (settings_by limits was) (Ok asked) (world_of names entries (marks_of was) old) (world_of names entries (marks_of is) new)
+    (command_verdict (settings_by limits was) (world_of names entries (marks_of was) old) asked [] no_answer) was is reply.lines reply.refused
 
--- the same of a session
-abbrev pub Answers : Asked → (old new : Session) → Reply → Type 0
-Answers asked old new r =
-    (interval lookback : ℕ) (grid : List ℕ)
-    → IsBy (settings_of interval lookback (limits_of old)) asked (world old grid) (world new)
-    (verdict_now (settings_of interval lookback (limits_of old)) (record { asked = Ok asked; loads = []; answer = no_answer }) (world old grid)) r
+-- memory ran out in it: no entry stands but those of an unfinished settle, and at most the charge is new; or the command was done, and its lines are lost
+pub data StopsIn (names : List (List ℕ)) (limits : Limits) (asked : Asked) (old new : Running) (was is : Log) : Type 0 where
+  undone_in : (own : List LogEvent) (charge : ℕ) → is.settings ≡ was.settings → is.events ≡ was.events ++ own → IsUnfinished own
+      → ((entries : List Entry) (grid : List ℕ) → world_of names entries grid new ≡ record (world_of names entries grid old) { charge = charge })
+      → StopsIn names limits asked old new was is
+  lost_in : (reply : Reply) → AnswersIn names limits asked old new was is reply → StopsIn names limits asked old new was is
 
--- the same world, whatever the table is, the units and the marks
-abbrev pub IsAsBefore : (old new : Running) → Type 0
-IsAsBefore old new = (names : List (List ℕ)) (entries : List Entry) (grid : List ℕ) → world_of names entries grid new ≡ world_of names entries grid old
+-- the same by the worlds before and behind it
+abbrev pub AnswersFrom : Settings → Asked → (old new : World) → (was is : Log) → Reply → Type 0
+AnswersFrom st asked old new was is reply =
+    IsDone st (Ok asked) old new (verdict_now st (told (Ok asked) [] no_answer) old) was is reply.lines reply.refused
+
+pub data StopsFrom (st : Settings) (asked : Asked) (old new : World) (was is : Log) : Type 0 where
+  undone_at : (own : List LogEvent) (charge : ℕ) → is.settings ≡ was.settings → is.events ≡ was.events ++ own → IsUnfinished own
+      → new ≡ record old { charge = charge } → StopsFrom st asked old new was is
+  lost_at : (reply : Reply) → AnswersFrom st asked old new was is reply → StopsFrom st asked old new was is
+
+-- and of a session
+abbrev pub Answers : Asked → (old new : Session) → (was is : Log) → Reply → Type 0
+Answers asked old new was is reply = AnswersFrom (settings_in old was) asked (world_in old was) (world_in new is) was is reply
+
+abbrev pub StopsAt : Asked → (old new : Session) → (was is : Log) → Type 0
+StopsAt asked old new was is = StopsFrom (settings_in old was) asked (world_in old was) (world_in new is) was is

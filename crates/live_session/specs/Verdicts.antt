@@ -137,8 +137,11 @@ show_verdict st w line None = Err (refused_at 62 line [])
 show_verdict st w line (Some design) = charged st w line 1
 
 -- a pass for each link, or as many as are said; each pass has room for a claim and an install, and the display for one
+abbrev pub passes_of : World → Option ℕ → ℕ
+passes_of w passes = unwrap_or passes (length w.grid)
+
 abbrev pub settle_charge : World → Option ℕ → ℕ
-settle_charge w passes = 2 * min (unwrap_or passes (length w.grid)) (length w.grid) + 1
+settle_charge w passes = 2 * min (passes_of w passes) (length w.grid) + 1
 
 abbrev pub settle_verdict : Settings → World → (line : ℕ) → Option ℕ → Option Spelled → Result World Refused
 settle_verdict st w line passes None = Err (refused_at 62 line [])
@@ -162,4 +165,4 @@ verdict st w (Err fault) loads answer = Err (refused_text [] 0 fault)
 
 -- the cycle from which an edit is simulated: that of the last mark which is at least the lookback behind, or 0
 abbrev pub chosen : Settings → World → ℕ
-chosen st w = if nat_lt (cycle w) st.lookback then 0 else last_until (cycle w - st.lookback) 0 w.grid
+chosen st w = last_until (cycle w - st.lookback) 0 w.grid

@@ -1,8 +1,11 @@
 // A session: commands come in, each is answered by its lines.
 //
+// A session stands beside the checkpoint book of its versions: what runs, its marks and its history are the book's, and each command is a call of it.
+//
 // `session` has the calls and the table of names, the units and what makes them. `loading` reads the files that a block loads from a shelf,
-// `planning` makes the first version of a block, and `running` is the design that runs, with its stimulus: `setting` changes the row, `advancing`
-// runs cycles, `showing` is a display. `refusing` writes refusals. `laws` says that commands have one output, whatever is told of their texts.
+// `planning` makes the first version of a block, which opens the book, or the next one, with which it is reloaded, and `running` is the design that
+// runs, with its stimulus: `setting` changes the row, `advancing` runs cycles, `showing` is a display, `settling` verifies segments, and `telling` says
+// what the session is at. `refusing` writes refusals. `laws` says that commands have one output, whatever is told of their texts.
 #![tactic(auto)]
 
 mod advancing;
@@ -17,7 +20,9 @@ mod reply;
 mod running;
 mod session;
 mod setting;
+mod settling;
 mod showing;
+mod telling;
 
 pub use laws::{commands_have_one_output, displays_tell_the_truth, texts_have_one_answer};
 pub use limits::Limits;

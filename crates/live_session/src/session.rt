@@ -9,12 +9,14 @@ use crate::begun::Begun;
 use crate::limits::Limits;
 use crate::loading::loaded;
 use crate::loads::Loads;
-use crate::planning::begin;
-use crate::refusing::{refused_line, refused_text};
+use crate::planning::{begin, renew};
+use crate::refusing::{first_operation, refused_line, refused_text};
 use crate::reply::Reply;
 use crate::running::Running;
 use crate::setting::has_each_once;
+use checkpoint_book::book::Book;
 use command_read::{Command, Edit, PortValue, ReadEnd, Reader};
+use cycle_eval::Design;
 use ls_port::{Shelf, Source};
 use ls_text::{Fault, NameId, Names, NoMemory, SourceFile, TextBytes};
 use machine::steps::Steps;
@@ -24,7 +26,7 @@ use std::marker::Brand;
 use std::sync::ledger::{Blank, Ledger};
 use std::thread::Threads;
 use unit_forge::RayonForge;
-use wave_report::{ReplyKind, reply_line};
+use wave_report::{ReplyKind, UnitLines, reply_line};
 
 /// A session: its table of names, the units that it has, what makes these, its limits, and the design that runs, where there is one.
 ///
@@ -53,7 +55,7 @@ impl Session {
     ghost use Rattle.ls_text.specs.Readings.{fault_view};
     ghost use Rattle.ls_port.specs.Causes.{Rose};
     ghost use Rattle.ls_port.specs.declared.shelf_answer.ShelfAnswer.{ShelfAnswer};
-    ghost use Rattle.command_read.specs.Asking.{Edits, Sets, Runs, Shows};
+    ghost use Rattle.command_read.specs.Asking.{Edits, Sets, Runs, Shows, Settles, AsksStatus, Quits};
     ghost use Rattle.command_read.specs.Formed.{IsFormed};
     ghost use Rattle.command_read.specs.Readers.{
       left,
@@ -75,14 +77,15 @@ impl Session {
     ghost use Rattle.command_read.specs.Spoken.{spoken, setting, edited, IsCommandWithin, IsEditWithin};
     ghost use Rattle.command_read.specs.declared.stop.Stop.{Stop};
     ghost use Rattle.command_read.specs.declared.stop.Stop.TheVariants.{End, NoMemory as OutOfMemory};
+    ghost use Rattle.live_session.specs.Beside.{StandsBeside, settings_in, world_in};
     ghost use Rattle.live_session.specs.Files.{text_file};
-    ghost use Rattle.live_session.specs.Forms.{edit_line};
     ghost use Rattle.live_session.specs.Loaded.{AreUsable, result_of};
     ghost use Rattle.live_session.specs.Loads.{LosesAnswers};
+    ghost use Rattle.live_session.specs.Logs.{Log};
     ghost use Rattle.live_session.specs.Sessions.{world, limits_of, names_of, work};
-    ghost use Rattle.live_session.specs.Steps.{StepsTo};
-    ghost use Rattle.live_session.specs.Taken.{TakesBlock};
-    ghost use Rattle.live_session.specs.Turns.{Answers};
+    ghost use Rattle.live_session.specs.Steps.{StepsTo, Stops};
+    ghost use Rattle.live_session.specs.Taken.{LosesBlock, TakesBlock};
+    ghost use Rattle.live_session.specs.Turns.{Answers, StopsAt};
     ghost use Rattle.live_session.specs.Worlds.{fresh};
 
     /// A session without a design, with these limits. At most 2^40 cycles are run.
@@ -90,6 +93,8 @@ impl Session {
         requires { limits.cycles ≤ 2 ^ 40 }
         ensures fresh { IfOk result (λ s. (grid : List ℕ) → world s grid ≡ fresh) }
         ensures limits { IfOk result (λ s. limits_of s ≡ limits) }
+        // It stands beside each book without entries that has its rooms.
+        ensures beside { IfOk result (λ s. (j : Log) → j.events ≡ [] → j.settings.rooms ≡ limits.rooms → StandsBeside s j) }
     {
         let mut names = Names::new(alloc);
         let clock = names.intern(b"clk")?;
@@ -133,6 +138,7 @@ impl Session {
         ensures within { IsReadEndWithin (length (names_of self.new)) result }
         ensures grows { Grows (names_of self.old) (names_of self.new) }
         ensures kept { (grid : List ℕ) → world self.new grid ≡ world self.old grid }
+        ensures beside { (j : Log) → StandsBeside self.old j → StandsBeside self.new j }
         ensures limits { limits_of self.new ≡ limits_of self.old }
     {
         has_each_once(&self.names);
@@ -144,21 +150,21 @@ impl Session {
     /// The reply that refuses a line which `read` refused.
     pub fn refusal(&self, alloc: Global, fault: &Fault) -> Result<Reply, NoMemory>
         requires { All (λ id. id.0 < length (names_of self.now)) fault.now.names }
-        ensures steps { IfOk result (λ r. (answers : Option (List ShelfAnswer)) (faults : ℕ)
-            → StepsTo (Err (fault_view (names_of self.now) fault.now)) answers answers faults faults self.now self.now r.lines r.refused) }
+        ensures steps { IfOk result (λ r. (answers : Option (List ShelfAnswer)) (faults : ℕ) (j : Log) → StandsBeside self.now j
+            → StepsTo (Err (fault_view (names_of self.now) fault.now)) answers answers faults faults self.now self.now j j r.lines r.refused) }
         ensures quits { IfOk result (λ r. r.quit ≡ false) }
     {
         refused_text(alloc, &self.names, &[], 0, fault)
     }
 
-    // The line of a form in a block that isn't built: any block behind the first that was accepted, and operations.
-    fn unbuilt(&self, edit: &Edit) -> Option<u64>
-        ensures { (grid : List ℕ) → result ≡ edit_line (world self.now grid).design (edited (names_of self.now) edit.now) }
+    // How much of the session's room is charged.
+    fn charge(&self) -> u32
+        ensures { (grid : List ℕ) → result ≡ (world self.now grid).charge }
     {
-        if self.running.is_some() {
-            return Some(edit.line);
+        match &self.running {
+            Some(running) => running.charge,
+            None => 0,
         }
-        edit.ops.as_slice().first().map(|op| op.line)
     }
 
     // Takes the first block, whose loads gave these files.
@@ -166,33 +172,37 @@ impl Session {
         &mut self,
         rt: &R,
         alloc: Global,
+        book: &mut Book<Design>,
         edit: &Edit,
         loaded: &[SourceFile],
     ) -> Result<Reply, NoMemory>
-        requires none { self.old.running ≡ None }
-        requires room { 1 ≤ (limits_of self.old).rooms.session }
+        requires none { is_some self.old.running ≡ false }
+        requires beside { StandsBeside self.old book.old }
+        requires room { (world_in self.old book.old).charge < (limits_of self.old).rooms.session }
         requires edit { IsEditWithin (length (names_of self.old)) edit.now }
         requires ops { edit.now.ops ≡ [] }
         requires given { All (λ g. length g.file.text ≤ 4194304) edit.now.files }
         requires loads { length loaded.now ≡ length edit.now.loads }
         requires loaded { All (λ f. length f.text ≤ 4194304) loaded.now }
         requires named { All (λ f. f.name.0 < length (names_of self.old)) loaded.now }
-        ensures takes { IfOk result (TakesBlock (edited (names_of self.old) edit.now) (Ok (map (text_file (names_of self.old)) loaded.now))
-            self.old self.new) }
+        ensures takes { IfOk result (λ r. TakesBlock (settings_in self.old book.old) (edited (names_of self.old) edit.now)
+            (Ok (map (text_file (names_of self.old)) loaded.now)) (world_in self.old book.old) (world_in self.new book.new) book.old book.new r.lines r.refused) }
         ensures goes_on { IfOk result (λ r. r.quit ≡ false) }
-        ensures kept { OnErr result ((grid : List ℕ) → world self.new grid ≡ world self.old grid) }
+        ensures loses { OnErr result (LosesBlock (settings_in self.old book.old) (edited (names_of self.old) edit.now)
+            (Ok (map (text_file (names_of self.old)) loaded.now)) (world_in self.old book.old) (world_in self.new book.new) book.old book.new) }
+        ensures beside { StandsBeside self.new book.new }
         ensures limits { limits_of self.new ≡ limits_of self.old }
         ensures grows { Grows (names_of self.old) (names_of self.new) }
     {
-        let names = &mut self.names;
         let begun = begin(
             rt,
             alloc,
-            names,
+            &mut self.names,
             &mut self.registry,
             &mut self.forge,
             self.clock,
             self.limits,
+            book,
             edit,
             loaded,
         )?;
@@ -200,101 +210,169 @@ impl Session {
             Begun::Refused(reply) => Ok(reply),
             Begun::Accepted { running, line } => {
                 self.running = Some(running);
-                Ok(Reply {
-                    lines: TextBytes::new(line),
-                    refused: false,
-                    quit: false,
-                })
+                Ok(Reply::accepted(line))
             }
         }
     }
 
-    // Takes the first block, whose loads came to these.
-    fn take<R: Threads + Sync>(
+    // Takes a block behind a design that runs, whose loads gave these files.
+    fn renew<R: Threads + Sync, L: Ledger>(
         &mut self,
         rt: &R,
         alloc: Global,
+        book: &mut Book<Design>,
+        edit: &Edit,
+        loaded: &[SourceFile],
+        steps: &mut Steps<L>,
+    ) -> Result<Reply, NoMemory>
+        requires some { is_some self.old.running ≡ true }
+        requires beside { StandsBeside self.old book.old }
+        requires room { (world_in self.old book.old).charge < (limits_of self.old).rooms.session }
+        requires edit { IsEditWithin (length (names_of self.old)) edit.now }
+        requires ops { edit.now.ops ≡ [] }
+        requires given { All (λ g. length g.file.text ≤ 4194304) edit.now.files }
+        requires loads { length loaded.now ≡ length edit.now.loads }
+        requires loaded { All (λ f. length f.text ≤ 4194304) loaded.now }
+        requires named { All (λ f. f.name.0 < length (names_of self.old)) loaded.now }
+        ensures takes { IfOk result (λ r. TakesBlock (settings_in self.old book.old) (edited (names_of self.old) edit.now)
+            (Ok (map (text_file (names_of self.old)) loaded.now)) (world_in self.old book.old) (world_in self.new book.new) book.old book.new r.lines r.refused) }
+        ensures goes_on { IfOk result (λ r. r.quit ≡ false) }
+        ensures loses { OnErr result (LosesBlock (settings_in self.old book.old) (edited (names_of self.old) edit.now)
+            (Ok (map (text_file (names_of self.old)) loaded.now)) (world_in self.old book.old) (world_in self.new book.new) book.old book.new) }
+        ensures beside { StandsBeside self.new book.new }
+        ensures limits { limits_of self.new ≡ limits_of self.old }
+        ensures grows { Grows (names_of self.old) (names_of self.new) }
+    {
+        match &mut self.running {
+            Some(running) => renew(
+                rt,
+                alloc,
+                &mut self.names,
+                &mut self.registry,
+                &mut self.forge,
+                self.limits,
+                book,
+                running,
+                edit,
+                loaded,
+                steps,
+            ),
+            None => unreachable!(),
+        }
+    }
+
+    // Takes a block, whose loads gave these files.
+    fn block<R: Threads + Sync, L: Ledger>(
+        &mut self,
+        rt: &R,
+        alloc: Global,
+        book: &mut Book<Design>,
+        edit: &Edit,
+        loaded: &[SourceFile],
+        steps: &mut Steps<L>,
+    ) -> Result<Reply, NoMemory>
+        requires beside { StandsBeside self.old book.old }
+        requires room { (world_in self.old book.old).charge < (limits_of self.old).rooms.session }
+        requires edit { IsEditWithin (length (names_of self.old)) edit.now }
+        requires ops { edit.now.ops ≡ [] }
+        requires given { All (λ g. length g.file.text ≤ 4194304) edit.now.files }
+        requires loads { length loaded.now ≡ length edit.now.loads }
+        requires loaded { All (λ f. length f.text ≤ 4194304) loaded.now }
+        requires named { All (λ f. f.name.0 < length (names_of self.old)) loaded.now }
+        ensures takes { IfOk result (λ r. TakesBlock (settings_in self.old book.old) (edited (names_of self.old) edit.now)
+            (Ok (map (text_file (names_of self.old)) loaded.now)) (world_in self.old book.old) (world_in self.new book.new) book.old book.new r.lines r.refused) }
+        ensures goes_on { IfOk result (λ r. r.quit ≡ false) }
+        ensures loses { OnErr result (LosesBlock (settings_in self.old book.old) (edited (names_of self.old) edit.now)
+            (Ok (map (text_file (names_of self.old)) loaded.now)) (world_in self.old book.old) (world_in self.new book.new) book.old book.new) }
+        ensures beside { StandsBeside self.new book.new }
+        ensures limits { limits_of self.new ≡ limits_of self.old }
+        ensures grows { Grows (names_of self.old) (names_of self.new) }
+    {
+        if self.running.is_some() {
+            return self.renew(rt, alloc, book, edit, loaded, steps);
+        }
+        self.begin(rt, alloc, book, edit, loaded)
+    }
+
+    // Takes a block, whose loads came to these.
+    fn take<R: Threads + Sync, L: Ledger>(
+        &mut self,
+        rt: &R,
+        alloc: Global,
+        book: &mut Book<Design>,
         edit: &Edit,
         loads: &Loads,
+        steps: &mut Steps<L>,
     ) -> Result<Reply, NoMemory>
-        requires none { self.old.running ≡ None }
-        requires room { 1 ≤ (limits_of self.old).rooms.session }
+        requires beside { StandsBeside self.old book.old }
+        requires room { (world_in self.old book.old).charge < (limits_of self.old).rooms.session }
         requires edit { IsEditWithin (length (names_of self.old)) edit.now }
         requires ops { edit.now.ops ≡ [] }
         requires given { All (λ g. length g.file.text ≤ 4194304) edit.now.files }
         requires usable { AreUsable (length (names_of self.old)) edit.now.loads loads.now }
-        ensures takes { IfOk result (TakesBlock (edited (names_of self.old) edit.now) (result_of (names_of self.old) loads.now) self.old self.new) }
+        ensures takes { IfOk result (λ r. TakesBlock (settings_in self.old book.old) (edited (names_of self.old) edit.now)
+            (result_of (names_of self.old) loads.now) (world_in self.old book.old) (world_in self.new book.new) book.old book.new r.lines r.refused) }
         ensures goes_on { IfOk result (λ r. r.quit ≡ false) }
-        ensures kept { OnErr result ((grid : List ℕ) → world self.new grid ≡ world self.old grid) }
+        ensures loses { OnErr result (LosesBlock (settings_in self.old book.old) (edited (names_of self.old) edit.now)
+            (result_of (names_of self.old) loads.now) (world_in self.old book.old) (world_in self.new book.new) book.old book.new) }
+        ensures beside { StandsBeside self.new book.new }
         ensures limits { limits_of self.new ≡ limits_of self.old }
         ensures grows { Grows (names_of self.old) (names_of self.new) }
     {
         match loads {
-            Loads::Given(files) => self.begin(rt, alloc, edit, files),
             Loads::Refused(fault) => refused_text(alloc, &self.names, &[], 0, fault),
+            Loads::Given(files) => self.block(rt, alloc, book, edit, files, steps),
         }
     }
 
-    // Takes the first block: the faults of its loads, and then those of its files.
-    fn load<R: Threads + Sync, F: Shelf>(
+    // Takes a block: 90 for an operation, 68 where the session's room is full, then the faults of its loads and of its files.
+    fn edit<R: Threads + Sync, L: Ledger, F: Shelf>(
         &mut self,
         rt: &R,
         alloc: Global,
+        book: &mut Book<Design>,
         shelf: &mut F,
         edit: &Edit,
+        steps: &mut Steps<L>,
     ) -> Result<Reply, NoMemory>
-        requires none { self.old.running ≡ None }
-        requires room { 1 ≤ (limits_of self.old).rooms.session }
-        requires edit { IsEditWithin (length (names_of self.old)) edit.now }
-        requires ops { edit.now.ops ≡ [] }
-        requires given { All (λ g. length g.file.text ≤ 4194304) edit.now.files }
-        ensures steps { IfOk result (λ r. StepsTo (Ok (Edits (edited (names_of self.old) edit.now))) (F.answers shelf.old) (F.answers shelf.new)
-            (F.faults shelf.old) (F.faults shelf.new) self.old self.new r.lines r.refused) }
-        ensures goes_on { IfOk result (λ r. r.quit ≡ false) }
-        ensures kept { OnErr result ((grid : List ℕ) → world self.new grid ≡ world self.old grid) }
-        ensures lost { OnErr result (LosesAnswers (Edits (edited (names_of self.old) edit.now)) (F.answers shelf.old) (F.answers shelf.new)) }
-        ensures cause { OnErr result ((F.faults shelf.new ≡ F.faults shelf.old) ⊎ Rose (F.faults shelf.old) (F.faults shelf.new)) }
-        ensures limits { limits_of self.new ≡ limits_of self.old }
-        ensures grows { Grows (names_of self.old) (names_of self.new) }
-    {
-        let loads = loaded(alloc, &self.names, shelf, edit.loads.as_slice())?;
-        self.take(rt, alloc, edit, &loads)
-    }
-
-    // Takes a block: 90 for a form that isn't built, 68 where the session's room is full, then the faults of its loads and of its files.
-    fn edit<R: Threads + Sync, F: Shelf>(
-        &mut self,
-        rt: &R,
-        alloc: Global,
-        shelf: &mut F,
-        edit: &Edit,
-    ) -> Result<Reply, NoMemory>
+        requires beside { StandsBeside self.old book.old }
         requires edit { IsEditWithin (length (names_of self.old)) edit.now }
         requires given { All (λ g. length g.file.text ≤ 4194304) edit.now.files }
         ensures steps { IfOk result (λ r. StepsTo (Ok (Edits (edited (names_of self.old) edit.now))) (F.answers shelf.old) (F.answers shelf.new)
-            (F.faults shelf.old) (F.faults shelf.new) self.old self.new r.lines r.refused) }
+            (F.faults shelf.old) (F.faults shelf.new) self.old self.new book.old book.new r.lines r.refused) }
         ensures goes_on { IfOk result (λ r. r.quit ≡ false) }
-        ensures kept { OnErr result ((grid : List ℕ) → world self.new grid ≡ world self.old grid) }
+        ensures stops { OnErr result (Stops (Ok (Edits (edited (names_of self.old) edit.now))) (F.answers shelf.old) (F.answers shelf.new)
+            (F.faults shelf.old) (F.faults shelf.new) self.old self.new book.old book.new) }
         ensures lost { OnErr result (LosesAnswers (Edits (edited (names_of self.old) edit.now)) (F.answers shelf.old) (F.answers shelf.new)) }
         ensures cause { OnErr result ((F.faults shelf.new ≡ F.faults shelf.old) ⊎ Rose (F.faults shelf.old) (F.faults shelf.new)) }
+        ensures beside { StandsBeside self.new book.new }
         ensures limits { limits_of self.new ≡ limits_of self.old }
         ensures grows { Grows (names_of self.old) (names_of self.new) }
     {
-        if let Some(line) = self.unbuilt(edit) {
+        if let Some(line) = first_operation(edit.ops.as_slice()) {
             return refused_line(alloc, &self.names, 90, line);
         }
-        if self.limits.rooms.session == 0 {
+        if self.charge() >= self.limits.rooms.session {
             return refused_line(alloc, &self.names, 68, edit.line);
         }
-        self.load(rt, alloc, shelf, edit)
+        let loads = loaded(alloc, &self.names, shelf, edit.loads.as_slice())?;
+        self.take(rt, alloc, book, edit, &loads, steps)
     }
 
     // Sets inputs; 62 without a design.
-    fn set(&mut self, alloc: Global, line: u64, values: &[PortValue]) -> Result<Reply, NoMemory>
-        requires { All (λ v. v.port.0 < length (names_of self.old)) values.now }
-        ensures answers { IfOk result (Answers (Sets line (map (setting (names_of self.old)) values.now)) self.old self.new) }
+    fn set(
+        &mut self,
+        alloc: Global,
+        book: &Book<Design>,
+        line: u64,
+        values: &[PortValue],
+    ) -> Result<Reply, NoMemory>
+        requires beside { StandsBeside self.old book.now }
+        requires within { All (λ v. v.port.0 < length (names_of self.old)) values.now }
+        ensures answers { IfOk result (Answers (Sets line (map (setting (names_of self.old)) values.now)) self.old self.new book.now book.now) }
         ensures goes_on { IfOk result (λ r. r.quit ≡ false) }
-        ensures kept { OnErr result ((grid : List ℕ) → world self.new grid ≡ world self.old grid) }
+        ensures stops { OnErr result (StopsAt (Sets line (map (setting (names_of self.old)) values.now)) self.old self.new book.now book.now) }
+        ensures beside { StandsBeside self.new book.now }
         ensures limits { limits_of self.new ≡ limits_of self.old }
         ensures grows { Grows (names_of self.old) (names_of self.new) }
     {
@@ -305,94 +383,194 @@ impl Session {
     }
 
     // Runs so many cycles, whose steps are counted; 62 without a design.
+    #[tactic(auto, using(crate::proofs::DesignsShared::design_send, crate::proofs::DesignsShared::design_sync))]
     fn run<L: Ledger>(
         &mut self,
         alloc: Global,
+        book: &mut Book<Design>,
         line: u64,
         cycles: u64,
         steps: &mut Steps<L>,
     ) -> Result<Reply, NoMemory>
-        ensures answers { IfOk result (Answers (Runs line cycles) self.old self.new) }
+        requires beside { StandsBeside self.old book.old }
+        ensures answers { IfOk result (Answers (Runs line cycles) self.old self.new book.old book.new) }
         ensures goes_on { IfOk result (λ r. r.quit ≡ false) }
-        ensures kept { OnErr result ((grid : List ℕ) → world self.new grid ≡ world self.old grid) }
-        ensures counted { steps.new ≤ steps.old + cycles * work self.old }
+        ensures stops { OnErr result (StopsAt (Runs line cycles) self.old self.new book.old book.new) }
+        ensures beside { StandsBeside self.new book.new }
         ensures limits { limits_of self.new ≡ limits_of self.old }
         ensures grows { Grows (names_of self.old) (names_of self.new) }
+        ensures counted { steps.new ≤ steps.old + cycles * work self.old }
     {
         match &mut self.running {
-            Some(running) => running.run(alloc, &self.names, self.limits, line, cycles, steps),
+            Some(running) => {
+                let reply = running.run(alloc, &self.names, self.limits, book, line, cycles, steps);
+                book.legal();
+                reply
+            }
             None => refused_line(alloc, &self.names, 62, line),
         }
     }
 
-    // The same with a counter of this blank.
-    fn counted_run<L: Ledger>(
+    // Shows registers; 62 without a design.
+    #[tactic(auto, using(crate::proofs::DesignsShared::design_send, crate::proofs::DesignsShared::design_sync))]
+    fn show(
         &mut self,
         alloc: Global,
+        book: &mut Book<Design>,
         line: u64,
-        cycles: u64,
+        prefix: &[u8],
+    ) -> Result<Reply, NoMemory>
+        requires beside { StandsBeside self.old book.old }
+        ensures answers { IfOk result (Answers (Shows line prefix.now) self.old self.new book.old book.new) }
+        ensures goes_on { IfOk result (λ r. r.quit ≡ false) }
+        ensures stops { OnErr result (StopsAt (Shows line prefix.now) self.old self.new book.old book.new) }
+        ensures beside { StandsBeside self.new book.new }
+        ensures limits { limits_of self.new ≡ limits_of self.old }
+        ensures grows { Grows (names_of self.old) (names_of self.new) }
+    {
+        match &mut self.running {
+            Some(running) => {
+                let reply = running.show(alloc, &self.names, self.limits, book, line, prefix);
+                book.legal();
+                reply
+            }
+            None => refused_line(alloc, &self.names, 62, line),
+        }
+    }
+
+    // Verifies segments, as many as passes are said, or all; 62 without a design.
+    #[tactic(auto, using(crate::proofs::DesignsShared::design_send, crate::proofs::DesignsShared::design_sync))]
+    fn settle<L: Ledger>(
+        &mut self,
+        alloc: Global,
+        book: &mut Book<Design>,
+        line: u64,
+        passes: Option<u32>,
+        steps: &mut Steps<L>,
+    ) -> Result<Reply, NoMemory>
+        requires beside { StandsBeside self.old book.old }
+        ensures answers { IfOk result (Answers (Settles line passes) self.old self.new book.old book.new) }
+        ensures goes_on { IfOk result (λ r. r.quit ≡ false) }
+        ensures stops { OnErr result (StopsAt (Settles line passes) self.old self.new book.old book.new) }
+        ensures beside { StandsBeside self.new book.new }
+        ensures limits { limits_of self.new ≡ limits_of self.old }
+        ensures grows { Grows (names_of self.old) (names_of self.new) }
+    {
+        match &mut self.running {
+            Some(running) => {
+                let reply = running.settle(
+                    alloc,
+                    &self.names,
+                    self.limits,
+                    book,
+                    line,
+                    passes,
+                    steps,
+                );
+                book.legal();
+                reply
+            }
+            None => refused_line(alloc, &self.names, 62, line),
+        }
+    }
+
+    // Tells what the session is at.
+    fn status(&self, alloc: Global, book: &Book<Design>) -> Result<Reply, NoMemory>
+        requires beside { StandsBeside self.now book.now }
+        ensures answers { IfOk result (λ r. (line : ℕ) → Answers (AsksStatus line) self.now self.now book.now book.now r) }
+        ensures goes_on { IfOk result (λ r. r.quit ≡ false) }
+    {
+        has_each_once(&self.names);
+        match &self.running {
+            Some(running) => running.status(alloc, book),
+            None => Ok(Reply::accepted(reply_line(
+                alloc,
+                &ReplyKind::Status {
+                    version: 0,
+                    cycle: 0,
+                    marks: 0,
+                    units: UnitLines::new(Vec::new(alloc)),
+                },
+            )?)),
+        }
+    }
+
+    // Tells that the run ends.
+    fn quit(alloc: Global) -> Result<Reply, NoMemory>
+        ensures answers { IfOk result (λ r. (line : ℕ) (s : Session) (j : Log) → Answers (Quits line) s s j j r) }
+        ensures quits { IfOk result (λ r. r.quit ≡ true) }
+    {
+        Ok(Reply {
+            lines: TextBytes::new(reply_line(alloc, &ReplyKind::Quit)?),
+            refused: false,
+            quit: true,
+        })
+    }
+
+    // Carries out a command, whose steps are counted by a counter of its own.
+    fn carry_out<R: Threads + Sync, L: Ledger, F: Shelf>(
+        &mut self,
+        rt: &R,
+        alloc: Global,
+        book: &mut Book<Design>,
+        shelf: &mut F,
+        command: Command,
         blank: Blank,
     ) -> Result<Reply, NoMemory>
         requires name { blank.name ≡ L.name }
         requires parts { blank.parts ≡ L.parts }
         requires some { 0 < blank.parts }
-        ensures answers { IfOk result (Answers (Runs line cycles) self.old self.new) }
-        ensures goes_on { IfOk result (λ r. r.quit ≡ false) }
-        ensures kept { OnErr result ((grid : List ℕ) → world self.new grid ≡ world self.old grid) }
+        requires within { IsCommandWithin (length (names_of self.old)) command }
+        requires formed { IsFormed (spoken (names_of self.old) command) }
+        requires beside { StandsBeside self.old book.old }
+        ensures steps { IfOk result (λ r. StepsTo (Ok (spoken (names_of self.old) command)) (F.answers shelf.old) (F.answers shelf.new)
+            (F.faults shelf.old) (F.faults shelf.new) self.old self.new book.old book.new r.lines r.refused) }
+        ensures quits { IfOk result (λ r. r.quit ≡ is_quit (Ok (spoken (names_of self.old) command))) }
+        ensures stops { OnErr result (Stops (Ok (spoken (names_of self.old) command)) (F.answers shelf.old) (F.answers shelf.new)
+            (F.faults shelf.old) (F.faults shelf.new) self.old self.new book.old book.new) }
+        ensures lost { OnErr result (LosesAnswers (spoken (names_of self.old) command) (F.answers shelf.old) (F.answers shelf.new)) }
+        ensures cause { OnErr result ((F.faults shelf.new ≡ F.faults shelf.old) ⊎ Rose (F.faults shelf.old) (F.faults shelf.new)) }
+        ensures beside { StandsBeside self.new book.new }
         ensures limits { limits_of self.new ≡ limits_of self.old }
         ensures grows { Grows (names_of self.old) (names_of self.new) }
     {
         let mut steps = Steps::<L>::start(blank);
-        self.run(alloc, line, cycles, &mut steps)
-    }
-
-    // Shows registers; 62 without a design.
-    fn show(&mut self, alloc: Global, line: u64, prefix: &[u8]) -> Result<Reply, NoMemory>
-        ensures answers { IfOk result (Answers (Shows line prefix.now) self.old self.new) }
-        ensures goes_on { IfOk result (λ r. r.quit ≡ false) }
-        ensures kept { OnErr result ((grid : List ℕ) → world self.new grid ≡ world self.old grid) }
-        ensures limits { limits_of self.new ≡ limits_of self.old }
-        ensures grows { Grows (names_of self.old) (names_of self.new) }
-    {
-        match &mut self.running {
-            Some(running) => running.show(alloc, &self.names, self.limits, line, prefix),
-            None => refused_line(alloc, &self.names, 62, line),
+        match command {
+            Command::Edit(edit) => self.edit(rt, alloc, book, shelf, &edit, &mut steps),
+            Command::Set { line, values } => self.set(alloc, book, line, values.as_slice()),
+            Command::Run { line, n } => self.run(alloc, book, line, n, &mut steps),
+            Command::Show { line, prefix } => self.show(alloc, book, line, prefix.bytes()),
+            Command::Settle { line, passes } => self.settle(alloc, book, line, passes, &mut steps),
+            Command::Status { .. } => self.status(alloc, book),
+            Command::Quit { .. } => Self::quit(alloc),
         }
     }
 
-    /// Carries out a command, and answers it. A refused command changes nothing but the shelf's answers and count and the table of names; nor
-    /// does one for which memory runs out, but for some of the shelf's answers to a block's loads and a failure of it.
+    /// Carries out a command beside the session's book, and answers it. A refused command changes nothing but the shelf's answers and count and the
+    /// table of names. Where memory runs out, session and book are as before, or as behind the command with its lines lost, or the first passes
+    /// of a settle stand.
     pub fn step<R: Threads + Sync, F: Shelf>(
         &mut self,
         rt: &R,
         alloc: Global,
+        book: &mut Book<Design>,
         shelf: &mut F,
         command: Command,
     ) -> Result<Reply, NoMemory>
         requires within { IsCommandWithin (length (names_of self.old)) command }
         requires formed { IsFormed (spoken (names_of self.old) command) }
+        requires beside { StandsBeside self.old book.old }
         ensures steps { IfOk result (λ r. StepsTo (Ok (spoken (names_of self.old) command)) (F.answers shelf.old) (F.answers shelf.new)
-            (F.faults shelf.old) (F.faults shelf.new) self.old self.new r.lines r.refused) }
+            (F.faults shelf.old) (F.faults shelf.new) self.old self.new book.old book.new r.lines r.refused) }
         ensures quits { IfOk result (λ r. r.quit ≡ is_quit (Ok (spoken (names_of self.old) command))) }
-        ensures kept { OnErr result ((grid : List ℕ) → world self.new grid ≡ world self.old grid) }
+        ensures stops { OnErr result (Stops (Ok (spoken (names_of self.old) command)) (F.answers shelf.old) (F.answers shelf.new)
+            (F.faults shelf.old) (F.faults shelf.new) self.old self.new book.old book.new) }
         ensures lost { OnErr result (LosesAnswers (spoken (names_of self.old) command) (F.answers shelf.old) (F.answers shelf.new)) }
         ensures cause { OnErr result ((F.faults shelf.new ≡ F.faults shelf.old) ⊎ Rose (F.faults shelf.old) (F.faults shelf.new)) }
+        ensures beside { StandsBeside self.new book.new }
         ensures limits { limits_of self.new ≡ limits_of self.old }
         ensures grows { Grows (names_of self.old) (names_of self.new) }
     {
-        match command {
-            Command::Edit(edit) => self.edit(rt, alloc, shelf, &edit),
-            Command::Set { line, values } => self.set(alloc, line, values.as_slice()),
-            Command::Run { line, n } => { self.counted_run::<Brand>(alloc, line, n, Blank::new(1)) }
-            Command::Show { line, prefix } => self.show(alloc, line, prefix.bytes()),
-            Command::Settle { line, .. } | Command::Status { line } => {
-                refused_line(alloc, &self.names, 90, line)
-            }
-            Command::Quit { .. } => Ok(Reply {
-                lines: TextBytes::new(reply_line(alloc, &ReplyKind::Quit)?),
-                refused: false,
-                quit: true,
-            }),
-        }
+        self.carry_out::<R, Brand, F>(rt, alloc, book, shelf, command, Blank::new(1))
     }
 }

@@ -16,6 +16,7 @@ use Rattle.command_read.proofs.Cutting.{told_on}
 use Rattle.live_session.specs.Forms.{any_refused}
 use Rattle.live_session.specs.Loads.{AddsAnswers, AreToFirst}
 use Rattle.live_session.specs.Readings.{AreRight}
+use Rattle.live_session.specs.Logs.{Log, moments_of}
 use Rattle.live_session.specs.Replies.{lines, asked_of, answers_of}
 use Rattle.live_session.specs.Settings.{Settings}
 use Rattle.live_session.specs.Verdicts.{Told}
@@ -25,9 +26,10 @@ use Rattle.livesim.specs.Runs.{Lived, AreSoon, RisesBy, WritesFront, WritesAtLea
 use Rattle.livesim.specs.Turns.{Sources, Shelves, Ends}
 use Rattle.livesim.specs.declared.ending.Ending.{Ending}
 use Rattle.livesim.proofs.Displays.{shown_truth}
+use Rattle.livesim.proofs.Histories.{IsHistory}
 use Rattle.livesim.proofs.OneTurn.{may_end}
 use Rattle.livesim.proofs.Quits.{counted, commands_are, commands_then, few_front}
-use Rattle.livesim.proofs.Steps.{lines-append}
+use Rattle.livesim.proofs.Steps.{lines_front}
 use Rattle.livesim.proofs.Turns.{Done, adds_more}
 use Rattle.livesim.proofs.Written.{front_all}
 
@@ -54,14 +56,15 @@ pub record IsStatus (bytes : List ℕ) (ended refused : Bool) (rest : List (Resu
   pub not_too_much : 67108864 < length bytes → status ≡ 6
 
 module _ (st : Settings) (from to : Sources) (shelf shelved : Shelves) (old new : Option (List ℕ)) (bytes : List ℕ) (ended refused : Bool) (told : List Told)
-    (rest : List (Result Asked TextFault)) (lost : List ShelfAnswer) (status : ℕ) where
+    (rest : List (Result Asked TextFault)) (lost : List ShelfAnswer) (status : ℕ) (text : List ℕ) (history : Log) where
   pub lived : Finished st from to shelf shelved bytes ended refused told rest lost → IsStatus bytes ended refused rest lost status
+      → IsHistory st told status text history
       → RisesBy (count_broken told) shelf.faults shelved.faults ⊎ ((status ≡ 5) × RisesBy (count_broken told + 1) shelf.faults shelved.faults)
-      → (status ≢ 4 → status ≢ 5 → Appends old new (lines st told fresh)) → WritesFront old new (lines st told fresh)
-      → ((before : List Told) (last : Told) → before ++ last ∷ [] ≡ told → WritesAtLeast old new (lines st before fresh))
+      → (status ≢ 4 → status ≢ 5 → Appends old new text) → WritesFront old new text
+      → ((before : List Told) (last : Told) → before ++ last ∷ [] ≡ told → WritesAtLeast old new (lines st before fresh (moments_of history)))
       → ((status ≡ 4) ⊎ (end_with_quit (asked_of told) ≡ true) → AreSoon (length told) bytes)
-      → Lived st from.left to.left old new shelf.answers shelved.answers shelf.faults shelved.faults bytes ended status
-  lived f s failed written front most soon = record {
+      → Lived st from.left to.left old new shelf.answers shelved.answers shelf.faults shelved.faults bytes ended status history
+  lived f s h failed written front most soon = record {
     consumed = f.consumed;
     at_end = f.at_end;
     told = told;
@@ -77,10 +80,14 @@ module _ (st : Settings) (from to : Sources) (shelf shelved : Shelves) (old new 
     none_lost = s.none_lost;
     lost_first = f.first;
     failed = failed;
-    written = written;
-    front = front;
+    written = λ four five. subst (Appends old new) (sym h.tells) (written four five);
+    front = subst (WritesFront old new) (sym h.tells) front;
     most = most;
-    settled = shown_truth st told;
+    settings = h.has;
+    legal = h.legal;
+    entries = h.entries;
+    agree = h.agree;
+    settled = shown_truth st told (moments_of history);
     too_much = s.too_much;
     not_too_much = s.not_too_much;
     soon = soon;
@@ -88,15 +95,17 @@ module _ (st : Settings) (from to : Sources) (shelf shelved : Shelves) (old new 
 
   -- where all lines were written
   pub lived_all : Finished st from to shelf shelved bytes ended refused told rest lost → IsStatus bytes ended refused rest lost status
+      → IsHistory st told status text history
       → RisesBy (count_broken told) shelf.faults shelved.faults ⊎ ((status ≡ 5) × RisesBy (count_broken told + 1) shelf.faults shelved.faults)
-      → Appends old new (lines st told fresh)
+      → Appends old new text
       → ((status ≡ 4) ⊎ (end_with_quit (asked_of told) ≡ true) → AreSoon (length told) bytes)
-      → Lived st from.left to.left old new shelf.answers shelved.answers shelf.faults shelved.faults bytes ended status
-  lived_all f s failed written soon = lived f s failed (λ four five. written) (front_all old new (lines st told fresh) written) at_least soon
+      → Lived st from.left to.left old new shelf.answers shelved.answers shelf.faults shelved.faults bytes ended status history
+  lived_all f s h failed written soon = lived f s h failed (λ four five. written) (front_all old new text written) at_least soon
     where
-      at_least : (before : List Told) (last : Told) → before ++ last ∷ [] ≡ told → WritesAtLeast old new (lines st before fresh)
+      at_least : (before : List Told) (last : Told) → before ++ last ∷ [] ≡ told → WritesAtLeast old new (lines st before fresh (moments_of history))
       at_least before last is =
-          (_, subst (Appends old new) (ap (λ t. lines st t fresh) (sym is) ∙ lines-append st before (last ∷ []) fresh) written)
+          let behind = lines_front st before (last ∷ []) fresh (moments_of history) in
+          (behind.0, subst (Appends old new) (sym h.tells ∙ ap (λ (ts : List Told). lines st ts fresh (moments_of history)) (sym is) ∙ behind.1) written)
 
 -- ---- where it ends behind a command
 
@@ -123,10 +132,10 @@ many_taken r stopped = large (count_taken r) (sym r.sound.much ∙ stopped)
 pub most_taken : (r : Reader) → count_taken r ≤ 67108865
 most_taken r = r.sound.most
 
-pub finished_now : (st : Settings) (from to : Sources) (shelf shelved : Shelves) (session : Session) (r : Reader) (refused quit : Bool) (told : List Told)
-    → (d : Done st from to shelf shelved session r refused quit told) → count_taken r ≤ 67108864
+pub finished_now : (st : Settings) (from to : Sources) (shelf shelved : Shelves) (session : Session) (r : Reader) (j : Log) (refused quit : Bool) (told : List Told)
+    (text : List ℕ) → (d : Done st from to shelf shelved session r j refused quit told text) → count_taken r ≤ 67108864
     → Finished st from to shelf shelved d.bytes (has_ended r) refused told (counted quit (still_asked r [] (has_ended r))) []
-finished_now st from to shelf shelved session r refused quit told d few =
+finished_now st from to shelf shelved session r j refused quit told text d few =
     let front : take 67108864 d.bytes ≡ d.bytes ++ [] = few_front 67108864 d.bytes (omega (arith, few, d.count)) ∙ sym (append-nil d.bytes) in
     record {
       consumed = d.consumed;
@@ -157,8 +166,8 @@ lost_first [] more (a ∷ lost) first = absurd first
 lost_first (Ok asked ∷ told) more (a ∷ lost) first = first
 lost_first (Err fault ∷ told) more (a ∷ lost) first = absurd first
 
-module _ (st : Settings) (from mid to : Sources) (shelf mid_shelf shelved : Shelves) (session : Session) (old new : Reader) (refused : Bool) (told : List Told)
-    (ending : Ending) (d : Done st from mid shelf mid_shelf session old refused false told) (e : Ends mid to mid_shelf shelved old new ending) where
+module _ (st : Settings) (from mid to : Sources) (shelf mid_shelf shelved : Shelves) (session behind : Session) (old new : Reader) (was is : Log) (refused : Bool) (told : List Told) (text : List ℕ)
+    (ending : Ending) (d : Done st from mid shelf mid_shelf session old was refused false told text) (e : Ends mid to mid_shelf shelved old new session behind was is ending) where
   at_end_then : has_ended new ≡ true → IsAtEnd to.left
   at_end_then ended = by (e.reads.takes.ended ended)
     where

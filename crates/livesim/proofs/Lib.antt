@@ -3,6 +3,7 @@ pub mod Written
 pub mod Quits
 pub mod Counts
 pub mod Steps
+pub mod Histories
 pub mod Soon
 pub mod Turns
 pub mod Displays

@@ -1,5 +1,5 @@
 -- What a turn does, by what is read.
-use Rattle.std.proofs.Common.{◌≡◌, ◌⊎◌, inl, inr, ℕ, ◌<◌, Bool, true, false, List, [], ◌∷◌, ◌++◌, Option, Some, None, Result, Ok, Err, refl, sym, subst, append-nil}
+use Rattle.std.proofs.Common.{◌≡◌, ◌⊎◌, inl, inr, ℕ, ◌<◌, Bool, true, false, List, [], ◌∷◌, ◌++◌, Option, Some, None, Result, Ok, Err, refl, sym, ap, subst, append-nil}
 use Rattle.std.specs.Prelude.{IfOk, OnErr}
 use Rattle.ls_text.specs.Readings.{TextFault}
 use Rattle.ls_port.specs.Causes.{Rose}
@@ -12,13 +12,16 @@ use Rattle.command_read.specs.Scripts.{is_quit}
 use Rattle.command_read.specs.declared.reader.Reader.{Reader}
 use Rattle.command_read.specs.declared.stop.Stop.TheVariants as stop
 use Rattle.command_read.proofs.Forms.{asks_formed_first}
+use Rattle.live_session.specs.Beside.{StandsBeside}
 use Rattle.live_session.specs.Loads.{AddsAnswers, LosesAnswers}
+use Rattle.live_session.specs.Logs.{Log}
 use Rattle.live_session.specs.Sessions.{world, limits_of}
-use Rattle.live_session.specs.Steps.{StepsTo}
+use Rattle.live_session.specs.Steps.{StepsTo, Stops, undone, lost}
 use Rattle.live_session.specs.declared.reply.Reply.{Reply}
 use Rattle.live_session.specs.declared.session.Session.{Session}
-use Rattle.livesim.specs.Turns.{Sources, Shelves, Reads, Ends, IsTurn, turn_of}
-use Rattle.livesim.specs.declared.ending.Ending.TheVariants.{NoMemory}
+use Rattle.livesim.specs.Turns.{Sources, Shelves, Reads, RunsOut, in_nothing, in_command, Ends, IsTurn, turn_of}
+use Rattle.livesim.specs.declared.ending.Ending.{Ending}
+use Rattle.livesim.specs.declared.ending.Ending.TheVariants.{Whole, Failed, TooMuch, NoMemory}
 use Rattle.livesim.specs.declared.turn.Turn.{Turn}
 
 -- nothing may come behind any bytes, which then end
@@ -35,77 +38,94 @@ pub adds_none : (answers : Option (List ShelfAnswer)) → AddsAnswers answers an
 adds_none None = tt
 adds_none (Some xs) = sym (append-nil xs)
 
-module _ (from to : Sources) (shelf shelved : Shelves) (old new : Reader) (session read_in behind : Session) where
+module _ (from to : Sources) (shelf shelved : Shelves) (old new : Reader) (session read_in behind : Session) (was is : Log) where
   -- a command, by what the session answers to it
   pub command_turn : {E : Type 0} (asked : Asked) (r : Result Reply E) (t : Turn) → t ≡ turn_of r → Reads from to old new (Ok asked ∷ []) → stopped new ≡ None
       → still_of new < still_of old → ((grid : List ℕ) → world read_in grid ≡ world session grid) → limits_of read_in ≡ limits_of session
-      → IfOk r (λ x. StepsTo (Ok asked) shelf.answers shelved.answers shelf.faults shelved.faults read_in behind x.lines x.refused)
+      → IfOk r (λ x. StepsTo (Ok asked) shelf.answers shelved.answers shelf.faults shelved.faults read_in behind was is x.lines x.refused)
       → IfOk r (λ x. x.quit ≡ is_quit (Ok asked))
+      → OnErr r (Stops (Ok asked) shelf.answers shelved.answers shelf.faults shelved.faults read_in behind was is)
       → OnErr r (LosesAnswers asked shelf.answers shelved.answers)
       → OnErr r ((shelved.faults ≡ shelf.faults) ⊎ Rose shelf.faults shelved.faults)
-      → IsTurn from to shelf shelved old new session behind t
-  command_turn asked (Ok x) t is reads going falls same limits steps quits lost cause =
-      subst (IsTurn from to shelf shelved old new session behind) (sym is) (record {
-        asked = Ok asked;
-        reads = reads;
-        going = going;
+      → IsTurn from to shelf shelved old new session behind was is t
+  command_turn asked (Ok x) t same_turn reads going falls same limits steps quits stops losing cause =
+      subst (IsTurn from to shelf shelved old new session behind was is) (sym same_turn) (record {
+        carries = record { asked = Ok asked; reads = reads; going = going; read_in = read_in; same = same; limits = limits; steps = steps };
         falls = falls;
-        read_in = read_in;
-        same = same;
-        limits = limits;
-        steps = steps;
         quits = quits;
       })
-  command_turn asked (Err e) t is reads going falls same limits steps quits lost cause =
-      subst (IsTurn from to shelf shelved old new session behind) (sym is) (record {
+  command_turn asked (Err e) t same_turn reads going falls same limits steps quits stops losing cause =
+      subst (IsTurn from to shelf shelved old new session behind was is) (sym same_turn) (record {
         told = Ok asked ∷ [];
         reads = reads;
-        lost = lost.more;
-        adds = lost.adds;
-        first = lost.first;
+        lost = losing.more;
+        adds = losing.adds;
+        first = losing.first;
         cause = cause;
-        over = inl going;
+        over = in_command (Ok asked) refl going read_in same limits stops;
       })
 
 -- a line that is refused, which looks at nothing outside
-pub refused_turn : {E : Type 0} (from to : Sources) (shelf : Shelves) (old new : Reader) (session read_in : Session) (fault : TextFault) (r : Result Reply E) (t : Turn)
-    → t ≡ turn_of r → Reads from to old new (Err fault ∷ []) → stopped new ≡ None
+pub refused_turn : {E : Type 0} (from to : Sources) (shelf : Shelves) (old new : Reader) (session read_in : Session) (j : Log) (fault : TextFault) (r : Result Reply E)
+    (t : Turn) → t ≡ turn_of r → Reads from to old new (Err fault ∷ []) → stopped new ≡ None
     → still_of new < still_of old → ((grid : List ℕ) → world read_in grid ≡ world session grid) → limits_of read_in ≡ limits_of session
-    → IfOk r (λ x. (answers : Option (List ShelfAnswer)) (faults : ℕ) → StepsTo (Err fault) answers answers faults faults read_in read_in x.lines x.refused)
+    → StandsBeside read_in j
+    → IfOk r (λ x. (answers : Option (List ShelfAnswer)) (faults : ℕ) (j : Log) → StandsBeside read_in j
+    → StepsTo (Err fault) answers answers faults faults read_in read_in j j x.lines x.refused)
     → IfOk r (λ x. x.quit ≡ false)
-    → IsTurn from to shelf shelf old new session read_in t
-refused_turn from to shelf old new session read_in fault (Ok x) t is reads going falls same limits steps quits =
-    subst (IsTurn from to shelf shelf old new session read_in) (sym is) (record {
-      asked = Err fault;
-      reads = reads;
-      going = going;
+    → IsTurn from to shelf shelf old new session read_in j j t
+refused_turn from to shelf old new session read_in j fault (Ok x) t is reads going falls same limits beside steps quits =
+    subst (IsTurn from to shelf shelf old new session read_in j j) (sym is) (record {
+      carries = record {
+        asked = Err fault;
+        reads = reads;
+        going = going;
+        read_in = read_in;
+        same = same;
+        limits = limits;
+        steps = steps shelf.answers shelf.faults j beside;
+      };
       falls = falls;
-      read_in = read_in;
-      same = same;
-      limits = limits;
-      steps = steps shelf.answers shelf.faults;
       quits = quits;
     })
-refused_turn from to shelf old new session read_in fault (Err e) t is reads going falls same limits steps quits =
-    subst (IsTurn from to shelf shelf old new session read_in) (sym is) (record {
+refused_turn from to shelf old new session read_in j fault (Err e) t is reads going falls same limits beside steps quits =
+    subst (IsTurn from to shelf shelf old new session read_in j j) (sym is) (record {
       told = Err fault ∷ [];
       reads = reads;
       lost = [];
       adds = adds_none shelf.answers;
       first = tt;
       cause = inl refl;
-      over = inl going;
+      over = in_nothing (inl going) refl;
     })
 
 -- memory ran out in the reader
-pub stopped_turn : (from to : Sources) (shelf : Shelves) (old new : Reader) → Reads from to old new [] → stopped new ≡ Some stop.NoMemory
-    → Ends from to shelf shelf old new NoMemory
-stopped_turn from to shelf old new reads stops = record {
+pub stopped_turn : (from to : Sources) (shelf : Shelves) (old new : Reader) (session behind : Session) (j : Log) → Reads from to old new [] → stopped new ≡ Some stop.NoMemory
+    → Ends from to shelf shelf old new session behind j j NoMemory
+stopped_turn from to shelf old new session behind j reads stops = record {
   told = [];
   reads = reads;
   lost = [];
   adds = adds_none shelf.answers;
   first = tt;
   cause = inl refl;
-  over = inr stops;
+  over = in_nothing (inr stops) refl;
 }
+
+-- a turn keeps the settings of the book
+stops_kept : (asked : Result Asked TextFault) (before behind : Option (List ShelfAnswer)) (faults count : ℕ) (old new : Session) (was is : Log)
+    → Stops asked before behind faults count old new was is → is.settings ≡ was.settings
+stops_kept asked before behind faults count old new was is (undone own charge same events unfinished world) = same
+stops_kept asked before behind faults count old new was is (lost text refused steps) = steps.done.settings
+
+pub over_kept : (from to : Sources) (shelf shelved : Shelves) (old new : Reader) (session behind : Session) (was is : Log) (ending : Ending)
+    → Ends from to shelf shelved old new session behind was is ending → is.settings ≡ was.settings
+over_kept from to shelf shelved old new session behind was is Whole e = ap (λ (j : Log). j.settings) e.over.0.same
+over_kept from to shelf shelved old new session behind was is Failed e = ap (λ (j : Log). j.settings) e.over.same
+over_kept from to shelf shelved old new session behind was is TooMuch e = ap (λ (j : Log). j.settings) e.over.same
+over_kept from to shelf shelved old new session behind was is NoMemory e = by e.over
+  where
+    by : RunsOut shelf shelved new session behind was is e.told → is.settings ≡ was.settings
+    by (in_nothing stops same) = ap (λ (j : Log). j.settings) same
+    by (in_command asked told going read_in same limits stops) =
+        stops_kept asked shelf.answers shelved.answers shelf.faults shelved.faults read_in behind was is stops

@@ -1,42 +1,49 @@
 -- How a run ends, and what is right then.
-use Rattle.std.proofs.Common.{◌≡◌, ◌≢◌, ◌⊎◌, ⊎_elim, inl, inr, ℕ, ◌<◌, ◌≤◌, Bool, true, false, ◌||◌, List, [], ◌∷◌, ◌++◌, length, take, Option, Some, None, refl, sym, ap, ◌∙◌, subst, append-nil, append_assoc, length-append, true≢false, arith}
+use Rattle.std.proofs.Common.{◌≡◌, ◌≢◌, ◌⊎◌, ⊎_elim, inl, inr, ℕ, ◌<◌, ◌≤◌, Bool, true, false, ◌||◌, List, [], ◌∷◌, ◌++◌, length, take, Option, Some, None, Result, refl, sym, ap, ◌∙◌, subst, append-nil, append_assoc, length-append, true≢false, arith}
 use Rattle.std.proofs.Math.Seq.{take-append_seam}
 use Rattle.std.proofs.lemmas.List.{length-map}
 use Rattle.std.proofs.KnownBytes.{Appends-nil, Appends-trans, Consumes-nil}
 use Rattle.std.specs.Io.KnownBytes.{Appends}
+use Rattle.book_history.specs.Book.{Closes, Settings as BookSettings}
 use Rattle.command_read.specs.Readers.{has_ended, count_taken, stopped, asked_of as still_asked, AreKept}
-use Rattle.command_read.specs.Scripts.{commands, up_to_quit}
+use Rattle.ls_text.specs.Readings.{TextFault}
+use Rattle.command_read.specs.Asking.{Asked}
+use Rattle.command_read.specs.Scripts.{commands, is_quit, up_to_quit}
 use Rattle.command_read.specs.Sound.{is_too_much}
 use Rattle.command_read.specs.declared.reader.Reader.{Reader}
 use Rattle.command_read.specs.declared.stop.Stop.{Stop}
 use Rattle.command_read.specs.declared.stop.Stop.TheVariants as stop
 use Rattle.live_options.specs.Words.{OptionsOf}
+use Rattle.live_session.specs.Logs.{Log, LogEvent, LogMoment, moments_after, moments_of}
 use Rattle.live_session.specs.Replies.{lines, asked_of}
+use Rattle.live_session.specs.Steps.{Stops, undone, lost as lost_lines}
+use Rattle.live_session.specs.Sessions.{limits_of, world}
 use Rattle.live_session.specs.Settings.{Settings}
 use Rattle.live_session.specs.Verdicts.{Told}
 use Rattle.live_session.specs.Worlds.{fresh}
-use Rattle.live_session.specs.declared.reply.Reply.{Reply}
 use Rattle.live_session.specs.declared.session.Session.{Session}
 use Rattle.livesim.specs.Endings.{status_of}
-use Rattle.livesim.specs.Runs.{Lived, AreSoon, RisesBy, WritesFront, WritesAtLeast, count_broken, end_with_quit}
+use Rattle.livesim.specs.Histories.{IsLegal, closed}
+use Rattle.livesim.specs.Runs.{HasSettings, Lived, AreSoon, RisesBy, WritesAtLeast, count_broken, end_with_quit}
 use Rattle.livesim.specs.Settings.{settings}
-use Rattle.livesim.specs.Turns.{Sources, Shelves, Answers, Ends, HasLimits, HasStopped}
+use Rattle.livesim.specs.Turns.{Sources, Shelves, Reads, Carries, RunsOut, in_nothing, in_command, Ends, HasLimits, HasStopped}
 use Rattle.livesim.specs.Writing.{Writes}
 use Rattle.livesim.specs.declared.ending.Ending.{Ending}
 use Rattle.livesim.specs.declared.ending.Ending.TheVariants.{Whole, Failed, TooMuch, NoMemory}
 use Rattle.livesim.proofs.Counts.{rises_perhaps}
 use Rattle.livesim.proofs.Endings.{Finished, IsStatus, AreCut, lived, lived_all, few_taken, many_taken, most_taken, finished_now, finished_then, taken_then}
+use Rattle.livesim.proofs.Histories.{IsHistory, IsRecorded, closed_history, lines_with, moments_behind, moments_closed, nothing_history, unfinished_history}
 use Rattle.livesim.proofs.OneTurn.{adds_none}
 use Rattle.livesim.proofs.Quits.{ends_with, few_front, most_front, never_quits}
 use Rattle.livesim.proofs.Soon.{soon_of}
-use Rattle.livesim.proofs.Turns.{Done, turn_told, lines_more, more_done}
+use Rattle.livesim.proofs.Turns.{Done, turn_told, step, more_done}
 use Rattle.livesim.proofs.Written.{writes_front}
 
 -- a run that took so many bytes
-abbrev pub IsLived : Settings → (from to : Sources) → (shelf shelved : Shelves) → (old new : Option (List ℕ)) → (taken status : ℕ) → Type 0
-IsLived st from to shelf shelved old new taken status =
+abbrev pub IsLived : Settings → (from to : Sources) → (shelf shelved : Shelves) → (old new : Option (List ℕ)) → (taken status : ℕ) → Log → Type 0
+IsLived st from to shelf shelved old new taken status history =
     (bytes : List ℕ) × (ended : Bool) × (length bytes ≡ taken)
-    × Lived st from.left to.left old new shelf.answers shelved.answers shelf.faults shelved.faults bytes ended status
+    × Lived st from.left to.left old new shelf.answers shelved.answers shelf.faults shelved.faults bytes ended status history
 
 -- a status that is one number isn't another
 other : (n m status : ℕ) → status ≡ n → (n ≡ m → ⊥) → status ≡ m → ⊥
@@ -57,8 +64,74 @@ none_behind : (came kept lost : List ℕ) → came ≡ kept ++ lost → came ≡
 none_behind came kept [] is same = refl
 none_behind came kept (x ∷ lost) is same = absurd (omega (arith, ap length is, ap length same, length-append kept (x ∷ lost)))
 
-module _ (st : Settings) (from mid to : Sources) (shelf mid_shelf shelved : Shelves) (written_old written_new : Option (List ℕ)) (session : Session) (old new : Reader)
-    (refused : Bool) (told : List Told) (written : Appends written_old written_new (lines st told fresh)) (d : Done st from mid shelf mid_shelf session old refused false told) where
+same_front : (xs ys : List Told) (x y : Told) → xs ++ x ∷ [] ≡ ys ++ y ∷ [] → xs ≡ ys
+same_front xs ys x y is =
+    let count : length xs ≡ length ys = omega (arith, ap length is, length-append xs (x ∷ []), length-append ys (y ∷ [])) in
+    sym (take-append_seam xs (x ∷ [])) ∙ ap (take (length xs)) is ∙ ap (λ n. take n (ys ++ y ∷ [])) count ∙ take-append_seam ys (y ∷ [])
+
+-- a front of a command's lines was written
+module _ (o : OptionsOf) (from mid to : Sources) (shelf mid_shelf shelved : Shelves) (session behind : Session) (old new : Reader) (was now : Log) (refused : Bool)
+    (told : List Told) (text more : List ℕ) (also : Bool) (limits : HasLimits session) (d : Done (settings o) from mid shelf mid_shelf session old was refused false told text)
+    (a : Carries mid to mid_shelf shelved old new session behind was now more also) (written_old written_mid written_new : Option (List ℕ))
+    (written : Appends written_old written_mid text) (w : Writes written_mid written_new more) where
+  abbrev said : Told
+  said = turn_told o from mid to shelf mid_shelf shelved session behind old new was now refused told text more also limits d a
+
+  -- the lines of those before it at their places
+  lines_before : lines (settings o) told fresh (moments_of (closed now)) ≡ text
+  lines_before =
+      let done = step o from mid to shelf mid_shelf shelved session behind old new was now refused told text more also limits d a in
+      ap (λ (ms : List LogMoment). lines (settings o) told fresh ms) (moments_closed now ∙ moments_behind was now done.done.added done.done.settings done.done.events)
+      ∙ lines_with (settings o) was told text (moments_after was done.done.added) d.recorded
+
+  at_least : (before : List Told) (last : Told) → before ++ last ∷ [] ≡ told ++ said ∷ []
+      → WritesAtLeast written_old written_new (lines (settings o) before fresh (moments_of (closed now)))
+  at_least before last same =
+      let front : told ≡ before = sym (same_front before told last said same) in (
+        w.front,
+        subst (λ (t : List ℕ). Appends written_old written_new (t ++ w.front))
+            (sym lines_before ∙ ap (λ (ts : List Told). lines (settings o) ts fresh (moments_of (closed now))) front)
+            (Appends-trans written_old written_mid written_new text w.front written w.appended),
+      )
+
+  pub front_lived : IsLegal (closed now) → (status : ℕ) → (status ≡ 4) ⊎ (status ≡ 5)
+      → IsLived (settings o) from to shelf shelved written_old written_new (count_taken new) status (closed now)
+  front_lived legal status which_is =
+      let done = more_done o from mid to shelf mid_shelf shelved session behind old new was now refused told text more also limits d a in
+      let few = few_taken new (ap is_too_much a.going) in
+      let all = told ++ said ∷ [] in
+      let f = finished_now (settings o) from to shelf shelved behind new now (refused || also) (is_quit a.asked) _ (text ++ more) done few in
+      let least : 4 ≤ status = ⊎_elim (λ z. omega (arith, z)) (λ z. omega (arith, z)) which_is in
+      let most : status ≤ 5 = ⊎_elim (λ z. omega (arith, z)) (λ z. omega (arith, z)) which_is in
+      let never : status ≢ 4 → status ≢ 5 → ⊥ = λ four five. ⊎_elim four five which_is in
+      let s : IsStatus done.bytes (has_ended new) (refused || also) _ [] status = record {
+        none_left = λ four five. absurd (never four five);
+        none_lost = λ five. refl;
+        whole = λ which. absurd (⊎_elim (λ z. omega (arith, z, least)) (λ z. omega (arith, z, least)) which);
+        judged = λ which. absurd (⊎_elim (λ z. omega (arith, z, least)) (λ z. omega (arith, z, least)) which);
+        cut = λ which. absurd (⊎_elim (λ z. omega (arith, z, least)) (λ z. omega (arith, z, most)) which);
+        too_much = λ six. absurd (omega (arith, six, most));
+        not_too_much = λ much. absurd (omega (arith, much, few, done.count));
+      } in (
+        done.bytes,
+        has_ended new,
+        sym done.count,
+        lived (settings o) from to shelf shelved written_old written_new done.bytes (has_ended new) (refused || also) all _ [] status (text ++ more) (closed now) f s
+            (closed_history (settings o) now all (text ++ more) status done.recorded legal) (inl done.failed)
+            (λ four five. absurd (never four five))
+            (writes_front written_old written_mid written_new text more written w)
+            at_least
+            (λ which. soon_of all done.bytes done.soon (omega (arith, length-append told (said ∷ [])))),
+      )
+
+module _ (o : OptionsOf) (from mid to : Sources) (shelf mid_shelf shelved : Shelves) (written_old written_new : Option (List ℕ)) (session behind : Session) (old new : Reader)
+    (was now : Log) (refused : Bool) (told : List Told) (text : List ℕ) (limits : HasLimits session) (written : Appends written_old written_new text)
+    (d : Done (settings o) from mid shelf mid_shelf session old was refused false told text) (legal : IsLegal (closed now)) where
+  -- a book that is as it was
+  as_before : (status : ℕ) → now ≡ was → IsHistory (settings o) told status text (closed now)
+  as_before status same =
+      closed_history (settings o) now told text status (subst (λ (j : Log). IsRecorded (settings o) j told text) (sym same) d.recorded) legal
+
   -- all that came is kept, and no byte is above the limit
   all_kept : (came kept : List ℕ) → came ≡ kept → length (d.bytes ++ came) ≡ count_taken new → is_too_much (stopped new) ≡ false
       → AreCut new (d.bytes ++ came) (d.bytes ++ kept) []
@@ -71,17 +144,17 @@ module _ (st : Settings) (from mid to : Sources) (shelf mid_shelf shelved : Shel
   not_soon : (bytes : List ℕ) (status : ℕ) → (status ≡ 4 → ⊥) → (status ≡ 4) ⊎ (end_with_quit (asked_of told) ≡ true) → AreSoon (length told) bytes
   not_soon bytes status four which = absurd (⊎_elim four (never_quits (asked_of told) d.ends) which)
 
-  none_left : (stopped_for : Stop) (asked : List _) (lost : List _) (faults count : ℕ) → HasStopped stopped_for new asked lost faults count
+  none_left : (stopped_for : Stop) (asked : List _) (lost : List _) (faults count : ℕ) → HasStopped stopped_for new asked lost faults count was now
       → up_to_quit (asked ++ still_asked new [] (has_ended new)) ≡ []
   none_left stopped_for asked lost faults count h = ap (λ t. up_to_quit (t ++ still_asked new [] (has_ended new))) h.none ∙ ap up_to_quit h.nothing
 
-  over_whole : (e : Ends mid to mid_shelf shelved old new Whole) (status : ℕ) → status ≡ status_of Whole refused
-      → IsLived st from to shelf shelved written_old written_new (count_taken new) status
+  over_whole : (e : Ends mid to mid_shelf shelved old new session behind was now Whole) (status : ℕ) → status ≡ status_of Whole refused
+      → IsLived (settings o) from to shelf shelved written_old written_new (count_taken new) status (closed now)
   over_whole e status is =
       let h = e.over.0 in
       let ended = e.over.1 in
       let going : is_too_much (stopped new) ≡ false = ap is_too_much h.reason_is in
-      let taken = taken_then st from mid to shelf mid_shelf shelved session old new refused told Whole d e in
+      let taken = taken_then (settings o) from mid to shelf mid_shelf shelved session behind old new was now refused told text Whole d e in
       let bytes = d.bytes ++ e.reads.came in
       let rest = up_to_quit (e.told ++ still_asked new [] (has_ended new)) in
       let below = small refused status is in
@@ -98,19 +171,19 @@ module _ (st : Settings) (from mid to : Sources) (shelf mid_shelf shelved : Shel
         bytes,
         has_ended new,
         taken,
-        lived_all st from to shelf shelved written_old written_new bytes (has_ended new) refused told rest e.lost status
-            (finished_then st from mid to shelf mid_shelf shelved session old new refused told Whole d e []
-            (all_kept e.reads.came e.reads.kept (e.reads.takes.whole ended) taken going)) s
+        lived_all (settings o) from to shelf shelved written_old written_new bytes (has_ended new) refused told rest e.lost status text (closed now)
+            (finished_then (settings o) from mid to shelf mid_shelf shelved session behind old new was now refused told text Whole d e []
+            (all_kept e.reads.came e.reads.kept (e.reads.takes.whole ended) taken going)) s (as_before status h.same)
             (inl (subst (RisesBy (count_broken told) shelf.faults) (sym h.unfailed) d.failed)) written
             (not_soon bytes status (λ z. omega (arith, z, below))),
       )
 
-  over_failed : (e : Ends mid to mid_shelf shelved old new Failed) (status : ℕ) → status ≡ 3
-      → IsLived st from to shelf shelved written_old written_new (count_taken new) status
+  over_failed : (e : Ends mid to mid_shelf shelved old new session behind was now Failed) (status : ℕ) → status ≡ 3
+      → IsLived (settings o) from to shelf shelved written_old written_new (count_taken new) status (closed now)
   over_failed e status is =
       let h = e.over in
       let going : is_too_much (stopped new) ≡ false = ap is_too_much h.reason_is in
-      let taken = taken_then st from mid to shelf mid_shelf shelved session old new refused told Failed d e in
+      let taken = taken_then (settings o) from mid to shelf mid_shelf shelved session behind old new was now refused told text Failed d e in
       let bytes = d.bytes ++ e.reads.came in
       let rest = up_to_quit (e.told ++ still_asked new [] (has_ended new)) in
       let few = few_taken new going in
@@ -128,17 +201,18 @@ module _ (st : Settings) (from mid to : Sources) (shelf mid_shelf shelved : Shel
         bytes,
         has_ended new,
         taken,
-        lived_all st from to shelf shelved written_old written_new bytes (has_ended new) refused told rest e.lost status
-            (finished_then st from mid to shelf mid_shelf shelved session old new refused told Failed d e [] (all_kept e.reads.came e.reads.kept same taken going)) s
+        lived_all (settings o) from to shelf shelved written_old written_new bytes (has_ended new) refused told rest e.lost status text (closed now)
+            (finished_then (settings o) from mid to shelf mid_shelf shelved session behind old new was now refused told text Failed d e [] (all_kept e.reads.came e.reads.kept same taken going)) s
+            (as_before status h.same)
             (inl (subst (RisesBy (count_broken told) shelf.faults) (sym h.unfailed) d.failed)) written
             (not_soon bytes status (λ z. omega (arith, z, is))),
       )
 
-  over_much : (e : Ends mid to mid_shelf shelved old new TooMuch) (status : ℕ) → status ≡ 6
-      → IsLived st from to shelf shelved written_old written_new (count_taken new) status
+  over_much : (e : Ends mid to mid_shelf shelved old new session behind was now TooMuch) (status : ℕ) → status ≡ 6
+      → IsLived (settings o) from to shelf shelved written_old written_new (count_taken new) status (closed now)
   over_much e status is =
       let h = e.over in
-      let taken = taken_then st from mid to shelf mid_shelf shelved session old new refused told TooMuch d e in
+      let taken = taken_then (settings o) from mid to shelf mid_shelf shelved session behind old new was now refused told text TooMuch d e in
       let bytes = d.bytes ++ e.reads.came in
       let rest = up_to_quit (e.told ++ still_asked new [] (has_ended new)) in
       let many = many_taken new (ap is_too_much h.reason_is) in
@@ -163,17 +237,18 @@ module _ (st : Settings) (from mid to : Sources) (shelf mid_shelf shelved : Shel
         bytes,
         has_ended new,
         taken,
-        lived_all st from to shelf shelved written_old written_new bytes (has_ended new) refused told rest e.lost status
-            (finished_then st from mid to shelf mid_shelf shelved session old new refused told TooMuch d e [] cut) s
+        lived_all (settings o) from to shelf shelved written_old written_new bytes (has_ended new) refused told rest e.lost status text (closed now)
+            (finished_then (settings o) from mid to shelf mid_shelf shelved session behind old new was now refused told text TooMuch d e [] cut) s (as_before status h.same)
             (inl (subst (RisesBy (count_broken told) shelf.faults) (sym h.unfailed) d.failed)) written
             (not_soon bytes status (λ z. omega (arith, z, is))),
       )
 
-  -- memory ran out, with these bytes behind those that are kept
-  over_want : (e : Ends mid to mid_shelf shelved old new NoMemory) (status : ℕ) → status ≡ 5 → is_too_much (stopped new) ≡ false → (lost : List ℕ)
-      → e.reads.came ≡ e.reads.kept ++ lost → IsLived st from to shelf shelved written_old written_new (count_taken new) status
-  over_want e status is going lost came =
-      let taken = taken_then st from mid to shelf mid_shelf shelved session old new refused told NoMemory d e in
+  -- memory ran out, with these bytes behind those that are kept, and this history
+  over_want : (e : Ends mid to mid_shelf shelved old new session behind was now NoMemory) (status : ℕ) → status ≡ 5 → is_too_much (stopped new) ≡ false → (lost : List ℕ)
+      → e.reads.came ≡ e.reads.kept ++ lost → IsHistory (settings o) told status text (closed now)
+      → IsLived (settings o) from to shelf shelved written_old written_new (count_taken new) status (closed now)
+  over_want e status is going lost came h =
+      let taken = taken_then (settings o) from mid to shelf mid_shelf shelved session behind old new was now refused told text NoMemory d e in
       let bytes = d.bytes ++ e.reads.came in
       let rest = up_to_quit (e.told ++ still_asked new lost (has_ended new)) in
       let few = few_taken new going in
@@ -193,15 +268,15 @@ module _ (st : Settings) (from mid to : Sources) (shelf mid_shelf shelved : Shel
         bytes,
         has_ended new,
         taken,
-        lived_all st from to shelf shelved written_old written_new bytes (has_ended new) refused told rest e.lost status
-            (finished_then st from mid to shelf mid_shelf shelved session old new refused told NoMemory d e lost cut) s
+        lived_all (settings o) from to shelf shelved written_old written_new bytes (has_ended new) refused told rest e.lost status text (closed now)
+            (finished_then (settings o) from mid to shelf mid_shelf shelved session behind old new was now refused told text NoMemory d e lost cut) s h
             (rises_perhaps (count_broken told) shelf.faults mid_shelf.faults shelved.faults status is d.failed e.cause) written
             (not_soon bytes status (λ z. omega (arith, z, is))),
       )
 
   -- however the reading ended
-  pub over_lived : (ending : Ending) (e : Ends mid to mid_shelf shelved old new ending) (status : ℕ) → status ≡ status_of ending refused
-      → IsLived st from to shelf shelved written_old written_new (count_taken new) status
+  pub over_lived : (ending : Ending) (e : Ends mid to mid_shelf shelved old new session behind was now ending) (status : ℕ) → status ≡ status_of ending refused
+      → IsLived (settings o) from to shelf shelved written_old written_new (count_taken new) status (closed now)
   over_lived Whole e status is = over_whole e status is
   over_lived Failed e status is = over_failed e status is
   over_lived TooMuch e status is = over_much e status is
@@ -210,21 +285,38 @@ module _ (st : Settings) (from mid to : Sources) (shelf mid_shelf shelved : Shel
       holds_by : (s : Option Stop) → stopped new ≡ s → AreKept s e.reads.came e.reads.kept
       holds_by s at = subst (λ s. AreKept s e.reads.came e.reads.kept) at e.reads.takes.holds
 
-      by : (stopped new ≡ None) ⊎ (stopped new ≡ Some stop.NoMemory) → IsLived st from to shelf shelved written_old written_new (count_taken new) status
-      by (inl going) = over_want e status is (ap is_too_much going) [] (holds_by None going ∙ sym (append-nil e.reads.kept))
-      by (inr stops) =
+      -- in a command, which was undone, or done with its lines lost
+      in_a_command : (asked : Result Asked TextFault) → e.told ≡ asked ∷ [] → stopped new ≡ None → (read_in : Session)
+          → ((grid : List ℕ) → world read_in grid ≡ world session grid) → limits_of read_in ≡ limits_of session
+          → Stops asked mid_shelf.answers shelved.answers mid_shelf.faults shelved.faults read_in behind was now
+          → IsLived (settings o) from to shelf shelved written_old written_new (count_taken new) status (closed now)
+      in_a_command asked at going read_in same limited (undone own charge kept events unfinished world_is) =
+          over_want e status is (ap is_too_much going) [] (holds_by None going ∙ sym (append-nil e.reads.kept))
+          (unfinished_history (settings o) was now told text status own is d.recorded kept events unfinished legal)
+      in_a_command asked at going read_in same limited (lost_lines more also steps) =
+          let reads : Reads mid to old new (asked ∷ []) = subst (λ (ts : List (Result Asked TextFault)). Reads mid to old new ts) at e.reads in
+          let a : Carries mid to mid_shelf shelved old new session behind was now more also
+          = record { asked = asked; reads = reads; going = going; read_in = read_in; same = same; limits = limited; steps = steps } in
+          front_lived o from mid to shelf mid_shelf shelved session behind old new was now refused told text more also limits d a written_old written_new written_new written
+          (record { front = []; rest = more; split = refl; appended = Appends-nil written_new }) legal status (inr is)
+
+      by : RunsOut mid_shelf shelved new session behind was now e.told → IsLived (settings o) from to shelf shelved written_old written_new (count_taken new) status (closed now)
+      by (in_nothing (inl going) same) =
+          over_want e status is (ap is_too_much going) [] (holds_by None going ∙ sym (append-nil e.reads.kept)) (as_before status same)
+      by (in_nothing (inr stops) same) =
           let kept = holds_by (Some stop.NoMemory) stops in
-          over_want e status is (ap is_too_much stops) kept.0 kept.1
+          over_want e status is (ap is_too_much stops) kept.0 kept.1 (as_before status same)
+      by (in_command asked at going read_in same limited stops) = in_a_command asked at going read_in same limited stops
 
 -- the script quit
-pub quit_lived : (st : Settings) (from to : Sources) (shelf shelved : Shelves) (old new : Option (List ℕ)) (session : Session) (r : Reader) (refused quit : Bool)
-    (told : List Told) → Appends old new (lines st told fresh) → Done st from to shelf shelved session r refused quit told → quit ≡ true → stopped r ≡ None → (status : ℕ)
-    → status ≡ status_of Whole refused → IsLived st from to shelf shelved old new (count_taken r) status
-quit_lived st from to shelf shelved old new session r refused false told written d quits going status is = absurd (true≢false (sym quits))
-quit_lived st from to shelf shelved old new session r refused true told written d quits going status is =
+pub quit_lived : (st : Settings) (from to : Sources) (shelf shelved : Shelves) (old new : Option (List ℕ)) (session : Session) (r : Reader) (j : Log) (refused quit : Bool)
+    (told : List Told) (text : List ℕ) → Appends old new text → Done st from to shelf shelved session r j refused quit told text → quit ≡ true → stopped r ≡ None
+    → IsLegal (closed j) → (status : ℕ) → status ≡ status_of Whole refused → IsLived st from to shelf shelved old new (count_taken r) status (closed j)
+quit_lived st from to shelf shelved old new session r j refused false told text written d quits going legal status is = absurd (true≢false (sym quits))
+quit_lived st from to shelf shelved old new session r j refused true told text written d quits going legal status is =
     let below = small refused status is in
     let few = few_taken r (ap is_too_much going) in
-    let f = finished_now st from to shelf shelved session r refused true told d few in
+    let f = finished_now st from to shelf shelved session r j refused true told text d few in
     let s : IsStatus d.bytes (has_ended r) refused [] [] status = record {
       none_left = λ four five. refl;
       none_lost = λ five. refl;
@@ -237,61 +329,15 @@ quit_lived st from to shelf shelved old new session r refused true told written 
       d.bytes,
       has_ended r,
       sym d.count,
-      lived_all st from to shelf shelved old new d.bytes (has_ended r) refused told [] [] status f s (inl d.failed) written
+      lived_all st from to shelf shelved old new d.bytes (has_ended r) refused told [] [] status text (closed j) f s
+          (closed_history st j told text status d.recorded legal) (inl d.failed) written
           (λ which. soon_of told d.bytes d.soon (omega (arith, sym (length-map told (λ (t : Told). t.asked)), ap length d.ends.2, length-append d.ends.0 (d.ends.1 ∷ [])))),
     )
 
-same_front : (xs ys : List Told) (x y : Told) → xs ++ x ∷ [] ≡ ys ++ y ∷ [] → xs ≡ ys
-same_front xs ys x y is =
-    let count : length xs ≡ length ys = omega (arith, ap length is, length-append xs (x ∷ []), length-append ys (y ∷ [])) in
-    sym (take-append_seam xs (x ∷ [])) ∙ ap (take (length xs)) is ∙ ap (λ n. take n (ys ++ y ∷ [])) count ∙ take-append_seam ys (y ∷ [])
-
--- the sink refused a front of a reply
-module _ (o : OptionsOf) (from mid to : Sources) (shelf mid_shelf shelved : Shelves) (session behind : Session) (old new : Reader) (refused : Bool) (told : List Told) (r : Reply)
-    (limits : HasLimits session) (d : Done (settings o) from mid shelf mid_shelf session old refused false told) (a : Answers mid to mid_shelf shelved old new session behind r)
-    (written_old written_mid written_new : Option (List ℕ)) (written : Appends written_old written_mid (lines (settings o) told fresh)) (w : Writes written_mid written_new r.lines) where
-  at_least : (before : List Told) (last : Told) → before ++ last ∷ [] ≡ told ++ turn_told o from mid to shelf mid_shelf shelved session behind old new refused told r limits d a ∷ []
-      → WritesAtLeast written_old written_new (lines (settings o) before fresh)
-  at_least before last is =
-      let same : told ≡ before = sym (same_front before told last _ is) in (
-        w.front,
-        subst (λ b. Appends written_old written_new (lines (settings o) b fresh ++ w.front)) same
-            (Appends-trans written_old written_mid written_new (lines (settings o) told fresh) w.front written w.appended),
-      )
-
-  pub sink_lived : (status : ℕ) → (status ≡ 4) ⊎ (status ≡ 5) → IsLived (settings o) from to shelf shelved written_old written_new (count_taken new) status
-  sink_lived status is =
-      let more = more_done o from mid to shelf mid_shelf shelved session behind old new refused told r limits d a in
-      let few = few_taken new (ap is_too_much a.going) in
-      let said = turn_told o from mid to shelf mid_shelf shelved session behind old new refused told r limits d a in
-      let all = told ++ said ∷ [] in
-      let f = finished_now (settings o) from to shelf shelved behind new (refused || r.refused) r.quit _ more few in
-      let least : 4 ≤ status = ⊎_elim (λ z. omega (arith, z)) (λ z. omega (arith, z)) is in
-      let most : status ≤ 5 = ⊎_elim (λ z. omega (arith, z)) (λ z. omega (arith, z)) is in
-      let never : status ≢ 4 → status ≢ 5 → ⊥ = λ four five. ⊎_elim four five is in
-      let s : IsStatus more.bytes (has_ended new) (refused || r.refused) _ [] status = record {
-        none_left = λ four five. absurd (never four five);
-        none_lost = λ five. refl;
-        whole = λ which. absurd (⊎_elim (λ z. omega (arith, z, least)) (λ z. omega (arith, z, least)) which);
-        judged = λ which. absurd (⊎_elim (λ z. omega (arith, z, least)) (λ z. omega (arith, z, least)) which);
-        cut = λ which. absurd (⊎_elim (λ z. omega (arith, z, least)) (λ z. omega (arith, z, most)) which);
-        too_much = λ six. absurd (omega (arith, six, most));
-        not_too_much = λ much. absurd (omega (arith, much, few, more.count));
-      } in (
-        more.bytes,
-        has_ended new,
-        sym more.count,
-        lived (settings o) from to shelf shelved written_old written_new more.bytes (has_ended new) (refused || r.refused) _ _ [] status f s (inl more.failed)
-            (λ four five. absurd (never four five))
-            (subst (WritesFront written_old written_new) (sym (lines_more o from mid to shelf mid_shelf shelved session behind old new refused told r limits d a))
-            (writes_front written_old written_mid written_new (lines (settings o) told fresh) r.lines written w))
-            at_least
-            (λ which. soon_of all more.bytes more.soon (omega (arith, length-append told (said ∷ [])))),
-      )
-
 -- memory ran out before anything was touched
-pub nothing_lived : (st : Settings) (from : Sources) (shelf : Shelves) (old : Option (List ℕ)) → IsLived st from from shelf shelf old old 0 5
-nothing_lived st from shelf old =
+pub nothing_lived : (st : Settings) (from : Sources) (shelf : Shelves) (old : Option (List ℕ)) (h : Log) → h.events ≡ []
+    → IsLived st from from shelf shelf old old 0 5 h
+nothing_lived st from shelf old h blank =
     let f : Finished st from from shelf shelf [] false false [] (commands [] false) [] = record {
       consumed = Consumes-nil from.left;
       at_end = λ ended. absurd (true≢false (sym ended));
@@ -314,6 +360,36 @@ nothing_lived st from shelf old =
       [],
       false,
       refl,
-      lived_all st from from shelf shelf old old [] false false [] (commands [] false) [] 5 f s (inl refl) (Appends-nil old)
+      lived_all st from from shelf shelf old old [] false false [] (commands [] false) [] 5 [] h f s (nothing_history st h blank) (inl refl) (Appends-nil old)
           (λ which. absurd (⊎_elim (λ z. omega (arith, z)) (λ z. true≢false (sym z)) which)),
     )
+
+-- the same, with what is answered
+pub stopped_lived : (st : Settings) (from : Sources) (shelf : Shelves) (old : Option (List ℕ)) (taken status : ℕ) (h : Log) → taken ≡ 0 → status ≡ 5 → h.events ≡ []
+    → IsLived st from from shelf shelf old old taken status h
+stopped_lived st from shelf old taken status h none five blank =
+    subst (λ (n : ℕ). IsLived st from from shelf shelf old old n status h) (sym none)
+    (subst (λ (n : ℕ). IsLived st from from shelf shelf old old 0 n h) (sym five) (nothing_lived st from shelf old h blank))
+
+-- the history of a book behind its close
+same_log : (h k : Log) → h.settings ≡ k.settings → h.events ≡ k.events → h ≡ k
+same_log h k same events =
+    ap (λ (s : BookSettings). record { settings = s; events = h.events }) same ∙ ap (λ (es : List LogEvent). record { settings = k.settings; events = es }) events
+
+pub handed_lived : (st : Settings) (from to : Sources) (shelf shelved : Shelves) (old new : Option (List ℕ)) (taken count status : ℕ) (j h : Log) → h.settings ≡ j.settings
+    → h.events ≡ j.events ++ Closes ∷ [] → IsLegal h → taken ≡ count → (IsLegal (closed j) → IsLived st from to shelf shelved old new count status (closed j))
+    → IsLived st from to shelf shelved old new taken status h
+handed_lived st from to shelf shelved old new taken count status j h same events legal counted lives =
+    let one : h ≡ closed j = same_log h (closed j) same events in
+    subst (λ (k : Log). IsLived st from to shelf shelved old new taken status k) (sym one)
+    (subst (λ (n : ℕ). IsLived st from to shelf shelved old new n status (closed j)) (sym counted) (lives (subst IsLegal one legal)))
+
+-- a book with the interval and lookback of the options and the program's rooms
+pub made_with : (o : OptionsOf) (j : Log) → j.settings ≡ record { interval = o.interval; lookback = o.lookback; rooms = record { session = 1048576; workers = 3145728 } }
+    → HasSettings (settings o) j
+made_with o j is = (
+  ap (λ (s : BookSettings). s.interval) is,
+  ap (λ (s : BookSettings). s.lookback) is,
+  ap (λ (s : BookSettings). s.rooms.session) is,
+  ap (λ (s : BookSettings). s.rooms.workers) is,
+)

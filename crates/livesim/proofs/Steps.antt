@@ -1,23 +1,24 @@
--- Commands one after another: the world behind them, their lines, and what is right.
-use Rattle.std.proofs.Common.{◌≡◌, ℕ, Bool, ◌||◌, List, [], ◌∷◌, ◌++◌, Option, Result, refl, sym, ap, ◌∙◌, subst, append-nil, append_assoc}
+-- Commands one after another: the world behind them, their entries, and what is right.
+use Rattle.std.proofs.Common.{◌≡◌, ℕ, Bool, ◌||◌, List, [], ◌∷◌, ◌++◌, Option, Some, None, Result, refl, sym, ap, ◌∙◌, subst, append-nil, append_assoc}
 use Rattle.std.specs.Prelude.{is_err}
-use Rattle.std.proofs.Math.Bool.{or-false, or_assoc}
+use Rattle.std.proofs.Math.Bool.{or_assoc}
 use Rattle.std.proofs.lemmas.Grind.{flat_map-append}
 use Rattle.std.proofs.lemmas.List.{map-append}
 use Rattle.ls_text.specs.Readings.{TextFault}
 use Rattle.ls_port.specs.declared.shelf_answer.ShelfAnswer.{ShelfAnswer}
 use Rattle.command_read.specs.Asking.{Asked}
-use Rattle.live_options.specs.Words.{OptionsOf}
+use Rattle.live_session.specs.Beside.{settings_in, world_in}
+use Rattle.live_session.specs.Done.{IsDone, told}
 use Rattle.live_session.specs.Forms.{verdict_now, after, world_after, any_refused}
+use Rattle.live_session.specs.Logs.{Log, LogEvent, LogMoment}
 use Rattle.live_session.specs.Readings.{IsRight, AreRight}
-use Rattle.live_session.specs.Replies.{reply, lines, asked_of, answers_to, answers_of}
-use Rattle.live_session.specs.Sessions.{world, limits_of, settings_of}
+use Rattle.live_session.specs.Replies.{reply, lines, text_then, asked_of, answers_to, answers_of}
+use Rattle.live_session.specs.Scripts.{AllAgree, IsPart, IsScript, judged_worlds, worlds}
 use Rattle.live_session.specs.Settings.{Settings}
-use Rattle.live_session.specs.Steps.{StepsTo, told}
+use Rattle.live_session.specs.Steps.{StepsTo}
 use Rattle.live_session.specs.Verdicts.{Told}
 use Rattle.live_session.specs.Worlds.{World}
 use Rattle.live_session.specs.declared.session.Session.{Session}
-use Rattle.livesim.specs.Settings.{settings}
 
 pub after-append : (st : Settings) (xs ys : List Told) (w : World) → world_after st (xs ++ ys) w ≡ world_after st ys (world_after st xs w)
 after-append st [] ys w = refl
@@ -26,12 +27,6 @@ after-append st (x ∷ xs) ys w = after-append st xs ys (after st x w)
 pub right-append : (st : Settings) (xs ys : List Told) (w : World) → AreRight st w xs → AreRight st (world_after st xs w) ys → AreRight st w (xs ++ ys)
 right-append st [] ys w front back = back
 right-append st (x ∷ xs) ys w front back = (front.0, right-append st xs ys (after st x w) front.1 back)
-
-pub lines-append : (st : Settings) (xs ys : List Told) (w : World) → lines st (xs ++ ys) w ≡ lines st xs w ++ lines st ys (world_after st xs w)
-lines-append st [] ys w = refl
-lines-append st (x ∷ xs) ys w =
-    ap (λ more. reply st x w ++ more) (lines-append st xs ys (after st x w))
-    ∙ sym (append_assoc (reply st x w) (lines st xs (after st x w)) (lines st ys (world_after st xs (after st x w))))
 
 pub refused-append : (st : Settings) (xs ys : List Told) (w : World) → any_refused st (xs ++ ys) w ≡ (any_refused st xs w || any_refused st ys (world_after st xs w))
 refused-append st [] ys w = refl
@@ -47,32 +42,63 @@ answers-more ts t =
     flat_map-append (λ (x : Told). answers_to x.asked x.loads) ts (t ∷ [])
     ∙ ap (λ more. answers_of ts ++ more) (append-nil (answers_to t.asked t.loads))
 
--- what a command does in a world, with what was told of it
-pub record IsStep (st : Settings) (w : World) (t : Told) (behind : Session) (text : List ℕ) (refused : Bool) : Type 0 where
-  pub right : IsRight st w t
-  pub lines_are : lines st (t ∷ []) w ≡ text
-  pub goes : world behind (after st t w).grid ≡ after st t w
-  pub refuses : any_refused st (t ∷ []) w ≡ refused
+-- ---- lines and entries
 
--- a step of a session that has that world, under the settings of its limits
-module _ (asked : Result Asked TextFault) (before behind : Option (List ShelfAnswer)) (faults count : ℕ) (old new : Session) (text : List ℕ) (refused : Bool)
-    (steps : StepsTo asked before behind faults count old new text refused) where
+-- the lines of the first commands are a front of those of all
+pub lines_front : (st : Settings) (xs ys : List Told) (w : World) (ms : List LogMoment) → (more : List ℕ) × (lines st (xs ++ ys) w ms ≡ lines st xs w ms ++ more)
+lines_front st [] ys w ms = (lines st ys w ms, refl)
+lines_front st (x ∷ xs) ys w ms = by (reply st x w ms) (lines_front st xs ys (after st x w))
+  where
+    by : (r : Option (List ℕ × List LogMoment))
+        → ((ns : List LogMoment) → (more : List ℕ) × (lines st (xs ++ ys) (after st x w) ns ≡ lines st xs (after st x w) ns ++ more))
+        → (more : List ℕ) × (text_then r (λ (ns : List LogMoment). lines st (xs ++ ys) (after st x w) ns)
+        ≡ text_then r (λ (ns : List LogMoment). lines st xs (after st x w) ns) ++ more)
+    by None more = ([], refl)
+    by (Some r) more =
+        let next = more r.1 in
+        (next.0, ap (λ text. r.0 ++ text) next.1 ∙ sym (append_assoc r.0 (lines st xs (after st x w) r.1) next.0))
+
+-- the entries of one command more
+pub script-append : (st : Settings) (xs : List Told) (es own : List LogEvent) (t : Told) (w : World) → IsScript st xs w es
+    → IsPart st t.asked (world_after st xs w) own (verdict_now st t (world_after st xs w)) → IsScript st (xs ++ t ∷ []) w (es ++ own)
+script-append st [] es own t w script part = (own, [], ap (λ front. front ++ own) script ∙ sym (append-nil own), part, refl)
+script-append st (x ∷ xs) es own t w (mine, rest, split, first, more) part = (
+  mine,
+  rest ++ own,
+  ap (λ front. front ++ own) split ∙ append_assoc mine rest own,
+  first,
+  script-append st xs rest own t (after st x w) more part,
+)
+
+pub worlds-append : (st : Settings) (xs : List Told) (t : Told) (w : World)
+    → worlds st (xs ++ t ∷ []) w ≡ worlds st xs w ++ judged_worlds (world_after st xs w) t.asked (verdict_now st t (world_after st xs w))
+worlds-append st [] t w = append-nil (judged_worlds w t.asked (verdict_now st t w))
+worlds-append st (x ∷ xs) t w =
+    let last = judged_worlds (world_after st xs (after st x w)) t.asked (verdict_now st t (world_after st xs (after st x w))) in
+    ap (λ more. judged_worlds w x.asked (verdict_now st x w) ++ more) (worlds-append st xs t (after st x w))
+    ∙ sym (append_assoc (judged_worlds w x.asked (verdict_now st x w)) (worlds st xs (after st x w)) last)
+
+pub agree-append : (xs ys : List World) (ms ns : List LogMoment) → AllAgree xs ms → AllAgree ys ns → AllAgree (xs ++ ys) (ms ++ ns)
+agree-append [] ys [] ns front back = back
+agree-append [] ys (m ∷ ms) ns front back = absurd front
+agree-append (x ∷ xs) ys [] ns front back = absurd front
+agree-append (x ∷ xs) ys (m ∷ ms) ns front back = (front.0, agree-append xs ys ms ns front.1 back)
+
+-- ---- a step
+
+-- what a command does in a world, with what was told of it
+pub record IsStep (st : Settings) (w : World) (t : Told) (behind : Session) (was is : Log) (text : List ℕ) (refused : Bool) : Type 0 where
+  pub right : IsRight st w t
+  pub done : IsDone st t.asked w (world_in behind is) (verdict_now st t w) was is text refused
+
+-- a step of a session that has that world, under the settings of its limits and its book
+module _ (asked : Result Asked TextFault) (before behind : Option (List ShelfAnswer)) (faults count : ℕ) (old new : Session) (was is : Log) (text : List ℕ) (refused : Bool)
+    (steps : StepsTo asked before behind faults count old new was is text refused) where
   -- what is told of it
   abbrev pub step_told : Told
   step_told = told asked steps.loads steps.answer
 
-  in_world : (interval lookback : ℕ) (w : World) → world old w.grid ≡ w → IsStep (settings_of interval lookback (limits_of old)) w step_told new text refused
-  in_world interval lookback w here =
-      let st = settings_of interval lookback (limits_of old) in
-      record {
-        right = subst (λ x. IsRight st x step_told) here (steps.right interval lookback w.grid);
-        lines_are = append-nil (reply st step_told w) ∙ sym (steps.replies interval lookback w.grid ∙ ap (reply st step_told) here);
-        goes = subst (λ x. world new (after st step_told x).grid ≡ after st step_told x) here (steps.goes interval lookback w.grid);
-        refuses = or-false (is_err (verdict_now st step_told w))
-            ∙ sym (steps.refuses interval lookback w.grid ∙ ap (λ x. is_err (verdict_now st step_told x)) here);
-      }
-
-  -- under the settings of the program
-  pub step_in : (o : OptionsOf) (w : World) → settings_of o.interval o.lookback (limits_of old) ≡ settings o → world old w.grid ≡ w
-      → IsStep (settings o) w step_told new text refused
-  step_in o w limits here = subst (λ st. IsStep st w step_told new text refused) limits (in_world o.interval o.lookback w here)
+  pub step_in : (st : Settings) (w : World) → settings_in old was ≡ st → world_in old was ≡ w → IsStep st w step_told new was is text refused
+  step_in st w so here =
+      subst (λ (x : Settings). IsStep x w step_told new was is text refused) so
+      (subst (λ (x : World). IsStep (settings_in old was) x step_told new was is text refused) here (record { right = steps.right; done = steps.done }))

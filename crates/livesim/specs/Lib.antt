@@ -1,4 +1,5 @@
 pub mod Settings
+pub mod Histories
 pub mod Runs
 pub mod Writing
 pub mod Endings

@@ -13,11 +13,19 @@ use Rattle.command_read.specs.Scripts.{asks, commands, is_quit}
 use Rattle.live_session.specs.Forms.{after, world_after, any_refused}
 use Rattle.live_session.specs.Loads.{AddsAnswers, AreToFirst, is_broken, loads_of}
 use Rattle.live_session.specs.Readings.{AreRight}
-use Rattle.live_session.specs.Replies.{lines, table_lines, true_registers, asked_of, answers_of}
+use Rattle.book_history.specs.Book.{Closes}
+use Rattle.book_history.specs.Owned.{owned}
+use Rattle.book_settle.specs.Passes.{IsUnfinished}
+use Rattle.live_session.specs.Logs.{Log, LogEvent, LogMoment, moments_of}
+use Rattle.live_session.specs.Replies.{lines, reply, asked_of, answers_of}
+use Rattle.live_session.specs.Scripts.{AllAgree, IsScript, worlds}
+use Rattle.live_session.specs.Shown.{answer_of}
+use Rattle.live_session.specs.Tables.{table_lines, true_registers}
 use Rattle.live_session.specs.Settings.{Settings}
 use Rattle.live_session.specs.Spelled.{Spelled}
 use Rattle.live_session.specs.Verdicts.{Told}
 use Rattle.live_session.specs.Worlds.{World, fresh, cycle}
+use Rattle.livesim.specs.Histories.{IsLegal}
 
 -- what was written, with the rest, is what was there before with all
 abbrev pub LeavesToWrite : Option (List ℕ) → Option (List ℕ) → List ℕ → List ℕ → Type 0
@@ -60,15 +68,40 @@ loads_first [] = []
 loads_first (Ok asked ∷ rest) = loads_of asked
 loads_first (Err fault ∷ rest) = []
 
+-- the commands' own entries that are left behind some commands
+abbrev pub left_then : Option (List ℕ × List LogMoment) → List LogMoment
+left_then None = []
+left_then (Some r) = r.1
+
+abbrev pub entries_left : Settings → List Told → World → List LogMoment → List LogMoment
+entries_left st [] w ms = ms
+entries_left st (t ∷ ts) w ms = entries_left st ts (after st t w) (left_then (reply st t w ms))
+
 -- the lines that tell the truth of a design at a world's cycle: the registers of a run from reset on the record, and that they are settled
 abbrev pub true_display : World → (prefix : List ℕ) → Spelled → List ℕ
 true_display w prefix design =
     show_text (cycle w) w.version ++ table_lines design prefix design.flat.registers (true_registers design w.record_ (cycle w))
 
+-- ---- the history
+
+-- it has the settings of the options, and the rooms of the program
+abbrev pub HasSettings : Settings → Log → Type 0
+HasSettings st j =
+    (j.settings.interval ≡ st.interval) × (j.settings.lookback ≡ st.lookback) × (j.settings.rooms.session ≡ st.room) × (j.settings.rooms.workers ≡ 3145728)
+
+-- The session's own entries are those of these commands, and then the close. Where memory ran out, the first passes of a settle may stand before it,
+-- which didn't come to its show; or there is no entry, and then nothing was told.
+pub data HasEntries (st : Settings) (told : List Told) (status : ℕ) (own : List LogEvent) : Type 0 where
+  all_entries : (entries : List LogEvent) → own ≡ entries ++ Closes ∷ [] → IsScript st told fresh entries
+      → HasEntries st told status own
+  unfinished_settle : (entries passes : List LogEvent) → status ≡ 5 → own ≡ entries ++ (passes ++ Closes ∷ [])
+      → IsScript st told fresh entries → IsUnfinished passes → HasEntries st told status own
+  no_entries : status ≡ 5 → own ≡ [] → told ≡ [] → HasEntries st told status own
+
 -- These bytes were taken, and the input ended with them or not. The lines of their commands were written, but at 4 and 5 perhaps only a front
--- of these.
+-- of these; and this is the history of the book.
 pub record Lived (st : Settings) (left_old left_new written_old written_new : Option (List ℕ)) (answers_old answers_new : Option (List ShelfAnswer))
-    (faults_old faults_new : ℕ) (bytes : List ℕ) (ended : Bool) (status : ℕ) : Type 0 where
+    (faults_old faults_new : ℕ) (bytes : List ℕ) (ended : Bool) (status : ℕ) (history : Log) : Type 0 where
   -- what the source had left is the bytes taken, and then what it has left now
   pub consumed : Consumes left_old left_new bytes
   pub at_end : ended ≡ true → IsAtEnd left_new
@@ -92,14 +125,26 @@ pub record Lived (st : Settings) (left_old left_new written_old written_new : Op
   pub lost_first : AreToFirst (loads_first begins.0) lost
   -- its count has risen by as many as there are commands at which it failed; where memory ran out perhaps by one more
   pub failed : RisesBy (count_broken told) faults_old faults_new ⊎ ((status ≡ 5) × RisesBy (count_broken told + 1) faults_old faults_new)
-  -- what was written: the lines of these commands; at 4 and 5 a front of them, with at least those of all but the last command
-  pub written : status ≢ 4 → status ≢ 5 → Appends written_old written_new (lines st told fresh)
-  pub front : WritesFront written_old written_new (lines st told fresh)
-  pub most : (before : List Told) (last : Told) → before ++ last ∷ [] ≡ told → WritesAtLeast written_old written_new (lines st before fresh)
-  -- where a display that there is room for stands among the commands, behind an accepted edit, the lines tell its truth
-  pub settled : (before rest : List Told) (line : ℕ) (prefix : List ℕ) (t : Told) (design : Spelled) → before ++ t ∷ rest ≡ told → t.asked ≡ Ok (Shows line prefix)
-      → (world_after st before fresh).design ≡ Some design → (world_after st before fresh).charge < st.room
-      → lines st told fresh ≡ lines st before fresh ++ (true_display (world_after st before fresh) prefix design ++ lines st rest (after st t (world_after st before fresh)))
+  -- what was written: the lines of these commands at their places in the history; at 4 and 5 a front of them, with at least those of all but the last command
+  pub written : status ≢ 4 → status ≢ 5 → Appends written_old written_new (lines st told fresh (moments_of history))
+  pub front : WritesFront written_old written_new (lines st told fresh (moments_of history))
+  pub most : (before : List Told) (last : Told) → before ++ last ∷ [] ≡ told
+      → WritesAtLeast written_old written_new (lines st before fresh (moments_of history))
+  -- it has the settings of these options; but where memory ran out as the words were read it has no entry, and they aren't known
+  pub settings : HasSettings st history ⊎ ((status ≡ 5) × (history.events ≡ []))
+  -- the history is legal, and its entries are those of these commands: so a refused command has none, and a settle with a pass for each link answers
+  -- settled
+  pub legal : IsLegal history
+  pub entries : HasEntries st told status (owned history.events)
+  -- at the place of each command's own entry the book has the version, the design, the record and the marks of the world
+  pub agree : AllAgree (worlds st told fresh) (moments_of history)
+  -- a display whose entry says that all is settled tells the truth of the world's design on its record
+  pub settled : (before rest : List Told) (line : ℕ) (prefix : List ℕ) (t : Told) (design : Spelled) (m : LogMoment) (ms : List LogMoment)
+      → before ++ t ∷ rest ≡ told → t.asked ≡ Ok (Shows line prefix) → (world_after st before fresh).design ≡ Some design
+      → (world_after st before fresh).charge < st.room → entries_left st before fresh (moments_of history) ≡ m ∷ ms → answer_of m.entry ≡ None
+      → lines st told fresh (moments_of history)
+      ≡ lines st before fresh (moments_of history)
+      ++ (true_display (world_after st before fresh) prefix design ++ lines st rest (after st t (world_after st before fresh)) ms)
   -- 6 comes exactly where too much was taken
   pub too_much : status ≡ 6 → 67108864 < length bytes
   pub not_too_much : 67108864 < length bytes → status ≡ 6

@@ -1,11 +1,14 @@
 // Limits that no script reaches in a test's time: sessions with small ones, turn by turn; and files that a shelf holds.
 ghost use Rattle.std.specs.Prelude.{◌≡◌, ◌≤◌, ◌^◌, None, []};
 ghost use Rattle.command_read.specs.Readers.{stopped};
+ghost use Rattle.live_session.specs.Beside.{StandsBeside};
 
 use crate::turn::Turn;
 use crate::turning::turn;
 use book_history::rooms::Rooms;
+use checkpoint_book::book::Book;
 use command_read::Reader;
+use cycle_eval::Design;
 use live_session::{Limits, Session};
 use ls_port::{MemShelf, NamedText, SolidSource};
 use ls_text::{NoMemory, TextBytes};
@@ -16,6 +19,10 @@ use std::thread::Threads;
 // A block with an accumulator of an input, eleven lines long.
 const BLOCK: &[u8] =
     b"edit\ntop top\nclock clk\nfile a.v\nmodule top(input clk, input [7:0] d, output [7:0] q);\nreg [7:0] acc;\nalways @(posedge clk) acc <= acc + d;\nassign q = acc;\nendmodule\n.\nend\n";
+
+// The same file, with an accumulator of twice the input.
+const NEXT_BLOCK: &[u8] =
+    b"edit\nfile a.v\nmodule top(input clk, input [7:0] d, output [7:0] q);\nreg [7:0] acc;\nalways @(posedge clk) acc <= acc + d + d;\nassign q = acc;\nendmodule\n.\nend\n";
 
 const TEXT: &[u8] =
     b"module top(input clk, input [7:0] d, output [7:0] q);\nreg [7:0] acc;\nalways @(posedge clk) acc <= acc + d;\nassign q = acc;\nendmodule\n";
@@ -41,26 +48,39 @@ fn play_on<R: Threads + Sync>(
     alloc: Global,
     session: &mut Session,
     reader: &mut Reader,
+    book: &mut Book<Design>,
     source: &mut SolidSource,
     shelf: &mut MemShelf,
     lines: &mut Vec<u8>,
     turns: u32,
 ) -> Result<(), NoMemory>
-    requires { stopped reader.old ≡ None }
+    requires going { stopped reader.old ≡ None }
+    requires beside { StandsBeside session.old book.old }
 {
     if turns == 0 {
         return Ok(());
     }
-    match turn(rt, alloc, session, reader, source, shelf) {
+    match turn(rt, alloc, session, reader, book, source, shelf) {
         Turn::Answered(reply) => {
             lines.extend_from_slice(reply.lines.bytes())?;
-            play_on(rt, alloc, session, reader, source, shelf, lines, turns - 1)
+            play_on(
+                rt,
+                alloc,
+                session,
+                reader,
+                book,
+                source,
+                shelf,
+                lines,
+                turns - 1,
+            )
         }
         Turn::Over(_) => Ok(()),
     }
 }
 
-// The lines that answer a script of at most 64 commands in a session with these limits, over this shelf.
+// The lines that answer a script of at most 64 commands in a session with these limits, over this shelf. Its book has a mark at each fourth cycle,
+// and an edit is simulated from the last one that is a cycle back.
 fn played<R: Threads + Sync>(
     rt: &R,
     alloc: Global,
@@ -72,6 +92,7 @@ fn played<R: Threads + Sync>(
 {
     let mut session = Session::new(alloc, limits)?;
     let mut reader = Reader::new(alloc)?;
+    let mut book = Book::new(alloc, 4, 1, limits.rooms)?;
     let mut source = SolidSource::new(Vec::from_slice(alloc, script)?);
     let mut lines = Vec::new(alloc);
     play_on(
@@ -79,6 +100,7 @@ fn played<R: Threads + Sync>(
         alloc,
         &mut session,
         &mut reader,
+        &mut book,
         &mut source,
         shelf,
         &mut lines,
@@ -180,6 +202,29 @@ fn limits_of_a_session(rt: HostRuntime) -> Result<(), Fail> {
         let wanted = joined(alloc, &[ACCEPTED, lines])?;
         assert!(rt; written.as_slice() == wanted.as_slice());
     }
+    Ok(())
+}
+
+// An edit behind six cycles is simulated from the mark at cycle 4, where the old design had 4: twice more makes 8. A pass runs the new design from reset
+// to that mark, and another one from there on.
+#[test]
+fn passes_in_a_room(rt: HostRuntime) -> Result<(), Fail> {
+    let alloc = rt.alloc();
+    let mut shelf = MemShelf::new(alloc, Vec::new(alloc), Vec::new(alloc));
+    let script = joined(
+        alloc,
+        &[
+            BLOCK,
+            b"set d=1\nrun 6\n",
+            NEXT_BLOCK,
+            b"show\nsettle 1\nsettle\nshow\nshow\n",
+        ],
+    )?;
+    // Edits, a run and displays are charged 1 each, the settles 3 and 5.
+    let written = played(&rt, alloc, limits(10, 100, 13), &mut shelf, &script)?;
+    let wanted: &[u8] =
+        b"ok edit v=1 built=1 kept=0 from=0\nok set\nok run cycle=6\nok edit v=2 built=1 kept=0 from=4\nshow cycle=6 estimate v=2 settled_to=0\ntop.acc 08\nunsettled settled_to=4\nsettled cycle=6 v=2\nshow cycle=6 settled v=2\ntop.acc 0c\nrefused 68 HistoryFull @27 -\n";
+    assert!(rt; written.as_slice() == wanted);
     Ok(())
 }
 

@@ -1,12 +1,16 @@
 // The top call.
-ghost use Rattle.std.specs.Prelude.{◌≡◌, ◌≢◌, ◌⊎◌, ◌<◌, ◌≤◌, ℕ, List, [], length, map, string_bytes, Bool, false, Some, None, if◌then◌else◌};
+ghost use Rattle.std.specs.Prelude.{◌≡◌, ◌≢◌, ◌⊎◌, ◌<◌, ◌≤◌, ℕ, List, [], ◌∷◌, ◌++◌, length, map, string_bytes, Bool, false, Some, None, if◌then◌else◌};
 ghost use Rattle.ls_port.specs.Causes.{Rose};
 ghost use Rattle.command_read.specs.Readers.{left, next_number, has_ended, count_taken, stopped};
-ghost use Rattle.live_options.specs.Words.{OptionsOf, options};
+ghost use Rattle.live_options.specs.Words.{OptionsOf, options, options_of};
+ghost use Rattle.book_history.specs.Book.{Closes};
+ghost use Rattle.checkpoint_book.specs.Views.{counts_of};
+ghost use Rattle.live_session.specs.Beside.{StandsBeside};
 ghost use Rattle.live_session.specs.Sessions.{world};
 ghost use Rattle.live_session.specs.Worlds.{fresh};
 ghost use Rattle.livesim.specs.Endings.{status_of};
-ghost use Rattle.livesim.specs.Runs.{IsComplete, Lived};
+ghost use Rattle.livesim.specs.Histories.{IsLegal, closed};
+ghost use Rattle.livesim.specs.Runs.{HasSettings, IsComplete, Lived};
 ghost use Rattle.livesim.specs.Settings.{settings};
 ghost use Rattle.livesim.specs.Turns.{HasLimits};
 
@@ -15,9 +19,13 @@ use crate::outcome::Outcome;
 use crate::turn::Turn;
 use crate::turning::turn;
 use crate::writing::write_all;
+use book_history::history::History;
 use book_history::rooms::Rooms;
+use checkpoint_book::book::Book;
 use command_read::Reader;
-use live_options::read_options;
+use cycle_eval::Design;
+use live_options::laws::options_are_within;
+use live_options::{Options, read_options};
 use live_session::{Limits, Session};
 use ls_port::{Shelf, Sink, SinkRefusal, Source};
 use ls_text::NoMemory;
@@ -34,6 +42,27 @@ const LIMITS: Limits = Limits {
     },
 };
 
+/// The interval of marks and the lookback of an edit where no words say them, in cycles.
+const INTERVAL: u64 = 10_000;
+
+const LOOKBACK: u64 = 10_000;
+
+// A run that ended before anything was touched.
+fn stopped(alloc: Global, status: u8, interval: u64, lookback: u64) -> Outcome
+    ensures status { result.status ≡ status }
+    ensures taken { result.taken ≡ 0 }
+    ensures interval { result.history.settings.interval ≡ interval }
+    ensures lookback { result.history.settings.lookback ≡ lookback }
+    ensures rooms { result.history.settings.rooms ≡ record { session = 1048576; workers = 3145728 } }
+    ensures events { result.history.events ≡ [] }
+{
+    Outcome {
+        status,
+        history: History::empty(alloc, interval, lookback, LIMITS.rooms),
+        taken: 0,
+    }
+}
+
 // The status of a run whose lines were all written, by whether a command was refused.
 fn status_of(ending: Ending, refused: bool) -> u8
     ensures { result ≡ status_of ending refused }
@@ -46,26 +75,33 @@ fn status_of(ending: Ending, refused: bool) -> u8
     }
 }
 
-// Command after command, each with its lines written before more is read: the status.
+// Command after command, each with its lines written before more is read: the status. The book is to be closed then, and its history is known to be
+// legal where it is handed out, so that is a premise here.
 fn carry_out<R: Threads + Sync, S: Source, K: Sink, F: Shelf>(
     rt: &R,
     alloc: Global,
     session: &mut Session,
     reader: &mut Reader,
+    book: &mut Book<Design>,
     source: &mut S,
     sink: &mut K,
     shelf: &mut F,
 ) -> u8
     requires begins { (grid : List ℕ) → world session.old grid ≡ fresh }
+    requires beside { StandsBeside session.old book.old }
+    requires blank { book.old.events ≡ [] }
     requires limits { HasLimits session.old }
     requires left { left reader.old ≡ [] }
     requires number { next_number reader.old ≡ 1 }
     requires taken { count_taken reader.old ≡ 0 }
     requires ended { has_ended reader.old ≡ false }
     requires going { stopped reader.old ≡ None }
-    ensures lived { (o : OptionsOf) → (bytes : List ℕ) × (ended : Bool) × (length bytes ≡ count_taken reader.new)
+    ensures lived { (o : OptionsOf) → HasSettings (settings o) book.old → IsLegal (closed book.new)
+        → (bytes : List ℕ) × (ended : Bool) × (length bytes ≡ count_taken reader.new)
         × Lived (settings o) (S.left source.old) (S.left source.new) (K.written sink.old) (K.written sink.new)
-        (F.answers shelf.old) (F.answers shelf.new) (F.faults shelf.old) (F.faults shelf.new) bytes ended result }
+        (F.answers shelf.old) (F.answers shelf.new) (F.faults shelf.old) (F.faults shelf.new) bytes ended result (closed book.new) }
+    ensures settings { book.new.settings ≡ book.old.settings }
+    ensures still_open { (counts_of book.new).closed ≡ false }
     ensures read_fault { result ≡ 3 → Rose (S.faults source.old) (S.faults source.new) }
     ensures write_fault { result ≡ 4 → Rose (K.faults sink.old) (K.faults sink.new) }
     ensures known { result ≤ 6 }
@@ -79,7 +115,7 @@ fn carry_out<R: Threads + Sync, S: Source, K: Sink, F: Shelf>(
 {
     let mut refused = false;
     'commands: loop {
-        let reply = match turn(rt, alloc, session, reader, source, shelf) {
+        let reply = match turn(rt, alloc, session, reader, book, source, shelf) {
             Turn::Answered(reply) => reply,
             Turn::Over(ending) => return status_of(ending, refused),
         };
@@ -95,17 +131,32 @@ fn carry_out<R: Threads + Sync, S: Source, K: Sink, F: Shelf>(
     }
 }
 
-// What words that are taken ask for.
+// The history of a book, which is closed.
+fn history_of(mut book: Box<Book<Design>>) -> History<Design>
+    requires { (counts_of book.value).closed ≡ false }
+    ensures settings { result.settings ≡ book.value.settings }
+    ensures events { result.events ≡ book.value.events ++ Closes ∷ [] }
+    ensures legal { IsLegal result }
+{
+    book.close();
+    let history = Book::into_history(book);
+    history.legal();
+    history
+}
+
+// What words that are taken ask for, beside a book of its own.
 fn run<R: Threads + Sync, S: Source, K: Sink, F: Shelf>(
     rt: &R,
     alloc: Global,
+    options: Options,
     source: &mut S,
     sink: &mut K,
     shelf: &mut F,
 ) -> Outcome
-    ensures lived { (o : OptionsOf) → (bytes : List ℕ) × (ended : Bool) × (length bytes ≡ result.taken)
-        × Lived (settings o) (S.left source.old) (S.left source.new) (K.written sink.old) (K.written sink.new)
-        (F.answers shelf.old) (F.answers shelf.new) (F.faults shelf.old) (F.faults shelf.new) bytes ended result.status }
+    requires interval { 1 ≤ options.interval }
+    ensures lived { (bytes : List ℕ) × (ended : Bool) × (length bytes ≡ result.taken)
+        × Lived (settings (options_of options)) (S.left source.old) (S.left source.new) (K.written sink.old) (K.written sink.new)
+        (F.answers shelf.old) (F.answers shelf.new) (F.faults shelf.old) (F.faults shelf.new) bytes ended result.status result.history }
     ensures read_fault { result.status ≡ 3 → Rose (S.faults source.old) (S.faults source.new) }
     ensures write_fault { result.status ≡ 4 → Rose (K.faults sink.old) (K.faults sink.new) }
     ensures known { result.status ≤ 6 }
@@ -117,15 +168,27 @@ fn run<R: Threads + Sync, S: Source, K: Sink, F: Shelf>(
     ensures few { result.taken ≤ 67108865 }
     ensures much { result.status ≡ 6 → 67108864 < result.taken }
 {
-    let (Ok(mut reader), Ok(mut session)) = (Reader::new(alloc), Session::new(alloc, LIMITS)) else {
-        return Outcome {
-            status: 5,
-            taken: 0,
-        };
+    let (Ok(mut reader), Ok(mut session), Ok(mut book)) = (
+        Reader::new(alloc),
+        Session::new(alloc, LIMITS),
+        Book::new(alloc, options.interval, options.lookback, LIMITS.rooms),
+    ) else {
+        return stopped(alloc, 5, options.interval, options.lookback);
     };
-    let status = carry_out(rt, alloc, &mut session, &mut reader, source, sink, shelf);
+    let status = carry_out(
+        rt,
+        alloc,
+        &mut session,
+        &mut reader,
+        &mut book,
+        source,
+        sink,
+        shelf,
+    );
+    let history = history_of(book);
     Outcome {
         status,
+        history,
         taken: reader.taken(),
     }
 }
@@ -148,13 +211,14 @@ pub fn live_run<R: Threads + Sync, S: Source, K: Sink, F: Shelf>(
     ensures words { result.status ≡ 2 → options (map string_bytes words.now) ≡ None }
     ensures faulty { options (map string_bytes words.now) ≡ None → (result.status ≡ 2) ⊎ (result.status ≡ 5) }
     ensures untouched { options (map string_bytes words.now) ≡ None
-        → (result.taken ≡ 0) × (source.new ≡ source.old) × (sink.new ≡ sink.old) × (shelf.new ≡ shelf.old) }
+        → (result.taken ≡ 0) × (source.new ≡ source.old) × (sink.new ≡ sink.old) × (shelf.new ≡ shelf.old)
+        × (result.history.events ≡ []) }
 
     // Where they ask for options: the bytes taken, what was asked of the shelf, the lines written, and what the status says of them.
     ensures lived { (o : OptionsOf) → options (map string_bytes words.now) ≡ Some o
         → (bytes : List ℕ) × (ended : Bool) × (length bytes ≡ result.taken)
         × Lived (settings o) (S.left source.old) (S.left source.new) (K.written sink.old) (K.written sink.new)
-        (F.answers shelf.old) (F.answers shelf.new) (F.faults shelf.old) (F.faults shelf.new) bytes ended result.status }
+        (F.answers shelf.old) (F.answers shelf.new) (F.faults shelf.old) (F.faults shelf.new) bytes ended result.status result.history }
 
     // The causes of 3 and 4: the count rose, and by one.
     ensures read_fault { result.status ≡ 3 → Rose (S.faults source.old) (S.faults source.new) }
@@ -174,15 +238,10 @@ pub fn live_run<R: Threads + Sync, S: Source, K: Sink, F: Shelf>(
     ensures complete { (options (map string_bytes words.now) ≡ None → ⊥) → (Rose (S.faults source.old) (S.faults source.new) → ⊥)
         → (Rose (K.faults sink.old) (K.faults sink.new) → ⊥) → result.taken ≤ 67108864 → IsComplete result.status }
 {
+    options_are_within();
     match read_options(alloc, words) {
-        Err(NoMemory) => Outcome {
-            status: 5,
-            taken: 0,
-        },
-        Ok(None) => Outcome {
-            status: 2,
-            taken: 0,
-        },
-        Ok(Some(_options)) => run(rt, alloc, source, sink, shelf),
+        Err(NoMemory) => stopped(alloc, 5, INTERVAL, LOOKBACK),
+        Ok(None) => stopped(alloc, 2, INTERVAL, LOOKBACK),
+        Ok(Some(options)) => run(rt, alloc, options, source, sink, shelf),
     }
 }

@@ -1,12 +1,15 @@
 // One turn: a command is read and carried out.
 ghost use Rattle.std.specs.Prelude.{◌≡◌, None};
 ghost use Rattle.command_read.specs.Readers.{stopped};
+ghost use Rattle.live_session.specs.Beside.{StandsBeside};
 ghost use Rattle.live_session.specs.Sessions.{limits_of};
 ghost use Rattle.livesim.specs.Turns.{IsTurn, source_at, shelf_at, turn_of};
 
 use crate::ending::Ending;
 use crate::turn::Turn;
+use checkpoint_book::book::Book;
 use command_read::{ReadEnd, Reader};
+use cycle_eval::Design;
 use live_session::{Reply, Session};
 use ls_port::{Shelf, Source};
 use ls_text::NoMemory;
@@ -29,17 +32,20 @@ pub fn turn<R: Threads + Sync, S: Source, F: Shelf>(
     alloc: Global,
     session: &mut Session,
     reader: &mut Reader,
+    book: &mut Book<Design>,
     source: &mut S,
     shelf: &mut F,
 ) -> Turn
     requires going { stopped reader.old ≡ None }
+    requires beside { StandsBeside session.old book.old }
     ensures turned { IsTurn (source_at (S.left source.old) (S.faults source.old)) (source_at (S.left source.new) (S.faults source.new))
         (shelf_at (F.answers shelf.old) (F.faults shelf.old)) (shelf_at (F.answers shelf.new) (F.faults shelf.new))
-        reader.old reader.new session.old session.new result }
+        reader.old reader.new session.old session.new book.old book.new result }
     ensures limits { limits_of session.new ≡ limits_of session.old }
+    ensures beside { StandsBeside session.new book.new }
 {
     match session.read(reader, source) {
-        ReadEnd::Command(command) => answered(session.step(rt, alloc, shelf, command)),
+        ReadEnd::Command(command) => answered(session.step(rt, alloc, book, shelf, command)),
         ReadEnd::Refused(fault) => answered(session.refusal(alloc, &fault)),
         ReadEnd::End => Turn::Over(Ending::Whole),
         ReadEnd::Fault => Turn::Over(Ending::Failed),

@@ -1,7 +1,7 @@
 // Runs the scripts of its folder of data in memory, and compares what they write with what they have to write.
 //
-// `rows.txt` has a line `STATUS NAME` for each row: NAME.live is the script, NAME.out are the lines, and STATUS is how the run
-// ends. `FAULTS.md` is the page of faults (`page`): each of its examples is a row, and shows the fault by the line that the page tells;
+// `rows.txt` has a line `STATUS NAME WORDS` for each row: NAME.live is the script, NAME.out are the lines, STATUS is how the run
+// ends, and WORDS are those of the command line, where there are any. `FAULTS.md` is the page of faults (`page`): each of its examples is a row, and shows the fault by the line that the page tells;
 // each fault that a row shows is on the page. What differs is named, with the first line that does. `tests` has rows and pages that
 // don't agree.
 #![tactic(auto)]
@@ -17,16 +17,34 @@ use std::alloc::Global;
 use std::thread::Threads;
 use std::{fs, io};
 
+// The words of a command line, of those behind the program's name.
+fn words_of(alloc: Global, given: &str) -> io::Result<Vec<String>> {
+    let mut words = vec![in alloc; String::from_str(alloc, "livesim")?]?;
+    for word in given.split_whitespace() {
+        words.push(String::from_str(alloc, word)?)?;
+    }
+    Ok(words)
+}
+
+// The name of a row, and its words, of what stands behind its status.
+fn name_and_words(row: &str) -> (&str, &str) {
+    match row.split_once(' ') {
+        Some((name, words)) => (name, words),
+        None => (row, ""),
+    }
+}
+
 // How a script ends and the first line of it that is another one, where it doesn't end with this status and write these lines.
 fn difference<R: Threads + Sync, F: Shelf>(
     rt: &R,
     alloc: Global,
     shelf: &mut F,
+    given: &str,
     script: &str,
     lines: &str,
     status: &str,
 ) -> io::Result<Option<String>> {
-    let words = vec![in alloc; String::from_str(alloc, "livesim")?]?;
+    let words = words_of(alloc, given)?;
     let mut source = SolidSource::new(Vec::from_slice(alloc, script.as_bytes())?);
     let mut sink = SolidSink::new(alloc);
     let outcome = live_run(rt, alloc, &words, &mut source, &mut sink, shelf);
@@ -62,7 +80,7 @@ fn lines_of(rt: &HostRuntime, alloc: Global, name: &str) -> io::Result<String> {
 fn is_row(rows: &str, name: &str) -> bool {
     for row in rows.lines() {
         if let Some((_status, row)) = row.split_once(' ') {
-            if row == name {
+            if name_and_words(row).0 == name {
                 return true;
             }
         }
@@ -101,9 +119,10 @@ fn main(rt: HostRuntime) -> io::Result<()> {
     let page = fs::read_to_string(&rt, "FAULTS.md")?;
     let mut count = 0u32;
     for row in rows.lines() {
-        let Some((status, name)) = row.split_once(' ') else {
+        let Some((status, row)) = row.split_once(' ') else {
             continue;
         };
+        let (name, words) = name_and_words(row);
         let script = format!(in alloc; "{name}.live")?;
         let script = fs::read_to_string(&rt, script.as_str())?;
         let lines = lines_of(&rt, alloc, name)?;
@@ -112,6 +131,7 @@ fn main(rt: HostRuntime) -> io::Result<()> {
             &rt,
             alloc,
             &mut shelf,
+            words,
             script.as_str(),
             lines.as_str(),
             status,

@@ -2,8 +2,8 @@ use Rattle.live_session.proofs.OneOutput.{one_output}
 use Rattle.live_session.proofs.laws.commands_have_one_output.Goals as goal
 
 pub returns-clause-lines : goal.returns-clause-lines
-returns-clause-lines c st w ts us rest others p q same begun =
-    (one_output c.texts_have_one_answer.ensures st ts us w rest others p q same begun).lines
+returns-clause-lines c st w ts us rest others p q same begun ms =
+    (one_output c.texts_have_one_answer.ensures st ts us w rest others p q same begun).lines ms
 
 pub returns-clause-refused : goal.returns-clause-refused
 returns-clause-refused c st w ts us rest others p q same begun =
@@ -12,3 +12,7 @@ returns-clause-refused c st w ts us rest others p q same begun =
 pub returns-clause-world : goal.returns-clause-world
 returns-clause-world c st w ts us rest others p q same begun =
     (one_output c.texts_have_one_answer.ensures st ts us w rest others p q same begun).world
+
+pub returns-clause-worlds : goal.returns-clause-worlds
+returns-clause-worlds c st w ts us rest others p q same begun =
+    (one_output c.texts_have_one_answer.ensures st ts us w rest others p q same begun).places

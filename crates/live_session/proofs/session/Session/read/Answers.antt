@@ -1,6 +1,7 @@
 use Rattle.std.proofs.Common.{◌∙◌}
 use Rattle.ls_text.proofs.Growth.{grown_text}
 use Rattle.module_registry.specs.Views.{entries_of}
+use Rattle.unit_laws.proofs.HeldUnits.{grown_held}
 use Rattle.live_session.proofs.Growing.{running_grown}
 use Rattle.live_session.proofs.SessionSteps.{kept_on_names}
 use Rattle.live_session.proofs.session.Session.read.Goals as goal
@@ -20,3 +21,9 @@ returns-clause-kept g c grid =
     let s = c.args.self.now in
     running_grown s.names c.read_command-end.new.names c.read_command-end.ensures.grows c.has_each_once.ensures c.has_each_once-2.ensures s.limits
     (entries_of s.registry) grid s.running s.kept
+
+pub returns-clause-beside : goal.returns-clause-beside
+returns-clause-beside g c j h = record {
+  stands = h.stands;
+  held = grown_held c.args.self.now.names c.read_command-end.new.names (entries_of c.args.self.now.registry) c.read_command-end.ensures.grows h.held;
+}

@@ -1,0 +1,170 @@
+-- A display and a settle beside a book, by the entries that they add.
+use Rattle.std.proofs.Common.{◌≡◌, ◌∙◌, ℕ, ◌+◌, ◌*◌, ◌≤◌, ◌<◌, min, false, List, [], ◌∷◌, ◌++◌, length, Option, Some, None, Result, Ok, Err, refl, sym, ap, ap₂, subst, arith}
+use Rattle.ls_text.specs.Texts.{HasEachOnce}
+use Rattle.book_history.specs.Book.{Book, Settings as BookSettings, Shows as ShowsEvent, apply, replay, replay_from}
+use Rattle.book_history.specs.Outline.{Outline, outline_from, outline_in}
+use Rattle.book_history.specs.Rooms.{count_all, no_entry}
+use Rattle.book_history.specs.Readers.{links_in, marks_in}
+use Rattle.book_history.proofs.Places.{replay-append}
+use Rattle.book_settle.specs.Passes.{IsSettle}
+use Rattle.book_settle.specs.Settles.{HasSettled, HasTried}
+use Rattle.book_settle.proofs.Counting.{links_marked, settle_counts, settle_moments, settle_outline, settle_owned, settle_shows, unfinished_counts, unfinished_long, unfinished_outline}
+use Rattle.command_read.specs.Asking.{Settles, Shows}
+use Rattle.cycle_eval.specs.declared.design.Design.{Design}
+use Rattle.module_registry.specs.Entries.{Entry}
+use Rattle.version_swap.specs.Behind.{design_of}
+use Rattle.live_session.specs.Beside.{RunsIn, Stands, settings_by}
+use Rattle.live_session.specs.Logs.{InputRow, Log, LogEvent, LogMoment, State, book_in, kit, marks_of, outline_of}
+use Rattle.live_session.specs.Scripts.{Agrees}
+use Rattle.live_session.specs.Sessions.{world_of}
+use Rattle.live_session.specs.Settings.{Settings}
+use Rattle.live_session.specs.Shown.{display_lines, last_values, settle_text}
+use Rattle.live_session.specs.Spelled.{Spelled, spelled}
+use Rattle.live_session.specs.Turns.{AnswersIn, StopsIn, undone_in}
+use Rattle.live_session.specs.Verdicts.{charged, passes_of}
+use Rattle.live_session.specs.Worlds.{World}
+use Rattle.live_session.specs.declared.limits.Limits.{Limits}
+use Rattle.live_session.specs.declared.reply.Reply.{Reply}
+use Rattle.live_session.specs.declared.running.Running.{Running}
+use Rattle.live_session.proofs.ChargedShows.{has_room}
+use Rattle.live_session.proofs.Judged.{IsSameIn, entry_done}
+use Rattle.live_session.proofs.Standing.{Adds, IsLegal, StaysRun, agrees_in, any_valid, legal_behind, outline_behind, stands_left}
+
+-- a show leaves the book
+shows_leave : (st : BookSettings) (answer : Option ℕ) (b : Option (Book Design State InputRow)) → apply kit st b (ShowsEvent answer) ≡ b
+shows_leave st answer None = refl
+shows_leave st answer (Some c) = refl
+
+pub book_shown : (was is : Log) (answer : Option ℕ) → Adds was is (ShowsEvent answer ∷ []) → book_in is ≡ book_in was
+book_shown was is answer adds =
+    ap₂ (λ (st : BookSettings) (h : List LogEvent). replay kit st h) adds.settings adds.events
+    ∙ replay-append kit was.settings None was.events (ShowsEvent answer ∷ [])
+    ∙ shows_leave was.settings answer (book_in was)
+
+at_least : (n a b : ℕ) → n ≤ a → n ≤ b → n ≤ min a b
+at_least n a b one other = omega (arith, one, other)
+
+-- what runs is charged so much more, and nothing else of it is new
+pub record IsCharged (names : List (List ℕ)) (r new : Running) (more : ℕ) : Type 0 where
+  pub run : StaysRun r new
+  pub charge : new.charge ≡ r.charge + more
+  pub world : (entries : List Entry) (grid : List ℕ) → world_of names entries grid new
+      ≡ (let w = world_of names entries grid r in record w { charge = w.charge + more })
+
+module _ (names : List (List ℕ)) (once : HasEachOnce names) (limits : Limits) (r new : Running) (line : ℕ) (was is_now : Log)
+    (legal : IsLegal is_now) (stands : Stands limits (Some r) was) where
+  abbrev design : Spelled
+  design = spelled names (design_of r.version.value.machine.value r.keys)
+
+  -- the world behind entries that leave the outline
+  charged_world : (es : List LogEvent) (more : ℕ) → Adds was is_now es → ((o : Outline Design InputRow) → outline_from was.settings o es ≡ o) → IsCharged names r new more
+      → (entries : List Entry) → world_of names entries (marks_of is_now) new
+      ≡ (let w = world_of names entries (marks_of was) r in record w { charge = w.charge + more })
+  charged_world es more adds leaves charge entries =
+      charge.world entries (marks_of is_now)
+      ∙ ap (λ (grid : List ℕ). let w = world_of names entries grid r in record w { charge = w.charge + more })
+      (ap (λ (o : Outline Design InputRow). o.marks) (outline_behind was is_now es adds legal ∙ leaves (outline_of was)))
+
+  -- ---- a display
+
+  module _ (prefix : List ℕ) (answer : Option ℕ) (adds : Adds was is_now (ShowsEvent answer ∷ [])) (charge : IsCharged names r new 1)
+      (room : r.charge + 1 ≤ limits.rooms.session) where
+    pub show_done : (reply : Reply)
+        → ((entries : List Entry) (grid : List ℕ)
+        → reply.lines ≡ display_lines (world_of names entries grid new) prefix design answer (last_values (book_in is_now)))
+        → reply.refused ≡ false → AnswersIn names limits (Shows line prefix) r new was is_now reply
+    show_done reply says accepts = λ (entries : List Entry).
+        let st = settings_by limits was in
+        let w = world_of names entries (marks_of was) r in
+        let next : World = record w { charge = w.charge + 1 } in
+        let m : LogMoment = record { entry = ShowsEvent answer; book = book_in was } in
+        let lines : reply.lines ≡ display_lines next prefix design answer (last_values (book_in was)) =
+        says entries (marks_of was)
+        ∙ ap₂ (λ (x : World) (b : Option (Book Design State InputRow)). display_lines x prefix design answer (last_values b))
+        (charge.world entries (marks_of was)) (book_shown was is_now answer adds) in
+        entry_done st (Shows line prefix) names once w (world_of names entries (marks_of is_now) new) (charged st w line 1) reply was is_now
+        (ShowsEvent answer ∷ []) (ShowsEvent answer ∷ []) adds refl m refl next (has_room st w line 1 room)
+        (charged_world (ShowsEvent answer ∷ []) 1 adds (λ (o : Outline Design InputRow). refl) charge entries)
+        (answer, refl) refl (agrees_in names once limits r was entries stands)
+        (λ (rest : List LogMoment). ap (λ (text : List ℕ). Some (text, rest)) (sym lines)) accepts
+
+    pub show_stands : Stands limits (Some new) is_now
+    show_stands =
+        stands_left limits r new was is_now (ShowsEvent answer ∷ []) 1 adds legal stands charge.run refl refl (omega (arith, charge.charge))
+
+    pub show_runs : RunsIn new (outline_of is_now)
+    show_runs = show_stands.outline
+
+  -- ---- a settle
+
+  module _ (passes : Option ℕ) (most : ℕ) (all : (entries : List Entry) → passes_of (world_of names entries (marks_of was) r) passes ≡ most)
+      (charge : IsCharged names r new (2 * min most (length (marks_of was)) + 1)) where
+    abbrev more : ℕ
+    more = 2 * min most (length (marks_of was)) + 1
+
+    module _ (answer : Option ℕ) (s : HasSettled kit was is_now most answer) (room : r.charge + more ≤ limits.rooms.session) where
+      abbrev links : ℕ
+      links = links_in (book_in was)
+
+      many : links ≡ length (marks_of was)
+      many = links_marked (book_in was)
+
+      adds : Adds was is_now s.own
+      adds = record { settings = s.settings; events = s.events }
+
+      leaves : (o : Outline Design InputRow) → outline_from was.settings o s.own ≡ o
+      leaves o = settle_outline was.settings o most links s.own s.is_settle
+
+      settles : (entries : List Entry) → IsSettle (passes_of (world_of names entries (marks_of was) r) passes) (length (marks_of was)) s.own
+      settles entries =
+          subst (λ (n : ℕ). IsSettle n (length (marks_of was)) s.own) (sym (all entries))
+          (subst (λ (n : ℕ). IsSettle most n s.own) many s.is_settle)
+
+      pub settle_done : (reply : Reply)
+          → ((entries : List Entry) (grid : List ℕ) → reply.lines ≡ settle_text (world_of names entries grid new) answer)
+          → reply.refused ≡ false → AnswersIn names limits (Settles line passes) r new was is_now reply
+      settle_done reply says accepts = λ (entries : List Entry).
+          let st = settings_by limits was in
+          let w = world_of names entries (marks_of was) r in
+          let next : World = record w { charge = w.charge + more } in
+          let m : LogMoment = record { entry = ShowsEvent s.is_settle.answer; book = replay_from kit was.settings (book_in was) s.is_settle.passes } in
+          let verdict : charged st w line (2 * min (passes_of w passes) (length w.grid) + 1) ≡ Ok next =
+          ap (λ (n : ℕ). charged st w line (2 * min n (length w.grid) + 1)) (all entries) ∙ has_room st w line more room in
+          let lines : reply.lines ≡ settle_text next s.is_settle.answer =
+          says entries (marks_of was)
+          ∙ ap₂ (λ (x : World) (a : Option ℕ). settle_text x a) (charge.world entries (marks_of was)) (sym s.answers) in
+          entry_done st (Settles line passes) names once w (world_of names entries (marks_of is_now) new)
+          (charged st w line (2 * min (passes_of w passes) (length w.grid) + 1)) reply was is_now
+          s.own s.own adds (settle_owned most links s.own s.is_settle) m
+          (settle_moments kit was.settings (book_in was) most links s.own s.is_settle) next verdict
+          (charged_world s.own more adds leaves charge entries) (settles entries) refl
+          (subst (Agrees w) (sym (settle_shows kit was.settings any_valid was.events most links s.own s.is_settle (legal_behind was is_now s.own adds legal)))
+          (agrees_in names once limits r was entries stands))
+          (λ (rest : List LogMoment). ap (λ (text : List ℕ). Some (text, rest)) (sym lines)) accepts
+
+      pub settle_stands : Stands limits (Some new) is_now
+      settle_stands =
+          let count = s.is_settle.count in
+          let few : count ≤ most = s.is_settle.few in
+          let within : count ≤ length (marks_of was) = omega (arith, s.within, many) in
+          let least : count ≤ min most (length (marks_of was)) = at_least count most (length (marks_of was)) few within in
+          stands_left limits r new was is_now s.own (2 * count + 1) adds legal stands charge.run (leaves (outline_of was))
+          (settle_counts (count_all no_entry was.events) most links s.own s.is_settle) (omega (arith, charge.charge, least))
+
+    module _ (t : HasTried was is_now (min most (links_in (book_in was)))) where
+      tried : Adds was is_now t.own
+      tried = record { settings = t.settings; events = t.events }
+
+      pub settle_stops : StopsIn names limits (Settles line passes) r new was is_now
+      settle_stops =
+          undone_in t.own new.charge t.settings t.events t.unfinished
+          (λ (entries : List Entry) (grid : List ℕ). charge.world entries grid
+          ∙ ap (λ (n : ℕ). record (world_of names entries grid r) { charge = n }) (sym charge.charge))
+
+      pub unsettled_stands : Stands limits (Some new) is_now
+      unsettled_stands =
+          let most_is : min most (links_in (book_in was)) ≡ min most (length (marks_of was)) = ap (min most) (links_marked (book_in was)) in
+          stands_left limits r new was is_now t.own (length t.own) tried legal stands charge.run
+          (unfinished_outline was.settings (outline_of was) t.own t.unfinished)
+          (unfinished_counts (count_all no_entry was.events) t.own t.unfinished)
+          (omega (arith, charge.charge, most_is, t.few, unfinished_long t.own t.unfinished))

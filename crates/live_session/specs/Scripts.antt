@@ -1,0 +1,108 @@
+-- Which entries of a history are those of commands.
+use Rattle.std.specs.Prelude.{◌≡◌, ◌==◌, ◌+◌, ⊤, ℕ, if◌then◌else◌, List, [], ◌∷◌, ◌++◌, length, map, replicate, Option, Some, None, Result, Ok, Err}
+use Rattle.ls_text.specs.Readings.{TextFault}
+use Rattle.ls_text.specs.Texts.{HasEachOnce}
+use Rattle.book_history.specs.Book.{Opens, Runs as RunsEvent, Reloads, Shows as ShowsEvent}
+use Rattle.book_history.specs.Outline.{Outline, outline_in}
+use Rattle.book_settle.specs.Passes.{IsSettle}
+use Rattle.command_read.specs.Asking.{Asked, Block, Edits, Sets, Runs, Shows, Settles, AsksStatus, Quits}
+use Rattle.cycle_eval.specs.declared.design.Design.{Design}
+use Rattle.module_registry.specs.Keys.{KeyData}
+use Rattle.version_swap.specs.Behind.{design_of}
+use Rattle.live_session.specs.Forms.{verdict_now, after, world_or}
+use Rattle.live_session.specs.Logs.{InputRow, LogEvent, LogMoment, Ops}
+use Rattle.live_session.specs.Rows.{Row, row_of}
+use Rattle.live_session.specs.Settings.{Settings}
+use Rattle.live_session.specs.Spelled.{Spelled, spelled}
+use Rattle.live_session.specs.Verdicts.{Told, chosen, passes_of}
+use Rattle.live_session.specs.Worlds.{World, Refused, cycle}
+
+-- a design of a world, without its table of names
+pub record IsDesign (names : List (List ℕ)) (design : Option Spelled) (machine : Design) : Type 0 where
+  pub keys : List KeyData
+  pub is : design ≡ Some (spelled names (design_of machine keys))
+
+-- rows of a world, without their table of names
+abbrev pub AreRows : (names : List (List ℕ)) → List Row → List InputRow → Type 0
+AreRows names record_ rows = map (row_of names) rows ≡ record_
+
+-- the operations of a block: those that aren't built are refused
+abbrev pub IsEdit : (names : List (List ℕ)) → Settings → (old new : World) → List LogEvent → Type 0
+IsEdit names st old new es =
+    (machine : Design) × IsDesign names new.design machine
+    × (ops : Ops) × (es ≡ (if old.version == 0 then Opens 1 machine else Reloads (old.version + 1) machine ops (chosen st old)) ∷ [])
+
+-- the session's own entries of an accepted command that leads from the one world to the other
+abbrev pub IsAccepted : (names : List (List ℕ)) → Settings → (old new : World) → List LogEvent → Asked → Type 0
+IsAccepted names st old new es (Edits block) = IsEdit names st old new es
+IsAccepted names st old new es (Sets line values) = es ≡ []
+IsAccepted names st old new es (Runs line n) = (rows : List InputRow) × AreRows names (replicate n old.row) rows × (es ≡ RunsEvent n rows ∷ [])
+IsAccepted names st old new es (Shows line prefix) = (answer : Option ℕ) × (es ≡ ShowsEvent answer ∷ [])
+IsAccepted names st old new es (Settles line passes) = IsSettle (passes_of old passes) (length old.grid) es
+IsAccepted names st old new es (AsksStatus line) = es ≡ []
+IsAccepted names st old new es (Quits line) = es ≡ []
+
+-- a refused command has none
+abbrev pub IsJudged : (names : List (List ℕ)) → Settings → Result Asked TextFault → World → List LogEvent → Result World Refused → Type 0
+IsJudged names st (Ok asked) old es (Ok new) = IsAccepted names st old new es asked
+IsJudged names st (Err fault) old es (Ok new) = es ≡ []
+IsJudged names st asked old es (Err refused) = es ≡ []
+
+-- the session's own entries of a command, in some table of names in which each text stands once
+pub record IsPart (st : Settings) (asked : Result Asked TextFault) (old : World) (es : List LogEvent) (v : Result World Refused) : Type 0 where
+  pub names : List (List ℕ)
+  pub once : HasEachOnce names
+  pub is : IsJudged names st asked old es v
+
+-- the entries of these commands, one after another
+abbrev pub IsScript : Settings → List Told → World → List LogEvent → Type 0
+IsScript st [] w es = es ≡ []
+IsScript st (t ∷ ts) w es =
+    (own : List LogEvent) × (rest : List LogEvent) × (es ≡ own ++ rest)
+    × IsPart st t.asked w own (verdict_now st t w) × IsScript st ts (after st t w) rest
+
+-- ---- the book at the place of a command's own entry
+
+-- a book without a version beside a world without a design, or the world's design
+abbrev pub IsCurrent : (names : List (List ℕ)) → Option Spelled → Option Design → Type 0
+IsCurrent names None None = ⊤
+IsCurrent names None (Some machine) = ⊥
+IsCurrent names (Some design) None = ⊥
+IsCurrent names (Some design) (Some machine) = IsDesign names (Some design) machine
+
+-- it has the version, the design, the record and the cycles of the marks of the world
+pub record Agrees (w : World) (o : Outline Design InputRow) : Type 0 where
+  pub names : List (List ℕ)
+  pub once : HasEachOnce names
+  pub version : o.version ≡ w.version
+  pub machine : IsCurrent names w.design o.machine
+  pub rows : AreRows names w.record_ o.rows
+  pub marks : o.marks ≡ w.grid
+
+-- the world at the place of a command that has an entry of its own
+abbrev pub entry_worlds : World → Asked → List World
+entry_worlds w (Edits block) = w ∷ []
+entry_worlds w (Sets line values) = []
+entry_worlds w (Runs line n) = w ∷ []
+entry_worlds w (Shows line prefix) = w ∷ []
+entry_worlds w (Settles line passes) = w ∷ []
+entry_worlds w (AsksStatus line) = []
+entry_worlds w (Quits line) = []
+
+-- where it is accepted
+abbrev pub judged_worlds : World → Result Asked TextFault → Result World Refused → List World
+judged_worlds w (Ok asked) (Ok new) = entry_worlds w asked
+judged_worlds w (Err fault) (Ok new) = []
+judged_worlds w asked (Err refused) = []
+
+-- those of some commands
+abbrev pub worlds : Settings → List Told → World → List World
+worlds st [] w = []
+worlds st (t ∷ ts) w = judged_worlds w t.asked (verdict_now st t w) ++ worlds st ts (after st t w)
+
+-- one by one, the book at an entry is as the world
+abbrev pub AllAgree : List World → List LogMoment → Type 0
+AllAgree [] [] = ⊤
+AllAgree [] (m ∷ ms) = ⊥
+AllAgree (w ∷ ws) [] = ⊥
+AllAgree (w ∷ ws) (m ∷ ms) = Agrees w (outline_in m.book) × AllAgree ws ms

@@ -1,0 +1,145 @@
+-- What a history has of the commands that were carried out, and of one more.
+use Rattle.std.proofs.Common.{◌≡◌, ◌⊎◌, inl, inr, ℕ, Bool, List, [], ◌∷◌, ◌++◌, Option, None, refl, sym, ap, ◌∙◌, subst, append-nil, append_assoc}
+use Rattle.book_history.specs.Book.{Closes, Settings as BookSettings}
+use Rattle.book_history.specs.Legal.{Legal}
+use Rattle.book_history.specs.Moments.{moments_from}
+use Rattle.book_history.specs.Owned.{owned}
+use Rattle.book_history.proofs.Places.{moments-append}
+use Rattle.book_settle.specs.Passes.{IsUnfinished}
+use Rattle.book_settle.proofs.Counting.{owned-append, unfinished_moments, unfinished_owned}
+use Rattle.live_session.specs.Done.{IsDone}
+use Rattle.live_session.specs.Forms.{after, verdict_now, world_after}
+use Rattle.live_session.specs.Logs.{Log, LogEvent, LogMoment, book_in, kit, moments_after, moments_of, valid}
+use Rattle.live_session.specs.Replies.{lines, text_then}
+use Rattle.live_session.specs.Scripts.{AllAgree, IsScript, judged_worlds, worlds}
+use Rattle.live_session.specs.Settings.{Settings}
+use Rattle.live_session.specs.Verdicts.{Told}
+use Rattle.live_session.specs.Worlds.{World, fresh}
+use Rattle.livesim.specs.Histories.{IsLegal, closed}
+use Rattle.livesim.specs.Runs.{HasEntries, all_entries, unfinished_settle, no_entries, HasSettings}
+use Rattle.livesim.proofs.Steps.{after-append, agree-append, script-append, worlds-append}
+
+-- These commands are carried out, and these are their lines: whatever commands and entries come behind, the lines of all are these and then those of
+-- what comes behind.
+pub record IsRecorded (st : Settings) (j : Log) (told : List Told) (text : List ℕ) : Type 0 where
+  pub has : HasSettings st j
+  pub script : IsScript st told fresh (owned j.events)
+  pub agree : AllAgree (worlds st told fresh) (moments_of j)
+  pub tells : (ts : List Told) (ms : List LogMoment) → lines st (told ++ ts) fresh (moments_of j ++ ms) ≡ text ++ lines st ts (world_after st told fresh) ms
+
+-- before the first
+pub none_recorded : (st : Settings) (j : Log) → HasSettings st j → j.events ≡ [] → IsRecorded st j [] []
+none_recorded st j has blank = record {
+  has = has;
+  script = ap (λ (es : List LogEvent). owned es) blank;
+  agree = subst (λ (es : List LogEvent). AllAgree [] (moments_from kit j.settings None es)) (sym blank) tt;
+  tells = λ ts ms. ap (λ (es : List LogEvent). lines st ts fresh (moments_from kit j.settings None es ++ ms)) blank;
+}
+
+pub settings_kept : (st : Settings) (j k : Log) → k.settings ≡ j.settings → HasSettings st j → HasSettings st k
+settings_kept st j k same has = (
+  ap (λ (s : BookSettings). s.interval) same ∙ has.0,
+  ap (λ (s : BookSettings). s.lookback) same ∙ has.1,
+  ap (λ (s : BookSettings). s.rooms.session) same ∙ has.2,
+  ap (λ (s : BookSettings). s.rooms.workers) same ∙ has.3,
+)
+
+-- the commands' own entries of a history that has grown
+pub moments_behind : (j k : Log) (own : List LogEvent) → k.settings ≡ j.settings → k.events ≡ j.events ++ own → moments_of k ≡ moments_of j ++ moments_after j own
+moments_behind j k own same events =
+    ap (λ (es : List LogEvent). moments_from kit k.settings None es) events
+    ∙ ap (λ (s : BookSettings). moments_from kit s None (j.events ++ own)) same
+    ∙ moments-append kit j.settings None j.events own
+
+-- the close isn't one of them
+pub moments_closed : (j : Log) → moments_of (closed j) ≡ moments_of j
+moments_closed j = moments_behind j (closed j) (Closes ∷ []) refl refl ∙ append-nil (moments_of j)
+
+-- one more
+module _ (st : Settings) (j k : Log) (told : List Told) (t : Told) (text more : List ℕ) (new : World) (refused : Bool) (d : IsRecorded st j told text)
+    (p : IsDone st t.asked (world_after st told fresh) new (verdict_now st t (world_after st told fresh)) j k more refused) where
+  abbrev here : World
+  here = world_after st told fresh
+
+  moments_more : moments_of k ≡ moments_of j ++ moments_after j p.added
+  moments_more = moments_behind j k p.added p.settings p.events
+
+  lines_more : (ts : List Told) (ms : List LogMoment)
+      → lines st ((told ++ t ∷ []) ++ ts) fresh (moments_of k ++ ms) ≡ (text ++ more) ++ lines st ts (world_after st (told ++ t ∷ []) fresh) ms
+  lines_more ts ms =
+      ap (λ (x : List Told). lines st x fresh (moments_of k ++ ms)) (append_assoc told (t ∷ []) ts)
+      ∙ ap (λ (x : List LogMoment). lines st (told ++ t ∷ ts) fresh (x ++ ms)) moments_more
+      ∙ ap (λ (x : List LogMoment). lines st (told ++ t ∷ ts) fresh x) (append_assoc (moments_of j) (moments_after j p.added) ms)
+      ∙ d.tells (t ∷ ts) (moments_after j p.added ++ ms)
+      ∙ ap (λ (x : Option (List ℕ × List LogMoment)). text ++ text_then x (λ (rest : List LogMoment). lines st ts (after st t here) rest)) (p.tells ms)
+      ∙ sym (append_assoc text more (lines st ts (after st t here) ms))
+      ∙ ap (λ (w : World). (text ++ more) ++ lines st ts w ms) (sym (after-append st told (t ∷ []) fresh))
+
+  pub more_recorded : IsRecorded st k (told ++ t ∷ []) (text ++ more)
+  more_recorded = record {
+    has = settings_kept st j k p.settings d.has;
+    script = subst (λ (es : List LogEvent). IsScript st (told ++ t ∷ []) fresh es) (sym (ap (λ (es : List LogEvent). owned es) p.events ∙ owned-append j.events p.added))
+        (script-append st told (owned j.events) (owned p.added) t fresh d.script p.part);
+    agree = subst (λ (ws : List World). AllAgree ws (moments_of k)) (sym (worlds-append st told t fresh))
+        (subst (λ (ms : List LogMoment). AllAgree (worlds st told fresh ++ judged_worlds here t.asked (verdict_now st t here)) ms) (sym moments_more)
+        (agree-append (worlds st told fresh) (judged_worlds here t.asked (verdict_now st t here)) (moments_of j) (moments_after j p.added) d.agree p.agree));
+    tells = lines_more;
+  }
+
+-- the lines of these commands at their places, whatever comes behind
+pub lines_with : (st : Settings) (j : Log) (told : List Told) (text : List ℕ) (ms : List LogMoment) → IsRecorded st j told text
+    → lines st told fresh (moments_of j ++ ms) ≡ text
+lines_with st j told text ms d =
+    ap (λ (x : List Told). lines st x fresh (moments_of j ++ ms)) (sym (append-nil told)) ∙ d.tells [] ms ∙ append-nil text
+
+lines_recorded : (st : Settings) (j : Log) (told : List Told) (text : List ℕ) → IsRecorded st j told text → lines st told fresh (moments_of j) ≡ text
+lines_recorded st j told text d =
+    ap (λ (ms : List LogMoment). lines st told fresh ms) (sym (append-nil (moments_of j))) ∙ lines_with st j told text [] d
+
+-- ---- the history of a run
+
+pub record IsHistory (st : Settings) (told : List Told) (status : ℕ) (text : List ℕ) (h : Log) : Type 0 where
+  pub has : HasSettings st h ⊎ ((status ≡ 5) × (h.events ≡ []))
+  pub legal : IsLegal h
+  pub entries : HasEntries st told status (owned h.events)
+  pub agree : AllAgree (worlds st told fresh) (moments_of h)
+  pub tells : lines st told fresh (moments_of h) ≡ text
+
+-- behind these commands it was closed
+pub closed_history : (st : Settings) (j : Log) (told : List Told) (text : List ℕ) (status : ℕ) → IsRecorded st j told text
+    → IsLegal (closed j) → IsHistory st told status text (closed j)
+closed_history st j told text status d legal = record {
+  has = inl d.has;
+  legal = legal;
+  entries = all_entries (owned j.events) (owned-append j.events (Closes ∷ [])) d.script;
+  agree = subst (λ (ms : List LogMoment). AllAgree (worlds st told fresh) ms) (sym (moments_closed j)) d.agree;
+  tells = ap (λ (ms : List LogMoment). lines st told fresh ms) (moments_closed j) ∙ lines_recorded st j told text d;
+}
+
+-- behind them memory ran out in a settle, and then it was closed
+pub unfinished_history : (st : Settings) (j k : Log) (told : List Told) (text : List ℕ) (status : ℕ) (own : List LogEvent) → status ≡ 5 → IsRecorded st j told text
+    → k.settings ≡ j.settings → k.events ≡ j.events ++ own → IsUnfinished own → IsLegal (closed k) → IsHistory st told status text (closed k)
+unfinished_history st j k told text status own five d same events unfinished legal =
+    let none : moments_after j own ≡ [] = unfinished_moments kit j.settings (book_in j) own unfinished in
+    let moments : moments_of (closed k) ≡ moments_of j = moments_closed k ∙ moments_behind j k own same events
+    ∙ ap (λ (ms : List LogMoment). moments_of j ++ ms) none ∙ append-nil (moments_of j) in
+    let its_own : owned k.events ≡ owned j.events ++ own = ap (λ (es : List LogEvent). owned es) events ∙ owned-append j.events own
+    ∙ ap (λ (es : List LogEvent). owned j.events ++ es) (unfinished_owned own unfinished) in
+    record {
+      has = inl (settings_kept st j k same d.has);
+      legal = legal;
+      entries = unfinished_settle (owned j.events) own five
+          (owned-append k.events (Closes ∷ []) ∙ ap (λ (es : List LogEvent). es ++ Closes ∷ []) its_own ∙ append_assoc (owned j.events) own (Closes ∷ [])) d.script unfinished;
+      agree = subst (λ (ms : List LogMoment). AllAgree (worlds st told fresh) ms) (sym moments) d.agree;
+      tells = ap (λ (ms : List LogMoment). lines st told fresh ms) moments ∙ lines_recorded st j told text d;
+    }
+
+-- nothing was touched
+pub nothing_history : (st : Settings) (h : Log) → h.events ≡ [] → IsHistory st [] 5 [] h
+nothing_history st h blank = record {
+  has = inr (refl, blank);
+  legal = subst (λ (es : List LogEvent). Legal kit valid h.settings es) (sym blank) (record { follows = tt; in_rooms = tt });
+  entries = no_entries refl (ap (λ (es : List LogEvent). owned es) blank) refl;
+  agree = subst (λ (es : List LogEvent). AllAgree [] (moments_from kit h.settings None es)) (sym blank) tt;
+  tells = refl;
+}
