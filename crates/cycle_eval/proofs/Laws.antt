@@ -8,7 +8,7 @@ use Rattle.typed_ir.specs.Orders.{Member, Distinct}
 use Rattle.typed_ir.specs.Cycles.{Flat, fill}
 use Rattle.typed_ir.proofs.Cases.{by_cases}
 use Rattle.cycle_eval.specs.Kits.{driven, run_of, register_widths}
-use Rattle.cycle_eval.specs.States.{paired, state_values, are_alike}
+use Rattle.reg_transform.specs.States.{paired, state_values, are_alike}
 use Rattle.cycle_eval.specs.DesignLaws.{alike_is}
 use Rattle.std.specs.Prelude.{slice_get, Some}
 

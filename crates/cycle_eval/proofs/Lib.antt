@@ -2,8 +2,6 @@ pub mod Blocks
 pub mod Passes
 pub mod Loads
 pub mod Carries
-pub mod Finding
-pub mod PathTables
 pub mod Keys
 pub mod Laws
 pub mod InputRows

@@ -12,7 +12,7 @@ use Rattle.typed_ir.specs.Cycles.{fill}
 use Rattle.typed_ir.specs.Flats.{are_below}
 use Rattle.typed_ir.proofs.Cases.{and_left, and_right}
 use Rattle.typed_ir.proofs.Lists.{drop_split}
-use Rattle.cycle_eval.specs.States.{paired, state_widths, state_values}
+use Rattle.reg_transform.specs.States.{paired, state_widths, state_values}
 use Rattle.cycle_eval.proofs.Carries.{pair, push_step}
 
 -- each register is there

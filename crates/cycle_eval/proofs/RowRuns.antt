@@ -8,7 +8,7 @@ use Rattle.typed_ir.specs.Cycles.{Flat, initial_at, input, reset, seg, step, tru
 use Rattle.cycle_eval.specs.DesignLaws.{driven_first, paired_values, run_fits, run_values, seg_first, seg_later}
 use Rattle.cycle_eval.specs.Inputs.{row_values, values_at}
 use Rattle.cycle_eval.specs.Kits.{Fits, driven, reset_of, run_of}
-use Rattle.cycle_eval.specs.States.{state_values}
+use Rattle.reg_transform.specs.States.{state_values}
 
 -- ---- parts of a record
 

@@ -1,15 +1,20 @@
 -- The laws of a design as a machine.
-use Rattle.std.proofs.Common.{◌≡◌, ℕ, zero, suc, ◌+◌, ◌%◌, ◌^◌, true, ◌&&◌, ◌==◌, List, [], ◌∷◌, ◌++◌, length, map, refl, sym, ◌∙◌, ap, ap₂, ◌↔◌, true≢false}
+use Rattle.std.proofs.Common.{◌≡◌, ℕ, zero, suc, ◌+◌, true, ◌&&◌, ◌==◌, List, [], ◌∷◌, ◌++◌, length, map, refl, sym, ◌∙◌, ap, ap₂, ◌↔◌, true≢false}
 use Rattle.std.proofs.Math.Nat.{suc-add}
 use Rattle.std.proofs.Math.Numerals.{one-add}
 use Rattle.std.proofs.lemmas.Bool.{eqb-true, eq-eqb, and_from, and_parts}
 use Rattle.std.proofs.lemmas.List.{append-nil}
+use Rattle.std.specs.Prelude.{slice_index, Option}
+use Rattle.reg_ops.specs.declared.reg_op.RegOp.{RegOp}
+use Rattle.typed_ir.specs.Orders.{at_or}
+use Rattle.reg_transform.specs.Carrying.{carried_each, value_of}
+use Rattle.reg_transform.specs.Registers.{RegisterName}
 use Rattle.typed_ir.specs.RunLaws.{seg_more}
 use Rattle.typed_ir.specs.Stmts.{all_applied}
-use Rattle.typed_ir.specs.Cycles.{Flat, width_at, initial_at, wires, all_pending, input, step, seg}
+use Rattle.typed_ir.specs.Cycles.{Signal, Flat, width_at, initial_at, wires, all_pending, input, step, seg}
 use Rattle.cycle_eval.specs.Inputs.{row_values, values_at}
-use Rattle.cycle_eval.specs.Kits.{run_of, driven, register_widths, Fits, reset_of, carried_of, carried_value, register_at}
-use Rattle.cycle_eval.specs.States.{paired, state_widths, state_values, are_alike}
+use Rattle.cycle_eval.specs.Kits.{run_of, driven, register_widths, Fits, reset_of, carried_of, register_of, register_at, regs_of}
+use Rattle.reg_transform.specs.States.{paired, state_widths, state_values, are_alike}
 
 -- each register's width with its value
 pub paired_widths : (g f : ℕ → ℕ) (rs : List ℕ) → state_widths (paired (map g rs) (map f rs)) ≡ map g rs
@@ -84,10 +89,20 @@ run_fits design (row ∷ rows) s h =
 pub reset_fits : (design : Flat) → Fits design (reset_of design)
 reset_fits design = paired_widths (width_at design) (initial_at design) design.registers
 
-pub carried_fits : (old new : Flat) (s : List (ℕ × ℕ)) → Fits new (carried_of old new s)
-carried_fits old new s =
-    paired_widths (width_at new)
-    (λ r. carried_value (map (register_at old) old.registers) (state_values s) (register_at new r) (initial_at new r) % 2 ^ width_at new r) new.registers
+-- as many values as the beginning has, of the registers' widths
+each_width : (ops : List RegOp) (old : List ℕ → RegisterName → Option ℕ) (design : Flat) (rs : List ℕ)
+    → state_widths (carried_each ops old (map (register_at design) rs) (state_values (paired (map (width_at design) rs) (map (initial_at design) rs))))
+    ≡ map (width_at design) rs
+each_width ops old design [] = refl
+each_width ops old design (r ∷ rs) = ap₂ (λ (w : ℕ) (ws : List ℕ). w ∷ ws) (width_of design.signals r) (each_width ops old design rs)
+  where
+    width_of : (xs : List Signal) (s : ℕ) → (at_or register_of (record { path = []; in_module = 0; name = 0; width = 0 }) xs s).width ≡ slice_index (map (λ (x : Signal). x.width) xs) s
+    width_of [] s = refl
+    width_of (x ∷ xs) zero = refl
+    width_of (x ∷ xs) (suc s) = width_of xs s
+
+pub carried_fits : (ops : List RegOp) (old new : Flat) (s : List (ℕ × ℕ)) → Fits new (carried_of ops old new s)
+carried_fits ops old new s = each_width ops (value_of (regs_of old) (state_values s)) new new.registers
 
 pub alike_is : (x y : List (ℕ × ℕ)) → (are_alike x y ≡ true) ↔ (x ≡ y)
 alike_is x y = (same x y, λ e. ap (are_alike x) (sym e) ∙ itself x)

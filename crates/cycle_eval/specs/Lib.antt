@@ -1,11 +1,7 @@
 pub mod Designs
-pub mod States
 pub mod Inputs
 pub mod Kits
 pub mod Paths
-pub mod PathNumbers
 pub mod DesignLaws
 pub mod Words
 pub mod Updates
-pub mod Places
-pub mod Found

@@ -1,17 +1,17 @@
-// A design as a machine over rows of its inputs, without operations.
+// A design as a machine over rows of its inputs, with operations on registers.
 ghost use Rattle.std.specs.Prelude.{◌≡◌, ◌==◌, ◌&&◌, ℕ, refl, true};
 ghost use Rattle.cycle_eval.specs.Designs.{design_flat, work_of};
-ghost use Rattle.cycle_eval.specs.Kits.{Fits, reset_of, run_of, carried_of};
-ghost use Rattle.cycle_eval.specs.States.{are_alike};
+ghost use Rattle.cycle_eval.specs.Kits.{Fits, IsValid, reset_of, run_of, carried_of};
+ghost use Rattle.reg_transform.specs.States.{are_alike};
 ghost use Rattle.cycle_eval.specs.DesignLaws.{run_more, run_fits, reset_fits, carried_fits, alike_is};
 
 use crate::design::Design;
-use crate::no_ops::NoOps;
 use bits::Bits;
 use machine::Machine;
 use machine::row_runs::RowRuns;
 use machine::steps::Steps;
 use no_memory::NoMemory;
+use reg_ops::RegOps;
 use std::alloc::Global;
 use std::sync::ledger::Ledger;
 use stimulus::Row;
@@ -46,12 +46,12 @@ impl Machine for Design {
 
     type Row = Row;
 
-    type Ops = NoOps;
+    type Ops = RegOps;
 
     ghost kit = { record {
       start = λ m. reset_of (design_flat m);
       seg = λ m rows s. run_of (design_flat m) rows s;
-      carried = λ old m ops s. carried_of (design_flat old) (design_flat m) s;
+      carried = λ old m ops s. carried_of ops (design_flat old) (design_flat m) s;
       alike = λ m x y. are_alike x y;
     } };
 
@@ -59,7 +59,7 @@ impl Machine for Design {
 
     ghost fits = { λ m s. Fits (design_flat m) s };
 
-    ghost valid = { λ old m ops. Unit {0} };
+    ghost valid = { λ old m ops. IsValid ops (design_flat old) (design_flat m) };
 
     fn reset(&self, alloc: Global) -> Result<RegState, NoMemory> {
         self.reset_state(alloc)
@@ -87,10 +87,10 @@ impl Machine for Design {
         &self,
         alloc: Global,
         old: &Self,
-        _ops: &NoOps,
+        ops: &RegOps,
         state: &RegState,
     ) -> Result<RegState, NoMemory> {
-        self.carried(alloc, old, state)
+        self.carried(alloc, old, ops.as_slice(), state)
     }
 
     fn same(&self, x: &RegState, y: &RegState) -> bool {
@@ -113,7 +113,7 @@ impl Machine for Design {
       seg_more = λ m xs ys s. run_more (design_flat m) xs ys s;
       start_fits = λ m. reset_fits (design_flat m);
       seg_fits = λ m xs s h. run_fits (design_flat m) xs s h;
-      carried_fits = λ m n ops s v h. carried_fits (design_flat m) (design_flat n) s;
+      carried_fits = λ m n ops s v h. carried_fits ops (design_flat m) (design_flat n) s;
       alike_is = λ m x y p q. alike_is x y;
     } };
 }

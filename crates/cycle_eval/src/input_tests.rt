@@ -9,6 +9,7 @@ use ls_text::NameId;
 use machine::Machine;
 use machine::steps::Steps;
 use no_memory::NoMemory;
+use reg_ops::RegOp;
 use std::alloc::Global;
 use std::marker::Brand;
 use std::process::Abort;
@@ -240,6 +241,35 @@ fn widths_and_registers(rt: HostRuntime) -> Result<(), Fail> {
     if design.registers().len() == 2 {
         let q = design.read(&state, 1);
         assert_eq!(rt; (q.width(), q.value()), (8, 7));
+    }
+    Ok(())
+}
+
+// The registers p and q are at 7, of four and eight bits. 300 is 256 + 44, and 44 is 32 + 12.
+#[test]
+fn operations_on_registers(rt: HostRuntime) -> Result<(), Fail> {
+    let alloc = rt.alloc();
+    let design = two_inputs(&rt, alloc)?;
+    let start = design.reset_state(alloc)?;
+    let table: &[(u64, u64, &[u128])] = &[
+        (0, 10, &[12, 7]),
+        (0, 11, &[7, 44]),
+        (0, 12, &[7, 7]),
+        (1, 10, &[7, 7]),
+    ];
+    for (in_module, name, wanted) in table {
+        let in_module = NameId(*in_module);
+        let reg = NameId(*name);
+        let ops = vec![in alloc;
+            RegOp::Create {
+                in_module,
+                reg,
+                value: 300
+            },
+        ]?;
+        let carried = design.carried(alloc, &design, &ops, &start)?;
+        let values = values_of(alloc, &carried)?;
+        assert_eq!(rt; values.as_slice(), *wanted);
     }
     Ok(())
 }

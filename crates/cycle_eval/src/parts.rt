@@ -2,10 +2,12 @@
 ghost use Rattle.std.specs.Prelude.{◌≡◌, ◌<◌, IsTrue, length, slice_get};
 ghost use Rattle.typed_ir.specs.Flats.{are_below};
 ghost use Rattle.cycle_eval.specs.Designs.{design_flat, instances_of, signals_of};
-ghost use Rattle.cycle_eval.specs.Kits.{Fits};
+ghost use Rattle.cycle_eval.specs.Kits.{Fits, regs_of};
+ghost use Rattle.reg_transform.specs.Regs.{registers_in};
 
 use crate::design::Design;
 use bits::Bits;
+use reg_transform::Regs;
 use typed_ir::{InstanceName, RegState, RegisterId, Signal, SignalId};
 
 impl Design {
@@ -29,6 +31,18 @@ impl Design {
         ensures there { IsTrue (are_below result.now (length (signals_of self.now))) }
     {
         &self.linked.design.registers
+    }
+
+    /// The registers, each by its instance, its module and its name.
+    pub fn regs(&self) -> Regs<'_>
+        ensures { registers_in result ≡ regs_of (design_flat self.now) }
+    {
+        let design = &self.linked.design;
+        Regs {
+            instances: &design.instances,
+            signals: &design.signals,
+            registers: &design.registers,
+        }
     }
 
     /// The value that a register has in a state of the design, with its width.

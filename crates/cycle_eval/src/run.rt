@@ -7,7 +7,7 @@ ghost use Rattle.typed_ir.specs.Views.{widths, env_of};
 ghost use Rattle.cycle_eval.specs.Designs.{design_flat, work_of};
 ghost use Rattle.cycle_eval.specs.Inputs.{row_values};
 ghost use Rattle.cycle_eval.specs.Kits.{Fits, register_widths, driven};
-ghost use Rattle.cycle_eval.specs.States.{paired, state_values};
+ghost use Rattle.reg_transform.specs.States.{paired, state_values};
 ghost use Rattle.cycle_eval.specs.Updates.{all_updates};
 
 use crate::design::Design;

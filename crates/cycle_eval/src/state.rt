@@ -5,7 +5,7 @@ ghost use Rattle.typed_ir.specs.Flats.{signal_widths, are_below};
 ghost use Rattle.typed_ir.specs.Views.{widths, env_of};
 ghost use Rattle.cycle_eval.specs.Designs.{design_flat};
 ghost use Rattle.cycle_eval.specs.Kits.{register_widths, Fits};
-ghost use Rattle.cycle_eval.specs.States.{paired, state_widths, state_values};
+ghost use Rattle.reg_transform.specs.States.{paired, state_widths, state_values};
 
 use crate::design::Design;
 use crate::numbers::index_at;

@@ -16,7 +16,7 @@ use Rattle.cycle_eval.specs.DesignLaws.{run_values}
 use Rattle.cycle_eval.specs.Designs.{design_flat, work_of}
 use Rattle.cycle_eval.specs.Inputs.{values_at}
 use Rattle.cycle_eval.specs.Kits.{Fits, driven, reset_of, run_of}
-use Rattle.cycle_eval.specs.States.{state_values}
+use Rattle.reg_transform.specs.States.{state_values}
 use Rattle.cycle_eval.proofs.RowRuns.{reset_values}
 use Rattle.version_swap.specs.Behind.{design_of}
 use Rattle.version_swap.specs.Plans.{DesignOfTexts}

@@ -8,7 +8,7 @@ use Rattle.book_history.specs.Outline.{Outline, blank, outline_in}
 use Rattle.book_history.specs.Rooms.{count_all, no_entry}
 use Rattle.cycle_eval.specs.Designs.{design_flat}
 use Rattle.cycle_eval.specs.Kits.{carried_of, reset_of, run_of}
-use Rattle.cycle_eval.specs.States.{are_alike}
+use Rattle.reg_transform.specs.States.{are_alike}
 use Rattle.cycle_eval.specs.declared.design.Design.{Design}
 use Rattle.cycle_eval.specs.declared.no_ops.NoOps.{NoOps}
 

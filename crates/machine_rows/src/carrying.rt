@@ -1,17 +1,19 @@
 // Rows of two designs, and the beginning of the first one carried into the second.
 use crate::designs::design_in;
 use crate::running::push_state;
-use cycle_eval::{Design, NoOps};
+use cycle_eval::Design;
 use ls_text::{behind, front};
 use machine::Machine;
 use no_memory::NoMemory;
+use reg_ops::RegOps;
 use std::alloc::Global;
 
 // What the registers of the second design have after the beginning of the first is carried into it.
 fn carried_into(alloc: Global, before: &Design, after: &Design) -> Result<Vec<u8>, NoMemory> {
     let mut out = Vec::new(alloc);
     let start = before.reset(alloc)?;
-    let state = after.carry(alloc, before, &NoOps, &start)?;
+    let none = RegOps::new(Vec::new(alloc));
+    let state = after.carry(alloc, before, &none, &start)?;
     push_state(&mut out, &state)?;
     Ok(out)
 }

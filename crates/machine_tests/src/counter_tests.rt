@@ -4,11 +4,12 @@ ghost use Rattle.cycle_eval.specs.Designs.{work_of};
 
 use crate::designs::state_after;
 use bits::Bits;
-use cycle_eval::{Design, NoOps};
+use cycle_eval::Design;
 use ls_text::{NameId, Refusal};
 use machine::Machine;
 use machine::steps::Steps;
 use no_memory::NoMemory;
+use reg_ops::RegOps;
 use std::alloc::Global;
 use std::marker::Brand;
 use std::sync::ledger::{Blank, Ledger};
@@ -84,7 +85,8 @@ fn by_rows<L: Ledger>(
     let end = state_after(alloc, design, 3, steps)?;
     let start = design.reset(alloc)?;
     let again = design.reset(alloc)?;
-    let carried = design.carry(alloc, design, &NoOps, &start)?;
+    let none = RegOps::new(Vec::new(alloc));
+    let carried = design.carry(alloc, design, &none, &start)?;
     let same = design.same(&again, &design.share(alloc, &start)?);
     Ok((first(&end), first(&carried), same))
 }

@@ -7,7 +7,7 @@ use Rattle.typed_ir.specs.Flats.{are_below}
 use Rattle.typed_ir.specs.Orders.{at_or}
 use Rattle.typed_ir.proofs.Lists.{drop_read}
 use Rattle.cycle_eval.specs.Kits.{Fits}
-use Rattle.cycle_eval.specs.States.{state_values}
+use Rattle.reg_transform.specs.States.{state_values}
 use Rattle.cycle_eval.proofs.Loads.{below_read}
 use Rattle.wave_report.specs.Tables.{signal_line, signal_lines}
 

@@ -2,7 +2,7 @@
 ghost use Rattle.std.specs.Prelude.{◌≡◌, ◌≤◌, ◌++◌, IfOk, OnOk};
 ghost use Rattle.cycle_eval.specs.Designs.{design_flat};
 ghost use Rattle.cycle_eval.specs.Kits.{Fits};
-ghost use Rattle.cycle_eval.specs.States.{state_values};
+ghost use Rattle.reg_transform.specs.States.{state_values};
 ghost use Rattle.wave_report.specs.Tables.{shown_line, table_text};
 
 use crate::digits::push_hex;

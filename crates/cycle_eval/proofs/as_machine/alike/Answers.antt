@@ -1,5 +1,5 @@
 use Rattle.std.proofs.Common.{◌≡◌, ◌+◌, ◌&&◌, ◌==◌, ◌∙◌, drop, sym, ap, true, false}
-use Rattle.cycle_eval.specs.States.{are_alike}
+use Rattle.reg_transform.specs.States.{are_alike}
 use Rattle.cycle_eval.proofs.Laws.{unlike_lengths, alike_step}
 use Rattle.cycle_eval.proofs.as_machine.alike.Goals as goal
 

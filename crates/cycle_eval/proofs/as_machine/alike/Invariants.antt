@@ -1,5 +1,5 @@
 use Rattle.std.proofs.Common.{◌≡◌, drop}
-use Rattle.cycle_eval.specs.States.{are_alike}
+use Rattle.reg_transform.specs.States.{are_alike}
 use Rattle.cycle_eval.proofs.as_machine.alike.Given as goal
 
 abbrev pub invariant-loop-i : goal.invariant-loop-i

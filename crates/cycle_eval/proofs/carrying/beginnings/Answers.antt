@@ -4,7 +4,7 @@ use Rattle.std.proofs.lemmas.List.{append-nil, at_drop_all, get_or_default}
 use Rattle.bits.proofs.Modulo.{small}
 use Rattle.typed_ir.specs.States.{sized_value}
 use Rattle.cycle_eval.specs.Paths.{width_in, initial_in}
-use Rattle.cycle_eval.specs.States.{paired}
+use Rattle.reg_transform.specs.States.{paired}
 use Rattle.cycle_eval.proofs.Loads.{below_read, pairs_of}
 use Rattle.cycle_eval.proofs.Carries.{width_read, initial_read, push_step, pair}
 use Rattle.cycle_eval.proofs.carrying.beginnings.Goals as goal

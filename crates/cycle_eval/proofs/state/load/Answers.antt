@@ -4,7 +4,7 @@ use Rattle.std.proofs.lemmas.List.{get_or-map}
 use Rattle.typed_ir.specs.Cycles.{fill}
 use Rattle.typed_ir.specs.Views.{widths, env_of}
 use Rattle.typed_ir.proofs.Views.{env_of-set}
-use Rattle.cycle_eval.specs.States.{state_values}
+use Rattle.reg_transform.specs.States.{state_values}
 use Rattle.cycle_eval.proofs.Loads.{below_read, fill_step, got_width, got_value, got_within, widths_put}
 use Rattle.cycle_eval.proofs.state.load.Goals as goal
 

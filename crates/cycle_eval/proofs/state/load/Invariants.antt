@@ -1,7 +1,7 @@
 use Rattle.std.proofs.Common.{◌≡◌, ◌≤◌, drop, length}
 use Rattle.typed_ir.specs.Cycles.{fill}
 use Rattle.typed_ir.specs.Views.{widths, env_of}
-use Rattle.cycle_eval.specs.States.{state_values}
+use Rattle.reg_transform.specs.States.{state_values}
 use Rattle.cycle_eval.proofs.state.load.Given as goal
 
 abbrev pub invariant-loop-left : goal.invariant-loop-left

@@ -1,7 +1,7 @@
 use Rattle.std.proofs.Common.{rules, ◌≡◌, ◌++◌, ◌<◌, ◌∙◌, ℕ, length, get_or, map, sym, ap, subst, arith, List}
 use Rattle.std.specs.Prelude.{slice_index, IfOk}
 use Rattle.std.proofs.lemmas.List.{append-nil, at_drop_all, get_or_default}
-use Rattle.cycle_eval.specs.States.{paired}
+use Rattle.reg_transform.specs.States.{paired}
 use Rattle.typed_ir.specs.States.{sized_value}
 use Rattle.typed_ir.specs.Views.{widths, env_of}
 use Rattle.cycle_eval.proofs.Loads.{below_read, store_step, pairs_of}

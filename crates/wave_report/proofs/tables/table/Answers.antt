@@ -4,7 +4,7 @@ use Rattle.typed_ir.specs.declared.signal.Signal.{Signal}
 use Rattle.typed_ir.specs.Flats.{signal_of}
 use Rattle.typed_ir.specs.Orders.{at_or}
 use Rattle.cycle_eval.specs.Designs.{instances_of, signals_of}
-use Rattle.cycle_eval.specs.States.{state_values}
+use Rattle.reg_transform.specs.States.{state_values}
 use Rattle.wave_report.specs.Tables.{joined, shown_line, signal_line, signal_lines, table_text}
 use Rattle.wave_report.proofs.Registers.{all_lines, at_map, line_step, register_there, values_from}
 use Rattle.wave_report.proofs.tables.table.Goals as goal

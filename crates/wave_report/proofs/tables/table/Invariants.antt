@@ -1,6 +1,6 @@
 use Rattle.std.proofs.Common.{◌≡◌, ◌++◌, map, drop}
 use Rattle.typed_ir.specs.Flats.{signal_of}
-use Rattle.cycle_eval.specs.States.{state_values}
+use Rattle.reg_transform.specs.States.{state_values}
 use Rattle.wave_report.specs.Tables.{signal_lines}
 use Rattle.wave_report.proofs.tables.table.Given as goal
 

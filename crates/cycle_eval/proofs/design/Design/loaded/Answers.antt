@@ -5,7 +5,7 @@ use Rattle.typed_ir.specs.Flats.{signal_widths}
 use Rattle.typed_ir.specs.Views.{widths, env_of}
 use Rattle.typed_ir.specs.Valuations.{Valuation}
 use Rattle.cycle_eval.specs.Designs.{design_flat}
-use Rattle.cycle_eval.specs.States.{state_values}
+use Rattle.reg_transform.specs.States.{state_values}
 use Rattle.cycle_eval.proofs.Passes.{flat_widths}
 use Rattle.typed_ir.proofs.Lists.{written_back}
 use Rattle.cycle_eval.proofs.Loads.{no_inputs}

@@ -8,7 +8,7 @@ use Rattle.cycle_eval.specs.Designs.{design_flat}
 use Rattle.cycle_eval.specs.Kits.{Fits, reset_of}
 use Rattle.cycle_eval.specs.DesignLaws.{reset_fits}
 use Rattle.cycle_eval.specs.Paths.{width_in, initial_in}
-use Rattle.cycle_eval.specs.States.{paired}
+use Rattle.reg_transform.specs.States.{paired}
 use Rattle.cycle_eval.proofs.Keys.{begun}
 use Rattle.cycle_eval.proofs.design.Design.reset_state.Goals as goal
 

@@ -3,7 +3,7 @@ use Rattle.std.specs.Prelude.{IfOk, slice_index}
 use Rattle.typed_ir.specs.Views.{widths, env_of}
 use Rattle.cycle_eval.specs.Designs.{design_flat}
 use Rattle.cycle_eval.specs.Kits.{register_widths}
-use Rattle.cycle_eval.specs.States.{paired}
+use Rattle.reg_transform.specs.States.{paired}
 use Rattle.cycle_eval.proofs.Passes.{flat_widths}
 use Rattle.cycle_eval.proofs.design.Design.state_of.Goals as goal
 

@@ -3,7 +3,7 @@ use Rattle.checkpoint_book.specs.Answers.{shown_to}
 use Rattle.cycle_eval.specs.declared.design.Design.{Design}
 use Rattle.cycle_eval.specs.Designs.{design_flat}
 use Rattle.cycle_eval.specs.Kits.{Fits}
-use Rattle.cycle_eval.specs.States.{state_values}
+use Rattle.reg_transform.specs.States.{state_values}
 use Rattle.wave_report.specs.Tables.{table_text}
 use Rattle.live_session.specs.Logs.{book_in}
 use Rattle.live_session.proofs.ShownTables.{display_shown, fits_there, opened_there}

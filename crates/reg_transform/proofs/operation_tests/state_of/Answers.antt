@@ -1,0 +1,46 @@
+use Rattle.std.proofs.Common.{◌≡◌, ◌≤◌, ◌+◌, ◌++◌, ◌∙◌, ℕ, List, [], ◌∷◌, append_assoc, length, map, drop, sym, ap, arith}
+use Rattle.std.specs.Prelude.{slice_get, Some}
+use Rattle.std.proofs.Math.ListN.{drop_of_length-le}
+use Rattle.std.proofs.lemmas.List.{append-nil, length-map, map_push}
+use Rattle.bits.specs.declared.Bits.{Bits}
+use Rattle.typed_ir.proofs.Listed.{if_ok}
+use Rattle.typed_ir.specs.Paths.{paths_of}
+use Rattle.typed_ir.specs.States.{sized_value}
+use Rattle.reg_transform.specs.Registers.{Register, widths_of}
+use Rattle.reg_transform.specs.Regs.{register_at, registers_in}
+use Rattle.reg_transform.specs.States.{state_widths}
+use Rattle.reg_transform.proofs.Elements.{dropped}
+use Rattle.reg_transform.proofs.operation_tests.state_of.Goals as goal
+
+-- one more width
+widths_step : (rs : List Register) (i : ℕ) (r : Register) (was now : List Bits) (b : Bits) → slice_get rs i ≡ Some r → b.width ≡ r.width → now ≡ was ++ b ∷ []
+    → state_widths (map sized_value now) ++ widths_of (drop (i + 1) rs) ≡ state_widths (map sized_value was) ++ widths_of (drop i rs)
+widths_step rs i r was now b at here e =
+    let rest = widths_of (drop (i + 1) rs) in
+    let before = state_widths (map sized_value was) in
+    ap (λ zs. state_widths (map sized_value zs) ++ rest) e
+    ∙ ap (λ zs. state_widths zs ++ rest) (map_push sized_value was b)
+    ∙ ap (λ zs. zs ++ rest) (map_push (λ (p : ℕ × ℕ). p.0) (map sized_value was) (sized_value b))
+    ∙ append_assoc before (b.width ∷ []) rest
+    ∙ ap (λ w. before ++ w ∷ rest) here
+    ∙ sym (ap (λ zs. before ++ widths_of zs) (dropped rs i r at))
+
+pub loop-place-preserved : goal.loop-place-preserved
+loop-place-preserved c =
+    widths_step (registers_in c.args.regs.now) c.loop-place.place _ c.loop-place.state.items c.push.new.self.items c.new.result c.signal_at-signal.ensures.register
+    c.new.ensures.width c.in_ok-push.ensures.items
+    ∙ c.loop-place.invariant
+
+pub returns : goal.returns
+returns c =
+    let regs = c.args.regs.now in
+    let rs = registers_in regs in
+    let items = c.loop-place.state.items in
+    let before = state_widths (map sized_value items) in
+    let long : length rs ≡ length regs.registers.now = length-map regs.registers.now (register_at (paths_of regs.instances.now.rows.items) regs.signals.now) in
+    let past : length rs ≤ c.loop-place.place = omega (arith, long, c.loop-place-test.false) in
+    let whole : before ≡ widths_of rs =
+    sym (append-nil before)
+    ∙ sym (ap (λ (zs : List Register). before ++ widths_of zs) (drop_of_length-le rs past))
+    ∙ c.loop-place.invariant in
+    if_ok c.new-2.result (λ s. s ≡ map sized_value items) (λ s. state_widths s ≡ widths_of rs) (λ s e. ap state_widths e ∙ whole) c.new-2.ensures

@@ -1,0 +1,10 @@
+pub mod Registers
+pub mod States
+pub mod OperationFaults
+pub mod Carrying
+pub mod Regs
+pub mod Refusals
+pub mod PathNumbers
+pub mod Found
+pub mod Numbers
+pub mod Greatest
