@@ -7,7 +7,7 @@ use Rattle.ls_port.specs.declared.shelf_answer.ShelfAnswer.{ShelfAnswer}
 use Rattle.ls_port.specs.declared.shelf_answer.ShelfAnswer.TheVariants as shelf
 use Rattle.command_read.specs.Asking.{Block, LoadedFile, Asked, Edits, Sets, Runs, Shows, Settles, AsksStatus, Quits}
 use Rattle.live_session.specs.Files.{TextFile}
-use Rattle.live_session.specs.Forms.{unbuilt, verdict_if, verdict_now, world_or, after, world_after, any_refused}
+use Rattle.live_session.specs.Judging.{unbuilt, verdict_if, verdict_on, world_or, after, world_after, any_refused}
 use Rattle.live_session.specs.Loads.{LoadAnswer, Gave, Broke, AreAnswers, loaded_files, shelf_answer, shelf_answers}
 use Rattle.live_session.specs.Readings.{FilesRead, IsRightEdit, IsRightIf, IsRightAsked, IsRight, AreRight}
 use Rattle.live_session.specs.Logs.{LogMoment}
@@ -157,19 +157,19 @@ module _ (one : OneAnswer) (st : Settings) where
   -- two things told of one command
   same_verdict : (w : World) (t u : Told) (rest others : List ShelfAnswer) → IsRight st w t → IsRight st w u → t.asked ≡ u.asked
       → answers_to t.asked t.loads ++ rest ≡ answers_to u.asked u.loads ++ others
-      → IsJudged (verdict_now st t w) (verdict_now st u w) rest others
+      → IsJudged (verdict_on st t w) (verdict_on st u w) rest others
   same_verdict w t u rest others p q is same =
-      subst (λ (v : Told). IsJudged (verdict_now st t w) (verdict_now st v w) rest others) (ap (λ c. told c) is)
+      subst (λ (v : Told). IsJudged (verdict_on st t w) (verdict_on st v w) rest others) (ap (λ c. told c) is)
       (same_if w t.asked t.loads u.loads t.answer u.answer rest others (unbuilt w t.asked) p
       (subst (λ c. IsRight st w (told c)) (sym is) q) (same ∙ ap (λ c. answers_to c u.loads ++ others) (sym is)))
     where
       told : Result Asked TextFault → Told
       told c = record { asked = c; loads = u.loads; answer = u.answer }
 
-  same_reply : (w : World) (t u : Told) → verdict_now st t w ≡ verdict_now st u w → t.asked ≡ u.asked → (ms : List LogMoment)
+  same_reply : (w : World) (t u : Told) → verdict_on st t w ≡ verdict_on st u w → t.asked ≡ u.asked → (ms : List LogMoment)
       → reply st t w ms ≡ reply st u w ms
   same_reply w t u judged is ms =
-      ap (λ c. answer_text st c w (verdict_now st t w) ms) is ∙ ap (λ v. answer_text st u.asked w v ms) judged
+      ap (λ c. answer_text st c w (verdict_on st t w) ms) is ∙ ap (λ v. answer_text st u.asked w v ms) judged
 
 -- ---- one output
 
@@ -197,7 +197,7 @@ module _ (one : OneAnswer) (st : Settings) where
   one_output (t ∷ ts) [] w rest others p q same begun = absurd (omega (arith, ap length same))
   one_output (t ∷ ts) (u ∷ us) w rest others p q same begun =
       let first : t.asked ≡ u.asked = ap (first_or t.asked) same in
-      let judged : IsJudged one st (verdict_now st t w) (verdict_now st u w) (answers_of ts ++ rest) (answers_of us ++ others) =
+      let judged : IsJudged one st (verdict_on st t w) (verdict_on st u w) (answers_of ts ++ rest) (answers_of us ++ others) =
       same_verdict one st w t u (answers_of ts ++ rest) (answers_of us ++ others) p.0 q.0 first
       (sym (append_assoc (answers_to t.asked t.loads) (answers_of ts) rest) ∙ begun
       ∙ append_assoc (answers_to u.asked u.loads) (answers_of us) others) in
@@ -210,10 +210,10 @@ module _ (one : OneAnswer) (st : Settings) where
             ∙ same_then (reply st u w ms) (λ (left : List LogMoment). lines_of st ts (after st t w) left) (λ (left : List LogMoment). lines_of st us (after st u w) left)
             (λ (left : List LogMoment). behind.lines left ∙ ap (λ (v : World). lines_of st us v left) next);
         refused = ap (λ v. is_err v || any_refused st ts (after st t w)) judged.same
-            ∙ ap (λ r. is_err (verdict_now st u w) || r) (behind.refused ∙ ap (any_refused st us) next);
+            ∙ ap (λ r. is_err (verdict_on st u w) || r) (behind.refused ∙ ap (any_refused st us) next);
         world = behind.world ∙ ap (world_after st us) next;
         places =
-            ap (λ c. judged_worlds w c (verdict_now st t w) ++ worlds st ts (after st t w)) first
+            ap (λ c. judged_worlds w c (verdict_on st t w) ++ worlds st ts (after st t w)) first
             ∙ ap (λ v. judged_worlds w u.asked v ++ worlds st ts (after st t w)) judged.same
-            ∙ ap (λ ws. judged_worlds w u.asked (verdict_now st u w) ++ ws) (behind.places ∙ ap (worlds st us) next);
+            ∙ ap (λ ws. judged_worlds w u.asked (verdict_on st u w) ++ ws) (behind.places ∙ ap (worlds st us) next);
       }

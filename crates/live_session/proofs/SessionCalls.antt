@@ -19,7 +19,7 @@ use Rattle.live_session.specs.Begins.{Begins, IsBegun, IsRefused}
 use Rattle.live_session.specs.Beside.{Stands, StandsBeside, settings_by, settings_in, world_in}
 use Rattle.live_session.specs.Done.{told}
 use Rattle.live_session.specs.Files.{TextFile}
-use Rattle.live_session.specs.Forms.{first_line, unbuilt_command, verdict_now}
+use Rattle.live_session.specs.Judging.{first_line, unbuilt_command, verdict_on}
 use Rattle.live_session.specs.Kept.{IsKept}
 use Rattle.live_session.specs.Loaded.{Loses}
 use Rattle.live_session.specs.Loads.{AreToFirst, LosesAnswers}
@@ -70,11 +70,11 @@ counted_there running r cycles before behind is h = subst (λ (o : Option Runnin
 
 -- a command that no design runs for
 pub none_runs : {E : Type 0} (asked : Asked) (s : Session) (j : Log) (line : ℕ) (result : Result Reply E) → s.running ≡ None
-    → verdict_now (settings_in s j) (told (Ok asked) [] no_answer) fresh ≡ Err (refused_at 62 line [])
+    → verdict_on (settings_in s j) (told (Ok asked) [] no_answer) fresh ≡ Err (refused_at 62 line [])
     → IfOk result (Refuses (refused_at 62 line [])) → IfOk result (Answers asked s s j j)
 none_runs asked s j line result none is says =
     refuses_with asked s j (refused_at 62 line []) result
-    (ap (λ (o : Option Running). verdict_now (settings_in s j) (told (Ok asked) [] no_answer) (running_world s.names (entries_of s.registry) (marks_of j) o))
+    (ap (λ (o : Option Running). verdict_on (settings_in s j) (told (Ok asked) [] no_answer) (running_world s.names (entries_of s.registry) (marks_of j) o))
     none ∙ is) says
 
 -- a call that asks nothing of the book

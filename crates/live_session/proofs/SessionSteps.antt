@@ -27,7 +27,7 @@ use Rattle.cycle_eval.specs.declared.design.Design.{Design}
 use Rattle.live_session.specs.Beside.{StandsBeside, settings_by, settings_in, world_in}
 use Rattle.live_session.specs.Done.{IsDone, told}
 use Rattle.live_session.specs.Files.{TextFile}
-use Rattle.live_session.specs.Forms.{first_line, unbuilt_command, verdict_if, verdict_now}
+use Rattle.live_session.specs.Judging.{first_line, unbuilt_command, verdict_if, verdict_on}
 use Rattle.live_session.specs.Kept.{IsKept}
 use Rattle.live_session.specs.Loaded.{ComesTo, result_of}
 use Rattle.live_session.specs.Loads.{LoadAnswer, Gave, Broke, AddsAnswers, AreToFirst, HasFailed, LosesAnswers, loaded_files, name_in, shelf_answer, shelf_answers}
@@ -81,11 +81,11 @@ refuses_done st (Err fault) w v j refused r is says =
     })
 
 pub refuses_with : {E : Type 0} (asked : Asked) (s : Session) (j : Log) (refused : Refused) (result : Result Reply E)
-    → verdict_now (settings_in s j) (told (Ok asked) [] no_answer) (world_in s j) ≡ Err refused
+    → verdict_on (settings_in s j) (told (Ok asked) [] no_answer) (world_in s j) ≡ Err refused
     → IfOk result (Refuses refused) → IfOk result (Answers asked s s j j)
 refuses_with asked s j refused (Err e) is says = tt
 refuses_with asked s j refused (Ok reply) is says =
-    refuses_done (settings_in s j) (Ok asked) (world_in s j) (verdict_now (settings_in s j) (told (Ok asked) [] no_answer) (world_in s j)) j refused reply is
+    refuses_done (settings_in s j) (Ok asked) (world_in s j) (verdict_on (settings_in s j) (told (Ok asked) [] no_answer) (world_in s j)) j refused reply is
     says
 
 module _ (asked : Asked) (built : (w : World) → unbuilt_command w asked ≡ None) (old : Session) (was is : Log) (r x : Running)
@@ -102,7 +102,7 @@ module _ (asked : Asked) (built : (w : World) → unbuilt_command w asked ≡ No
   answers_for reply h =
       let st = settings_by old.limits was in
       let before = world_of old.names (entries_of old.registry) (marks_of was) r in
-      subst (λ (w : World). IsDone st (Ok asked) w world_is (verdict_now st (told (Ok asked) [] no_answer) w) was is reply.lines reply.refused)
+      subst (λ (w : World). IsDone st (Ok asked) w world_is (verdict_on st (told (Ok asked) [] no_answer) w) was is reply.lines reply.refused)
       (sym world_was)
       (subst (λ (o : Option ℕ). IsDone st (Ok asked) before world_is (verdict_if o (command_verdict st before asked [] no_answer)) was is reply.lines
       reply.refused)
@@ -234,7 +234,7 @@ module _ (block : Block) (s : Session) (j : Log) (answers : Option (List ShelfAn
   abbrev without : Told
   without = told (Ok (Edits block)) [] no_answer
 
-  refuses_block : {E : Type 0} (refused : Refused) (result : Result Reply E) → verdict_now (settings_in s j) without (world_in s j) ≡ Err refused
+  refuses_block : {E : Type 0} (refused : Refused) (result : Result Reply E) → verdict_on (settings_in s j) without (world_in s j) ≡ Err refused
       → IsRight (settings_in s j) (world_in s j) without → IfOk result (Refuses refused)
       → IfOk result (λ r. StepsTo (Ok (Edits block)) answers answers faults faults s s j j r.lines r.refused)
   refuses_block refused (Err e) is right says = tt
@@ -245,7 +245,7 @@ module _ (block : Block) (s : Session) (j : Log) (answers : Option (List ShelfAn
     cause = refl;
     limits = refl;
     right = right;
-    done = refuses_done (settings_in s j) (Ok (Edits block)) (world_in s j) (verdict_now (settings_in s j) without (world_in s j)) j refused reply is says;
+    done = refuses_done (settings_in s j) (Ok (Edits block)) (world_in s j) (verdict_on (settings_in s j) without (world_in s j)) j refused reply is says;
     beside = beside;
   }
 
@@ -332,7 +332,7 @@ module _ (names : List (List ℕ)) (e : Edit) (old new : Session) (was is : Log)
     pub block_steps : (text : List ℕ) (refused : Bool) → TakesBlock st asks (result_of names l) w (world_in new is) was is text refused
         → StepsTo (Ok (Edits asks)) before behind faults count old new was is text refused
     block_steps text refused t =
-        let is_verdict : verdict_now st (told (Ok (Edits asks)) h.answers t.answer) w ≡ loaded_verdict w asks t.answer (result_of names l) =
+        let is_verdict : verdict_on st (told (Ok (Edits asks)) h.answers t.answer) w ≡ loaded_verdict w asks t.answer (result_of names l) =
         ap (λ (o : Option ℕ). verdict_if o (command_verdict st w (Edits asks) h.answers t.answer)) all_built
         ∙ ap (λ (b : Bool). cond b (Err (refused_at 68 asks.line [])) (loaded_verdict w asks t.answer (loaded_files asks.loads h.answers))) has_room
         ∙ ap (loaded_verdict w asks t.answer) h.comes in

@@ -1,26 +1,22 @@
 -- What a block comes to, in the code: the first version at its beginning, or the next one.
-use Rattle.std.specs.Prelude.{◌≡◌, ℕ, ◌+◌, List, [], ◌∷◌, ◌++◌, map, take, false, Option, None, Some, Ok, Err}
+use Rattle.std.specs.Prelude.{◌≡◌, ℕ, ◌+◌, List, [], ◌∷◌, ◌++◌, map, take, false, Option, None, Some, Ok}
 use Rattle.book_history.specs.Book.{Opens, Reloads}
 use Rattle.checkpoint_book.specs.Views.{chosen_in}
 use Rattle.command_read.specs.Asking.{Block}
 use Rattle.cycle_eval.specs.declared.design.Design.{Design}
-use Rattle.ls_text.specs.Readings.{TextFault}
-use Rattle.ls_text.specs.declared.name_id.NameId.{NameId}
-use Rattle.ls_text.specs.declared.source_file.SourceFile.{SourceFile}
 use Rattle.module_registry.specs.Entries.{Entry}
 use Rattle.module_registry.specs.Keys.{KeyData}
 use Rattle.stimulus.specs.Records.{limit_of, rows_of}
-use Rattle.version_swap.specs.Plans.{Plans}
 use Rattle.version_swap.specs.declared.texts.Texts.{Texts}
 use Rattle.wave_report.specs.Replies.{edit_text}
 use Rattle.live_session.specs.Beside.{Stands, settings_by}
-use Rattle.live_session.specs.Files.{TextFile, text_file}
+use Rattle.live_session.specs.Files.{TextFile}
 use Rattle.live_session.specs.Kept.{IsKept}
 use Rattle.live_session.specs.Logs.{Log, Ops, book_in, marks_of}
 use Rattle.live_session.specs.Sessions.{world_of}
 use Rattle.live_session.specs.Taken.{TakesBlock}
-use Rattle.live_session.specs.Turns.{Accepts, Refuses}
-use Rattle.live_session.specs.Worlds.{fresh, refused_text}
+use Rattle.live_session.specs.Turns.{Accepts}
+use Rattle.live_session.specs.Worlds.{fresh}
 use Rattle.live_session.specs.declared.begun.Begun.{Begun}
 use Rattle.live_session.specs.declared.begun.Begun.TheVariants as begun
 use Rattle.live_session.specs.declared.limits.Limits.{Limits}
@@ -48,8 +44,8 @@ abbrev pub StartsIn : Limits → Texts → Design → List KeyData → (built ke
 StartsIn limits texts design keys built kept was is (begun.Accepted running line) = Starts limits texts design keys built kept was is running line.items
 StartsIn limits texts design keys built kept was is (begun.Refused reply) = ⊥
 
--- the next version of these texts, which runs from that cycle on over the same record
-pub record GoesOn (texts : Texts) (design : Design) (keys : List KeyData) (from : ℕ) (old new : Running) (was is : Log) : Type 0 where
+-- the next version of these texts, which runs from that cycle on over the same record, with what these operations do to registers
+pub record GoesOn (ops : Ops) (texts : Texts) (design : Design) (keys : List KeyData) (from : ℕ) (old new : Running) (was is : Log) : Type 0 where
   pub has_texts : new.texts ≡ texts
   pub has_design : new.version.value.machine.value ≡ design
   pub has_keys : new.keys ≡ keys
@@ -58,29 +54,22 @@ pub record GoesOn (texts : Texts) (design : Design) (keys : List KeyData) (from 
   pub rows : rows_of new.record_ ≡ rows_of old.record_
   pub stimulus : limit_of new.record_ ≡ limit_of old.record_
   pub charge : new.charge ≡ old.charge + 1
-  pub ops : Ops
   pub settings : is.settings ≡ was.settings
   pub reloads : is.events ≡ was.events ++ Reloads (old.version.value.number + 1) design ops from ∷ []
   pub marks : marks_of is ≡ marks_of was
   pub chosen : from ≡ chosen_in was.settings (book_in was)
 
 -- and its line says so
-pub record SaysSo (texts : Texts) (design : Design) (keys : List KeyData) (built kept : ℕ) (old new : Running) (was is : Log) (reply : Reply) : Type 0 where
+pub record SaysSo (ops : Ops) (texts : Texts) (design : Design) (keys : List KeyData) (built kept : ℕ) (old new : Running) (was is : Log) (reply : Reply) : Type 0 where
   pub from : ℕ
-  pub goes : GoesOn texts design keys from old new was is
+  pub goes : GoesOn ops texts design keys from old new was is
   pub accepts : Accepts (edit_text (old.version.value.number + 1) built kept from) reply
 
 -- memory ran out: the units behind the first so many are gone, and all else is as before; or the line alone is lost
-pub data LosesLine (texts : Texts) (design : Design) (keys : List KeyData) (held : ℕ) (before after : List Entry) (old new : Running) (was is : Log) : Type 0 where
+pub data LosesLine (ops : Ops) (texts : Texts) (design : Design) (keys : List KeyData) (held : ℕ) (before after : List Entry) (old new : Running) (was is : Log) : Type 0 where
   nothing_new : after ≡ take held before → new ≡ old → is.settings ≡ was.settings → is.events ≡ was.events
-      → LosesLine texts design keys held before after old new was is
-  line_lost : (from : ℕ) → after ≡ before → GoesOn texts design keys from old new was is → LosesLine texts design keys held before after old new was is
-
--- files with this top and this clock, by a table of names, are refused with their first fault, in the block whose `edit` has that line
-pub record IsRefusedIn (names : List (List ℕ)) (files : List SourceFile) (top : Option NameId) (clock : NameId) (line : ℕ) (reply : Reply) : Type 0 where
-  pub fault : TextFault
-  pub plans : Plans names files top clock (Err fault)
-  pub refuses : Refuses (refused_text (map (text_file names) files) line fault) reply
+      → LosesLine ops texts design keys held before after old new was is
+  line_lost : (from : ℕ) → after ≡ before → GoesOn ops texts design keys from old new was is → LosesLine ops texts design keys held before after old new was is
 
 -- a first block was taken so: by the verdict on it, with what is kept of a design that runs, or else no unit
 pub record IsBegun (names : List (List ℕ)) (limits : Limits) (block : Block) (loaded : List TextFile) (entries : List Entry) (was is : Log)

@@ -3,7 +3,7 @@ use Rattle.std.specs.Prelude.{◌≡◌, ℕ, Bool, List, ◌++◌, Some, Result
 use Rattle.ls_text.specs.Readings.{TextFault}
 use Rattle.book_history.specs.Owned.{owned}
 use Rattle.command_read.specs.Asking.{Asked}
-use Rattle.live_session.specs.Forms.{world_or}
+use Rattle.live_session.specs.Judging.{world_or}
 use Rattle.live_session.specs.Loads.{LoadAnswer}
 use Rattle.live_session.specs.Logs.{Log, LogEvent, LogMoment, moments_after}
 use Rattle.live_session.specs.Replies.{answer_text}

@@ -6,7 +6,7 @@ pub mod Worlds
 pub mod Loads
 pub mod Operations
 pub mod Verdicts
-pub mod Forms
+pub mod Judging
 pub mod Readings
 pub mod Logs
 pub mod Tables

@@ -7,10 +7,10 @@ use Rattle.book_history.specs.Moments.{Moment, moments_from}
 use Rattle.book_history.specs.Outline.{Outline, blank, outline_in}
 use Rattle.book_history.specs.Rooms.{count_all, no_entry}
 use Rattle.cycle_eval.specs.Designs.{design_flat}
-use Rattle.cycle_eval.specs.Kits.{carried_of, reset_of, run_of}
+use Rattle.cycle_eval.specs.Kits.{IsValid, carried_of, reset_of, run_of}
 use Rattle.reg_transform.specs.States.{are_alike}
 use Rattle.cycle_eval.specs.declared.design.Design.{Design}
-use Rattle.cycle_eval.specs.declared.no_ops.NoOps.{NoOps}
+use Rattle.reg_ops.specs.declared.reg_op.RegOp.{RegOp}
 
 -- a state has a width and a value for each register; a row has the values of the names that are set
 abbrev pub State : Type 0
@@ -19,8 +19,9 @@ State = List (ℕ × ℕ)
 abbrev pub InputRow : Type 0
 InputRow = List (ℕ × ℕ)
 
+-- what an edit does to registers
 abbrev pub Ops : Type 0
-Ops = NoOps
+Ops = List RegOp
 
 abbrev pub Log : Type 0
 Log = Journal Design InputRow Ops
@@ -37,13 +38,13 @@ abbrev pub kit : Kit Design State InputRow Ops
 kit = record {
   start = λ m. reset_of (design_flat m);
   seg = λ m rows s. run_of (design_flat m) rows s;
-  carried = λ old m ops s. carried_of (design_flat old) (design_flat m) s;
+  carried = λ old m ops s. carried_of ops (design_flat old) (design_flat m) s;
   alike = λ m x y. are_alike x y;
 }
 
--- all operations lead from a design to another, as long as there are none
+-- no operation breaks a condition
 abbrev pub valid : Design → Design → Ops → Type 0
-valid old m ops = Unit {0}
+valid old m ops = IsValid ops (design_flat old) (design_flat m)
 
 abbrev pub book_in : Log → Option (Book Design State InputRow)
 book_in j = replay kit j.settings j.events

@@ -8,7 +8,7 @@ use Rattle.ls_text.specs.Texts.{text_at, HasEachOnce}
 use Rattle.command_read.specs.Asking.{Block, Asked, Edits, Sets, Runs, Shows, Settles, AsksStatus, Quits}
 use Rattle.version_swap.specs.Plans.{DesignOfTexts, Plans}
 use Rattle.live_session.specs.Files.{TextFile, text_file}
-use Rattle.live_session.specs.Forms.{unbuilt, after}
+use Rattle.live_session.specs.Judging.{after}
 use Rattle.live_session.specs.Loads.{LoadAnswer, AreAnswers, loaded_files}
 use Rattle.live_session.specs.Settings.{Settings}
 use Rattle.live_session.specs.Spelled.{Answer, spelled_answer}
@@ -68,14 +68,9 @@ abbrev pub IsRightAsked : Settings → World → Result Asked TextFault → List
 IsRightAsked st w (Ok asked) loads answer = IsRightCommand st w asked loads answer
 IsRightAsked st w (Err fault) loads answer = loads ≡ []
 
--- nor where the form isn't built
-abbrev pub IsRightIf : Option ℕ → List LoadAnswer → Type 0 → Type 0
-IsRightIf None loads rest = rest
-IsRightIf (Some line) loads rest = loads ≡ []
-
 -- what is told of a command is right: the shelf answered the loads that are reached and no other, and the files come to that
 abbrev pub IsRight : Settings → World → Told → Type 0
-IsRight st w t = IsRightIf (unbuilt w t.asked) t.loads (IsRightAsked st w t.asked t.loads t.answer)
+IsRight st w t = IsRightAsked st w t.asked t.loads t.answer
 
 -- and so of commands one after another
 abbrev pub AreRight : Settings → World → List Told → Type 0

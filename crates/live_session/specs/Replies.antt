@@ -7,7 +7,7 @@ use Rattle.ls_port.specs.declared.shelf_answer.ShelfAnswer.{ShelfAnswer}
 use Rattle.wave_report.specs.Replies.{edit_text, run_text}
 use Rattle.book_history.specs.Moments.{Moment}
 use Rattle.command_read.specs.Asking.{Asked, Edits, Sets, Runs, Shows, Settles, AsksStatus, Quits}
-use Rattle.live_session.specs.Forms.{verdict_now, after}
+use Rattle.live_session.specs.Judging.{verdict_on, after}
 use Rattle.live_session.specs.Loads.{LoadAnswer, shelf_answers}
 use Rattle.live_session.specs.Logs.{State}
 use Rattle.live_session.specs.Settings.{Settings}
@@ -77,7 +77,7 @@ module _ {D R O : Type 0} where
 
   -- the lines that answer a command, and the entries that are left
   abbrev pub reply : Settings → Told → World → List (Moment D State R O) → Option (List ℕ × List (Moment D State R O))
-  reply st t w ms = answer_text st t.asked w (verdict_now st t w) ms
+  reply st t w ms = answer_text st t.asked w (verdict_on st t w) ms
 
   abbrev pub text_then : Option (List ℕ × List (Moment D State R O)) → (List (Moment D State R O) → List ℕ) → List ℕ
   text_then None more = []

@@ -5,11 +5,12 @@ use Rattle.ls_text.specs.Texts.{HasEachOnce}
 use Rattle.book_history.specs.Book.{Opens, Runs as RunsEvent, Reloads, Shows as ShowsEvent}
 use Rattle.book_history.specs.Outline.{Outline, outline_in}
 use Rattle.book_settle.specs.Passes.{IsSettle}
-use Rattle.command_read.specs.Asking.{Asked, Block, Edits, Sets, Runs, Shows, Settles, AsksStatus, Quits}
+use Rattle.command_read.specs.Asking.{Asked, Block, LineOperation, Edits, Sets, Runs, Shows, Settles, AsksStatus, Quits}
 use Rattle.cycle_eval.specs.declared.design.Design.{Design}
+use Rattle.reg_ops.specs.Operations.{operation}
 use Rattle.module_registry.specs.Keys.{KeyData}
 use Rattle.version_swap.specs.Behind.{design_of}
-use Rattle.live_session.specs.Forms.{verdict_now, after, world_or}
+use Rattle.live_session.specs.Judging.{verdict_on, after, world_or}
 use Rattle.live_session.specs.Logs.{InputRow, LogEvent, LogMoment, Ops}
 use Rattle.live_session.specs.Rows.{Row, row_of}
 use Rattle.live_session.specs.Settings.{Settings}
@@ -26,15 +27,19 @@ pub record IsDesign (names : List (List ℕ)) (design : Option Spelled) (machine
 abbrev pub AreRows : (names : List (List ℕ)) → List Row → List InputRow → Type 0
 AreRows names record_ rows = map (row_of names) rows ≡ record_
 
--- the operations of a block: those that aren't built are refused
-abbrev pub IsEdit : (names : List (List ℕ)) → Settings → (old new : World) → List LogEvent → Type 0
-IsEdit names st old new es =
+-- the operations of a block, without their table of names and their lines
+abbrev pub AreOperations : (names : List (List ℕ)) → List LineOperation → Ops → Type 0
+AreOperations names lines ops = map (operation names) ops ≡ map (λ (o : LineOperation). o.op) lines
+
+-- the first edit opens the book, and a later one has its operations
+abbrev pub IsEdit : (names : List (List ℕ)) → Settings → (old new : World) → Block → List LogEvent → Type 0
+IsEdit names st old new block es =
     (machine : Design) × IsDesign names new.design machine
-    × (ops : Ops) × (es ≡ (if old.version == 0 then Opens 1 machine else Reloads (old.version + 1) machine ops (chosen st old)) ∷ [])
+    × (ops : Ops) × AreOperations names block.ops ops × (es ≡ (if old.version == 0 then Opens 1 machine else Reloads (old.version + 1) machine ops (chosen st old)) ∷ [])
 
 -- the session's own entries of an accepted command that leads from the one world to the other
 abbrev pub IsAccepted : (names : List (List ℕ)) → Settings → (old new : World) → List LogEvent → Asked → Type 0
-IsAccepted names st old new es (Edits block) = IsEdit names st old new es
+IsAccepted names st old new es (Edits block) = IsEdit names st old new block es
 IsAccepted names st old new es (Sets line values) = es ≡ []
 IsAccepted names st old new es (Runs line n) = (rows : List InputRow) × AreRows names (replicate n old.row) rows × (es ≡ RunsEvent n rows ∷ [])
 IsAccepted names st old new es (Shows line prefix) = (answer : Option ℕ) × (es ≡ ShowsEvent answer ∷ [])
@@ -59,7 +64,7 @@ abbrev pub IsScript : Settings → List Told → World → List LogEvent → Typ
 IsScript st [] w es = es ≡ []
 IsScript st (t ∷ ts) w es =
     (own : List LogEvent) × (rest : List LogEvent) × (es ≡ own ++ rest)
-    × IsPart st t.asked w own (verdict_now st t w) × IsScript st ts (after st t w) rest
+    × IsPart st t.asked w own (verdict_on st t w) × IsScript st ts (after st t w) rest
 
 -- ---- the book at the place of a command's own entry
 
@@ -98,7 +103,7 @@ judged_worlds w asked (Err refused) = []
 -- those of some commands
 abbrev pub worlds : Settings → List Told → World → List World
 worlds st [] w = []
-worlds st (t ∷ ts) w = judged_worlds w t.asked (verdict_now st t w) ++ worlds st ts (after st t w)
+worlds st (t ∷ ts) w = judged_worlds w t.asked (verdict_on st t w) ++ worlds st ts (after st t w)
 
 -- one by one, the book at an entry is as the world
 abbrev pub AllAgree : List World → List LogMoment → Type 0

@@ -8,7 +8,7 @@ use Rattle.book_settle.specs.Passes.{IsUnfinished}
 use Rattle.command_read.specs.Asking.{Asked}
 use Rattle.live_session.specs.Beside.{StandsBeside, settings_in, world_in}
 use Rattle.live_session.specs.Done.{IsDone, told}
-use Rattle.live_session.specs.Forms.{verdict_now}
+use Rattle.live_session.specs.Judging.{verdict_on}
 use Rattle.live_session.specs.Loads.{LoadAnswer, AddsAnswers, is_broken, HasFailed}
 use Rattle.live_session.specs.Logs.{Log, LogEvent}
 use Rattle.live_session.specs.Readings.{IsRight}
@@ -27,7 +27,7 @@ pub record StepsTo (asked : Result Asked TextFault) (before behind : Option (Lis
   pub limits : limits_of new ≡ limits_of old
   pub right : IsRight (settings_in old was) (world_in old was) (told asked loads answer)
   pub done : IsDone (settings_in old was) asked (world_in old was) (world_in new is)
-      (verdict_now (settings_in old was) (told asked loads answer) (world_in old was)) was is text refused
+      (verdict_on (settings_in old was) (told asked loads answer) (world_in old was)) was is text refused
   pub beside : StandsBeside new is
 
 -- Memory ran out, and the command has no reply. The world is as it was but perhaps for its charge, and no entry stands but the passes of a settle

@@ -6,7 +6,7 @@ use Rattle.command_read.specs.Asking.{Asked}
 use Rattle.module_registry.specs.Entries.{Entry}
 use Rattle.live_session.specs.Beside.{settings_by, settings_in, world_in}
 use Rattle.live_session.specs.Done.{IsDone, told}
-use Rattle.live_session.specs.Forms.{verdict_now}
+use Rattle.live_session.specs.Judging.{verdict_on}
 use Rattle.live_session.specs.Logs.{Log, LogEvent, marks_of}
 use Rattle.live_session.specs.Replies.{refusal_text}
 use Rattle.live_session.specs.Sessions.{world_of}
@@ -52,7 +52,7 @@ pub data StopsIn (names : List (List ℕ)) (limits : Limits) (asked : Asked) (ol
 -- the same by the worlds before and behind it
 abbrev pub AnswersFrom : Settings → Asked → (old new : World) → (was is : Log) → Reply → Type 0
 AnswersFrom st asked old new was is reply =
-    IsDone st (Ok asked) old new (verdict_now st (told (Ok asked) [] no_answer) old) was is reply.lines reply.refused
+    IsDone st (Ok asked) old new (verdict_on st (told (Ok asked) [] no_answer) old) was is reply.lines reply.refused
 
 pub data StopsFrom (st : Settings) (asked : Asked) (old new : World) (was is : Log) : Type 0 where
   undone_at : (own : List LogEvent) (charge : ℕ) → is.settings ≡ was.settings → is.events ≡ was.events ++ own → IsUnfinished own

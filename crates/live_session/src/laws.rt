@@ -4,7 +4,7 @@ ghost use Rattle.ls_port.specs.declared.shelf_answer.ShelfAnswer.{ShelfAnswer};
 ghost use Rattle.command_read.specs.Asking.{Shows};
 ghost use Rattle.wave_report.specs.Replies.{show_text};
 ghost use Rattle.live_session.specs.Files.{TextFile};
-ghost use Rattle.live_session.specs.Forms.{any_refused, world_after};
+ghost use Rattle.live_session.specs.Judging.{any_refused, world_after};
 ghost use Rattle.live_session.specs.Readings.{FilesRead, AreRight};
 ghost use Rattle.live_session.specs.Logs.{LogMoment};
 ghost use Rattle.live_session.specs.Replies.{answers_of, asked_of, lines, reply};

@@ -6,17 +6,17 @@ ghost use Rattle.module_registry.specs.Views.{entries_of};
 ghost use Rattle.unit_laws.specs.Held.{AreHeldUnder};
 ghost use Rattle.command_read.specs.Spoken.{IsEditWithin, edited};
 ghost use Rattle.live_session.specs.Beside.{Stands, settings_by};
-ghost use Rattle.live_session.specs.Begins.{Begins, GoesOn, IsRefusedIn, LosesLine, SaysSo, StartsIn};
+ghost use Rattle.live_session.specs.Begins.{Begins, GoesOn, LosesLine, SaysSo, StartsIn};
 ghost use Rattle.live_session.specs.Files.{text_file};
 ghost use Rattle.live_session.specs.Kept.{IsKept};
 ghost use Rattle.live_session.specs.Logs.{marks_of};
 ghost use Rattle.live_session.specs.Sessions.{world_of};
 ghost use Rattle.live_session.specs.Taken.{LosesBlock, TakesBlock};
-ghost use Rattle.live_session.specs.Turns.{Accepts};
-ghost use Rattle.std.specs.Option.{option_or, unwrap_or};
+ghost use Rattle.live_session.specs.Turns.{Accepts, Refuses};
 ghost use Rattle.version_swap.specs.Files as f;
-ghost use Rattle.version_swap.specs.Plans.{Plans};
+ghost use Rattle.version_swap.specs.Operations.{AreValidBetween, ops_of};
 ghost use Rattle.wave_report.specs.Replies.{edit_text};
+ghost use Rattle.live_session.specs.Worlds.{refused_text};
 ghost use Rattle.ls_text.specs.Readings.{fault_view};
 
 use crate::begun::Begun;
@@ -27,18 +27,19 @@ use crate::running::Running;
 use crate::setting::has_each_once;
 use book_history::version::Version;
 use checkpoint_book::book::Book;
-use command_read::Edit;
-use cycle_eval::{Design, NoOps};
+use command_read::{Edit, OpLine};
+use cycle_eval::Design;
 use ls_text::{Fault, NameId, Names, NoMemory, Refusal, SourceFile};
 use machine::steps::Steps;
 use module_registry::Registry;
+use reg_ops::RegOps;
 use std::alloc::Global;
 use std::sync::Arc;
 use std::sync::ledger::Ledger;
 use std::thread::Threads;
 use stimulus::{Record, Row};
 use unit_forge::RayonForge;
-use version_swap::{FileList, KeyList, Planned, Texts, files_behind, plan};
+use version_swap::{FileList, KeyList, Planned, Texts, files_behind, operations_of, plan};
 use wave_report::{ReplyKind, reply_line};
 
 // The texts before the first edit.
@@ -130,7 +131,7 @@ fn begun_or_cut(
     }
 }
 
-// The reply that refuses a block for a fault in its files.
+// The reply that refuses a block for its fault.
 fn refused(
     alloc: Global,
     names: &Names,
@@ -142,10 +143,8 @@ fn refused(
     requires loads { length loaded.now ≡ length edit.now.loads }
     requires files { All (λ f. f.name.0 < length names.now) (f.files_behind texts.now.files edit.now.files edit.now.loads loaded.now) }
     requires names { All (λ id. id.0 < length names.now) fault.now.names }
-    requires plans { Plans names.now (f.files_behind texts.now.files edit.now.files edit.now.loads loaded.now) (option_or edit.now.top texts.now.top)
-        (unwrap_or edit.now.clock texts.now.clock) (Err (fault_view names.now fault.now)) }
-    ensures { IfOk result (IsRefusedIn names.now (f.files_behind texts.now.files edit.now.files edit.now.loads loaded.now)
-        (option_or edit.now.top texts.now.top) (unwrap_or edit.now.clock texts.now.clock) edit.now.line) }
+    ensures { IfOk result (Refuses (refused_text
+        (map (text_file names.now) (f.files_behind texts.now.files edit.now.files edit.now.loads loaded.now)) edit.now.line (fault_view names.now fault.now))) }
 {
     let files = files_behind(alloc, texts.files.as_slice(), edit, loaded)?;
     refused_text(alloc, names, &files, edit.line, fault)
@@ -175,7 +174,6 @@ pub fn begin<R: Threads + Sync>(
     requires named { All (λ f. f.name.0 < length names.old) loaded.now }
     requires room { 1 ≤ limits.rooms.session }
     requires stands { Stands limits None book.old }
-    requires ops { edit.now.ops ≡ [] }
     ensures begins { IfOk result (Begins names.new limits (edited names.old edit.now) (map (text_file names.old) loaded.now) (entries_of registry.new)
         book.old book.new) }
     ensures settings { OnErr result (book.new.settings ≡ book.old.settings) }
@@ -186,7 +184,9 @@ pub fn begin<R: Threads + Sync>(
 {
     has_each_once(names);
     let texts = no_texts(alloc, clock);
-    let planned = plan(rt, alloc, names, registry, forge, &texts, edit, loaded);
+    let planned = plan(
+        rt, alloc, names, registry, forge, &texts, None, edit, loaded,
+    );
     has_each_once(names);
     match planned {
         Ok(planned) => begun_or_cut(alloc, registry, limits, book, planned),
@@ -216,11 +216,13 @@ fn reloaded<L: Ledger>(
     texts: Texts,
     design: Design,
     keys: KeyList,
+    lines: &[OpLine],
     steps: &mut Steps<L>,
 ) -> Result<u64, NoMemory>
     requires stands { Stands limits (Some running.old) book.old }
     requires room { running.old.charge < limits.rooms.session }
-    ensures goes_on { IfOk result (λ from. GoesOn texts design keys from running.old running.new book.old book.new) }
+    requires valid { AreValidBetween (Some running.old.version.value.machine.value) design lines.now }
+    ensures goes_on { IfOk result (λ from. GoesOn (ops_of lines.now) texts design keys from running.old running.new book.old book.new) }
     ensures stands { Stands limits (Some running.new) book.new }
     ensures settings { book.new.settings ≡ book.old.settings }
     ensures before { OnErr result (book.new.events ≡ book.old.events) }
@@ -229,7 +231,8 @@ fn reloaded<L: Ledger>(
     book.legal();
     let number = number_behind(running.version.number, running.charge);
     let version = numbered(alloc, number, design)?;
-    let from = book.reload(Arc::try_clone(&version)?, NoOps, steps)?;
+    let ops = RegOps::new(operations_of(alloc, lines)?);
+    let from = book.reload(Arc::try_clone(&version)?, ops, steps)?;
     book.legal();
     running.texts = texts;
     running.version = version;
@@ -270,12 +273,14 @@ fn accepted<L: Ledger>(
     book: &mut Book<Design>,
     running: &mut Running,
     planned: Planned,
+    lines: &[OpLine],
     steps: &mut Steps<L>,
 ) -> Result<Reply, NoMemory>
     requires stands { Stands limits (Some running.old) book.old }
     requires room { running.old.charge < limits.rooms.session }
-    ensures says { IfOk result (SaysSo planned.texts planned.design planned.keys planned.built planned.kept running.old running.new book.old book.new) }
-    ensures loses { OnErr result (LosesLine planned.texts planned.design planned.keys held (entries_of registry.old) (entries_of registry.new)
+    requires valid { AreValidBetween (Some running.old.version.value.machine.value) planned.design lines.now }
+    ensures says { IfOk result (SaysSo (ops_of lines.now) planned.texts planned.design planned.keys planned.built planned.kept running.old running.new book.old book.new) }
+    ensures loses { OnErr result (LosesLine (ops_of lines.now) planned.texts planned.design planned.keys held (entries_of registry.old) (entries_of registry.new)
         running.old running.new book.old book.new) }
     ensures kept { IfOk result (λ _. entries_of registry.new ≡ entries_of registry.old) }
     ensures stands { Stands limits (Some running.new) book.new }
@@ -289,6 +294,7 @@ fn accepted<L: Ledger>(
         planned.texts,
         planned.design,
         planned.keys,
+        lines,
         steps,
     ) {
         Ok(from) => accepting(alloc, running, built, kept, from),
@@ -319,7 +325,6 @@ pub fn renew<R: Threads + Sync, L: Ledger>(
     requires held { AreHeldUnder names.old (entries_of registry.old) }
     requires room { running.old.charge < limits.rooms.session }
     requires edit { IsEditWithin (length names.old) edit.now }
-    requires ops { edit.now.ops ≡ [] }
     requires given { All (λ g. length g.file.text ≤ 4194304) edit.now.files }
     requires loads { length loaded.now ≡ length edit.now.loads }
     requires loaded { All (λ f. length f.text ≤ 4194304) loaded.now }
@@ -338,6 +343,7 @@ pub fn renew<R: Threads + Sync, L: Ledger>(
 {
     has_each_once(names);
     let held = registry.len();
+    let old: &Design = &running.version.machine;
     let planned = plan(
         rt,
         alloc,
@@ -345,6 +351,7 @@ pub fn renew<R: Threads + Sync, L: Ledger>(
         registry,
         forge,
         &running.texts,
+        Some(old),
         edit,
         loaded,
     );

@@ -3,14 +3,11 @@ ghost use Rattle.std.specs.Prelude.{◌≡◌, ◌<◌, ◌∷◌, [], ℕ, List
 ghost use Rattle.std.specs.List.{All};
 ghost use Rattle.ls_text.specs.Readings.{fault_view};
 ghost use Rattle.ls_text.specs.Texts.{text_at};
-ghost use Rattle.command_read.specs.Spoken.{line_operation};
 ghost use Rattle.live_session.specs.Files.{text_file};
-ghost use Rattle.live_session.specs.Forms.{first_line};
 ghost use Rattle.live_session.specs.Turns.{Refuses};
 ghost use Rattle.live_session.specs.Worlds.{refused_at, refused_text};
 
 use crate::reply::Reply;
-use command_read::OpLine;
 use ls_text::{At, Fault, NameId, NameList, Names, NoMemory, SourceFile, TextBytes, fault_line};
 use std::alloc::Global;
 
@@ -70,14 +67,4 @@ pub fn refused_line(alloc: Global, names: &Names, code: u8, line: u64) -> Result
         names: NameList::new(Vec::new(alloc)),
     };
     refused_text(alloc, names, &[], line, &fault)
-}
-
-/// The line of the first operation of a block.
-pub fn first_operation(ops: &[OpLine]) -> Option<u64>
-    ensures { (names : List (List ℕ)) → result ≡ first_line (map (line_operation names) ops.now) }
-{
-    match ops.split_first() {
-        Some((first, _)) => Some(first.line),
-        None => None,
-    }
 }

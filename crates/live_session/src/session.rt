@@ -10,7 +10,7 @@ use crate::limits::Limits;
 use crate::loading::loaded;
 use crate::loads::Loads;
 use crate::planning::{begin, renew};
-use crate::refusing::{first_operation, refused_line, refused_text};
+use crate::refusing::{refused_line, refused_text};
 use crate::reply::Reply;
 use crate::running::Running;
 use crate::setting::has_each_once;
@@ -180,7 +180,6 @@ impl Session {
         requires beside { StandsBeside self.old book.old }
         requires room { (world_in self.old book.old).charge < (limits_of self.old).rooms.session }
         requires edit { IsEditWithin (length (names_of self.old)) edit.now }
-        requires ops { edit.now.ops ≡ [] }
         requires given { All (λ g. length g.file.text ≤ 4194304) edit.now.files }
         requires loads { length loaded.now ≡ length edit.now.loads }
         requires loaded { All (λ f. length f.text ≤ 4194304) loaded.now }
@@ -229,7 +228,6 @@ impl Session {
         requires beside { StandsBeside self.old book.old }
         requires room { (world_in self.old book.old).charge < (limits_of self.old).rooms.session }
         requires edit { IsEditWithin (length (names_of self.old)) edit.now }
-        requires ops { edit.now.ops ≡ [] }
         requires given { All (λ g. length g.file.text ≤ 4194304) edit.now.files }
         requires loads { length loaded.now ≡ length edit.now.loads }
         requires loaded { All (λ f. length f.text ≤ 4194304) loaded.now }
@@ -274,7 +272,6 @@ impl Session {
         requires beside { StandsBeside self.old book.old }
         requires room { (world_in self.old book.old).charge < (limits_of self.old).rooms.session }
         requires edit { IsEditWithin (length (names_of self.old)) edit.now }
-        requires ops { edit.now.ops ≡ [] }
         requires given { All (λ g. length g.file.text ≤ 4194304) edit.now.files }
         requires loads { length loaded.now ≡ length edit.now.loads }
         requires loaded { All (λ f. length f.text ≤ 4194304) loaded.now }
@@ -307,7 +304,6 @@ impl Session {
         requires beside { StandsBeside self.old book.old }
         requires room { (world_in self.old book.old).charge < (limits_of self.old).rooms.session }
         requires edit { IsEditWithin (length (names_of self.old)) edit.now }
-        requires ops { edit.now.ops ≡ [] }
         requires given { All (λ g. length g.file.text ≤ 4194304) edit.now.files }
         requires usable { AreUsable (length (names_of self.old)) edit.now.loads loads.now }
         ensures takes { IfOk result (λ r. TakesBlock (settings_in self.old book.old) (edited (names_of self.old) edit.now)
@@ -325,7 +321,7 @@ impl Session {
         }
     }
 
-    // Takes a block: 90 for an operation, 68 where the session's room is full, then the faults of its loads and of its files.
+    // Takes a block: 68 where the session's room is full, then the faults of its loads, of its files and of its operations.
     fn edit<R: Threads + Sync, L: Ledger, F: Shelf>(
         &mut self,
         rt: &R,
@@ -349,9 +345,6 @@ impl Session {
         ensures limits { limits_of self.new ≡ limits_of self.old }
         ensures grows { Grows (names_of self.old) (names_of self.new) }
     {
-        if let Some(line) = first_operation(edit.ops.as_slice()) {
-            return refused_line(alloc, &self.names, 90, line);
-        }
         if self.charge() >= self.limits.rooms.session {
             return refused_line(alloc, &self.names, 68, edit.line);
         }

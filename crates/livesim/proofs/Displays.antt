@@ -3,7 +3,7 @@ use Rattle.std.proofs.Common.{◌≡◌, ℕ, ◌+◌, ◌<◌, ltb, Bool, false
 use Rattle.std.proofs.lemmas.Bool.Decides.{nat_tests}
 use Rattle.ls_text.specs.Readings.{TextFault}
 use Rattle.command_read.specs.Asking.{Asked, Edits, Sets, Runs, Shows, Settles, AsksStatus, Quits}
-use Rattle.live_session.specs.Forms.{after, world_after, unbuilt, verdict_if}
+use Rattle.live_session.specs.Judging.{after, world_after, unbuilt, verdict_if}
 use Rattle.live_session.specs.Logs.{LogMoment}
 use Rattle.live_session.specs.Replies.{answer_text, command_text, lines, reply, text_then}
 use Rattle.live_session.specs.Settings.{Settings}

@@ -13,7 +13,7 @@ use Rattle.command_read.specs.Scripts.{commands, up_to_quit}
 use Rattle.command_read.specs.Sound.{is_too_much}
 use Rattle.command_read.specs.declared.reader.Reader.{Reader}
 use Rattle.command_read.proofs.Cutting.{told_on}
-use Rattle.live_session.specs.Forms.{any_refused}
+use Rattle.live_session.specs.Judging.{any_refused}
 use Rattle.live_session.specs.Loads.{AddsAnswers, AreToFirst}
 use Rattle.live_session.specs.Readings.{AreRight}
 use Rattle.live_session.specs.Logs.{Log, moments_of}

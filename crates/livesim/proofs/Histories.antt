@@ -8,7 +8,7 @@ use Rattle.book_history.proofs.Places.{moments-append}
 use Rattle.book_settle.specs.Passes.{IsUnfinished}
 use Rattle.book_settle.proofs.Counting.{owned-append, unfinished_moments, unfinished_owned}
 use Rattle.live_session.specs.Done.{IsDone}
-use Rattle.live_session.specs.Forms.{after, verdict_now, world_after}
+use Rattle.live_session.specs.Judging.{after, verdict_on, world_after}
 use Rattle.live_session.specs.Logs.{Log, LogEvent, LogMoment, book_in, kit, moments_after, moments_of, valid}
 use Rattle.live_session.specs.Replies.{lines, text_then}
 use Rattle.live_session.specs.Scripts.{AllAgree, IsScript, judged_worlds, worlds}
@@ -57,7 +57,7 @@ moments_closed j = moments_behind j (closed j) (Closes ∷ []) refl refl ∙ app
 
 -- one more
 module _ (st : Settings) (j k : Log) (told : List Told) (t : Told) (text more : List ℕ) (new : World) (refused : Bool) (d : IsRecorded st j told text)
-    (p : IsDone st t.asked (world_after st told fresh) new (verdict_now st t (world_after st told fresh)) j k more refused) where
+    (p : IsDone st t.asked (world_after st told fresh) new (verdict_on st t (world_after st told fresh)) j k more refused) where
   abbrev here : World
   here = world_after st told fresh
 
@@ -81,8 +81,8 @@ module _ (st : Settings) (j k : Log) (told : List Told) (t : Told) (text more : 
     script = subst (λ (es : List LogEvent). IsScript st (told ++ t ∷ []) fresh es) (sym (ap (λ (es : List LogEvent). owned es) p.events ∙ owned-append j.events p.added))
         (script-append st told (owned j.events) (owned p.added) t fresh d.script p.part);
     agree = subst (λ (ws : List World). AllAgree ws (moments_of k)) (sym (worlds-append st told t fresh))
-        (subst (λ (ms : List LogMoment). AllAgree (worlds st told fresh ++ judged_worlds here t.asked (verdict_now st t here)) ms) (sym moments_more)
-        (agree-append (worlds st told fresh) (judged_worlds here t.asked (verdict_now st t here)) (moments_of j) (moments_after j p.added) d.agree p.agree));
+        (subst (λ (ms : List LogMoment). AllAgree (worlds st told fresh ++ judged_worlds here t.asked (verdict_on st t here)) ms) (sym moments_more)
+        (agree-append (worlds st told fresh) (judged_worlds here t.asked (verdict_on st t here)) (moments_of j) (moments_after j p.added) d.agree p.agree));
     tells = lines_more;
   }
 

@@ -9,7 +9,7 @@ use Rattle.ls_port.specs.declared.shelf_answer.ShelfAnswer.{ShelfAnswer}
 use Rattle.command_read.specs.Asking.{Asked}
 use Rattle.live_session.specs.Beside.{settings_in, world_in}
 use Rattle.live_session.specs.Done.{IsDone, told}
-use Rattle.live_session.specs.Forms.{verdict_now, after, world_after, any_refused}
+use Rattle.live_session.specs.Judging.{verdict_on, after, world_after, any_refused}
 use Rattle.live_session.specs.Logs.{Log, LogEvent, LogMoment}
 use Rattle.live_session.specs.Readings.{IsRight, AreRight}
 use Rattle.live_session.specs.Replies.{reply, lines, text_then, asked_of, answers_to, answers_of}
@@ -31,8 +31,8 @@ right-append st (x ∷ xs) ys w front back = (front.0, right-append st xs ys (af
 pub refused-append : (st : Settings) (xs ys : List Told) (w : World) → any_refused st (xs ++ ys) w ≡ (any_refused st xs w || any_refused st ys (world_after st xs w))
 refused-append st [] ys w = refl
 refused-append st (x ∷ xs) ys w =
-    ap (λ more. is_err (verdict_now st x w) || more) (refused-append st xs ys (after st x w))
-    ∙ sym (or_assoc (is_err (verdict_now st x w)) (any_refused st xs (after st x w)) (any_refused st ys (world_after st xs (after st x w))))
+    ap (λ more. is_err (verdict_on st x w) || more) (refused-append st xs ys (after st x w))
+    ∙ sym (or_assoc (is_err (verdict_on st x w)) (any_refused st xs (after st x w)) (any_refused st ys (world_after st xs (after st x w))))
 
 pub asked-more : (ts : List Told) (t : Told) → asked_of (ts ++ t ∷ []) ≡ asked_of ts ++ t.asked ∷ []
 asked-more ts t = map-append (λ (x : Told). x.asked) ts (t ∷ [])
@@ -60,7 +60,7 @@ lines_front st (x ∷ xs) ys w ms = by (reply st x w ms) (lines_front st xs ys (
 
 -- the entries of one command more
 pub script-append : (st : Settings) (xs : List Told) (es own : List LogEvent) (t : Told) (w : World) → IsScript st xs w es
-    → IsPart st t.asked (world_after st xs w) own (verdict_now st t (world_after st xs w)) → IsScript st (xs ++ t ∷ []) w (es ++ own)
+    → IsPart st t.asked (world_after st xs w) own (verdict_on st t (world_after st xs w)) → IsScript st (xs ++ t ∷ []) w (es ++ own)
 script-append st [] es own t w script part = (own, [], ap (λ front. front ++ own) script ∙ sym (append-nil own), part, refl)
 script-append st (x ∷ xs) es own t w (mine, rest, split, first, more) part = (
   mine,
@@ -71,12 +71,12 @@ script-append st (x ∷ xs) es own t w (mine, rest, split, first, more) part = (
 )
 
 pub worlds-append : (st : Settings) (xs : List Told) (t : Told) (w : World)
-    → worlds st (xs ++ t ∷ []) w ≡ worlds st xs w ++ judged_worlds (world_after st xs w) t.asked (verdict_now st t (world_after st xs w))
-worlds-append st [] t w = append-nil (judged_worlds w t.asked (verdict_now st t w))
+    → worlds st (xs ++ t ∷ []) w ≡ worlds st xs w ++ judged_worlds (world_after st xs w) t.asked (verdict_on st t (world_after st xs w))
+worlds-append st [] t w = append-nil (judged_worlds w t.asked (verdict_on st t w))
 worlds-append st (x ∷ xs) t w =
-    let last = judged_worlds (world_after st xs (after st x w)) t.asked (verdict_now st t (world_after st xs (after st x w))) in
-    ap (λ more. judged_worlds w x.asked (verdict_now st x w) ++ more) (worlds-append st xs t (after st x w))
-    ∙ sym (append_assoc (judged_worlds w x.asked (verdict_now st x w)) (worlds st xs (after st x w)) last)
+    let last = judged_worlds (world_after st xs (after st x w)) t.asked (verdict_on st t (world_after st xs (after st x w))) in
+    ap (λ more. judged_worlds w x.asked (verdict_on st x w) ++ more) (worlds-append st xs t (after st x w))
+    ∙ sym (append_assoc (judged_worlds w x.asked (verdict_on st x w)) (worlds st xs (after st x w)) last)
 
 pub agree-append : (xs ys : List World) (ms ns : List LogMoment) → AllAgree xs ms → AllAgree ys ns → AllAgree (xs ++ ys) (ms ++ ns)
 agree-append [] ys [] ns front back = back
@@ -89,7 +89,7 @@ agree-append (x ∷ xs) ys (m ∷ ms) ns front back = (front.0, agree-append xs 
 -- what a command does in a world, with what was told of it
 pub record IsStep (st : Settings) (w : World) (t : Told) (behind : Session) (was is : Log) (text : List ℕ) (refused : Bool) : Type 0 where
   pub right : IsRight st w t
-  pub done : IsDone st t.asked w (world_in behind is) (verdict_now st t w) was is text refused
+  pub done : IsDone st t.asked w (world_in behind is) (verdict_on st t w) was is text refused
 
 -- a step of a session that has that world, under the settings of its limits and its book
 module _ (asked : Result Asked TextFault) (before behind : Option (List ShelfAnswer)) (faults count : ℕ) (old new : Session) (was is : Log) (text : List ℕ) (refused : Bool)

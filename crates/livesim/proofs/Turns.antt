@@ -13,7 +13,7 @@ use Rattle.command_read.specs.declared.reader.Reader.{Reader}
 use Rattle.command_read.proofs.Cutting.{told_begins, told_on}
 use Rattle.live_options.specs.Words.{OptionsOf}
 use Rattle.live_session.specs.Beside.{settings_in, world_in}
-use Rattle.live_session.specs.Forms.{verdict_now, world_after, any_refused}
+use Rattle.live_session.specs.Judging.{verdict_on, world_after, any_refused}
 use Rattle.live_session.specs.Loads.{AddsAnswers, is_broken}
 use Rattle.live_session.specs.Logs.{Log, marks_of}
 use Rattle.live_session.specs.Readings.{AreRight}
@@ -129,7 +129,7 @@ module _ (o : OptionsOf) (from mid to : Sources) (shelf mid_shelf shelved : Shel
     failed = subst (λ n. RisesBy n shelf.faults shelved.faults) (sym (broken_more told turn_told))
         (rises_more (count_broken told) shelf.faults mid_shelf.faults shelved.faults (list_any is_broken a.steps.loads) d.failed a.steps.cause);
     judged = ap (λ (b : Bool). b || also) d.judged
-        ∙ ap (λ (b : Bool). any_refused (settings o) told fresh || b) (step.done.refusal ∙ sym (or-false (is_err (verdict_now (settings o) turn_told here))))
+        ∙ ap (λ (b : Bool). any_refused (settings o) told fresh || b) (step.done.refusal ∙ sym (or-false (is_err (verdict_on (settings o) turn_told here))))
         ∙ sym (refused-append (settings o) told (turn_told ∷ []) fresh);
     soon = inr (soon_more old d.bytes a.reads.came told turn_told d.has d.soon a.reads.soon);
   }

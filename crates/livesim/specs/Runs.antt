@@ -10,7 +10,7 @@ use Rattle.wave_report.specs.Replies.{show_text}
 use Rattle.command_read.specs.Asking.{Asked, Shows, LoadedFile}
 use Rattle.command_read.specs.Runs.{Continues}
 use Rattle.command_read.specs.Scripts.{asks, commands, is_quit}
-use Rattle.live_session.specs.Forms.{after, world_after, any_refused}
+use Rattle.live_session.specs.Judging.{after, world_after, any_refused}
 use Rattle.live_session.specs.Loads.{AddsAnswers, AreToFirst, is_broken, loads_of}
 use Rattle.live_session.specs.Readings.{AreRight}
 use Rattle.book_history.specs.Book.{Closes}

@@ -9,3 +9,4 @@ pub mod Plans
 pub mod OnePlan
 pub mod Made
 pub mod Behind
+pub mod Operations

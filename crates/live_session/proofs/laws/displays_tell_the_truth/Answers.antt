@@ -1,5 +1,5 @@
 use Rattle.live_session.proofs.TrueDisplays.{true_display}
-use Rattle.live_session.specs.Forms.{world_after}
+use Rattle.live_session.specs.Judging.{world_after}
 use Rattle.live_session.specs.Worlds.{fresh}
 use Rattle.live_session.proofs.laws.displays_tell_the_truth.Goals as goal
 

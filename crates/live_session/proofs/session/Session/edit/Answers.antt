@@ -4,7 +4,7 @@ use Rattle.command_read.specs.Spoken.{edited, line_operation}
 use Rattle.command_read.specs.declared.load_line.LoadLine.{LoadLine}
 use Rattle.command_read.specs.declared.op_line.OpLine.{OpLine}
 use Rattle.live_session.specs.Beside.{world_in}
-use Rattle.live_session.specs.Forms.{first_line}
+use Rattle.live_session.specs.Judging.{first_line}
 use Rattle.live_session.specs.Loaded.{AreUsable, ComesTo}
 use Rattle.live_session.specs.Loads.{is_broken}
 use Rattle.live_session.specs.Logs.{marks_of}
