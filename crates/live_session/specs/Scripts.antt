@@ -1,13 +1,16 @@
 -- Which entries of a history are those of commands.
-use Rattle.std.specs.Prelude.{◌≡◌, ◌==◌, ◌+◌, ⊤, ℕ, if◌then◌else◌, List, [], ◌∷◌, ◌++◌, length, map, replicate, Option, Some, None, Result, Ok, Err}
+use Rattle.std.specs.List.{All}
+use Rattle.std.specs.Prelude.{◌≡◌, ◌<◌, ◌==◌, ◌+◌, ⊤, ℕ, if◌then◌else◌, List, [], ◌∷◌, ◌++◌, length, map, replicate, Option, Some, None, Result, Ok, Err}
 use Rattle.ls_text.specs.Readings.{TextFault}
 use Rattle.ls_text.specs.Texts.{HasEachOnce}
 use Rattle.book_history.specs.Book.{Opens, Runs as RunsEvent, Reloads, Shows as ShowsEvent}
 use Rattle.book_history.specs.Outline.{Outline, outline_in}
 use Rattle.book_settle.specs.Passes.{IsSettle}
 use Rattle.command_read.specs.Asking.{Asked, Block, LineOperation, Edits, Sets, Runs, Shows, Settles, AsksStatus, Quits}
+use Rattle.cycle_eval.specs.Designs.{design_flat}
 use Rattle.cycle_eval.specs.declared.design.Design.{Design}
-use Rattle.reg_ops.specs.Operations.{operation}
+use Rattle.reg_ops.specs.Operations.{HasNames, operation}
+use Rattle.typed_ir.specs.Cycles.{Signal}
 use Rattle.module_registry.specs.Keys.{KeyData}
 use Rattle.version_swap.specs.Behind.{design_of}
 use Rattle.live_session.specs.Judging.{verdict_on, after, world_or}
@@ -18,18 +21,25 @@ use Rattle.live_session.specs.Spelled.{Spelled, spelled}
 use Rattle.live_session.specs.Verdicts.{Told, chosen, passes_of}
 use Rattle.live_session.specs.Worlds.{World, Refused, cycle}
 
--- a design of a world, without its table of names
+-- the names of a signal are among so many
+abbrev pub IsNamedIn : (count : ℕ) → Signal → Type 0
+IsNamedIn count x = (x.in_module < count) × All (λ (n : ℕ). n < count) x.path
+
+-- a design of a world, by a table of names
 pub record IsDesign (names : List (List ℕ)) (design : Option Spelled) (machine : Design) : Type 0 where
   pub keys : List KeyData
   pub is : design ≡ Some (spelled names (design_of machine keys))
+  pub within : All (IsNamedIn (length names)) (design_flat machine).signals
 
--- rows of a world, without their table of names
-abbrev pub AreRows : (names : List (List ℕ)) → List Row → List InputRow → Type 0
-AreRows names record_ rows = map (row_of names) rows ≡ record_
+-- rows of a world, by a table of names
+pub record AreRows (names : List (List ℕ)) (record_ : List Row) (rows : List InputRow) : Type 0 where
+  pub are : map (row_of names) rows ≡ record_
+  pub within : All (All (λ (p : ℕ × ℕ). p.0 < length names)) rows
 
--- the operations of a block, without their table of names and their lines
-abbrev pub AreOperations : (names : List (List ℕ)) → List LineOperation → Ops → Type 0
-AreOperations names lines ops = map (operation names) ops ≡ map (λ (o : LineOperation). o.op) lines
+-- the operations of a block, by a table of names
+pub record AreOperations (names : List (List ℕ)) (lines : List LineOperation) (ops : Ops) : Type 0 where
+  pub are : map (operation names) ops ≡ map (λ (o : LineOperation). o.op) lines
+  pub within : All (HasNames (length names)) ops
 
 -- the first edit opens the book, and a later one has its operations
 abbrev pub IsEdit : (names : List (List ℕ)) → Settings → (old new : World) → Block → List LogEvent → Type 0
@@ -53,19 +63,6 @@ IsJudged names st (Ok asked) old es (Ok new) = IsAccepted names st old new es as
 IsJudged names st (Err fault) old es (Ok new) = es ≡ []
 IsJudged names st asked old es (Err refused) = es ≡ []
 
--- the session's own entries of a command, in some table of names in which each text stands once
-pub record IsPart (st : Settings) (asked : Result Asked TextFault) (old : World) (es : List LogEvent) (v : Result World Refused) : Type 0 where
-  pub names : List (List ℕ)
-  pub once : HasEachOnce names
-  pub is : IsJudged names st asked old es v
-
--- the entries of these commands, one after another
-abbrev pub IsScript : Settings → List Told → World → List LogEvent → Type 0
-IsScript st [] w es = es ≡ []
-IsScript st (t ∷ ts) w es =
-    (own : List LogEvent) × (rest : List LogEvent) × (es ≡ own ++ rest)
-    × IsPart st t.asked w own (verdict_on st t w) × IsScript st ts (after st t w) rest
-
 -- ---- the book at the place of a command's own entry
 
 -- a book without a version beside a world without a design, or the world's design
@@ -75,10 +72,8 @@ IsCurrent names None (Some machine) = ⊥
 IsCurrent names (Some design) None = ⊥
 IsCurrent names (Some design) (Some machine) = IsDesign names (Some design) machine
 
--- it has the version, the design, the record and the cycles of the marks of the world
-pub record Agrees (w : World) (o : Outline Design InputRow) : Type 0 where
-  pub names : List (List ℕ)
-  pub once : HasEachOnce names
+-- by a table of names it has the version, the design, the record and the cycles of the marks of the world
+pub record Agrees (names : List (List ℕ)) (w : World) (o : Outline Design InputRow) : Type 0 where
   pub version : o.version ≡ w.version
   pub machine : IsCurrent names w.design o.machine
   pub rows : AreRows names w.record_ o.rows
@@ -100,14 +95,26 @@ judged_worlds w (Ok asked) (Ok new) = entry_worlds w asked
 judged_worlds w (Err fault) (Ok new) = []
 judged_worlds w asked (Err refused) = []
 
--- those of some commands
-abbrev pub worlds : Settings → List Told → World → List World
-worlds st [] w = []
-worlds st (t ∷ ts) w = judged_worlds w t.asked (verdict_on st t w) ++ worlds st ts (after st t w)
-
 -- one by one, the book at an entry is as the world
-abbrev pub AllAgree : List World → List LogMoment → Type 0
-AllAgree [] [] = ⊤
-AllAgree [] (m ∷ ms) = ⊥
-AllAgree (w ∷ ws) [] = ⊥
-AllAgree (w ∷ ws) (m ∷ ms) = Agrees w (outline_in m.book) × AllAgree ws ms
+abbrev pub AllAgree : (names : List (List ℕ)) → List World → List LogMoment → Type 0
+AllAgree names [] [] = ⊤
+AllAgree names [] (m ∷ ms) = ⊥
+AllAgree names (w ∷ ws) [] = ⊥
+AllAgree names (w ∷ ws) (m ∷ ms) = Agrees names w (outline_in m.book) × AllAgree names ws ms
+
+-- ---- commands
+
+-- the session's own entries of a command, and the book at the one that the command has of its own, in one table of names in which each text stands once
+pub record IsPart (st : Settings) (asked : Result Asked TextFault) (old : World) (es : List LogEvent) (ms : List LogMoment) (v : Result World Refused)
+    : Type 0 where
+  pub names : List (List ℕ)
+  pub once : HasEachOnce names
+  pub is : IsJudged names st asked old es v
+  pub agree : AllAgree names (judged_worlds old asked v) ms
+
+-- the entries of these commands, one after another, and the book at each
+abbrev pub IsScript : Settings → List Told → World → List LogEvent → List LogMoment → Type 0
+IsScript st [] w es ms = (es ≡ []) × (ms ≡ [])
+IsScript st (t ∷ ts) w es ms =
+    (own : List LogEvent) × (rest : List LogEvent) × (here : List LogMoment) × (there : List LogMoment) × (es ≡ own ++ rest) × (ms ≡ here ++ there)
+    × IsPart st t.asked w own here (verdict_on st t w) × IsScript st ts (after st t w) rest there

@@ -4,7 +4,7 @@ use Rattle.typed_ir.specs.Cycles.{width_at, truth}
 use Rattle.typed_ir.specs.Orders.{at_or}
 use Rattle.wave_report.specs.Tables.{shown_line}
 use Rattle.live_session.specs.Rows.{Row, given_at}
-use Rattle.live_session.specs.Spelled.{Spelled, input_texts}
+use Rattle.live_session.specs.Spelled.{Spelled, dotted, input_texts}
 
 -- the registers of a design at a cycle as they are after a run from reset on the record
 abbrev pub true_registers : Spelled → (record_ : List Row) → (cycle : ℕ) → List ℕ
@@ -15,4 +15,4 @@ abbrev pub table_lines : Spelled → (prefix : List ℕ) → (registers values :
 table_lines design prefix [] values = []
 table_lines design prefix (r ∷ rs) [] = []
 table_lines design prefix (r ∷ rs) (x ∷ xs) =
-    at_or (λ (path : List ℕ). shown_line prefix path (width_at design.flat r) x) [] design.paths r ++ table_lines design prefix rs xs
+    at_or (λ (path : List (List ℕ)). shown_line prefix (dotted path) (width_at design.flat r) x) [] design.paths r ++ table_lines design prefix rs xs

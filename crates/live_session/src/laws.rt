@@ -1,14 +1,18 @@
 // Files and commands have at most one answer, and displays tell the truth.
-ghost use Rattle.std.specs.Prelude.{◌≡◌, ◌<◌, ◌∷◌, ℕ, List, ◌++◌, Option, Some, None, Ok};
+ghost use Rattle.std.specs.Prelude.{◌≡◌, ◌<◌, ◌∷◌, ℕ, true, List, ◌++◌, Option, Some, None, Ok};
+ghost use Rattle.book_history.specs.Book.{Settings as BookSettings};
+ghost use Rattle.book_history.specs.Legal.{Follows};
+ghost use Rattle.book_history.specs.Moments.{moments_from};
+ghost use Rattle.book_history.specs.Owned.{AllOwned};
 ghost use Rattle.ls_port.specs.declared.shelf_answer.ShelfAnswer.{ShelfAnswer};
 ghost use Rattle.command_read.specs.Asking.{Shows};
 ghost use Rattle.wave_report.specs.Replies.{show_text};
 ghost use Rattle.live_session.specs.Files.{TextFile};
 ghost use Rattle.live_session.specs.Judging.{any_refused, world_after};
 ghost use Rattle.live_session.specs.Readings.{FilesRead, AreRight};
-ghost use Rattle.live_session.specs.Logs.{LogMoment};
+ghost use Rattle.live_session.specs.Logs.{LogEvent, LogMoment, kit, valid};
 ghost use Rattle.live_session.specs.Replies.{answers_of, asked_of, lines, reply};
-ghost use Rattle.live_session.specs.Scripts.{worlds};
+ghost use Rattle.live_session.specs.Scripts.{IsScript};
 ghost use Rattle.live_session.specs.Settings.{Settings};
 ghost use Rattle.live_session.specs.Shown.{answer_of};
 ghost use Rattle.live_session.specs.Spelled.{Answer, Spelled};
@@ -23,9 +27,9 @@ pub fn texts_have_one_answer()
         → FilesRead files top clock y → x ≡ y }
 {}
 
-/// Commands have at most one output over the same entries of a history, one world behind them, one world at the place of each entry and one verdict
-/// whether any is refused, whatever is told of their texts and of what a shelf answers, as long as it is right and the answers of the shelf begin one
-/// list.
+/// Commands have at most one output over the same entries of a history, one world behind them and one verdict whether any is refused, and the entries
+/// of the ones are those of the others, whatever is told of their texts and of what a shelf answers, as long as it is right and the answers of the
+/// shelf begin one list.
 #[tactic(none)]
 pub fn commands_have_one_output()
     ensures lines { (st : Settings) (w : World) (ts us : List Told) (rest others : List ShelfAnswer) → AreRight st w ts
@@ -37,12 +41,21 @@ pub fn commands_have_one_output()
     ensures world { (st : Settings) (w : World) (ts us : List Told) (rest others : List ShelfAnswer) → AreRight st w ts
         → AreRight st w us → asked_of ts ≡ asked_of us → answers_of ts ++ rest ≡ answers_of us ++ others
         → world_after st ts w ≡ world_after st us w }
-    ensures worlds { (st : Settings) (w : World) (ts us : List Told) (rest others : List ShelfAnswer) → AreRight st w ts
+    ensures scripts { (st : Settings) (w : World) (ts us : List Told) (rest others : List ShelfAnswer) → AreRight st w ts
         → AreRight st w us → asked_of ts ≡ asked_of us → answers_of ts ++ rest ≡ answers_of us ++ others
-        → worlds st ts w ≡ worlds st us w }
+        → (es : List LogEvent) (ms : List LogMoment) → IsScript st ts w es ms → IsScript st us w es ms }
 {
     texts_have_one_answer();
 }
+
+/// Commands have at most one output over whatever legal history without workers has their entries: the marks, the links and the states of its book
+/// are fixed by the commands, so estimates and the answers to settles are too. What a history holds has numbers of names, so two of them may differ.
+#[tactic(none)]
+pub fn histories_have_one_output()
+    ensures { (st : Settings) (bs : BookSettings) (ts : List Told) (es fs : List LogEvent) → Follows kit valid bs es → Follows kit valid bs fs
+        → AllOwned true es → AllOwned true fs → IsScript st ts fresh es (moments_from kit bs None es) → IsScript st ts fresh fs (moments_from kit bs None fs)
+        → lines st ts fresh (moments_from kit bs None es) ≡ lines st ts fresh (moments_from kit bs None fs) }
+{}
 
 /// Whatever commands came before it, and whatever is told of it, a display of a design for which the session has room, and whose entry says that
 /// all is settled, shows the registers of a run from reset on the record, and says so.

@@ -14,11 +14,11 @@ use Rattle.live_session.specs.Judging.{after, world_after, any_refused}
 use Rattle.live_session.specs.Loads.{AddsAnswers, AreToFirst, is_broken, loads_of}
 use Rattle.live_session.specs.Readings.{AreRight}
 use Rattle.book_history.specs.Book.{Closes}
-use Rattle.book_history.specs.Owned.{owned}
+use Rattle.book_history.specs.Owned.{AllOwned, owned}
 use Rattle.book_settle.specs.Passes.{IsUnfinished}
 use Rattle.live_session.specs.Logs.{Log, LogEvent, LogMoment, moments_of}
 use Rattle.live_session.specs.Replies.{lines, reply, asked_of, answers_of}
-use Rattle.live_session.specs.Scripts.{AllAgree, IsScript, worlds}
+use Rattle.live_session.specs.Scripts.{IsScript}
 use Rattle.live_session.specs.Shown.{answer_of}
 use Rattle.live_session.specs.Tables.{table_lines, true_registers}
 use Rattle.live_session.specs.Settings.{Settings}
@@ -89,14 +89,14 @@ abbrev pub HasSettings : Settings → Log → Type 0
 HasSettings st j =
     (j.settings.interval ≡ st.interval) × (j.settings.lookback ≡ st.lookback) × (j.settings.rooms.session ≡ st.room) × (j.settings.rooms.workers ≡ 3145728)
 
--- The session's own entries are those of these commands, and then the close. Where memory ran out, the first passes of a settle may stand before it,
--- which didn't come to its show; or there is no entry, and then nothing was told.
-pub data HasEntries (st : Settings) (told : List Told) (status : ℕ) (own : List LogEvent) : Type 0 where
-  all_entries : (entries : List LogEvent) → own ≡ entries ++ Closes ∷ [] → IsScript st told fresh entries
-      → HasEntries st told status own
+-- The session's own entries are those of these commands, with the book at each, and then the close. Where memory ran out, the first passes of a settle
+-- may stand before it, which didn't come to its show; or there is no entry, and then nothing was told.
+pub data HasEntries (st : Settings) (told : List Told) (status : ℕ) (own : List LogEvent) (moments : List LogMoment) : Type 0 where
+  all_entries : (entries : List LogEvent) → own ≡ entries ++ Closes ∷ [] → IsScript st told fresh entries moments
+      → HasEntries st told status own moments
   unfinished_settle : (entries passes : List LogEvent) → status ≡ 5 → own ≡ entries ++ (passes ++ Closes ∷ [])
-      → IsScript st told fresh entries → IsUnfinished passes → HasEntries st told status own
-  no_entries : status ≡ 5 → own ≡ [] → told ≡ [] → HasEntries st told status own
+      → IsScript st told fresh entries moments → IsUnfinished passes → HasEntries st told status own moments
+  no_entries : status ≡ 5 → own ≡ [] → told ≡ [] → HasEntries st told status own moments
 
 -- These bytes were taken, and the input ended with them or not. The lines of their commands were written, but at 4 and 5 perhaps only a front
 -- of these; and this is the history of the book.
@@ -135,9 +135,10 @@ pub record Lived (st : Settings) (left_old left_new written_old written_new : Op
   -- the history is legal, and its entries are those of these commands: so a refused command has none, and a settle with a pass for each link answers
   -- settled
   pub legal : IsLegal history
-  pub entries : HasEntries st told status (owned history.events)
   -- at the place of each command's own entry the book has the version, the design, the record and the marks of the world
-  pub agree : AllAgree (worlds st told fresh) (moments_of history)
+  pub entries : HasEntries st told status (owned history.events) (moments_of history)
+  -- no worker has an entry
+  pub alone : AllOwned true history.events
   -- a display whose entry says that all is settled tells the truth of the world's design on its record
   pub settled : (before rest : List Told) (line : ℕ) (prefix : List ℕ) (t : Told) (design : Spelled) (m : LogMoment) (ms : List LogMoment)
       → before ++ t ∷ rest ≡ told → t.asked ≡ Ok (Shows line prefix) → (world_after st before fresh).design ≡ Some design

@@ -5,7 +5,6 @@ use Rattle.ls_text.specs.declared.source_file.SourceFile.{SourceFile}
 use Rattle.ls_text.specs.Readings.{TextFault}
 use Rattle.ls_text.specs.Texts.{text_at}
 use Rattle.typed_ir.specs.Cycles.{Signal}
-use Rattle.link.specs.Names.{joined}
 use Rattle.version_swap.specs.Plans.{DesignOfTexts}
 
 -- the text of a file, whatever the file is called
@@ -17,8 +16,8 @@ abbrev pub nameless : Signal → Signal
 nameless x = record x { in_module = 0; path = [] }
 
 -- what a signal is called, and the module that declares it
-abbrev pub path_text : (names : List (List ℕ)) → Signal → List ℕ
-path_text names x = joined names x.path
+abbrev pub path_texts : (names : List (List ℕ)) → Signal → List (List ℕ)
+path_texts names x = map (text_at names) x.path
 
 -- the text of the last of these names
 abbrev pub last_text : (names : List (List ℕ)) → List ℕ → List ℕ
@@ -37,7 +36,7 @@ module_text names x = text_at names x.in_module
 pub record IsSameDesign (names others : List (List ℕ)) (d e : DesignOfTexts) : Type 0 where
   pub keys : d.keys ≡ e.keys
   pub signals : map nameless d.design.signals ≡ map nameless e.design.signals
-  pub paths : map (path_text names) d.design.signals ≡ map (path_text others) e.design.signals
+  pub paths : map (path_texts names) d.design.signals ≡ map (path_texts others) e.design.signals
   pub own : map (own_text names) d.design.signals ≡ map (own_text others) e.design.signals
   pub modules : map (module_text names) d.design.signals ≡ map (module_text others) e.design.signals
   pub registers : d.design.registers ≡ e.design.registers
