@@ -1,5 +1,5 @@
 -- Two books that have the same states, marks and links go on with the same, where what an edit or a run adds is one but for the numbers of names.
-use Rattle.std.proofs.Common.{◌≡◌, ◌∙◌, ℕ, ◌+◌, ◌-◌, leb, cond, List, [], ◌∷◌, ◌++◌, length, refl, sym, ap, ap₂}
+use Rattle.std.proofs.Common.{◌≡◌, ◌∙◌, ℕ, ◌+◌, ◌-◌, leb, cond, List, [], ◌∷◌, ◌++◌, length, refl, ap, ap₂}
 use Rattle.std.specs.Prelude.{Option, Some, None}
 use Rattle.ls_text.specs.Texts.{HasEachOnce}
 use Rattle.machine.specs.Kit.{Kit}
@@ -61,7 +61,8 @@ module _ (names others : List (List ℕ)) (once : HasEachOnce names) (also : Has
   pub opens_alike : (m n : Design) → IsOneDesign names others m n → IsOneBook (opened kit m) (opened kit n)
   opens_alike m n h = record { version = refl; first = start_alike names others once also m n h; segs = refl; tickets = refl }
 
-  module _ (b c : SessionBook) (one : IsOneBook b c) (machine : IsOneDesign names others b.machine c.machine) (record_ : AreOneRows names others b.rows c.rows) where
+  module _ (b c : SessionBook) (one : IsOneBook b c) (machine : IsOneDesign names others b.machine c.machine)
+      (record_ : AreOneRows names others b.rows c.rows) where
     pub runs_alike : (rows more : List InputRow) → AreOneRows names others rows more → IsOneBook (run_by kit st b rows) (run_by kit st c more)
     runs_alike rows more h = record {
       version = one.version;

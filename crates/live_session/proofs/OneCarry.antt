@@ -1,26 +1,28 @@
 -- States are carried alike between designs that are one but for the numbers of their names, under operations that are.
-use Rattle.std.proofs.Common.{◌≡◌, ◌∙◌, ℕ, zero, suc, ◌%◌, ◌^◌, ◌<◌, ◌&&◌, IsTrue, Bool, true, false, cond, List, [], ◌∷◌, map, length, All, refl, sym, ap, ap₂, subst, arith}
-use Rattle.std.specs.Prelude.{◌==◌, Option, Some, None}
+use Rattle.std.proofs.Common.{◌≡◌, ◌∙◌, ℕ, zero, suc, ◌%◌, ◌^◌, ◌<◌, ◌&&◌, IsTrue, Bool, true, false, cond, List, [], ◌∷◌, map, length, All, refl}
+use Rattle.std.proofs.Common.{sym, ap, ap₂, subst, arith}
+use Rattle.std.specs.Prelude.{Option, Some, None}
 use Rattle.std.specs.Option.{option_or, unwrap_or}
 use Rattle.std.proofs.lemmas.List.Elements.{All-head, All-tail}
 use Rattle.command_read.specs.Asking.{LineOperation}
 use Rattle.ls_text.specs.declared.name_id.NameId.{NameId}
-use Rattle.ls_text.specs.Texts.{HasEachOnce, text_at}
+use Rattle.ls_text.specs.Texts.{HasEachOnce}
 use Rattle.reg_ops.specs.Operations.{Operation, Renames, Creates, Deletes, HasNames, operation}
 use Rattle.reg_ops.specs.declared.reg_op.RegOp.{RegOp}
 use Rattle.reg_ops.specs.declared.reg_op.RegOp.TheVariants.{Rename, Create, Delete}
-use Rattle.reg_transform.specs.Carrying.{created_by, renamed_by, created, renamed, value_of, value_under, first_given, taken, carried_each, carried}
-use Rattle.reg_transform.specs.Registers.{RegisterName, Register, called, is_same, same_path}
+use Rattle.reg_transform.specs.Carrying.{created_by, renamed_by, created, renamed, value_of, value_under, taken, carried_each, carried}
+use Rattle.reg_transform.specs.Registers.{RegisterName, Register, called, is_same}
 use Rattle.reg_transform.specs.States.{state_values}
 use Rattle.typed_ir.specs.Cycles.{Signal, Flat}
 use Rattle.typed_ir.specs.Flats.{are_below}
 use Rattle.typed_ir.specs.Orders.{at_or}
 use Rattle.cycle_eval.specs.Designs.{design_flat}
-use Rattle.cycle_eval.specs.Kits.{carried_of, register_at, register_of, regs_of, reset_of}
+use Rattle.cycle_eval.specs.Kits.{register_at, register_of, regs_of, reset_of}
 use Rattle.cycle_eval.specs.declared.design.Design.{Design}
 use Rattle.live_session.specs.Logs.{State, Ops, kit}
 use Rattle.live_session.specs.Scripts.{AreOperations}
-use Rattle.live_session.proofs.OneNames.{IsOneName, AreOneNames, IsOneMaybe, both_none, both_some, IsOneSignal, AreOneSignals, no_signals, more_signals, none_is_some, first_is, rest_is, one_own, one_instance, same_number, same_paths}
+use Rattle.live_session.proofs.OneNames.{IsOneName, AreOneNames, IsOneMaybe, both_none, both_some, AreOneSignals, no_signals, more_signals}
+use Rattle.live_session.proofs.OneNames.{none_is_some, first_is, rest_is, one_own, one_instance, same_number, same_paths}
 use Rattle.live_session.proofs.OneRun.{IsOneDesign, below_first, below_rest, one_registers, registers_below, start_alike}
 
 -- ---- operations
@@ -69,19 +71,21 @@ module _ (names others : List (List ℕ)) where
   one_operation : (x y : RegOp) → operation names x ≡ operation others y → HasNames (length names) x → HasNames (length others) y
       → IsOneOperation names others x y
   one_operation (Rename a b c) (Rename x y z) is here there =
-      both_rename (record { here = here.0; there = there.0; text = ap module_of is }) (record { here = here.1; there = there.1; text = ap name_of is })
-      (record { here = here.2; there = there.2; text = ap new_name_of is })
+      both_rename (record { here = here.0; there = there.0; text = ap module_of is })
+      (record { here = here.1; there = there.1; text = ap name_of is }) (record { here = here.2; there = there.2; text = ap new_name_of is })
   one_operation (Rename a b c) (Create x y value) is here there = let e : 0 ≡ 1 = ap kind_of is in absurd (omega (arith, e))
   one_operation (Rename a b c) (Delete x y) is here there = let e : 0 ≡ 2 = ap kind_of is in absurd (omega (arith, e))
   one_operation (Create a b v) (Rename x y z) is here there = let e : 1 ≡ 0 = ap kind_of is in absurd (omega (arith, e))
   one_operation (Create a b v) (Create x y w) is here there =
       subst (λ (u : ℕ). IsOneOperation names others (Create a b v) (Create x y u)) (ap value_in is)
-      (both_create {value = v} (record { here = here.0; there = there.0; text = ap module_of is }) (record { here = here.1; there = there.1; text = ap name_of is }))
+      (both_create {value = v} (record { here = here.0; there = there.0; text = ap module_of is })
+      (record { here = here.1; there = there.1; text = ap name_of is }))
   one_operation (Create a b v) (Delete x y) is here there = let e : 1 ≡ 2 = ap kind_of is in absurd (omega (arith, e))
   one_operation (Delete a b) (Rename x y z) is here there = let e : 2 ≡ 0 = ap kind_of is in absurd (omega (arith, e))
   one_operation (Delete a b) (Create x y value) is here there = let e : 2 ≡ 1 = ap kind_of is in absurd (omega (arith, e))
   one_operation (Delete a b) (Delete x y) is here there =
-      both_delete (record { here = here.0; there = there.0; text = ap module_of is }) (record { here = here.1; there = there.1; text = ap name_of is })
+      both_delete (record { here = here.0; there = there.0; text = ap module_of is })
+      (record { here = here.1; there = there.1; text = ap name_of is })
 
   operations_from : (xs ys : Ops) → map (operation names) xs ≡ map (operation others) ys → All (HasNames (length names)) xs
       → All (HasNames (length others)) ys → AreOneOperations names others xs ys

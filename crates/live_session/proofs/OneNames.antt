@@ -1,5 +1,5 @@
 -- Numbers of names in two tables in which each text stands once: what compares the numbers of the one says the same of those of the other.
-use Rattle.std.proofs.Common.{◌≡◌, ◌∙◌, ℕ, ◌<◌, ◌&&◌, Bool, eqb, List, [], ◌∷◌, map, length, drop, All, refl, sym, ap, ap₂, arith}
+use Rattle.std.proofs.Common.{◌≡◌, ◌∙◌, ℕ, ◌<◌, ◌&&◌, eqb, List, [], ◌∷◌, map, length, drop, All, refl, sym, ap, ap₂, arith}
 use Rattle.std.specs.Prelude.{Option, Some, None}
 use Rattle.std.specs.Str.{bytes_eq}
 use Rattle.std.proofs.lemmas.List.Elements.{All-head, All-tail}

@@ -1,22 +1,23 @@
 -- Two designs that are one but for the numbers of their names run alike, where their rows are one but for these.
-use Rattle.std.proofs.Common.{◌≡◌, ◌∙◌, ℕ, zero, suc, ◌+◌, ◌-◌, ◌<◌, IsTrue, List, [], ◌∷◌, ◌++◌, map, length, take, drop, All, refl, sym, ap, ap₂, subst, arith, ltb-true}
-use Rattle.std.specs.Prelude.{◌&&◌, nat_lt, Option, Some, None, slice_index, slice_index_or}
+use Rattle.std.proofs.Common.{◌≡◌, ◌∙◌, ℕ, zero, suc, ◌+◌, ◌-◌, ◌<◌, IsTrue, List, [], ◌∷◌, ◌++◌, map, length, take, drop, All, refl, sym, ap, ap₂}
+use Rattle.std.proofs.Common.{subst, arith, ltb-true}
+use Rattle.std.specs.Prelude.{nat_lt, Option, Some, None, slice_index, slice_index_or}
 use Rattle.std.proofs.Math.Path.{fun_ext}
 use Rattle.std.proofs.lemmas.Bool.{and_parts}
 use Rattle.std.proofs.lemmas.List.{length-append, length-map}
 use Rattle.std.proofs.lemmas.List.Elements.{All-nil, All-cons, All-head, All-tail}
-use Rattle.ls_text.specs.Texts.{HasEachOnce, text_at}
+use Rattle.ls_text.specs.Texts.{HasEachOnce}
 use Rattle.machine.specs.Rows.{slice}
 use Rattle.reg_transform.specs.States.{paired, state_values}
 use Rattle.stimulus.specs.Rows.{value_in}
-use Rattle.typed_ir.specs.Cycles.{Signal, Flat, width_at, cut_to, input, reset, seg, step, wires}
+use Rattle.typed_ir.specs.Cycles.{Signal, Flat, cut_to, input, reset, seg, step, wires}
 use Rattle.typed_ir.specs.Flats.{are_below, signal_of}
 use Rattle.typed_ir.specs.Orders.{at_or}
 use Rattle.typed_ir.specs.Paths.{paths_of}
 use Rattle.typed_ir.specs.declared.instance_name.InstanceName.{InstanceName}
 use Rattle.typed_ir.specs.declared.signal.Signal.{Signal as Signal'}
 use Rattle.cycle_eval.specs.Designs.{design_flat}
-use Rattle.cycle_eval.specs.Inputs.{own_name, name_at, input_names, row_values, values_at}
+use Rattle.cycle_eval.specs.Inputs.{own_name, name_at, input_names, values_at}
 use Rattle.cycle_eval.specs.Kits.{register_widths, reset_of, driven, run_of}
 use Rattle.cycle_eval.specs.declared.design.Design.{Design}
 use Rattle.version_swap.specs.Behind.{design_of}
@@ -27,7 +28,8 @@ use Rattle.live_session.specs.Scripts.{IsDesign}
 use Rattle.live_session.specs.Spelled.{Spelled, nameless_flat, spelled}
 use Rattle.live_session.proofs.AscendingRows.{AreWithin}
 use Rattle.live_session.proofs.TextRows.{row_look}
-use Rattle.live_session.proofs.OneNames.{IsOneName, AreOneNames, no_names, more_names, IsOneSignal, AreOneSignals, no_signals, more_signals, none_is_some, first_is, rest_is, one_own, one_signals}
+use Rattle.live_session.proofs.OneNames.{IsOneName, AreOneNames, no_names, more_names, AreOneSignals, no_signals, more_signals, none_is_some}
+use Rattle.live_session.proofs.OneNames.{first_is, rest_is, one_own, one_signals}
 
 -- ---- designs
 

@@ -1,12 +1,15 @@
 -- Two books that have the same states, marks and links have the same passes of a settle and the same answer to it.
-use Rattle.std.proofs.Common.{◌≡◌, ◌∙◌, ℕ, suc, ◌+◌, ◌<◌, Bool, true, false, eqb, cond, List, [], ◌∷◌, ◌++◌, length, refl, sym, ap, ap₂, subst, arith, eq-eqb, true≢false}
+use Rattle.std.proofs.Common.{◌≡◌, ◌∙◌, ℕ, suc, ◌+◌, ◌<◌, Bool, true, false, eqb, cond, List, [], ◌∷◌, ◌++◌, length, refl, sym, ap, ap₂, subst}
+use Rattle.std.proofs.Common.{arith, eq-eqb, true≢false}
 use Rattle.std.specs.Prelude.{Option, Some, None, is_some}
 use Rattle.book_history.specs.declared.link.Link.{Link}
 use Rattle.book_history.specs.declared.link.Link.TheVariants.{Open, Out, Joined}
 use Rattle.book_history.specs.declared.segment.Segment.{Segment}
 use Rattle.book_history.specs.declared.who.Who.TheVariants.{Session}
 use Rattle.machine.specs.Rows.{slice}
-use Rattle.book_history.specs.Book.{DrawnTicket, Event, Settings, Claims, Installs, Shows, all_joined, apply, claim_found, drawn, first_link, has_link, install_found, is_current, is_joined, joined, mark_out, matches, reopen, replay_from, result_of, settled_to, shown, step, takes, with_segs, with_used}
+use Rattle.book_history.specs.Book.{DrawnTicket, Settings, Claims, Installs, Shows, all_joined, apply, claim_found, drawn, first_link, has_link}
+use Rattle.book_history.specs.Book.{install_found, is_current, is_joined, joined, mark_out, matches, reopen, replay_from, result_of, settled_to}
+use Rattle.book_history.specs.Book.{shown, step, takes, with_segs, with_used}
 use Rattle.book_history.specs.Legal.{LegalFrom}
 use Rattle.book_history.specs.Moments.{moments_from}
 use Rattle.book_settle.specs.Passes.{ArePasses, no_pass, one_more}
@@ -57,14 +60,17 @@ abbrev settled : SessionBook → (f : ℕ × ℕ × State) → Bool → SessionB
 settled b f current =
     with_used
     (cond current
-    (with_segs (claimed b f) (joined kit b.machine (ticket b f) (result_of kit (ticket b f)) 0 b.first (mark_out (takes Session) (length b.tickets + 1) b.segs)))
+    (with_segs (claimed b f)
+    (joined kit b.machine (ticket b f) (result_of kit (ticket b f)) 0 b.first (mark_out (takes Session) (length b.tickets + 1) b.segs)))
     (claimed b f)) (length b.tickets + 1)
 
 abbrev passed : SessionBook → (f : ℕ × ℕ × State) → SessionBook
 passed b f = settled b f (is_current kit (claimed b f) (ticket b f))
 
 newest : (b : SessionBook) (f : ℕ × ℕ × State) → drawn (length b.tickets + 1) (ticket b f ∷ b.tickets) ≡ Some (ticket b f)
-newest b f = ap (λ (t : Bool). cond t (Some (ticket b f)) (drawn (length b.tickets + 1) b.tickets)) (eq-eqb (length b.tickets + 1) (length b.tickets + 1) refl)
+newest b f =
+    ap (λ (t : Bool). cond t (Some (ticket b f)) (drawn (length b.tickets + 1) b.tickets))
+    (eq-eqb (length b.tickets + 1) (length b.tickets + 1) refl)
 
 -- a claim and its install
 pass_is : (bs : Settings) (b : SessionBook) (t a e : ℕ) (j : Bool) (s : State) → t ≡ length b.tickets + 1
@@ -95,7 +101,8 @@ module _ (b c : SessionBook) (f : ℕ × ℕ × State) where
   joined_alike r a s [] = refl
   joined_alike r a s (g ∷ gs) =
       ap (λ (hs : List (Segment State)). cond (matches kit c.machine (ticket c f) a s g)
-      (cond (kit.alike c.machine r g.state) (record { link = Joined; to = g.to; state = g.state } ∷ gs) (record { link = Joined; to = g.to; state = r } ∷ reopen gs))
+      (cond (kit.alike c.machine r g.state) (record { link = Joined; to = g.to; state = g.state } ∷ gs)
+      (record { link = Joined; to = g.to; state = r } ∷ reopen gs))
       (g ∷ hs)) (joined_alike r g.to g.state gs)
 
   module _ (h : RunAlike b c) where
@@ -195,13 +202,15 @@ module _ (bs : Settings) where
   settle_alike {fs = gs} no_more (one_first u x y k q) b c h answer other l r fewer more =
       none_left (IsOneSettle (Some b) (replay_from kit bs (Some c) gs) answer other) b c (x, y, r.0.1.0) h.one (sym l.0 ∙ fewer (omega arith)) r.0.1.1
   settle_alike {es = gs} (one_first t a e j p) no_more b c h answer other l r fewer more =
-      none_left (IsOneSettle (replay_from kit bs (Some b) gs) (Some c) answer other) c b (a, e, l.0.1.0) (one_from b c h.one) (sym r.0 ∙ more (omega arith)) l.0.1.1
+      none_left (IsOneSettle (replay_from kit bs (Some b) gs) (Some c) answer other) c b (a, e, l.0.1.0) (one_from b c h.one)
+      (sym r.0 ∙ more (omega arith)) l.0.1.1
   settle_alike (one_first t a e j {n = n} {es = es} p) (one_first u x y k {n = i} {es = fs} q) b c h answer other l r fewer more =
       let f : ℕ × ℕ × State = (a, e, l.0.1.0) in
       let g : ℕ × ℕ × State = (x, y, r.0.1.0) in
       let same : f ≡ g =
       ap (link_or f) (sym l.0.1.1 ∙ ap₂ (first_link (takes Session) 0) h.one.first h.one.segs ∙ r.0.1.1) in
-      let after : RunAlike (passed b f) (passed c g) = subst (λ (d : ℕ × ℕ × State). RunAlike (passed b f) (passed c d)) same (passed_alike b c f h) in
+      let after : RunAlike (passed b f) (passed c g) =
+      subst (λ (d : ℕ × ℕ × State). RunAlike (passed b f) (passed c d)) same (passed_alike b c f h) in
       let rest : IsOneSettle (replay_from kit bs (Some (passed b f)) es) (replay_from kit bs (Some (passed c g)) fs) answer other =
       settle_alike p q (passed b f) (passed c g) after answer other
       (legal_behind b t a e j l.0.1.0 l.0.0 l.0.1.1 (es ++ Shows answer ∷ []) l.1.1)
