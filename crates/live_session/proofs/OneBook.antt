@@ -31,6 +31,7 @@ pub data AreOneBooks : Option SessionBook → Option SessionBook → Type 0 wher
 
 module _ {D S R O : Type 0} (k : Kit D S R O) (m n : D) (rows others : List R)
     (runs : (a b : ℕ) (s : S) → k.seg m (slice rows a b) s ≡ k.seg n (slice others a b) s) where
+  -- of a run, and of an edit
   extend_alike : (segs : List (Segment S)) (a : ℕ) (s : S) (cs : List ℕ) → extend k m rows segs a s cs ≡ extend k n others segs a s cs
   extend_alike segs a s [] = refl
   extend_alike segs a s (c ∷ cs) =
@@ -58,6 +59,7 @@ module _ {D S R O : Type 0} (k : Kit D S R O) (m n : D) (rows others : List R)
 -- ---- entries
 
 module _ (names others : List (List ℕ)) (once : HasEachOnce names) (also : HasEachOnce others) (st : Settings) where
+  -- an open, a run and a reload
   pub opens_alike : (m n : Design) → IsOneDesign names others m n → IsOneBook (opened kit m) (opened kit n)
   opens_alike m n h = record { version = refl; first = start_alike names others once also m n h; segs = refl; tickets = refl }
 

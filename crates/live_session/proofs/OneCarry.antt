@@ -68,6 +68,7 @@ value_in (Creates in_module reg value) = value
 value_in (Deletes in_module reg) = 0
 
 module _ (names others : List (List ℕ)) where
+  -- operations of one list of texts
   one_operation : (x y : RegOp) → operation names x ≡ operation others y → HasNames (length names) x → HasNames (length others) y
       → IsOneOperation names others x y
   one_operation (Rename a b c) (Rename x y z) is here there =
@@ -124,6 +125,7 @@ abbrev no_register : Register
 no_register = record { path = []; in_module = 0; name = 0; width = 0 }
 
 module _ (names others : List (List ℕ)) where
+  -- registers by the numbers of their signals
   one_register : (s : ℕ) {xs ys : List Signal} → AreOneSignals names others xs ys → s < length xs
       → IsOneRegister names others (at_or register_of no_register xs s) (at_or register_of no_register ys s)
   one_register s no_signals lt = absurd (omega (arith, lt))
@@ -192,6 +194,7 @@ module _ (names others : List (List ℕ)) (once : HasEachOnce names) (also : Has
   one_called : (r s : Register) → IsOneRegister names others r s → IsOneRegisterName names others (called r) (called s)
   one_called r s h = record { in_module = h.in_module; name = h.name }
 
+  -- the value that a register had, and the one that it has now
   old_value : {rs ss : List Register} → AreOneRegisters names others rs ss → (values : List ℕ) (path other : List ℕ)
       → AreOneNames names others path other → (x y : RegisterName) → IsOneRegisterName names others x y
       → value_of rs values path x ≡ value_of ss values other y
@@ -231,6 +234,7 @@ module _ (names others : List (List ℕ)) (once : HasEachOnce names) (also : Has
 
   -- ---- designs
 
+  -- the registers of both, and a state that is carried into both
   one_regs : (m n : Design) → IsOneDesign names others m n → AreOneRegisters names others (regs_of (design_flat m)) (regs_of (design_flat n))
   one_regs m n h =
       subst (λ (ss : List ℕ). AreOneRegisters names others (regs_of (design_flat m)) (map (register_at (design_flat n)) ss))

@@ -38,6 +38,7 @@ use Rattle.live_session.proofs.OneTurn.{HasTurn, has_turn}
 module _ (st : Settings) (bs : BookSettings) where
   -- ---- what a moment's book and the world say
 
+  -- the machine of an open book is the world's design
   current_design : (names : List (List ℕ)) (design : Option Spelled) (m : Design) → IsCurrent names design (Some m) → IsDesign names design m
   current_design names None m is = absurd is
   current_design names (Some d) m is = is
@@ -70,6 +71,7 @@ module _ (st : Settings) (bs : BookSettings) where
 
     -- ---- edits
 
+    -- the first edit opens both books, and a later one reloads both
     edit_alike : (old new : World) (block : Block) (b c : Option SessionBook) → AreOneBooks b c → (m n : Design) → IsOneDesign names others m n
         → (ops done : Ops) → AreOneOperations names others ops done → (v w from : ℕ) → (t : Bool)
         → LegalFrom kit valid bs b (cond t (Opens v m) (Reloads w m ops from) ∷ [])
@@ -111,6 +113,7 @@ module _ (st : Settings) (bs : BookSettings) where
 
     -- ---- runs
 
+    -- the rows are those of the world's row
     run_alike : (old new : World) (line n : ℕ) (b c : Option SessionBook) → AreOneBooks b c → (rows more : List InputRow)
         → AreOneRows names others rows more → LegalFrom kit valid bs b (RunsEvent n rows ∷ []) → LegalFrom kit valid bs c (RunsEvent n more ∷ [])
         → AllAgree names (old ∷ []) (moments_from kit bs b (RunsEvent n rows ∷ []))
@@ -129,6 +132,7 @@ module _ (st : Settings) (bs : BookSettings) where
 
     -- ---- displays
 
+    -- both say how far their links are joined, and have one state at the last mark
     show_alike : (old new : World) (line : ℕ) (prefix : List ℕ) (b c : Option SessionBook) → AreOneBooks b c → (answer other : Option ℕ)
         → LegalFrom kit valid bs b (ShowsEvent answer ∷ []) → LegalFrom kit valid bs c (ShowsEvent other ∷ [])
         → IsOneStep (Ok (Shows line prefix)) old (Ok new) b c (ShowsEvent answer ∷ []) (ShowsEvent other ∷ [])
@@ -146,6 +150,7 @@ module _ (st : Settings) (bs : BookSettings) where
 
     -- ---- settles
 
+    -- a show leaves the books, and before the first open there is neither it nor a claim
     shows_behind : (b c : Option SessionBook) (answer other : Option ℕ) → AreOneBooks b c
         → AreOneBooks (apply kit bs b (ShowsEvent answer)) (apply kit bs c (ShowsEvent other))
     shows_behind b c answer other no_books = no_books
@@ -216,6 +221,7 @@ module _ (st : Settings) (bs : BookSettings) where
 
     -- ---- all commands
 
+    -- by what is asked, and by the verdict on it
     accepted_alike : (asked : Asked) (old new : World) (b c : Option SessionBook) → AreOneBooks b c → (own mine : List LogEvent)
         → IsAccepted names st old new own asked → IsAccepted others st old new mine asked → LegalFrom kit valid bs b own
         → LegalFrom kit valid bs c mine → AllAgree names (entry_worlds old asked) (moments_from kit bs b own)
@@ -253,6 +259,7 @@ module _ (st : Settings) (bs : BookSettings) where
 
   -- ---- all commands, one after another
 
+  -- each history has a table of names of its own at each command
   parts_alike : (asked : Result Asked TextFault) (old : World) (v : Result World Refused) (b c : Option SessionBook) → AreOneBooks b c
       → (own mine : List LogEvent) → IsPart st asked old own (moments_from kit bs b own) v → IsPart st asked old mine (moments_from kit bs c mine) v
       → LegalFrom kit valid bs b own → LegalFrom kit valid bs c mine → IsOneStep asked old v b c own mine

@@ -44,6 +44,7 @@ module _ {A : Type 0} where
   rest_is x y xs ys e = ap (drop 1) e
 
 module _ (names others : List (List ℕ)) where
+  -- names of one list of texts
   pub one_names : (xs ys : List ℕ) → map (text_at names) xs ≡ map (text_at others) ys → All (λ (n : ℕ). n < length names) xs
       → All (λ (n : ℕ). n < length others) ys → AreOneNames names others xs ys
   one_names [] [] same here there = no_names
@@ -61,6 +62,7 @@ module _ (names others : List (List ℕ)) where
 
   -- ---- paths
 
+  -- the last name of a path, and the path without it
   pub one_own : {xs ys : List ℕ} → AreOneNames names others xs ys → 0 < length xs → IsOneName names others (own_name xs) (own_name ys)
   one_own no_names some = absurd (omega (arith, some))
   one_own (more_names h no_names) some = h
@@ -73,6 +75,7 @@ module _ (names others : List (List ℕ)) where
 
   -- ---- tests
 
+  -- whether two numbers are equal, and two paths
   module _ (once : HasEachOnce names) (also : HasEachOnce others) where
     pub same_number : {m n i j : ℕ} → IsOneName names others m n → IsOneName names others i j → eqb m i ≡ eqb n j
     same_number {m} {n} {i} {j} h k =
@@ -98,6 +101,7 @@ pub data AreOneSignals (names others : List (List ℕ)) : List Signal → List S
   more_signals : {x y : Signal} {xs ys : List Signal} → IsOneSignal names others x y → AreOneSignals names others xs ys
       → AreOneSignals names others (x ∷ xs) (y ∷ ys)
 
+-- signals that have one list of texts
 module _ (names others : List (List ℕ)) where
   one_signal : (x y : Signal) → nameless x ≡ nameless y → path_texts names x ≡ path_texts others y → module_text names x ≡ module_text others y
       → IsNamedIn (length names) x → IsNamedIn (length others) y → 0 < length x.path → IsOneSignal names others x y

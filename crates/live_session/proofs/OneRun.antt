@@ -38,6 +38,7 @@ pub record IsOneDesign (names others : List (List ℕ)) (m n : Design) : Type 0 
   pub flat : nameless_flat (design_flat m) ≡ nameless_flat (design_flat n)
   pub signals : AreOneSignals names others (design_flat m).signals (design_flat n).signals
 
+-- each signal has a name, its own
 each_called : (rows : List InstanceName) (xs : List Signal') → All (λ (x : Signal). 0 < length x.path) (map (signal_of rows) xs)
 each_called rows [] = All-nil (λ (x : Signal). 0 < length x.path)
 each_called rows (x ∷ xs) =
@@ -65,6 +66,7 @@ one_design names others design m n p q =
 
 -- ---- signals by their numbers
 
+-- there are as many, and each is called the same
 pub one_many : (names others : List (List ℕ)) {xs ys : List Signal} → AreOneSignals names others xs ys → length xs ≡ length ys
 one_many names others no_signals = refl
 one_many names others (more_signals h hs) = ap suc (one_many names others hs)
@@ -103,6 +105,7 @@ pub data AreOneRows (names others : List (List ℕ)) : List InputRow → List In
       → AreOneRows names others (x ∷ xs) (y ∷ ys)
 
 module _ (names others : List (List ℕ)) where
+  -- rows of one list of texts
   pub one_rows : (xs ys : List InputRow) → map (row_of names) xs ≡ map (row_of others) ys → All (AreWithin (length names)) xs
       → All (AreWithin (length others)) ys → AreOneRows names others xs ys
   one_rows [] [] same here there = no_rows
@@ -127,6 +130,7 @@ module _ (names others : List (List ℕ)) where
   rows_append no_rows ks = ks
   rows_append (more_rows h hs) ks = more_rows h (rows_append hs ks)
 
+  -- parts of them
   rows_take : (n : ℕ) {xs ys : List InputRow} → AreOneRows names others xs ys → AreOneRows names others (take n xs) (take n ys)
   rows_take zero h = no_rows
   rows_take (suc n) no_rows = no_rows
@@ -142,6 +146,7 @@ module _ (names others : List (List ℕ)) where
 
 -- ---- runs
 
+-- a design without the names of its signals runs as with them
 abbrev widths : List Signal → List ℕ
 widths xs = map (λ (x : Signal). x.width) xs
 
@@ -176,6 +181,7 @@ same_seg d rows a (suc n) state =
     ∙ ap₂ (step d) (same_seg d rows a n state) (same_input d (rows (a + n)))
 
 module _ (names others : List (List ℕ)) (once : HasEachOnce names) (also : HasEachOnce others) where
+  -- a row gives a name what a row of the same text gives its like
   one_value : {m n : ℕ} (x y : InputRow) → IsOneRow names others x y → IsOneName names others m n → value_in x m ≡ value_in y n
   one_value {m} {n} x y h k =
       sym (row_look names once x m h.here k.here) ∙ ap₂ value_of h.text k.text ∙ row_look others also y n h.there k.there

@@ -25,6 +25,7 @@ pub data Passes : ℕ → List LogEvent → Type 0 where
   one_first : (t a e : ℕ) (j : Bool) {n : ℕ} {es : List LogEvent} → Passes n es
       → Passes (suc n) (Claims t a e Session ∷ Installs t j Session ∷ es)
 
+-- one more behind them, so all of them from the first on
 one_behind : (t a e : ℕ) (j : Bool) {n : ℕ} {es : List LogEvent} → Passes n es
     → Passes (suc n) (es ++ Claims t a e Session ∷ Installs t j Session ∷ [])
 one_behind t a e j no_more = one_first t a e j no_more
@@ -91,6 +92,7 @@ settled_rows b f true = refl
 settled_rows b f false = refl
 
 module _ (b c : SessionBook) (f : ℕ × ℕ × State) where
+  -- the ticket's link is found in both, and joined alike
   link_alike : (a : ℕ) (s : State) (segs : List (Segment State))
       → has_link kit b.machine (ticket b f) a s segs ≡ has_link kit c.machine (ticket c f) a s segs
   link_alike a s [] = refl
@@ -140,6 +142,7 @@ module _ (b c : SessionBook) (f : ℕ × ℕ × State) where
 
 -- ---- where all links are joined there is no pass
 
+-- no link is free, so none is claimed
 none_free : (a : ℕ) (s : State) (segs : List (Segment State)) → all_joined segs ≡ true → first_link (takes Session) a s segs ≡ None
 none_free a s [] all = refl
 none_free a s (g ∷ gs) all = by g.link all (none_free g.to g.state gs)
@@ -193,6 +196,7 @@ module _ (bs : Settings) where
   replay_behind b t a e j s number found es =
       ap (λ (d : SessionBook). replay_from kit bs (Some d) es) (sym (pass_is bs b t a e j s number found))
 
+  -- as many passes on both sides, since a show behind fewer says that all links are joined
   pub settle_alike : {n i : ℕ} {es fs : List LogEvent} → Passes n es → Passes i fs → (b c : SessionBook) → RunAlike b c → (answer other : Option ℕ)
       → LegalFrom kit valid bs (Some b) (es ++ Shows answer ∷ []) → LegalFrom kit valid bs (Some c) (fs ++ Shows other ∷ [])
       → (n < i → answer ≡ None) → (i < n → other ≡ None)

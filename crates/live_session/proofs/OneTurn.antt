@@ -24,6 +24,7 @@ use Rattle.live_session.proofs.OneSettle.{passes_turned, passes_moments}
 
 -- ---- lists
 
+-- two cuts of one list at one place
 module _ {A : Type 0} where
   same_front : (xs ys us vs : List A) → xs ++ ys ≡ us ++ vs → length xs ≡ length us → xs ≡ us
   same_front xs ys us vs same many =
@@ -45,6 +46,7 @@ agree_many names (w ∷ ws) (m ∷ ms) agree =
 
 module _ (st : Settings) (bs : BookSettings) where
   module _ (names : List (List ℕ)) (b : Option SessionBook) where
+    -- a command has as many entries of its own as it has worlds
     settle_many : (n links : ℕ) (es : List LogEvent) → IsSettle n links es → 1 ≡ length (moments_from kit bs b es)
     settle_many n links es is =
         subst (λ (xs : List LogEvent). 1 ≡ length (moments_from kit bs b xs)) (sym is.split)
@@ -74,6 +76,7 @@ module _ (st : Settings) (bs : BookSettings) where
     judged_many (Ok asked) old es (Err refused) is = subst (λ (xs : List LogEvent). 0 ≡ length (moments_from kit bs b xs)) (sym is) refl
     judged_many (Err fault) old es (Err refused) is = subst (λ (xs : List LogEvent). 0 ≡ length (moments_from kit bs b xs)) (sym is) refl
 
+  -- what is legal in two parts
   legal_split : (b : Option SessionBook) (xs ys : List LogEvent) → LegalFrom kit valid bs b (xs ++ ys)
       → LegalFrom kit valid bs b xs × LegalFrom kit valid bs (replay_from kit bs b xs) ys
   legal_split b [] ys l = (tt, l)
