@@ -52,7 +52,7 @@ pub data IsEditFault (names : List (List ℕ)) (files : List SourceFile) (top : 
   -- a fault of the files
   in_files : {f : TextFault} → Plans names files top clock (Err f) → IsEditFault names files top clock old lines f
   -- 50 to 55, where the files have a design
-  at_operation : {design : Design} {keys : List KeyData} {refused : RefusedOperation} → Plans names files top clock (Ok (design_of design keys))
+  at_operation : (design : Design) (keys : List KeyData) {refused : RefusedOperation} → Plans names files top clock (Ok (design_of design keys))
       → first_refused old design lines ≡ Some refused → IsEditFault names files top clock old lines (operation_fault names lines refused)
 
 -- the first fault of the edit, or want of memory
