@@ -60,8 +60,8 @@ plan_behind old new all slice files top clock design keys others grows same are 
 
 -- ---- refusals, with files, top and clock that are the same
 
-module _ (names : List (List ℕ)) (all files : List SourceFile) (name top : Option NameId) (tick clock : NameId) (are : all ≡ files) (named : name ≡ top)
-    (clocked : tick ≡ clock) where
+module _ (names : List (List ℕ)) (all files : List SourceFile) (name top : Option NameId) (tick clock : NameId) (are : all ≡ files)
+    (named : name ≡ top) (clocked : tick ≡ clock) where
   plans_here : (r : Result DesignOfTexts TextFault) → Plans names all name tick r → Plans names files top clock r
   plans_here r is =
       subst (λ (c : NameId). Plans names files top c r) clocked

@@ -56,7 +56,8 @@ pub data IsEditFault (names : List (List ℕ)) (files : List SourceFile) (top : 
       → first_refused old design lines ≡ Some refused → IsEditFault names files top clock old lines (operation_fault names lines refused)
 
 -- the first fault of the edit, or want of memory
-abbrev pub IsEditRefusal : (names : List (List ℕ)) → List SourceFile → Option NameId → (clock : NameId) → Option Design → List OpLine → Refusal → Type 0
+abbrev pub IsEditRefusal : (names : List (List ℕ)) → List SourceFile → Option NameId → (clock : NameId) → Option Design → List OpLine → Refusal
+    → Type 0
 IsEditRefusal names files top clock old lines (refusal.Fault f) = IsEditFault names files top clock old lines (fault_view names f)
 IsEditRefusal names files top clock old lines refusal.NoMemory = ⊤
 
