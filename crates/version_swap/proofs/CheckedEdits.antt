@@ -1,5 +1,5 @@
 -- An edit whose operations are checked behind its files: what is known of these by a table of names that has grown.
-use Rattle.std.proofs.Common.{◌≡◌, ◌<◌, ℕ, List, All, length, sym, subst}
+use Rattle.std.proofs.Common.{◌≡◌, ℕ, List, length, sym, subst}
 use Rattle.std.specs.Prelude.{Option, Result, Ok, Err}
 use Rattle.std.proofs.lemmas.List.Elements.{All-weaker}
 use Rattle.ls_text.specs.declared.name_id.NameId.{NameId}
