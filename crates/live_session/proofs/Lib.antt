@@ -11,6 +11,13 @@ pub mod TextTables
 pub mod OneAnswer
 pub mod OneOutput
 pub mod TrueDisplays
+pub mod OneNames
+pub mod OneRun
+pub mod OneCarry
+pub mod OneBook
+pub mod OneSettle
+pub mod OneTurn
+pub mod OneHistory
 pub mod Standing
 pub mod Judged
 pub mod DesignsShared
