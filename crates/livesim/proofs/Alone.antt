@@ -1,7 +1,7 @@
 -- Entries that are all the session's own.
 use Rattle.std.proofs.Common.{◌≡◌, ℕ, Bool, true, List, [], ◌∷◌, ◌++◌, cond, refl, sym, ap, ◌∙◌, subst}
 use Rattle.book_history.specs.declared.who.Who.TheVariants.{Session}
-use Rattle.book_history.specs.Book.{Event, Claims, Installs, Releases}
+use Rattle.book_history.specs.Book.{Event, Claims, Installs}
 use Rattle.book_history.specs.Owned.{AllOwned, owned}
 use Rattle.book_settle.specs.Passes.{ArePasses, no_pass, one_more, IsGivenUp, no_ticket, one_ticket, IsUnfinished}
 
