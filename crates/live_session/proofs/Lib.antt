@@ -8,9 +8,11 @@ pub mod TextFiles
 pub mod SpelledAlike
 pub mod Growing
 pub mod TextTables
+pub mod OperationTexts
 pub mod OneAnswer
 pub mod OneOutput
 pub mod TrueDisplays
+pub mod DesignNames
 pub mod Standing
 pub mod Judged
 pub mod DesignsShared

@@ -1,9 +1,10 @@
 use Rattle.std.proofs.Common.{◌≡◌, ◌∙◌, ◌≤◌, ◌<◌, length, map, sym, subst, ap, refl}
-use Rattle.std.specs.Prelude.{codes}
+use Rattle.std.specs.Prelude.{codes, None}
 use Rattle.std.specs.List.{All}
 use Rattle.std.proofs.lemmas.List.Elements.{All-nil}
 use Rattle.ls_text.specs.declared.name_id.NameId.{NameId}
 use Rattle.ls_text.specs.declared.source_file.SourceFile.{SourceFile}
+use Rattle.ls_text.specs.Readings.{fault_view}
 use Rattle.ls_text.specs.Texts.{text_at}
 use Rattle.module_registry.specs.Views.{entries_of}
 use Rattle.version_swap.proofs.Short.{short_behind}
@@ -39,7 +40,7 @@ returns-in-Ok-clause-begins g c =
     (λ running line starts.
     begins old new e loaded t.result behind c.args.limits c.requires.room planned.texts planned.design planned.keys planned.built planned.kept c.args.book.now
     c.begun_or_cut.new.book running line starts c.requires.stands is.texts is.planned is.keyed _ es before c.requires.none is.ensured is.built is.kept
-    c.requires.ops short)
+    is.valid short)
     c.begun_or_cut.ensures.kept c.begun_or_cut.ensures.starts
 
 pub refused-requires-clause-files : goal.refused-requires-clause-files
@@ -63,11 +64,11 @@ returns-clause-begins g c =
     let clock_is = subst (λ (id : NameId). text_at old id.0 ≡ codes "clk") (sym t.ensures.clock) c.requires.clock_is in
     let behind = behind_none old new c.plan-planned.ensures.grows c.has_each_once.ensures c.has_each_once-2.ensures e loaded c.requires.edit c.requires.named
     t.result t.ensures.files t.ensures.top clock_in clock_is in
-    let r = c.in_ok-reply-in-Err-Fault.ensures in
+    let refusal = c.in_ok-reply-in-Err-Fault.ensures in
     record {
-      takes = takes_fault old new e loaded t.result fresh behind (settings_by c.args.limits c.args.book.now) fresh c.args.book.now r.fault
-          c.in_ok-reply-in-Err-Fault.reply refl r.plans r.refuses;
-      goes_on = r.refuses.goes_on;
+      takes = takes_fault old new e loaded t.result fresh behind (settings_by c.args.limits c.args.book.now) fresh c.args.book.now None tt
+          (fault_view new c.in-Err-Fault.fault) c.in_ok-reply-in-Err-Fault.reply refl c.in-Err-Fault.ensures.refused refusal;
+      goes_on = refusal.goes_on;
       none = c.in-Err-Fault.ensures.stays ∙ c.requires.none;
       stands = c.requires.stands;
     }
