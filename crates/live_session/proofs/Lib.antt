@@ -11,6 +11,7 @@ pub mod TextTables
 pub mod OneAnswer
 pub mod OneOutput
 pub mod TrueDisplays
+pub mod DesignNames
 pub mod Standing
 pub mod Judged
 pub mod DesignsShared
