@@ -357,7 +357,17 @@ pub fn renew<R: Threads + Sync, L: Ledger>(
     );
     has_each_once(names);
     match planned {
-        Ok(planned) => accepted(alloc, registry, held, limits, book, running, planned, steps),
+        Ok(planned) => accepted(
+            alloc,
+            registry,
+            held,
+            limits,
+            book,
+            running,
+            planned,
+            edit.ops.as_slice(),
+            steps,
+        ),
         Err(Refusal::NoMemory) => Err(NoMemory),
         Err(Refusal::Fault(fault)) => refused(alloc, names, &running.texts, edit, loaded, &fault),
     }
