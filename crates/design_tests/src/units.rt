@@ -8,7 +8,7 @@ use typed_ir::{
     Const, ConstList, Form, InstanceId, InstanceName, InstanceTable, Lane, Node, SignalId, Span,
     TargetForm, Typed,
 };
-use unit_ir::{RegShape, Regs, shifted_node};
+use unit_ir::shifted_node;
 
 // Whether a node drives bit 3 of signal 6 with signal 7, as a bit.
 fn drives_from_seven(node: &Node) -> bool {
@@ -70,8 +70,8 @@ fn values_of_parameters(rt: HostRuntime) -> Result<(), Fail> {
     Ok(())
 }
 
-// Whether instances that stand in these make a table, and a register may be of this one.
-fn is_table(alloc: Global, parents: &[Option<u32>], instance: u32) -> Result<bool, NoMemory> {
+// Whether instances that stand in these make a table.
+fn is_table(alloc: Global, parents: &[Option<u32>]) -> Result<bool, NoMemory> {
     let mut instances = Vec::new(alloc);
     for parent in parents {
         let parent = match parent {
@@ -83,27 +83,16 @@ fn is_table(alloc: Global, parents: &[Option<u32>], instance: u32) -> Result<boo
             name: NameId(0),
         })?;
     }
-    let Some(table) = InstanceTable::new(instances) else {
-        return Ok(false);
-    };
-    let mut registers = Vec::new(alloc);
-    registers.push(RegShape {
-        instance: InstanceId(instance),
-        in_module: NameId(0),
-        name: NameId(1),
-        width: 1,
-    })?;
-    Ok(Regs::new(table, registers).is_some())
+    Ok(InstanceTable::new(instances).is_some())
 }
 
 #[test]
-fn tables_of_registers(rt: HostRuntime) -> Result<(), Fail> {
+fn tables_of_instances(rt: HostRuntime) -> Result<(), Fail> {
     let alloc = rt.alloc();
-    assert!(rt; is_table(alloc, &[None, Some(0), Some(1), Some(0)], 3)?);
-    // a register of no instance, an instance in one behind it, a first one that stands in itself, and two tops
-    assert!(rt; !is_table(alloc, &[None, Some(0)], 2)?);
-    assert!(rt; !is_table(alloc, &[None, Some(2), Some(0)], 0)?);
-    assert!(rt; !is_table(alloc, &[Some(0)], 0)?);
-    assert!(rt; !is_table(alloc, &[None, None], 0)?);
+    assert!(rt; is_table(alloc, &[None, Some(0), Some(1), Some(0)])?);
+    // an instance in one behind it, a first one that stands in itself, and two tops
+    assert!(rt; !is_table(alloc, &[None, Some(2), Some(0)])?);
+    assert!(rt; !is_table(alloc, &[Some(0)])?);
+    assert!(rt; !is_table(alloc, &[None, None])?);
     Ok(())
 }

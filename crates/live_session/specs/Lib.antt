@@ -13,6 +13,7 @@ pub mod Tables
 pub mod Shown
 pub mod Statuses
 pub mod Replies
+pub mod Entries
 pub mod Scripts
 pub mod Done
 pub mod Sessions

@@ -1,5 +1,5 @@
 // Files and commands have at most one answer, and displays tell the truth.
-ghost use Rattle.std.specs.Prelude.{◌≡◌, ◌<◌, ◌∷◌, ℕ, true, List, ◌++◌, Option, Some, None, Ok};
+ghost use Rattle.std.specs.Prelude.{◌≡◌, ◌<◌, ◌∷◌, ℕ, true, List, ◌++◌, map, Option, Some, None, Ok};
 ghost use Rattle.book_history.specs.Book.{Settings as BookSettings};
 ghost use Rattle.book_history.specs.Legal.{Follows};
 ghost use Rattle.book_history.specs.Moments.{moments_from};
@@ -7,6 +7,7 @@ ghost use Rattle.book_history.specs.Owned.{AllOwned};
 ghost use Rattle.ls_port.specs.declared.shelf_answer.ShelfAnswer.{ShelfAnswer};
 ghost use Rattle.command_read.specs.Asking.{Shows};
 ghost use Rattle.wave_report.specs.Replies.{show_text};
+ghost use Rattle.live_session.specs.Entries.{bare};
 ghost use Rattle.live_session.specs.Files.{TextFile};
 ghost use Rattle.live_session.specs.Judging.{any_refused, world_after};
 ghost use Rattle.live_session.specs.Readings.{FilesRead, AreRight};
@@ -49,12 +50,15 @@ pub fn commands_have_one_output()
 }
 
 /// Commands have at most one output over whatever legal history without workers has their entries: the marks, the links and the states of its book
-/// are fixed by the commands, so estimates and the answers to settles are too. What a history holds has numbers of names, so two of them may differ.
+/// are fixed by the commands, so estimates and the answers to settles are too; and so are the entries, but for the numbers of names in what they hold.
 #[tactic(none)]
 pub fn histories_have_one_output()
-    ensures { (st : Settings) (bs : BookSettings) (ts : List Told) (es fs : List LogEvent) → Follows kit valid bs es → Follows kit valid bs fs
+    ensures lines { (st : Settings) (bs : BookSettings) (ts : List Told) (es fs : List LogEvent) → Follows kit valid bs es → Follows kit valid bs fs
         → AllOwned true es → AllOwned true fs → IsScript st ts fresh es (moments_from kit bs None es) → IsScript st ts fresh fs (moments_from kit bs None fs)
         → lines st ts fresh (moments_from kit bs None es) ≡ lines st ts fresh (moments_from kit bs None fs) }
+    ensures entries { (st : Settings) (bs : BookSettings) (ts : List Told) (es fs : List LogEvent) → Follows kit valid bs es → Follows kit valid bs fs
+        → AllOwned true es → AllOwned true fs → IsScript st ts fresh es (moments_from kit bs None es) → IsScript st ts fresh fs (moments_from kit bs None fs)
+        → map bare es ≡ map bare fs }
 {}
 
 /// Whatever commands came before it, and whatever is told of it, a display of a design for which the session has room, and whose entry says that

@@ -24,7 +24,10 @@ mod settling;
 mod showing;
 mod telling;
 
-pub use laws::{commands_have_one_output, displays_tell_the_truth, texts_have_one_answer};
+pub use laws::{
+    commands_have_one_output, displays_tell_the_truth, histories_have_one_output,
+    texts_have_one_answer,
+};
 pub use limits::Limits;
 pub use reply::Reply;
 pub use session::Session;

@@ -8,6 +8,7 @@ pub struct Limits {
     pub cycles: u64,
     /// The most names that are set in the rows of its record, each counted once for a stretch of equal rows.
     pub stimulus: u64,
-    /// The rooms of its history. An edit, a run and a display are charged 1 each to the session's.
+    /// The rooms of its history. An edit, a run and a display are charged 1 each to the session's; a settle 1 and twice the smaller of its passes
+    /// and the links.
     pub rooms: Rooms,
 }

@@ -4,3 +4,4 @@ pub mod Runs
 pub mod Writing
 pub mod Endings
 pub mod Turns
+pub mod Outputs

@@ -1,10 +1,12 @@
 // The top call: a script's bytes come in, reply bytes go out.
 //
 // `live` reads the words of the command line, and then command after command: `turning` reads one and has a session carry it out, which comes to a
-// `turn`, and `writing` writes its lines before more is read. `ending` says how the reading ended, `outcome` how the run did.
+// `turn`, and `writing` writes its lines before more is read. `ending` says how the reading ended, `outcome` how the run did. `laws` says that what a
+// run writes is decided by what comes in.
 #![tactic(auto)]
 
 mod ending;
+mod laws;
 #[cfg(test)]
 mod limit_tests;
 mod live;
@@ -13,5 +15,6 @@ mod turn;
 mod turning;
 mod writing;
 
+pub use laws::runs_have_one_output;
 pub use live::live_run;
 pub use outcome::Outcome;

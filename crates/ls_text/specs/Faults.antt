@@ -54,7 +54,6 @@ code_name code =
     else if code == 67 then codes "ShelfFault"
     else if code == 68 then codes "HistoryFull"
     else if code == 69 then codes "StimulusFull"
-    else if code == 90 then codes "NotBuilt"
     else codes "-"
 
 -- `@L`, with a script line

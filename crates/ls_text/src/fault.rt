@@ -7,7 +7,7 @@ use thiserror::Error;
 
 /// What is wrong with a text or a command: its code, where it stands, and the names that it shows.
 ///
-/// The codes are those of the fault table, from 10 `TextTooLong` to 90 `NotBuilt`.
+/// The codes are those of the fault table, from 10 `TextTooLong` to 69 `StimulusFull`.
 #[derive(Debug, Drop, Error)]
 #[error("a fault of code {code}")]
 pub struct Fault {

@@ -37,7 +37,6 @@ fn command_name(code: u8) -> &'static [u8]
         67 => b"ShelfFault",
         68 => b"HistoryFull",
         69 => b"StimulusFull",
-        90 => b"NotBuilt",
         _ => b"-",
     }
 }

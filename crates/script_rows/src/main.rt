@@ -2,14 +2,17 @@
 //
 // `rows.txt` has a line `STATUS NAME WORDS` for each row: NAME.live is the script, NAME.out are the lines, STATUS is how the run
 // ends, and WORDS are those of the command line, where there are any. `FAULTS.md` is the page of faults (`page`): each of its examples is a row, and shows the fault by the line that the page tells;
-// each fault that a row shows is on the page. What differs is named, with the first line that does. `tests` has rows and pages that
-// don't agree.
+// each fault that a row shows is on the page. `fresh.txt` has a line `NAME FRESH` for each row whose last display is settled: FRESH.live has its last design
+// alone, with the inputs and cycles that were recorded, and the registers are the same (`fresh`). What differs is named, with the first line that does. `tests`
+// has rows and pages that don't agree.
 #![tactic(auto)]
 
+mod fresh;
 mod page;
 #[cfg(test)]
 mod tests;
 
+use crate::fresh::last_settled;
 use crate::page::{example_of, has, row_of};
 use livesim::live_run;
 use ls_port::{FileShelf, Shelf, SolidSink, SolidSource};
@@ -113,6 +116,45 @@ fn examples_agree(
     Ok(count)
 }
 
+// Whether the last display of a row is settled, and a run of the last design alone ends with the same registers.
+fn is_of_a_fresh_run(rt: &HostRuntime, alloc: Global, name: &str, fresh: &str) -> io::Result<bool> {
+    let lines = lines_of(rt, alloc, name)?;
+    let script = format!(in alloc; "{fresh}.live")?;
+    let script = fs::read_to_string(rt, script.as_str())?;
+    let words = words_of(alloc, "")?;
+    let mut source = SolidSource::new(Vec::from_slice(alloc, script.as_str().as_bytes())?);
+    let mut sink = SolidSink::new(alloc);
+    let mut shelf = FileShelf::new(rt);
+    let outcome = live_run(rt, alloc, &words, &mut source, &mut sink, &mut shelf);
+    let Ok(written) = str::from_utf8(sink.bytes()) else {
+        return Ok(false);
+    };
+    match (
+        last_settled(alloc, lines.as_str())?,
+        last_settled(alloc, written)?,
+    ) {
+        (Some(shown), Some(true_lines)) => Ok(outcome.status == 0 && shown == true_lines),
+        _ => Ok(false),
+    }
+}
+
+// How many rows end with the registers of a run of their last design alone; the others are named.
+fn settled_agree(rt: &HostRuntime, alloc: Global) -> io::Result<u32> {
+    let pairs = fs::read_to_string(rt, "fresh.txt")?;
+    let mut count = 0u32;
+    for pair in pairs.lines() {
+        let Some((name, fresh)) = pair.split_once(' ') else {
+            continue;
+        };
+        if is_of_a_fresh_run(rt, alloc, name, fresh)? {
+            count = count.saturating_add(1);
+        } else {
+            println!(rt; "{name} doesn't end with the registers of {fresh}")?;
+        }
+    }
+    Ok(count)
+}
+
 fn main(rt: HostRuntime) -> io::Result<()> {
     let alloc = rt.alloc();
     let rows = fs::read_to_string(&rt, "rows.txt")?;
@@ -153,5 +195,7 @@ fn main(rt: HostRuntime) -> io::Result<()> {
             count = count.saturating_add(agree);
         }
     }
-    println!(rt; "{count} examples of faults agree")
+    println!(rt; "{count} examples of faults agree")?;
+    let count = settled_agree(&rt, alloc)?;
+    println!(rt; "{count} settled displays are those of the last design alone")
 }

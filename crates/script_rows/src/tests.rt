@@ -1,4 +1,5 @@
-// What no script can reach: reads and writes that fail, scripts that are cut, and limits.
+// What no script can reach: reads and writes that fail, scripts that are cut, and limits; and the reading of displays.
+use crate::fresh::last_settled;
 use livesim::{Outcome, live_run};
 use ls_port::{MemShelf, MemSink, MemSource, NamedText, Shelf, SolidShelf};
 use ls_text::TextBytes;
@@ -187,8 +188,11 @@ fn commands_are_cut(rt: HostRuntime) -> Result<(), Fail> {
         ],
     )?;
     let table: &[u8] = b"show cycle=0 settled v=1\ntop.acc 00\n";
+    let settled: &[u8] = b"settled cycle=0 v=1\n";
+    let status: &[u8] =
+        b"status v=1 cycle=0 marks=1 units=1\nunit top dc2ed05eb73068c5ae71ce0c12dcc01194a95ef679885db0d359dfe162b85436\n";
     // What is left of the command, and what answers it.
-    let rows: [(&[u8], &[u8]); 38] = [
+    let rows: [(&[u8], &[u8]); 44] = [
         (b"", b""),
         (b"s", b"refused 60 BadCommand @11 s\n"),
         (b"se", b"refused 60 BadCommand @11 se\n"),
@@ -215,10 +219,16 @@ fn commands_are_cut(rt: HostRuntime) -> Result<(), Fail> {
         (b"show top.a", table),
         (b"sett", b"refused 60 BadCommand @11 sett\n"),
         (b"settl", b"refused 60 BadCommand @11 settl\n"),
+        (b"settle", settled),
+        (b"settle ", settled),
+        (b"settle 1", settled),
+        (b"settle 10", settled),
         (b"st", b"refused 60 BadCommand @11 st\n"),
         (b"sta", b"refused 60 BadCommand @11 sta\n"),
         (b"stat", b"refused 60 BadCommand @11 stat\n"),
         (b"statu", b"refused 60 BadCommand @11 statu\n"),
+        (b"status", status),
+        (b"status ", status),
         (b"q", b"refused 60 BadCommand @11 q\n"),
         (b"qu", b"refused 60 BadCommand @11 qu\n"),
         (b"qui", b"refused 60 BadCommand @11 qui\n"),
@@ -396,13 +406,8 @@ fn other_words_are_refused(rt: HostRuntime) -> Result<(), Fail> {
         let mut sink = MemSink::new(alloc, Vec::new(alloc));
         let mut shelf = SolidShelf::new(alloc, Vec::new(alloc));
         let outcome = live_run(&rt, alloc, &words, &mut source, &mut sink, &mut shelf);
-        assert_eq!(rt;
-            outcome,
-            Outcome {
-                status: 2,
-                taken: 0
-            }
-        );
+        assert_eq!(rt; outcome.status, 2);
+        assert_eq!(rt; outcome.taken, 0);
         assert!(rt; sink.bytes().is_empty());
     }
     Ok(())
@@ -423,14 +428,26 @@ fn options_are_taken(rt: HostRuntime) -> Result<(), Fail> {
         let mut sink = MemSink::new(alloc, Vec::new(alloc));
         let mut shelf = SolidShelf::new(alloc, Vec::new(alloc));
         let outcome = live_run(&rt, alloc, &words, &mut source, &mut sink, &mut shelf);
-        assert_eq!(rt;
-            outcome,
-            Outcome {
-                status: 0,
-                taken: 10
-            }
-        );
+        assert_eq!(rt; outcome.status, 0);
+        assert_eq!(rt; outcome.taken, 10);
         assert!(rt; sink.bytes() == b"ok quit\n".as_slice());
     }
+    Ok(())
+}
+
+// The registers of the last display, where that is settled: the replies, and the lines of these.
+#[test]
+fn displays_that_are_settled(rt: HostRuntime) -> Result<(), Fail> {
+    let alloc = rt.alloc();
+    let settled =
+        "show cycle=1 estimate v=2 settled_to=0\na.r 00\nsettled cycle=1 v=2\nshow cycle=1 settled v=2\na.r 01\nb.s 1\nok quit\n";
+    let lines = last_settled(alloc, settled)?;
+    assert!(rt; lines == Some(vec![in alloc; "a.r 01", "b.s 1"]?));
+    let none = "show cycle=1 settled v=1\nok run cycle=2\n";
+    assert!(rt; last_settled(alloc, none)? == Some(Vec::new(alloc)));
+    let estimate =
+        "show cycle=1 settled v=1\na.r 01\nshow cycle=1 estimate v=2 settled_to=0\na.r 00\n";
+    assert!(rt; last_settled(alloc, estimate)? == None);
+    assert!(rt; last_settled(alloc, "ok run cycle=2\n")? == None);
     Ok(())
 }

@@ -5,5 +5,4 @@ pub mod OwnWidths
 pub mod Shapes
 pub mod Items
 pub mod Instances
-pub mod Registers
 pub mod Example

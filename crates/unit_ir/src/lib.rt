@@ -2,9 +2,9 @@
 // numbers, and the law that the design of a tree of sound units is sound.
 //
 // Types alone, of what others make: `typed_items` are the items of a module with their places, `unit_parts` these without, `unit` those that
-// are sound and sized; `shape_list` and `port_list` are a module as it is seen from above, `instance_tree` the instances of a design, `regs`
-// its registers. `making` puts lists together where they fit, and `shifting` copies an expression, a statement or a node to other numbers of
-// signals, as linking does for each instance. `laws` says what the definition of linking keeps.
+// are sound and sized; `shape_list` and `port_list` are a module as it is seen from above, `instance_tree` the instances of a design.
+// `shifting` copies an expression, a statement or a node to other numbers of signals, as linking does for each instance. `laws` says what the
+// definition of linking keeps.
 #![tactic(auto)]
 
 mod child_id;
@@ -14,13 +14,9 @@ mod instance_tree;
 mod item_body;
 mod item_places;
 mod laws;
-mod making;
 mod mention;
 mod port_list;
 mod port_shape;
-mod reg_op;
-mod reg_shape;
-mod regs;
 mod shape_list;
 mod shifting;
 mod signal_declaration;
@@ -42,9 +38,6 @@ pub use laws::linking_is_sound;
 pub use mention::Mention;
 pub use port_list::PortList;
 pub use port_shape::PortShape;
-pub use reg_op::RegOp;
-pub use reg_shape::RegShape;
-pub use regs::Regs;
 pub use shape_list::ShapeList;
 pub use shifting::{shifted_form, shifted_node, shifted_stmt, shifted_typed};
 pub use signal_declaration::SignalDeclaration;

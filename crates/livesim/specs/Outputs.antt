@@ -1,0 +1,23 @@
+-- What a whole run wrote.
+use Rattle.std.specs.Prelude.{◌≢◌, ℕ, Bool, List, ◌++◌}
+use Rattle.std.specs.declared.option.Option.{Option}
+use Rattle.std.specs.declared.option.Option.TheVariants.{Some}
+use Rattle.ls_port.specs.declared.shelf_answer.ShelfAnswer.{ShelfAnswer}
+use Rattle.live_session.specs.Logs.{Log}
+use Rattle.live_session.specs.Settings.{Settings}
+use Rattle.livesim.specs.Runs.{Lived}
+
+-- A run that took these bytes, was given these answers by its shelf and wrote that, and that neither the sink nor want of memory stopped.
+pub record WritesAll (st : Settings) (bytes : List ℕ) (ended : Bool) (given : List ShelfAnswer) (out : List ℕ) : Type 0 where
+  pub left_before : Option (List ℕ)
+  pub left_behind : Option (List ℕ)
+  pub written : List ℕ
+  pub answers : List ShelfAnswer
+  pub faults_before : ℕ
+  pub faults_behind : ℕ
+  pub status : ℕ
+  pub history : Log
+  pub no_sink_fault : status ≢ 4
+  pub enough_memory : status ≢ 5
+  pub lived : Lived st left_before left_behind (Some written) (Some (written ++ out)) (Some answers) (Some (answers ++ given)) faults_before faults_behind
+      bytes ended status history
