@@ -121,10 +121,13 @@ marks_same was is settings events =
 -- ---- the book behind the entry
 
 -- it has the number and the machine that the code gave
-pub reloads_so : (was is : Log) (version number : ℕ) (machine design : Design) (ops : Ops) (from : ℕ) → version ≡ number → machine ≡ design
-    → is.events ≡ was.events ++ Reloads version machine ops from ∷ [] → is.events ≡ was.events ++ Reloads number design ops from ∷ []
-reloads_so was is version number machine design ops from first same events =
-    events ∙ ap₂ (λ (v : ℕ) (m : Design). was.events ++ Reloads v m ops from ∷ []) first same
+pub reloads_so : (was is : Log) (version number : ℕ) (machine design : Design) (given ops : Ops) (from : ℕ) → version ≡ number → machine ≡ design
+    → given ≡ ops → is.events ≡ was.events ++ Reloads version machine given from ∷ []
+    → is.events ≡ was.events ++ Reloads number design ops from ∷ []
+reloads_so was is version number machine design given ops from first same equal events =
+    events
+    ∙ ap₂ (λ (v : ℕ) (m : Design). was.events ++ Reloads v m given from ∷ []) first same
+    ∙ ap (λ (os : Ops). was.events ++ Reloads number design os from ∷ []) equal
 
 module _ (was is : Log) (number : ℕ) (design : Design) (ops : Ops) (from : ℕ) (settings : is.settings ≡ was.settings)
     (events : is.events ≡ was.events ++ Reloads number design ops from ∷ []) (legal : IsLegal is) where
@@ -161,8 +164,8 @@ module _ (old new : List (List ℕ)) (grows : Grows old new) (once : HasEachOnce
   abbrev before : World
   before = world_of old es (marks_of was) r
 
-  abbrev ops : Ops
-  ops = ops_of e.ops
+  abbrev its_ops : Ops
+  its_ops = ops_of e.ops
 
   pub behind_running : IsBlockBehind old new e loaded r.texts before
   behind_running = record {
@@ -255,7 +258,7 @@ module _ (old new : List (List ℕ)) (grows : Grows old new) (once : HasEachOnce
       (valid_ops : AreValidBetween (Some r.version.value.machine.value) design e.ops)
       (short : All (λ (f : SourceFile). length f.text ≤ 4194304) texts.files) (room : r.charge < limits.rooms.session) where
     module _ (after : List Entry) (same : after ≡ middle) (x : Running) (is : Log) (from : ℕ)
-        (goes : GoesOn ops texts design keys from r x was is) where
+        (goes : GoesOn its_ops texts design keys from r x was is) where
       abbrev its_keys : List (List ℕ)
       its_keys = map (λ (k : KeyData). k.text) keys
 
@@ -296,13 +299,13 @@ module _ (old new : List (List ℕ)) (grows : Grows old new) (once : HasEachOnce
       since : from ≡ chosen (settings_by limits was) before
       since = goes.chosen ∙ chosen_so limits r was stands old es
 
-      entry_is : ◌≡◌ {A = LogEvent} (Reloads (r.version.value.number + 1) design ops from)
+      entry_is : ◌≡◌ {A = LogEvent} (Reloads (r.version.value.number + 1) design its_ops from)
           (if r.version.value.number == 0 then Opens 1 x.version.value.machine.value
-          else Reloads (r.version.value.number + 1) x.version.value.machine.value ops (chosen (settings_by limits was) before))
+          else Reloads (r.version.value.number + 1) x.version.value.machine.value its_ops (chosen (settings_by limits was) before))
       entry_is =
-          ap₂ (λ (m : Design) (c : ℕ). Reloads (r.version.value.number + 1) m ops c) (sym goes.has_design) since
+          ap₂ (λ (m : Design) (c : ℕ). Reloads (r.version.value.number + 1) m its_ops c) (sym goes.has_design) since
           ∙ sym (cond-false (r.version.value.number == 0) (Opens 1 x.version.value.machine.value)
-          (Reloads (r.version.value.number + 1) x.version.value.machine.value ops (chosen (settings_by limits was) before)) later)
+          (Reloads (r.version.value.number + 1) x.version.value.machine.value its_ops (chosen (settings_by limits was) before)) later)
 
       its_valid : AreValidBetween (outline_of was).machine x.version.value.machine.value e.ops
       its_valid =
@@ -313,7 +316,7 @@ module _ (old new : List (List ℕ)) (grows : Grows old new) (once : HasEachOnce
           → TakesBlock (settings_by limits was) (edited old e) (Ok (map (text_file old) loaded)) before (world_of new after (marks_of is) x) was is line false
       takes_renewed line says =
           takes_next old new e loaded r.texts before behind after x next (settings_by limits was) was is
-          (Reloads (r.version.value.number + 1) design ops from) (record { settings = goes.settings; events = goes.reloads }) (refl, tt) refl
+          (Reloads (r.version.value.number + 1) design its_ops from) (record { settings = goes.settings; events = goes.reloads }) (refl, tt) refl
           refl goes.marks agrees entry_is its_valid line built kept_units from its_count (rest ∙ ap length (sym goes.has_keys)) since says
 
       -- what is kept of the next version
@@ -335,7 +338,7 @@ module _ (old new : List (List ℕ)) (grows : Grows old new) (once : HasEachOnce
 
     -- the line is there
     pub takes_said : (after : List Entry) (x : Running) (is : Log) (reply : Reply) → after ≡ middle
-        → SaysSo ops texts design keys built kept_units r x was is reply
+        → SaysSo its_ops texts design keys built kept_units r x was is reply
         → TakesBlock (settings_by limits was) (edited old e) (Ok (map (text_file old) loaded)) before (world_of new after (marks_of is) x) was is reply.lines
         reply.refused
     takes_said after x is reply same so =
@@ -343,7 +346,7 @@ module _ (old new : List (List ℕ)) (grows : Grows old new) (once : HasEachOnce
         (sym so.accepts.refusal) (takes_renewed after same x is so.from so.goes reply.lines so.accepts.text)
 
     -- or it is lost, or nothing is new
-    pub loses_so : (after : List Entry) (x : Running) (is : Log) → LosesLine ops texts design keys (length es) middle after r x was is
+    pub loses_so : (after : List Entry) (x : Running) (is : Log) → LosesLine its_ops texts design keys (length es) middle after r x was is
         → LosesBlock (settings_by limits was) (edited old e) (Ok (map (text_file old) loaded)) before (world_of new after (marks_of is) x) was is
     loses_so after x is (nothing_new cut still settings events) =
         none_taken settings events (stays_grown after x is (cut ∙ cut_to builds es middle keys ensures_so) still (marks_same was is settings events))
@@ -351,30 +354,30 @@ module _ (old new : List (List ℕ)) (grows : Grows old new) (once : HasEachOnce
         lost_lines (edit_text (r.version.value.number + 1) built kept_units from) false
         (takes_renewed after same x is from goes (edit_text (r.version.value.number + 1) built kept_units from) refl)
 
-    pub kept_said : (x : Running) (is : Log) (reply : Reply) → SaysSo ops texts design keys built kept_units r x was is reply → IsKept new limits x
+    pub kept_said : (x : Running) (is : Log) (reply : Reply) → SaysSo its_ops texts design keys built kept_units r x was is reply → IsKept new limits x
     kept_said x is reply so = kept_next middle refl x is so.from so.goes
 
-    pub kept_lost : (after : List Entry) (x : Running) (is : Log) → LosesLine ops texts design keys (length es) middle after r x was is → IsKept new limits x
+    pub kept_lost : (after : List Entry) (x : Running) (is : Log) → LosesLine its_ops texts design keys (length es) middle after r x was is → IsKept new limits x
     kept_lost after x is (nothing_new cut still settings events) = subst (IsKept new limits) (sym still) (kept_grown old new grows limits r kept)
     kept_lost after x is (line_lost from same goes) = kept_next after same x is from goes
 
     -- and so of an answer
     pub takes_by : {E : Type 0} (after : List Entry) (x : Running) (is : Log) (result : Result Reply E) → IfOk result (λ _. after ≡ middle)
-        → IfOk result (SaysSo ops texts design keys built kept_units r x was is)
+        → IfOk result (SaysSo its_ops texts design keys built kept_units r x was is)
         → IfOk result (λ reply. TakesBlock (settings_by limits was) (edited old e) (Ok (map (text_file old) loaded)) before
         (world_of new after (marks_of is) x) was is reply.lines reply.refused)
     takes_by after x is (Ok reply) same so = takes_said after x is reply same so
     takes_by after x is (Err error) same so = tt
 
     pub loses_by : {E : Type 0} (after : List Entry) (x : Running) (is : Log) (result : Result Reply E)
-        → OnErr result (LosesLine ops texts design keys (length es) middle after r x was is)
+        → OnErr result (LosesLine its_ops texts design keys (length es) middle after r x was is)
         → OnErr result (LosesBlock (settings_by limits was) (edited old e) (Ok (map (text_file old) loaded)) before (world_of new after (marks_of is) x) was is)
     loses_by after x is (Ok reply) lost = tt
     loses_by after x is (Err error) lost = loses_so after x is lost
 
     pub kept_by : {E : Type 0} (after : List Entry) (x : Running) (is : Log) (result : Result Reply E)
-        → IfOk result (SaysSo ops texts design keys built kept_units r x was is)
-        → OnErr result (LosesLine ops texts design keys (length es) middle after r x was is) → IsKept new limits x
+        → IfOk result (SaysSo its_ops texts design keys built kept_units r x was is)
+        → OnErr result (LosesLine its_ops texts design keys (length es) middle after r x was is) → IsKept new limits x
     kept_by after x is (Ok reply) so lost = kept_said x is reply so
     kept_by after x is (Err error) so lost = kept_lost after x is lost
 

@@ -6,21 +6,21 @@ use denote.Param.Send.{sendable}
 use Rattle.std.proofs.Crossing.{crosses}
 use Rattle.book_history.specs.declared.version.Version.{Version}
 use Rattle.cycle_eval.specs.declared.design.Design.{Design}
-use Rattle.live_session.proofs.DesignsShared.{design_field_send, design_field_sync, design_send, design_sync}
+use Rattle.live_session.proofs.DesignsShared.{design_send, design_sync}
 use Rattle.live_session.proofs.Beginning.{first_room, marks_none, never_opened, opens_so, stands_first}
 use Rattle.live_session.proofs.planning.begun.Goals as goal
 
 pub open-requires-send-M : goal.open-requires-send-M
-open-requires-send-M c κs = search (design_send, design_field_send, sendable, crosses) depth 40 fits 20000
+open-requires-send-M c κs = search (design_send, sendable, crosses) depth 40 fits 20000
 
 pub open-requires-sync-M : goal.open-requires-sync-M
-open-requires-sync-M c κs = search (design_sync, design_field_sync, sendable, crosses) depth 40 fits 20000
+open-requires-sync-M c κs = search (design_sync, sendable, crosses) depth 40 fits 20000
 
 pub legal-requires-send-M : goal.legal-requires-send-M
-legal-requires-send-M c κs = search (design_send, design_field_send, sendable, crosses) depth 40 fits 20000
+legal-requires-send-M c κs = search (design_send, sendable, crosses) depth 40 fits 20000
 
 pub legal-requires-sync-M : goal.legal-requires-sync-M
-legal-requires-sync-M c κs = search (design_sync, design_field_sync, sendable, crosses) depth 40 fits 20000
+legal-requires-sync-M c κs = search (design_sync, sendable, crosses) depth 40 fits 20000
 
 pub open-requires-clause-never : goal.open-requires-clause-never
 open-requires-clause-never c κs = never_opened c.args.limits c.args.book.now c.requires.stands

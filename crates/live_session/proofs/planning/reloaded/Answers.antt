@@ -6,27 +6,27 @@ use Rattle.checkpoint_book.specs.Views.{LeadTo}
 use Rattle.cycle_eval.specs.declared.design.Design.{Design}
 use Rattle.version_swap.specs.Operations.{ops_of}
 use Rattle.live_session.specs.Logs.{Ops, book_in, valid}
-use Rattle.live_session.proofs.DesignsShared.{design_field_send, design_field_sync, design_send, design_sync}
+use Rattle.live_session.proofs.DesignsShared.{design_send, design_sync}
 use Rattle.live_session.proofs.Renewing.{has_session_room, is_opened, leads_to, marks_stay, next_number, number_charged, reloads_so, stands_next}
 use Rattle.live_session.proofs.planning.reloaded.Goals as goal
 
 pub legal-requires-send-M : goal.legal-requires-send-M
-legal-requires-send-M g c κs = search (design_send, design_field_send, sendable, crosses) depth 40 fits 20000
+legal-requires-send-M g c κs = search (design_send, sendable, crosses) depth 40 fits 20000
 
 pub legal-requires-sync-M : goal.legal-requires-sync-M
-legal-requires-sync-M g c κs = search (design_sync, design_field_sync, sendable, crosses) depth 40 fits 20000
+legal-requires-sync-M g c κs = search (design_sync, sendable, crosses) depth 40 fits 20000
 
 pub reload-requires-send-M : goal.reload-requires-send-M
-reload-requires-send-M g c κs within = search (design_send, design_field_send, sendable, crosses) depth 40 fits 20000
+reload-requires-send-M g c κs within = search (design_send, sendable, crosses) depth 40 fits 20000
 
 pub reload-requires-sync-M : goal.reload-requires-sync-M
-reload-requires-sync-M g c κs within = search (design_sync, design_field_sync, sendable, crosses) depth 40 fits 20000
+reload-requires-sync-M g c κs within = search (design_sync, sendable, crosses) depth 40 fits 20000
 
 pub legal-requires-2-send-M : goal.legal-requires-2-send-M
-legal-requires-2-send-M g c κs = search (design_send, design_field_send, sendable, crosses) depth 40 fits 20000
+legal-requires-2-send-M g c κs = search (design_send, sendable, crosses) depth 40 fits 20000
 
 pub legal-requires-2-sync-M : goal.legal-requires-2-sync-M
-legal-requires-2-sync-M g c κs = search (design_sync, design_field_sync, sendable, crosses) depth 40 fits 20000
+legal-requires-2-sync-M g c κs = search (design_sync, sendable, crosses) depth 40 fits 20000
 
 pub number_behind-number-requires : goal.number_behind-number-requires
 number_behind-number-requires g c =
@@ -63,9 +63,10 @@ returns-clause-goes_on g c =
     let is = c.reload.new.self in
     let number = c.in_ok-version.ensures.number ∙ c.number_behind-number.ensures ∙ ap (λ (v : Version Design). v.number + 1) c.deref.ensures in
     let machine = c.in_ok-version.ensures.design in
-    let reloads = reloads_so was is _ (c.args.running.now.version.value.number + 1) _ c.args.design _ c.in_ok-from.from
+    let ops = ops_of c.args.lines.now in
+    let reloads = reloads_so was is _ (c.args.running.now.version.value.number + 1) _ c.args.design _ ops c.in_ok-from.from
     (ap (λ (v : Version Design). v.number) c.in_ok-try_clone.ensures ∙ number) (ap (λ (v : Version Design). v.machine.value) c.in_ok-try_clone.ensures ∙ machine)
-    c.in_ok-from.ensures.ok in
+    (c.new-ops.ensures ∙ c.in_ok-operations_of.ensures) c.in_ok-from.ensures.ok in
     record {
       has_texts = refl;
       has_design = machine;
@@ -77,7 +78,7 @@ returns-clause-goes_on g c =
       charge = refl;
       settings = c.reload.ensures.settings;
       reloads = reloads;
-      marks = marks_stay was is (c.args.running.now.version.value.number + 1) c.args.design _ c.in_ok-from.from c.reload.ensures.settings reloads
+      marks = marks_stay was is (c.args.running.now.version.value.number + 1) c.args.design ops c.in_ok-from.from c.reload.ensures.settings reloads
           c.legal-2.ensures;
       chosen = c.in_ok-from.ensures.chosen;
     }
@@ -88,8 +89,9 @@ returns-clause-stands g c =
     let is = c.reload.new.self in
     let number = c.in_ok-version.ensures.number ∙ c.number_behind-number.ensures ∙ ap (λ (v : Version Design). v.number + 1) c.deref.ensures in
     let machine = c.in_ok-version.ensures.design in
-    let reloads = reloads_so was is _ (c.args.running.now.version.value.number + 1) _ c.args.design _ c.in_ok-from.from
+    let ops = ops_of c.args.lines.now in
+    let reloads = reloads_so was is _ (c.args.running.now.version.value.number + 1) _ c.args.design _ ops c.in_ok-from.from
     (ap (λ (v : Version Design). v.number) c.in_ok-try_clone.ensures ∙ number) (ap (λ (v : Version Design). v.machine.value) c.in_ok-try_clone.ensures ∙ machine)
-    c.in_ok-from.ensures.ok in
-    stands_next was is (c.args.running.now.version.value.number + 1) c.args.design _ c.in_ok-from.from c.reload.ensures.settings reloads
+    (c.new-ops.ensures ∙ c.in_ok-operations_of.ensures) c.in_ok-from.ensures.ok in
+    stands_next was is (c.args.running.now.version.value.number + 1) c.args.design ops c.in_ok-from.from c.reload.ensures.settings reloads
     c.legal-2.ensures c.args.limits c.args.running.now _ c.requires.stands number machine refl refl
