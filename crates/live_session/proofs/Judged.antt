@@ -1,10 +1,10 @@
 -- What a command did, by its verdict and by the entries that it added.
-use Rattle.std.proofs.Common.{◌≡◌, ◌∙◌, ℕ, false, List, [], ◌∷◌, ◌++◌, map, Option, Some, None, Result, Ok, Err, refl, sym, ap, subst, append-nil}
+use Rattle.std.proofs.Common.{◌≡◌, ◌∙◌, ℕ, true, false, List, [], ◌∷◌, ◌++◌, map, Option, Some, None, Result, Ok, Err, refl, sym, ap, subst, append-nil}
 use Rattle.std.specs.Prelude.{IfOk, codes}
 use Rattle.ls_text.specs.Texts.{HasEachOnce}
 use Rattle.book_history.specs.Book.{Book}
 use Rattle.book_history.specs.Outline.{outline_in}
-use Rattle.book_history.specs.Owned.{owned}
+use Rattle.book_history.specs.Owned.{AllOwned, owned}
 use Rattle.book_settle.specs.Passes.{IsUnfinished, no_pass, no_ticket}
 use Rattle.command_read.specs.Asking.{Asked, Sets}
 use Rattle.command_read.specs.Spoken.{setting}
@@ -41,9 +41,9 @@ module _ (st : Settings) (asked : Asked) (names : List (List ℕ)) (once : HasEa
         events = sym (append-nil j.events);
         goes = same;
         refusal = says.refusal;
-        part = record { names = names; once = once; is = refl };
+        alone = tt;
+        part = record { names = names; once = once; is = refl; agree = tt };
         tells = λ (rest : List LogMoment). ap (λ (text : List ℕ). Some (text, rest)) (sym says.text);
-        agree = tt;
       })
 
   -- it was accepted, and has no entry of its own
@@ -58,17 +58,17 @@ module _ (st : Settings) (asked : Asked) (names : List (List ℕ)) (once : HasEa
         events = sym (append-nil j.events);
         goes = same;
         refusal = accepts;
-        part = record { names = names; once = once; is = part };
+        alone = tt;
+        part = record { names = names; once = once; is = part; agree = subst (λ (ws : List World). AllAgree names ws []) (sym none) tt };
         tells = says;
-        agree = subst (λ (ws : List World). AllAgree ws []) (sym none) tt;
       })
 
   -- it was accepted, and one of the entries is its own
-  pub entry_done : (was is : Log) (es own : List LogEvent) → Adds was is es → owned es ≡ own → (m : LogMoment) → moments_after was es ≡ m ∷ []
-      → (w : World) → v ≡ Ok w → new ≡ w → IsAccepted names st old w own asked → entry_worlds old asked ≡ old ∷ [] → Agrees old (outline_in m.book)
-      → ((rest : List LogMoment) → command_text st asked old w (m ∷ rest) ≡ Some (r.lines, rest)) → r.refused ≡ false
+  pub entry_done : (was is : Log) (es own : List LogEvent) → Adds was is es → AllOwned true es → owned es ≡ own → (m : LogMoment)
+      → moments_after was es ≡ m ∷ [] → (w : World) → v ≡ Ok w → new ≡ w → IsAccepted names st old w own asked → entry_worlds old asked ≡ old ∷ []
+      → Agrees names old (outline_in m.book) → ((rest : List LogMoment) → command_text st asked old w (m ∷ rest) ≡ Some (r.lines, rest)) → r.refused ≡ false
       → IsDone st (Ok asked) old new v was is r.lines r.refused
-  entry_done was is es own adds mine m moments w judged same part at_one agrees says accepts =
+  entry_done was is es own adds alone mine m moments w judged same part at_one agrees says accepts =
       subst (λ (x : Result World Refused). IsDone st (Ok asked) old new x was is r.lines r.refused) (sym judged)
       (record {
         added = es;
@@ -76,14 +76,15 @@ module _ (st : Settings) (asked : Asked) (names : List (List ℕ)) (once : HasEa
         events = adds.events;
         goes = same;
         refusal = accepts;
+        alone = alone;
         part = record {
           names = names;
           once = once;
           is = subst (λ (xs : List LogEvent). IsAccepted names st old w xs asked) (sym mine) part;
+          agree = subst (λ (ws : List World). AllAgree names ws (moments_after was es)) (sym at_one)
+              (subst (λ (ms : List LogMoment). AllAgree names (old ∷ []) ms) (sym moments) (agrees, tt));
         };
         tells = λ (rest : List LogMoment). ap (λ (ms : List LogMoment). command_text st asked old w (ms ++ rest)) moments ∙ says rest;
-        agree = subst (λ (ws : List World). AllAgree ws (moments_after was es)) (sym at_one)
-            (subst (λ (ms : List LogMoment). AllAgree (old ∷ []) ms) (sym moments) (agrees, tt));
       })
 
 -- two states of what runs that are one to a session, but for the charge

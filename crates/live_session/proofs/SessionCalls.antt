@@ -7,10 +7,9 @@ use Rattle.ls_text.specs.Texts.{HasEachOnce}
 use Rattle.ls_port.specs.declared.shelf_answer.ShelfAnswer.{ShelfAnswer}
 use Rattle.command_read.specs.Asking.{Asked, AsksStatus, Block, Edits, Quits}
 use Rattle.command_read.specs.Scripts.{is_quit}
-use Rattle.command_read.specs.Spoken.{edited, line_operation, loaded_file}
+use Rattle.command_read.specs.Spoken.{edited, loaded_file}
 use Rattle.command_read.specs.declared.edit.Edit.{Edit}
 use Rattle.command_read.specs.declared.load_line.LoadLine.{LoadLine}
-use Rattle.command_read.specs.declared.op_line.OpLine.{OpLine}
 use Rattle.cycle_eval.specs.Designs.{work_of}
 use Rattle.module_registry.specs.Entries.{Entry}
 use Rattle.module_registry.specs.Views.{entries_of}
@@ -19,7 +18,7 @@ use Rattle.live_session.specs.Begins.{Begins, IsBegun, IsRefused}
 use Rattle.live_session.specs.Beside.{Stands, StandsBeside, settings_by, settings_in, world_in}
 use Rattle.live_session.specs.Done.{told}
 use Rattle.live_session.specs.Files.{TextFile}
-use Rattle.live_session.specs.Judging.{first_line, unbuilt_command, verdict_on}
+use Rattle.live_session.specs.Judging.{verdict_on}
 use Rattle.live_session.specs.Kept.{IsKept}
 use Rattle.live_session.specs.Loaded.{Loses}
 use Rattle.live_session.specs.Loads.{AreToFirst, LosesAnswers}
@@ -44,11 +43,6 @@ use Rattle.live_session.proofs.SessionSteps.{answers_for, none_twice, refuses_wi
 pub always : {A E P : Type 0} (result : Result A E) → P → OnErr result P
 always (Ok x) p = tt
 always (Err e) p = p
-
--- a block whose first operation isn't there has none
-pub no_operations : (names : List (List ℕ)) (os : List OpLine) → None ≡ first_line (map (line_operation names) os) → os ≡ []
-no_operations names [] is = refl
-no_operations names (o ∷ os) is = absurd (true≢false (sym (ap is_some is)))
 
 -- ---- what runs in a session
 
@@ -78,14 +72,13 @@ none_runs asked s j line result none is says =
     none ∙ is) says
 
 -- a call that asks nothing of the book
-module _ {E : Type 0} (asked : Asked) (built : (w : World) → unbuilt_command w asked ≡ None) (old : Session) (j : Log) (r x : Running)
-    (runs : old.running ≡ Some r) (beside : StandsBeside old j) where
+module _ {E : Type 0} (asked : Asked) (old : Session) (j : Log) (r x : Running) (runs : old.running ≡ Some r) (beside : StandsBeside old j) where
   pub answers_beside : (result : Result Reply E)
       → IfOk result (λ reply. (i : Log) → Stands old.limits (Some r) i → AnswersIn old.names old.limits asked r x i i reply)
       → IfOk result (AnswersFrom (settings_in old j) asked (world_in old j) (world_of old.names (entries_of old.registry) (marks_of j) x) j j)
   answers_beside (Err e) h = tt
   answers_beside (Ok reply) h =
-      answers_for asked built old j j r x runs reply (h j (stands_there old.limits old.running r j runs beside.stands))
+      answers_for asked old j j r x runs reply (h j (stands_there old.limits old.running r j runs beside.stands))
 
   pub stays_beside : (result : Result Reply E) → OnErr result (x ≡ r)
       → OnErr result (StopsFrom (settings_in old j) asked (world_in old j) (world_of old.names (entries_of old.registry) (marks_of j) x) j j)
@@ -106,7 +99,7 @@ status_on s j r once is kept beside (Err e) h = tt
 status_on s j r once is kept beside (Ok reply) h = λ (line : ℕ).
     subst (λ (w : World). AnswersFrom (settings_in s j) (AsksStatus line) (world_in s j) w j j reply)
     (sym (ap (running_world s.names (entries_of s.registry) (marks_of j)) is))
-    (answers_for (AsksStatus line) (λ w. refl) s j j r r is reply
+    (answers_for (AsksStatus line) s j j r r is reply
     (h s.names s.limits line once (kept_there s.names s.limits s.running r is kept) (stands_there s.limits s.running r j is beside.stands)))
 
 -- `status` before the first design
@@ -131,13 +124,6 @@ quit_at line s j (Err e) h = tt
 quit_at line s j (Ok reply) h = h line s j
 
 -- ---- a first block
-
--- no operation was found
-pub no_operations_by : (names : List (List ℕ)) (os slice : List OpLine) (o : Option ℕ) → slice ≡ os
-    → ((table : List (List ℕ)) → o ≡ first_line (map (line_operation table) slice)) → ((line : ℕ) → o ≡ Some line → ⊥) → os ≡ []
-no_operations_by names os slice None same first not =
-    no_operations names os (first names ∙ ap (λ (xs : List OpLine). first_line (map (line_operation names) xs)) same)
-no_operations_by names os slice (Some line) same first not = absurd (not line refl)
 
 -- the loads came to nothing
 pub loses_loads : (names : List (List ℕ)) (e : Edit) (lines : List LoadLine) (before behind : Option (List ShelfAnswer)) → lines ≡ e.loads

@@ -14,12 +14,11 @@ use Rattle.ls_text.specs.Readings.{TextFault}
 use Rattle.ls_text.specs.Texts.{Grows, HasEachOnce}
 use Rattle.command_read.specs.Asking.{Asked, Block, Edits, GivenFile, LoadedFile, Quits}
 use Rattle.command_read.specs.Formed.{IsFormed}
-use Rattle.command_read.specs.Spoken.{edited, given_file, line_operation, spoken}
+use Rattle.command_read.specs.Spoken.{edited, given_file, spoken}
 use Rattle.command_read.specs.declared.command.Command.{Command}
 use Rattle.command_read.specs.declared.command.Command.TheVariants as the_command
 use Rattle.command_read.specs.declared.edit.Edit.{Edit}
 use Rattle.command_read.specs.declared.file_line.FileLine.{FileLine}
-use Rattle.command_read.specs.declared.op_line.OpLine.{OpLine}
 use Rattle.module_registry.specs.Entries.{Entry}
 use Rattle.module_registry.specs.Views.{entries_of}
 use Rattle.book_history.specs.Outline.{Outline}
@@ -27,19 +26,19 @@ use Rattle.cycle_eval.specs.declared.design.Design.{Design}
 use Rattle.live_session.specs.Beside.{StandsBeside, settings_by, settings_in, world_in}
 use Rattle.live_session.specs.Done.{IsDone, told}
 use Rattle.live_session.specs.Files.{TextFile}
-use Rattle.live_session.specs.Judging.{first_line, unbuilt_command, verdict_if, verdict_on}
+use Rattle.live_session.specs.Judging.{verdict_on}
 use Rattle.live_session.specs.Kept.{IsKept}
 use Rattle.live_session.specs.Loaded.{ComesTo, result_of}
 use Rattle.live_session.specs.Loads.{LoadAnswer, Gave, Broke, AddsAnswers, AreToFirst, HasFailed, LosesAnswers, loaded_files, name_in, shelf_answer, shelf_answers}
 use Rattle.live_session.specs.Logs.{InputRow, Log, LogMoment, marks_of, outline_of}
-use Rattle.live_session.specs.Readings.{IsRight, IsRightBlock, IsRightCommand, IsRightEdit, IsRightIf}
+use Rattle.live_session.specs.Readings.{IsRight, IsRightEdit}
 use Rattle.live_session.specs.Replies.{answers_to_command}
 use Rattle.live_session.specs.Sessions.{limits_of, running_world, world_of}
 use Rattle.live_session.specs.Settings.{Settings}
 use Rattle.live_session.specs.Steps.{StepsTo, Stops, undone, lost}
 use Rattle.live_session.specs.Taken.{LosesBlock, TakesBlock, lost_lines, none_taken}
 use Rattle.live_session.specs.Turns.{Answers, AnswersFrom, AnswersIn, Refuses, StopsAt, StopsFrom, StopsIn, lost_at, lost_in, no_answer, undone_at, undone_in}
-use Rattle.live_session.specs.Verdicts.{Told, command_verdict, loaded_verdict}
+use Rattle.live_session.specs.Verdicts.{Told, loaded_verdict}
 use Rattle.live_session.specs.Worlds.{World, Refused, fresh, refused_at, refused_text}
 use Rattle.live_session.specs.declared.limits.Limits.{Limits}
 use Rattle.live_session.specs.declared.loads.Loads.{Loads}
@@ -75,9 +74,9 @@ refuses_done st (Err fault) w v j refused r is says =
       events = sym (append-nil j.events);
       goes = refl;
       refusal = says.refusal;
-      part = record { names = []; once = none_twice; is = refl };
+      alone = tt;
+      part = record { names = []; once = none_twice; is = refl; agree = tt };
       tells = λ (rest : List LogMoment). ap (λ (text : List ℕ). Some (text, rest)) (sym says.text);
-      agree = tt;
     })
 
 pub refuses_with : {E : Type 0} (asked : Asked) (s : Session) (j : Log) (refused : Refused) (result : Result Reply E)
@@ -88,8 +87,7 @@ refuses_with asked s j refused (Ok reply) is says =
     refuses_done (settings_in s j) (Ok asked) (world_in s j) (verdict_on (settings_in s j) (told (Ok asked) [] no_answer) (world_in s j)) j refused reply is
     says
 
-module _ (asked : Asked) (built : (w : World) → unbuilt_command w asked ≡ None) (old : Session) (was is : Log) (r x : Running)
-    (runs : old.running ≡ Some r) where
+module _ (asked : Asked) (old : Session) (was is : Log) (r x : Running) (runs : old.running ≡ Some r) where
   world_was : world_in old was ≡ world_of old.names (entries_of old.registry) (marks_of was) r
   world_was = ap (running_world old.names (entries_of old.registry) (marks_of was)) runs
 
@@ -101,12 +99,8 @@ module _ (asked : Asked) (built : (w : World) → unbuilt_command w asked ≡ No
       → AnswersFrom (settings_in old was) asked (world_in old was) world_is was is reply
   answers_for reply h =
       let st = settings_by old.limits was in
-      let before = world_of old.names (entries_of old.registry) (marks_of was) r in
       subst (λ (w : World). IsDone st (Ok asked) w world_is (verdict_on st (told (Ok asked) [] no_answer) w) was is reply.lines reply.refused)
-      (sym world_was)
-      (subst (λ (o : Option ℕ). IsDone st (Ok asked) before world_is (verdict_if o (command_verdict st before asked [] no_answer)) was is reply.lines
-      reply.refused)
-      (sym (built before)) (h (entries_of old.registry)))
+      (sym world_was) (h (entries_of old.registry))
 
   pub answers_on : {E : Type 0} (result : Result Reply E) → IfOk result (AnswersIn old.names old.limits asked r x was is)
       → IfOk result (AnswersFrom (settings_in old was) asked (world_in old was) world_is was is)
@@ -228,7 +222,7 @@ none_given (load ∷ loads) = refl
 abbrev nothing : List LoadAnswer
 nothing = []
 
--- ---- blocks that are refused before anything is loaded
+-- ---- a block that is refused before anything is loaded
 
 module _ (block : Block) (s : Session) (j : Log) (answers : Option (List ShelfAnswer)) (faults : ℕ) (beside : StandsBeside s j) where
   abbrev without : Told
@@ -249,26 +243,16 @@ module _ (block : Block) (s : Session) (j : Log) (answers : Option (List ShelfAn
     beside = beside;
   }
 
-  -- 90
-  pub unbuilt_steps : {E : Type 0} (line : ℕ) (result : Result Reply E) → first_line block.ops ≡ Some line → IfOk result (Refuses (refused_at 90 line []))
-      → IfOk result (λ r. StepsTo (Ok (Edits block)) answers answers faults faults s s j j r.lines r.refused)
-  unbuilt_steps line result unbuilt =
-      refuses_block (refused_at 90 line []) result
-      (ap (λ (o : Option ℕ). verdict_if o (command_verdict (settings_in s j) (world_in s j) (Edits block) [] no_answer)) unbuilt)
-      (subst (λ (o : Option ℕ). IsRightIf o [] (IsRightCommand (settings_in s j) (world_in s j) (Edits block) [] no_answer)) (sym unbuilt) refl)
-
   -- 68
-  pub full_steps : {E : Type 0} (result : Result Reply E) → first_line block.ops ≡ None → (limits_of s).rooms.session ≤ (world_in s j).charge
+  pub full_steps : {E : Type 0} (result : Result Reply E) → (limits_of s).rooms.session ≤ (world_in s j).charge
       → IfOk result (Refuses (refused_at 68 block.line []))
       → IfOk result (λ r. StepsTo (Ok (Edits block)) answers answers faults faults s s j j r.lines r.refused)
-  full_steps result built full =
+  full_steps result full =
       let w = world_in s j in
       let no_room : ltb (limits_of s).rooms.session (w.charge + 1) ≡ true = lt-ltb (limits_of s).rooms.session (w.charge + 1) (omega (arith, full)) in
       refuses_block (refused_at 68 block.line []) result
-      (ap (λ (o : Option ℕ). verdict_if o (command_verdict (settings_in s j) w (Edits block) [] no_answer)) built
-      ∙ ap (λ (b : Bool). cond b (Err (refused_at 68 block.line [])) (loaded_verdict w block no_answer (loaded_files block.loads nothing))) no_room)
-      (subst (λ (o : Option ℕ). IsRightIf o nothing (IsRightBlock (settings_in s j) w block nothing no_answer)) (sym built)
-      (subst (λ (b : Bool). MatchBool b (nothing ≡ nothing) (IsRightEdit w block nothing no_answer)) (sym no_room) refl))
+      (ap (λ (b : Bool). cond b (Err (refused_at 68 block.line [])) (loaded_verdict w block no_answer (loaded_files block.loads nothing))) no_room)
+      (subst (λ (b : Bool). MatchBool b (nothing ≡ nothing) (IsRightEdit w block nothing no_answer)) (sym no_room) refl)
 
 -- ---- blocks whose loads came to something
 
@@ -314,16 +298,13 @@ module _ (names : List (List ℕ)) (e : Edit) (old new : Session) (was is : Log)
   abbrev asks : Block
   asks = edited names e
 
-  module _ (ops : e.ops ≡ []) (limits : limits_of new ≡ limits_of old) (beside : StandsBeside new is)
-      (room : (world_in old was).charge < (limits_of old).rooms.session) (l : Loads) (h : ComesTo names e.loads before behind faults count l) where
+  module _ (limits : limits_of new ≡ limits_of old) (beside : StandsBeside new is) (room : (world_in old was).charge < (limits_of old).rooms.session)
+      (l : Loads) (h : ComesTo names e.loads before behind faults count l) where
     abbrev w : World
     w = world_in old was
 
     abbrev st : Settings
     st = settings_in old was
-
-    all_built : first_line asks.ops ≡ None
-    all_built = ap (λ (os : List OpLine). first_line (map (line_operation names) os)) ops
 
     has_room : ltb (limits_of old).rooms.session (w.charge + 1) ≡ false
     has_room = le-ltb (limits_of old).rooms.session (w.charge + 1) (omega (arith, room))
@@ -333,8 +314,7 @@ module _ (names : List (List ℕ)) (e : Edit) (old new : Session) (was is : Log)
         → StepsTo (Ok (Edits asks)) before behind faults count old new was is text refused
     block_steps text refused t =
         let is_verdict : verdict_on st (told (Ok (Edits asks)) h.answers t.answer) w ≡ loaded_verdict w asks t.answer (result_of names l) =
-        ap (λ (o : Option ℕ). verdict_if o (command_verdict st w (Edits asks) h.answers t.answer)) all_built
-        ∙ ap (λ (b : Bool). cond b (Err (refused_at 68 asks.line [])) (loaded_verdict w asks t.answer (loaded_files asks.loads h.answers))) has_room
+        ap (λ (b : Bool). cond b (Err (refused_at 68 asks.line [])) (loaded_verdict w asks t.answer (loaded_files asks.loads h.answers))) has_room
         ∙ ap (loaded_verdict w asks t.answer) h.comes in
         record {
           loads = h.answers;
@@ -343,9 +323,8 @@ module _ (names : List (List ℕ)) (e : Edit) (old new : Session) (was is : Log)
           cause = h.cause;
           limits = limits;
           right =
-              subst (λ (o : Option ℕ). IsRightIf o h.answers (IsRightBlock st w asks h.answers t.answer)) (sym all_built)
-              (subst (λ (b : Bool). MatchBool b (h.answers ≡ nothing) (IsRightEdit w asks h.answers t.answer)) (sym has_room)
-              (record { loaded = h.right; read = λ files is. t.read files (sym h.comes ∙ is) }));
+              subst (λ (b : Bool). MatchBool b (h.answers ≡ nothing) (IsRightEdit w asks h.answers t.answer)) (sym has_room)
+              (record { loaded = h.right; read = λ files is. t.read files (sym h.comes ∙ is) });
           done = subst (λ (v : Result World Refused). IsDone st (Ok (Edits asks)) w (world_in new is) v was is text refused) (sym is_verdict) t.done;
           beside = beside;
         }
