@@ -1,5 +1,5 @@
 -- The names of a design that texts come to are names of the table.
-use Rattle.std.proofs.Common.{ℕ, ◌<◌, List, All, length}
+use Rattle.std.proofs.Common.{ℕ, List, All, length}
 use Rattle.std.specs.Prelude.{Option, Ok}
 use Rattle.std.proofs.Math.Logic.{∥∥₁_elim}
 use Rattle.std.proofs.Props.{props}

@@ -8,9 +8,17 @@ pub mod TextFiles
 pub mod SpelledAlike
 pub mod Growing
 pub mod TextTables
+pub mod OperationTexts
 pub mod OneAnswer
 pub mod OneOutput
 pub mod TrueDisplays
+pub mod OneNames
+pub mod OneRun
+pub mod OneCarry
+pub mod OneBook
+pub mod OneSettle
+pub mod OneTurn
+pub mod OneHistory
 pub mod DesignNames
 pub mod Standing
 pub mod Judged

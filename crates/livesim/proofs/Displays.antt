@@ -3,7 +3,7 @@ use Rattle.std.proofs.Common.{◌≡◌, ℕ, ◌+◌, ◌<◌, ltb, Bool, false
 use Rattle.std.proofs.lemmas.Bool.Decides.{nat_tests}
 use Rattle.ls_text.specs.Readings.{TextFault}
 use Rattle.command_read.specs.Asking.{Asked, Edits, Sets, Runs, Shows, Settles, AsksStatus, Quits}
-use Rattle.live_session.specs.Judging.{after, world_after, unbuilt, verdict_if}
+use Rattle.live_session.specs.Judging.{after, verdict_on, world_after}
 use Rattle.live_session.specs.Logs.{LogMoment}
 use Rattle.live_session.specs.Replies.{answer_text, command_text, lines, reply, text_then}
 use Rattle.live_session.specs.Settings.{Settings}
@@ -34,7 +34,7 @@ answer_none st (Err fault) old (Err refused) = refl
 left_none : (st : Settings) (xs : List Told) (w : World) → entries_left st xs w [] ≡ []
 left_none st [] w = refl
 left_none st (x ∷ xs) w =
-    ap (λ (ms : List LogMoment). entries_left st xs (after st x w) ms) (answer_none st x.asked w (verdict_if (unbuilt w x.asked) (verdict st w x.asked x.loads x.answer)))
+    ap (λ (ms : List LogMoment). entries_left st xs (after st x w) ms) (answer_none st x.asked w (verdict_on st x w))
     ∙ left_none st xs (after st x w)
 
 some_left : (m : LogMoment) (ms : List LogMoment) → [] ≡ m ∷ ms → ⊥
@@ -78,7 +78,7 @@ module _ (st : Settings) (w : World) (line : ℕ) (prefix : List ℕ) (m : LogMo
   pub display_truth : (t : Told) (design : Spelled) → t.asked ≡ Ok (Shows line prefix) → w.design ≡ Some design → w.charge < st.room → answer_of m.entry ≡ None
       → reply st t w (m ∷ ms) ≡ Some (true_display w prefix design, ms)
   display_truth t design asked is room settled =
-      ap (λ (a : Result Asked TextFault). answer_text st a w (verdict_if (unbuilt w a) (verdict st w a t.loads t.answer)) (m ∷ ms)) asked
+      ap (λ (a : Result Asked TextFault). answer_text st a w (verdict st w a t.loads t.answer) (m ∷ ms)) asked
       ∙ shows_truth w.design design is is (grind (arith, nat_tests)) settled
 
 -- and so do the lines of commands among which it stands

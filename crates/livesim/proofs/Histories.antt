@@ -1,9 +1,9 @@
 -- What a history has of the commands that were carried out, and of one more.
-use Rattle.std.proofs.Common.{◌≡◌, ◌⊎◌, inl, inr, ℕ, Bool, List, [], ◌∷◌, ◌++◌, Option, None, refl, sym, ap, ◌∙◌, subst, append-nil, append_assoc}
+use Rattle.std.proofs.Common.{◌≡◌, ◌⊎◌, inl, inr, ℕ, Bool, true, List, [], ◌∷◌, ◌++◌, Option, None, refl, sym, ap, ◌∙◌, subst, append-nil, append_assoc}
 use Rattle.book_history.specs.Book.{Closes, Settings as BookSettings}
 use Rattle.book_history.specs.Legal.{Legal}
 use Rattle.book_history.specs.Moments.{moments_from}
-use Rattle.book_history.specs.Owned.{owned}
+use Rattle.book_history.specs.Owned.{AllOwned, owned}
 use Rattle.book_history.proofs.Places.{moments-append}
 use Rattle.book_settle.specs.Passes.{IsUnfinished}
 use Rattle.book_settle.proofs.Counting.{owned-append, unfinished_moments, unfinished_owned}
@@ -11,28 +11,29 @@ use Rattle.live_session.specs.Done.{IsDone}
 use Rattle.live_session.specs.Judging.{after, verdict_on, world_after}
 use Rattle.live_session.specs.Logs.{Log, LogEvent, LogMoment, book_in, kit, moments_after, moments_of, valid}
 use Rattle.live_session.specs.Replies.{lines, text_then}
-use Rattle.live_session.specs.Scripts.{AllAgree, IsScript, judged_worlds, worlds}
+use Rattle.live_session.specs.Scripts.{IsScript}
 use Rattle.live_session.specs.Settings.{Settings}
 use Rattle.live_session.specs.Verdicts.{Told}
 use Rattle.live_session.specs.Worlds.{World, fresh}
 use Rattle.livesim.specs.Histories.{IsLegal, closed}
 use Rattle.livesim.specs.Runs.{HasEntries, all_entries, unfinished_settle, no_entries, HasSettings}
-use Rattle.livesim.proofs.Steps.{after-append, agree-append, script-append, worlds-append}
+use Rattle.livesim.proofs.Alone.{alone-append, unfinished_alone}
+use Rattle.livesim.proofs.Steps.{after-append, script-append}
 
 -- These commands are carried out, and these are their lines: whatever commands and entries come behind, the lines of all are these and then those of
 -- what comes behind.
 pub record IsRecorded (st : Settings) (j : Log) (told : List Told) (text : List ℕ) : Type 0 where
   pub has : HasSettings st j
-  pub script : IsScript st told fresh (owned j.events)
-  pub agree : AllAgree (worlds st told fresh) (moments_of j)
+  pub script : IsScript st told fresh (owned j.events) (moments_of j)
+  pub alone : AllOwned true j.events
   pub tells : (ts : List Told) (ms : List LogMoment) → lines st (told ++ ts) fresh (moments_of j ++ ms) ≡ text ++ lines st ts (world_after st told fresh) ms
 
 -- before the first
 pub none_recorded : (st : Settings) (j : Log) → HasSettings st j → j.events ≡ [] → IsRecorded st j [] []
 none_recorded st j has blank = record {
   has = has;
-  script = ap (λ (es : List LogEvent). owned es) blank;
-  agree = subst (λ (es : List LogEvent). AllAgree [] (moments_from kit j.settings None es)) (sym blank) tt;
+  script = (ap (λ (es : List LogEvent). owned es) blank, ap (λ (es : List LogEvent). moments_from kit j.settings None es) blank);
+  alone = subst (λ (es : List LogEvent). AllOwned true es) (sym blank) tt;
   tells = λ ts ms. ap (λ (es : List LogEvent). lines st ts fresh (moments_from kit j.settings None es ++ ms)) blank;
 }
 
@@ -78,11 +79,11 @@ module _ (st : Settings) (j k : Log) (told : List Told) (t : Told) (text more : 
   pub more_recorded : IsRecorded st k (told ++ t ∷ []) (text ++ more)
   more_recorded = record {
     has = settings_kept st j k p.settings d.has;
-    script = subst (λ (es : List LogEvent). IsScript st (told ++ t ∷ []) fresh es) (sym (ap (λ (es : List LogEvent). owned es) p.events ∙ owned-append j.events p.added))
-        (script-append st told (owned j.events) (owned p.added) t fresh d.script p.part);
-    agree = subst (λ (ws : List World). AllAgree ws (moments_of k)) (sym (worlds-append st told t fresh))
-        (subst (λ (ms : List LogMoment). AllAgree (worlds st told fresh ++ judged_worlds here t.asked (verdict_on st t here)) ms) (sym moments_more)
-        (agree-append (worlds st told fresh) (judged_worlds here t.asked (verdict_on st t here)) (moments_of j) (moments_after j p.added) d.agree p.agree));
+    script = subst (λ (es : List LogEvent). IsScript st (told ++ t ∷ []) fresh es (moments_of k))
+        (sym (ap (λ (es : List LogEvent). owned es) p.events ∙ owned-append j.events p.added))
+        (subst (λ (ms : List LogMoment). IsScript st (told ++ t ∷ []) fresh (owned j.events ++ owned p.added) ms) (sym moments_more)
+        (script-append st told (owned j.events) (owned p.added) (moments_of j) (moments_after j p.added) t fresh d.script p.part));
+    alone = subst (λ (es : List LogEvent). AllOwned true es) (sym p.events) (alone-append j.events p.added d.alone p.alone);
     tells = lines_more;
   }
 
@@ -101,8 +102,8 @@ lines_recorded st j told text d =
 pub record IsHistory (st : Settings) (told : List Told) (status : ℕ) (text : List ℕ) (h : Log) : Type 0 where
   pub has : HasSettings st h ⊎ ((status ≡ 5) × (h.events ≡ []))
   pub legal : IsLegal h
-  pub entries : HasEntries st told status (owned h.events)
-  pub agree : AllAgree (worlds st told fresh) (moments_of h)
+  pub entries : HasEntries st told status (owned h.events) (moments_of h)
+  pub alone : AllOwned true h.events
   pub tells : lines st told fresh (moments_of h) ≡ text
 
 -- behind these commands it was closed
@@ -111,8 +112,9 @@ pub closed_history : (st : Settings) (j : Log) (told : List Told) (text : List �
 closed_history st j told text status d legal = record {
   has = inl d.has;
   legal = legal;
-  entries = all_entries (owned j.events) (owned-append j.events (Closes ∷ [])) d.script;
-  agree = subst (λ (ms : List LogMoment). AllAgree (worlds st told fresh) ms) (sym (moments_closed j)) d.agree;
+  entries = all_entries (owned j.events) (owned-append j.events (Closes ∷ []))
+      (subst (λ (ms : List LogMoment). IsScript st told fresh (owned j.events) ms) (sym (moments_closed j)) d.script);
+  alone = alone-append j.events (Closes ∷ []) d.alone (refl, tt);
   tells = ap (λ (ms : List LogMoment). lines st told fresh ms) (moments_closed j) ∙ lines_recorded st j told text d;
 }
 
@@ -129,8 +131,10 @@ unfinished_history st j k told text status own five d same events unfinished leg
       has = inl (settings_kept st j k same d.has);
       legal = legal;
       entries = unfinished_settle (owned j.events) own five
-          (owned-append k.events (Closes ∷ []) ∙ ap (λ (es : List LogEvent). es ++ Closes ∷ []) its_own ∙ append_assoc (owned j.events) own (Closes ∷ [])) d.script unfinished;
-      agree = subst (λ (ms : List LogMoment). AllAgree (worlds st told fresh) ms) (sym moments) d.agree;
+          (owned-append k.events (Closes ∷ []) ∙ ap (λ (es : List LogEvent). es ++ Closes ∷ []) its_own ∙ append_assoc (owned j.events) own (Closes ∷ []))
+          (subst (λ (ms : List LogMoment). IsScript st told fresh (owned j.events) ms) (sym moments) d.script) unfinished;
+      alone = alone-append k.events (Closes ∷ [])
+          (subst (λ (es : List LogEvent). AllOwned true es) (sym events) (alone-append j.events own d.alone (unfinished_alone own unfinished))) (refl, tt);
       tells = ap (λ (ms : List LogMoment). lines st told fresh ms) moments ∙ lines_recorded st j told text d;
     }
 
@@ -140,6 +144,6 @@ nothing_history st h blank = record {
   has = inr (refl, blank);
   legal = subst (λ (es : List LogEvent). Legal kit valid h.settings es) (sym blank) (record { follows = tt; in_rooms = tt });
   entries = no_entries refl (ap (λ (es : List LogEvent). owned es) blank) refl;
-  agree = subst (λ (es : List LogEvent). AllAgree [] (moments_from kit h.settings None es)) (sym blank) tt;
+  alone = subst (λ (es : List LogEvent). AllOwned true es) (sym blank) tt;
   tells = refl;
 }

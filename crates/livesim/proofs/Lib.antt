@@ -3,9 +3,11 @@ pub mod Written
 pub mod Quits
 pub mod Counts
 pub mod Steps
+pub mod Alone
 pub mod Histories
 pub mod Soon
 pub mod Turns
 pub mod Displays
 pub mod Endings
 pub mod Over
+pub mod Outputs

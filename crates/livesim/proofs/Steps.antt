@@ -13,7 +13,7 @@ use Rattle.live_session.specs.Judging.{verdict_on, after, world_after, any_refus
 use Rattle.live_session.specs.Logs.{Log, LogEvent, LogMoment}
 use Rattle.live_session.specs.Readings.{IsRight, AreRight}
 use Rattle.live_session.specs.Replies.{reply, lines, text_then, asked_of, answers_to, answers_of}
-use Rattle.live_session.specs.Scripts.{AllAgree, IsPart, IsScript, judged_worlds, worlds}
+use Rattle.live_session.specs.Scripts.{IsPart, IsScript}
 use Rattle.live_session.specs.Settings.{Settings}
 use Rattle.live_session.specs.Steps.{StepsTo}
 use Rattle.live_session.specs.Verdicts.{Told}
@@ -58,31 +58,29 @@ lines_front st (x ∷ xs) ys w ms = by (reply st x w ms) (lines_front st xs ys (
         let next = more r.1 in
         (next.0, ap (λ text. r.0 ++ text) next.1 ∙ sym (append_assoc r.0 (lines st xs (after st x w) r.1) next.0))
 
--- the entries of one command more
-pub script-append : (st : Settings) (xs : List Told) (es own : List LogEvent) (t : Told) (w : World) → IsScript st xs w es
-    → IsPart st t.asked (world_after st xs w) own (verdict_on st t (world_after st xs w)) → IsScript st (xs ++ t ∷ []) w (es ++ own)
-script-append st [] es own t w script part = (own, [], ap (λ front. front ++ own) script ∙ sym (append-nil own), part, refl)
-script-append st (x ∷ xs) es own t w (mine, rest, split, first, more) part = (
+-- the entries of one command more, with the moments among them
+pub script-append : (st : Settings) (xs : List Told) (es own : List LogEvent) (ms more : List LogMoment) (t : Told) (w : World) → IsScript st xs w es ms
+    → IsPart st t.asked (world_after st xs w) own more (verdict_on st t (world_after st xs w)) → IsScript st (xs ++ t ∷ []) w (es ++ own) (ms ++ more)
+script-append st [] es own ms more t w script part = (
+  own,
+  [],
+  more,
+  [],
+  ap (λ (front : List LogEvent). front ++ own) script.0 ∙ sym (append-nil own),
+  ap (λ (front : List LogMoment). front ++ more) script.1 ∙ sym (append-nil more),
+  part,
+  (refl, refl),
+)
+script-append st (x ∷ xs) es own ms more t w (mine, rest, here, there, split, apart, first, others) part = (
   mine,
   rest ++ own,
-  ap (λ front. front ++ own) split ∙ append_assoc mine rest own,
+  here,
+  there ++ more,
+  ap (λ (front : List LogEvent). front ++ own) split ∙ append_assoc mine rest own,
+  ap (λ (front : List LogMoment). front ++ more) apart ∙ append_assoc here there more,
   first,
-  script-append st xs rest own t (after st x w) more part,
+  script-append st xs rest own there more t (after st x w) others part,
 )
-
-pub worlds-append : (st : Settings) (xs : List Told) (t : Told) (w : World)
-    → worlds st (xs ++ t ∷ []) w ≡ worlds st xs w ++ judged_worlds (world_after st xs w) t.asked (verdict_on st t (world_after st xs w))
-worlds-append st [] t w = append-nil (judged_worlds w t.asked (verdict_on st t w))
-worlds-append st (x ∷ xs) t w =
-    let last = judged_worlds (world_after st xs (after st x w)) t.asked (verdict_on st t (world_after st xs (after st x w))) in
-    ap (λ more. judged_worlds w x.asked (verdict_on st x w) ++ more) (worlds-append st xs t (after st x w))
-    ∙ sym (append_assoc (judged_worlds w x.asked (verdict_on st x w)) (worlds st xs (after st x w)) last)
-
-pub agree-append : (xs ys : List World) (ms ns : List LogMoment) → AllAgree xs ms → AllAgree ys ns → AllAgree (xs ++ ys) (ms ++ ns)
-agree-append [] ys [] ns front back = back
-agree-append [] ys (m ∷ ms) ns front back = absurd front
-agree-append (x ∷ xs) ys [] ns front back = absurd front
-agree-append (x ∷ xs) ys (m ∷ ms) ns front back = (front.0, agree-append xs ys ms ns front.1 back)
 
 -- ---- a step
 
