@@ -29,7 +29,8 @@ use Rattle.live_session.specs.declared.reply.Reply.{Reply}
 use Rattle.live_session.specs.declared.running.Running.{Running}
 use Rattle.live_session.proofs.Standing.{Adds}
 
-module _ (st : Settings) (asked : Asked) (names : List (List ℕ)) (once : HasEachOnce names) (old new : World) (v : Result World Refused) (r : Reply) where
+module _ (st : Settings) (asked : Asked) (names : List (List ℕ)) (once : HasEachOnce names) (old new : World) (v : Result World Refused)
+    (r : Reply) where
   -- it was refused: no entry is new, and the world is as before
   pub refused_done : (j : Log) (refused : Refused) → v ≡ Err refused → Refuses refused r → new ≡ old
       → IsDone st (Ok asked) old new v j j r.lines r.refused
@@ -66,7 +67,8 @@ module _ (st : Settings) (asked : Asked) (names : List (List ℕ)) (once : HasEa
   -- it was accepted, and one of the entries is its own
   pub entry_done : (was is : Log) (es own : List LogEvent) → Adds was is es → AllOwned true es → owned es ≡ own → (m : LogMoment)
       → moments_after was es ≡ m ∷ [] → (w : World) → v ≡ Ok w → new ≡ w → IsAccepted names st old w own asked → entry_worlds old asked ≡ old ∷ []
-      → Agrees names old (outline_in m.book) → ((rest : List LogMoment) → command_text st asked old w (m ∷ rest) ≡ Some (r.lines, rest)) → r.refused ≡ false
+      → Agrees names old (outline_in m.book) → ((rest : List LogMoment) → command_text st asked old w (m ∷ rest) ≡ Some (r.lines, rest))
+      → r.refused ≡ false
       → IsDone st (Ok asked) old new v was is r.lines r.refused
   entry_done was is es own adds alone mine m moments w judged same part at_one agrees says accepts =
       subst (λ (x : Result World Refused). IsDone st (Ok asked) old new x was is r.lines r.refused) (sym judged)
@@ -105,7 +107,8 @@ module _ {E : Type 0} (names : List (List ℕ)) (once : HasEachOnce names) (limi
   refuses_in j (Err e) refused is same says = tt
 
 -- memory ran out, and no entry is new
-pub stops_still : (names : List (List ℕ)) (limits : Limits) (asked : Asked) (old new : Running) (was is : Log) → Adds was is [] → IsSameIn names old new
+pub stops_still : (names : List (List ℕ)) (limits : Limits) (asked : Asked) (old new : Running) (was is : Log) → Adds was is []
+    → IsSameIn names old new
     → StopsIn names limits asked old new was is
 stops_still names limits asked old new was is adds same =
     undone_in [] new.charge adds.settings adds.events
@@ -116,7 +119,8 @@ abbrev pub world_with : (names : List (List ℕ)) → List Entry → (grid : Lis
 world_with names entries grid r rows = let w = world_of names entries grid r in record w { record_ = map (row_of names) rows }
 
 -- a refusal beside whatever book
-pub refuses_any : {E : Type 0} (names : List (List ℕ)) (once : HasEachOnce names) (limits : Limits) (asked : Asked) (old new : Running) (r : Result Reply E)
+pub refuses_any : {E : Type 0} (names : List (List ℕ)) (once : HasEachOnce names) (limits : Limits) (asked : Asked) (old new : Running)
+    (r : Result Reply E)
     (refused : Refused)
     → ((j : Log) (entries : List Entry)
     → command_verdict (settings_by limits j) (world_of names entries (marks_of j) old) asked [] no_answer ≡ Err refused)

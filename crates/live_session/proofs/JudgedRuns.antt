@@ -68,7 +68,8 @@ module _ (names : List (List ℕ)) (once : HasEachOnce names) (limits : Limits) 
       ∙ ap (verdict_by (settings_by limits j) (world_of names entries (marks_of j) r) line n) which)
       same says
 
-  module _ (new : Running) (was is_now : Log) (rows : List InputRow) (none : code ≡ None) (on : RunsOn r new rows) (same : rows ≡ replicate n r.row.value)
+  module _ (new : Running) (was is_now : Log) (rows : List InputRow) (none : code ≡ None) (on : RunsOn r new rows)
+      (same : rows ≡ replicate n r.row.value)
       (adds : Adds was is_now (RunsEvent n rows ∷ [])) (legal : IsLegal is_now) (stands : Stands limits (Some r) was) where
     many : length rows ≡ n
     many = ap length same ∙ length-replicate n r.row.value

@@ -156,7 +156,8 @@ module _ (one : OneAnswer) (st : Settings) where
 -- ---- one output
 
 -- lines behind a reply
-same_then : (r : Option (List ℕ × List LogMoment)) (f g : List LogMoment → List ℕ) → ((ms : List LogMoment) → f ms ≡ g ms) → text_then r f ≡ text_then r g
+same_then : (r : Option (List ℕ × List LogMoment)) (f g : List LogMoment → List ℕ) → ((ms : List LogMoment) → f ms ≡ g ms)
+    → text_then r f ≡ text_then r g
 same_then None f g same = refl
 same_then (Some r) f g same = ap (λ (more : List ℕ). r.0 ++ more) (same r.1)
 
@@ -189,7 +190,8 @@ module _ (one : OneAnswer) (st : Settings) where
       record {
         lines = λ (ms : List LogMoment).
             ap (λ r. text_then r (λ (left : List LogMoment). lines_of st ts (after st t w) left)) (same_reply one st w t u judged.same first ms)
-            ∙ same_then (reply st u w ms) (λ (left : List LogMoment). lines_of st ts (after st t w) left) (λ (left : List LogMoment). lines_of st us (after st u w) left)
+            ∙ same_then (reply st u w ms) (λ (left : List LogMoment). lines_of st ts (after st t w) left)
+            (λ (left : List LogMoment). lines_of st us (after st u w) left)
             (λ (left : List LogMoment). behind.lines left ∙ ap (λ (v : World). lines_of st us v left) next);
         refused = ap (λ v. is_err v || any_refused st ts (after st t w)) judged.same
             ∙ ap (λ r. is_err (verdict_on st u w) || r) (behind.refused ∙ ap (any_refused st us) next);

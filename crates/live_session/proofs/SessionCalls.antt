@@ -54,7 +54,8 @@ pub stands_there : (limits : Limits) (running : Option Running) (r : Running) (j
     → Stands limits (Some r) j
 stands_there limits running r j is h = subst (λ (o : Option Running). Stands limits o j) is h
 
-pub charge_there : (names : List (List ℕ)) (entries : List Entry) (grid : List ℕ) (running : Option Running) (r : Running) (most : ℕ) → running ≡ Some r
+pub charge_there : (names : List (List ℕ)) (entries : List Entry) (grid : List ℕ) (running : Option Running) (r : Running) (most : ℕ)
+    → running ≡ Some r
     → (running_world names entries grid running).charge < most → r.charge < most
 charge_there names entries grid running r most is h = subst (λ (o : Option Running). (running_world names entries grid o).charge < most) is h
 
@@ -68,7 +69,8 @@ pub none_runs : {E : Type 0} (asked : Asked) (s : Session) (j : Log) (line : ℕ
     → IfOk result (Refuses (refused_at 62 line [])) → IfOk result (Answers asked s s j j)
 none_runs asked s j line result none is says =
     refuses_with asked s j (refused_at 62 line []) result
-    (ap (λ (o : Option Running). verdict_on (settings_in s j) (told (Ok asked) [] no_answer) (running_world s.names (entries_of s.registry) (marks_of j) o))
+    (ap (λ (o : Option Running). verdict_on (settings_in s j) (told (Ok asked) [] no_answer)
+    (running_world s.names (entries_of s.registry) (marks_of j) o))
     none ∙ is) says
 
 -- a call that asks nothing of the book
@@ -90,9 +92,11 @@ module _ {E : Type 0} (asked : Asked) (old : Session) (j : Log) (r x : Running) 
       ∙ ap (running_world old.names (entries_of old.registry) (marks_of j)) (sym runs))
 
 -- `status` of what runs
-pub status_on : {E : Type 0} (s : Session) (j : Log) (r : Running) → HasEachOnce s.names → s.running ≡ Some r → IfSome s.running (IsKept s.names s.limits)
+pub status_on : {E : Type 0} (s : Session) (j : Log) (r : Running) → HasEachOnce s.names → s.running ≡ Some r
+    → IfSome s.running (IsKept s.names s.limits)
     → StandsBeside s j → (result : Result Reply E)
-    → IfOk result (λ reply. (names : List (List ℕ)) (limits : Limits) (line : ℕ) → HasEachOnce names → IsKept names limits r → Stands limits (Some r) j
+    → IfOk result (λ reply. (names : List (List ℕ)) (limits : Limits) (line : ℕ) → HasEachOnce names → IsKept names limits r
+    → Stands limits (Some r) j
     → AnswersIn names limits (AsksStatus line) r r j j reply)
     → IfOk result (λ reply. (line : ℕ) → Answers (AsksStatus line) s s j j reply)
 status_on s j r once is kept beside (Err e) h = tt
@@ -110,7 +114,8 @@ status_fresh s j none (Ok reply) says = λ (line : ℕ).
     let w = world_in s j in
     let is : w ≡ fresh = ap (running_world s.names (entries_of s.registry) (marks_of j)) none in
     told_done (settings_in s j) (AsksStatus line) [] none_twice w w (Ok w) reply j w refl refl refl refl
-    (λ (rest : List LogMoment). ap (λ (text : List ℕ). Some (text, rest)) (ap (λ (x : World). status_lines x x.design) is ∙ sym says.text)) says.refusal
+    (λ (rest : List LogMoment). ap (λ (text : List ℕ). Some (text, rest)) (ap (λ (x : World). status_lines x x.design) is ∙ sym says.text))
+    says.refusal
 
 -- `status` and `quit` of one line
 pub status_at : {E : Type 0} (line : ℕ) (s : Session) (j : Log) (result : Result Reply E)
@@ -146,7 +151,8 @@ pub fresh_behind : (st : Settings) (block : Block) (given : Result (List TextFil
     → old ≡ fresh → new ≡ fresh → is.settings ≡ was.settings → is.events ≡ was.events → LosesBlock st block given old new was is
 fresh_behind st block given old new was is before behind settings events = none_taken settings events (behind ∙ sym before)
 
-pub fresh_refused : (names : List (List ℕ)) (limits : Limits) (block : Block) (loaded : List TextFile) (entries : List Entry) (was is : Log) (b : Begun)
+pub fresh_refused : (names : List (List ℕ)) (limits : Limits) (block : Block) (loaded : List TextFile) (entries : List Entry) (was is : Log)
+    (b : Begun)
     (reply : Reply) (old new : World) → old ≡ fresh → new ≡ fresh → b ≡ begun.Refused reply → Begins names limits block loaded entries was is b
     → TakesBlock (settings_by limits was) block (Ok loaded) old new was is reply.lines reply.refused
 fresh_refused names limits block loaded entries was is b reply old new before behind same h =

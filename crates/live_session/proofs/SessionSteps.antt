@@ -84,7 +84,8 @@ pub refuses_with : {E : Type 0} (asked : Asked) (s : Session) (j : Log) (refused
     → IfOk result (Refuses refused) → IfOk result (Answers asked s s j j)
 refuses_with asked s j refused (Err e) is says = tt
 refuses_with asked s j refused (Ok reply) is says =
-    refuses_done (settings_in s j) (Ok asked) (world_in s j) (verdict_on (settings_in s j) (told (Ok asked) [] no_answer) (world_in s j)) j refused reply is
+    refuses_done (settings_in s j) (Ok asked) (world_in s j) (verdict_on (settings_in s j) (told (Ok asked) [] no_answer) (world_in s j)) j refused
+    reply is
     says
 
 module _ (asked : Asked) (old : Session) (was is : Log) (r x : Running) (runs : old.running ≡ Some r) where
@@ -137,13 +138,15 @@ stops_still asked s j (Err e) =
 pub quits_so : (line : ℕ) (s : Session) (j : Log) (reply : Reply) → reply.lines ≡ codes "ok quit\n" → reply.refused ≡ false
     → Answers (Quits line) s s j j reply
 quits_so line s j reply says accepts =
-    told_done (settings_in s j) (Quits line) [] none_twice (world_in s j) (world_in s j) (Ok (world_in s j)) reply j (world_in s j) refl refl refl refl
+    told_done (settings_in s j) (Quits line) [] none_twice (world_in s j) (world_in s j) (Ok (world_in s j)) reply j (world_in s j) refl refl refl
+    refl
     (λ (rest : List LogMoment). ap (λ (text : List ℕ). Some (text, rest)) (sym says)) accepts
 
 -- ---- steps
 
 -- nothing is looked at
-pub answered : {E : Type 0} (asked : Asked) (answers : Option (List ShelfAnswer)) (faults : ℕ) (old new : Session) (was is : Log) (result : Result Reply E)
+pub answered : {E : Type 0} (asked : Asked) (answers : Option (List ShelfAnswer)) (faults : ℕ) (old new : Session) (was is : Log)
+    (result : Result Reply E)
     → limits_of new ≡ limits_of old → answers_to_command asked [] ≡ [] → ((st : Settings) (w : World) → IsRight st w (told (Ok asked) [] no_answer))
     → StandsBeside new is → IfOk result (Answers asked old new was is)
     → IfOk result (λ r. StepsTo (Ok asked) answers answers faults faults old new was is r.lines r.refused)
@@ -161,11 +164,13 @@ answered asked answers faults old new was is (Ok reply) limits none right beside
 
 step_of : (asked : Asked) (answers : Option (List ShelfAnswer)) (faults : ℕ) (old new : Session) (was is : Log) (reply : Reply)
     → limits_of new ≡ limits_of old → answers_to_command asked [] ≡ [] → ((st : Settings) (w : World) → IsRight st w (told (Ok asked) [] no_answer))
-    → StandsBeside new is → Answers asked old new was is reply → StepsTo (Ok asked) answers answers faults faults old new was is reply.lines reply.refused
+    → StandsBeside new is → Answers asked old new was is reply
+    → StepsTo (Ok asked) answers answers faults faults old new was is reply.lines reply.refused
 step_of asked answers faults old new was is reply limits none right beside h =
     answered {E = ℕ} asked answers faults old new was is (Ok reply) limits none right beside h
 
-pub stopped : {E : Type 0} (asked : Asked) (answers : Option (List ShelfAnswer)) (faults : ℕ) (old new : Session) (was is : Log) (result : Result Reply E)
+pub stopped : {E : Type 0} (asked : Asked) (answers : Option (List ShelfAnswer)) (faults : ℕ) (old new : Session) (was is : Log)
+    (result : Result Reply E)
     → limits_of new ≡ limits_of old → answers_to_command asked [] ≡ [] → ((st : Settings) (w : World) → IsRight st w (told (Ok asked) [] no_answer))
     → StandsBeside new is → OnErr result (StopsAt asked old new was is)
     → OnErr result (Stops (Ok asked) answers answers faults faults old new was is)
@@ -239,7 +244,8 @@ module _ (block : Block) (s : Session) (j : Log) (answers : Option (List ShelfAn
     cause = refl;
     limits = refl;
     right = right;
-    done = refuses_done (settings_in s j) (Ok (Edits block)) (world_in s j) (verdict_on (settings_in s j) without (world_in s j)) j refused reply is says;
+    done = refuses_done (settings_in s j) (Ok (Edits block)) (world_in s j) (verdict_on (settings_in s j) without (world_in s j)) j refused reply is
+        says;
     beside = beside;
   }
 
@@ -257,7 +263,8 @@ module _ (block : Block) (s : Session) (j : Log) (answers : Option (List ShelfAn
 -- ---- blocks whose loads came to something
 
 -- by worlds that are the same
-module _ {E : Type 0} (st : Settings) (block : Block) (given : Result (List TextFile) Refused) (x y old new : World) (was is : Log) (result : Result Reply E)
+module _ {E : Type 0} (st : Settings) (block : Block) (given : Result (List TextFile) Refused) (x y old new : World) (was is : Log)
+    (result : Result Reply E)
     (same : old ≡ x) (also : new ≡ y) where
   pub takes_ok : IfOk result (λ r. TakesBlock st block given x y was is r.lines r.refused)
       → IfOk result (λ r. TakesBlock st block given old new was is r.lines r.refused)
@@ -289,7 +296,8 @@ refused_loads block s j refused (Ok reply) says = record {
   done = refuses_done (settings_in s j) (Ok (Edits block)) (world_in s j) (Err refused) j refused reply refl says;
 }
 
-pub none_is_new : {E : Type 0} (st : Settings) (block : Block) (given : Result (List TextFile) Refused) (w : World) (j : Log) (result : Result Reply E)
+pub none_is_new : {E : Type 0} (st : Settings) (block : Block) (given : Result (List TextFile) Refused) (w : World) (j : Log)
+    (result : Result Reply E)
     → OnErr result (LosesBlock st block given w w j j)
 none_is_new st block given w j (Ok reply) = tt
 none_is_new st block given w j (Err e) = none_taken refl refl refl
@@ -380,7 +388,8 @@ given_short names command e is formed =
     unmapped names e.files (subst (λ (c : Command). IsFormed (spoken names c)) is formed)
 
 -- a command that looks at nothing outside
-module _ {E : Type 0} (names : List (List ℕ)) (command : Command) (asked : Asked) (answers : Option (List ShelfAnswer)) (faults : ℕ) (old new : Session)
+module _ {E : Type 0} (names : List (List ℕ)) (command : Command) (asked : Asked) (answers : Option (List ShelfAnswer)) (faults : ℕ)
+    (old new : Session)
     (was is : Log) (result : Result Reply E) (means : spoken names command ≡ asked) (limits : limits_of new ≡ limits_of old)
     (none : answers_to_command asked [] ≡ []) (right : (st : Settings) (w : World) → IsRight st w (told (Ok asked) [] no_answer))
     (beside : StandsBeside new is) where

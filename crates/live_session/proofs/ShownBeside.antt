@@ -58,7 +58,8 @@ module _ (names : List (List ℕ)) (once : HasEachOnce names) (limits : Limits) 
   design = spelled names (design_of r.version.value.machine.value r.keys)
 
   -- the world behind entries that leave the outline
-  charged_world : (es : List LogEvent) (more : ℕ) → Adds was is_now es → ((o : Outline Design InputRow) → outline_from was.settings o es ≡ o) → IsCharged names r new more
+  charged_world : (es : List LogEvent) (more : ℕ) → Adds was is_now es → ((o : Outline Design InputRow) → outline_from was.settings o es ≡ o)
+      → IsCharged names r new more
       → (entries : List Entry) → world_of names entries (marks_of is_now) new
       ≡ (let w = world_of names entries (marks_of was) r in record w { charge = w.charge + more })
   charged_world es more adds leaves charge entries =
@@ -128,7 +129,8 @@ module _ (names : List (List ℕ)) (once : HasEachOnce names) (limits : Limits) 
           let st = settings_by limits was in
           let w = world_of names entries (marks_of was) r in
           let next : World = record w { charge = w.charge + more } in
-          let m : LogMoment = record { entry = ShowsEvent s.is_settle.answer; book = replay_from kit was.settings (book_in was) s.is_settle.passes } in
+          let m : LogMoment = record { entry = ShowsEvent s.is_settle.answer; book = replay_from kit was.settings (book_in was) s.is_settle.passes }
+          in
           let verdict : charged st w line (2 * min (passes_of w passes) (length w.grid) + 1) ≡ Ok next =
           ap (λ (n : ℕ). charged st w line (2 * min n (length w.grid) + 1)) (all entries) ∙ has_room st w line more room in
           let lines : reply.lines ≡ settle_text next s.is_settle.answer =
@@ -139,7 +141,8 @@ module _ (names : List (List ℕ)) (once : HasEachOnce names) (limits : Limits) 
           s.own s.own adds (are_owned s.own (settle_owned most links s.own s.is_settle)) (settle_owned most links s.own s.is_settle) m
           (settle_moments kit was.settings (book_in was) most links s.own s.is_settle) next verdict
           (charged_world s.own more adds leaves charge entries) (settles entries) refl
-          (subst (Agrees names w) (sym (settle_shows kit was.settings valid was.events most links s.own s.is_settle (legal_behind was is_now s.own adds legal)))
+          (subst (Agrees names w) (sym (settle_shows kit was.settings valid was.events most links s.own s.is_settle
+          (legal_behind was is_now s.own adds legal)))
           (agrees_in names once limits r kept was entries stands))
           (λ (rest : List LogMoment). ap (λ (text : List ℕ). Some (text, rest)) (sym lines)) accepts
 

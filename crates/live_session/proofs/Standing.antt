@@ -98,7 +98,8 @@ stands_still limits old new j runs charge stands = record {
 }
 
 -- the book is as the world of what runs
-pub agrees_in : (names : List (List ℕ)) → HasEachOnce names → (limits : Limits) (r : Running) → IsKept names limits r → (j : Log) (entries : List Entry)
+pub agrees_in : (names : List (List ℕ)) → HasEachOnce names → (limits : Limits) (r : Running) → IsKept names limits r
+    → (j : Log) (entries : List Entry)
     → Stands limits (Some r) j → Agrees names (world_of names entries (marks_of j) r) (outline_of j)
 agrees_in names once limits r kept j entries stands = record {
   version = stands.outline.version;
