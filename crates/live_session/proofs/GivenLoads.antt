@@ -63,7 +63,8 @@ still_added (Some bs) (Some ns) None xs adds keeps = absurd keeps
 still_added (Some bs) (Some ns) (Some ls) xs adds keeps = keeps ∙ adds
 
 -- what a read of a shelf that failed added, and one without memory
-module _ (old new : Option (List ShelfAnswer)) (r : Result (Vec ℕ Global) ShelfRefusal) (x : ShelfRefusal) (asked name : List ℕ) (named : asked ≡ name) (is : r ≡ Err x)
+module _ (old new : Option (List ShelfAnswer)) (r : Result (Vec ℕ Global) ShelfRefusal) (x : ShelfRefusal) (asked name : List ℕ)
+    (named : asked ≡ name) (is : r ≡ Err x)
     (adds : ReadAdds old new r asked) where
   pub failed_adds : x ≡ refusal.Failed → AddsAnswer old new (shelf.Failed name)
   failed_adds which =
@@ -117,13 +118,15 @@ module _ (names : List (List ℕ)) where
   before_none (f ∷ files) refused = ap (file_then f) (before_none files refused)
 
   pub files_along : (front rest : List LoadLine) (files : List SourceFile) (answers : List LoadAnswer) → AllZip IsGiven front files
-      → loaded_files (map (loaded_file names) (front ++ rest)) (gave files ++ answers) ≡ put_before (map (text_file names) files) (loaded_files (map (loaded_file names) rest) answers)
+      → loaded_files (map (loaded_file names) (front ++ rest)) (gave files ++ answers) ≡ put_before (map (text_file names) files)
+      (loaded_files (map (loaded_file names) rest) answers)
   files_along [] rest [] answers given = refl
   files_along [] rest (f ∷ files) answers given = absurd given
   files_along (l ∷ front) rest [] answers given = absurd given
   files_along (l ∷ front) rest (f ∷ files) answers given =
       let more = loaded_files (map (loaded_file names) (front ++ rest)) (gave files ++ answers) in
-      ap (λ (t : Bool). cond t (Err (refused_at 10 l.line (text_at names l.name.0 ∷ []))) (file_then (record { name = text_at names l.name.0; text = f.text }) more))
+      ap (λ (t : Bool). cond t (Err (refused_at 10 l.line (text_at names l.name.0 ∷ [])))
+      (file_then (record { name = text_at names l.name.0; text = f.text }) more))
       (le-ltb 4194304 (length f.text) given.0.short)
       ∙ ap (λ (n : NameId). file_then (record { name = text_at names n.0; text = f.text }) more) (sym given.0.name)
       ∙ ap (file_then (text_file names f)) (files_along front rest files answers given.1)
@@ -138,7 +141,8 @@ module _ (names : List (List ℕ)) where
       ap (λ (more : List ShelfAnswer). shelf.Given (text_at names l.name.0) f.text ∷ more) (answers_along front rest files answers given.1)
 
   pub first_along : (front rest : List LoadLine) (files : List SourceFile) (more : List ShelfAnswer) → AllZip IsGiven front files
-      → AreToFirst (map (loaded_file names) rest) more → AreToFirst (map (loaded_file names) (front ++ rest)) (shelf_answers (map (loaded_file names) front) (gave files) ++ more)
+      → AreToFirst (map (loaded_file names) rest) more
+      → AreToFirst (map (loaded_file names) (front ++ rest)) (shelf_answers (map (loaded_file names) front) (gave files) ++ more)
   first_along [] rest [] more given first = first
   first_along [] rest (f ∷ files) more given first = absurd given
   first_along (l ∷ front) rest [] more given first = absurd given
@@ -185,7 +189,8 @@ one_zipped (k ∷ front) (g ∷ files) l f given one = (given.0, one_zipped fron
 -- ---- a walk over loads
 
 -- the loads before a place gave these files
-pub record IsLoading (names : List (List ℕ)) (lines : List LoadLine) (i : ℕ) (files : List SourceFile) (before now : Option (List ShelfAnswer)) (faults count : ℕ)
+pub record IsLoading (names : List (List ℕ)) (lines : List LoadLine) (i : ℕ) (files : List SourceFile) (before now : Option (List ShelfAnswer))
+    (faults count : ℕ)
     : Type 0 where
   pub each : AllZip IsGiven (take i lines) files
   pub adds : AddsAnswers before now (shelf_answers (map (loaded_file names) (take i lines)) (gave files))
@@ -195,7 +200,8 @@ pub begins : (names : List (List ℕ)) (lines : List LoadLine) (before : Option 
     → IsLoading names lines 0 [] before before faults faults
 begins names lines before faults = record { each = tt; adds = none_added before; same = refl }
 
-module _ (names : List (List ℕ)) (lines : List LoadLine) (i : ℕ) (files : List SourceFile) (before now later : Option (List ShelfAnswer)) (faults count behind : ℕ)
+module _ (names : List (List ℕ)) (lines : List LoadLine) (i : ℕ) (files : List SourceFile) (before now later : Option (List ShelfAnswer))
+    (faults count behind : ℕ)
     (d : LoadLine) (below : i < length lines) (h : IsLoading names lines i files before now faults count) where
   abbrev l : LoadLine
   l = get_or lines i d
@@ -222,7 +228,8 @@ module _ (names : List (List ℕ)) (lines : List LoadLine) (i : ℕ) (files : Li
     each = subst (λ (ls : List LoadLine). AllZip IsGiven ls (files ++ f ∷ [])) (sym more_lines)
         (one_zipped front files l f h.each (record { name = named; short = short }));
     adds = subst (AddsAnswers before later)
-        (sym (ap₂ (λ (ls : List LoadLine) (a : List LoadAnswer). shelf_answers (map (loaded_file names) ls) a) more_lines (map-append (λ (f : SourceFile). Gave f.text) files (f ∷ []))
+        (sym (ap₂ (λ (ls : List LoadLine) (a : List LoadAnswer). shelf_answers (map (loaded_file names) ls) a) more_lines
+        (map-append (λ (f : SourceFile). Gave f.text) files (f ∷ []))
         ∙ answers_along names front (l ∷ []) files (Gave f.text ∷ []) h.each))
         (one_added before now later (shelf_answers (map (loaded_file names) front) (gave files)) (shelf.Given name f.text) h.adds adds);
     same = same ∙ h.same;
@@ -273,7 +280,8 @@ module _ (names : List (List ℕ)) (lines : List LoadLine) (i : ℕ) (files : Li
         let test : ltb 4194304 (length text) ≡ true = lt-ltb 4194304 (length text) long in
         let more = AreAnswers (map (loaded_file names) rest) [] in
         fault_comes (Gave text) (shelf.Given name text) 10 fault (subst (λ (t : Bool). tested t ([] ≡ nothing) more) (sym test) refl)
-        (ap (λ (t : Bool). cond t (Err (refused_at 10 l.line (name ∷ []))) (file_then (record { name = name; text = text }) (loaded_files (map (loaded_file names) rest) []))) test)
+        (ap (λ (t : Bool). cond t (Err (refused_at 10 l.line (name ∷ [])))
+        (file_then (record { name = name; text = text }) (loaded_files (map (loaded_file names) rest) []))) test)
         refl adds (same ∙ h.same) is_fault
 
   -- it came to nothing at this load
@@ -281,19 +289,23 @@ module _ (names : List (List ℕ)) (lines : List LoadLine) (i : ℕ) (files : Li
   lost x named adds = record {
     more = shelf_answers (map (loaded_file names) front) (gave files) ++ x ∷ [];
     adds = one_added before now later (shelf_answers (map (loaded_file names) front) (gave files)) x h.adds adds;
-    first = subst (λ (ls : List LoadLine). AreToFirst (map (loaded_file names) ls) (shelf_answers (map (loaded_file names) front) (gave files) ++ x ∷ [])) all_lines
+    first = subst (λ (ls : List LoadLine). AreToFirst (map (loaded_file names) ls)
+        (shelf_answers (map (loaded_file names) front) (gave files) ++ x ∷ [])) all_lines
         (first_along names front (l ∷ rest) files (x ∷ []) h.each (named, tt));
   }
 
   pub lost_before : KeepsAnswers now later → Loses (map (loaded_file names) lines) before later
   lost_before keeps = record {
     more = shelf_answers (map (loaded_file names) front) (gave files) ++ [];
-    adds = subst (AddsAnswers before later) (sym (append-nil (shelf_answers (map (loaded_file names) front) (gave files)))) (still_added before now later (shelf_answers (map (loaded_file names) front) (gave files)) h.adds keeps);
-    first = subst (λ (ls : List LoadLine). AreToFirst (map (loaded_file names) ls) (shelf_answers (map (loaded_file names) front) (gave files) ++ [])) all_lines
+    adds = subst (AddsAnswers before later) (sym (append-nil (shelf_answers (map (loaded_file names) front) (gave files))))
+        (still_added before now later (shelf_answers (map (loaded_file names) front) (gave files)) h.adds keeps);
+    first = subst (λ (ls : List LoadLine). AreToFirst (map (loaded_file names) ls) (shelf_answers (map (loaded_file names) front) (gave files) ++ []))
+        all_lines
         (first_along names front (l ∷ rest) files [] h.each tt);
   }
 
-pub all_given : (names : List (List ℕ)) (lines : List LoadLine) (i : ℕ) (files : Vec SourceFile Global) (before now : Option (List ShelfAnswer)) (faults count : ℕ)
+pub all_given : (names : List (List ℕ)) (lines : List LoadLine) (i : ℕ) (files : Vec SourceFile Global) (before now : Option (List ShelfAnswer))
+    (faults count : ℕ)
     → length lines ≤ i → AreLoadsWithin (length names) lines → IsLoading names lines i files.items before now faults count
     → ComesTo names lines before now faults count (loads.Given files)
 all_given names lines i files before now faults count end within h =

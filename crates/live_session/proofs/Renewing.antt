@@ -1,8 +1,9 @@
 -- A block behind a design that runs: the next version, and its book.
-use Rattle.std.proofs.Common.{◌≡◌, ◌∙◌, ℕ, ◌+◌, ◌-◌, ◌≤◌, ◌<◌, true, List, [], ◌∷◌, ◌++◌, map, length, All}
+use Rattle.std.proofs.Common.{◌≡◌, ◌∙◌, ℕ, ◌+◌, ◌-◌, ◌^◌, ◌≤◌, ◌<◌, true, List, [], ◌∷◌, ◌++◌, map, length, All}
 use Rattle.std.proofs.Common.{refl, sym, ap, ap₂, subst, true≢false, arith}
 use Rattle.std.specs.Prelude.{◌==◌, false, if◌then◌else◌, IfOk, OnErr, Option, Some, None, Result, Ok, Err, is_some}
 use Rattle.std.specs.Option.{option_or, unwrap_or}
+use Rattle.std.proofs.Props.{props}
 use Rattle.std.proofs.lemmas.Bool.{cond-false, ne_eqb}
 use Rattle.std.proofs.lemmas.List.{length-map}
 use Rattle.std.proofs.lemmas.Option.{same_Some}
@@ -23,6 +24,7 @@ use Rattle.module_registry.specs.Entries.{Entry, ensured, keys_of, missing}
 use Rattle.module_registry.specs.Keys.{KeyData}
 use Rattle.module_registry.specs.declared.build_job.BuildJob.{BuildJob}
 use Rattle.stimulus.specs.Records.{rows_of}
+use Rattle.stimulus.specs.Rows.{AreAscending}
 use Rattle.unit_laws.proofs.HeldUnits.{cut_held, same_held}
 use Rattle.unit_laws.specs.Held.{AreHeldUnder, IsKeyUnder}
 use Rattle.version_swap.specs.Behind.{design_of, texts_behind}
@@ -55,6 +57,36 @@ use Rattle.live_session.proofs.Growing.{kept_grown, row_grown, rows_grown, spell
 use Rattle.live_session.proofs.HeldTexts.{IsDigested, built_behind, cut_to, held_behind, made_digested}
 use Rattle.live_session.proofs.NextWorlds.{IsNext, files_in, its_clock_in, its_top_in, takes_fault, takes_next}
 use Rattle.live_session.proofs.Standing.{Adds, IsLegal, outline_behind, stands_on}
+
+-- ---- what runs
+
+-- what the type keeps of it has one proof, so parts put together again are the whole
+abbrev put_together : (r : Running) → length (rows_of r.record_) ≤ 2 ^ 40 → 1 ≤ r.version.value.number → AreAscending r.row.value
+    → All AreAscending (rows_of r.record_) → Running
+put_together r range some row rows = record {
+  texts = r.texts;
+  version = r.version;
+  keys = r.keys;
+  row = r.row;
+  record_ = r.record_;
+  charge = r.charge;
+  in_range = range;
+  some_version = some;
+  row_ascends = row;
+  rows_ascend = rows;
+}
+
+pub one_running : (r : Running) (range : length (rows_of r.record_) ≤ 2 ^ 40) (some : 1 ≤ r.version.value.number) (row : AreAscending r.row.value)
+    (rows : All AreAscending (rows_of r.record_)) → put_together r range some row rows ≡ r
+one_running r range some row rows =
+    let one_range : IsProp (length (rows_of r.record_) ≤ 2 ^ 40) = hlevel props in
+    let one_some : IsProp (1 ≤ r.version.value.number) = hlevel props in
+    let one_row : IsProp (AreAscending r.row.value) = hlevel props in
+    let one_rows : IsProp (All AreAscending (rows_of r.record_)) = hlevel props in
+    ap₂ (λ (a : length (rows_of r.record_) ≤ 2 ^ 40) (b : 1 ≤ r.version.value.number). put_together r a b row rows) (one_range range r.in_range)
+    (one_some some r.some_version)
+    ∙ ap₂ (λ (a : AreAscending r.row.value) (b : All AreAscending (rows_of r.record_)). put_together r r.in_range r.some_version a b)
+    (one_row row r.row_ascends) (one_rows rows r.rows_ascend)
 
 -- ---- a book with a version
 
@@ -395,6 +427,23 @@ pub held_by : {E : Type 0} (ops : Ops) (names : List (List ℕ)) (count : ℕ) (
 held_by ops names count before after texts design keys old new was is (Ok reply) h same lost = same_held names before after h same
 held_by ops names count before after texts design keys old new was is (Err error) h same lost =
     held_lost ops names count before after texts design keys old new was is h lost
+
+-- the same of the same operations and of what runs put together again
+pub says_alike : {E : Type 0} (os ops : Ops) (texts : Texts) (design : Design) (keys : List KeyData) (built kept : ℕ) (x r new : Running) (was is : Log)
+    (result : Result Reply E) → os ≡ ops → x ≡ r → IfOk result (SaysSo os texts design keys built kept x new was is)
+    → IfOk result (SaysSo ops texts design keys built kept r new was is)
+says_alike os ops texts design keys built kept x r new was is result one same says =
+    subst (λ (a : Ops). IfOk result (SaysSo a texts design keys built kept r new was is)) one
+    (subst (λ (y : Running). IfOk result (SaysSo os texts design keys built kept y new was is)) same says)
+
+pub loses_alike : {E : Type 0} (os ops : Ops) (texts : Texts) (design : Design) (keys : List KeyData) (n count : ℕ) (before after : List Entry)
+    (x r new : Running) (was is : Log) (result : Result Reply E) → os ≡ ops → n ≡ count → x ≡ r
+    → OnErr result (LosesLine os texts design keys n before after x new was is)
+    → OnErr result (LosesLine ops texts design keys count before after r new was is)
+loses_alike os ops texts design keys n count before after x r new was is result one many same lost =
+    subst (λ (a : Ops). OnErr result (LosesLine a texts design keys count before after r new was is)) one
+    (subst (λ (m : ℕ). OnErr result (LosesLine os texts design keys m before after r new was is)) many
+    (subst (λ (y : Running). OnErr result (LosesLine os texts design keys n before after y new was is)) same lost))
 
 -- ---- its line
 

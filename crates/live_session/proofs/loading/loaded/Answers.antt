@@ -21,7 +21,8 @@ returns-in-Err-NoMemory-clause-lost g c =
     lost_before c.args.names.now c.args.loads.now i c.loop-load.files.items (g.F.Shelf.answers c.args.shelf.now) (g.F.Shelf.answers c.loop-load.shelf)
     (g.F.Shelf.answers c.read.new.self) (g.F.Shelf.faults c.args.shelf.now) (g.F.Shelf.faults c.loop-load.shelf) (g.F.Shelf.faults c.read.new.self)
     no_line c.loop-load-test.true c.loop-load.invariant
-    (full_adds (g.F.Shelf.answers c.loop-load.shelf) (g.F.Shelf.answers c.read.new.self) c.read.result c.in-Err-NoMemory.field-0 c.text.result.now _ refl
+    (full_adds (g.F.Shelf.answers c.loop-load.shelf) (g.F.Shelf.answers c.read.new.self) c.read.result c.in-Err-NoMemory.field-0 c.text.result.now _
+    refl
     c.in-Err-NoMemory.is c.read.ensures.added c.in-Err-NoMemory.field-0-is)
 
 pub returns-in_err-named_fault-in-Err-Failed-clause-lost : goal.returns-in_err-named_fault-in-Err-Failed-clause-lost
@@ -32,7 +33,8 @@ returns-in_err-named_fault-in-Err-Failed-clause-lost g c =
     (lost c.args.names.now c.args.loads.now i c.loop-load.files.items (g.F.Shelf.answers c.args.shelf.now) (g.F.Shelf.answers c.loop-load.shelf)
     (g.F.Shelf.answers c.read.new.self) (g.F.Shelf.faults c.args.shelf.now) (g.F.Shelf.faults c.loop-load.shelf) (g.F.Shelf.faults c.read.new.self)
     no_line c.loop-load-test.true c.loop-load.invariant (shelf.Failed name) refl
-    (failed_adds (g.F.Shelf.answers c.loop-load.shelf) (g.F.Shelf.answers c.read.new.self) c.read.result c.in-Err-Failed.field-0 c.text.result.now name
+    (failed_adds (g.F.Shelf.answers c.loop-load.shelf) (g.F.Shelf.answers c.read.new.self) c.read.result c.in-Err-Failed.field-0 c.text.result.now
+    name
     c.text.ensures.text c.in-Err-Failed.is c.read.ensures.added c.in-Err-Failed.field-0-is))
 
 pub returns-in-Err-Failed-clause-comes : goal.returns-in-Err-Failed-clause-comes
@@ -42,7 +44,8 @@ returns-in-Err-Failed-clause-comes g c =
     broke c.args.names.now c.args.loads.now i c.loop-load.files.items (g.F.Shelf.answers c.args.shelf.now) (g.F.Shelf.answers c.loop-load.shelf)
     (g.F.Shelf.answers c.read.new.self) (g.F.Shelf.faults c.args.shelf.now) (g.F.Shelf.faults c.loop-load.shelf) (g.F.Shelf.faults c.read.new.self)
     no_line c.loop-load-test.true c.loop-load.invariant c.requires c.in_ok-named_fault-in-Err-Failed.field-0
-    (failed_adds (g.F.Shelf.answers c.loop-load.shelf) (g.F.Shelf.answers c.read.new.self) c.read.result c.in-Err-Failed.field-0 c.text.result.now name
+    (failed_adds (g.F.Shelf.answers c.loop-load.shelf) (g.F.Shelf.answers c.read.new.self) c.read.result c.in-Err-Failed.field-0 c.text.result.now
+    name
     c.text.ensures.text c.in-Err-Failed.is c.read.ensures.added c.in-Err-Failed.field-0-is)
     (failed_rose (g.F.Shelf.faults c.loop-load.shelf) (g.F.Shelf.faults c.read.new.self) c.read.result c.in-Err-Failed.field-0 c.in-Err-Failed.is
     c.in-Err-Failed.field-0-is c.read.ensures.cause)
@@ -85,15 +88,18 @@ loop-load-preserved g c =
     let short : length c.new.result ≤ 4194304 = omega (arith, c.if-len-gt-MAX_TEXT.false, c.len.ensures, ap length c.new.ensures) in
     let adds = rw c.text.ensures.text at c.in-Ok-2.ensures.added in
     let same : c.new.result ≡ c.in-Ok-2.text.items = c.new.ensures ∙ ap (λ v. v.items) c.in-Ok-2.text-is in
-    subst (λ (files : List SourceFile). IsLoading c.args.names.now c.args.loads.now (i + 1) files (g.F.Shelf.answers c.args.shelf.now) (g.F.Shelf.answers c.read.new.self)
+    subst (λ (files : List SourceFile). IsLoading c.args.names.now c.args.loads.now (i + 1) files (g.F.Shelf.answers c.args.shelf.now)
+    (g.F.Shelf.answers c.read.new.self)
     (g.F.Shelf.faults c.args.shelf.now) (g.F.Shelf.faults c.read.new.self)) (sym c.in_ok-push-in-Ok-2.ensures.items)
     (goes_on c.args.names.now c.args.loads.now i c.loop-load.files.items (g.F.Shelf.answers c.args.shelf.now) (g.F.Shelf.answers c.loop-load.shelf)
     (g.F.Shelf.answers c.read.new.self) (g.F.Shelf.faults c.args.shelf.now) (g.F.Shelf.faults c.loop-load.shelf) (g.F.Shelf.faults c.read.new.self)
     no_line c.loop-load-test.true c.loop-load.invariant file refl short
-    (subst (λ (text : List ℕ). AddsAnswer (g.F.Shelf.answers c.loop-load.shelf) (g.F.Shelf.answers c.read.new.self) (shelf.Given name text)) (sym same) adds)
+    (subst (λ (text : List ℕ). AddsAnswer (g.F.Shelf.answers c.loop-load.shelf) (g.F.Shelf.answers c.read.new.self) (shelf.Given name text))
+    (sym same) adds)
     c.in-Ok-2.ensures.cause.kept)
 
 pub returns-clause-comes : goal.returns-clause-comes
 returns-clause-comes g c =
-    all_given c.args.names.now c.args.loads.now c.loop-load.load-index c.loop-load.files (g.F.Shelf.answers c.args.shelf.now) (g.F.Shelf.answers c.loop-load.shelf)
+    all_given c.args.names.now c.args.loads.now c.loop-load.load-index c.loop-load.files (g.F.Shelf.answers c.args.shelf.now)
+    (g.F.Shelf.answers c.loop-load.shelf)
     (g.F.Shelf.faults c.args.shelf.now) (g.F.Shelf.faults c.loop-load.shelf) c.loop-load-test.false c.requires c.loop-load.invariant

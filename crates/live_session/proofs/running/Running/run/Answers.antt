@@ -68,7 +68,8 @@ returns-then-from-cycles-clause-answers g c =
 
 pub returns-then-from-cycles-clause-stops : goal.returns-then-from-cycles-clause-stops
 returns-then-from-cycles-clause-stops g c =
-    refused_stops c.args.names.now c.args.limits (Runs c.args.line c.args.cycles) c.args.self.now c.args.book.now c.refused_line-then-from-cycles.result
+    refused_stops c.args.names.now c.args.limits (Runs c.args.line c.args.cycles) c.args.self.now c.args.book.now
+    c.refused_line-then-from-cycles.result
 
 pub returns-in_err-reply-clause-stops : goal.returns-in_err-reply-clause-stops
 returns-in_err-reply-clause-stops g c =
@@ -159,7 +160,8 @@ returns-in-Ok-clause-answers g c =
       rows_ascend = subst (All AreAscending) (sym behind)
           (All-append AreAscending rows more r.rows_ascend (All-replicate AreAscending n r.row.value r.row_ascends));
     } in
-    let on : RunsOn r new more = record { version = refl; machine = refl; record_ = c.in-Ok.ensures.rows ∙ all; charge = refl; world = λ ns es grid. refl } in
+    let on : RunsOn r new more =
+    record { version = refl; machine = refl; record_ = c.in-Ok.ensures.rows ∙ all; charge = refl; world = λ ns es grid. refl } in
     let adds = ran_on c.args.book.now c.advance_or_cut.new.book rows r.row.value n c.len-from.result (rows_of c.recorded.new.record_)
     c.len-from.ensures all c.advance_or_cut.ensures.settings c.in-Ok.ensures.ok in
     let says = subst (λ (k : ℕ). Accepts (run_text (k + n)) c.in_ok-reply.reply) c.len-from.ensures c.in_ok-reply.ensures in
@@ -198,7 +200,8 @@ returns-in-Ok-clause-kept g c =
     let all : rows_of c.advance_or_cut.new.record_ ≡ rows ++ more =
     c.in-Ok.ensures.rows ∙ c.in_ok-code.ensures.rows ∙ ap (λ o. rows_behind o rows more) none in
     let still : All within (rows ++ more) = All-append within rows more kept.named.rows (All-replicate within n r.row.value kept.named.row) in
-    let room = room_there (limit_of r.record_) (names_set same_numbers length (rows ++ more)) r.charge c.args.limits.rooms.session c.in_ok-code.field-0
+    let room = room_there (limit_of r.record_) (names_set same_numbers length (rows ++ more)) r.charge c.args.limits.rooms.session
+    c.in_ok-code.field-0
     c.in_ok-code.ensures.code none in
     kept_on names c.args.limits r _ kept (record { texts = refl; machine = refl; keys = refl }) kept.named.row
     (subst (All within) (sym all) still) room (c.in-Ok.ensures.limit ∙ c.in_ok-code.ensures.limit ∙ kept.stimulus)

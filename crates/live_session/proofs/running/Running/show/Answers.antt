@@ -57,7 +57,8 @@ pub display-requires-clause-runs : goal.display-requires-clause-runs
 display-requires-clause-runs c =
     let r = c.args.self.now in
     let room : r.charge + 1 ≤ c.args.limits.rooms.session = omega (arith, c.if-self-limits.false) in
-    show_runs c.args.names.now c.has_each_once.ensures c.args.limits r _ c.requires.kept c.args.line c.args.book.now c.show-shown.new.self c.legal.ensures
+    show_runs c.args.names.now c.has_each_once.ensures c.args.limits r _ c.requires.kept c.args.line c.args.book.now c.show-shown.new.self
+    c.legal.ensures
     c.requires.stands c.args.prefix.now (shown_to c.show-shown.result)
     (record { settings = c.show-shown.ensures.settings; events = c.show-shown.ensures.events })
     (record { run = record { version = refl; machine = refl; rows = refl }; charge = refl; world = λ es grid. refl }) room
@@ -87,14 +88,16 @@ returns-in_err-text-clause-stops c =
 pub returns-in_err-text-clause-kept : goal.returns-in_err-text-clause-kept
 returns-in_err-text-clause-kept c =
     let kept = c.requires.kept in
-    kept_on c.args.names.now c.args.limits c.args.self.now _ kept (record { texts = refl; machine = refl; keys = refl }) kept.named.row kept.named.rows
+    kept_on c.args.names.now c.args.limits c.args.self.now _ kept (record { texts = refl; machine = refl; keys = refl }) kept.named.row
+    kept.named.rows
     (omega (arith, c.if-self-limits.false)) kept.stimulus
 
 pub returns-in_err-text-clause-stands : goal.returns-in_err-text-clause-stands
 returns-in_err-text-clause-stands c =
     let r = c.args.self.now in
     let room : r.charge + 1 ≤ c.args.limits.rooms.session = omega (arith, c.if-self-limits.false) in
-    show_stands c.args.names.now c.has_each_once.ensures c.args.limits r _ c.requires.kept c.args.line c.args.book.now c.show-shown.new.self c.legal.ensures
+    show_stands c.args.names.now c.has_each_once.ensures c.args.limits r _ c.requires.kept c.args.line c.args.book.now c.show-shown.new.self
+    c.legal.ensures
     c.requires.stands c.args.prefix.now (shown_to c.show-shown.result)
     (record { settings = c.show-shown.ensures.settings; events = c.show-shown.ensures.events })
     (record { run = record { version = refl; machine = refl; rows = refl }; charge = refl; world = λ es grid. refl }) room
@@ -104,7 +107,8 @@ returns-clause-answers c =
     let r = c.args.self.now in
     let new : Running = record r { charge = r.charge + 1 } in
     let room : r.charge + 1 ≤ c.args.limits.rooms.session = omega (arith, c.if-self-limits.false) in
-    show_done c.args.names.now c.has_each_once.ensures c.args.limits r new c.requires.kept c.args.line c.args.book.now c.show-shown.new.self c.legal.ensures
+    show_done c.args.names.now c.has_each_once.ensures c.args.limits r new c.requires.kept c.args.line c.args.book.now c.show-shown.new.self
+    c.legal.ensures
     c.requires.stands c.args.prefix.now (shown_to c.show-shown.result)
     (record { settings = c.show-shown.ensures.settings; events = c.show-shown.ensures.events })
     (record { run = record { version = refl; machine = refl; rows = refl }; charge = refl; world = λ es grid. refl }) room c.accepted.result
@@ -113,14 +117,16 @@ returns-clause-answers c =
 pub returns-clause-kept : goal.returns-clause-kept
 returns-clause-kept c =
     let kept = c.requires.kept in
-    kept_on c.args.names.now c.args.limits c.args.self.now _ kept (record { texts = refl; machine = refl; keys = refl }) kept.named.row kept.named.rows
+    kept_on c.args.names.now c.args.limits c.args.self.now _ kept (record { texts = refl; machine = refl; keys = refl }) kept.named.row
+    kept.named.rows
     (omega (arith, c.if-self-limits.false)) kept.stimulus
 
 pub returns-clause-stands : goal.returns-clause-stands
 returns-clause-stands c =
     let r = c.args.self.now in
     let room : r.charge + 1 ≤ c.args.limits.rooms.session = omega (arith, c.if-self-limits.false) in
-    show_stands c.args.names.now c.has_each_once.ensures c.args.limits r _ c.requires.kept c.args.line c.args.book.now c.show-shown.new.self c.legal.ensures
+    show_stands c.args.names.now c.has_each_once.ensures c.args.limits r _ c.requires.kept c.args.line c.args.book.now c.show-shown.new.self
+    c.legal.ensures
     c.requires.stands c.args.prefix.now (shown_to c.show-shown.result)
     (record { settings = c.show-shown.ensures.settings; events = c.show-shown.ensures.events })
     (record { run = record { version = refl; machine = refl; rows = refl }; charge = refl; world = λ es grid. refl }) room

@@ -39,21 +39,27 @@ returns-in-Edit-clause-lost g c =
 pub returns-in-Set-clause-steps : goal.returns-in-Set-clause-steps
 returns-in-Set-clause-steps g c =
     let s = c.args.self.now in
-    commanded s.names c.args.command (Sets c.in-Set.line (map (setting s.names) c.as_slice.result.now)) (g.F.Shelf.answers c.args.shelf.now) (g.F.Shelf.faults c.args.shelf.now) s c.set.new.self
-    c.args.book.now c.args.book.now c.set.result (ap (spoken s.names) c.in-Set.is ∙ ap (λ (vs : List PortValue). Sets c.in-Set.line (map (setting s.names) vs)) (sym c.as_slice.ensures))
+    commanded s.names c.args.command (Sets c.in-Set.line (map (setting s.names) c.as_slice.result.now)) (g.F.Shelf.answers c.args.shelf.now)
+    (g.F.Shelf.faults c.args.shelf.now) s c.set.new.self
+    c.args.book.now c.args.book.now c.set.result
+    (ap (spoken s.names) c.in-Set.is ∙ ap (λ (vs : List PortValue). Sets c.in-Set.line (map (setting s.names) vs)) (sym c.as_slice.ensures))
     c.set.ensures.limits refl (λ st w. refl) c.set.ensures.beside c.set.ensures.answers
 
 pub returns-in-Set-clause-stops : goal.returns-in-Set-clause-stops
 returns-in-Set-clause-stops g c =
     let s = c.args.self.now in
-    command_stops s.names c.args.command (Sets c.in-Set.line (map (setting s.names) c.as_slice.result.now)) (g.F.Shelf.answers c.args.shelf.now) (g.F.Shelf.faults c.args.shelf.now) s c.set.new.self
-    c.args.book.now c.args.book.now c.set.result (ap (spoken s.names) c.in-Set.is ∙ ap (λ (vs : List PortValue). Sets c.in-Set.line (map (setting s.names) vs)) (sym c.as_slice.ensures))
+    command_stops s.names c.args.command (Sets c.in-Set.line (map (setting s.names) c.as_slice.result.now)) (g.F.Shelf.answers c.args.shelf.now)
+    (g.F.Shelf.faults c.args.shelf.now) s c.set.new.self
+    c.args.book.now c.args.book.now c.set.result
+    (ap (spoken s.names) c.in-Set.is ∙ ap (λ (vs : List PortValue). Sets c.in-Set.line (map (setting s.names) vs)) (sym c.as_slice.ensures))
     c.set.ensures.limits refl (λ st w. refl) c.set.ensures.beside c.set.ensures.stops
 
 pub returns-in-Set-clause-quits : goal.returns-in-Set-clause-quits
 returns-in-Set-clause-quits g c =
     let s = c.args.self.now in
-    quits_as (Sets c.in-Set.line (map (setting s.names) c.as_slice.result.now)) (spoken s.names c.args.command) (ap (spoken s.names) c.in-Set.is ∙ ap (λ (vs : List PortValue). Sets c.in-Set.line (map (setting s.names) vs)) (sym c.as_slice.ensures)) false refl c.set.result c.set.ensures.goes_on
+    quits_as (Sets c.in-Set.line (map (setting s.names) c.as_slice.result.now)) (spoken s.names c.args.command)
+    (ap (spoken s.names) c.in-Set.is ∙ ap (λ (vs : List PortValue). Sets c.in-Set.line (map (setting s.names) vs)) (sym c.as_slice.ensures)) false
+    refl c.set.result c.set.ensures.goes_on
 
 pub returns-in-Set-clause-lost : goal.returns-in-Set-clause-lost
 returns-in-Set-clause-lost g c = none_lost (spoken c.args.self.now.names c.args.command) (g.F.Shelf.answers c.args.shelf.now) c.set.result
@@ -64,21 +70,24 @@ returns-in-Set-clause-cause g c = always c.set.result (inl refl)
 pub returns-in-Run-clause-steps : goal.returns-in-Run-clause-steps
 returns-in-Run-clause-steps g c =
     let s = c.args.self.now in
-    commanded s.names c.args.command (Runs c.in-Run.line c.in-Run.n) (g.F.Shelf.answers c.args.shelf.now) (g.F.Shelf.faults c.args.shelf.now) s c.run.new.self
+    commanded s.names c.args.command (Runs c.in-Run.line c.in-Run.n) (g.F.Shelf.answers c.args.shelf.now) (g.F.Shelf.faults c.args.shelf.now) s
+    c.run.new.self
     c.args.book.now c.run.new.book c.run.result (ap (spoken s.names) c.in-Run.is)
     c.run.ensures.limits refl (λ st w. refl) c.run.ensures.beside c.run.ensures.answers
 
 pub returns-in-Run-clause-stops : goal.returns-in-Run-clause-stops
 returns-in-Run-clause-stops g c =
     let s = c.args.self.now in
-    command_stops s.names c.args.command (Runs c.in-Run.line c.in-Run.n) (g.F.Shelf.answers c.args.shelf.now) (g.F.Shelf.faults c.args.shelf.now) s c.run.new.self
+    command_stops s.names c.args.command (Runs c.in-Run.line c.in-Run.n) (g.F.Shelf.answers c.args.shelf.now) (g.F.Shelf.faults c.args.shelf.now) s
+    c.run.new.self
     c.args.book.now c.run.new.book c.run.result (ap (spoken s.names) c.in-Run.is)
     c.run.ensures.limits refl (λ st w. refl) c.run.ensures.beside c.run.ensures.stops
 
 pub returns-in-Run-clause-quits : goal.returns-in-Run-clause-quits
 returns-in-Run-clause-quits g c =
     let s = c.args.self.now in
-    quits_as (Runs c.in-Run.line c.in-Run.n) (spoken s.names c.args.command) (ap (spoken s.names) c.in-Run.is) false refl c.run.result c.run.ensures.goes_on
+    quits_as (Runs c.in-Run.line c.in-Run.n) (spoken s.names c.args.command) (ap (spoken s.names) c.in-Run.is) false refl c.run.result
+    c.run.ensures.goes_on
 
 pub returns-in-Run-clause-lost : goal.returns-in-Run-clause-lost
 returns-in-Run-clause-lost g c = none_lost (spoken c.args.self.now.names c.args.command) (g.F.Shelf.answers c.args.shelf.now) c.run.result
@@ -89,21 +98,27 @@ returns-in-Run-clause-cause g c = always c.run.result (inl refl)
 pub returns-in-Show-clause-steps : goal.returns-in-Show-clause-steps
 returns-in-Show-clause-steps g c =
     let s = c.args.self.now in
-    commanded s.names c.args.command (Shows c.in-Show.line c.bytes.result.now) (g.F.Shelf.answers c.args.shelf.now) (g.F.Shelf.faults c.args.shelf.now) s c.show.new.self
-    c.args.book.now c.show.new.book c.show.result (ap (spoken s.names) c.in-Show.is ∙ ap (λ (p : List ℕ). Shows c.in-Show.line p) (sym c.bytes.ensures))
+    commanded s.names c.args.command (Shows c.in-Show.line c.bytes.result.now) (g.F.Shelf.answers c.args.shelf.now)
+    (g.F.Shelf.faults c.args.shelf.now) s c.show.new.self
+    c.args.book.now c.show.new.book c.show.result
+    (ap (spoken s.names) c.in-Show.is ∙ ap (λ (p : List ℕ). Shows c.in-Show.line p) (sym c.bytes.ensures))
     c.show.ensures.limits refl (λ st w. refl) c.show.ensures.beside c.show.ensures.answers
 
 pub returns-in-Show-clause-stops : goal.returns-in-Show-clause-stops
 returns-in-Show-clause-stops g c =
     let s = c.args.self.now in
-    command_stops s.names c.args.command (Shows c.in-Show.line c.bytes.result.now) (g.F.Shelf.answers c.args.shelf.now) (g.F.Shelf.faults c.args.shelf.now) s c.show.new.self
-    c.args.book.now c.show.new.book c.show.result (ap (spoken s.names) c.in-Show.is ∙ ap (λ (p : List ℕ). Shows c.in-Show.line p) (sym c.bytes.ensures))
+    command_stops s.names c.args.command (Shows c.in-Show.line c.bytes.result.now) (g.F.Shelf.answers c.args.shelf.now)
+    (g.F.Shelf.faults c.args.shelf.now) s c.show.new.self
+    c.args.book.now c.show.new.book c.show.result
+    (ap (spoken s.names) c.in-Show.is ∙ ap (λ (p : List ℕ). Shows c.in-Show.line p) (sym c.bytes.ensures))
     c.show.ensures.limits refl (λ st w. refl) c.show.ensures.beside c.show.ensures.stops
 
 pub returns-in-Show-clause-quits : goal.returns-in-Show-clause-quits
 returns-in-Show-clause-quits g c =
     let s = c.args.self.now in
-    quits_as (Shows c.in-Show.line c.bytes.result.now) (spoken s.names c.args.command) (ap (spoken s.names) c.in-Show.is ∙ ap (λ (p : List ℕ). Shows c.in-Show.line p) (sym c.bytes.ensures)) false refl c.show.result c.show.ensures.goes_on
+    quits_as (Shows c.in-Show.line c.bytes.result.now) (spoken s.names c.args.command)
+    (ap (spoken s.names) c.in-Show.is ∙ ap (λ (p : List ℕ). Shows c.in-Show.line p) (sym c.bytes.ensures)) false refl c.show.result
+    c.show.ensures.goes_on
 
 pub returns-in-Show-clause-lost : goal.returns-in-Show-clause-lost
 returns-in-Show-clause-lost g c = none_lost (spoken c.args.self.now.names c.args.command) (g.F.Shelf.answers c.args.shelf.now) c.show.result
@@ -114,21 +129,24 @@ returns-in-Show-clause-cause g c = always c.show.result (inl refl)
 pub returns-in-Settle-clause-steps : goal.returns-in-Settle-clause-steps
 returns-in-Settle-clause-steps g c =
     let s = c.args.self.now in
-    commanded s.names c.args.command (Settles c.in-Settle.line c.in-Settle.passes) (g.F.Shelf.answers c.args.shelf.now) (g.F.Shelf.faults c.args.shelf.now) s c.settle.new.self
+    commanded s.names c.args.command (Settles c.in-Settle.line c.in-Settle.passes) (g.F.Shelf.answers c.args.shelf.now)
+    (g.F.Shelf.faults c.args.shelf.now) s c.settle.new.self
     c.args.book.now c.settle.new.book c.settle.result (ap (spoken s.names) c.in-Settle.is)
     c.settle.ensures.limits refl (λ st w. refl) c.settle.ensures.beside c.settle.ensures.answers
 
 pub returns-in-Settle-clause-stops : goal.returns-in-Settle-clause-stops
 returns-in-Settle-clause-stops g c =
     let s = c.args.self.now in
-    command_stops s.names c.args.command (Settles c.in-Settle.line c.in-Settle.passes) (g.F.Shelf.answers c.args.shelf.now) (g.F.Shelf.faults c.args.shelf.now) s c.settle.new.self
+    command_stops s.names c.args.command (Settles c.in-Settle.line c.in-Settle.passes) (g.F.Shelf.answers c.args.shelf.now)
+    (g.F.Shelf.faults c.args.shelf.now) s c.settle.new.self
     c.args.book.now c.settle.new.book c.settle.result (ap (spoken s.names) c.in-Settle.is)
     c.settle.ensures.limits refl (λ st w. refl) c.settle.ensures.beside c.settle.ensures.stops
 
 pub returns-in-Settle-clause-quits : goal.returns-in-Settle-clause-quits
 returns-in-Settle-clause-quits g c =
     let s = c.args.self.now in
-    quits_as (Settles c.in-Settle.line c.in-Settle.passes) (spoken s.names c.args.command) (ap (spoken s.names) c.in-Settle.is) false refl c.settle.result c.settle.ensures.goes_on
+    quits_as (Settles c.in-Settle.line c.in-Settle.passes) (spoken s.names c.args.command) (ap (spoken s.names) c.in-Settle.is) false refl
+    c.settle.result c.settle.ensures.goes_on
 
 pub returns-in-Settle-clause-lost : goal.returns-in-Settle-clause-lost
 returns-in-Settle-clause-lost g c = none_lost (spoken c.args.self.now.names c.args.command) (g.F.Shelf.answers c.args.shelf.now) c.settle.result
@@ -140,20 +158,24 @@ pub returns-in-Status-clause-steps : goal.returns-in-Status-clause-steps
 returns-in-Status-clause-steps g c =
     let s = c.args.self.now in
     let j = c.args.book.now in
-    commanded s.names c.args.command (AsksStatus c.in-Status.line) (g.F.Shelf.answers c.args.shelf.now) (g.F.Shelf.faults c.args.shelf.now) s s j j c.status.result
-    (ap (spoken s.names) c.in-Status.is) refl refl (λ st w. refl) c.requires.beside (status_at c.in-Status.line s j c.status.result c.status.ensures.answers)
+    commanded s.names c.args.command (AsksStatus c.in-Status.line) (g.F.Shelf.answers c.args.shelf.now) (g.F.Shelf.faults c.args.shelf.now) s s j j
+    c.status.result
+    (ap (spoken s.names) c.in-Status.is) refl refl (λ st w. refl) c.requires.beside
+    (status_at c.in-Status.line s j c.status.result c.status.ensures.answers)
 
 pub returns-in-Status-clause-stops : goal.returns-in-Status-clause-stops
 returns-in-Status-clause-stops g c =
     let s = c.args.self.now in
     let j = c.args.book.now in
-    command_stops s.names c.args.command (AsksStatus c.in-Status.line) (g.F.Shelf.answers c.args.shelf.now) (g.F.Shelf.faults c.args.shelf.now) s s j j c.status.result
+    command_stops s.names c.args.command (AsksStatus c.in-Status.line) (g.F.Shelf.answers c.args.shelf.now) (g.F.Shelf.faults c.args.shelf.now) s s j
+    j c.status.result
     (ap (spoken s.names) c.in-Status.is) refl refl (λ st w. refl) c.requires.beside (stops_still (AsksStatus c.in-Status.line) s j c.status.result)
 
 pub returns-in-Status-clause-quits : goal.returns-in-Status-clause-quits
 returns-in-Status-clause-quits g c =
     let s = c.args.self.now in
-    quits_as (AsksStatus c.in-Status.line) (spoken s.names c.args.command) (ap (spoken s.names) c.in-Status.is) false refl c.status.result c.status.ensures.goes_on
+    quits_as (AsksStatus c.in-Status.line) (spoken s.names c.args.command) (ap (spoken s.names) c.in-Status.is) false refl c.status.result
+    c.status.ensures.goes_on
 
 pub returns-in-Status-clause-lost : goal.returns-in-Status-clause-lost
 returns-in-Status-clause-lost g c = none_lost (spoken c.args.self.now.names c.args.command) (g.F.Shelf.answers c.args.shelf.now) c.status.result
@@ -165,14 +187,16 @@ pub returns-clause-steps : goal.returns-clause-steps
 returns-clause-steps g c =
     let s = c.args.self.now in
     let j = c.args.book.now in
-    commanded s.names c.args.command (Quits c.in-Quit.line) (g.F.Shelf.answers c.args.shelf.now) (g.F.Shelf.faults c.args.shelf.now) s s j j c.quit.result
+    commanded s.names c.args.command (Quits c.in-Quit.line) (g.F.Shelf.answers c.args.shelf.now) (g.F.Shelf.faults c.args.shelf.now) s s j j
+    c.quit.result
     (ap (spoken s.names) c.in-Quit.is) refl refl (λ st w. refl) c.requires.beside (quit_at c.in-Quit.line s j c.quit.result c.quit.ensures.answers)
 
 pub returns-clause-stops : goal.returns-clause-stops
 returns-clause-stops g c =
     let s = c.args.self.now in
     let j = c.args.book.now in
-    command_stops s.names c.args.command (Quits c.in-Quit.line) (g.F.Shelf.answers c.args.shelf.now) (g.F.Shelf.faults c.args.shelf.now) s s j j c.quit.result
+    command_stops s.names c.args.command (Quits c.in-Quit.line) (g.F.Shelf.answers c.args.shelf.now) (g.F.Shelf.faults c.args.shelf.now) s s j j
+    c.quit.result
     (ap (spoken s.names) c.in-Quit.is) refl refl (λ st w. refl) c.requires.beside (stops_still (Quits c.in-Quit.line) s j c.quit.result)
 
 pub returns-clause-quits : goal.returns-clause-quits

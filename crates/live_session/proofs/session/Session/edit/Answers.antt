@@ -14,7 +14,8 @@ use Rattle.live_session.proofs.session.Session.edit.Goals as goal
 pub returns-then-charge-self-clause-steps : goal.returns-then-charge-self-clause-steps
 returns-then-charge-self-clause-steps g c =
     let s = c.args.self.now in
-    full_steps (edited s.names c.args.edit.now) s c.args.book.now (g.F.Shelf.answers c.args.shelf.now) (g.F.Shelf.faults c.args.shelf.now) c.requires.beside c.refused_line.result
+    full_steps (edited s.names c.args.edit.now) s c.args.book.now (g.F.Shelf.answers c.args.shelf.now) (g.F.Shelf.faults c.args.shelf.now)
+    c.requires.beside c.refused_line.result
     (omega (arith, c.if-charge-self.true, c.charge.ensures (marks_of c.args.book.now))) c.refused_line.ensures
 
 pub returns-then-charge-self-clause-stops : goal.returns-then-charge-self-clause-stops
@@ -24,7 +25,8 @@ returns-then-charge-self-clause-stops g c =
     (g.F.Shelf.faults c.args.shelf.now) (g.F.Shelf.faults c.args.shelf.now) c.refused_line.result
 
 pub returns-then-charge-self-clause-lost : goal.returns-then-charge-self-clause-lost
-returns-then-charge-self-clause-lost g c = none_lost (Edits (edited c.args.self.now.names c.args.edit.now)) (g.F.Shelf.answers c.args.shelf.now) c.refused_line.result
+returns-then-charge-self-clause-lost g c =
+    none_lost (Edits (edited c.args.self.now.names c.args.edit.now)) (g.F.Shelf.answers c.args.shelf.now) c.refused_line.result
 
 pub returns-then-charge-self-clause-cause : goal.returns-then-charge-self-clause-cause
 returns-then-charge-self-clause-cause g c = always c.refused_line.result (inl refl)
@@ -34,17 +36,20 @@ take-requires-clause-room g c κs within = omega (arith, c.if-charge-self.false,
 
 pub take-requires-clause-usable : goal.take-requires-clause-usable
 take-requires-clause-usable g c κs within =
-    subst (λ (ls : List LoadLine). AreUsable (length c.args.self.now.names) ls c.in_ok-loads.loads) c.as_slice.ensures c.in_ok-loads.ensures.comes.usable
+    subst (λ (ls : List LoadLine). AreUsable (length c.args.self.now.names) ls c.in_ok-loads.loads) c.as_slice.ensures
+    c.in_ok-loads.ensures.comes.usable
 
 pub returns-in_err-loads-clause-stops : goal.returns-in_err-loads-clause-stops
 returns-in_err-loads-clause-stops g c =
     let s = c.args.self.now in
-    always _ (stops_before (edited s.names c.args.edit.now) s c.args.book.now (g.F.Shelf.answers c.args.shelf.now) (g.F.Shelf.answers c.loaded.new.shelf)
+    always _ (stops_before (edited s.names c.args.edit.now) s c.args.book.now (g.F.Shelf.answers c.args.shelf.now)
+    (g.F.Shelf.answers c.loaded.new.shelf)
     (g.F.Shelf.faults c.args.shelf.now) (g.F.Shelf.faults c.loaded.new.shelf))
 
 pub returns-in_err-loads-clause-lost : goal.returns-in_err-loads-clause-lost
 returns-in_err-loads-clause-lost g c =
-    always _ (loses_loads c.args.self.now.names c.args.edit.now c.as_slice.result.now (g.F.Shelf.answers c.args.shelf.now) (g.F.Shelf.answers c.loaded.new.shelf)
+    always _ (loses_loads c.args.self.now.names c.args.edit.now c.as_slice.result.now (g.F.Shelf.answers c.args.shelf.now)
+    (g.F.Shelf.answers c.loaded.new.shelf)
     c.as_slice.ensures c.in_err-loads.ensures.lost)
 
 pub returns-clause-steps : goal.returns-clause-steps
@@ -52,25 +57,32 @@ returns-clause-steps g c =
     let s = c.args.self.now in
     let comes = subst (λ (ls : List LoadLine). ComesTo s.names ls (g.F.Shelf.answers c.args.shelf.now) (g.F.Shelf.answers c.loaded.new.shelf)
     (g.F.Shelf.faults c.args.shelf.now) (g.F.Shelf.faults c.loaded.new.shelf) c.in_ok-loads.loads) c.as_slice.ensures c.in_ok-loads.ensures.comes in
-    let room : (world_in s c.args.book.now).charge < s.limits.rooms.session = omega (arith, c.if-charge-self.false, c.charge.ensures (marks_of c.args.book.now)) in
-    all_steps s.names c.args.edit.now s c.take.new.self c.args.book.now c.take.new.book (g.F.Shelf.answers c.args.shelf.now) (g.F.Shelf.answers c.loaded.new.shelf)
-    (g.F.Shelf.faults c.args.shelf.now) (g.F.Shelf.faults c.loaded.new.shelf) c.take.ensures.limits c.take.ensures.beside room c.in_ok-loads.loads comes c.take.result c.take.ensures.takes
+    let room : (world_in s c.args.book.now).charge < s.limits.rooms.session =
+    omega (arith, c.if-charge-self.false, c.charge.ensures (marks_of c.args.book.now)) in
+    all_steps s.names c.args.edit.now s c.take.new.self c.args.book.now c.take.new.book (g.F.Shelf.answers c.args.shelf.now)
+    (g.F.Shelf.answers c.loaded.new.shelf)
+    (g.F.Shelf.faults c.args.shelf.now) (g.F.Shelf.faults c.loaded.new.shelf) c.take.ensures.limits c.take.ensures.beside room c.in_ok-loads.loads
+    comes c.take.result c.take.ensures.takes
 
 pub returns-clause-stops : goal.returns-clause-stops
 returns-clause-stops g c =
     let s = c.args.self.now in
     let comes = subst (λ (ls : List LoadLine). ComesTo s.names ls (g.F.Shelf.answers c.args.shelf.now) (g.F.Shelf.answers c.loaded.new.shelf)
     (g.F.Shelf.faults c.args.shelf.now) (g.F.Shelf.faults c.loaded.new.shelf) c.in_ok-loads.loads) c.as_slice.ensures c.in_ok-loads.ensures.comes in
-    let room : (world_in s c.args.book.now).charge < s.limits.rooms.session = omega (arith, c.if-charge-self.false, c.charge.ensures (marks_of c.args.book.now)) in
-    all_stops s.names c.args.edit.now s c.take.new.self c.args.book.now c.take.new.book (g.F.Shelf.answers c.args.shelf.now) (g.F.Shelf.answers c.loaded.new.shelf)
-    (g.F.Shelf.faults c.args.shelf.now) (g.F.Shelf.faults c.loaded.new.shelf) c.take.ensures.limits c.take.ensures.beside room c.in_ok-loads.loads comes c.take.result c.take.ensures.loses
+    let room : (world_in s c.args.book.now).charge < s.limits.rooms.session =
+    omega (arith, c.if-charge-self.false, c.charge.ensures (marks_of c.args.book.now)) in
+    all_stops s.names c.args.edit.now s c.take.new.self c.args.book.now c.take.new.book (g.F.Shelf.answers c.args.shelf.now)
+    (g.F.Shelf.answers c.loaded.new.shelf)
+    (g.F.Shelf.faults c.args.shelf.now) (g.F.Shelf.faults c.loaded.new.shelf) c.take.ensures.limits c.take.ensures.beside room c.in_ok-loads.loads
+    comes c.take.result c.take.ensures.loses
 
 pub returns-clause-lost : goal.returns-clause-lost
 returns-clause-lost g c =
     let s = c.args.self.now in
     let comes = subst (λ (ls : List LoadLine). ComesTo s.names ls (g.F.Shelf.answers c.args.shelf.now) (g.F.Shelf.answers c.loaded.new.shelf)
     (g.F.Shelf.faults c.args.shelf.now) (g.F.Shelf.faults c.loaded.new.shelf) c.in_ok-loads.loads) c.as_slice.ensures c.in_ok-loads.ensures.comes in
-    all_lost s.names c.args.edit.now s c.take.new.self c.args.book.now c.take.new.book (g.F.Shelf.answers c.args.shelf.now) (g.F.Shelf.answers c.loaded.new.shelf)
+    all_lost s.names c.args.edit.now s c.take.new.self c.args.book.now c.take.new.book (g.F.Shelf.answers c.args.shelf.now)
+    (g.F.Shelf.answers c.loaded.new.shelf)
     (g.F.Shelf.faults c.args.shelf.now) (g.F.Shelf.faults c.loaded.new.shelf) c.in_ok-loads.loads c.take.result comes
 
 pub returns-clause-cause : goal.returns-clause-cause

@@ -24,7 +24,8 @@ renew-requires-clause-stands g c κs within =
 pub renew-requires-clause-room : goal.renew-requires-clause-room
 renew-requires-clause-room g c κs within =
     let s = c.args.self.now in
-    charge_there s.names (entries_of s.registry) (marks_of c.args.book.now) s.running c.in-Some.running s.limits.rooms.session c.in-Some.is c.requires.room
+    charge_there s.names (entries_of s.registry) (marks_of c.args.book.now) s.running c.in-Some.running s.limits.rooms.session c.in-Some.is
+    c.requires.room
 
 pub invariant_of-self-clause-clock_is : goal.invariant_of-self-clause-clock_is
 invariant_of-self-clause-clock_is g c =

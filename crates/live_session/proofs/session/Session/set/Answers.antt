@@ -26,7 +26,8 @@ pub returns-in-Some-clause-beside : goal.returns-in-Some-clause-beside
 returns-in-Some-clause-beside c =
     let s = c.args.self.now in
     record {
-      stands = c.set.ensures.stands c.args.book.now (stands_there s.limits s.running c.in-Some.running c.args.book.now c.in-Some.is c.requires.beside.stands);
+      stands = c.set.ensures.stands c.args.book.now
+          (stands_there s.limits s.running c.in-Some.running c.args.book.now c.in-Some.is c.requires.beside.stands);
       held = c.requires.beside.held;
     }
 

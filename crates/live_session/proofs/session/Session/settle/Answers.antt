@@ -38,7 +38,8 @@ returns-in-Some-clause-beside g c = record { stands = c.settle-reply.ensures.sta
 
 pub returns-in-None-clause-answers : goal.returns-in-None-clause-answers
 returns-in-None-clause-answers g c =
-    none_runs (Settles c.args.line c.args.passes) c.args.self.now c.args.book.now c.args.line c.refused_line.result c.in-None.is refl c.refused_line.ensures
+    none_runs (Settles c.args.line c.args.passes) c.args.self.now c.args.book.now c.args.line c.refused_line.result c.in-None.is refl
+    c.refused_line.ensures
 
 pub returns-in-None-clause-stops : goal.returns-in-None-clause-stops
 returns-in-None-clause-stops g c = stops_still (Settles c.args.line c.args.passes) c.args.self.now c.args.book.now c.refused_line.result

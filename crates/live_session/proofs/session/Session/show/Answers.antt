@@ -38,7 +38,8 @@ returns-in-Some-clause-beside c = record { stands = c.show-reply.ensures.stands;
 
 pub returns-in-None-clause-answers : goal.returns-in-None-clause-answers
 returns-in-None-clause-answers c =
-    none_runs (Shows c.args.line c.args.prefix.now) c.args.self.now c.args.book.now c.args.line c.refused_line.result c.in-None.is refl c.refused_line.ensures
+    none_runs (Shows c.args.line c.args.prefix.now) c.args.self.now c.args.book.now c.args.line c.refused_line.result c.in-None.is refl
+    c.refused_line.ensures
 
 pub returns-in-None-clause-stops : goal.returns-in-None-clause-stops
 returns-in-None-clause-stops c = stops_still (Shows c.args.line c.args.prefix.now) c.args.self.now c.args.book.now c.refused_line.result

@@ -15,7 +15,8 @@ returns-in-Refused-clause-takes g c =
     let s = c.args.self.now in
     let j = c.args.book.now in
     let block = edited s.names c.args.edit.now in
-    subst (λ (l : Loads). IfOk c.refused_text.result (λ r. TakesBlock (settings_in s j) block (result_of s.names l) (world_in s j) (world_in s j) j j r.lines
+    subst (λ (l : Loads). IfOk c.refused_text.result
+    (λ r. TakesBlock (settings_in s j) block (result_of s.names l) (world_in s j) (world_in s j) j j r.lines
     r.refused)) (sym c.in-Refused.is)
     (refused_loads block s j (refused_text [] 0 (fault_view s.names c.in-Refused.fault)) c.refused_text.result c.refused_text.ensures)
 
