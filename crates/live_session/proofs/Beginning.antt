@@ -23,6 +23,7 @@ use Rattle.stimulus.specs.Records.{rows_of}
 use Rattle.unit_laws.proofs.HeldUnits.{none_held}
 use Rattle.unit_laws.specs.Held.{IsKeyUnder}
 use Rattle.version_swap.specs.Behind.{design_of, texts_behind}
+use Rattle.version_swap.specs.Operations.{AreValidBetween}
 use Rattle.version_swap.specs.Plans.{DesignOfTexts, Plans}
 use Rattle.version_swap.specs.declared.texts.Texts.{Texts}
 use Rattle.live_session.specs.Begins.{Begins, IsBegun, Starts, StartsIn}
@@ -61,9 +62,10 @@ never_opened limits j stands = never_by (book_in j) stands.outline
 pub first_room : (limits : Limits) (j : Log) → Stands limits None j → 1 ≤ limits.rooms.session → HasSessionRoom j 1
 first_room limits j stands room = omega (arith, stands.charged, room, ap (λ rooms. rooms.session) stands.rooms)
 
-pub agrees_fresh : (names : List (List ℕ)) → HasEachOnce names → (limits : Limits) (j : Log) → Stands limits None j → Agrees fresh (outline_of j)
-agrees_fresh names once limits j stands =
-    subst (Agrees fresh) (sym stands.outline) (record { names = names; once = once; version = refl; machine = tt; rows = refl; marks = refl })
+pub agrees_fresh : (names : List (List ℕ)) (limits : Limits) (j : Log) → Stands limits None j → Agrees names fresh (outline_of j)
+agrees_fresh names limits j stands =
+    subst (Agrees names fresh) (sym stands.outline)
+    (record { version = refl; machine = tt; rows = record { are = refl; within = All-nil (AreWithin (length names)) }; marks = refl })
 
 -- ---- the book behind the entry
 
@@ -127,7 +129,7 @@ module _ (old new : List (List ℕ)) (e : Edit) (loaded : List SourceFile) (t : 
     (behind : texts ≡ texts_behind t e loaded) (plans : Plans new texts.files texts.top texts.clock (Ok (design_of design keys)))
     (made : All (IsKeyUnder new) keys) (builds : BuildJob → Result Built Fault) (es entries : List Entry) (none : es ≡ [])
     (held : ensured builds es keys ≡ Ok entries) (count : built ≡ length (missing (keys_of es) keys)) (rest : kept + built ≡ length keys)
-    (no_ops : e.ops ≡ []) (short : All (λ (f : SourceFile). length f.text ≤ 4194304) texts.files) where
+    (valid : AreValidBetween None design e.ops) (short : All (λ (f : SourceFile). length f.text ≤ 4194304) texts.files) where
   abbrev its_keys : List (List ℕ)
   its_keys = map (λ (k : KeyData). k.text) keys
 
@@ -165,12 +167,19 @@ module _ (old new : List (List ℕ)) (e : Edit) (loaded : List SourceFile) (t : 
     plans = its_plans;
   }
 
+  -- its operations are valid behind a book without a version
+  its_valid : AreValidBetween (outline_of was).machine running.version.value.machine.value e.ops
+  its_valid =
+      subst (λ (m : Option Design). AreValidBetween m running.version.value.machine.value e.ops)
+      (sym (ap (λ (o : Outline Design InputRow). o.machine) stands.outline))
+      (subst (λ (d : Design). AreValidBetween None d e.ops) (sym starts.has_design) valid)
+
   pub begins : IsBegun new limits (edited old e) (map (text_file old) loaded) entries was is running line
   begins = record {
     takes =
-        takes_next old new e loaded t fresh h entries running next (settings_by limits was) was is (Opens 1 design) _
-        (record { settings = starts.settings; events = starts.opens }) refl refl starts.marks (agrees_fresh old h.once limits was stands)
-        (ap (λ (m : Design). Opens 1 m) (sym starts.has_design)) no_ops line built kept 0 its_count (rest ∙ ap length (sym starts.has_keys)) refl
+        takes_next old new e loaded t fresh h entries running next (settings_by limits was) was is (Opens 1 design)
+        (record { settings = starts.settings; events = starts.opens }) (refl, tt) refl refl starts.marks (agrees_fresh new limits was stands)
+        (ap (λ (m : Design). Opens 1 m) (sym starts.has_design)) its_valid line built kept 0 its_count (rest ∙ ap length (sym starts.has_keys)) refl
         starts.text;
     kept = record {
       named = record {

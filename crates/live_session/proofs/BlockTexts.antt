@@ -1,21 +1,26 @@
--- A block behind texts: what its files are by their texts, whatever numbers the names have.
-use Rattle.std.proofs.Common.{◌≡◌, ◌∙◌, ℕ, ◌<◌, List, [], map, length, All, refl, sym, ap, subst}
-use Rattle.std.specs.Prelude.{IfSome, Option, Some, None, Result, Ok, Err}
+-- A block behind texts: what its files and its operations are by their texts, whatever numbers the names have.
+use Rattle.std.proofs.Common.{◌≡◌, ◌∙◌, ℕ, ◌<◌, List, [], ◌∷◌, map, length, refl, sym, ap, subst}
+use Rattle.std.specs.Prelude.{IfSome, Option, Some, None, Result}
 use Rattle.std.specs.Option.{option_or, unwrap_or, option_map}
+use Rattle.std.proofs.lemmas.List.Elements.{All-map}
 use Rattle.ls_text.specs.declared.name_id.NameId.{NameId}
 use Rattle.ls_text.specs.declared.source_file.SourceFile.{SourceFile}
 use Rattle.ls_text.specs.Readings.{TextFault}
 use Rattle.ls_text.specs.Texts.{Grows, HasEachOnce, text_at}
 use Rattle.ls_text.proofs.Growth.{grown_id, grown_text}
-use Rattle.command_read.proofs.Grown.{all_so}
-use Rattle.command_read.specs.Asking.{Block}
-use Rattle.command_read.specs.Spoken.{IsEditWithin, IsWithin, edited, name_of}
+use Rattle.command_read.proofs.Grown.{all_so, grown_names, grown_operation, same_map}
+use Rattle.command_read.specs.Asking.{Block, LineOperation}
+use Rattle.command_read.specs.Spoken.{AreOpsWithin, IsEditWithin, IsWithin, edited, line_operation, name_of}
 use Rattle.command_read.specs.declared.edit.Edit.{Edit}
+use Rattle.command_read.specs.declared.op_line.OpLine.{OpLine}
+use Rattle.reg_ops.specs.Operations.{HasNames, Operation, operation}
 use Rattle.version_swap.specs.Files as numbered
+use Rattle.version_swap.specs.Operations.{ops_of}
 use Rattle.version_swap.specs.Plans.{DesignOfTexts, Plans}
 use Rattle.version_swap.specs.declared.texts.Texts.{Texts}
 use Rattle.live_session.specs.Files.{TextFile, files_behind, text_file}
 use Rattle.live_session.specs.Readings.{FilesRead, HasMaybe, HasText}
+use Rattle.live_session.specs.Scripts.{AreOperations}
 use Rattle.live_session.specs.Spelled.{spelled_answer}
 use Rattle.live_session.specs.Verdicts.{clock_after, files_after, top_after}
 use Rattle.live_session.specs.Worlds.{World}
@@ -130,3 +135,28 @@ module _ (old new : List (List ℕ)) (e : Edit) (loaded : List SourceFile) (t : 
     plans = plans;
     same = refl;
   }
+
+  -- ---- its operations
+
+  -- by the table that has grown they are those of the block
+  pub ops_are : map (line_operation new) e.ops ≡ block.ops
+  ops_are =
+      same_map (λ (o : OpLine). HasNames (length old) o.op) (line_operation old) (line_operation new) e.ops
+      (λ (o : OpLine) (is : HasNames (length old) o.op).
+      ap (λ (op : Operation). record { line = o.line; op = op }) (grown_operation old new h.grows o.op is))
+      h.within.operations
+
+  pub ops_within : AreOpsWithin (length new) e.ops
+  ops_within =
+      all_so (λ (o : OpLine). HasNames (length old) o.op) (λ (o : OpLine). HasNames (length new) o.op) e.ops
+      (λ (o : OpLine) (is : HasNames (length old) o.op). grown_names old new h.grows o.op is) h.within.operations
+
+  pub operations_are : AreOperations new block.ops (ops_of e.ops)
+  operations_are = record {
+    are = without_lines e.ops ∙ ap (map (λ (o : LineOperation). o.op)) ops_are;
+    within = All-map (HasNames (length new)) (λ (o : OpLine). o.op) e.ops ops_within;
+  }
+    where
+      without_lines : (os : List OpLine) → map (operation new) (ops_of os) ≡ map (λ (o : LineOperation). o.op) (map (line_operation new) os)
+      without_lines [] = refl
+      without_lines (o ∷ os) = ap (λ (ops : List Operation). operation new o.op ∷ ops) (without_lines os)

@@ -26,7 +26,7 @@ use Rattle.live_session.specs.Worlds.{World}
 use Rattle.live_session.specs.declared.limits.Limits.{Limits}
 use Rattle.live_session.specs.declared.running.Running.{Running}
 use Rattle.live_session.proofs.AscendingRows.{AreWithin}
-use Rattle.live_session.proofs.SpelledAlike.{one_spelled, paths_alike}
+use Rattle.live_session.proofs.SpelledAlike.{one_spelled}
 use Rattle.live_session.proofs.TextFiles.{AreSourcesWithin}
 
 module _ (old new : List (List ℕ)) (grows : Grows old new) where
@@ -84,7 +84,7 @@ module _ (old new : List (List ℕ)) (grows : Grows old new) where
     pub spelled_grown : (d : DesignOfTexts) → ∥ Plans old files top clock (Ok d) ∥₁ → spelled new d ≡ spelled old d
     spelled_grown d plan =
         one_spelled (spelled new d) (spelled old d) refl
-        (∥∥₁_elim plan (hlevel props) (λ h. paths_alike new old d d (design_stays d h)))
+        (∥∥₁_elim plan (hlevel props) (λ h. (design_stays d h).paths))
         (∥∥₁_elim plan (hlevel props) (λ h. (design_stays d h).own))
         (∥∥₁_elim plan (hlevel props) (λ h. (design_stays d h).modules))
         refl

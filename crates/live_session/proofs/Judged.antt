@@ -1,10 +1,10 @@
 -- What a command did, by its verdict and by the entries that it added.
-use Rattle.std.proofs.Common.{◌≡◌, ◌∙◌, ℕ, false, List, [], ◌∷◌, ◌++◌, map, Option, Some, None, Result, Ok, Err, refl, sym, ap, subst, append-nil}
+use Rattle.std.proofs.Common.{◌≡◌, ◌∙◌, ℕ, true, false, List, [], ◌∷◌, ◌++◌, map, Option, Some, None, Result, Ok, Err, refl, sym, ap, subst, append-nil}
 use Rattle.std.specs.Prelude.{IfOk, codes}
 use Rattle.ls_text.specs.Texts.{HasEachOnce}
 use Rattle.book_history.specs.Book.{Book}
 use Rattle.book_history.specs.Outline.{outline_in}
-use Rattle.book_history.specs.Owned.{owned}
+use Rattle.book_history.specs.Owned.{AllOwned, owned}
 use Rattle.book_settle.specs.Passes.{IsUnfinished, no_pass, no_ticket}
 use Rattle.command_read.specs.Asking.{Asked, Sets}
 use Rattle.command_read.specs.Spoken.{setting}
@@ -29,7 +29,8 @@ use Rattle.live_session.specs.declared.reply.Reply.{Reply}
 use Rattle.live_session.specs.declared.running.Running.{Running}
 use Rattle.live_session.proofs.Standing.{Adds}
 
-module _ (st : Settings) (asked : Asked) (names : List (List ℕ)) (once : HasEachOnce names) (old new : World) (v : Result World Refused) (r : Reply) where
+module _ (st : Settings) (asked : Asked) (names : List (List ℕ)) (once : HasEachOnce names) (old new : World) (v : Result World Refused)
+    (r : Reply) where
   -- it was refused: no entry is new, and the world is as before
   pub refused_done : (j : Log) (refused : Refused) → v ≡ Err refused → Refuses refused r → new ≡ old
       → IsDone st (Ok asked) old new v j j r.lines r.refused
@@ -41,9 +42,9 @@ module _ (st : Settings) (asked : Asked) (names : List (List ℕ)) (once : HasEa
         events = sym (append-nil j.events);
         goes = same;
         refusal = says.refusal;
-        part = record { names = names; once = once; is = refl };
+        alone = tt;
+        part = record { names = names; once = once; is = refl; agree = tt };
         tells = λ (rest : List LogMoment). ap (λ (text : List ℕ). Some (text, rest)) (sym says.text);
-        agree = tt;
       })
 
   -- it was accepted, and has no entry of its own
@@ -58,17 +59,18 @@ module _ (st : Settings) (asked : Asked) (names : List (List ℕ)) (once : HasEa
         events = sym (append-nil j.events);
         goes = same;
         refusal = accepts;
-        part = record { names = names; once = once; is = part };
+        alone = tt;
+        part = record { names = names; once = once; is = part; agree = subst (λ (ws : List World). AllAgree names ws []) (sym none) tt };
         tells = says;
-        agree = subst (λ (ws : List World). AllAgree ws []) (sym none) tt;
       })
 
   -- it was accepted, and one of the entries is its own
-  pub entry_done : (was is : Log) (es own : List LogEvent) → Adds was is es → owned es ≡ own → (m : LogMoment) → moments_after was es ≡ m ∷ []
-      → (w : World) → v ≡ Ok w → new ≡ w → IsAccepted names st old w own asked → entry_worlds old asked ≡ old ∷ [] → Agrees old (outline_in m.book)
-      → ((rest : List LogMoment) → command_text st asked old w (m ∷ rest) ≡ Some (r.lines, rest)) → r.refused ≡ false
+  pub entry_done : (was is : Log) (es own : List LogEvent) → Adds was is es → AllOwned true es → owned es ≡ own → (m : LogMoment)
+      → moments_after was es ≡ m ∷ [] → (w : World) → v ≡ Ok w → new ≡ w → IsAccepted names st old w own asked → entry_worlds old asked ≡ old ∷ []
+      → Agrees names old (outline_in m.book) → ((rest : List LogMoment) → command_text st asked old w (m ∷ rest) ≡ Some (r.lines, rest))
+      → r.refused ≡ false
       → IsDone st (Ok asked) old new v was is r.lines r.refused
-  entry_done was is es own adds mine m moments w judged same part at_one agrees says accepts =
+  entry_done was is es own adds alone mine m moments w judged same part at_one agrees says accepts =
       subst (λ (x : Result World Refused). IsDone st (Ok asked) old new x was is r.lines r.refused) (sym judged)
       (record {
         added = es;
@@ -76,14 +78,15 @@ module _ (st : Settings) (asked : Asked) (names : List (List ℕ)) (once : HasEa
         events = adds.events;
         goes = same;
         refusal = accepts;
+        alone = alone;
         part = record {
           names = names;
           once = once;
           is = subst (λ (xs : List LogEvent). IsAccepted names st old w xs asked) (sym mine) part;
+          agree = subst (λ (ws : List World). AllAgree names ws (moments_after was es)) (sym at_one)
+              (subst (λ (ms : List LogMoment). AllAgree names (old ∷ []) ms) (sym moments) (agrees, tt));
         };
         tells = λ (rest : List LogMoment). ap (λ (ms : List LogMoment). command_text st asked old w (ms ++ rest)) moments ∙ says rest;
-        agree = subst (λ (ws : List World). AllAgree ws (moments_after was es)) (sym at_one)
-            (subst (λ (ms : List LogMoment). AllAgree (old ∷ []) ms) (sym moments) (agrees, tt));
       })
 
 -- two states of what runs that are one to a session, but for the charge
@@ -104,7 +107,8 @@ module _ {E : Type 0} (names : List (List ℕ)) (once : HasEachOnce names) (limi
   refuses_in j (Err e) refused is same says = tt
 
 -- memory ran out, and no entry is new
-pub stops_still : (names : List (List ℕ)) (limits : Limits) (asked : Asked) (old new : Running) (was is : Log) → Adds was is [] → IsSameIn names old new
+pub stops_still : (names : List (List ℕ)) (limits : Limits) (asked : Asked) (old new : Running) (was is : Log) → Adds was is []
+    → IsSameIn names old new
     → StopsIn names limits asked old new was is
 stops_still names limits asked old new was is adds same =
     undone_in [] new.charge adds.settings adds.events
@@ -115,7 +119,8 @@ abbrev pub world_with : (names : List (List ℕ)) → List Entry → (grid : Lis
 world_with names entries grid r rows = let w = world_of names entries grid r in record w { record_ = map (row_of names) rows }
 
 -- a refusal beside whatever book
-pub refuses_any : {E : Type 0} (names : List (List ℕ)) (once : HasEachOnce names) (limits : Limits) (asked : Asked) (old new : Running) (r : Result Reply E)
+pub refuses_any : {E : Type 0} (names : List (List ℕ)) (once : HasEachOnce names) (limits : Limits) (asked : Asked) (old new : Running)
+    (r : Result Reply E)
     (refused : Refused)
     → ((j : Log) (entries : List Entry)
     → command_verdict (settings_by limits j) (world_of names entries (marks_of j) old) asked [] no_answer ≡ Err refused)

@@ -1,8 +1,10 @@
 -- A run of a design that a session keeps, by the code of its refusal.
 use Rattle.std.proofs.Common.{◌≡◌, ◌∙◌, ℕ, ◌+◌, ◌-◌, ◌<◌, ◌≤◌, Bool, true, false, cond, ltb, List, [], ◌∷◌, ◌++◌, map, length, replicate, Option, Some, None, Result, Ok, Err, refl, sym, ap, ap₂, subst, arith}
 use Rattle.std.specs.Prelude.{IfOk}
+use Rattle.std.specs.List.{All}
 use Rattle.std.proofs.lemmas.Bool.{ltb-true}
 use Rattle.std.proofs.lemmas.List.{length-map, length-replicate}
+use Rattle.std.proofs.lemmas.List.Elements.{All-replicate}
 use Rattle.ls_text.specs.Texts.{HasEachOnce}
 use Rattle.machine.specs.Rows.{slice}
 use Rattle.book_history.specs.Book.{Runs as RunsEvent, grid as mark_cycles}
@@ -26,6 +28,7 @@ use Rattle.wave_report.specs.Replies.{run_text}
 use Rattle.live_session.specs.declared.limits.Limits.{Limits}
 use Rattle.live_session.specs.declared.reply.Reply.{Reply}
 use Rattle.live_session.specs.declared.running.Running.{Running}
+use Rattle.live_session.proofs.AscendingRows.{AreWithin}
 use Rattle.live_session.proofs.Judged.{entry_done, refuses_in}
 use Rattle.live_session.proofs.RunRows.{cycles_behind, judged_by_code, length_run, map_replicate, names_counted, rows_added, rows_named, verdict_by}
 use Rattle.live_session.proofs.Standing.{Adds, IsLegal, agrees_in, outline_behind, stands_on}
@@ -65,7 +68,8 @@ module _ (names : List (List ℕ)) (once : HasEachOnce names) (limits : Limits) 
       ∙ ap (verdict_by (settings_by limits j) (world_of names entries (marks_of j) r) line n) which)
       same says
 
-  module _ (new : Running) (was is_now : Log) (rows : List InputRow) (none : code ≡ None) (on : RunsOn r new rows) (same : rows ≡ replicate n r.row.value)
+  module _ (new : Running) (was is_now : Log) (rows : List InputRow) (none : code ≡ None) (on : RunsOn r new rows)
+      (same : rows ≡ replicate n r.row.value)
       (adds : Adds was is_now (RunsEvent n rows ∷ [])) (legal : IsLegal is_now) (stands : Stands limits (Some r) was) where
     many : length rows ≡ n
     many = ap length same ∙ length-replicate n r.row.value
@@ -97,10 +101,17 @@ module _ (names : List (List ℕ)) (once : HasEachOnce names) (limits : Limits) 
         let w = world_of names entries (marks_of was) r in
         let m : LogMoment = record { entry = RunsEvent n rows; book = book_in was } in
         entry_done st (Runs line n) names once w (world_of names entries (marks_of is_now) new) (counted_verdict st w line n) reply was is_now
-        (RunsEvent n rows ∷ []) (RunsEvent n rows ∷ []) adds refl m refl (ran st w n)
+        (RunsEvent n rows ∷ []) (RunsEvent n rows ∷ []) adds (refl, tt) refl m refl (ran st w n)
         (judged was.settings.interval was.settings.lookback entries (marks_of was) ∙ ap (verdict_by st w line n) none)
-        (goes entries) (rows, ap (map (row_of names)) same ∙ map_replicate (row_of names) n r.row.value, refl) refl
-        (agrees_in names once limits r was entries stands)
+        (goes entries) (
+          rows,
+          record {
+            are = ap (map (row_of names)) same ∙ map_replicate (row_of names) n r.row.value;
+            within = subst (All (AreWithin (length names))) (sym same) (All-replicate (AreWithin (length names)) n r.row.value kept.named.row);
+          },
+          refl,
+        ) refl
+        (agrees_in names once limits r kept was entries stands)
         (λ (rest : List LogMoment). ap (λ (text : List ℕ). Some (text, rest))
         (ap run_text (cycles_behind names (rows_of r.record_) r.row.value n) ∙ sym says.text))
         says.refusal

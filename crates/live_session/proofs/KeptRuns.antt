@@ -32,7 +32,8 @@ kept_on names limits old new kept stays row rows charge stimulus = record {
     rows = rows;
   };
   plans =
-      subst (λ (ks : List KeyData). ∥ Plans names new.texts.files new.texts.top new.texts.clock (Ok (design_of new.version.value.machine.value ks)) ∥₁)
+      subst (λ (ks : List KeyData). ∥ Plans names new.texts.files new.texts.top new.texts.clock (Ok (design_of new.version.value.machine.value ks))
+      ∥₁)
       (sym stays.keys)
       (subst (λ (d : Design). ∥ Plans names new.texts.files new.texts.top new.texts.clock (Ok (design_of d old.keys)) ∥₁) (sym stays.machine)
       (subst (λ (t : Texts). ∥ Plans names t.files t.top t.clock (Ok (design_of old.version.value.machine.value old.keys)) ∥₁) (sym stays.texts)

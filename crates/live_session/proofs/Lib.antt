@@ -8,6 +8,7 @@ pub mod TextFiles
 pub mod SpelledAlike
 pub mod Growing
 pub mod TextTables
+pub mod OperationTexts
 pub mod OneAnswer
 pub mod OneOutput
 pub mod TrueDisplays
@@ -18,6 +19,7 @@ pub mod OneBook
 pub mod OneSettle
 pub mod OneTurn
 pub mod OneHistory
+pub mod DesignNames
 pub mod Standing
 pub mod Judged
 pub mod DesignsShared

@@ -1,14 +1,15 @@
 -- A block that was accepted: the world behind it, its line, and its entry.
-use Rattle.std.proofs.Common.{◌≡◌, ◌∙◌, ℕ, ◌+◌, ◌-◌, ◌<◌, List, [], ◌∷◌, ◌++◌, map, length, refl, sym, ap, ap₂, subst, arith}
-use Rattle.std.specs.Prelude.{◌==◌, if◌then◌else◌, IfSome, Option, Some, Result, Ok, Err, false}
+use Rattle.std.proofs.Common.{◌≡◌, ◌∙◌, ℕ, ◌+◌, ◌-◌, ◌<◌, List, [], ◌∷◌, ◌++◌, map, length, refl, sym, ap, ap₂, subst, arith, All}
+use Rattle.std.specs.Prelude.{◌==◌, if◌then◌else◌, IfSome, Option, Some, Result, Ok, Err, true, false}
 use Rattle.std.specs.Option.{option_map, option_or, unwrap_or}
 use Rattle.std.proofs.lemmas.List.{length-map}
 use Rattle.book_history.specs.Book.{Opens, Reloads}
-use Rattle.book_history.specs.Owned.{owned}
+use Rattle.book_history.specs.Owned.{AllOwned, owned}
 use Rattle.command_read.specs.Asking.{Block, Edits}
-use Rattle.command_read.specs.Spoken.{edited, line_operation}
+use Rattle.command_read.specs.Spoken.{edited}
 use Rattle.command_read.specs.declared.edit.Edit.{Edit}
-use Rattle.command_read.specs.declared.op_line.OpLine.{OpLine}
+use Rattle.cycle_eval.specs.Designs.{design_flat}
+use Rattle.cycle_eval.specs.declared.design.Design.{Design}
 use Rattle.ls_text.specs.Readings.{TextFault}
 use Rattle.ls_text.specs.Texts.{text_at}
 use Rattle.ls_text.specs.declared.name_id.NameId.{NameId}
@@ -18,27 +19,32 @@ use Rattle.module_registry.specs.Keys.{KeyData}
 use Rattle.stimulus.specs.Records.{rows_of}
 use Rattle.version_swap.specs.Behind.{design_of, texts_behind}
 use Rattle.version_swap.specs.Files as numbered
+use Rattle.version_swap.specs.Operations.{AreValidBetween, IsEditFault, at_operation, in_files, operation_fault, ops_of}
 use Rattle.version_swap.specs.Plans.{Plans}
 use Rattle.version_swap.specs.declared.texts.Texts.{Texts}
 use Rattle.wave_report.specs.Replies.{edit_text}
 use Rattle.live_session.specs.Files.{TextFile, text_file}
-use Rattle.live_session.specs.Logs.{Log, LogEvent, LogMoment, Ops, book_in, marks_of, moments_after, outline_of}
+use Rattle.live_session.specs.Logs.{Log, LogEvent, LogMoment, book_in, marks_of, moments_after, outline_of}
 use Rattle.live_session.specs.Operations.{operations_fault, registers_of}
 use Rattle.live_session.specs.Readings.{FilesRead}
 use Rattle.live_session.specs.Replies.{accepted_text}
 use Rattle.live_session.specs.Rows.{Row, row_of}
-use Rattle.live_session.specs.Scripts.{Agrees}
+use Rattle.live_session.specs.Scripts.{Agrees, IsCurrent, IsNamedIn}
 use Rattle.live_session.specs.Sessions.{held_texts, world_of}
 use Rattle.live_session.specs.Settings.{Settings}
 use Rattle.live_session.specs.Spelled.{Answer, Spelled, spelled}
 use Rattle.live_session.specs.Taken.{TakesBlock}
 use Rattle.live_session.specs.Turns.{Refuses}
-use Rattle.live_session.specs.Verdicts.{chosen, clock_after, edited as edited_world, files_after, loaded_verdict, missing_keys, planned_verdict, top_after, unless}
+use Rattle.live_session.specs.Verdicts.{chosen, clock_after, edited as edited_world, files_after, top_after}
+use Rattle.live_session.specs.Verdicts.{loaded_verdict, missing_keys, planned_verdict, unless}
 use Rattle.live_session.specs.Worlds.{World, Refused, refused_text}
 use Rattle.live_session.specs.declared.reply.Reply.{Reply}
 use Rattle.live_session.specs.declared.running.Running.{Running}
 use Rattle.live_session.proofs.BlockTexts.{IsBlockBehind, clock_is, files_are, reads_block, sources_within, top_in, top_is}
+use Rattle.live_session.proofs.BlockTexts.{operations_are, ops_are, ops_within}
+use Rattle.live_session.proofs.DesignNames.{plan_named}
 use Rattle.live_session.proofs.Judged.{entry_done, refused_done}
+use Rattle.live_session.proofs.OperationTexts.{operations_refused, operations_valid}
 use Rattle.live_session.proofs.Standing.{Adds}
 use Rattle.live_session.proofs.TextFiles.{AreSourcesWithin}
 
@@ -147,16 +153,24 @@ module _ (old new : List (List ℕ)) (e : Edit) (loaded : List SourceFile) (t : 
 
   -- ---- what the block did
 
-  module _ (st : Settings) (was is : Log) (own : LogEvent) (ops : Ops) (adds : Adds was is (own ∷ [])) (mine : owned (own ∷ []) ≡ own ∷ [])
-      (one : moments_after was (own ∷ []) ≡ record { entry = own; book = book_in was } ∷ []) (grid : marks_of is ≡ w.grid)
-      (agrees : Agrees w (outline_of was))
-      (entry : own ≡ (if w.version == 0 then Opens 1 r.version.value.machine.value else Reloads (w.version + 1) r.version.value.machine.value ops (chosen st w)))
-      (none : e.ops ≡ []) (line : List ℕ) (built kept from : ℕ) (made : built ≡ length (missing_keys w.held (map (λ (k : KeyData). k.text) r.keys)))
+  its_named : All (IsNamedIn (length new)) (design_flat r.version.value.machine.value).signals
+  its_named =
+      plan_named new h.also r.texts.files r.texts.top r.texts.clock (design_of r.version.value.machine.value r.keys) next.plans
+
+  module _ (st : Settings) (was is : Log) (own : LogEvent) (adds : Adds was is (own ∷ [])) (alone : AllOwned true (own ∷ []))
+      (mine : owned (own ∷ []) ≡ own ∷ []) (one : moments_after was (own ∷ []) ≡ record { entry = own; book = book_in was } ∷ [])
+      (grid : marks_of is ≡ w.grid) (agrees : Agrees new w (outline_of was))
+      (entry : own ≡ (if w.version == 0 then Opens 1 r.version.value.machine.value
+      else Reloads (w.version + 1) r.version.value.machine.value (ops_of e.ops) (chosen st w)))
+      (valid : AreValidBetween (outline_of was).machine r.version.value.machine.value e.ops) (line : List ℕ) (built kept from : ℕ)
+      (made : built ≡ length (missing_keys w.held (map (λ (k : KeyData). k.text) r.keys)))
       (rest : kept + built ≡ length r.keys) (since : from ≡ chosen st w) (says : line ≡ edit_text (w.version + 1) built kept from) where
     no_fault : planned_verdict w block files (Ok design) ≡ Ok behind
     no_fault =
-        ap (λ (os : List OpLine). unless (operations_fault (registers_of w.design) (registers_of (Some design)) [] (map (line_operation old) os)) behind)
-        none
+        ap (λ (o : Option Refused). unless o behind)
+        (ap (operations_fault (registers_of w.design) (registers_of (Some design)) []) (sym (ops_are old new e loaded t w h))
+        ∙ operations_valid new h.also w.design (outline_of was).machine agrees.machine r.version.value.machine.value r.keys its_named e.ops
+        (ops_within old new e loaded t w h) valid)
 
     its_line : line ≡ accepted_text st w behind (Some design)
     its_line =
@@ -168,20 +182,26 @@ module _ (old new : List (List ℕ)) (e : Edit) (loaded : List SourceFile) (t : 
       read = read_again w block files (Ok design) its_read;
       done =
           entry_done st (Edits block) new h.also w (world_of new entries (marks_of is) r) (loaded_verdict w block (Ok design) (Ok files))
-          (record { lines = line; refused = false; quit = false }) was is (own ∷ []) (own ∷ []) adds mine (record { entry = own; book = book_in was }) one behind
-          no_fault (ap (λ (g : List ℕ). world_of new entries g r) grid ∙ its_world)
-          (r.version.value.machine.value, record { keys = r.keys; is = refl }, ops, ap (λ (x : LogEvent). x ∷ []) entry)
+          (record { lines = line; refused = false; quit = false }) was is (own ∷ []) (own ∷ []) adds alone mine
+          (record { entry = own; book = book_in was }) one behind no_fault (ap (λ (g : List ℕ). world_of new entries g r) grid ∙ its_world) (
+            r.version.value.machine.value,
+            record { keys = r.keys; is = refl; within = its_named },
+            ops_of e.ops,
+            operations_are old new e loaded t w h,
+            ap (λ (x : LogEvent). x ∷ []) entry,
+          )
           refl agrees (λ (ms : List LogMoment). ap (λ (text : List ℕ). Some (text, ms)) (sym its_line)) refl;
     }
 
--- ---- a fault of the files
+-- ---- a fault of the files, or of an operation
 
 pub takes_fault : (old new : List (List ℕ)) (e : Edit) (loaded : List SourceFile) (t : Texts) (w : World) → IsBlockBehind old new e loaded t w
-    → (st : Settings) (after : World) (j : Log) (fault : TextFault) (reply : Reply) → after ≡ w
-    → Plans new (numbered.files_behind t.files e.files e.loads loaded) (option_or e.top t.top) (unwrap_or e.clock t.clock) (Err fault)
+    → (st : Settings) (after : World) (j : Log) (machine : Option Design) → IsCurrent new w.design machine → (fault : TextFault) (reply : Reply)
+    → after ≡ w
+    → IsEditFault new (numbered.files_behind t.files e.files e.loads loaded) (option_or e.top t.top) (unwrap_or e.clock t.clock) machine e.ops fault
     → Refuses (refused_text (map (text_file new) (numbered.files_behind t.files e.files e.loads loaded)) e.line fault) reply
     → TakesBlock st (edited old e) (Ok (map (text_file old) loaded)) w after j j reply.lines reply.refused
-takes_fault old new e loaded t w h st after j fault reply same plans refuses =
+takes_fault old new e loaded t w h st after j machine current fault reply same (in_files plans) refuses =
     let block = edited old e in
     let files = map (text_file old) loaded in
     record {
@@ -191,4 +211,23 @@ takes_fault old new e loaded t w h st after j fault reply same plans refuses =
           refused_done st (Edits block) new h.also w after (loaded_verdict w block (Err fault) (Ok files)) reply j
           (refused_text (files_after w block files) block.line fault) refl
           (subst (λ (fs : List TextFile). Refuses (refused_text fs e.line fault) reply) (files_are old new e loaded t w h) refuses) same;
+    }
+takes_fault old new e loaded t w h st after j machine current fault reply same (at_operation design keys {refused} plans is) refuses =
+    let block = edited old e in
+    let files = map (text_file old) loaded in
+    let read = design_of design keys in
+    let found = operation_fault new e.ops refused in
+    let named =
+    plan_named new h.also (numbered.files_behind t.files e.files e.loads loaded) (option_or e.top t.top) (unwrap_or e.clock t.clock) read plans in
+    record {
+      answer = Ok (spelled new read);
+      read = read_again w block files (Ok (spelled new read)) (reads_block old new e loaded t w h (Ok read) plans);
+      done =
+          refused_done st (Edits block) new h.also w after (loaded_verdict w block (Ok (spelled new read)) (Ok files)) reply j
+          (refused_text (files_after w block files) block.line found)
+          (ap (λ (o : Option Refused). unless o (edited_world w block files (spelled new read)))
+          (ap (operations_fault (registers_of w.design) (registers_of (Some (spelled new read))) []) (sym (ops_are old new e loaded t w h))
+          ∙ operations_refused new h.also w.design machine current design keys named e.ops (ops_within old new e loaded t w h)
+          (files_after w block files) block.line refused is))
+          (subst (λ (fs : List TextFile). Refuses (refused_text fs e.line found) reply) (files_are old new e loaded t w h) refuses) same;
     }

@@ -1,10 +1,11 @@
--- Commands have one output over all legal histories without workers that have their entries.
-use Rattle.std.proofs.Common.{◌≡◌, ◌∙◌, ℕ, ◌+◌, ◌<◌, Bool, true, false, cond, List, [], ◌∷◌, ◌++◌, length, refl, sym, ap, ap₂, subst}
+-- Commands have one output over all legal histories without workers that have their entries, and these are one but for what has numbers of names.
+use Rattle.std.proofs.Common.{◌≡◌, ◌∙◌, ℕ, ◌+◌, ◌<◌, Bool, true, false, cond, List, [], ◌∷◌, ◌++◌, map, length, refl, sym, ap, ap₂, subst}
 use Rattle.std.proofs.Common.{subst₂, arith}
-use Rattle.std.specs.Prelude.{◌==◌, codes, replicate, Option, Some, None, Result, Ok, Err}
+use Rattle.std.proofs.lemmas.List.{map-append}
+use Rattle.std.specs.Prelude.{◌==◌, ⊤, codes, replicate, Option, Some, None, Result, Ok, Err}
 use Rattle.ls_text.specs.Readings.{TextFault}
 use Rattle.ls_text.specs.Texts.{HasEachOnce}
-use Rattle.book_history.specs.Book.{Opens, Runs as RunsEvent, Reloads, Shows as ShowsEvent, Settings as BookSettings, apply, last_state}
+use Rattle.book_history.specs.Book.{Event, Opens, Runs as RunsEvent, Reloads, Shows as ShowsEvent, Settings as BookSettings, apply, last_state}
 use Rattle.book_history.specs.Book.{replay_from, shown}
 use Rattle.book_history.specs.Legal.{Follows, LegalFrom}
 use Rattle.book_history.specs.Moments.{moments_from}
@@ -16,6 +17,7 @@ use Rattle.command_read.specs.Asking.{Asked, Block, Edits, Sets, Runs, Shows, Se
 use Rattle.cycle_eval.specs.declared.design.Design.{Design}
 use Rattle.reg_transform.specs.States.{state_values}
 use Rattle.wave_report.specs.Replies.{run_text}
+use Rattle.live_session.specs.Entries.{bare}
 use Rattle.live_session.specs.Judging.{verdict_on, after}
 use Rattle.live_session.specs.Logs.{InputRow, LogEvent, LogMoment, Ops, kit, valid}
 use Rattle.live_session.specs.Replies.{accepted_text, answer_text, lines, refusal_text, text_then}
@@ -28,12 +30,37 @@ use Rattle.live_session.specs.Spelled.{Spelled}
 use Rattle.live_session.specs.Statuses.{status_lines}
 use Rattle.live_session.specs.Verdicts.{Told, chosen, passes_of}
 use Rattle.live_session.specs.Worlds.{World, Refused, cycle, fresh}
-use Rattle.live_session.proofs.OneRun.{IsOneDesign, AreOneRows, one_design, one_rows, between_alike}
+use Rattle.live_session.proofs.OneRun.{IsOneDesign, AreOneRows, no_rows, more_rows, one_design, one_rows, between_alike}
 use Rattle.live_session.proofs.OneCarry.{AreOneOperations, one_operations}
 use Rattle.live_session.proofs.OneBook.{SessionBook, IsOneBook, AreOneBooks, no_books, one_books, opens_alike, runs_alike, reloads_alike}
 use Rattle.live_session.proofs.OneSettle.{Passes, no_more, one_first, RunAlike, IsOneSettle, IsLeft, passes_turned, passes_moments, settle_alike}
 use Rattle.live_session.proofs.OneSettle.{settle_leaves}
 use Rattle.live_session.proofs.OneTurn.{HasTurn, has_turn}
+
+-- ---- entries without what has numbers of names
+
+abbrev bare_of : List LogEvent → List (Event ⊤ ⊤ ⊤)
+bare_of es = map bare es
+
+-- of rows there is only how many they are
+abbrev rows_only : List InputRow → List ⊤
+rows_only rows = map (λ (x : InputRow). tt) rows
+
+bare_rows : (names others : List (List ℕ)) {xs ys : List InputRow} → AreOneRows names others xs ys → rows_only xs ≡ rows_only ys
+bare_rows names others no_rows = refl
+bare_rows names others (more_rows h hs) = ap (λ (us : List ⊤). tt ∷ us) (bare_rows names others hs)
+
+-- an open or a reload
+bare_edit : (v w from : ℕ) (m n : Design) (ops done : Ops) (t : Bool)
+    → bare_of (cond t (Opens v m) (Reloads w m ops from) ∷ []) ≡ bare_of (cond t (Opens v n) (Reloads w n done from) ∷ [])
+bare_edit v w from m n ops done true = refl
+bare_edit v w from m n ops done false = refl
+
+-- two histories in two parts each
+bare_parts : (es xs ys fs us vs : List LogEvent) → es ≡ xs ++ ys → fs ≡ us ++ vs → bare_of xs ≡ bare_of us → bare_of ys ≡ bare_of vs
+    → bare_of es ≡ bare_of fs
+bare_parts es xs ys fs us vs is also first rest =
+    ap bare_of is ∙ map-append bare xs ys ∙ ap₂ ◌++◌ first rest ∙ sym (ap bare_of also ∙ map-append bare us vs)
 
 module _ (st : Settings) (bs : BookSettings) where
   -- ---- what a moment's book and the world say
@@ -43,20 +70,21 @@ module _ (st : Settings) (bs : BookSettings) where
   current_design names None m is = absurd is
   current_design names (Some d) m is = is
 
-  -- the two histories' own entries at one command lead to one text and to books that are one
+  -- the two histories' own entries at one command are one but for what has numbers of names, and lead to one text and to books that are one
   record IsOneStep (asked : Result Asked TextFault) (old : World) (v : Result World Refused) (b c : Option SessionBook)
       (own mine : List LogEvent) : Type 0 where
     text : List ℕ
     here : (ms : List LogMoment) → answer_text st asked old v (moments_from kit bs b own ++ ms) ≡ Some (text, ms)
     there : (ms : List LogMoment) → answer_text st asked old v (moments_from kit bs c mine ++ ms) ≡ Some (text, ms)
     behind : AreOneBooks (replay_from kit bs b own) (replay_from kit bs c mine)
+    entries : bare_of own ≡ bare_of mine
 
   -- a command without entries
   none_alike : (asked : Result Asked TextFault) (old : World) (v : Result World Refused) (b c : Option SessionBook) (own mine : List LogEvent)
       (text : List ℕ) → ((ms : List LogMoment) → answer_text st asked old v ms ≡ Some (text, ms)) → AreOneBooks b c → own ≡ [] → mine ≡ []
       → IsOneStep asked old v b c own mine
   none_alike asked old v b c own mine text says one is also =
-      subst₂ (IsOneStep asked old v b c) (sym is) (sym also) (record { text = text; here = says; there = says; behind = one })
+      subst₂ (IsOneStep asked old v b c) (sym is) (sym also) (record { text = text; here = says; there = says; behind = one; entries = refl })
 
   module _ (names others : List (List ℕ)) (once : HasEachOnce names) (apart : HasEachOnce others) where
     -- at the place of a command's own entry
@@ -85,6 +113,7 @@ module _ (st : Settings) (bs : BookSettings) where
       here = λ ms. refl;
       there = λ ms. refl;
       behind = one_books (opens_alike names others once apart bs m n h);
+      entries = bare_edit v w from m n ops done true;
     }
     edit_alike old new block b c no_books m n h ops done k v w from false l r p q = absurd l.0
     edit_alike old new block b c (one_books one) m n h ops done k v w from true l r p q = absurd l.0
@@ -97,6 +126,7 @@ module _ (st : Settings) (bs : BookSettings) where
           (reloads_alike names others once apart bs x y one (designs_alike old x y p.0 q.0)
           (rows_alike old.record_ x.rows y.rows p.0.rows q.0.rows) m n h
           ops done k);
+      entries = bare_edit v w from m n ops done false;
     }
 
     edits_alike : (old new : World) (block : Block) (b c : Option SessionBook) → AreOneBooks b c → (own mine : List LogEvent)
@@ -128,6 +158,7 @@ module _ (st : Settings) (bs : BookSettings) where
           one_books
           (runs_alike names others once apart bs x y one (designs_alike old x y p.0 q.0)
           (rows_alike old.record_ x.rows y.rows p.0.rows q.0.rows) rows more k);
+      entries = ap (λ (us : List ⊤). RunsEvent n us ∷ []) (bare_rows names others k);
     }
 
     -- ---- displays
@@ -146,6 +177,7 @@ module _ (st : Settings) (bs : BookSettings) where
           here = λ ms. refl;
           there = λ ms. ap₂ (λ (a : Option ℕ) (xs : List ℕ). Some (display_text new prefix new.design a xs, ms)) (sym said) (sym values);
           behind = one_books one;
+          entries = ap (λ (a : Option ℕ). ShowsEvent a ∷ []) said;
         }
 
     -- ---- settles
@@ -179,10 +211,10 @@ module _ (st : Settings) (bs : BookSettings) where
         → (is : IsSettle most links own) → (also : IsSettle most links mine)
         → LegalFrom kit valid bs b (is.passes ++ ShowsEvent is.answer ∷ []) → LegalFrom kit valid bs c (also.passes ++ ShowsEvent also.answer ∷ [])
         → Agrees names w (outline_in (replay_from kit bs b is.passes)) → Agrees others w (outline_in (replay_from kit bs c also.passes))
-        → IsOneSettle (replay_from kit bs b is.passes) (replay_from kit bs c also.passes) is.answer also.answer
+        → IsOneSettle (replay_from kit bs b is.passes) (replay_from kit bs c also.passes) is.passes also.passes is.answer also.answer
     settled_alike w most links b c no_books own mine is also l r p q =
-        no_settle (IsOneSettle (replay_from kit bs None is.passes) (replay_from kit bs None also.passes) is.answer also.answer) (passes_turned is.are)
-        is.answer l
+        no_settle (IsOneSettle (replay_from kit bs None is.passes) (replay_from kit bs None also.passes) is.passes also.passes is.answer also.answer)
+        (passes_turned is.are) is.answer l
     settled_alike w most links b c (one_books {b = x} {c = y} one) own mine is also l r p q =
         settle_alike bs (passes_turned is.are) (passes_turned also.are) x y
         (run_before w x y one (replay_from kit bs (Some x) is.passes) (replay_from kit bs (Some y) also.passes)
@@ -203,7 +235,7 @@ module _ (st : Settings) (bs : BookSettings) where
         ap (moments_from kit bs c) also.split ∙ passes_moments bs c also.answer (passes_turned also.are) in
         let agree = subst (AllAgree names (old ∷ [])) here p in
         let agrees = subst (AllAgree others (old ∷ [])) there q in
-        let both : IsOneSettle (replay_from kit bs b is.passes) (replay_from kit bs c also.passes) is.answer also.answer =
+        let both : IsOneSettle (replay_from kit bs b is.passes) (replay_from kit bs c also.passes) is.passes also.passes is.answer also.answer =
         settled_alike old most links b c one own mine is also (subst (LegalFrom kit valid bs b) is.split l)
         (subst (LegalFrom kit valid bs c) also.split r)
         agree.0 agrees.0 in
@@ -217,6 +249,9 @@ module _ (st : Settings) (bs : BookSettings) where
               (sym (ap (replay_from kit bs b) is.split ∙ replay-append kit bs b is.passes (ShowsEvent is.answer ∷ [])))
               (sym (ap (replay_from kit bs c) also.split ∙ replay-append kit bs c also.passes (ShowsEvent also.answer ∷ [])))
               (shows_behind (replay_from kit bs b is.passes) (replay_from kit bs c also.passes) is.answer also.answer both.books);
+          entries =
+              bare_parts own is.passes (ShowsEvent is.answer ∷ []) mine also.passes (ShowsEvent also.answer ∷ []) is.split also.split both.passes
+              (ap (λ (a : Option ℕ). ShowsEvent a ∷ []) both.answers);
         }
 
     -- ---- all commands
@@ -266,29 +301,38 @@ module _ (st : Settings) (bs : BookSettings) where
   parts_alike asked old v b c one own mine p q l r =
       judged_alike p.names q.names p.once q.once asked old v b c one own mine p.is q.is l r p.agree q.agree
 
-  one_lines : (ts : List Told) (w : World) (b c : Option SessionBook) → AreOneBooks b c → (es fs : List LogEvent) → LegalFrom kit valid bs b es
-      → LegalFrom kit valid bs c fs → IsScript st ts w es (moments_from kit bs b es) → IsScript st ts w fs (moments_from kit bs c fs)
-      → lines st ts w (moments_from kit bs b es) ≡ lines st ts w (moments_from kit bs c fs)
-  one_lines [] w b c one es fs l r p q = refl
-  one_lines (t ∷ ts) w b c one es fs l r p q =
+  -- the lines that answer the commands over both histories, and the histories
+  pub record IsOneHistory (ts : List Told) (w : World) (b c : Option SessionBook) (es fs : List LogEvent) : Type 0 where
+    pub text : lines st ts w (moments_from kit bs b es) ≡ lines st ts w (moments_from kit bs c fs)
+    pub entries : bare_of es ≡ bare_of fs
+
+  histories_alike : (ts : List Told) (w : World) (b c : Option SessionBook) → AreOneBooks b c → (es fs : List LogEvent)
+      → LegalFrom kit valid bs b es → LegalFrom kit valid bs c fs → IsScript st ts w es (moments_from kit bs b es)
+      → IsScript st ts w fs (moments_from kit bs c fs) → IsOneHistory ts w b c es fs
+  histories_alike [] w b c one es fs l r p q = record { text = refl; entries = ap bare_of p.0 ∙ sym (ap bare_of q.0) }
+  histories_alike (t ∷ ts) w b c one es fs l r p q =
       let x : HasTurn st bs t ts w b es = has_turn st bs t ts w b es l p in
       let y : HasTurn st bs t ts w c fs = has_turn st bs t ts w c fs r q in
       let step : IsOneStep t.asked w (verdict_on st t w) b c x.own y.own =
       parts_alike t.asked w (verdict_on st t w) b c one x.own y.own x.part y.part x.legal y.legal in
       let further : List LogMoment → List ℕ = λ (ms : List LogMoment). lines st ts (after st t w) ms in
-      let rest : further (moments_from kit bs (replay_from kit bs b x.own) x.rest)
-      ≡ further (moments_from kit bs (replay_from kit bs c y.own) y.rest) =
-      one_lines ts (after st t w) (replay_from kit bs b x.own) (replay_from kit bs c y.own) step.behind x.rest y.rest x.on y.on x.script y.script in
-      ap (lines st (t ∷ ts) w) x.moments
-      ∙ ap (λ (o : Option (List ℕ × List LogMoment)). text_then o further) (step.here (moments_from kit bs (replay_from kit bs b x.own) x.rest))
-      ∙ ap (λ (more : List ℕ). step.text ++ more) rest
-      ∙ sym
-      (ap (lines st (t ∷ ts) w) y.moments
-      ∙ ap (λ (o : Option (List ℕ × List LogMoment)). text_then o further) (step.there (moments_from kit bs (replay_from kit bs c y.own) y.rest)))
+      let here : Option SessionBook = replay_from kit bs b x.own in
+      let there : Option SessionBook = replay_from kit bs c y.own in
+      let rest : IsOneHistory ts (after st t w) here there x.rest y.rest =
+      histories_alike ts (after st t w) here there step.behind x.rest y.rest x.on y.on x.script y.script in
+      record {
+        text =
+            ap (lines st (t ∷ ts) w) x.moments
+            ∙ ap (λ (o : Option (List ℕ × List LogMoment)). text_then o further) (step.here (moments_from kit bs here x.rest))
+            ∙ ap (λ (more : List ℕ). step.text ++ more) rest.text
+            ∙ sym
+            (ap (lines st (t ∷ ts) w) y.moments
+            ∙ ap (λ (o : Option (List ℕ × List LogMoment)). text_then o further) (step.there (moments_from kit bs there y.rest)));
+        entries = bare_parts es x.own x.rest fs y.own y.rest x.split y.split step.entries rest.entries;
+      }
 
 -- whatever names have which numbers in them
 pub one_history : (st : Settings) (bs : BookSettings) (ts : List Told) (es fs : List LogEvent) → Follows kit valid bs es → Follows kit valid bs fs
     → AllOwned true es → AllOwned true fs → IsScript st ts fresh es (moments_from kit bs None es)
-    → IsScript st ts fresh fs (moments_from kit bs None fs)
-    → lines st ts fresh (moments_from kit bs None es) ≡ lines st ts fresh (moments_from kit bs None fs)
-one_history st bs ts es fs l r owned also p q = one_lines st bs ts fresh None None no_books es fs l r p q
+    → IsScript st ts fresh fs (moments_from kit bs None fs) → IsOneHistory st bs ts fresh None None es fs
+one_history st bs ts es fs l r owned also p q = histories_alike st bs ts fresh None None no_books es fs l r p q

@@ -7,12 +7,12 @@ use Rattle.ls_port.specs.declared.shelf_answer.ShelfAnswer.{ShelfAnswer}
 use Rattle.ls_port.specs.declared.shelf_answer.ShelfAnswer.TheVariants as shelf
 use Rattle.command_read.specs.Asking.{Block, LoadedFile, Asked, Edits, Sets, Runs, Shows, Settles, AsksStatus, Quits}
 use Rattle.live_session.specs.Files.{TextFile}
-use Rattle.live_session.specs.Judging.{unbuilt, verdict_if, verdict_on, world_or, after, world_after, any_refused}
+use Rattle.live_session.specs.Judging.{verdict_on, world_or, after, world_after, any_refused}
 use Rattle.live_session.specs.Loads.{LoadAnswer, Gave, Broke, AreAnswers, loaded_files, shelf_answer, shelf_answers}
-use Rattle.live_session.specs.Readings.{FilesRead, IsRightEdit, IsRightIf, IsRightAsked, IsRight, AreRight}
-use Rattle.live_session.specs.Logs.{LogMoment}
+use Rattle.live_session.specs.Readings.{FilesRead, IsRightEdit, IsRightAsked, IsRight, AreRight}
+use Rattle.live_session.specs.Logs.{LogEvent, LogMoment}
 use Rattle.live_session.specs.Replies.{answer_text, reply, lines as lines_of, text_then, asked_of, answers_to, answers_of}
-use Rattle.live_session.specs.Scripts.{judged_worlds, worlds}
+use Rattle.live_session.specs.Scripts.{IsPart, IsScript}
 use Rattle.live_session.specs.Settings.{Settings}
 use Rattle.live_session.specs.Spelled.{Answer}
 use Rattle.live_session.specs.Verdicts.{Told, files_after, top_after, clock_after, loaded_verdict, planned_verdict, verdict}
@@ -136,31 +136,13 @@ module _ (one : OneAnswer) (st : Settings) where
   same_asked w (Ok (Quits line)) x y a b rest others p q same = record { same = refl; left = same }
   same_asked w (Err fault) x y a b rest others p q same = record { same = refl; left = same }
 
-  none_to : (asked : Result Asked TextFault) (x y : List LoadAnswer) (rest others : List ShelfAnswer) → x ≡ [] → y ≡ []
-      → answers_to asked x ++ rest ≡ answers_to asked y ++ others → rest ≡ others
-  none_to (Ok (Edits block)) x y rest others p q same = (none_one block.loads x y rest others p q same).left
-  none_to (Ok (Sets line values)) x y rest others p q same = same
-  none_to (Ok (Runs line n)) x y rest others p q same = same
-  none_to (Ok (Shows line prefix)) x y rest others p q same = same
-  none_to (Ok (Settles line passes)) x y rest others p q same = same
-  none_to (Ok (AsksStatus line)) x y rest others p q same = same
-  none_to (Ok (Quits line)) x y rest others p q same = same
-  none_to (Err fault) x y rest others p q same = same
-
-  same_if : (w : World) (asked : Result Asked TextFault) (x y : List LoadAnswer) (a b : Answer) (rest others : List ShelfAnswer) (form : Option ℕ)
-      → IsRightIf form x (IsRightAsked st w asked x a) → IsRightIf form y (IsRightAsked st w asked y b)
-      → answers_to asked x ++ rest ≡ answers_to asked y ++ others
-      → IsJudged (verdict_if form (verdict st w asked x a)) (verdict_if form (verdict st w asked y b)) rest others
-  same_if w asked x y a b rest others None p q same = same_asked w asked x y a b rest others p q same
-  same_if w asked x y a b rest others (Some line) p q same = record { same = refl; left = none_to asked x y rest others p q same }
-
   -- two things told of one command
   same_verdict : (w : World) (t u : Told) (rest others : List ShelfAnswer) → IsRight st w t → IsRight st w u → t.asked ≡ u.asked
       → answers_to t.asked t.loads ++ rest ≡ answers_to u.asked u.loads ++ others
       → IsJudged (verdict_on st t w) (verdict_on st u w) rest others
   same_verdict w t u rest others p q is same =
       subst (λ (v : Told). IsJudged (verdict_on st t w) (verdict_on st v w) rest others) (ap (λ c. told c) is)
-      (same_if w t.asked t.loads u.loads t.answer u.answer rest others (unbuilt w t.asked) p
+      (same_asked w t.asked t.loads u.loads t.answer u.answer rest others p
       (subst (λ c. IsRight st w (told c)) (sym is) q) (same ∙ ap (λ c. answers_to c u.loads ++ others) (sym is)))
     where
       told : Result Asked TextFault → Told
@@ -174,16 +156,17 @@ module _ (one : OneAnswer) (st : Settings) where
 -- ---- one output
 
 -- lines behind a reply
-same_then : (r : Option (List ℕ × List LogMoment)) (f g : List LogMoment → List ℕ) → ((ms : List LogMoment) → f ms ≡ g ms) → text_then r f ≡ text_then r g
+same_then : (r : Option (List ℕ × List LogMoment)) (f g : List LogMoment → List ℕ) → ((ms : List LogMoment) → f ms ≡ g ms)
+    → text_then r f ≡ text_then r g
 same_then None f g same = refl
 same_then (Some r) f g same = ap (λ (more : List ℕ). r.0 ++ more) (same r.1)
 
--- what commands come to: their lines, whether one is refused, the world behind them, and those at the places of their entries
+-- what commands come to: their lines, whether one is refused, the world behind them, and which entries are theirs
 pub record ComeToOne (st : Settings) (ts us : List Told) (w : World) : Type 0 where
   pub lines : (ms : List LogMoment) → lines_of st ts w ms ≡ lines_of st us w ms
   pub refused : any_refused st ts w ≡ any_refused st us w
   pub world : world_after st ts w ≡ world_after st us w
-  pub places : worlds st ts w ≡ worlds st us w
+  pub scripts : (es : List LogEvent) (ms : List LogMoment) → IsScript st ts w es ms → IsScript st us w es ms
 
 abbrev first_or : Result Asked TextFault → List (Result Asked TextFault) → Result Asked TextFault
 first_or c [] = c
@@ -192,7 +175,7 @@ first_or c (x ∷ xs) = x
 module _ (one : OneAnswer) (st : Settings) where
   pub one_output : (ts us : List Told) (w : World) (rest others : List ShelfAnswer) → AreRight st w ts → AreRight st w us
       → asked_of ts ≡ asked_of us → answers_of ts ++ rest ≡ answers_of us ++ others → ComeToOne st ts us w
-  one_output [] [] w rest others p q same begun = record { lines = λ ms. refl; refused = refl; world = refl; places = refl }
+  one_output [] [] w rest others p q same begun = record { lines = λ ms. refl; refused = refl; world = refl; scripts = λ es ms is. is }
   one_output [] (u ∷ us) w rest others p q same begun = absurd (omega (arith, ap length same))
   one_output (t ∷ ts) [] w rest others p q same begun = absurd (omega (arith, ap length same))
   one_output (t ∷ ts) (u ∷ us) w rest others p q same begun =
@@ -207,13 +190,20 @@ module _ (one : OneAnswer) (st : Settings) where
       record {
         lines = λ (ms : List LogMoment).
             ap (λ r. text_then r (λ (left : List LogMoment). lines_of st ts (after st t w) left)) (same_reply one st w t u judged.same first ms)
-            ∙ same_then (reply st u w ms) (λ (left : List LogMoment). lines_of st ts (after st t w) left) (λ (left : List LogMoment). lines_of st us (after st u w) left)
+            ∙ same_then (reply st u w ms) (λ (left : List LogMoment). lines_of st ts (after st t w) left)
+            (λ (left : List LogMoment). lines_of st us (after st u w) left)
             (λ (left : List LogMoment). behind.lines left ∙ ap (λ (v : World). lines_of st us v left) next);
         refused = ap (λ v. is_err v || any_refused st ts (after st t w)) judged.same
             ∙ ap (λ r. is_err (verdict_on st u w) || r) (behind.refused ∙ ap (any_refused st us) next);
         world = behind.world ∙ ap (world_after st us) next;
-        places =
-            ap (λ c. judged_worlds w c (verdict_on st t w) ++ worlds st ts (after st t w)) first
-            ∙ ap (λ v. judged_worlds w u.asked v ++ worlds st ts (after st t w)) judged.same
-            ∙ ap (λ ws. judged_worlds w u.asked (verdict_on st u w) ++ ws) (behind.places ∙ ap (worlds st us) next);
+        scripts = λ es ms is. (
+          is.0,
+          is.1,
+          is.2,
+          is.3,
+          is.4,
+          is.5,
+          subst (λ c. IsPart st c w is.0 is.2 (verdict_on st u w)) first (subst (IsPart st t.asked w is.0 is.2) judged.same is.6),
+          subst (λ (v : World). IsScript st us v is.1 is.3) next (behind.scripts is.1 is.3 is.7),
+        );
       }

@@ -1,19 +1,20 @@
 -- Two books that have the same states, marks and links have the same passes of a settle and the same answer to it.
-use Rattle.std.proofs.Common.{◌≡◌, ◌∙◌, ℕ, suc, ◌+◌, ◌<◌, Bool, true, false, eqb, cond, List, [], ◌∷◌, ◌++◌, length, refl, sym, ap, ap₂, subst}
+use Rattle.std.proofs.Common.{◌≡◌, ◌∙◌, ℕ, suc, ◌+◌, ◌<◌, Bool, true, false, eqb, cond, List, [], ◌∷◌, ◌++◌, map, length, refl, sym, ap, ap₂, subst}
 use Rattle.std.proofs.Common.{arith, eq-eqb, true≢false}
-use Rattle.std.specs.Prelude.{Option, Some, None, is_some}
+use Rattle.std.specs.Prelude.{⊤, Option, Some, None, is_some}
 use Rattle.book_history.specs.declared.link.Link.{Link}
 use Rattle.book_history.specs.declared.link.Link.TheVariants.{Open, Out, Joined}
 use Rattle.book_history.specs.declared.segment.Segment.{Segment}
 use Rattle.book_history.specs.declared.who.Who.TheVariants.{Session}
 use Rattle.machine.specs.Rows.{slice}
-use Rattle.book_history.specs.Book.{DrawnTicket, Settings, Claims, Installs, Shows, all_joined, apply, claim_found, drawn, first_link, has_link}
-use Rattle.book_history.specs.Book.{install_found, is_current, is_joined, joined, mark_out, matches, reopen, replay_from, result_of, settled_to}
-use Rattle.book_history.specs.Book.{shown, step, takes, with_segs, with_used}
-use Rattle.book_history.specs.Legal.{LegalFrom}
+use Rattle.book_history.specs.Book.{DrawnTicket, Event, Settings, Claims, Installs, Shows, all_joined, apply, claim_found, drawn, first_link}
+use Rattle.book_history.specs.Book.{has_link, install_found, is_current, is_joined, joined, mark_out, matches, reopen, replay_from, result_of}
+use Rattle.book_history.specs.Book.{settled_to, shown, step, takes, with_segs, with_used}
+use Rattle.book_history.specs.Legal.{LegalFrom, MayFollow}
 use Rattle.book_history.specs.Moments.{moments_from}
 use Rattle.book_settle.specs.Passes.{ArePasses, no_pass, one_more}
 use Rattle.cycle_eval.specs.declared.design.Design.{Design}
+use Rattle.live_session.specs.Entries.{bare}
 use Rattle.live_session.specs.Logs.{InputRow, LogEvent, State, kit, valid}
 use Rattle.live_session.proofs.OneBook.{SessionBook, IsOneBook, AreOneBooks, one_books}
 
@@ -81,6 +82,24 @@ pass_is bs b t a e j s number found =
     ap (λ (o : Option (ℕ × ℕ × State)). install_found kit (claim_found b Session o) t (drawn t (claim_found b Session o).tickets)) found
     ∙ ap (λ (n : ℕ). install_found kit (claimed b (a, e, s)) n (drawn n (ticket b (a, e, s) ∷ b.tickets))) number
     ∙ ap (install_found kit (claimed b (a, e, s)) (length b.tickets + 1)) (newest b (a, e, s))
+
+abbrev ticket_or : DrawnTicket Design State InputRow → Option (DrawnTicket Design State InputRow) → DrawnTicket Design State InputRow
+ticket_or d None = d
+ticket_or d (Some e) = e
+
+-- a legal install says whether the link of the ticket that was just drawn is current
+install_says : (bs : Settings) (b : SessionBook) (t a e : ℕ) (j : Bool) (s : State) → t ≡ length b.tickets + 1
+    → first_link (takes Session) 0 b.first b.segs ≡ Some (a, e, s)
+    → MayFollow kit valid bs (step kit bs b (Claims t a e Session)) (Installs t j Session)
+    → j ≡ is_current kit (claimed b (a, e, s)) (ticket b (a, e, s))
+install_says bs b t a e j s number found l =
+    let f : ℕ × ℕ × State = (a, e, s) in
+    let may : MayFollow kit valid bs (claimed b f) (Installs t j Session) =
+    subst (λ (o : Option (ℕ × ℕ × State)). MayFollow kit valid bs (claim_found b Session o) (Installs t j Session)) found l in
+    let same : ticket b f ≡ may.0 =
+    ap (ticket_or (ticket b f))
+    (sym (newest b f) ∙ ap (λ (n : ℕ). drawn n (ticket b f ∷ b.tickets)) (sym number) ∙ may.1) in
+    may.4 ∙ ap (is_current kit (claimed b f)) (sym same)
 
 -- it leaves the machine and the record
 settled_machine : (b : SessionBook) (f : ℕ × ℕ × State) (current : Bool) → (settled b f current).machine ≡ b.machine
@@ -176,10 +195,19 @@ link_or f (Some g) = g
 
 -- ---- all passes
 
--- the books behind them, and what the shows behind them say
-pub record IsOneSettle (b c : Option SessionBook) (answer other : Option ℕ) : Type 0 where
+-- the books behind them, the passes, and what the shows behind them say
+pub record IsOneSettle (b c : Option SessionBook) (es fs : List LogEvent) (answer other : Option ℕ) : Type 0 where
   pub books : AreOneBooks b c
+  pub passes : map bare es ≡ map bare fs
   pub answers : answer ≡ other
+
+-- a claim and its install before others
+bare_first : {t u a x e y : ℕ} {j k : Bool} (es fs : List LogEvent) → t ≡ u → a ≡ x → e ≡ y → j ≡ k → map bare es ≡ map bare fs
+    → map bare (Claims t a e Session ∷ Installs t j Session ∷ es) ≡ map bare (Claims u x y Session ∷ Installs u k Session ∷ fs)
+bare_first {t} {u} {a} {x} {e} {y} {j} {k} es fs number from to current rest =
+    ap (λ (n : ℕ). Claims n a e Session ∷ Installs n j Session ∷ map bare es) number
+    ∙ ap₂ (λ (m n : ℕ). Claims u m n Session ∷ Installs u j Session ∷ map bare es) from to
+    ∙ ap₂ (λ (i : Bool) (more : List (Event ⊤ ⊤ ⊤)). Claims u x y Session ∷ Installs u i Session ∷ more) current rest
 
 module _ (bs : Settings) where
   -- what is legal behind a pass, and what stands behind it
@@ -200,13 +228,14 @@ module _ (bs : Settings) where
   pub settle_alike : {n i : ℕ} {es fs : List LogEvent} → Passes n es → Passes i fs → (b c : SessionBook) → RunAlike b c → (answer other : Option ℕ)
       → LegalFrom kit valid bs (Some b) (es ++ Shows answer ∷ []) → LegalFrom kit valid bs (Some c) (fs ++ Shows other ∷ [])
       → (n < i → answer ≡ None) → (i < n → other ≡ None)
-      → IsOneSettle (replay_from kit bs (Some b) es) (replay_from kit bs (Some c) fs) answer other
+      → IsOneSettle (replay_from kit bs (Some b) es) (replay_from kit bs (Some c) fs) es fs answer other
   settle_alike no_more no_more b c h answer other l r fewer more =
-      record { books = one_books h.one; answers = l.0 ∙ ap shown h.one.segs ∙ sym r.0 }
+      record { books = one_books h.one; passes = refl; answers = l.0 ∙ ap shown h.one.segs ∙ sym r.0 }
   settle_alike {fs = gs} no_more (one_first u x y k q) b c h answer other l r fewer more =
-      none_left (IsOneSettle (Some b) (replay_from kit bs (Some c) gs) answer other) b c (x, y, r.0.1.0) h.one (sym l.0 ∙ fewer (omega arith)) r.0.1.1
+      none_left (IsOneSettle (Some b) (replay_from kit bs (Some c) gs) [] gs answer other) b c (x, y, r.0.1.0) h.one (sym l.0 ∙ fewer (omega arith))
+      r.0.1.1
   settle_alike {es = gs} (one_first t a e j p) no_more b c h answer other l r fewer more =
-      none_left (IsOneSettle (replay_from kit bs (Some b) gs) (Some c) answer other) c b (a, e, l.0.1.0) (one_from b c h.one)
+      none_left (IsOneSettle (replay_from kit bs (Some b) gs) (Some c) gs [] answer other) c b (a, e, l.0.1.0) (one_from b c h.one)
       (sym r.0 ∙ more (omega arith)) l.0.1.1
   settle_alike (one_first t a e j {n = n} {es = es} p) (one_first u x y k {n = i} {es = fs} q) b c h answer other l r fewer more =
       let f : ℕ × ℕ × State = (a, e, l.0.1.0) in
@@ -215,7 +244,10 @@ module _ (bs : Settings) where
       ap (link_or f) (sym l.0.1.1 ∙ ap₂ (first_link (takes Session) 0) h.one.first h.one.segs ∙ r.0.1.1) in
       let after : RunAlike (passed b f) (passed c g) =
       subst (λ (d : ℕ × ℕ × State). RunAlike (passed b f) (passed c d)) same (passed_alike b c f h) in
-      let rest : IsOneSettle (replay_from kit bs (Some (passed b f)) es) (replay_from kit bs (Some (passed c g)) fs) answer other =
+      let current : j ≡ k =
+      install_says bs b t a e j l.0.1.0 l.0.0 l.0.1.1 l.1.0 ∙ current_alike b c f h
+      ∙ ap (λ (d : ℕ × ℕ × State). is_current kit (claimed c d) (ticket c d)) same ∙ sym (install_says bs c u x y k r.0.1.0 r.0.0 r.0.1.1 r.1.0) in
+      let rest : IsOneSettle (replay_from kit bs (Some (passed b f)) es) (replay_from kit bs (Some (passed c g)) fs) es fs answer other =
       settle_alike p q (passed b f) (passed c g) after answer other
       (legal_behind b t a e j l.0.1.0 l.0.0 l.0.1.1 (es ++ Shows answer ∷ []) l.1.1)
       (legal_behind c u x y k r.0.1.0 r.0.0 r.0.1.1 (fs ++ Shows other ∷ []) r.1.1)
@@ -226,6 +258,9 @@ module _ (bs : Settings) where
             (replay_behind b t a e j l.0.1.0 l.0.0 l.0.1.1 es)
             (subst (λ (d : Option SessionBook). AreOneBooks (replay_from kit bs (Some (passed b f)) es) d)
             (replay_behind c u x y k r.0.1.0 r.0.0 r.0.1.1 fs) rest.books);
+        passes =
+            bare_first es fs (l.0.0 ∙ ap (λ (n : ℕ). n + 1) h.one.tickets ∙ sym r.0.0) (ap (λ (d : ℕ × ℕ × State). d.0) same)
+            (ap (λ (d : ℕ × ℕ × State). d.1) same) current rest.passes;
         answers = rest.answers;
       }
 

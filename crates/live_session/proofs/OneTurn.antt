@@ -87,6 +87,7 @@ module _ (st : Settings) (bs : BookSettings) where
   pub record HasTurn (t : Told) (ts : List Told) (w : World) (b : Option SessionBook) (es : List LogEvent) : Type 0 where
     pub own : List LogEvent
     pub rest : List LogEvent
+    pub split : es ≡ own ++ rest
     pub part : IsPart st t.asked w own (moments_from kit bs b own) (verdict_on st t w)
     pub legal : LegalFrom kit valid bs b own
     pub on : LegalFrom kit valid bs (replay_from kit bs b own) rest
@@ -112,6 +113,7 @@ module _ (st : Settings) (bs : BookSettings) where
       record {
         own = own;
         rest = rest;
+        split = s.4;
         part =
             subst (λ (ms : List LogMoment). IsPart st t.asked w own ms (verdict_on st t w))
             (same_front here there (moments_from kit bs b own) (moments_from kit bs (replay_from kit bs b own) rest) same many) part;

@@ -53,7 +53,8 @@ module _ {E : Type 0} (names : List (List ℕ)) (once : HasEachOnce names) (limi
       ≡ Err (refused_at code line []))
       → IfOk answer (Refuses (refused_at code line [])) → IfOk answer (AnswersIn names limits (Runs line n) r r j j)
   refused_with code is says =
-      refuses_in {E = E} names once limits (Runs line n) r r j answer (refused_at code line []) is (λ (entries : List Entry) (grid : List ℕ). refl) says
+      refuses_in {E = E} names once limits (Runs line n) r r j answer (refused_at code line []) is (λ (entries : List Entry) (grid : List ℕ). refl)
+      says
 
   pub refused_none : n ≡ 0 → IfOk answer (Refuses (refused_at 64 line [])) → IfOk answer (AnswersIn names limits (Runs line n) r r j j)
   refused_none none = refused_with 64 (λ entries. no_cycle (settings_by limits j) (world_of names entries (marks_of j) r) line n none)

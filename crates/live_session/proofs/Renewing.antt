@@ -1,9 +1,11 @@
 -- A block behind a design that runs: the next version, and its book.
-use Rattle.std.proofs.Common.{◌≡◌, ◌∙◌, ℕ, ◌+◌, ◌-◌, ◌≤◌, ◌<◌, true, List, [], ◌∷◌, ◌++◌, map, length, All, refl, sym, ap, ap₂, subst, true≢false, arith}
+use Rattle.std.proofs.Common.{◌≡◌, ◌∙◌, ℕ, ◌+◌, ◌-◌, ◌≤◌, ◌<◌, true, List, [], ◌∷◌, ◌++◌, map, length, All}
+use Rattle.std.proofs.Common.{refl, sym, ap, ap₂, subst, true≢false, arith}
 use Rattle.std.specs.Prelude.{◌==◌, false, if◌then◌else◌, IfOk, OnErr, Option, Some, None, Result, Ok, Err, is_some}
 use Rattle.std.specs.Option.{option_or, unwrap_or}
 use Rattle.std.proofs.lemmas.Bool.{cond-false, ne_eqb}
 use Rattle.std.proofs.lemmas.List.{length-map}
+use Rattle.std.proofs.lemmas.Option.{same_Some}
 use Rattle.book_history.proofs.Outlines.{chosen_is, legal_version}
 use Rattle.book_history.specs.Book.{Book, Settings as BookSettings, Opens, Reloads}
 use Rattle.book_history.specs.Outline.{Outline, VersionIs, last_until, outline_in}
@@ -12,6 +14,7 @@ use Rattle.checkpoint_book.specs.Views.{HasSessionRoom, IsOpened, LeadTo, chosen
 use Rattle.command_read.specs.Spoken.{IsEditWithin, edited}
 use Rattle.command_read.specs.declared.edit.Edit.{Edit}
 use Rattle.cycle_eval.specs.declared.design.Design.{Design}
+use Rattle.ls_text.specs.Readings.{TextFault}
 use Rattle.ls_text.specs.Texts.{Grows, HasEachOnce}
 use Rattle.ls_text.specs.declared.fault.Fault.{Fault}
 use Rattle.ls_text.specs.declared.source_file.SourceFile.{SourceFile}
@@ -24,30 +27,34 @@ use Rattle.unit_laws.proofs.HeldUnits.{cut_held, same_held}
 use Rattle.unit_laws.specs.Held.{AreHeldUnder, IsKeyUnder}
 use Rattle.version_swap.specs.Behind.{design_of, texts_behind}
 use Rattle.version_swap.specs.Files as numbered
+use Rattle.version_swap.specs.Operations.{AreValidBetween, IsEditFault, ops_of}
 use Rattle.version_swap.specs.Plans.{DesignOfTexts, Plans}
 use Rattle.version_swap.specs.declared.texts.Texts.{Texts}
 use Rattle.wave_report.specs.Replies.{edit_text}
-use Rattle.live_session.specs.Begins.{GoesOn, IsRefusedIn, LosesLine, SaysSo, line_lost, nothing_new}
+use Rattle.live_session.specs.Begins.{GoesOn, LosesLine, SaysSo, line_lost, nothing_new}
 use Rattle.live_session.specs.Beside.{RunsIn, Stands, settings_by}
 use Rattle.live_session.specs.Files.{text_file}
 use Rattle.live_session.specs.Kept.{IsKept}
-use Rattle.live_session.specs.Logs.{InputRow, Log, LogEvent, Ops, State, book_in, marks_of, outline_of}
+use Rattle.live_session.specs.Logs.{InputRow, Log, LogEvent, Ops, State, book_in, marks_of, outline_of, valid}
 use Rattle.live_session.specs.Rows.{row_of}
+use Rattle.live_session.specs.Scripts.{Agrees, IsCurrent}
 use Rattle.live_session.specs.Sessions.{held_texts, world_of}
 use Rattle.live_session.specs.Settings.{Settings}
+use Rattle.live_session.specs.Spelled.{Spelled}
 use Rattle.live_session.specs.Taken.{LosesBlock, TakesBlock, lost_lines, none_taken}
-use Rattle.live_session.specs.Turns.{Accepts}
+use Rattle.live_session.specs.Turns.{Accepts, Refuses}
 use Rattle.live_session.specs.Verdicts.{chosen, missing_keys}
-use Rattle.live_session.specs.Worlds.{World}
+use Rattle.live_session.specs.Worlds.{World, refused_text}
 use Rattle.live_session.specs.declared.limits.Limits.{Limits}
 use Rattle.live_session.specs.declared.reply.Reply.{Reply}
 use Rattle.live_session.specs.declared.running.Running.{Running}
 use Rattle.live_session.proofs.AscendingRows.{AreWithin}
 use Rattle.live_session.proofs.BlockTexts.{IsBlockBehind}
-use Rattle.live_session.proofs.Growing.{kept_grown, row_grown, rows_grown, world_grown}
+use Rattle.live_session.proofs.DesignNames.{runs_within}
+use Rattle.live_session.proofs.Growing.{kept_grown, row_grown, rows_grown, spelled_grown, world_grown}
 use Rattle.live_session.proofs.HeldTexts.{IsDigested, built_behind, cut_to, held_behind, made_digested}
 use Rattle.live_session.proofs.NextWorlds.{IsNext, files_in, its_clock_in, its_top_in, takes_fault, takes_next}
-use Rattle.live_session.proofs.Standing.{Adds, IsLegal, agrees_in, any_valid, outline_behind, stands_on}
+use Rattle.live_session.proofs.Standing.{Adds, IsLegal, outline_behind, stands_on}
 
 -- ---- a book with a version
 
@@ -66,9 +73,11 @@ version_most : (b : LogBook) (most : ℕ) → VersionIs b most → (outline_in b
 version_most None most is = omega arith
 version_most (Some c) most is = is.1
 
-leads_to : (b : LogBook) (m : Design) (ops : Ops) → IsOpened b → LeadTo any_valid b m ops
-leads_to None m ops opened = absurd opened
-leads_to (Some c) m ops opened = tt
+leads_by : (b : LogBook) (r : Running) → RunsIn r (outline_in b) → (m : Design) (ops : Ops) → valid r.version.value.machine.value m ops
+    → LeadTo valid b m ops
+leads_by None r runs m ops is = absurd (true≢false (sym (ap is_some runs.machine)))
+leads_by (Some c) r runs m ops is =
+    subst (λ (d : Design). valid d m ops) (sym (same_Some c.machine r.version.value.machine.value runs.machine)) is
 
 chosen_by : (st : BookSettings) (b : LogBook) → chosen_in st b ≡ last_until (length (outline_in b).rows - st.lookback) 0 (outline_in b).marks
 chosen_by st None = refl
@@ -78,8 +87,9 @@ module _ (limits : Limits) (r : Running) (j : Log) (stands : Stands limits (Some
   pub is_opened : IsOpened (book_in j)
   is_opened = opened_by (book_in j) r stands.outline
 
-  pub all_lead : (m : Design) (ops : Ops) → LeadTo any_valid (book_in j) m ops
-  all_lead m ops = leads_to (book_in j) m ops is_opened
+  -- operations that are valid behind what runs are so behind the book
+  pub leads_to : (m : Design) (ops : Ops) → valid r.version.value.machine.value m ops → LeadTo valid (book_in j) m ops
+  leads_to m ops is = leads_by (book_in j) r stands.outline m ops is
 
   pub next_number : (n : ℕ) → n ≡ r.version.value.number + 1 → n ≡ version_in (book_in j) + 1
   next_number n is = is ∙ ap (λ (v : ℕ). v + 1) (sym (version_by (book_in j) ∙ stands.outline.version))
@@ -92,7 +102,7 @@ module _ (limits : Limits) (r : Running) (j : Log) (stands : Stands limits (Some
   number_charged legal =
       omega (
         arith,
-        version_most (book_in j) (count_all no_entry j.events).session (legal_version _ j.settings any_valid j.events legal),
+        version_most (book_in j) (count_all no_entry j.events).session (legal_version _ j.settings valid j.events legal),
         stands.outline.version,
         stands.charged,
       )
@@ -111,10 +121,13 @@ marks_same was is settings events =
 -- ---- the book behind the entry
 
 -- it has the number and the machine that the code gave
-pub reloads_so : (was is : Log) (version number : ℕ) (machine design : Design) (ops : Ops) (from : ℕ) → version ≡ number → machine ≡ design
-    → is.events ≡ was.events ++ Reloads version machine ops from ∷ [] → is.events ≡ was.events ++ Reloads number design ops from ∷ []
-reloads_so was is version number machine design ops from first same events =
-    events ∙ ap₂ (λ (v : ℕ) (m : Design). was.events ++ Reloads v m ops from ∷ []) first same
+pub reloads_so : (was is : Log) (version number : ℕ) (machine design : Design) (given ops : Ops) (from : ℕ) → version ≡ number → machine ≡ design
+    → given ≡ ops → is.events ≡ was.events ++ Reloads version machine given from ∷ []
+    → is.events ≡ was.events ++ Reloads number design ops from ∷ []
+reloads_so was is version number machine design given ops from first same equal events =
+    events
+    ∙ ap₂ (λ (v : ℕ) (m : Design). was.events ++ Reloads v m given from ∷ []) first same
+    ∙ ap (λ (os : Ops). was.events ++ Reloads number design os from ∷ []) equal
 
 module _ (was is : Log) (number : ℕ) (design : Design) (ops : Ops) (from : ℕ) (settings : is.settings ≡ was.settings)
     (events : is.events ≡ was.events ++ Reloads number design ops from ∷ []) (legal : IsLegal is) where
@@ -151,6 +164,9 @@ module _ (old new : List (List ℕ)) (grows : Grows old new) (once : HasEachOnce
   abbrev before : World
   before = world_of old es (marks_of was) r
 
+  abbrev its_ops : Ops
+  its_ops = ops_of e.ops
+
   pub behind_running : IsBlockBehind old new e loaded r.texts before
   behind_running = record {
     grows = grows;
@@ -179,30 +195,51 @@ module _ (old new : List (List ℕ)) (grows : Grows old new) (once : HasEachOnce
       ∙ ap (world_of new es (marks_of was)) still
       ∙ world_grown old new grows once also es (marks_of was) r kept.named.files kept.named.top kept.named.clock kept.named.row kept.named.rows kept.plans
 
-  -- a fault of the files
-  pub refused_so : (st : Settings) (reply : Reply)
-      → IsRefusedIn new (numbered.files_behind r.texts.files e.files e.loads loaded) (option_or e.top r.texts.top) (unwrap_or e.clock r.texts.clock) e.line
-      reply
+  -- what is kept of it by the table that has grown
+  abbrev grown : IsKept new limits r
+  grown = kept_grown old new grows limits r kept
+
+  -- its design by that table
+  current : IsCurrent new before.design (Some r.version.value.machine.value)
+  current = record {
+    keys = r.keys;
+    is = ap (λ (d : Spelled). Some d)
+        (sym (spelled_grown old new grows once also r.texts.files r.texts.top r.texts.clock kept.named.top kept.named.clock
+        (design_of r.version.value.machine.value r.keys) kept.plans));
+    within = runs_within new also r grown.plans;
+  }
+
+  agrees : Agrees new before (outline_of was)
+  agrees = record {
+    version = stands.outline.version;
+    machine = subst (IsCurrent new before.design) (sym stands.outline.machine) current;
+    rows = record {
+      are = ap (map (row_of new)) stands.outline.rows ∙ rows_grown old new grows (rows_of r.record_) kept.named.rows;
+      within = subst (All (AreWithin (length new))) (sym stands.outline.rows) grown.named.rows;
+    };
+    marks = refl;
+  }
+
+  -- a fault of the files, or of an operation
+  pub refused_so : (st : Settings) (fault : TextFault) (reply : Reply)
+      → IsEditFault new (numbered.files_behind r.texts.files e.files e.loads loaded) (option_or e.top r.texts.top) (unwrap_or e.clock r.texts.clock)
+      (Some r.version.value.machine.value) e.ops fault
+      → Refuses (refused_text (map (text_file new) (numbered.files_behind r.texts.files e.files e.loads loaded)) e.line fault) reply
       → (after : List Entry) → after ≡ es
       → TakesBlock st (edited old e) (Ok (map (text_file old) loaded)) before (world_of new after (marks_of was) r) was was reply.lines reply.refused
-  refused_so st reply is after same =
-      takes_fault old new e loaded r.texts before behind st (world_of new after (marks_of was) r) was is.fault reply (stays_grown after r was same refl refl)
-      is.plans is.refuses
+  refused_so st fault reply is refuses after same =
+      takes_fault old new e loaded r.texts before behind st (world_of new after (marks_of was) r) was (Some r.version.value.machine.value) current fault
+      reply (stays_grown after r was same refl refl) is refuses
 
-  pub refused_by : {E : Type 0} (st : Settings) (after : List Entry) → after ≡ es → (result : Result Reply E)
-      → IfOk result (IsRefusedIn new (numbered.files_behind r.texts.files e.files e.loads loaded) (option_or e.top r.texts.top)
-      (unwrap_or e.clock r.texts.clock) e.line)
-      → IfOk result (λ reply. TakesBlock st (edited old e) (Ok (map (text_file old) loaded)) before (world_of new after (marks_of was) r) was was reply.lines
-      reply.refused)
-  refused_by st after same (Ok reply) is = refused_so st reply is after same
-  refused_by st after same (Err error) is = tt
-
-  pub refusal_goes_on : {E : Type 0} (result : Result Reply E)
-      → IfOk result (IsRefusedIn new (numbered.files_behind r.texts.files e.files e.loads loaded) (option_or e.top r.texts.top)
-      (unwrap_or e.clock r.texts.clock) e.line)
-      → IfOk result (λ reply. reply.quit ≡ false)
-  refusal_goes_on (Ok reply) is = is.refuses.goes_on
-  refusal_goes_on (Err error) is = tt
+  pub refused_by : {E : Type 0} (st : Settings) (fault : TextFault) (after : List Entry) → after ≡ es
+      → IsEditFault new (numbered.files_behind r.texts.files e.files e.loads loaded) (option_or e.top r.texts.top) (unwrap_or e.clock r.texts.clock)
+      (Some r.version.value.machine.value) e.ops fault
+      → (result : Result Reply E)
+      → IfOk result (Refuses (refused_text (map (text_file new) (numbered.files_behind r.texts.files e.files e.loads loaded)) e.line fault))
+      → IfOk result (λ reply. TakesBlock st (edited old e) (Ok (map (text_file old) loaded)) before (world_of new after (marks_of was) r) was was
+      reply.lines reply.refused)
+  refused_by st fault after same is (Ok reply) refuses = refused_so st fault reply is refuses after same
+  refused_by st fault after same is (Err error) refuses = tt
 
   -- memory ran out, and nothing is new
   pub nothing_taken : (st : Settings) (after : List Entry) → after ≡ es
@@ -218,8 +255,10 @@ module _ (old new : List (List ℕ)) (grows : Grows old new) (once : HasEachOnce
       (is_behind : texts ≡ texts_behind r.texts e loaded) (plans : Plans new texts.files texts.top texts.clock (Ok (design_of design keys)))
       (made : All (IsKeyUnder new) keys) (builds : BuildJob → Result Built Fault) (middle : List Entry) (holds : AreHeldUnder new es)
       (ensures_so : ensured builds es keys ≡ Ok middle) (count : built ≡ length (missing (keys_of es) keys)) (rest : kept_units + built ≡ length keys)
-      (no_ops : e.ops ≡ []) (short : All (λ (f : SourceFile). length f.text ≤ 4194304) texts.files) (room : r.charge < limits.rooms.session) where
-    module _ (after : List Entry) (same : after ≡ middle) (x : Running) (is : Log) (from : ℕ) (goes : GoesOn texts design keys from r x was is) where
+      (valid_ops : AreValidBetween (Some r.version.value.machine.value) design e.ops)
+      (short : All (λ (f : SourceFile). length f.text ≤ 4194304) texts.files) (room : r.charge < limits.rooms.session) where
+    module _ (after : List Entry) (same : after ≡ middle) (x : Running) (is : Log) (from : ℕ)
+        (goes : GoesOn its_ops texts design keys from r x was is) where
       abbrev its_keys : List (List ℕ)
       its_keys = map (λ (k : KeyData). k.text) keys
 
@@ -260,20 +299,25 @@ module _ (old new : List (List ℕ)) (grows : Grows old new) (once : HasEachOnce
       since : from ≡ chosen (settings_by limits was) before
       since = goes.chosen ∙ chosen_so limits r was stands old es
 
-      entry_is : ◌≡◌ {A = LogEvent} (Reloads (r.version.value.number + 1) design goes.ops from)
+      entry_is : ◌≡◌ {A = LogEvent} (Reloads (r.version.value.number + 1) design its_ops from)
           (if r.version.value.number == 0 then Opens 1 x.version.value.machine.value
-          else Reloads (r.version.value.number + 1) x.version.value.machine.value goes.ops (chosen (settings_by limits was) before))
+          else Reloads (r.version.value.number + 1) x.version.value.machine.value its_ops (chosen (settings_by limits was) before))
       entry_is =
-          ap₂ (λ (m : Design) (c : ℕ). Reloads (r.version.value.number + 1) m goes.ops c) (sym goes.has_design) since
+          ap₂ (λ (m : Design) (c : ℕ). Reloads (r.version.value.number + 1) m its_ops c) (sym goes.has_design) since
           ∙ sym (cond-false (r.version.value.number == 0) (Opens 1 x.version.value.machine.value)
-          (Reloads (r.version.value.number + 1) x.version.value.machine.value goes.ops (chosen (settings_by limits was) before)) later)
+          (Reloads (r.version.value.number + 1) x.version.value.machine.value its_ops (chosen (settings_by limits was) before)) later)
+
+      its_valid : AreValidBetween (outline_of was).machine x.version.value.machine.value e.ops
+      its_valid =
+          subst (λ (m : Option Design). AreValidBetween m x.version.value.machine.value e.ops) (sym stands.outline.machine)
+          (subst (λ (d : Design). AreValidBetween (Some r.version.value.machine.value) d e.ops) (sym goes.has_design) valid_ops)
 
       pub takes_renewed : (line : List ℕ) → line ≡ edit_text (r.version.value.number + 1) built kept_units from
           → TakesBlock (settings_by limits was) (edited old e) (Ok (map (text_file old) loaded)) before (world_of new after (marks_of is) x) was is line false
       takes_renewed line says =
           takes_next old new e loaded r.texts before behind after x next (settings_by limits was) was is
-          (Reloads (r.version.value.number + 1) design goes.ops from) goes.ops (record { settings = goes.settings; events = goes.reloads }) refl refl goes.marks
-          (agrees_in old once limits r was es stands) entry_is no_ops line built kept_units from its_count (rest ∙ ap length (sym goes.has_keys)) since says
+          (Reloads (r.version.value.number + 1) design its_ops from) (record { settings = goes.settings; events = goes.reloads }) (refl, tt) refl
+          refl goes.marks agrees entry_is its_valid line built kept_units from its_count (rest ∙ ap length (sym goes.has_keys)) since says
 
       -- what is kept of the next version
       pub kept_next : IsKept new limits x
@@ -294,7 +338,7 @@ module _ (old new : List (List ℕ)) (grows : Grows old new) (once : HasEachOnce
 
     -- the line is there
     pub takes_said : (after : List Entry) (x : Running) (is : Log) (reply : Reply) → after ≡ middle
-        → SaysSo texts design keys built kept_units r x was is reply
+        → SaysSo its_ops texts design keys built kept_units r x was is reply
         → TakesBlock (settings_by limits was) (edited old e) (Ok (map (text_file old) loaded)) before (world_of new after (marks_of is) x) was is reply.lines
         reply.refused
     takes_said after x is reply same so =
@@ -302,7 +346,7 @@ module _ (old new : List (List ℕ)) (grows : Grows old new) (once : HasEachOnce
         (sym so.accepts.refusal) (takes_renewed after same x is so.from so.goes reply.lines so.accepts.text)
 
     -- or it is lost, or nothing is new
-    pub loses_so : (after : List Entry) (x : Running) (is : Log) → LosesLine texts design keys (length es) middle after r x was is
+    pub loses_so : (after : List Entry) (x : Running) (is : Log) → LosesLine its_ops texts design keys (length es) middle after r x was is
         → LosesBlock (settings_by limits was) (edited old e) (Ok (map (text_file old) loaded)) before (world_of new after (marks_of is) x) was is
     loses_so after x is (nothing_new cut still settings events) =
         none_taken settings events (stays_grown after x is (cut ∙ cut_to builds es middle keys ensures_so) still (marks_same was is settings events))
@@ -310,60 +354,63 @@ module _ (old new : List (List ℕ)) (grows : Grows old new) (once : HasEachOnce
         lost_lines (edit_text (r.version.value.number + 1) built kept_units from) false
         (takes_renewed after same x is from goes (edit_text (r.version.value.number + 1) built kept_units from) refl)
 
-    pub kept_said : (x : Running) (is : Log) (reply : Reply) → SaysSo texts design keys built kept_units r x was is reply → IsKept new limits x
+    pub kept_said : (x : Running) (is : Log) (reply : Reply) → SaysSo its_ops texts design keys built kept_units r x was is reply → IsKept new limits x
     kept_said x is reply so = kept_next middle refl x is so.from so.goes
 
-    pub kept_lost : (after : List Entry) (x : Running) (is : Log) → LosesLine texts design keys (length es) middle after r x was is → IsKept new limits x
+    pub kept_lost : (after : List Entry) (x : Running) (is : Log) → LosesLine its_ops texts design keys (length es) middle after r x was is → IsKept new limits x
     kept_lost after x is (nothing_new cut still settings events) = subst (IsKept new limits) (sym still) (kept_grown old new grows limits r kept)
     kept_lost after x is (line_lost from same goes) = kept_next after same x is from goes
 
     -- and so of an answer
     pub takes_by : {E : Type 0} (after : List Entry) (x : Running) (is : Log) (result : Result Reply E) → IfOk result (λ _. after ≡ middle)
-        → IfOk result (SaysSo texts design keys built kept_units r x was is)
+        → IfOk result (SaysSo its_ops texts design keys built kept_units r x was is)
         → IfOk result (λ reply. TakesBlock (settings_by limits was) (edited old e) (Ok (map (text_file old) loaded)) before
         (world_of new after (marks_of is) x) was is reply.lines reply.refused)
     takes_by after x is (Ok reply) same so = takes_said after x is reply same so
     takes_by after x is (Err error) same so = tt
 
     pub loses_by : {E : Type 0} (after : List Entry) (x : Running) (is : Log) (result : Result Reply E)
-        → OnErr result (LosesLine texts design keys (length es) middle after r x was is)
+        → OnErr result (LosesLine its_ops texts design keys (length es) middle after r x was is)
         → OnErr result (LosesBlock (settings_by limits was) (edited old e) (Ok (map (text_file old) loaded)) before (world_of new after (marks_of is) x) was is)
     loses_by after x is (Ok reply) lost = tt
     loses_by after x is (Err error) lost = loses_so after x is lost
 
     pub kept_by : {E : Type 0} (after : List Entry) (x : Running) (is : Log) (result : Result Reply E)
-        → IfOk result (SaysSo texts design keys built kept_units r x was is)
-        → OnErr result (LosesLine texts design keys (length es) middle after r x was is) → IsKept new limits x
+        → IfOk result (SaysSo its_ops texts design keys built kept_units r x was is)
+        → OnErr result (LosesLine its_ops texts design keys (length es) middle after r x was is) → IsKept new limits x
     kept_by after x is (Ok reply) so lost = kept_said x is reply so
     kept_by after x is (Err error) so lost = kept_lost after x is lost
 
 -- the units behind want of memory are held
-pub held_lost : (names : List (List ℕ)) (count : ℕ) (before after : List Entry) (texts : Texts) (design : Design) (keys : List KeyData) (old new : Running)
-    (was is : Log) → AreHeldUnder names before → LosesLine texts design keys count before after old new was is → AreHeldUnder names after
-held_lost names count before after texts design keys old new was is h (nothing_new cut still settings events) = cut_held names count before after h cut
-held_lost names count before after texts design keys old new was is h (line_lost from same goes) = same_held names before after h same
+pub held_lost : (ops : Ops) (names : List (List ℕ)) (count : ℕ) (before after : List Entry) (texts : Texts) (design : Design) (keys : List KeyData)
+    (old new : Running) (was is : Log) → AreHeldUnder names before → LosesLine ops texts design keys count before after old new was is
+    → AreHeldUnder names after
+held_lost ops names count before after texts design keys old new was is h (nothing_new cut still settings events) =
+    cut_held names count before after h cut
+held_lost ops names count before after texts design keys old new was is h (line_lost from same goes) = same_held names before after h same
 
-pub held_by : {E : Type 0} (names : List (List ℕ)) (count : ℕ) (before after : List Entry) (texts : Texts) (design : Design) (keys : List KeyData)
-    (old new : Running) (was is : Log) (result : Result Reply E) → AreHeldUnder names before → IfOk result (λ _. after ≡ before)
-    → OnErr result (LosesLine texts design keys count before after old new was is) → AreHeldUnder names after
-held_by names count before after texts design keys old new was is (Ok reply) h same lost = same_held names before after h same
-held_by names count before after texts design keys old new was is (Err error) h same lost =
-    held_lost names count before after texts design keys old new was is h lost
+pub held_by : {E : Type 0} (ops : Ops) (names : List (List ℕ)) (count : ℕ) (before after : List Entry) (texts : Texts) (design : Design)
+    (keys : List KeyData) (old new : Running) (was is : Log) (result : Result Reply E) → AreHeldUnder names before → IfOk result (λ _. after ≡ before)
+    → OnErr result (LosesLine ops texts design keys count before after old new was is) → AreHeldUnder names after
+held_by ops names count before after texts design keys old new was is (Ok reply) h same lost = same_held names before after h same
+held_by ops names count before after texts design keys old new was is (Err error) h same lost =
+    held_lost ops names count before after texts design keys old new was is h lost
 
 -- ---- its line
 
-pub says_so : {E : Type 0} (texts : Texts) (design : Design) (keys : List KeyData) (built kept from : ℕ) (old new : Running) (was is : Log)
-    (result : Result Reply E) → GoesOn texts design keys from old new was is
-    → IfOk result (Accepts (edit_text new.version.value.number built kept from)) → IfOk result (SaysSo texts design keys built kept old new was is)
-says_so texts design keys built kept from old new was is (Ok reply) goes accepts = record {
+pub says_so : {E : Type 0} (ops : Ops) (texts : Texts) (design : Design) (keys : List KeyData) (built kept from : ℕ) (old new : Running)
+    (was is : Log) (result : Result Reply E) → GoesOn ops texts design keys from old new was is
+    → IfOk result (Accepts (edit_text new.version.value.number built kept from))
+    → IfOk result (SaysSo ops texts design keys built kept old new was is)
+says_so ops texts design keys built kept from old new was is (Ok reply) goes accepts = record {
   from = from;
   goes = goes;
   accepts = subst (λ (v : ℕ). Accepts (edit_text v built kept from) reply) goes.next accepts;
 }
-says_so texts design keys built kept from old new was is (Err error) goes accepts = tt
+says_so ops texts design keys built kept from old new was is (Err error) goes accepts = tt
 
-pub loses_its_line : {E : Type 0} (texts : Texts) (design : Design) (keys : List KeyData) (held : ℕ) (earlier after : List Entry) (from : ℕ)
-    (old new : Running) (was is : Log) (result : Result Reply E) → after ≡ earlier → GoesOn texts design keys from old new was is
-    → OnErr result (LosesLine texts design keys held earlier after old new was is)
-loses_its_line texts design keys held earlier after from old new was is (Ok reply) same goes = tt
-loses_its_line texts design keys held earlier after from old new was is (Err error) same goes = line_lost from same goes
+pub loses_its_line : {E : Type 0} (ops : Ops) (texts : Texts) (design : Design) (keys : List KeyData) (held : ℕ) (earlier after : List Entry)
+    (from : ℕ) (old new : Running) (was is : Log) (result : Result Reply E) → after ≡ earlier → GoesOn ops texts design keys from old new was is
+    → OnErr result (LosesLine ops texts design keys held earlier after old new was is)
+loses_its_line ops texts design keys held earlier after from old new was is (Ok reply) same goes = tt
+loses_its_line ops texts design keys held earlier after from old new was is (Err error) same goes = line_lost from same goes

@@ -43,14 +43,16 @@ module _ (st : Settings) (w : World) (line n : ℕ) (some : 1 ≤ n) (few : n �
       ap₂ (λ (a b : Bool). cond (a || b) (Err (refused_at 64 line [])) (cond (ltb st.cycles (cycle w + n)) (Err (refused_at 65 line []))
       (cond (ltb st.stimulus names) (Err (refused_at 69 line [])) (with_room (ltb st.room (w.charge + 1))))))
       (ne_eqb n 0 (λ none. absurd (omega (arith, some, none)))) (le-ltb 1000000000 n few)
-      ∙ ap (λ (t : Bool). cond t (Err (refused_at 65 line [])) (cond (ltb st.stimulus names) (Err (refused_at 69 line [])) (with_room (ltb st.room (w.charge + 1)))))
+      ∙ ap (λ (t : Bool). cond t (Err (refused_at 65 line []))
+      (cond (ltb st.stimulus names) (Err (refused_at 69 line [])) (with_room (ltb st.room (w.charge + 1)))))
       (le-ltb st.cycles (cycle w + n) below)
 
   pub judged_by_code : (has_room : Bool) → has_room ≡ ltb w.charge st.room
       → counted_verdict st w line n ≡ verdict_by st w line n (run_code st.stimulus names has_room)
   judged_by_code has_room is =
       counted
-      ∙ ap (λ (full : Bool). cond (ltb st.stimulus names) (Err (refused_at 69 line [])) (with_room full)) (one_more w.charge st.room ∙ ap not (sym is))
+      ∙ ap (λ (full : Bool). cond (ltb st.stimulus names) (Err (refused_at 69 line [])) (with_room full))
+      (one_more w.charge st.room ∙ ap not (sym is))
       ∙ by (ltb st.stimulus names) has_room
     where
       by : (over there : Bool) → cond over (Err (refused_at 69 line [])) (with_room (not there))
@@ -81,8 +83,10 @@ names_counted names once rows row n within also ascend too =
     })
 
 -- rows that are cut off again
-pub cut_back : (rows more new behind : List (List (ℕ × ℕ))) (from : ℕ) → from ≡ length rows → new ≡ rows ++ more → behind ≡ take from new → behind ≡ rows
-cut_back rows more new behind from is appended cut = cut ∙ ap₂ (λ (n : ℕ) (xs : List (List (ℕ × ℕ))). take n xs) is appended ∙ take-append_seam rows more
+pub cut_back : (rows more new behind : List (List (ℕ × ℕ))) (from : ℕ) → from ≡ length rows → new ≡ rows ++ more → behind ≡ take from new
+    → behind ≡ rows
+cut_back rows more new behind from is appended cut =
+    cut ∙ ap₂ (λ (n : ℕ) (xs : List (List (ℕ × ℕ))). take n xs) is appended ∙ take-append_seam rows more
 
 pub length_run : (rows : List (List (ℕ × ℕ))) (row : List (ℕ × ℕ)) (n : ℕ) → length (rows ++ replicate n row) ≡ length rows + n
 length_run rows row n = length-append rows (replicate n row) ∙ ap (λ (m : ℕ). length rows + m) (length-replicate n row)

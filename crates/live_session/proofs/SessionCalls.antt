@@ -7,10 +7,9 @@ use Rattle.ls_text.specs.Texts.{HasEachOnce}
 use Rattle.ls_port.specs.declared.shelf_answer.ShelfAnswer.{ShelfAnswer}
 use Rattle.command_read.specs.Asking.{Asked, AsksStatus, Block, Edits, Quits}
 use Rattle.command_read.specs.Scripts.{is_quit}
-use Rattle.command_read.specs.Spoken.{edited, line_operation, loaded_file}
+use Rattle.command_read.specs.Spoken.{edited, loaded_file}
 use Rattle.command_read.specs.declared.edit.Edit.{Edit}
 use Rattle.command_read.specs.declared.load_line.LoadLine.{LoadLine}
-use Rattle.command_read.specs.declared.op_line.OpLine.{OpLine}
 use Rattle.cycle_eval.specs.Designs.{work_of}
 use Rattle.module_registry.specs.Entries.{Entry}
 use Rattle.module_registry.specs.Views.{entries_of}
@@ -19,7 +18,7 @@ use Rattle.live_session.specs.Begins.{Begins, IsBegun, IsRefused}
 use Rattle.live_session.specs.Beside.{Stands, StandsBeside, settings_by, settings_in, world_in}
 use Rattle.live_session.specs.Done.{told}
 use Rattle.live_session.specs.Files.{TextFile}
-use Rattle.live_session.specs.Judging.{first_line, unbuilt_command, verdict_on}
+use Rattle.live_session.specs.Judging.{verdict_on}
 use Rattle.live_session.specs.Kept.{IsKept}
 use Rattle.live_session.specs.Loaded.{Loses}
 use Rattle.live_session.specs.Loads.{AreToFirst, LosesAnswers}
@@ -45,11 +44,6 @@ pub always : {A E P : Type 0} (result : Result A E) → P → OnErr result P
 always (Ok x) p = tt
 always (Err e) p = p
 
--- a block whose first operation isn't there has none
-pub no_operations : (names : List (List ℕ)) (os : List OpLine) → None ≡ first_line (map (line_operation names) os) → os ≡ []
-no_operations names [] is = refl
-no_operations names (o ∷ os) is = absurd (true≢false (sym (ap is_some is)))
-
 -- ---- what runs in a session
 
 pub kept_there : (names : List (List ℕ)) (limits : Limits) (running : Option Running) (r : Running) → running ≡ Some r
@@ -60,7 +54,8 @@ pub stands_there : (limits : Limits) (running : Option Running) (r : Running) (j
     → Stands limits (Some r) j
 stands_there limits running r j is h = subst (λ (o : Option Running). Stands limits o j) is h
 
-pub charge_there : (names : List (List ℕ)) (entries : List Entry) (grid : List ℕ) (running : Option Running) (r : Running) (most : ℕ) → running ≡ Some r
+pub charge_there : (names : List (List ℕ)) (entries : List Entry) (grid : List ℕ) (running : Option Running) (r : Running) (most : ℕ)
+    → running ≡ Some r
     → (running_world names entries grid running).charge < most → r.charge < most
 charge_there names entries grid running r most is h = subst (λ (o : Option Running). (running_world names entries grid o).charge < most) is h
 
@@ -74,18 +69,18 @@ pub none_runs : {E : Type 0} (asked : Asked) (s : Session) (j : Log) (line : ℕ
     → IfOk result (Refuses (refused_at 62 line [])) → IfOk result (Answers asked s s j j)
 none_runs asked s j line result none is says =
     refuses_with asked s j (refused_at 62 line []) result
-    (ap (λ (o : Option Running). verdict_on (settings_in s j) (told (Ok asked) [] no_answer) (running_world s.names (entries_of s.registry) (marks_of j) o))
+    (ap (λ (o : Option Running). verdict_on (settings_in s j) (told (Ok asked) [] no_answer)
+    (running_world s.names (entries_of s.registry) (marks_of j) o))
     none ∙ is) says
 
 -- a call that asks nothing of the book
-module _ {E : Type 0} (asked : Asked) (built : (w : World) → unbuilt_command w asked ≡ None) (old : Session) (j : Log) (r x : Running)
-    (runs : old.running ≡ Some r) (beside : StandsBeside old j) where
+module _ {E : Type 0} (asked : Asked) (old : Session) (j : Log) (r x : Running) (runs : old.running ≡ Some r) (beside : StandsBeside old j) where
   pub answers_beside : (result : Result Reply E)
       → IfOk result (λ reply. (i : Log) → Stands old.limits (Some r) i → AnswersIn old.names old.limits asked r x i i reply)
       → IfOk result (AnswersFrom (settings_in old j) asked (world_in old j) (world_of old.names (entries_of old.registry) (marks_of j) x) j j)
   answers_beside (Err e) h = tt
   answers_beside (Ok reply) h =
-      answers_for asked built old j j r x runs reply (h j (stands_there old.limits old.running r j runs beside.stands))
+      answers_for asked old j j r x runs reply (h j (stands_there old.limits old.running r j runs beside.stands))
 
   pub stays_beside : (result : Result Reply E) → OnErr result (x ≡ r)
       → OnErr result (StopsFrom (settings_in old j) asked (world_in old j) (world_of old.names (entries_of old.registry) (marks_of j) x) j j)
@@ -97,16 +92,18 @@ module _ {E : Type 0} (asked : Asked) (built : (w : World) → unbuilt_command w
       ∙ ap (running_world old.names (entries_of old.registry) (marks_of j)) (sym runs))
 
 -- `status` of what runs
-pub status_on : {E : Type 0} (s : Session) (j : Log) (r : Running) → HasEachOnce s.names → s.running ≡ Some r → IfSome s.running (IsKept s.names s.limits)
+pub status_on : {E : Type 0} (s : Session) (j : Log) (r : Running) → HasEachOnce s.names → s.running ≡ Some r
+    → IfSome s.running (IsKept s.names s.limits)
     → StandsBeside s j → (result : Result Reply E)
-    → IfOk result (λ reply. (names : List (List ℕ)) (limits : Limits) (line : ℕ) → HasEachOnce names → IsKept names limits r → Stands limits (Some r) j
+    → IfOk result (λ reply. (names : List (List ℕ)) (limits : Limits) (line : ℕ) → HasEachOnce names → IsKept names limits r
+    → Stands limits (Some r) j
     → AnswersIn names limits (AsksStatus line) r r j j reply)
     → IfOk result (λ reply. (line : ℕ) → Answers (AsksStatus line) s s j j reply)
 status_on s j r once is kept beside (Err e) h = tt
 status_on s j r once is kept beside (Ok reply) h = λ (line : ℕ).
     subst (λ (w : World). AnswersFrom (settings_in s j) (AsksStatus line) (world_in s j) w j j reply)
     (sym (ap (running_world s.names (entries_of s.registry) (marks_of j)) is))
-    (answers_for (AsksStatus line) (λ w. refl) s j j r r is reply
+    (answers_for (AsksStatus line) s j j r r is reply
     (h s.names s.limits line once (kept_there s.names s.limits s.running r is kept) (stands_there s.limits s.running r j is beside.stands)))
 
 -- `status` before the first design
@@ -117,7 +114,8 @@ status_fresh s j none (Ok reply) says = λ (line : ℕ).
     let w = world_in s j in
     let is : w ≡ fresh = ap (running_world s.names (entries_of s.registry) (marks_of j)) none in
     told_done (settings_in s j) (AsksStatus line) [] none_twice w w (Ok w) reply j w refl refl refl refl
-    (λ (rest : List LogMoment). ap (λ (text : List ℕ). Some (text, rest)) (ap (λ (x : World). status_lines x x.design) is ∙ sym says.text)) says.refusal
+    (λ (rest : List LogMoment). ap (λ (text : List ℕ). Some (text, rest)) (ap (λ (x : World). status_lines x x.design) is ∙ sym says.text))
+    says.refusal
 
 -- `status` and `quit` of one line
 pub status_at : {E : Type 0} (line : ℕ) (s : Session) (j : Log) (result : Result Reply E)
@@ -131,13 +129,6 @@ quit_at line s j (Err e) h = tt
 quit_at line s j (Ok reply) h = h line s j
 
 -- ---- a first block
-
--- no operation was found
-pub no_operations_by : (names : List (List ℕ)) (os slice : List OpLine) (o : Option ℕ) → slice ≡ os
-    → ((table : List (List ℕ)) → o ≡ first_line (map (line_operation table) slice)) → ((line : ℕ) → o ≡ Some line → ⊥) → os ≡ []
-no_operations_by names os slice None same first not =
-    no_operations names os (first names ∙ ap (λ (xs : List OpLine). first_line (map (line_operation names) xs)) same)
-no_operations_by names os slice (Some line) same first not = absurd (not line refl)
 
 -- the loads came to nothing
 pub loses_loads : (names : List (List ℕ)) (e : Edit) (lines : List LoadLine) (before behind : Option (List ShelfAnswer)) → lines ≡ e.loads
@@ -160,7 +151,8 @@ pub fresh_behind : (st : Settings) (block : Block) (given : Result (List TextFil
     → old ≡ fresh → new ≡ fresh → is.settings ≡ was.settings → is.events ≡ was.events → LosesBlock st block given old new was is
 fresh_behind st block given old new was is before behind settings events = none_taken settings events (behind ∙ sym before)
 
-pub fresh_refused : (names : List (List ℕ)) (limits : Limits) (block : Block) (loaded : List TextFile) (entries : List Entry) (was is : Log) (b : Begun)
+pub fresh_refused : (names : List (List ℕ)) (limits : Limits) (block : Block) (loaded : List TextFile) (entries : List Entry) (was is : Log)
+    (b : Begun)
     (reply : Reply) (old new : World) → old ≡ fresh → new ≡ fresh → b ≡ begun.Refused reply → Begins names limits block loaded entries was is b
     → TakesBlock (settings_by limits was) block (Ok loaded) old new was is reply.lines reply.refused
 fresh_refused names limits block loaded entries was is b reply old new before behind same h =

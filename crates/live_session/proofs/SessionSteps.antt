@@ -14,12 +14,11 @@ use Rattle.ls_text.specs.Readings.{TextFault}
 use Rattle.ls_text.specs.Texts.{Grows, HasEachOnce}
 use Rattle.command_read.specs.Asking.{Asked, Block, Edits, GivenFile, LoadedFile, Quits}
 use Rattle.command_read.specs.Formed.{IsFormed}
-use Rattle.command_read.specs.Spoken.{edited, given_file, line_operation, spoken}
+use Rattle.command_read.specs.Spoken.{edited, given_file, spoken}
 use Rattle.command_read.specs.declared.command.Command.{Command}
 use Rattle.command_read.specs.declared.command.Command.TheVariants as the_command
 use Rattle.command_read.specs.declared.edit.Edit.{Edit}
 use Rattle.command_read.specs.declared.file_line.FileLine.{FileLine}
-use Rattle.command_read.specs.declared.op_line.OpLine.{OpLine}
 use Rattle.module_registry.specs.Entries.{Entry}
 use Rattle.module_registry.specs.Views.{entries_of}
 use Rattle.book_history.specs.Outline.{Outline}
@@ -27,19 +26,19 @@ use Rattle.cycle_eval.specs.declared.design.Design.{Design}
 use Rattle.live_session.specs.Beside.{StandsBeside, settings_by, settings_in, world_in}
 use Rattle.live_session.specs.Done.{IsDone, told}
 use Rattle.live_session.specs.Files.{TextFile}
-use Rattle.live_session.specs.Judging.{first_line, unbuilt_command, verdict_if, verdict_on}
+use Rattle.live_session.specs.Judging.{verdict_on}
 use Rattle.live_session.specs.Kept.{IsKept}
 use Rattle.live_session.specs.Loaded.{ComesTo, result_of}
 use Rattle.live_session.specs.Loads.{LoadAnswer, Gave, Broke, AddsAnswers, AreToFirst, HasFailed, LosesAnswers, loaded_files, name_in, shelf_answer, shelf_answers}
 use Rattle.live_session.specs.Logs.{InputRow, Log, LogMoment, marks_of, outline_of}
-use Rattle.live_session.specs.Readings.{IsRight, IsRightBlock, IsRightCommand, IsRightEdit, IsRightIf}
+use Rattle.live_session.specs.Readings.{IsRight, IsRightEdit}
 use Rattle.live_session.specs.Replies.{answers_to_command}
 use Rattle.live_session.specs.Sessions.{limits_of, running_world, world_of}
 use Rattle.live_session.specs.Settings.{Settings}
 use Rattle.live_session.specs.Steps.{StepsTo, Stops, undone, lost}
 use Rattle.live_session.specs.Taken.{LosesBlock, TakesBlock, lost_lines, none_taken}
 use Rattle.live_session.specs.Turns.{Answers, AnswersFrom, AnswersIn, Refuses, StopsAt, StopsFrom, StopsIn, lost_at, lost_in, no_answer, undone_at, undone_in}
-use Rattle.live_session.specs.Verdicts.{Told, command_verdict, loaded_verdict}
+use Rattle.live_session.specs.Verdicts.{Told, loaded_verdict}
 use Rattle.live_session.specs.Worlds.{World, Refused, fresh, refused_at, refused_text}
 use Rattle.live_session.specs.declared.limits.Limits.{Limits}
 use Rattle.live_session.specs.declared.loads.Loads.{Loads}
@@ -75,9 +74,9 @@ refuses_done st (Err fault) w v j refused r is says =
       events = sym (append-nil j.events);
       goes = refl;
       refusal = says.refusal;
-      part = record { names = []; once = none_twice; is = refl };
+      alone = tt;
+      part = record { names = []; once = none_twice; is = refl; agree = tt };
       tells = λ (rest : List LogMoment). ap (λ (text : List ℕ). Some (text, rest)) (sym says.text);
-      agree = tt;
     })
 
 pub refuses_with : {E : Type 0} (asked : Asked) (s : Session) (j : Log) (refused : Refused) (result : Result Reply E)
@@ -85,11 +84,11 @@ pub refuses_with : {E : Type 0} (asked : Asked) (s : Session) (j : Log) (refused
     → IfOk result (Refuses refused) → IfOk result (Answers asked s s j j)
 refuses_with asked s j refused (Err e) is says = tt
 refuses_with asked s j refused (Ok reply) is says =
-    refuses_done (settings_in s j) (Ok asked) (world_in s j) (verdict_on (settings_in s j) (told (Ok asked) [] no_answer) (world_in s j)) j refused reply is
+    refuses_done (settings_in s j) (Ok asked) (world_in s j) (verdict_on (settings_in s j) (told (Ok asked) [] no_answer) (world_in s j)) j refused
+    reply is
     says
 
-module _ (asked : Asked) (built : (w : World) → unbuilt_command w asked ≡ None) (old : Session) (was is : Log) (r x : Running)
-    (runs : old.running ≡ Some r) where
+module _ (asked : Asked) (old : Session) (was is : Log) (r x : Running) (runs : old.running ≡ Some r) where
   world_was : world_in old was ≡ world_of old.names (entries_of old.registry) (marks_of was) r
   world_was = ap (running_world old.names (entries_of old.registry) (marks_of was)) runs
 
@@ -101,12 +100,8 @@ module _ (asked : Asked) (built : (w : World) → unbuilt_command w asked ≡ No
       → AnswersFrom (settings_in old was) asked (world_in old was) world_is was is reply
   answers_for reply h =
       let st = settings_by old.limits was in
-      let before = world_of old.names (entries_of old.registry) (marks_of was) r in
       subst (λ (w : World). IsDone st (Ok asked) w world_is (verdict_on st (told (Ok asked) [] no_answer) w) was is reply.lines reply.refused)
-      (sym world_was)
-      (subst (λ (o : Option ℕ). IsDone st (Ok asked) before world_is (verdict_if o (command_verdict st before asked [] no_answer)) was is reply.lines
-      reply.refused)
-      (sym (built before)) (h (entries_of old.registry)))
+      (sym world_was) (h (entries_of old.registry))
 
   pub answers_on : {E : Type 0} (result : Result Reply E) → IfOk result (AnswersIn old.names old.limits asked r x was is)
       → IfOk result (AnswersFrom (settings_in old was) asked (world_in old was) world_is was is)
@@ -143,13 +138,15 @@ stops_still asked s j (Err e) =
 pub quits_so : (line : ℕ) (s : Session) (j : Log) (reply : Reply) → reply.lines ≡ codes "ok quit\n" → reply.refused ≡ false
     → Answers (Quits line) s s j j reply
 quits_so line s j reply says accepts =
-    told_done (settings_in s j) (Quits line) [] none_twice (world_in s j) (world_in s j) (Ok (world_in s j)) reply j (world_in s j) refl refl refl refl
+    told_done (settings_in s j) (Quits line) [] none_twice (world_in s j) (world_in s j) (Ok (world_in s j)) reply j (world_in s j) refl refl refl
+    refl
     (λ (rest : List LogMoment). ap (λ (text : List ℕ). Some (text, rest)) (sym says)) accepts
 
 -- ---- steps
 
 -- nothing is looked at
-pub answered : {E : Type 0} (asked : Asked) (answers : Option (List ShelfAnswer)) (faults : ℕ) (old new : Session) (was is : Log) (result : Result Reply E)
+pub answered : {E : Type 0} (asked : Asked) (answers : Option (List ShelfAnswer)) (faults : ℕ) (old new : Session) (was is : Log)
+    (result : Result Reply E)
     → limits_of new ≡ limits_of old → answers_to_command asked [] ≡ [] → ((st : Settings) (w : World) → IsRight st w (told (Ok asked) [] no_answer))
     → StandsBeside new is → IfOk result (Answers asked old new was is)
     → IfOk result (λ r. StepsTo (Ok asked) answers answers faults faults old new was is r.lines r.refused)
@@ -167,11 +164,13 @@ answered asked answers faults old new was is (Ok reply) limits none right beside
 
 step_of : (asked : Asked) (answers : Option (List ShelfAnswer)) (faults : ℕ) (old new : Session) (was is : Log) (reply : Reply)
     → limits_of new ≡ limits_of old → answers_to_command asked [] ≡ [] → ((st : Settings) (w : World) → IsRight st w (told (Ok asked) [] no_answer))
-    → StandsBeside new is → Answers asked old new was is reply → StepsTo (Ok asked) answers answers faults faults old new was is reply.lines reply.refused
+    → StandsBeside new is → Answers asked old new was is reply
+    → StepsTo (Ok asked) answers answers faults faults old new was is reply.lines reply.refused
 step_of asked answers faults old new was is reply limits none right beside h =
     answered {E = ℕ} asked answers faults old new was is (Ok reply) limits none right beside h
 
-pub stopped : {E : Type 0} (asked : Asked) (answers : Option (List ShelfAnswer)) (faults : ℕ) (old new : Session) (was is : Log) (result : Result Reply E)
+pub stopped : {E : Type 0} (asked : Asked) (answers : Option (List ShelfAnswer)) (faults : ℕ) (old new : Session) (was is : Log)
+    (result : Result Reply E)
     → limits_of new ≡ limits_of old → answers_to_command asked [] ≡ [] → ((st : Settings) (w : World) → IsRight st w (told (Ok asked) [] no_answer))
     → StandsBeside new is → OnErr result (StopsAt asked old new was is)
     → OnErr result (Stops (Ok asked) answers answers faults faults old new was is)
@@ -228,7 +227,7 @@ none_given (load ∷ loads) = refl
 abbrev nothing : List LoadAnswer
 nothing = []
 
--- ---- blocks that are refused before anything is loaded
+-- ---- a block that is refused before anything is loaded
 
 module _ (block : Block) (s : Session) (j : Log) (answers : Option (List ShelfAnswer)) (faults : ℕ) (beside : StandsBeside s j) where
   abbrev without : Told
@@ -245,35 +244,27 @@ module _ (block : Block) (s : Session) (j : Log) (answers : Option (List ShelfAn
     cause = refl;
     limits = refl;
     right = right;
-    done = refuses_done (settings_in s j) (Ok (Edits block)) (world_in s j) (verdict_on (settings_in s j) without (world_in s j)) j refused reply is says;
+    done = refuses_done (settings_in s j) (Ok (Edits block)) (world_in s j) (verdict_on (settings_in s j) without (world_in s j)) j refused reply is
+        says;
     beside = beside;
   }
 
-  -- 90
-  pub unbuilt_steps : {E : Type 0} (line : ℕ) (result : Result Reply E) → first_line block.ops ≡ Some line → IfOk result (Refuses (refused_at 90 line []))
-      → IfOk result (λ r. StepsTo (Ok (Edits block)) answers answers faults faults s s j j r.lines r.refused)
-  unbuilt_steps line result unbuilt =
-      refuses_block (refused_at 90 line []) result
-      (ap (λ (o : Option ℕ). verdict_if o (command_verdict (settings_in s j) (world_in s j) (Edits block) [] no_answer)) unbuilt)
-      (subst (λ (o : Option ℕ). IsRightIf o [] (IsRightCommand (settings_in s j) (world_in s j) (Edits block) [] no_answer)) (sym unbuilt) refl)
-
   -- 68
-  pub full_steps : {E : Type 0} (result : Result Reply E) → first_line block.ops ≡ None → (limits_of s).rooms.session ≤ (world_in s j).charge
+  pub full_steps : {E : Type 0} (result : Result Reply E) → (limits_of s).rooms.session ≤ (world_in s j).charge
       → IfOk result (Refuses (refused_at 68 block.line []))
       → IfOk result (λ r. StepsTo (Ok (Edits block)) answers answers faults faults s s j j r.lines r.refused)
-  full_steps result built full =
+  full_steps result full =
       let w = world_in s j in
       let no_room : ltb (limits_of s).rooms.session (w.charge + 1) ≡ true = lt-ltb (limits_of s).rooms.session (w.charge + 1) (omega (arith, full)) in
       refuses_block (refused_at 68 block.line []) result
-      (ap (λ (o : Option ℕ). verdict_if o (command_verdict (settings_in s j) w (Edits block) [] no_answer)) built
-      ∙ ap (λ (b : Bool). cond b (Err (refused_at 68 block.line [])) (loaded_verdict w block no_answer (loaded_files block.loads nothing))) no_room)
-      (subst (λ (o : Option ℕ). IsRightIf o nothing (IsRightBlock (settings_in s j) w block nothing no_answer)) (sym built)
-      (subst (λ (b : Bool). MatchBool b (nothing ≡ nothing) (IsRightEdit w block nothing no_answer)) (sym no_room) refl))
+      (ap (λ (b : Bool). cond b (Err (refused_at 68 block.line [])) (loaded_verdict w block no_answer (loaded_files block.loads nothing))) no_room)
+      (subst (λ (b : Bool). MatchBool b (nothing ≡ nothing) (IsRightEdit w block nothing no_answer)) (sym no_room) refl)
 
 -- ---- blocks whose loads came to something
 
 -- by worlds that are the same
-module _ {E : Type 0} (st : Settings) (block : Block) (given : Result (List TextFile) Refused) (x y old new : World) (was is : Log) (result : Result Reply E)
+module _ {E : Type 0} (st : Settings) (block : Block) (given : Result (List TextFile) Refused) (x y old new : World) (was is : Log)
+    (result : Result Reply E)
     (same : old ≡ x) (also : new ≡ y) where
   pub takes_ok : IfOk result (λ r. TakesBlock st block given x y was is r.lines r.refused)
       → IfOk result (λ r. TakesBlock st block given old new was is r.lines r.refused)
@@ -305,7 +296,8 @@ refused_loads block s j refused (Ok reply) says = record {
   done = refuses_done (settings_in s j) (Ok (Edits block)) (world_in s j) (Err refused) j refused reply refl says;
 }
 
-pub none_is_new : {E : Type 0} (st : Settings) (block : Block) (given : Result (List TextFile) Refused) (w : World) (j : Log) (result : Result Reply E)
+pub none_is_new : {E : Type 0} (st : Settings) (block : Block) (given : Result (List TextFile) Refused) (w : World) (j : Log)
+    (result : Result Reply E)
     → OnErr result (LosesBlock st block given w w j j)
 none_is_new st block given w j (Ok reply) = tt
 none_is_new st block given w j (Err e) = none_taken refl refl refl
@@ -314,16 +306,13 @@ module _ (names : List (List ℕ)) (e : Edit) (old new : Session) (was is : Log)
   abbrev asks : Block
   asks = edited names e
 
-  module _ (ops : e.ops ≡ []) (limits : limits_of new ≡ limits_of old) (beside : StandsBeside new is)
-      (room : (world_in old was).charge < (limits_of old).rooms.session) (l : Loads) (h : ComesTo names e.loads before behind faults count l) where
+  module _ (limits : limits_of new ≡ limits_of old) (beside : StandsBeside new is) (room : (world_in old was).charge < (limits_of old).rooms.session)
+      (l : Loads) (h : ComesTo names e.loads before behind faults count l) where
     abbrev w : World
     w = world_in old was
 
     abbrev st : Settings
     st = settings_in old was
-
-    all_built : first_line asks.ops ≡ None
-    all_built = ap (λ (os : List OpLine). first_line (map (line_operation names) os)) ops
 
     has_room : ltb (limits_of old).rooms.session (w.charge + 1) ≡ false
     has_room = le-ltb (limits_of old).rooms.session (w.charge + 1) (omega (arith, room))
@@ -333,8 +322,7 @@ module _ (names : List (List ℕ)) (e : Edit) (old new : Session) (was is : Log)
         → StepsTo (Ok (Edits asks)) before behind faults count old new was is text refused
     block_steps text refused t =
         let is_verdict : verdict_on st (told (Ok (Edits asks)) h.answers t.answer) w ≡ loaded_verdict w asks t.answer (result_of names l) =
-        ap (λ (o : Option ℕ). verdict_if o (command_verdict st w (Edits asks) h.answers t.answer)) all_built
-        ∙ ap (λ (b : Bool). cond b (Err (refused_at 68 asks.line [])) (loaded_verdict w asks t.answer (loaded_files asks.loads h.answers))) has_room
+        ap (λ (b : Bool). cond b (Err (refused_at 68 asks.line [])) (loaded_verdict w asks t.answer (loaded_files asks.loads h.answers))) has_room
         ∙ ap (loaded_verdict w asks t.answer) h.comes in
         record {
           loads = h.answers;
@@ -343,9 +331,8 @@ module _ (names : List (List ℕ)) (e : Edit) (old new : Session) (was is : Log)
           cause = h.cause;
           limits = limits;
           right =
-              subst (λ (o : Option ℕ). IsRightIf o h.answers (IsRightBlock st w asks h.answers t.answer)) (sym all_built)
-              (subst (λ (b : Bool). MatchBool b (h.answers ≡ nothing) (IsRightEdit w asks h.answers t.answer)) (sym has_room)
-              (record { loaded = h.right; read = λ files is. t.read files (sym h.comes ∙ is) }));
+              subst (λ (b : Bool). MatchBool b (h.answers ≡ nothing) (IsRightEdit w asks h.answers t.answer)) (sym has_room)
+              (record { loaded = h.right; read = λ files is. t.read files (sym h.comes ∙ is) });
           done = subst (λ (v : Result World Refused). IsDone st (Ok (Edits asks)) w (world_in new is) v was is text refused) (sym is_verdict) t.done;
           beside = beside;
         }
@@ -401,7 +388,8 @@ given_short names command e is formed =
     unmapped names e.files (subst (λ (c : Command). IsFormed (spoken names c)) is formed)
 
 -- a command that looks at nothing outside
-module _ {E : Type 0} (names : List (List ℕ)) (command : Command) (asked : Asked) (answers : Option (List ShelfAnswer)) (faults : ℕ) (old new : Session)
+module _ {E : Type 0} (names : List (List ℕ)) (command : Command) (asked : Asked) (answers : Option (List ShelfAnswer)) (faults : ℕ)
+    (old new : Session)
     (was is : Log) (result : Result Reply E) (means : spoken names command ≡ asked) (limits : limits_of new ≡ limits_of old)
     (none : answers_to_command asked [] ≡ []) (right : (st : Settings) (w : World) → IsRight st w (told (Ok asked) [] no_answer))
     (beside : StandsBeside new is) where

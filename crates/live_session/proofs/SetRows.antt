@@ -33,12 +33,14 @@ put_within count (x ∷ xs) id value within lt =
         All-cons (λ (p : ℕ × ℕ). p.0 < count) x (put_number xs id value) (All-head (λ (p : ℕ × ℕ). p.0 < count) x xs within) more
 
 -- what is left gives what all gives
-pub record IsSetting (names : List (List ℕ)) (design : Spelled) (values : List PortValue) (start : List (ℕ × ℕ)) (i : ℕ) (row : List (ℕ × ℕ)) : Type 0 where
+pub record IsSetting (names : List (List ℕ)) (design : Spelled) (values : List PortValue) (start : List (ℕ × ℕ)) (i : ℕ)
+    (row : List (ℕ × ℕ)) : Type 0 where
   pub left : (line : ℕ) → set_row line design (row_of names row) (map (setting names) (drop i values))
       ≡ set_row line design (row_of names start) (map (setting names) values)
   pub within : AreWithin (length names) row
 
-module _ (names : List (List ℕ)) (once : HasEachOnce names) (design : Spelled) (values : List PortValue) (start row : List (ℕ × ℕ)) (i : ℕ) (d : PortValue)
+module _ (names : List (List ℕ)) (once : HasEachOnce names) (design : Spelled) (values : List PortValue) (start row : List (ℕ × ℕ)) (i : ℕ)
+    (d : PortValue)
     (below : i < length values) (h : IsSetting names design values start i row) (width : Option ℕ) where
   abbrev v : PortValue
   v = get_or values i d

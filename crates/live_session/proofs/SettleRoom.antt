@@ -12,7 +12,8 @@ use Rattle.live_session.proofs.ShownBeside.{IsCharged}
 use Rattle.live_session.proofs.StatusLines.{marks_there}
 
 module _ (names : List (List ℕ)) (r : Running) (j : Log) (runs : RunsIn r (outline_of j)) (marks links most least : ℕ) (passes : Option ℕ)
-    (counted : marks ≡ marks_in (book_in j)) (less : links ≡ marks - 1) (is_most : most ≡ unwrap_or passes links) (is_least : least ≡ min most links) where
+    (counted : marks ≡ marks_in (book_in j)) (less : links ≡ marks - 1) (is_most : most ≡ unwrap_or passes links)
+    (is_least : least ≡ min most links) where
   -- a link for each mark behind the first
   links_there : links ≡ length (marks_of j)
   links_there = omega (arith, counted, less, marks_there r (book_in j) runs)

@@ -14,7 +14,8 @@ use Rattle.cycle_eval.specs.declared.design.Design.{Design}
 use Rattle.module_registry.specs.Entries.{Entry}
 use Rattle.version_swap.specs.Behind.{design_of}
 use Rattle.live_session.specs.Beside.{RunsIn, Stands, settings_by}
-use Rattle.live_session.specs.Logs.{InputRow, Log, LogEvent, LogMoment, State, book_in, kit, marks_of, outline_of}
+use Rattle.live_session.specs.Kept.{IsKept}
+use Rattle.live_session.specs.Logs.{InputRow, Log, LogEvent, LogMoment, State, book_in, kit, marks_of, outline_of, valid}
 use Rattle.live_session.specs.Scripts.{Agrees}
 use Rattle.live_session.specs.Sessions.{world_of}
 use Rattle.live_session.specs.Settings.{Settings}
@@ -28,7 +29,7 @@ use Rattle.live_session.specs.declared.reply.Reply.{Reply}
 use Rattle.live_session.specs.declared.running.Running.{Running}
 use Rattle.live_session.proofs.ChargedShows.{has_room}
 use Rattle.live_session.proofs.Judged.{IsSameIn, entry_done}
-use Rattle.live_session.proofs.Standing.{Adds, IsLegal, StaysRun, agrees_in, any_valid, legal_behind, outline_behind, stands_left}
+use Rattle.live_session.proofs.Standing.{Adds, IsLegal, StaysRun, agrees_in, are_owned, legal_behind, outline_behind, stands_left}
 
 -- a show leaves the book
 shows_leave : (st : BookSettings) (answer : Option ℕ) (b : Option (Book Design State InputRow)) → apply kit st b (ShowsEvent answer) ≡ b
@@ -51,13 +52,14 @@ pub record IsCharged (names : List (List ℕ)) (r new : Running) (more : ℕ) : 
   pub world : (entries : List Entry) (grid : List ℕ) → world_of names entries grid new
       ≡ (let w = world_of names entries grid r in record w { charge = w.charge + more })
 
-module _ (names : List (List ℕ)) (once : HasEachOnce names) (limits : Limits) (r new : Running) (line : ℕ) (was is_now : Log)
-    (legal : IsLegal is_now) (stands : Stands limits (Some r) was) where
+module _ (names : List (List ℕ)) (once : HasEachOnce names) (limits : Limits) (r new : Running) (kept : IsKept names limits r) (line : ℕ)
+    (was is_now : Log) (legal : IsLegal is_now) (stands : Stands limits (Some r) was) where
   abbrev design : Spelled
   design = spelled names (design_of r.version.value.machine.value r.keys)
 
   -- the world behind entries that leave the outline
-  charged_world : (es : List LogEvent) (more : ℕ) → Adds was is_now es → ((o : Outline Design InputRow) → outline_from was.settings o es ≡ o) → IsCharged names r new more
+  charged_world : (es : List LogEvent) (more : ℕ) → Adds was is_now es → ((o : Outline Design InputRow) → outline_from was.settings o es ≡ o)
+      → IsCharged names r new more
       → (entries : List Entry) → world_of names entries (marks_of is_now) new
       ≡ (let w = world_of names entries (marks_of was) r in record w { charge = w.charge + more })
   charged_world es more adds leaves charge entries =
@@ -83,9 +85,9 @@ module _ (names : List (List ℕ)) (once : HasEachOnce names) (limits : Limits) 
         ∙ ap₂ (λ (x : World) (b : Option (Book Design State InputRow)). display_lines x prefix design answer (last_values b))
         (charge.world entries (marks_of was)) (book_shown was is_now answer adds) in
         entry_done st (Shows line prefix) names once w (world_of names entries (marks_of is_now) new) (charged st w line 1) reply was is_now
-        (ShowsEvent answer ∷ []) (ShowsEvent answer ∷ []) adds refl m refl next (has_room st w line 1 room)
+        (ShowsEvent answer ∷ []) (ShowsEvent answer ∷ []) adds (refl, tt) refl m refl next (has_room st w line 1 room)
         (charged_world (ShowsEvent answer ∷ []) 1 adds (λ (o : Outline Design InputRow). refl) charge entries)
-        (answer, refl) refl (agrees_in names once limits r was entries stands)
+        (answer, refl) refl (agrees_in names once limits r kept was entries stands)
         (λ (rest : List LogMoment). ap (λ (text : List ℕ). Some (text, rest)) (sym lines)) accepts
 
     pub show_stands : Stands limits (Some new) is_now
@@ -127,7 +129,8 @@ module _ (names : List (List ℕ)) (once : HasEachOnce names) (limits : Limits) 
           let st = settings_by limits was in
           let w = world_of names entries (marks_of was) r in
           let next : World = record w { charge = w.charge + more } in
-          let m : LogMoment = record { entry = ShowsEvent s.is_settle.answer; book = replay_from kit was.settings (book_in was) s.is_settle.passes } in
+          let m : LogMoment = record { entry = ShowsEvent s.is_settle.answer; book = replay_from kit was.settings (book_in was) s.is_settle.passes }
+          in
           let verdict : charged st w line (2 * min (passes_of w passes) (length w.grid) + 1) ≡ Ok next =
           ap (λ (n : ℕ). charged st w line (2 * min n (length w.grid) + 1)) (all entries) ∙ has_room st w line more room in
           let lines : reply.lines ≡ settle_text next s.is_settle.answer =
@@ -135,11 +138,12 @@ module _ (names : List (List ℕ)) (once : HasEachOnce names) (limits : Limits) 
           ∙ ap₂ (λ (x : World) (a : Option ℕ). settle_text x a) (charge.world entries (marks_of was)) (sym s.answers) in
           entry_done st (Settles line passes) names once w (world_of names entries (marks_of is_now) new)
           (charged st w line (2 * min (passes_of w passes) (length w.grid) + 1)) reply was is_now
-          s.own s.own adds (settle_owned most links s.own s.is_settle) m
+          s.own s.own adds (are_owned s.own (settle_owned most links s.own s.is_settle)) (settle_owned most links s.own s.is_settle) m
           (settle_moments kit was.settings (book_in was) most links s.own s.is_settle) next verdict
           (charged_world s.own more adds leaves charge entries) (settles entries) refl
-          (subst (Agrees w) (sym (settle_shows kit was.settings any_valid was.events most links s.own s.is_settle (legal_behind was is_now s.own adds legal)))
-          (agrees_in names once limits r was entries stands))
+          (subst (Agrees names w) (sym (settle_shows kit was.settings valid was.events most links s.own s.is_settle
+          (legal_behind was is_now s.own adds legal)))
+          (agrees_in names once limits r kept was entries stands))
           (λ (rest : List LogMoment). ap (λ (text : List ℕ). Some (text, rest)) (sym lines)) accepts
 
       pub settle_stands : Stands limits (Some new) is_now

@@ -1,10 +1,12 @@
 -- A session beside its book where entries come: what stands behind them.
-use Rattle.std.proofs.Common.{◌≡◌, ◌∙◌, ℕ, ◌+◌, ◌≤◌, false, List, [], ◌∷◌, ◌++◌, map, length, refl, sym, ap, ap₂, subst, arith, append-nil}
+use Rattle.std.proofs.Common.{◌≡◌, ◌∙◌, ℕ, ◌+◌, ◌≤◌, Bool, true, false, cond, List, [], ◌∷◌, ◌++◌, map, drop, length, refl, sym, ap, ap₂, subst, arith, append-nil}
 use Rattle.std.specs.Prelude.{Option, Some, None}
+use Rattle.std.specs.List.{All}
 use Rattle.ls_text.specs.Texts.{HasEachOnce}
 use Rattle.book_history.specs.Book.{Settings as BookSettings, replay}
 use Rattle.book_history.specs.Legal.{Legal}
 use Rattle.book_history.specs.Outline.{Outline, outline_from, outline_in}
+use Rattle.book_history.specs.Owned.{AllOwned, is_owned, owned}
 use Rattle.book_history.specs.Rooms.{Counts, count_all, no_entry}
 use Rattle.book_history.proofs.Outlines.{outline_more}
 use Rattle.book_settle.specs.Counted.{with_more}
@@ -14,20 +16,42 @@ use Rattle.module_registry.specs.Entries.{Entry}
 use Rattle.stimulus.specs.Records.{rows_of}
 use Rattle.version_swap.specs.Behind.{design_of}
 use Rattle.live_session.specs.Beside.{RunsIn, Stands}
-use Rattle.live_session.specs.Logs.{InputRow, Log, LogEvent, Ops, kit, marks_of, outline_of}
+use Rattle.live_session.specs.Kept.{IsKept}
+use Rattle.live_session.specs.Logs.{InputRow, Log, LogEvent, kit, marks_of, outline_of, valid}
 use Rattle.live_session.specs.Rows.{row_of}
 use Rattle.live_session.specs.Scripts.{Agrees, IsCurrent}
 use Rattle.live_session.specs.Sessions.{world_of}
 use Rattle.live_session.specs.Spelled.{spelled}
 use Rattle.live_session.specs.declared.limits.Limits.{Limits}
 use Rattle.live_session.specs.declared.running.Running.{Running}
-
--- what operations are valid: all
-abbrev pub any_valid : Design → Design → Ops → Type 0
-any_valid old new ops = Unit {0}
+use Rattle.live_session.proofs.AscendingRows.{AreWithin}
+use Rattle.live_session.proofs.DesignNames.{runs_within}
 
 abbrev pub IsLegal : Log → Type 0
-IsLegal j = Legal kit any_valid j.settings j.events
+IsLegal j = Legal kit valid j.settings j.events
+
+-- ---- entries of the session alone
+
+owned_short : (es : List LogEvent) → length (owned es) ≤ length es
+owned_short [] = omega arith
+owned_short (e ∷ es) =
+    by (is_owned e) (owned_short es)
+  where
+    by : (own : Bool) → length (owned es) ≤ length es → length (cond own (e ∷ owned es) (owned es)) ≤ length (e ∷ es)
+    by true short = omega (arith, short)
+    by false short = omega (arith, short)
+
+pub are_owned : (es : List LogEvent) → owned es ≡ es → AllOwned true es
+are_owned [] same = tt
+are_owned (e ∷ es) same =
+    by (is_owned e) refl same (owned_short es) (are_owned es)
+  where
+    by : (own : Bool) → is_owned e ≡ own → cond own (e ∷ owned es) (owned es) ≡ e ∷ es → length (owned es) ≤ length es
+        → (owned es ≡ es → AllOwned true es) → (is_owned e ≡ true) × AllOwned true es
+    by true is same short more = (is, more (ap (drop 1) same))
+    by false is same short more = absurd (omega (arith, ap length same, short))
+
+-- ---- what stands behind entries
 
 -- a history that goes on with these entries
 pub record Adds (was is : Log) (es : List LogEvent) : Type 0 where
@@ -35,15 +59,15 @@ pub record Adds (was is : Log) (es : List LogEvent) : Type 0 where
   pub events : is.events ≡ was.events ++ es
 
 module _ (was is : Log) (es : List LogEvent) (adds : Adds was is es) where
-  pub legal_behind : IsLegal is → Legal kit any_valid was.settings (was.events ++ es)
+  pub legal_behind : IsLegal is → Legal kit valid was.settings (was.events ++ es)
   legal_behind legal =
-      subst (λ (h : List LogEvent). Legal kit any_valid was.settings h) adds.events
-      (subst (λ (st : BookSettings). Legal kit any_valid st is.events) adds.settings legal)
+      subst (λ (h : List LogEvent). Legal kit valid was.settings h) adds.events
+      (subst (λ (st : BookSettings). Legal kit valid st is.events) adds.settings legal)
 
   pub outline_behind : IsLegal is → outline_of is ≡ outline_from was.settings (outline_of was) es
   outline_behind legal =
       ap₂ (λ (st : BookSettings) (h : List LogEvent). outline_in (replay kit st h)) adds.settings adds.events
-      ∙ outline_more kit any_valid was.settings was.events es (legal_behind legal)
+      ∙ outline_more kit valid was.settings was.events es (legal_behind legal)
 
   counts_behind : count_all no_entry is.events ≡ count_all (count_all no_entry was.events) es
   counts_behind = ap (count_all no_entry) adds.events ∙ count-append no_entry was.events es
@@ -74,16 +98,18 @@ stands_still limits old new j runs charge stands = record {
 }
 
 -- the book is as the world of what runs
-pub agrees_in : (names : List (List ℕ)) → HasEachOnce names → (limits : Limits) (r : Running) (j : Log) (entries : List Entry) → Stands limits (Some r) j
-    → Agrees (world_of names entries (marks_of j) r) (outline_of j)
-agrees_in names once limits r j entries stands = record {
-  names = names;
-  once = once;
+pub agrees_in : (names : List (List ℕ)) → HasEachOnce names → (limits : Limits) (r : Running) → IsKept names limits r
+    → (j : Log) (entries : List Entry)
+    → Stands limits (Some r) j → Agrees names (world_of names entries (marks_of j) r) (outline_of j)
+agrees_in names once limits r kept j entries stands = record {
   version = stands.outline.version;
   machine =
       subst (IsCurrent names (Some (spelled names (design_of r.version.value.machine.value r.keys)))) (sym stands.outline.machine)
-      (record { keys = r.keys; is = refl });
-  rows = ap (map (row_of names)) stands.outline.rows;
+      (record { keys = r.keys; is = refl; within = runs_within names once r kept.plans });
+  rows = record {
+    are = ap (map (row_of names)) stands.outline.rows;
+    within = subst (All (AreWithin (length names))) (sym stands.outline.rows) kept.named.rows;
+  };
   marks = refl;
 }
 

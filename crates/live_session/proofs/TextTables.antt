@@ -1,6 +1,6 @@
 -- A design without names runs as with them, its table is that of the names' texts, and its inputs are those that these texts call.
 use Rattle.std.proofs.Common.{◌≡◌, ◌∙◌, ℕ, zero, suc, ◌+◌, ◌<◌, Bool, eqb, cond, List, [], ◌∷◌, ◌++◌, map, length, All, refl, sym, ap, ap₂, arith}
-use Rattle.std.specs.Prelude.{Option, Some, Ok, slice_index, slice_index_or}
+use Rattle.std.specs.Prelude.{Option, Some, Ok, codes, slice_index, slice_index_or}
 use Rattle.std.proofs.Math.Logic.{∥∥₁_elim}
 use Rattle.std.proofs.Math.Path.{fun_ext}
 use Rattle.std.proofs.Props.{props}
@@ -12,14 +12,14 @@ use Rattle.stimulus.specs.Rows.{value_in}
 use Rattle.typed_ir.specs.Cycles.{Signal, Flat, width_at, cut_to, input, reset, seg, step, truth, wires}
 use Rattle.typed_ir.specs.Orders.{at_or}
 use Rattle.cycle_eval.specs.Inputs.{own_name, name_at, input_names, row_values, values_at, width_among, input_width_of}
-use Rattle.version_swap.specs.OnePlan.{nameless, last_text, own_text}
+use Rattle.version_swap.specs.OnePlan.{nameless, last_text, own_text, path_texts}
 use Rattle.version_swap.specs.Plans.{DesignOfTexts, Plans}
 use Rattle.version_swap.proofs.FlatAlike.{IsSignalIn}
 use Rattle.version_swap.proofs.PlanNames.{HasNames, IsCalled, plan_names}
 use Rattle.wave_report.specs.Tables.{joined, shown_line, signal_line, signal_lines, table_text}
 use Rattle.live_session.specs.Tables.{table_lines, true_registers}
 use Rattle.live_session.specs.Rows.{given_at, row_of, value_of}
-use Rattle.live_session.specs.Spelled.{nameless_flat, spelled, input_texts}
+use Rattle.live_session.specs.Spelled.{dotted, nameless_flat, spelled, input_texts}
 use Rattle.live_session.specs.Verdicts.{width_in, input_width}
 use Rattle.live_session.proofs.AscendingRows.{AreWithin}
 use Rattle.live_session.proofs.TextRows.{same_text, row_look}
@@ -61,12 +61,18 @@ truth_spelled d rows c = same_seg d rows 0 c (reset (nameless_flat d)) ∙ ap (s
 
 -- ---- tables
 
+-- a path as it is written
+joined_dotted : (names : List (List ℕ)) (path : List ℕ) → joined names path ≡ dotted (map (text_at names) path)
+joined_dotted names [] = refl
+joined_dotted names (n ∷ []) = refl
+joined_dotted names (n ∷ m ∷ ns) = ap (λ (t : List ℕ). text_at names n ++ (codes "." ++ t)) (joined_dotted names (m ∷ ns))
+
 -- the line of a register
 same_line : (names : List (List ℕ)) (prefix : List ℕ) (value : ℕ) (xs : List Signal) (r : ℕ)
     → at_or (signal_line names prefix value) [] xs r
-    ≡ at_or (λ (path : List ℕ). shown_line prefix path (slice_index (widths xs) r) value) [] (map (λ (x : Signal). joined names x.path) xs) r
+    ≡ at_or (λ (path : List (List ℕ)). shown_line prefix (dotted path) (slice_index (widths xs) r) value) [] (map (path_texts names) xs) r
 same_line names prefix value [] r = refl
-same_line names prefix value (x ∷ xs) zero = refl
+same_line names prefix value (x ∷ xs) zero = ap (λ (path : List ℕ). shown_line prefix path x.width value) (joined_dotted names x.path)
 same_line names prefix value (x ∷ xs) (suc r) = same_line names prefix value xs r
 
 same_lines : (names : List (List ℕ)) (prefix : List ℕ) (d : DesignOfTexts) (rs values : List ℕ)
@@ -76,7 +82,7 @@ same_lines names prefix d (r ∷ rs) [] = refl
 same_lines names prefix d (r ∷ rs) (x ∷ xs) =
     ap₂ (λ (a b : List ℕ). a ++ b)
     (same_line names prefix x d.design.signals r
-    ∙ ap (λ (ws : List ℕ). at_or (λ (path : List ℕ). shown_line prefix path (slice_index ws r) x) [] (spelled names d).paths r)
+    ∙ ap (λ (ws : List ℕ). at_or (λ (path : List (List ℕ)). shown_line prefix (dotted path) (slice_index ws r) x) [] (spelled names d).paths r)
     (sym (same_widths d.design.signals)))
     (same_lines names prefix d rs xs)
 
@@ -88,12 +94,12 @@ table_spelled names d values prefix = same_lines names prefix d d.design.registe
 -- ---- the names of inputs
 
 -- a text of its own is that of the last name
-last_named : (names : List (List ℕ)) (path : List ℕ) → 0 < length path → last_text names path ≡ text_at names (own_name path)
+pub last_named : (names : List (List ℕ)) (path : List ℕ) → 0 < length path → last_text names path ≡ text_at names (own_name path)
 last_named names [] some = absurd (omega (arith, some))
 last_named names (n ∷ []) some = refl
 last_named names (n ∷ m ∷ ns) some = last_named names (m ∷ ns) (omega arith)
 
-last_within : (count : ℕ) (path : List ℕ) → 0 < length path → All (λ (n : ℕ). n < count) path → own_name path < count
+pub last_within : (count : ℕ) (path : List ℕ) → 0 < length path → All (λ (n : ℕ). n < count) path → own_name path < count
 last_within count [] some all = absurd (omega (arith, some))
 last_within count (n ∷ []) some all = All-head (λ (m : ℕ). m < count) n [] all
 last_within count (n ∷ m ∷ ns) some all = last_within count (m ∷ ns) (omega arith) (All-tail (λ (k : ℕ). k < count) n (m ∷ ns) all)

@@ -32,3 +32,5 @@ pub mod ShownFault
 pub mod TwoPlans
 pub mod PlansAreOne
 pub mod PlanNames
+pub mod RefusedOperations
+pub mod CheckedEdits

@@ -7,7 +7,7 @@ use Rattle.ls_text.specs.declared.fault.Fault.{Fault}
 use Rattle.ls_text.specs.declared.name_id.NameId.{NameId}
 use Rattle.ls_text.specs.declared.refusal.Refusal.TheVariants as refusal
 use Rattle.ls_text.specs.Readings.{TextFault, fault_view}
-use Rattle.ls_text.specs.Texts.{Grows}
+use Rattle.ls_text.specs.Texts.{Grows, text_at}
 use Rattle.ls_text.proofs.Growth.{grown_text}
 use Rattle.typed_ir.specs.declared.span.Span.{Span}
 use Rattle.typed_ir.specs.declared.target_form.TargetForm.{TargetForm}
@@ -42,6 +42,20 @@ path_spelled f texts others [] same = refl
 path_spelled f texts others (n ∷ []) same = same (record { 0 = n })
 path_spelled f texts others (n ∷ m ∷ path) same =
     ap₂ (λ (text more : List ℕ). text ++ (codes "." ++ more)) (same (record { 0 = n })) (path_spelled f texts others (m ∷ path) same)
+
+pub names_grown : (old new : List (List ℕ)) (path : List ℕ) → Grows old new → All (λ (n : ℕ). n < length old) path
+    → map (text_at new) path ≡ map (text_at old) path
+names_grown old new [] grows within = refl
+names_grown old new (n ∷ path) grows within =
+    let P = λ (k : ℕ). k < length old in
+    ap₂ (λ (text : List ℕ) (more : List (List ℕ)). text ∷ more) (grown_text old new n grows (All-head P n path within))
+    (names_grown old new path grows (All-tail P n path within))
+
+pub names_spelled : (f : NameId → NameId) (texts others : List (List ℕ)) (path : List ℕ) → SpellsSame f texts others
+    → map (text_at others) (map (number_as f) path) ≡ map (text_at texts) path
+names_spelled f texts others [] same = refl
+names_spelled f texts others (n ∷ path) same =
+    ap₂ (λ (text : List ℕ) (more : List (List ℕ)). text ∷ more) (same (record { 0 = n })) (names_spelled f texts others path same)
 
 pub own_grown : (old new : List (List ℕ)) (path : List ℕ) → Grows old new → All (λ (n : ℕ). n < length old) path
     → last_text new path ≡ last_text old path

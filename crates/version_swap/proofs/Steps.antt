@@ -5,7 +5,7 @@ use Rattle.std.specs.declared.sync.Arc.{Arc}
 use Rattle.std.proofs.lemmas.List.{append-nil, take-append-le}
 use Rattle.std.proofs.Math.Path.{fun_ext}
 use Rattle.std.proofs.Math.Seq.{take-length}
-use Rattle.std.proofs.lemmas.List.Elements.{All-nil, All-cons, All-head, All-tail}
+use Rattle.std.proofs.lemmas.List.Elements.{All-nil, All-cons, All-head, All-tail, All-weaker}
 use Rattle.ls_text.specs.declared.at.At.{At}
 use Rattle.ls_text.specs.declared.at.At.TheVariants.{Edit}
 use Rattle.ls_text.specs.declared.fault.Fault.{Fault}
@@ -43,6 +43,7 @@ use Rattle.version_swap.proofs.Firsts.{first_of_jobs, jobs_behind, texts_behind,
 use Rattle.version_swap.proofs.ShownUnits.{design_shows, units_show}
 use Rattle.version_swap.proofs.Linked.{are_under, jobs_under, units_stand, HasDesign, has_design}
 use Rattle.unit_laws.proofs.EnsuredUnits.{each_given, first_fault}
+use Rattle.unit_laws.proofs.GrownJobs.{grown_under}
 use Rattle.unit_laws.proofs.GrownTexts.{text_kept}
 use Rattle.unit_laws.proofs.HeldUnits.{ensured_held}
 
@@ -79,7 +80,7 @@ first_held es new ks is = begins_ensured es new (missing (keys_of es) ks) (built
 
 -- ---- keys under a table that has grown
 
-keys_grown : (old new : List (List ℕ)) (grows : Grows old new) (ks : List KeyData) → All (IsKeyUnder old) ks → All (IsJobUnder old) (jobs_of ks)
+pub keys_grown : (old new : List (List ℕ)) (grows : Grows old new) (ks : List KeyData) → All (IsKeyUnder old) ks → All (IsJobUnder old) (jobs_of ks)
     → All (IsKeyUnder new) ks
 keys_grown old new grows [] keys jobs = All-nil (IsKeyUnder new)
 keys_grown old new grows (k ∷ ks) keys jobs =
@@ -130,6 +131,11 @@ module _ {words : List (List ℕ)} {files : List SourceFile} {name : Option Name
 
   pub keyed : (names : List (List ℕ)) → Grows words names → All (IsKeyUnder names) first
   keyed names grows = keys_grown words names grows first first_under first_jobs_under
+
+  pub jobs_keyed : (names : List (List ℕ)) → Grows words names → All (IsJobUnder names) (jobs_of first)
+  jobs_keyed names grows =
+      All-weaker (IsJobUnder words) (IsJobUnder names) (λ (job : BuildJob) (is : IsJobUnder words job). grown_under words names job grows is)
+      (jobs_of first) first_jobs_under
 
   -- what a forge made
   made_those : (held : List KeyData) (before after : List BuildJob) (slice : List KeyData) → slice ≡ first

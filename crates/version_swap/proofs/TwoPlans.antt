@@ -45,7 +45,7 @@ use Rattle.link.specs.Names.{node_text}
 use Rattle.cycle_eval.specs.Kits.{register_widths}
 use Rattle.version_swap.specs.FirstKeys.{first_jobs}
 use Rattle.version_swap.specs.Founds.{AreModules, IsReadFault, at_text, at_grammar, IsTop, HasModules, AreFound}
-use Rattle.version_swap.specs.OnePlan.{file_text as text, IsSameName, IsSameTop, IsSameDesign, nameless, path_text, own_text, module_text}
+use Rattle.version_swap.specs.OnePlan.{file_text as text, IsSameName, IsSameTop, IsSameDesign, nameless, path_texts, own_text, module_text}
 use Rattle.version_swap.specs.Plans.{AreCopies}
 use Rattle.version_swap.specs.Texts.{file_tokens}
 use Rattle.version_swap.proofs.AlikeModules.{itself, name_same, tokens_same, declarations_same, spellings_same, modules_stay}
@@ -55,7 +55,7 @@ use Rattle.version_swap.proofs.GrownCopies.{copies_grown}
 use Rattle.version_swap.proofs.GrownFirsts.{first_grown, first_under, texts_grown}
 use Rattle.version_swap.proofs.GrownFound.{FoundIn, tokens_of, found_here, found_grown}
 use Rattle.version_swap.proofs.JointTable.{Joint, begins_once, grows_none, joint}
-use Rattle.version_swap.proofs.LinkAlike.{path_grown, path_spelled, own_grown, own_spelled, node_grown, node_spelled, one_fault, not_linked}
+use Rattle.version_swap.proofs.LinkAlike.{names_grown, names_spelled, own_grown, own_spelled, node_grown, node_spelled, one_fault, not_linked}
 use Rattle.version_swap.proofs.MovedNames.{moved, IsBelow, stay, moved_apart, shown_below, view_grown, view_spelled}
 use Rattle.version_swap.proofs.NamedTokens.{are_tokens}
 use Rattle.version_swap.proofs.ShownFault.{same_view}
@@ -391,10 +391,10 @@ module _ (names others : List (List ℕ)) (files again : List SourceFile) (once 
       nameless_as [] = refl
       nameless_as (x ∷ xs) = ap (λ (ys : List Signal). nameless x ∷ ys) (nameless_as xs)
 
-      paths_as : (xs : List Signal) → map (path_text j.table) (map (unit_signal_as j.name) xs) ≡ map (path_text others) xs
+      paths_as : (xs : List Signal) → map (path_texts j.table) (map (unit_signal_as j.name) xs) ≡ map (path_texts others) xs
       paths_as [] = refl
       paths_as (x ∷ xs) =
-          ap₂ (λ (t : List ℕ) (ts : List (List ℕ)). t ∷ ts) (path_spelled j.name others j.table x.path j.spells) (paths_as xs)
+          ap₂ (λ (t : List (List ℕ)) (ts : List (List (List ℕ))). t ∷ ts) (names_spelled j.name others j.table x.path j.spells) (paths_as xs)
 
       own_as : (xs : List Signal) → map (own_text j.table) (map (unit_signal_as j.name) xs) ≡ map (own_text others) xs
       own_as [] = refl
@@ -407,10 +407,11 @@ module _ (names others : List (List ℕ)) (files again : List SourceFile) (once 
           ap₂ (λ (t : List ℕ) (ts : List (List ℕ)). t ∷ ts) (j.spells (record { 0 = x.in_module })) (modules_as xs)
 
       paths_grown : (table : List (List ℕ)) → Grows words table → (xs : List Signal) → All (IsSignalIn words) xs
-          → map (path_text table) xs ≡ map (path_text words) xs
+          → map (path_texts table) xs ≡ map (path_texts words) xs
       paths_grown table grown [] within = refl
       paths_grown table grown (x ∷ xs) within =
-          ap₂ (λ (t : List ℕ) (ts : List (List ℕ)). t ∷ ts) (path_grown words table x.path grown (All-head (IsSignalIn words) x xs within).path)
+          ap₂ (λ (t : List (List ℕ)) (ts : List (List (List ℕ))). t ∷ ts)
+          (names_grown words table x.path grown (All-head (IsSignalIn words) x xs within).path)
           (paths_grown table grown xs (All-tail (IsSignalIn words) x xs within))
 
       own_texts_grown : (table : List (List ℕ)) → Grows words table → (xs : List Signal) → All (IsSignalIn words) xs
@@ -438,7 +439,7 @@ module _ (names others : List (List ℕ)) (files again : List SourceFile) (once 
         signals = ap (map nameless) signals_so ∙ nameless_as (flat rest).signals;
         paths = paths_grown names grows (flat copies).signals signals_here
             ∙ sym (paths_grown j.table grows_to (flat copies).signals signals_here)
-            ∙ ap (map (path_text j.table)) signals_so ∙ paths_as (flat rest).signals;
+            ∙ ap (map (path_texts j.table)) signals_so ∙ paths_as (flat rest).signals;
         own = own_texts_grown names grows (flat copies).signals signals_here
             ∙ sym (own_texts_grown j.table grows_to (flat copies).signals signals_here)
             ∙ ap (map (own_text j.table)) signals_so ∙ own_as (flat rest).signals;

@@ -52,11 +52,12 @@ pub data IsEditFault (names : List (List ℕ)) (files : List SourceFile) (top : 
   -- a fault of the files
   in_files : {f : TextFault} → Plans names files top clock (Err f) → IsEditFault names files top clock old lines f
   -- 50 to 55, where the files have a design
-  at_operation : {design : Design} {keys : List KeyData} {refused : RefusedOperation} → Plans names files top clock (Ok (design_of design keys))
+  at_operation : (design : Design) (keys : List KeyData) {refused : RefusedOperation} → Plans names files top clock (Ok (design_of design keys))
       → first_refused old design lines ≡ Some refused → IsEditFault names files top clock old lines (operation_fault names lines refused)
 
 -- the first fault of the edit, or want of memory
-abbrev pub IsEditRefusal : (names : List (List ℕ)) → List SourceFile → Option NameId → (clock : NameId) → Option Design → List OpLine → Refusal → Type 0
+abbrev pub IsEditRefusal : (names : List (List ℕ)) → List SourceFile → Option NameId → (clock : NameId) → Option Design → List OpLine → Refusal
+    → Type 0
 IsEditRefusal names files top clock old lines (refusal.Fault f) = IsEditFault names files top clock old lines (fault_view names f)
 IsEditRefusal names files top clock old lines refusal.NoMemory = ⊤
 

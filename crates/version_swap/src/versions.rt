@@ -5,6 +5,7 @@ ghost use Rattle.std.specs.Global.{Global};
 ghost use Rattle.std.specs.declared.sync.Arc.{Arc};
 ghost use Rattle.ls_text.specs.Readings.{CanShow};
 ghost use Rattle.ls_text.specs.Texts.{Grows};
+ghost use Rattle.ls_text.specs.declared.refusal.Refusal.{Refusal};
 ghost use Rattle.unit_ir.specs.declared.unit.Unit.{Unit as ModuleUnit};
 ghost use Rattle.unit_ir.specs.Shapes.{AreOf};
 ghost use Rattle.link.specs.Listings.{all_parts};
@@ -15,6 +16,7 @@ ghost use Rattle.module_registry.specs.Views.{entries_of};
 ghost use Rattle.unit_build.specs.Building.{built};
 ghost use Rattle.cycle_eval.specs.Designs.{design_flat};
 ghost use Rattle.unit_laws.specs.Held.{AreHeldUnder, AreUnder, IsKeyUnder};
+ghost use Rattle.unit_laws.specs.JobsUnder.{IsJobUnder};
 ghost use Rattle.version_swap.specs.Behind.{design_of};
 ghost use Rattle.version_swap.specs.DesignFaults.{IsDesignOfUnits, IsRefusedOfUnits};
 ghost use Rattle.version_swap.specs.Made.{MadeBehind};
@@ -72,11 +74,15 @@ pub fn version<R, F: Forge<R>>(
     ensures refused { IfErr result (IsPlanRefusal names.new files.now top clock) }
     ensures known { IfErr result (CanShow (length names.new)) }
     ensures keyed { IfOk result (λ v. All (IsKeyUnder names.new) v.keys.items) }
+    ensures jobs { IfOk result (λ v. All (IsJobUnder names.new) (jobs_of v.keys.items)) }
     ensures held { AreHeldUnder names.new (entries_of registry.new) }
     ensures ensured { IfOk result (λ v. ensured built (entries_of registry.old) v.keys.items ≡ Ok (entries_of registry.new)) }
     ensures stays { OnErr result (entries_of registry.new ≡ entries_of registry.old) }
     ensures made { IfOk result (λ v. F.made forge.new ≡ F.made forge.old ++ jobs_of (missing (keys_of (entries_of registry.old)) v.keys.items)) }
     ensures made_behind { IfErr result (MadeBehind files.now top clock (keys_of (entries_of registry.old)) (F.made forge.old) (F.made forge.new)) }
+    // Where a later step refuses the version, these are those that were made.
+    ensures made_before { IfOk result (λ _. (refusal : Refusal) → MadeBehind files.now top clock (keys_of (entries_of registry.old))
+        (F.made forge.old) (F.made forge.new) refusal) }
     ensures built { IfOk result (λ v. v.counts.built ≡ length (missing (keys_of (entries_of registry.old)) v.keys.items)) }
     ensures kept { IfOk result (λ v. v.counts.kept + v.counts.built ≡ length v.keys.items) }
     ensures grows { Grows names.old names.new }

@@ -13,6 +13,6 @@ pub returns-clause-world : goal.returns-clause-world
 returns-clause-world c st w ts us rest others p q same begun =
     (one_output c.texts_have_one_answer.ensures st ts us w rest others p q same begun).world
 
-pub returns-clause-worlds : goal.returns-clause-worlds
-returns-clause-worlds c st w ts us rest others p q same begun =
-    (one_output c.texts_have_one_answer.ensures st ts us w rest others p q same begun).places
+pub returns-clause-scripts : goal.returns-clause-scripts
+returns-clause-scripts c st w ts us rest others p q same begun es ms is =
+    (one_output c.texts_have_one_answer.ensures st ts us w rest others p q same begun).scripts es ms is

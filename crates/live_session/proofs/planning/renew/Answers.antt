@@ -1,7 +1,9 @@
 use Rattle.std.proofs.Common.{ℕ, length, subst, ap}
 use Rattle.std.specs.Prelude.{OnErr}
+use Rattle.ls_text.specs.Readings.{fault_view}
 use Rattle.module_registry.specs.Views.{entries_of}
 use Rattle.unit_laws.proofs.HeldUnits.{grown_held}
+use Rattle.version_swap.specs.Operations.{ops_of}
 use Rattle.version_swap.proofs.Short.{short_behind}
 use Rattle.version_swap.specs.declared.texts.Texts.{Texts}
 use Rattle.live_session.specs.Begins.{LosesLine}
@@ -10,7 +12,7 @@ use Rattle.live_session.specs.Logs.{marks_of}
 use Rattle.live_session.specs.Sessions.{world_of}
 use Rattle.live_session.proofs.BlockTexts.{asks_clock, asks_top, sources_within}
 use Rattle.live_session.proofs.Growing.{kept_grown}
-use Rattle.live_session.proofs.Renewing.{behind_running, held_by, kept_by, loses_by, nothing_by, nothing_taken, refusal_goes_on, refused_by, takes_by}
+use Rattle.live_session.proofs.Renewing.{behind_running, held_by, kept_by, loses_by, nothing_by, nothing_taken, refused_by, takes_by}
 use Rattle.live_session.proofs.planning.renew.Goals as goal
 
 pub plan-planned-requires-clause-top : goal.plan-planned-requires-clause-top
@@ -46,7 +48,7 @@ returns-in-Ok-clause-takes g c =
     c.requires.given c.requires.loaded in
     takes_by old new grows c.has_each_once.ensures c.has_each_once-2.ensures e loaded c.requires.edit c.requires.named c.args.limits r c.requires.kept es
     c.args.book.now c.requires.stands p.texts p.design p.keys p.built p.kept is.texts is.planned is.keyed _ (entries_of c.plan-planned.new.registry)
-    (grown_held old new es grows c.requires.held) is.ensured is.built is.kept c.requires.ops short c.requires.room
+    (grown_held old new es grows c.requires.held) is.ensured is.built is.kept is.valid short c.requires.room
     (entries_of c.accepted.new.registry) c.accepted.new.running c.accepted.new.book c.accepted.result c.accepted.ensures.kept c.accepted.ensures.says
 
 pub returns-in-Ok-clause-loses : goal.returns-in-Ok-clause-loses
@@ -64,10 +66,10 @@ returns-in-Ok-clause-loses g c =
     c.requires.given c.requires.loaded in
     loses_by old new grows c.has_each_once.ensures c.has_each_once-2.ensures e loaded c.requires.edit c.requires.named c.args.limits r c.requires.kept es
     c.args.book.now c.requires.stands p.texts p.design p.keys p.built p.kept is.texts is.planned is.keyed _ (entries_of c.plan-planned.new.registry)
-    (grown_held old new es grows c.requires.held) is.ensured is.built is.kept c.requires.ops short c.requires.room
+    (grown_held old new es grows c.requires.held) is.ensured is.built is.kept is.valid short c.requires.room
     (entries_of c.accepted.new.registry) c.accepted.new.running c.accepted.new.book c.accepted.result
-    (subst (λ (n : ℕ). OnErr c.accepted.result (LosesLine p.texts p.design p.keys n (entries_of c.plan-planned.new.registry) (entries_of c.accepted.new.registry)
-    r c.accepted.new.running c.args.book.now c.accepted.new.book)) c.len-held.ensures.count c.accepted.ensures.loses)
+    (subst (λ (n : ℕ). OnErr c.accepted.result (LosesLine (ops_of e.ops) p.texts p.design p.keys n (entries_of c.plan-planned.new.registry)
+    (entries_of c.accepted.new.registry) r c.accepted.new.running c.args.book.now c.accepted.new.book)) c.len-held.ensures.count c.accepted.ensures.loses)
 
 pub returns-in-Ok-clause-kept : goal.returns-in-Ok-clause-kept
 returns-in-Ok-clause-kept g c =
@@ -84,17 +86,17 @@ returns-in-Ok-clause-kept g c =
     c.requires.given c.requires.loaded in
     kept_by old new grows c.has_each_once.ensures c.has_each_once-2.ensures e loaded c.requires.edit c.requires.named c.args.limits r c.requires.kept es
     c.args.book.now c.requires.stands p.texts p.design p.keys p.built p.kept is.texts is.planned is.keyed _ (entries_of c.plan-planned.new.registry)
-    (grown_held old new es grows c.requires.held) is.ensured is.built is.kept c.requires.ops short c.requires.room
+    (grown_held old new es grows c.requires.held) is.ensured is.built is.kept is.valid short c.requires.room
     (entries_of c.accepted.new.registry) c.accepted.new.running c.accepted.new.book c.accepted.result c.accepted.ensures.says
-    (subst (λ (n : ℕ). OnErr c.accepted.result (LosesLine p.texts p.design p.keys n (entries_of c.plan-planned.new.registry) (entries_of c.accepted.new.registry)
-    r c.accepted.new.running c.args.book.now c.accepted.new.book)) c.len-held.ensures.count c.accepted.ensures.loses)
+    (subst (λ (n : ℕ). OnErr c.accepted.result (LosesLine (ops_of e.ops) p.texts p.design p.keys n (entries_of c.plan-planned.new.registry)
+    (entries_of c.accepted.new.registry) r c.accepted.new.running c.args.book.now c.accepted.new.book)) c.len-held.ensures.count c.accepted.ensures.loses)
 
 pub returns-in-Ok-clause-held : goal.returns-in-Ok-clause-held
 returns-in-Ok-clause-held g c =
     let p = c.in-Ok.planned in
-    held_by c.plan-planned.new.names c.len-held.result (entries_of c.plan-planned.new.registry) (entries_of c.accepted.new.registry) p.texts p.design p.keys
-    c.args.running.now c.accepted.new.running c.args.book.now c.accepted.new.book c.accepted.result c.plan-planned.ensures.held c.accepted.ensures.kept
-    c.accepted.ensures.loses
+    held_by (ops_of c.args.edit.now.ops) c.plan-planned.new.names c.len-held.result (entries_of c.plan-planned.new.registry)
+    (entries_of c.accepted.new.registry) p.texts p.design p.keys c.args.running.now c.accepted.new.running c.args.book.now c.accepted.new.book
+    c.accepted.result c.plan-planned.ensures.held c.accepted.ensures.kept c.accepted.ensures.loses
 
 pub returns-in-Err-NoMemory-clause-loses : goal.returns-in-Err-NoMemory-clause-loses
 returns-in-Err-NoMemory-clause-loses g c =
@@ -118,17 +120,8 @@ returns-in-Err-Fault-clause-takes g c =
     let was = c.args.book.now in
     refused_by old new c.plan-planned.ensures.grows c.has_each_once.ensures c.has_each_once-2.ensures c.args.edit.now c.args.loaded.now c.requires.edit
     c.requires.named c.args.limits r c.requires.kept (entries_of c.args.registry.now) was c.requires.stands
-    (settings_by c.args.limits was) (entries_of c.plan-planned.new.registry) c.in-Err-Fault.ensures.stays c.refused.result c.refused.ensures
-
-pub returns-in-Err-Fault-clause-goes_on : goal.returns-in-Err-Fault-clause-goes_on
-returns-in-Err-Fault-clause-goes_on g c =
-    let old = c.args.names.now in
-    let new = c.plan-planned.new.names in
-    let r = c.args.running.now in
-    let was = c.args.book.now in
-    refusal_goes_on old new c.plan-planned.ensures.grows c.has_each_once.ensures c.has_each_once-2.ensures c.args.edit.now c.args.loaded.now c.requires.edit
-    c.requires.named c.args.limits r c.requires.kept (entries_of c.args.registry.now) was c.requires.stands
-    c.refused.result c.refused.ensures
+    (settings_by c.args.limits was) (fault_view new c.in-Err-Fault.fault) (entries_of c.plan-planned.new.registry) c.in-Err-Fault.ensures.stays
+    c.in-Err-Fault.ensures.refused c.refused.result c.refused.ensures
 
 pub returns-in-Err-Fault-clause-loses : goal.returns-in-Err-Fault-clause-loses
 returns-in-Err-Fault-clause-loses g c =

@@ -8,7 +8,7 @@ use Rattle.unit_laws.proofs.HeldUnits.{grown_held, same_held}
 use Rattle.version_swap.specs.Made.{MadeBehind, no_more}
 use Rattle.version_swap.specs.Plans.{IsPlanRefusal}
 use Rattle.version_swap.proofs.Handed.{all_err, handed}
-use Rattle.version_swap.proofs.Steps.{has_keys, keyed, made_more, made_at, ensured_then, held_then, units_then, unit_refused, unit_known, all_among, they_stand, design_planned, design_refused, design_known, first_held}
+use Rattle.version_swap.proofs.Steps.{has_keys, keyed, jobs_keyed, made_more, made_at, ensured_then, held_then, units_then, unit_refused, unit_known, all_among, they_stand, design_planned, design_refused, design_known, first_held}
 use Rattle.version_swap.proofs.versions.version.Goals as goal
 
 pub returns-in_err-found-clause-held : goal.returns-in_err-found-clause-held
@@ -98,6 +98,12 @@ returns-in-Ok-clause-keyed g c =
     c.in_ok-keys.ensures c.in_ok-first.ensures.first in
     keyed h c.of_units.new.names c.in-Ok.ensures.grows
 
+pub returns-in-Ok-clause-jobs : goal.returns-in-Ok-clause-jobs
+returns-in-Ok-clause-jobs g c =
+    let h = has_keys c.in_ok-keys.keys.items c.deref.result.now c.in_ok-first.first.items c.in_ok-found.ensures.found c.deref.ensures.value
+    c.in_ok-keys.ensures c.in_ok-first.ensures.first in
+    jobs_keyed h c.of_units.new.names c.in-Ok.ensures.grows
+
 pub returns-in-Ok-clause-held : goal.returns-in-Ok-clause-held
 returns-in-Ok-clause-held g c =
     let es = entries_of c.args.registry.now in
@@ -115,6 +121,17 @@ returns-in-Ok-clause-ensured g c =
     c.in_ok-keys.ensures c.in_ok-first.ensures.first in
     ensured_then h es (grown_held c.args.names.now c.found.new.names es c.in_ok-found.ensures.grows c.requires.held) g.F.Forge.builds
     c.requires.builds c.deref-2.result.now c.deref-2.ensures.value (entries_of c.ensure.new.self) c.in_ok-counts.ensures.held
+
+pub returns-in-Ok-clause-made_before : goal.returns-in-Ok-clause-made_before
+returns-in-Ok-clause-made_before g c =
+    let es = entries_of c.args.registry.now in
+    let new = entries_of c.ensure.new.self in
+    let h = has_keys c.in_ok-keys.keys.items c.deref.result.now c.in_ok-first.first.items c.in_ok-found.ensures.found c.deref.ensures.value
+    c.in_ok-keys.ensures c.in_ok-first.ensures.first in
+    let have = units_then h es (grown_held c.args.names.now c.found.new.names es c.in_ok-found.ensures.grows c.requires.held) g.F.Forge.builds
+    c.requires.builds c.deref-2.result.now c.deref-2.ensures.value new c.in_ok-counts.ensures.held in
+    made_more h new have (keys_of es) (g.F.Forge.made c.args.forge.now) (g.F.Forge.made c.ensure.new.forge) c.deref-2.result.now
+    c.deref-2.ensures.value c.in_ok-counts.ensures.made
 
 pub returns-clause-refused : goal.returns-clause-refused
 returns-clause-refused g c =

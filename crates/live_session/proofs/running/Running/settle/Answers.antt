@@ -57,7 +57,7 @@ returns-in_err-shown-clause-stops g c =
     let all = all_passes c.args.names.now r c.args.book.now c.requires.stands.outline c.marks.result c.saturating_sub-links.result most c.min.result
     c.args.passes c.marks.ensures.value c.saturating_sub-links.ensures c.unwrap_or-most.ensures c.min.ensures in
     stopped c.from_residual.result
-    (settle_stops c.args.names.now c.has_each_once.ensures c.args.limits r _ c.args.line c.args.book.now c.settle-settled.new.book
+    (settle_stops c.args.names.now c.has_each_once.ensures c.args.limits r _ c.requires.kept c.args.line c.args.book.now c.settle-settled.new.book
     c.legal.ensures c.requires.stands c.args.passes most all
     (charged_there c.args.names.now r c.args.book.now c.requires.stands.outline c.marks.result c.saturating_sub-links.result most c.min.result
     c.args.passes c.marks.ensures.value c.saturating_sub-links.ensures c.unwrap_or-most.ensures c.min.ensures
@@ -70,7 +70,7 @@ returns-in_err-shown-clause-stands g c =
     let most = c.unwrap_or-most.result in
     let all = all_passes c.args.names.now r c.args.book.now c.requires.stands.outline c.marks.result c.saturating_sub-links.result most c.min.result
     c.args.passes c.marks.ensures.value c.saturating_sub-links.ensures c.unwrap_or-most.ensures c.min.ensures in
-    unsettled_stands c.args.names.now c.has_each_once.ensures c.args.limits r _ c.args.line c.args.book.now c.settle-settled.new.book
+    unsettled_stands c.args.names.now c.has_each_once.ensures c.args.limits r _ c.requires.kept c.args.line c.args.book.now c.settle-settled.new.book
     c.legal.ensures c.requires.stands c.args.passes most all
     (charged_there c.args.names.now r c.args.book.now c.requires.stands.outline c.marks.result c.saturating_sub-links.result most c.min.result
     c.args.passes c.marks.ensures.value c.saturating_sub-links.ensures c.unwrap_or-most.ensures c.min.ensures
@@ -90,7 +90,7 @@ returns-in_err-text-clause-stops g c =
     c.args.limits.rooms.session within in
     let reply : Reply = record { lines = reply_text c.settled_kind-kind.result; refused = false; quit = false } in
     stopped c.from_residual-in_err-text.result (lost_in reply
-    (settle_done c.args.names.now c.has_each_once.ensures c.args.limits r new c.args.line c.args.book.now c.settle-settled.new.book
+    (settle_done c.args.names.now c.has_each_once.ensures c.args.limits r new c.requires.kept c.args.line c.args.book.now c.settle-settled.new.book
     c.legal.ensures c.requires.stands c.args.passes most all
     (charged_there c.args.names.now r c.args.book.now c.requires.stands.outline c.marks.result c.saturating_sub-links.result most c.min.result
     c.args.passes c.marks.ensures.value c.saturating_sub-links.ensures c.unwrap_or-most.ensures c.min.ensures
@@ -108,7 +108,7 @@ returns-in_err-text-clause-stands g c =
     let room = room_there c.args.names.now r c.args.book.now c.requires.stands.outline c.marks.result c.saturating_sub-links.result most c.min.result
     c.args.passes c.marks.ensures.value c.saturating_sub-links.ensures c.unwrap_or-most.ensures c.min.ensures
     c.args.limits.rooms.session within in
-    settle_stands c.args.names.now c.has_each_once.ensures c.args.limits r _ c.args.line c.args.book.now c.settle-settled.new.book
+    settle_stands c.args.names.now c.has_each_once.ensures c.args.limits r _ c.requires.kept c.args.line c.args.book.now c.settle-settled.new.book
     c.legal.ensures c.requires.stands c.args.passes most all
     (charged_there c.args.names.now r c.args.book.now c.requires.stands.outline c.marks.result c.saturating_sub-links.result most c.min.result
     c.args.passes c.marks.ensures.value c.saturating_sub-links.ensures c.unwrap_or-most.ensures c.min.ensures
@@ -126,7 +126,7 @@ returns-clause-answers g c =
     let room = room_there c.args.names.now r c.args.book.now c.requires.stands.outline c.marks.result c.saturating_sub-links.result most c.min.result
     c.args.passes c.marks.ensures.value c.saturating_sub-links.ensures c.unwrap_or-most.ensures c.min.ensures
     c.args.limits.rooms.session within in
-    settle_done c.args.names.now c.has_each_once.ensures c.args.limits r new c.args.line c.args.book.now c.settle-settled.new.book
+    settle_done c.args.names.now c.has_each_once.ensures c.args.limits r new c.requires.kept c.args.line c.args.book.now c.settle-settled.new.book
     c.legal.ensures c.requires.stands c.args.passes most all
     (charged_there c.args.names.now r c.args.book.now c.requires.stands.outline c.marks.result c.saturating_sub-links.result most c.min.result
     c.args.passes c.marks.ensures.value c.saturating_sub-links.ensures c.unwrap_or-most.ensures c.min.ensures
@@ -145,7 +145,7 @@ returns-clause-stands g c =
     let room = room_there c.args.names.now r c.args.book.now c.requires.stands.outline c.marks.result c.saturating_sub-links.result most c.min.result
     c.args.passes c.marks.ensures.value c.saturating_sub-links.ensures c.unwrap_or-most.ensures c.min.ensures
     c.args.limits.rooms.session within in
-    settle_stands c.args.names.now c.has_each_once.ensures c.args.limits r _ c.args.line c.args.book.now c.settle-settled.new.book
+    settle_stands c.args.names.now c.has_each_once.ensures c.args.limits r _ c.requires.kept c.args.line c.args.book.now c.settle-settled.new.book
     c.legal.ensures c.requires.stands c.args.passes most all
     (charged_there c.args.names.now r c.args.book.now c.requires.stands.outline c.marks.result c.saturating_sub-links.result most c.min.result
     c.args.passes c.marks.ensures.value c.saturating_sub-links.ensures c.unwrap_or-most.ensures c.min.ensures

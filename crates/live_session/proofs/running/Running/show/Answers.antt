@@ -57,7 +57,7 @@ pub display-requires-clause-runs : goal.display-requires-clause-runs
 display-requires-clause-runs c =
     let r = c.args.self.now in
     let room : r.charge + 1 ≤ c.args.limits.rooms.session = omega (arith, c.if-self-limits.false) in
-    show_runs c.args.names.now c.has_each_once.ensures c.args.limits r _ c.args.line c.args.book.now c.show-shown.new.self c.legal.ensures
+    show_runs c.args.names.now c.has_each_once.ensures c.args.limits r _ c.requires.kept c.args.line c.args.book.now c.show-shown.new.self c.legal.ensures
     c.requires.stands c.args.prefix.now (shown_to c.show-shown.result)
     (record { settings = c.show-shown.ensures.settings; events = c.show-shown.ensures.events })
     (record { run = record { version = refl; machine = refl; rows = refl }; charge = refl; world = λ es grid. refl }) room
@@ -78,7 +78,7 @@ returns-in_err-text-clause-stops c =
     (shown_to c.show-shown.result) (last_values (book_in c.show-shown.new.self)) in
     let reply : Reply = record { lines = lines; refused = false; quit = false } in
     stopped c.from_residual.result (lost_in reply
-    (show_done names c.has_each_once.ensures c.args.limits r new c.args.line c.args.book.now c.show-shown.new.self c.legal.ensures
+    (show_done names c.has_each_once.ensures c.args.limits r new c.requires.kept c.args.line c.args.book.now c.show-shown.new.self c.legal.ensures
     c.requires.stands c.args.prefix.now (shown_to c.show-shown.result)
     (record { settings = c.show-shown.ensures.settings; events = c.show-shown.ensures.events })
     (record { run = record { version = refl; machine = refl; rows = refl }; charge = refl; world = λ es grid. refl }) room reply
@@ -94,7 +94,7 @@ pub returns-in_err-text-clause-stands : goal.returns-in_err-text-clause-stands
 returns-in_err-text-clause-stands c =
     let r = c.args.self.now in
     let room : r.charge + 1 ≤ c.args.limits.rooms.session = omega (arith, c.if-self-limits.false) in
-    show_stands c.args.names.now c.has_each_once.ensures c.args.limits r _ c.args.line c.args.book.now c.show-shown.new.self c.legal.ensures
+    show_stands c.args.names.now c.has_each_once.ensures c.args.limits r _ c.requires.kept c.args.line c.args.book.now c.show-shown.new.self c.legal.ensures
     c.requires.stands c.args.prefix.now (shown_to c.show-shown.result)
     (record { settings = c.show-shown.ensures.settings; events = c.show-shown.ensures.events })
     (record { run = record { version = refl; machine = refl; rows = refl }; charge = refl; world = λ es grid. refl }) room
@@ -104,7 +104,7 @@ returns-clause-answers c =
     let r = c.args.self.now in
     let new : Running = record r { charge = r.charge + 1 } in
     let room : r.charge + 1 ≤ c.args.limits.rooms.session = omega (arith, c.if-self-limits.false) in
-    show_done c.args.names.now c.has_each_once.ensures c.args.limits r new c.args.line c.args.book.now c.show-shown.new.self c.legal.ensures
+    show_done c.args.names.now c.has_each_once.ensures c.args.limits r new c.requires.kept c.args.line c.args.book.now c.show-shown.new.self c.legal.ensures
     c.requires.stands c.args.prefix.now (shown_to c.show-shown.result)
     (record { settings = c.show-shown.ensures.settings; events = c.show-shown.ensures.events })
     (record { run = record { version = refl; machine = refl; rows = refl }; charge = refl; world = λ es grid. refl }) room c.accepted.result
@@ -120,7 +120,7 @@ pub returns-clause-stands : goal.returns-clause-stands
 returns-clause-stands c =
     let r = c.args.self.now in
     let room : r.charge + 1 ≤ c.args.limits.rooms.session = omega (arith, c.if-self-limits.false) in
-    show_stands c.args.names.now c.has_each_once.ensures c.args.limits r _ c.args.line c.args.book.now c.show-shown.new.self c.legal.ensures
+    show_stands c.args.names.now c.has_each_once.ensures c.args.limits r _ c.requires.kept c.args.line c.args.book.now c.show-shown.new.self c.legal.ensures
     c.requires.stands c.args.prefix.now (shown_to c.show-shown.result)
     (record { settings = c.show-shown.ensures.settings; events = c.show-shown.ensures.events })
     (record { run = record { version = refl; machine = refl; rows = refl }; charge = refl; world = λ es grid. refl }) room

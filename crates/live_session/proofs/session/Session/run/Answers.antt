@@ -25,12 +25,12 @@ run-reply-requires-clause-stands g c =
 
 pub returns-in-Some-clause-answers : goal.returns-in-Some-clause-answers
 returns-in-Some-clause-answers g c =
-    answers_on (Runs c.args.line c.args.cycles) (λ w. refl) c.args.self.now c.args.book.now c.run-reply.new.book c.in-Some.running c.run-reply.new.self
+    answers_on (Runs c.args.line c.args.cycles) c.args.self.now c.args.book.now c.run-reply.new.book c.in-Some.running c.run-reply.new.self
     c.in-Some.is c.run-reply.result c.run-reply.ensures.answers
 
 pub returns-in-Some-clause-stops : goal.returns-in-Some-clause-stops
 returns-in-Some-clause-stops g c =
-    stops_on (Runs c.args.line c.args.cycles) (λ w. refl) c.args.self.now c.args.book.now c.run-reply.new.book c.in-Some.running c.run-reply.new.self
+    stops_on (Runs c.args.line c.args.cycles) c.args.self.now c.args.book.now c.run-reply.new.book c.in-Some.running c.run-reply.new.self
     c.in-Some.is c.run-reply.result c.legal.ensures c.run-reply.ensures.stops
 
 pub returns-in-Some-clause-beside : goal.returns-in-Some-clause-beside

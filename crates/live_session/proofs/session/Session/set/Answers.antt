@@ -13,13 +13,13 @@ set-requires-clause-kept c =
 pub returns-in-Some-clause-answers : goal.returns-in-Some-clause-answers
 returns-in-Some-clause-answers c =
     let s = c.args.self.now in
-    answers_beside (Sets c.args.line (map (setting s.names) c.args.values.now)) (λ w. refl) s c.args.book.now c.in-Some.running c.set.new.self
+    answers_beside (Sets c.args.line (map (setting s.names) c.args.values.now)) s c.args.book.now c.in-Some.running c.set.new.self
     c.in-Some.is c.requires.beside c.set.result c.set.ensures.answers
 
 pub returns-in-Some-clause-stops : goal.returns-in-Some-clause-stops
 returns-in-Some-clause-stops c =
     let s = c.args.self.now in
-    stays_beside (Sets c.args.line (map (setting s.names) c.args.values.now)) (λ w. refl) s c.args.book.now c.in-Some.running c.set.new.self
+    stays_beside (Sets c.args.line (map (setting s.names) c.args.values.now)) s c.args.book.now c.in-Some.running c.set.new.self
     c.in-Some.is c.requires.beside c.set.result c.set.ensures.before
 
 pub returns-in-Some-clause-beside : goal.returns-in-Some-clause-beside

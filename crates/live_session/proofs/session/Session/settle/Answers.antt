@@ -25,12 +25,12 @@ settle-reply-requires-clause-stands g c =
 
 pub returns-in-Some-clause-answers : goal.returns-in-Some-clause-answers
 returns-in-Some-clause-answers g c =
-    answers_on (Settles c.args.line c.args.passes) (λ w. refl) c.args.self.now c.args.book.now c.settle-reply.new.book c.in-Some.running c.settle-reply.new.self
+    answers_on (Settles c.args.line c.args.passes) c.args.self.now c.args.book.now c.settle-reply.new.book c.in-Some.running c.settle-reply.new.self
     c.in-Some.is c.settle-reply.result c.settle-reply.ensures.answers
 
 pub returns-in-Some-clause-stops : goal.returns-in-Some-clause-stops
 returns-in-Some-clause-stops g c =
-    stops_on (Settles c.args.line c.args.passes) (λ w. refl) c.args.self.now c.args.book.now c.settle-reply.new.book c.in-Some.running c.settle-reply.new.self
+    stops_on (Settles c.args.line c.args.passes) c.args.self.now c.args.book.now c.settle-reply.new.book c.in-Some.running c.settle-reply.new.self
     c.in-Some.is c.settle-reply.result c.legal.ensures c.settle-reply.ensures.stops
 
 pub returns-in-Some-clause-beside : goal.returns-in-Some-clause-beside

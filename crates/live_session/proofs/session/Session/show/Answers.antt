@@ -25,12 +25,12 @@ show-reply-requires-clause-stands c =
 
 pub returns-in-Some-clause-answers : goal.returns-in-Some-clause-answers
 returns-in-Some-clause-answers c =
-    answers_on (Shows c.args.line c.args.prefix.now) (λ w. refl) c.args.self.now c.args.book.now c.show-reply.new.book c.in-Some.running c.show-reply.new.self
+    answers_on (Shows c.args.line c.args.prefix.now) c.args.self.now c.args.book.now c.show-reply.new.book c.in-Some.running c.show-reply.new.self
     c.in-Some.is c.show-reply.result c.show-reply.ensures.answers
 
 pub returns-in-Some-clause-stops : goal.returns-in-Some-clause-stops
 returns-in-Some-clause-stops c =
-    stops_on (Shows c.args.line c.args.prefix.now) (λ w. refl) c.args.self.now c.args.book.now c.show-reply.new.book c.in-Some.running c.show-reply.new.self
+    stops_on (Shows c.args.line c.args.prefix.now) c.args.self.now c.args.book.now c.show-reply.new.book c.in-Some.running c.show-reply.new.self
     c.in-Some.is c.show-reply.result c.legal.ensures c.show-reply.ensures.stops
 
 pub returns-in-Some-clause-beside : goal.returns-in-Some-clause-beside
