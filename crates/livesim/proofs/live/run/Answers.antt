@@ -1,5 +1,5 @@
-use Rattle.std.proofs.Common.{rules, ◌≡◌, ◌∷◌, ◌++◌, []}
-use Rattle.book_history.specs.Book.{Closes}
+use Rattle.std.proofs.Common.{rules, ◌≡◌, ◌∷◌, ◌++◌, [], ap}
+use Rattle.book_history.specs.Book.{Closes, Settings as BookSettings}
 use Rattle.live_options.specs.Words.{options_of}
 use denote.Param.Send.{sendable}
 use Rattle.std.proofs.Crossing.{crosses}
@@ -14,6 +14,14 @@ new-requires-3-send-M g c κs = search (design_send, sendable, crosses) depth 40
 
 pub new-requires-3-sync-M : goal.new-requires-3-sync-M
 new-requires-3-sync-M g c κs = search (design_sync, sendable, crosses) depth 40 fits 20000
+
+pub carry_out-status-requires-clause-beside : goal.carry_out-status-requires-clause-beside
+carry_out-status-requires-clause-beside g c κs within =
+    let o = options_of c.args.options in
+    let made : c.deref_mut.result.now.settings ≡ record { interval = o.interval; lookback = o.lookback; rooms = record { session = 1048576; workers = 3145728 } }
+    = search rules in
+    let none : c.deref_mut.result.now.events ≡ [] = search rules in
+    c.in-Ok-Ok-Ok.ensures'.beside c.deref_mut.result.now none (ap (λ (s : BookSettings). s.rooms) made)
 
 pub returns-in_default-clause-lived : goal.returns-in_default-clause-lived
 returns-in_default-clause-lived g c =
