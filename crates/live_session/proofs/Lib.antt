@@ -35,6 +35,7 @@ pub mod ShownBeside
 pub mod RefusedShows
 pub mod StatusLines
 pub mod SettleRoom
+pub mod SettledBeside
 pub mod KeptRuns
 pub mod ChargedShows
 pub mod JudgedRuns

@@ -18,6 +18,7 @@ pub mod Scripts
 pub mod Done
 pub mod Sessions
 pub mod Beside
+pub mod SettleAnswers
 pub mod Steps
 pub mod Runs
 pub mod Kept

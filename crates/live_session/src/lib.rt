@@ -20,6 +20,7 @@ mod reply;
 mod running;
 mod session;
 mod setting;
+mod settle_answer;
 mod settling;
 mod showing;
 mod telling;
@@ -31,3 +32,4 @@ pub use laws::{
 pub use limits::Limits;
 pub use reply::Reply;
 pub use session::Session;
+pub use settle_answer::SettleAnswer;

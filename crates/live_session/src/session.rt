@@ -14,6 +14,9 @@ use crate::refusing::{refused_line, refused_text};
 use crate::reply::Reply;
 use crate::running::Running;
 use crate::setting::has_each_once;
+use crate::settle_answer::SettleAnswer;
+use crate::settling::settle_answer;
+use book_settle::settle;
 use checkpoint_book::book::Book;
 use command_read::{Command, Edit, PortValue, ReadEnd, Reader};
 use cycle_eval::Design;
@@ -48,9 +51,12 @@ pub struct Session {
 }
 
 impl Session {
-    ghost use Rattle.std.specs.Prelude.{◌⊎◌, ◌+◌, ◌*◌, ℕ, List, [], map, nat_lt, true, None, Some, Ok, Err, IfOk, OnErr};
+    ghost use Rattle.std.specs.Prelude.{◌⊎◌, ◌+◌, ◌*◌, ℕ, List, [], map, min, nat_lt, true, None, Some, Ok, Err, IfOk, OnErr};
     ghost use Rattle.std.specs.List.{All};
     ghost use Rattle.std.specs.declared.option.Option.{Option};
+    ghost use Rattle.book_history.specs.Readers.{links_in};
+    ghost use Rattle.book_settle.specs.Settles.{HasSettled, HasTried};
+    ghost use Rattle.checkpoint_book.specs.Views.{counts_of};
     ghost use Rattle.ls_text.specs.Texts.{Grows};
     ghost use Rattle.ls_text.specs.Readings.{fault_view};
     ghost use Rattle.ls_port.specs.Causes.{Rose};
@@ -81,8 +87,9 @@ impl Session {
     ghost use Rattle.live_session.specs.Files.{text_file};
     ghost use Rattle.live_session.specs.Loaded.{AreUsable, result_of};
     ghost use Rattle.live_session.specs.Loads.{LosesAnswers};
-    ghost use Rattle.live_session.specs.Logs.{Log};
+    ghost use Rattle.live_session.specs.Logs.{Log, book_in, kit};
     ghost use Rattle.live_session.specs.Sessions.{world, limits_of, names_of, work};
+    ghost use Rattle.live_session.specs.SettleAnswers.{settled_up_to};
     ghost use Rattle.live_session.specs.Steps.{StepsTo, Stops};
     ghost use Rattle.live_session.specs.Taken.{LosesBlock, TakesBlock};
     ghost use Rattle.live_session.specs.Turns.{Answers, StopsAt};
@@ -433,7 +440,7 @@ impl Session {
 
     // Verifies segments, as many as passes are said, or all; 62 without a design.
     #[tactic(auto, using(crate::proofs::DesignsShared::design_send, crate::proofs::DesignsShared::design_sync))]
-    fn settle<L: Ledger>(
+    fn settle_command<L: Ledger>(
         &mut self,
         alloc: Global,
         book: &mut Book<Design>,
@@ -500,6 +507,49 @@ impl Session {
         })
     }
 
+    // Verifies the first segments that aren't settled, at most so many; the steps are counted by a counter of its own.
+    fn settled<L: Ledger>(
+        &self,
+        alloc: Global,
+        book: &mut Book<Design>,
+        passes: u32,
+        blank: Blank,
+    ) -> Result<SettleAnswer, NoMemory>
+        requires name { blank.name ≡ L.name }
+        requires parts { blank.parts ≡ L.parts }
+        requires some { 0 < blank.parts }
+        requires beside { StandsBeside self.now book.old }
+        requires opened { is_some self.now.running ≡ true }
+        requires charged { (counts_of book.old).session + (2 * min passes (links_in (book_in book.old)) + 1) ≤ (world_in self.now book.old).charge }
+        ensures answer { IfOk result (λ a. HasSettled kit book.old book.new passes (settled_up_to a)) }
+        ensures tried { OnErr result (HasTried book.old book.new (min passes (links_in (book_in book.old)))) }
+        ensures beside { StandsBeside self.now book.new }
+    {
+        let mut steps = Steps::<L>::start(blank);
+        let shown = settle(alloc, book, passes, &mut steps);
+        book.legal();
+        Ok(settle_answer(shown?))
+    }
+
+    /// Verifies the first segments that aren't settled, at most so many, in the book of a session that was charged for it: 1, and 2 for each pass that
+    /// may be made. Each pass makes at least one link more lead; with a pass for each link the answer is settled. The session's world stays. Where
+    /// memory runs out, the passes that were made stand.
+    pub fn settle(
+        &self,
+        alloc: Global,
+        book: &mut Book<Design>,
+        passes: u32,
+    ) -> Result<SettleAnswer, NoMemory>
+        requires beside { StandsBeside self.now book.old }
+        requires opened { is_some self.now.running ≡ true }
+        requires charged { (counts_of book.old).session + (2 * min passes (links_in (book_in book.old)) + 1) ≤ (world_in self.now book.old).charge }
+        ensures answer { IfOk result (λ a. HasSettled kit book.old book.new passes (settled_up_to a)) }
+        ensures tried { OnErr result (HasTried book.old book.new (min passes (links_in (book_in book.old)))) }
+        ensures beside { StandsBeside self.now book.new }
+    {
+        self.settled::<Brand>(alloc, book, passes, Blank::new(1))
+    }
+
     // Carries out a command, whose steps are counted by a counter of its own.
     fn carry_out<R: Threads + Sync, L: Ledger, F: Shelf>(
         &mut self,
@@ -533,7 +583,9 @@ impl Session {
             Command::Set { line, values } => self.set(alloc, book, line, values.as_slice()),
             Command::Run { line, n } => self.run(alloc, book, line, n, &mut steps),
             Command::Show { line, prefix } => self.show(alloc, book, line, prefix.bytes()),
-            Command::Settle { line, passes } => self.settle(alloc, book, line, passes, &mut steps),
+            Command::Settle { line, passes } => {
+                self.settle_command(alloc, book, line, passes, &mut steps)
+            }
             Command::Status { .. } => self.status(alloc, book),
             Command::Quit { .. } => Self::quit(alloc),
         }

@@ -7,6 +7,7 @@ ghost use Rattle.wave_report.specs.Replies.{reply_text};
 ghost use Rattle.live_session.specs.Beside.{Stands};
 ghost use Rattle.live_session.specs.Kept.{IsKept};
 ghost use Rattle.live_session.specs.Sessions.{world_of};
+ghost use Rattle.live_session.specs.SettleAnswers.{settled_up_to};
 ghost use Rattle.live_session.specs.Shown.{settle_text};
 ghost use Rattle.live_session.specs.Turns.{AnswersIn, StopsIn};
 
@@ -15,6 +16,7 @@ use crate::refusing::refused_line;
 use crate::reply::Reply;
 use crate::running::Running;
 use crate::setting::has_each_once;
+use crate::settle_answer::SettleAnswer;
 use book_settle::settle;
 use checkpoint_book::book::Book;
 use checkpoint_book::shown::Shown;
@@ -24,6 +26,16 @@ use machine::steps::Steps;
 use std::alloc::Global;
 use std::sync::ledger::Ledger;
 use wave_report::{ReplyKind, reply_line};
+
+// What a settle answers, by its show.
+pub fn settle_answer(shown: Shown) -> SettleAnswer
+    ensures { settled_up_to result ≡ shown_to shown }
+{
+    match shown {
+        Shown::Settled => SettleAnswer::Settled,
+        Shown::Estimate { settled_to } => SettleAnswer::Unsettled { settled_to },
+    }
+}
 
 impl Running {
     // What answers a settle.

@@ -5,7 +5,7 @@ use Rattle.command_read.specs.Asking.{Settles}
 use Rattle.live_session.proofs.DesignsShared.{design_send, design_sync}
 use Rattle.live_session.proofs.SessionCalls.{kept_there, none_runs, stands_there}
 use Rattle.live_session.proofs.SessionSteps.{answers_on, stops_on, stops_still}
-use Rattle.live_session.proofs.session.Session.settle.Goals as goal
+use Rattle.live_session.proofs.session.Session.settle_command.Goals as goal
 
 pub legal-requires-send-M : goal.legal-requires-send-M
 legal-requires-send-M g c κs = search (design_send, sendable, crosses) depth 40 fits 20000
