@@ -104,8 +104,8 @@ module _ (was is : Log) (design : Design) (settings : is.settings ≡ was.settin
 -- ---- the block behind no texts
 
 module _ (old new : List (List ℕ)) (grows : Grows old new) (once : HasEachOnce old) (also : HasEachOnce new) (e : Edit) (loaded : List SourceFile)
-    (within : IsEditWithin (length old) e) (named : AreSourcesWithin (length old) loaded) (t : Texts) (no_files : t.files ≡ []) (no_top : t.top ≡ None)
-    (clock_in : t.clock.0 < length old) (clock_is : text_at old t.clock.0 ≡ codes "clk") where
+    (within : IsEditWithin (length old) e) (named : AreSourcesWithin (length old) loaded) (t : Texts) (no_files : t.files ≡ [])
+    (no_top : t.top ≡ None) (clock_in : t.clock.0 < length old) (clock_is : text_at old t.clock.0 ≡ codes "clk") where
   pub behind_none : IsBlockBehind old new e loaded t fresh
   behind_none = record {
     grows = grows;
@@ -199,8 +199,8 @@ module _ (old new : List (List ℕ)) (e : Edit) (loaded : List SourceFile) (t : 
   }
 
 -- and so of an answer
-pub begun_begins : {E : Type 0} (names : List (List ℕ)) (limits : Limits) (old : List (List ℕ)) (e : Edit) (loaded : List TextFile) (entries before : List Entry)
-    (texts : Texts) (design : Design) (keys : List KeyData) (built kept : ℕ) (was is : Log) (r : Result Begun E)
+pub begun_begins : {E : Type 0} (names : List (List ℕ)) (limits : Limits) (old : List (List ℕ)) (e : Edit) (loaded : List TextFile)
+    (entries before : List Entry) (texts : Texts) (design : Design) (keys : List KeyData) (built kept : ℕ) (was is : Log) (r : Result Begun E)
     → ((running : Running) (line : List ℕ) → Starts limits texts design keys built kept was is running line
     → IsBegun names limits (edited old e) loaded before was is running line)
     → IfOk r (λ b. entries ≡ before) → IfOk r (StartsIn limits texts design keys built kept was is)

@@ -12,41 +12,23 @@ use Rattle.typed_ir.specs.contracts.stmt.Stmt as StmtRow
 use Rattle.typed_ir.specs.contracts.node.Node as NodeRow
 use Rattle.cycle_eval.specs.contracts.design.Design as DesignRow
 
-form_send : IsSend FormRow.the_row
-form_send = search (form_parts, sendable, crosses) depth 40 fits 20000
-
-form_sync : IsSync FormRow.the_row
-form_sync = search (form_parts, sendable, crosses) depth 40 fits 20000
-
 form_field_send : IsSend (FormRow.the_field).row
 form_field_send = search (form_parts, sendable, crosses) depth 40 fits 20000
 
 form_field_sync : IsSync (FormRow.the_field).row
 form_field_sync = search (form_parts, sendable, crosses) depth 40 fits 20000
 
-typed_send : IsSend TypedRow.the_row
-typed_send = search (form_send, form_field_send, sendable, crosses) depth 40 fits 20000
-
-typed_sync : IsSync TypedRow.the_row
-typed_sync = search (form_sync, form_field_sync, sendable, crosses) depth 40 fits 20000
-
 typed_field_send : IsSend (TypedRow.the_field).row
-typed_field_send = search (form_send, form_field_send, sendable, crosses) depth 40 fits 20000
+typed_field_send = search (form_field_send, sendable, crosses) depth 40 fits 20000
 
 typed_field_sync : IsSync (TypedRow.the_field).row
-typed_field_sync = search (form_sync, form_field_sync, sendable, crosses) depth 40 fits 20000
+typed_field_sync = search (form_field_sync, sendable, crosses) depth 40 fits 20000
 
 item_send : IsSend ItemRow.the_row
-item_send = search (typed_send, typed_field_send, sendable, crosses) depth 40 fits 20000
+item_send = search (typed_field_send, sendable, crosses) depth 40 fits 20000
 
 item_sync : IsSync ItemRow.the_row
-item_sync = search (typed_sync, typed_field_sync, sendable, crosses) depth 40 fits 20000
-
-item_field_send : IsSend (ItemRow.the_field).row
-item_field_send = search (typed_send, typed_field_send, sendable, crosses) depth 40 fits 20000
-
-item_field_sync : IsSync (ItemRow.the_field).row
-item_field_sync = search (typed_sync, typed_field_sync, sendable, crosses) depth 40 fits 20000
+item_sync = search (typed_field_sync, sendable, crosses) depth 40 fits 20000
 
 lane_send : IsSend LaneRow.the_row
 lane_send = search (sendable, crosses) depth 40 fits 20000
@@ -61,49 +43,31 @@ lane_field_sync : IsSync (LaneRow.the_field).row
 lane_field_sync = search (sendable, crosses) depth 40 fits 20000
 
 target_send : IsSend TargetRow.the_row
-target_send = search (lane_send, lane_field_send, typed_send, typed_field_send, sendable, crosses) depth 40 fits 20000
+target_send = search (lane_field_send, typed_field_send, sendable, crosses) depth 40 fits 20000
 
 target_sync : IsSync TargetRow.the_row
-target_sync = search (lane_sync, lane_field_sync, typed_sync, typed_field_sync, sendable, crosses) depth 40 fits 20000
-
-target_field_send : IsSend (TargetRow.the_field).row
-target_field_send = search (lane_send, lane_field_send, typed_send, typed_field_send, sendable, crosses) depth 40 fits 20000
-
-target_field_sync : IsSync (TargetRow.the_field).row
-target_field_sync = search (lane_sync, lane_field_sync, typed_sync, typed_field_sync, sendable, crosses) depth 40 fits 20000
+target_sync = search (lane_field_sync, typed_field_sync, sendable, crosses) depth 40 fits 20000
 
 stmt_send : IsSend StmtRow.the_row
-stmt_send = search (stmt_parts, target_send, target_field_send, typed_send, typed_field_send, item_send, item_field_send, sendable, crosses) depth 40 fits 20000
+stmt_send = search (stmt_parts, target_send, typed_field_send, item_send, sendable, crosses) depth 40 fits 20000
 
 stmt_sync : IsSync StmtRow.the_row
-stmt_sync = search (stmt_parts, target_sync, target_field_sync, typed_sync, typed_field_sync, item_sync, item_field_sync, sendable, crosses) depth 40 fits 20000
+stmt_sync = search (stmt_parts, target_sync, typed_field_sync, item_sync, sendable, crosses) depth 40 fits 20000
 
 stmt_field_send : IsSend (StmtRow.the_field).row
-stmt_field_send = search (stmt_parts, target_send, target_field_send, typed_send, typed_field_send, item_send, item_field_send, sendable, crosses) depth 40 fits 20000
+stmt_field_send = search (stmt_parts, target_send, typed_field_send, item_send, sendable, crosses) depth 40 fits 20000
 
 stmt_field_sync : IsSync (StmtRow.the_field).row
-stmt_field_sync = search (stmt_parts, target_sync, target_field_sync, typed_sync, typed_field_sync, item_sync, item_field_sync, sendable, crosses) depth 40 fits 20000
+stmt_field_sync = search (stmt_parts, target_sync, typed_field_sync, item_sync, sendable, crosses) depth 40 fits 20000
 
 node_send : IsSend NodeRow.the_row
-node_send = search (lane_send, lane_field_send, typed_send, typed_field_send, stmt_send, stmt_field_send, sendable, crosses) depth 40 fits 20000
+node_send = search (lane_send, typed_field_send, stmt_field_send, sendable, crosses) depth 40 fits 20000
 
 node_sync : IsSync NodeRow.the_row
-node_sync = search (lane_sync, lane_field_sync, typed_sync, typed_field_sync, stmt_sync, stmt_field_sync, sendable, crosses) depth 40 fits 20000
-
-node_field_send : IsSend (NodeRow.the_field).row
-node_field_send = search (lane_send, lane_field_send, typed_send, typed_field_send, stmt_send, stmt_field_send, sendable, crosses) depth 40 fits 20000
-
-node_field_sync : IsSync (NodeRow.the_field).row
-node_field_sync = search (lane_sync, lane_field_sync, typed_sync, typed_field_sync, stmt_sync, stmt_field_sync, sendable, crosses) depth 40 fits 20000
+node_sync = search (lane_sync, typed_field_sync, stmt_field_sync, sendable, crosses) depth 40 fits 20000
 
 pub design_send : IsSend DesignRow.the_row
-design_send = search (node_send, node_field_send, stmt_send, stmt_field_send, sendable, crosses) depth 40 fits 20000
+design_send = search (node_send, stmt_send, sendable, crosses) depth 40 fits 20000
 
 pub design_sync : IsSync DesignRow.the_row
-design_sync = search (node_sync, node_field_sync, stmt_sync, stmt_field_sync, sendable, crosses) depth 40 fits 20000
-
-pub design_field_send : IsSend (DesignRow.the_field).row
-design_field_send = search (node_send, node_field_send, stmt_send, stmt_field_send, sendable, crosses) depth 40 fits 20000
-
-pub design_field_sync : IsSync (DesignRow.the_field).row
-design_field_sync = search (node_sync, node_field_sync, stmt_sync, stmt_field_sync, sendable, crosses) depth 40 fits 20000
+design_sync = search (node_sync, stmt_sync, sendable, crosses) depth 40 fits 20000

@@ -91,7 +91,8 @@ made_of files top clock version design row rows grid held charge = record {
 }
 
 -- the version behind a block in a world
-pub record IsNext (new : List (List ℕ)) (e : Edit) (loaded : List SourceFile) (t : Texts) (w : World) (entries : List Entry) (r : Running) : Type 0 where
+pub record IsNext (new : List (List ℕ)) (e : Edit) (loaded : List SourceFile) (t : Texts) (w : World) (entries : List Entry) (r : Running)
+    : Type 0 where
   pub texts : r.texts ≡ texts_behind t e loaded
   pub version : r.version.value.number ≡ w.version + 1
   pub row : row_of new r.row.value ≡ w.row
@@ -125,17 +126,17 @@ module _ (old new : List (List ℕ)) (e : Edit) (loaded : List SourceFile) (t : 
 
   pub its_world : world_of new entries w.grid r ≡ behind
   its_world =
-      ap₂ (λ (fs : List TextFile) (o : Option (List ℕ)). made_of fs o (text_at new r.texts.clock.0) r.version.value.number design (row_of new r.row.value)
-      (map (row_of new) (rows_of r.record_)) w.grid (held_texts entries) r.charge)
+      ap₂ (λ (fs : List TextFile) (o : Option (List ℕ)). made_of fs o (text_at new r.texts.clock.0) r.version.value.number design
+      (row_of new r.row.value) (map (row_of new) (rows_of r.record_)) w.grid (held_texts entries) r.charge)
       (ap (map (text_file new)) its_files ∙ files_are old new e loaded t w h)
       (ap (option_map (λ (id : NameId). text_at new id.0)) its_top ∙ top_is old new e loaded t w h)
       ∙ ap₂ (λ (c : List ℕ) (v : ℕ). made_of (files_after w block files) (top_after w block) c v design (row_of new r.row.value)
       (map (row_of new) (rows_of r.record_)) w.grid (held_texts entries) r.charge)
       (ap (λ (id : NameId). text_at new id.0) its_clock ∙ (clock_is old new e loaded t w h).1) next.version
-      ∙ ap₂ (λ (x : Row) (xs : List Row). made_of (files_after w block files) (top_after w block) (clock_after w block) (w.version + 1) design x xs w.grid
-      (held_texts entries) r.charge) next.row next.rows
-      ∙ ap₂ (λ (ts : List (List ℕ)) (c : ℕ). made_of (files_after w block files) (top_after w block) (clock_after w block) (w.version + 1) design w.row
-      w.record_ w.grid ts c) next.held next.charge
+      ∙ ap₂ (λ (x : Row) (xs : List Row). made_of (files_after w block files) (top_after w block) (clock_after w block) (w.version + 1) design x xs
+      w.grid (held_texts entries) r.charge) next.row next.rows
+      ∙ ap₂ (λ (ts : List (List ℕ)) (c : ℕ). made_of (files_after w block files) (top_after w block) (clock_after w block) (w.version + 1) design
+      w.row w.record_ w.grid ts c) next.held next.charge
 
   its_read : FilesRead (files_after w block files) (top_after w block) (clock_after w block) (Ok design)
   its_read =

@@ -144,7 +144,8 @@ module _ (limits : Limits) (r : Running) (j : Log) (stands : Stands limits (Some
       → chosen_in j.settings (book_in j) ≡ chosen (settings_by limits j) (world_of names entries (marks_of j) r)
   chosen_so names entries =
       chosen_by j.settings (book_in j)
-      ∙ ap (λ (n : ℕ). last_until (n - j.settings.lookback) 0 (marks_of j)) (ap length stands.outline.rows ∙ sym (length-map (rows_of r.record_) (row_of names)))
+      ∙ ap (λ (n : ℕ). last_until (n - j.settings.lookback) 0 (marks_of j))
+      (ap length stands.outline.rows ∙ sym (length-map (rows_of r.record_) (row_of names)))
 
 pub marks_same : (was is : Log) → is.settings ≡ was.settings → is.events ≡ was.events → marks_of is ≡ marks_of was
 marks_same was is settings events =
@@ -225,7 +226,8 @@ module _ (old new : List (List ℕ)) (grows : Grows old new) (once : HasEachOnce
   stays_grown after x is same still marks =
       ap₂ (λ (en : List Entry) (g : List ℕ). world_of new en g x) same marks
       ∙ ap (world_of new es (marks_of was)) still
-      ∙ world_grown old new grows once also es (marks_of was) r kept.named.files kept.named.top kept.named.clock kept.named.row kept.named.rows kept.plans
+      ∙ world_grown old new grows once also es (marks_of was) r kept.named.files kept.named.top kept.named.clock kept.named.row kept.named.rows
+      kept.plans
 
   -- what is kept of it by the table that has grown
   abbrev grown : IsKept new limits r
@@ -260,8 +262,8 @@ module _ (old new : List (List ℕ)) (grows : Grows old new) (once : HasEachOnce
       → (after : List Entry) → after ≡ es
       → TakesBlock st (edited old e) (Ok (map (text_file old) loaded)) before (world_of new after (marks_of was) r) was was reply.lines reply.refused
   refused_so st fault reply is refuses after same =
-      takes_fault old new e loaded r.texts before behind st (world_of new after (marks_of was) r) was (Some r.version.value.machine.value) current fault
-      reply (stays_grown after r was same refl refl) is refuses
+      takes_fault old new e loaded r.texts before behind st (world_of new after (marks_of was) r) was (Some r.version.value.machine.value) current
+      fault reply (stays_grown after r was same refl refl) is refuses
 
   pub refused_by : {E : Type 0} (st : Settings) (fault : TextFault) (after : List Entry) → after ≡ es
       → IsEditFault new (numbered.files_behind r.texts.files e.files e.loads loaded) (option_or e.top r.texts.top) (unwrap_or e.clock r.texts.clock)
@@ -345,7 +347,8 @@ module _ (old new : List (List ℕ)) (grows : Grows old new) (once : HasEachOnce
           (subst (λ (d : Design). AreValidBetween (Some r.version.value.machine.value) d e.ops) (sym goes.has_design) valid_ops)
 
       pub takes_renewed : (line : List ℕ) → line ≡ edit_text (r.version.value.number + 1) built kept_units from
-          → TakesBlock (settings_by limits was) (edited old e) (Ok (map (text_file old) loaded)) before (world_of new after (marks_of is) x) was is line false
+          → TakesBlock (settings_by limits was) (edited old e) (Ok (map (text_file old) loaded)) before (world_of new after (marks_of is) x) was is
+          line false
       takes_renewed line says =
           takes_next old new e loaded r.texts before behind after x next (settings_by limits was) was is
           (Reloads (r.version.value.number + 1) design its_ops from) (record { settings = goes.settings; events = goes.reloads }) (refl, tt) refl
@@ -371,10 +374,11 @@ module _ (old new : List (List ℕ)) (grows : Grows old new) (once : HasEachOnce
     -- the line is there
     pub takes_said : (after : List Entry) (x : Running) (is : Log) (reply : Reply) → after ≡ middle
         → SaysSo its_ops texts design keys built kept_units r x was is reply
-        → TakesBlock (settings_by limits was) (edited old e) (Ok (map (text_file old) loaded)) before (world_of new after (marks_of is) x) was is reply.lines
-        reply.refused
+        → TakesBlock (settings_by limits was) (edited old e) (Ok (map (text_file old) loaded)) before (world_of new after (marks_of is) x) was is
+        reply.lines reply.refused
     takes_said after x is reply same so =
-        subst (TakesBlock (settings_by limits was) (edited old e) (Ok (map (text_file old) loaded)) before (world_of new after (marks_of is) x) was is reply.lines)
+        subst (TakesBlock (settings_by limits was) (edited old e) (Ok (map (text_file old) loaded)) before (world_of new after (marks_of is) x) was is
+        reply.lines)
         (sym so.accepts.refusal) (takes_renewed after same x is so.from so.goes reply.lines so.accepts.text)
 
     -- or it is lost, or nothing is new
@@ -386,10 +390,12 @@ module _ (old new : List (List ℕ)) (grows : Grows old new) (once : HasEachOnce
         lost_lines (edit_text (r.version.value.number + 1) built kept_units from) false
         (takes_renewed after same x is from goes (edit_text (r.version.value.number + 1) built kept_units from) refl)
 
-    pub kept_said : (x : Running) (is : Log) (reply : Reply) → SaysSo its_ops texts design keys built kept_units r x was is reply → IsKept new limits x
+    pub kept_said : (x : Running) (is : Log) (reply : Reply) → SaysSo its_ops texts design keys built kept_units r x was is reply
+        → IsKept new limits x
     kept_said x is reply so = kept_next middle refl x is so.from so.goes
 
-    pub kept_lost : (after : List Entry) (x : Running) (is : Log) → LosesLine its_ops texts design keys (length es) middle after r x was is → IsKept new limits x
+    pub kept_lost : (after : List Entry) (x : Running) (is : Log) → LosesLine its_ops texts design keys (length es) middle after r x was is
+        → IsKept new limits x
     kept_lost after x is (nothing_new cut still settings events) = subst (IsKept new limits) (sym still) (kept_grown old new grows limits r kept)
     kept_lost after x is (line_lost from same goes) = kept_next after same x is from goes
 
@@ -403,7 +409,8 @@ module _ (old new : List (List ℕ)) (grows : Grows old new) (once : HasEachOnce
 
     pub loses_by : {E : Type 0} (after : List Entry) (x : Running) (is : Log) (result : Result Reply E)
         → OnErr result (LosesLine its_ops texts design keys (length es) middle after r x was is)
-        → OnErr result (LosesBlock (settings_by limits was) (edited old e) (Ok (map (text_file old) loaded)) before (world_of new after (marks_of is) x) was is)
+        → OnErr result (LosesBlock (settings_by limits was) (edited old e) (Ok (map (text_file old) loaded)) before
+        (world_of new after (marks_of is) x) was is)
     loses_by after x is (Ok reply) lost = tt
     loses_by after x is (Err error) lost = loses_so after x is lost
 
@@ -429,8 +436,8 @@ held_by ops names count before after texts design keys old new was is (Err error
     held_lost ops names count before after texts design keys old new was is h lost
 
 -- the same of the same operations and of what runs put together again
-pub says_alike : {E : Type 0} (os ops : Ops) (texts : Texts) (design : Design) (keys : List KeyData) (built kept : ℕ) (x r new : Running) (was is : Log)
-    (result : Result Reply E) → os ≡ ops → x ≡ r → IfOk result (SaysSo os texts design keys built kept x new was is)
+pub says_alike : {E : Type 0} (os ops : Ops) (texts : Texts) (design : Design) (keys : List KeyData) (built kept : ℕ) (x r new : Running)
+    (was is : Log) (result : Result Reply E) → os ≡ ops → x ≡ r → IfOk result (SaysSo os texts design keys built kept x new was is)
     → IfOk result (SaysSo ops texts design keys built kept r new was is)
 says_alike os ops texts design keys built kept x r new was is result one same says =
     subst (λ (a : Ops). IfOk result (SaysSo a texts design keys built kept r new was is)) one

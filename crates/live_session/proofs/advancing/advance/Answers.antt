@@ -1,10 +1,10 @@
 use denote.Param.Send.{sendable}
 use Rattle.std.proofs.Crossing.{crosses}
-use Rattle.live_session.proofs.DesignsShared.{design_field_send, design_field_sync, design_send, design_sync}
+use Rattle.live_session.proofs.DesignsShared.{design_send, design_sync}
 use Rattle.live_session.proofs.advancing.advance.Goals as goal
 
 pub run-requires-send-M : goal.run-requires-send-M
-run-requires-send-M g c κs within = search (design_send, design_field_send, sendable, crosses) depth 40
+run-requires-send-M g c κs within = search (design_send, sendable, crosses) depth 40
 
 pub run-requires-sync-M : goal.run-requires-sync-M
-run-requires-sync-M g c κs within = search (design_sync, design_field_sync, sendable, crosses) depth 40
+run-requires-sync-M g c κs within = search (design_sync, sendable, crosses) depth 40

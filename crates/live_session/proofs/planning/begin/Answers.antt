@@ -33,19 +33,19 @@ returns-in-Ok-clause-begins g c =
     let is = c.in-Ok.ensures in
     let clock_in = subst (λ (id : NameId). id.0 < length old) (sym t.ensures.clock) c.requires.clock in
     let clock_is = subst (λ (id : NameId). text_at old id.0 ≡ codes "clk") (sym t.ensures.clock) c.requires.clock_is in
-    let behind = behind_none old new c.plan-planned.ensures.grows c.has_each_once.ensures c.has_each_once-2.ensures e loaded c.requires.edit c.requires.named
-    t.result t.ensures.files t.ensures.top clock_in clock_is in
+    let behind = behind_none old new c.plan-planned.ensures.grows c.has_each_once.ensures c.has_each_once-2.ensures e loaded c.requires.edit
+    c.requires.named t.result t.ensures.files t.ensures.top clock_in clock_is in
     let short = short_behind 4194304 planned.texts.files t.result.files e.files e.loads loaded (ap (λ (x : Texts). x.files) is.texts)
     (subst (All (λ (f : SourceFile). length f.text ≤ 4194304)) (sym t.ensures.files) (All-nil (λ (f : SourceFile). length f.text ≤ 4194304)))
     c.requires.given c.requires.loaded in
     let es = entries_of c.args.registry.now in
     let before = entries_of c.plan-planned.new.registry in
-    begun_begins new c.args.limits old e (map (text_file old) loaded) (entries_of c.begun_or_cut.new.registry) before planned.texts planned.design planned.keys
-    planned.built planned.kept c.args.book.now c.begun_or_cut.new.book c.begun_or_cut.result
+    begun_begins new c.args.limits old e (map (text_file old) loaded) (entries_of c.begun_or_cut.new.registry) before planned.texts planned.design
+    planned.keys planned.built planned.kept c.args.book.now c.begun_or_cut.new.book c.begun_or_cut.result
     (λ running line starts.
-    begins old new e loaded t.result behind c.args.limits c.requires.room planned.texts planned.design planned.keys planned.built planned.kept c.args.book.now
-    c.begun_or_cut.new.book running line starts c.requires.stands is.texts is.planned is.keyed _ es before c.requires.none is.ensured is.built is.kept
-    is.valid short)
+    begins old new e loaded t.result behind c.args.limits c.requires.room planned.texts planned.design planned.keys planned.built planned.kept
+    c.args.book.now c.begun_or_cut.new.book running line starts c.requires.stands is.texts is.planned is.keyed _ es before c.requires.none is.ensured
+    is.built is.kept is.valid short)
     c.begun_or_cut.ensures.kept c.begun_or_cut.ensures.starts
 
 pub refused-requires-clause-files : goal.refused-requires-clause-files
@@ -67,8 +67,8 @@ returns-clause-begins g c =
     let loaded = c.args.loaded.now in
     let clock_in = subst (λ (id : NameId). id.0 < length old) (sym t.ensures.clock) c.requires.clock in
     let clock_is = subst (λ (id : NameId). text_at old id.0 ≡ codes "clk") (sym t.ensures.clock) c.requires.clock_is in
-    let behind = behind_none old new c.plan-planned.ensures.grows c.has_each_once.ensures c.has_each_once-2.ensures e loaded c.requires.edit c.requires.named
-    t.result t.ensures.files t.ensures.top clock_in clock_is in
+    let behind = behind_none old new c.plan-planned.ensures.grows c.has_each_once.ensures c.has_each_once-2.ensures e loaded c.requires.edit
+    c.requires.named t.result t.ensures.files t.ensures.top clock_in clock_is in
     let fault = c.in-Err-Fault.fault in
     let reply = c.in_ok-reply-in-Err-Fault.reply in
     let files = numbered.files_behind t.result.files e.files e.loads loaded in

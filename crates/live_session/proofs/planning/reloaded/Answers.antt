@@ -65,7 +65,8 @@ returns-clause-goes_on g c =
     let machine = c.in_ok-version.ensures.design in
     let ops = ops_of c.args.lines.now in
     let reloads = reloads_so was is _ (c.args.running.now.version.value.number + 1) _ c.args.design _ ops c.in_ok-from.from
-    (ap (λ (v : Version Design). v.number) c.in_ok-try_clone.ensures ∙ number) (ap (λ (v : Version Design). v.machine.value) c.in_ok-try_clone.ensures ∙ machine)
+    (ap (λ (v : Version Design). v.number) c.in_ok-try_clone.ensures ∙ number)
+    (ap (λ (v : Version Design). v.machine.value) c.in_ok-try_clone.ensures ∙ machine)
     (c.new-ops.ensures ∙ c.in_ok-operations_of.ensures) c.in_ok-from.ensures.ok in
     record {
       has_texts = refl;
@@ -91,7 +92,8 @@ returns-clause-stands g c =
     let machine = c.in_ok-version.ensures.design in
     let ops = ops_of c.args.lines.now in
     let reloads = reloads_so was is _ (c.args.running.now.version.value.number + 1) _ c.args.design _ ops c.in_ok-from.from
-    (ap (λ (v : Version Design). v.number) c.in_ok-try_clone.ensures ∙ number) (ap (λ (v : Version Design). v.machine.value) c.in_ok-try_clone.ensures ∙ machine)
+    (ap (λ (v : Version Design). v.number) c.in_ok-try_clone.ensures ∙ number)
+    (ap (λ (v : Version Design). v.machine.value) c.in_ok-try_clone.ensures ∙ machine)
     (c.new-ops.ensures ∙ c.in_ok-operations_of.ensures) c.in_ok-from.ensures.ok in
     stands_next was is (c.args.running.now.version.value.number + 1) c.args.design ops c.in_ok-from.from c.reload.ensures.settings reloads
     c.legal-2.ensures c.args.limits c.args.running.now _ c.requires.stands number machine refl refl

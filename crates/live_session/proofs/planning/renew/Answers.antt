@@ -39,8 +39,9 @@ refused-requires-clause-files g c =
     let r = c.args.running.now in
     sources_within c.args.names.now c.plan-planned.new.names c.args.edit.now c.args.loaded.now r.texts
     (world_of c.args.names.now (entries_of c.args.registry.now) (marks_of c.args.book.now) r)
-    (behind_running c.args.names.now c.plan-planned.new.names c.plan-planned.ensures.grows c.has_each_once.ensures c.has_each_once-2.ensures c.args.edit.now
-    c.args.loaded.now c.requires.edit c.requires.named c.args.limits r c.requires.kept (entries_of c.args.registry.now) c.args.book.now c.requires.stands)
+    (behind_running c.args.names.now c.plan-planned.new.names c.plan-planned.ensures.grows c.has_each_once.ensures c.has_each_once-2.ensures
+    c.args.edit.now c.args.loaded.now c.requires.edit c.requires.named c.args.limits r c.requires.kept (entries_of c.args.registry.now)
+    c.args.book.now c.requires.stands)
 
 pub returns-in-Ok-clause-takes : goal.returns-in-Ok-clause-takes
 returns-in-Ok-clause-takes g c =
@@ -58,12 +59,12 @@ returns-in-Ok-clause-takes g c =
     (c.deref-old.ensures ∙ ap (λ (v : Version Design). v.machine.value) c.deref.ensures) is.valid in
     let short = short_behind 4194304 p.texts.files r.texts.files e.files e.loads loaded (ap (λ (x : Texts). x.files) is.texts) c.requires.kept.short
     c.requires.given c.requires.loaded in
-    takes_by old new grows c.has_each_once.ensures c.has_each_once-2.ensures e loaded c.requires.edit c.requires.named c.args.limits r c.requires.kept es
-    c.args.book.now c.requires.stands p.texts p.design p.keys p.built p.kept is.texts is.planned is.keyed _ (entries_of c.plan-planned.new.registry)
-    (grown_held old new es grows c.requires.held) is.ensured is.built is.kept valid short c.requires.room
+    takes_by old new grows c.has_each_once.ensures c.has_each_once-2.ensures e loaded c.requires.edit c.requires.named c.args.limits r
+    c.requires.kept es c.args.book.now c.requires.stands p.texts p.design p.keys p.built p.kept is.texts is.planned is.keyed _
+    (entries_of c.plan-planned.new.registry) (grown_held old new es grows c.requires.held) is.ensured is.built is.kept valid short c.requires.room
     (entries_of c.accepted.new.registry) c.accepted.new.running c.accepted.new.book c.accepted.result c.accepted.ensures.kept
-    (says_alike _ (ops_of e.ops) p.texts p.design p.keys p.built p.kept _ r c.accepted.new.running c.args.book.now c.accepted.new.book c.accepted.result
-    (ap ops_of c.as_slice.ensures) (one_running r _ _ _ _) c.accepted.ensures.says)
+    (says_alike _ (ops_of e.ops) p.texts p.design p.keys p.built p.kept _ r c.accepted.new.running c.args.book.now c.accepted.new.book
+    c.accepted.result (ap ops_of c.as_slice.ensures) (one_running r _ _ _ _) c.accepted.ensures.says)
 
 pub returns-in-Ok-clause-loses : goal.returns-in-Ok-clause-loses
 returns-in-Ok-clause-loses g c =
@@ -81,12 +82,12 @@ returns-in-Ok-clause-loses g c =
     (c.deref-old.ensures ∙ ap (λ (v : Version Design). v.machine.value) c.deref.ensures) is.valid in
     let short = short_behind 4194304 p.texts.files r.texts.files e.files e.loads loaded (ap (λ (x : Texts). x.files) is.texts) c.requires.kept.short
     c.requires.given c.requires.loaded in
-    loses_by old new grows c.has_each_once.ensures c.has_each_once-2.ensures e loaded c.requires.edit c.requires.named c.args.limits r c.requires.kept es
-    c.args.book.now c.requires.stands p.texts p.design p.keys p.built p.kept is.texts is.planned is.keyed _ (entries_of c.plan-planned.new.registry)
-    (grown_held old new es grows c.requires.held) is.ensured is.built is.kept valid short c.requires.room
+    loses_by old new grows c.has_each_once.ensures c.has_each_once-2.ensures e loaded c.requires.edit c.requires.named c.args.limits r
+    c.requires.kept es c.args.book.now c.requires.stands p.texts p.design p.keys p.built p.kept is.texts is.planned is.keyed _
+    (entries_of c.plan-planned.new.registry) (grown_held old new es grows c.requires.held) is.ensured is.built is.kept valid short c.requires.room
     (entries_of c.accepted.new.registry) c.accepted.new.running c.accepted.new.book c.accepted.result
-    (loses_alike _ (ops_of e.ops) p.texts p.design p.keys _ (length es) (entries_of c.plan-planned.new.registry) (entries_of c.accepted.new.registry) _ r
-    c.accepted.new.running c.args.book.now c.accepted.new.book c.accepted.result (ap ops_of c.as_slice.ensures) c.len-held.ensures.count
+    (loses_alike _ (ops_of e.ops) p.texts p.design p.keys _ (length es) (entries_of c.plan-planned.new.registry) (entries_of c.accepted.new.registry)
+    _ r c.accepted.new.running c.args.book.now c.accepted.new.book c.accepted.result (ap ops_of c.as_slice.ensures) c.len-held.ensures.count
     (one_running r _ _ _ _) c.accepted.ensures.loses)
 
 pub returns-in-Ok-clause-kept : goal.returns-in-Ok-clause-kept
@@ -105,21 +106,21 @@ returns-in-Ok-clause-kept g c =
     (c.deref-old.ensures ∙ ap (λ (v : Version Design). v.machine.value) c.deref.ensures) is.valid in
     let short = short_behind 4194304 p.texts.files r.texts.files e.files e.loads loaded (ap (λ (x : Texts). x.files) is.texts) c.requires.kept.short
     c.requires.given c.requires.loaded in
-    kept_by old new grows c.has_each_once.ensures c.has_each_once-2.ensures e loaded c.requires.edit c.requires.named c.args.limits r c.requires.kept es
-    c.args.book.now c.requires.stands p.texts p.design p.keys p.built p.kept is.texts is.planned is.keyed _ (entries_of c.plan-planned.new.registry)
-    (grown_held old new es grows c.requires.held) is.ensured is.built is.kept valid short c.requires.room
+    kept_by old new grows c.has_each_once.ensures c.has_each_once-2.ensures e loaded c.requires.edit c.requires.named c.args.limits r c.requires.kept
+    es c.args.book.now c.requires.stands p.texts p.design p.keys p.built p.kept is.texts is.planned is.keyed _
+    (entries_of c.plan-planned.new.registry) (grown_held old new es grows c.requires.held) is.ensured is.built is.kept valid short c.requires.room
     (entries_of c.accepted.new.registry) c.accepted.new.running c.accepted.new.book c.accepted.result
-    (says_alike _ (ops_of e.ops) p.texts p.design p.keys p.built p.kept _ r c.accepted.new.running c.args.book.now c.accepted.new.book c.accepted.result
-    (ap ops_of c.as_slice.ensures) (one_running r _ _ _ _) c.accepted.ensures.says)
-    (loses_alike _ (ops_of e.ops) p.texts p.design p.keys _ (length es) (entries_of c.plan-planned.new.registry) (entries_of c.accepted.new.registry) _ r
-    c.accepted.new.running c.args.book.now c.accepted.new.book c.accepted.result (ap ops_of c.as_slice.ensures) c.len-held.ensures.count
+    (says_alike _ (ops_of e.ops) p.texts p.design p.keys p.built p.kept _ r c.accepted.new.running c.args.book.now c.accepted.new.book
+    c.accepted.result (ap ops_of c.as_slice.ensures) (one_running r _ _ _ _) c.accepted.ensures.says)
+    (loses_alike _ (ops_of e.ops) p.texts p.design p.keys _ (length es) (entries_of c.plan-planned.new.registry) (entries_of c.accepted.new.registry)
+    _ r c.accepted.new.running c.args.book.now c.accepted.new.book c.accepted.result (ap ops_of c.as_slice.ensures) c.len-held.ensures.count
     (one_running r _ _ _ _) c.accepted.ensures.loses)
 
 pub returns-in-Ok-clause-held : goal.returns-in-Ok-clause-held
 returns-in-Ok-clause-held g c =
     let p = c.in-Ok.planned in
-    held_by _ c.plan-planned.new.names c.len-held.result (entries_of c.plan-planned.new.registry) (entries_of c.accepted.new.registry) p.texts p.design
-    p.keys _ c.accepted.new.running c.args.book.now c.accepted.new.book c.accepted.result c.plan-planned.ensures.held c.accepted.ensures.kept
+    held_by _ c.plan-planned.new.names c.len-held.result (entries_of c.plan-planned.new.registry) (entries_of c.accepted.new.registry) p.texts
+    p.design p.keys _ c.accepted.new.running c.args.book.now c.accepted.new.book c.accepted.result c.plan-planned.ensures.held c.accepted.ensures.kept
     c.accepted.ensures.loses
 
 pub returns-in-Err-NoMemory-clause-loses : goal.returns-in-Err-NoMemory-clause-loses
@@ -128,8 +129,8 @@ returns-in-Err-NoMemory-clause-loses g c =
     let new = c.plan-planned.new.names in
     let r = c.args.running.now in
     let was = c.args.book.now in
-    nothing_taken old new c.plan-planned.ensures.grows c.has_each_once.ensures c.has_each_once-2.ensures c.args.edit.now c.args.loaded.now c.requires.edit
-    c.requires.named c.args.limits r c.requires.kept (entries_of c.args.registry.now) was c.requires.stands
+    nothing_taken old new c.plan-planned.ensures.grows c.has_each_once.ensures c.has_each_once-2.ensures c.args.edit.now c.args.loaded.now
+    c.requires.edit c.requires.named c.args.limits r c.requires.kept (entries_of c.args.registry.now) was c.requires.stands
     (settings_by c.args.limits was) (entries_of c.plan-planned.new.registry) c.in-Err-NoMemory.ensures.stays
 
 pub returns-in-Err-NoMemory-clause-kept : goal.returns-in-Err-NoMemory-clause-kept
@@ -156,11 +157,12 @@ returns-in-Err-Fault-clause-takes g c =
     let found : IsEditFault new files top clock (Some r.version.value.machine.value) e.ops (fault_view new fault) =
     subst (IsEditRefusal new files top clock (Some r.version.value.machine.value) e.ops) c.in-Err-Fault.field-0-is told in
     let says : IfOk c.refused.result (Refuses (refused_text (map (text_file new) files) e.line (fault_view new fault))) =
-    subst (λ (f : Fault). IfOk c.refused.result (Refuses (refused_text (map (text_file new) files) e.line (fault_view new f)))) c.in-Err-Fault.fault-is
-    c.refused.ensures in
+    subst (λ (f : Fault). IfOk c.refused.result (Refuses (refused_text (map (text_file new) files) e.line (fault_view new f))))
+    c.in-Err-Fault.fault-is c.refused.ensures in
     refused_by old new c.plan-planned.ensures.grows c.has_each_once.ensures c.has_each_once-2.ensures e loaded c.requires.edit c.requires.named
     c.args.limits r c.requires.kept (entries_of c.args.registry.now) was c.requires.stands
-    (settings_by c.args.limits was) (fault_view new fault) (entries_of c.plan-planned.new.registry) c.in-Err-Fault.ensures.stays found c.refused.result says
+    (settings_by c.args.limits was) (fault_view new fault) (entries_of c.plan-planned.new.registry) c.in-Err-Fault.ensures.stays found
+    c.refused.result says
 
 pub returns-in-Err-Fault-clause-loses : goal.returns-in-Err-Fault-clause-loses
 returns-in-Err-Fault-clause-loses g c =
@@ -168,8 +170,8 @@ returns-in-Err-Fault-clause-loses g c =
     let new = c.plan-planned.new.names in
     let r = c.args.running.now in
     let was = c.args.book.now in
-    nothing_by old new c.plan-planned.ensures.grows c.has_each_once.ensures c.has_each_once-2.ensures c.args.edit.now c.args.loaded.now c.requires.edit
-    c.requires.named c.args.limits r c.requires.kept (entries_of c.args.registry.now) was c.requires.stands
+    nothing_by old new c.plan-planned.ensures.grows c.has_each_once.ensures c.has_each_once-2.ensures c.args.edit.now c.args.loaded.now
+    c.requires.edit c.requires.named c.args.limits r c.requires.kept (entries_of c.args.registry.now) was c.requires.stands
     (settings_by c.args.limits was) (entries_of c.plan-planned.new.registry) c.in-Err-Fault.ensures.stays c.refused.result
 
 pub returns-in-Err-Fault-clause-kept : goal.returns-in-Err-Fault-clause-kept

@@ -9,26 +9,26 @@ use Rattle.live_session.specs.Logs.{book_in}
 use Rattle.live_session.proofs.ShownTables.{display_shown, fits_there, opened_there}
 use denote.Param.Send.{sendable}
 use Rattle.std.proofs.Crossing.{crosses}
-use Rattle.live_session.proofs.DesignsShared.{design_field_send, design_field_sync, design_send, design_sync}
+use Rattle.live_session.proofs.DesignsShared.{design_send, design_sync}
 use Rattle.live_session.proofs.running.Running.display.Goals as goal
 
 pub legal-requires-send-M : goal.legal-requires-send-M
-legal-requires-send-M c κs = search (design_send, design_field_send, sendable, crosses) depth 40
+legal-requires-send-M c κs = search (design_send, sendable, crosses) depth 40
 
 pub legal-requires-sync-M : goal.legal-requires-sync-M
-legal-requires-sync-M c κs = search (design_sync, design_field_sync, sendable, crosses) depth 40
+legal-requires-sync-M c κs = search (design_sync, sendable, crosses) depth 40
 
 pub legal_histories-requires-send-M : goal.legal_histories-requires-send-M
-legal_histories-requires-send-M c κs = search (design_send, design_field_send, sendable, crosses) depth 40
+legal_histories-requires-send-M c κs = search (design_send, sendable, crosses) depth 40
 
 pub legal_histories-requires-sync-M : goal.legal_histories-requires-sync-M
-legal_histories-requires-sync-M c κs = search (design_sync, design_field_sync, sendable, crosses) depth 40
+legal_histories-requires-sync-M c κs = search (design_sync, sendable, crosses) depth 40
 
 pub current-state-requires-send-M : goal.current-state-requires-send-M
-current-state-requires-send-M c κs = search (design_send, design_field_send, sendable, crosses) depth 40
+current-state-requires-send-M c κs = search (design_send, sendable, crosses) depth 40
 
 pub current-state-requires-sync-M : goal.current-state-requires-sync-M
-current-state-requires-sync-M c κs = search (design_sync, design_field_sync, sendable, crosses) depth 40
+current-state-requires-sync-M c κs = search (design_sync, sendable, crosses) depth 40
 
 pub current-state-requires-clause-opened : goal.current-state-requires-clause-opened
 current-state-requires-clause-opened c κs = opened_there c.args.self.now (book_in c.args.book.now) c.requires.runs

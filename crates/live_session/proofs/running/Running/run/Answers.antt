@@ -13,7 +13,7 @@ use Rattle.live_session.specs.Runs.{rows_behind}
 use Rattle.live_session.specs.Turns.{Accepts}
 use Rattle.live_session.specs.declared.running.Running.{Running}
 use Rattle.live_session.proofs.AscendingRows.{AreWithin}
-use Rattle.live_session.proofs.DesignsShared.{design_field_send, design_field_sync, design_send, design_sync}
+use Rattle.live_session.proofs.DesignsShared.{design_send, design_sync}
 use Rattle.live_session.proofs.Judged.{stops_still, world_with}
 use Rattle.live_session.proofs.JudgedRuns.{RunsOn, no_code, ran_on, room_there, run_accepted, run_refused, run_stands}
 use Rattle.live_session.proofs.KeptRuns.{kept_on}
@@ -25,10 +25,10 @@ use Rattle.live_session.proofs.Standing.{adds_none, adds_nothing, stands_back, s
 use Rattle.live_session.proofs.running.Running.run.Goals as goal
 
 pub legal-requires-send-M : goal.legal-requires-send-M
-legal-requires-send-M g c κs = search (design_send, design_field_send, sendable, crosses) depth 40
+legal-requires-send-M g c κs = search (design_send, sendable, crosses) depth 40
 
 pub legal-requires-sync-M : goal.legal-requires-sync-M
-legal-requires-sync-M g c κs = search (design_sync, design_field_sync, sendable, crosses) depth 40
+legal-requires-sync-M g c κs = search (design_sync, sendable, crosses) depth 40
 
 pub returns-then-cycles-eq0-clause-answers : goal.returns-then-cycles-eq0-clause-answers
 returns-then-cycles-eq0-clause-answers g c =

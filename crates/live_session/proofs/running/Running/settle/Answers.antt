@@ -8,7 +8,7 @@ use Rattle.live_session.specs.declared.reply.Reply.{Reply}
 use Rattle.live_session.specs.declared.running.Running.{Running}
 use denote.Param.Send.{sendable}
 use Rattle.std.proofs.Crossing.{crosses}
-use Rattle.live_session.proofs.DesignsShared.{design_field_send, design_field_sync, design_send, design_sync}
+use Rattle.live_session.proofs.DesignsShared.{design_send, design_sync}
 use Rattle.live_session.proofs.RefusedShows.{refused_stops, settle_refused, stopped}
 use Rattle.live_session.proofs.SettleRoom.{all_charged, all_passes, charged_there, room_there}
 use Rattle.live_session.proofs.ShownBeside.{settle_done, settle_stands, settle_stops, unsettled_stands}
@@ -16,22 +16,22 @@ use Rattle.live_session.proofs.ShownTables.{opened_there}
 use Rattle.live_session.proofs.running.Running.settle.Goals as goal
 
 pub marks-requires-send-M : goal.marks-requires-send-M
-marks-requires-send-M g c κs = search (design_send, design_field_send, sendable, crosses) depth 40
+marks-requires-send-M g c κs = search (design_send, sendable, crosses) depth 40
 
 pub marks-requires-sync-M : goal.marks-requires-sync-M
-marks-requires-sync-M g c κs = search (design_sync, design_field_sync, sendable, crosses) depth 40
+marks-requires-sync-M g c κs = search (design_sync, sendable, crosses) depth 40
 
 pub settle-settled-requires-send-M : goal.settle-settled-requires-send-M
-settle-settled-requires-send-M g c κs within = search (design_send, design_field_send, sendable, crosses) depth 40
+settle-settled-requires-send-M g c κs within = search (design_send, sendable, crosses) depth 40
 
 pub settle-settled-requires-sync-M : goal.settle-settled-requires-sync-M
-settle-settled-requires-sync-M g c κs within = search (design_sync, design_field_sync, sendable, crosses) depth 40
+settle-settled-requires-sync-M g c κs within = search (design_sync, sendable, crosses) depth 40
 
 pub legal-requires-send-M : goal.legal-requires-send-M
-legal-requires-send-M g c κs = search (design_send, design_field_send, sendable, crosses) depth 40
+legal-requires-send-M g c κs = search (design_send, sendable, crosses) depth 40
 
 pub legal-requires-sync-M : goal.legal-requires-sync-M
-legal-requires-sync-M g c κs = search (design_sync, design_field_sync, sendable, crosses) depth 40
+legal-requires-sync-M g c κs = search (design_sync, sendable, crosses) depth 40
 
 pub settle-settled-requires-clause-opened : goal.settle-settled-requires-clause-opened
 settle-settled-requires-clause-opened g c κs within = opened_there c.args.self.now (book_in c.args.book.now) c.requires.stands.outline

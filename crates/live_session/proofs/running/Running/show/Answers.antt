@@ -16,20 +16,20 @@ use Rattle.live_session.proofs.ShownBeside.{book_shown, show_done, show_runs, sh
 use Rattle.live_session.proofs.ShownTables.{opened_there}
 use denote.Param.Send.{sendable}
 use Rattle.std.proofs.Crossing.{crosses}
-use Rattle.live_session.proofs.DesignsShared.{design_field_send, design_field_sync, design_send, design_sync}
+use Rattle.live_session.proofs.DesignsShared.{design_send, design_sync}
 use Rattle.live_session.proofs.running.Running.show.Goals as goal
 
 pub show-shown-requires-send-M : goal.show-shown-requires-send-M
-show-shown-requires-send-M c κs = search (design_send, design_field_send, sendable, crosses) depth 40
+show-shown-requires-send-M c κs = search (design_send, sendable, crosses) depth 40
 
 pub show-shown-requires-sync-M : goal.show-shown-requires-sync-M
-show-shown-requires-sync-M c κs = search (design_sync, design_field_sync, sendable, crosses) depth 40
+show-shown-requires-sync-M c κs = search (design_sync, sendable, crosses) depth 40
 
 pub legal-requires-send-M : goal.legal-requires-send-M
-legal-requires-send-M c κs = search (design_send, design_field_send, sendable, crosses) depth 40
+legal-requires-send-M c κs = search (design_send, sendable, crosses) depth 40
 
 pub legal-requires-sync-M : goal.legal-requires-sync-M
-legal-requires-sync-M c κs = search (design_sync, design_field_sync, sendable, crosses) depth 40
+legal-requires-sync-M c κs = search (design_sync, sendable, crosses) depth 40
 
 pub returns-then-self-limits-clause-answers : goal.returns-then-self-limits-clause-answers
 returns-then-self-limits-clause-answers c =

@@ -7,15 +7,15 @@ use Rattle.wave_report.specs.Replies.{status_text}
 use Rattle.wave_report.specs.declared.unit_line.UnitLine.{UnitLine}
 use Rattle.live_session.specs.Logs.{book_in}
 use Rattle.live_session.specs.Statuses.{key_line}
-use Rattle.live_session.proofs.DesignsShared.{design_field_send, design_field_sync, design_send, design_sync}
+use Rattle.live_session.proofs.DesignsShared.{design_send, design_sync}
 use Rattle.live_session.proofs.StatusLines.{status_told}
 use Rattle.live_session.proofs.running.Running.status.Goals as goal
 
 pub marks-requires-send-M : goal.marks-requires-send-M
-marks-requires-send-M c κs = search (design_send, design_field_send, sendable, crosses) depth 40
+marks-requires-send-M c κs = search (design_send, sendable, crosses) depth 40
 
 pub marks-requires-sync-M : goal.marks-requires-sync-M
-marks-requires-sync-M c κs = search (design_sync, design_field_sync, sendable, crosses) depth 40
+marks-requires-sync-M c κs = search (design_sync, sendable, crosses) depth 40
 
 pub returns-clause-answers : goal.returns-clause-answers
 returns-clause-answers c = λ names limits line once kept stands.
