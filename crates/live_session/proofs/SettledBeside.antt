@@ -1,18 +1,19 @@
 -- A session beside its book behind a settle that was charged before.
-use Rattle.std.proofs.Common.{◌≡◌, ℕ, ◌+◌, ◌*◌, ◌≤◌, ◌<◌, min, true, length, Option, Some, None, Result, Ok, Err, refl, sym, ◌∙◌, ap, subst, true≢false, arith}
-use Rattle.std.specs.Prelude.{IfOk, OnErr, is_some}
-use Rattle.book_history.specs.Outline.{outline_from}
+use Rattle.std.proofs.Common.{◌≡◌, ℕ, ◌+◌, ◌*◌, ◌≤◌, min, true, List, Option, Some, None, refl, sym, ◌∙◌, ap, subst, true≢false, arith}
+use Rattle.std.specs.Prelude.{is_some}
 use Rattle.book_history.specs.Readers.{links_in}
 use Rattle.book_history.specs.Rooms.{Counts}
 use Rattle.book_settle.proofs.Counting.{settle_counts, settle_outline, unfinished_counts, unfinished_long, unfinished_outline}
 use Rattle.book_settle.specs.Settles.{HasSettled, HasTried}
 use Rattle.checkpoint_book.specs.Views.{IsOpened, counts_of}
+use Rattle.module_registry.specs.Entries.{Entry}
 use Rattle.live_session.specs.Beside.{RunsIn, Stands, charge_of}
 use Rattle.live_session.specs.Logs.{Log, book_in, kit, outline_of}
+use Rattle.live_session.specs.Sessions.{running_world}
 use Rattle.live_session.specs.declared.limits.Limits.{Limits}
 use Rattle.live_session.specs.declared.running.Running.{Running}
 use Rattle.live_session.proofs.ShownTables.{opened_there}
-use Rattle.live_session.proofs.Standing.{Adds, IsLegal, stands_on}
+use Rattle.live_session.proofs.Standing.{IsLegal, stands_on}
 
 -- the book of what runs has a version
 pub opened_by : (limits : Limits) (o : Option Running) (j : Log) → is_some o ≡ true → Stands limits o j → IsOpened (book_in j)
@@ -56,7 +57,12 @@ module _ (limits : Limits) (was is : Log) (legal : IsLegal is) (n : ℕ) where
   tried_stands None some stands charged t = absurd (true≢false (sym some))
   tried_stands (Some r) some stands charged t = tried_running r stands charged t
 
--- the room of a session is above its charge
-pub room_by : (limits : Limits) (o : Option Running) (j : Log) (room more : ℕ) → Stands limits o j → charge_of o ≤ room → limits.rooms.session ≡ room
-    → (counts_of j).session + more ≤ charge_of o → (counts_of j).session + more ≤ j.settings.rooms.session
-room_by limits o j room more stands within is charged = omega (arith, charged, within, is, ap (λ rooms. rooms.session) stands.rooms)
+-- what the world of a session says of what runs
+module _ (names : List (List ℕ)) (entries : List Entry) (grid : List ℕ) where
+  pub runs_by : (o : Option Running) → is_some (running_world names entries grid o).design ≡ true → is_some o ≡ true
+  runs_by None opened = opened
+  runs_by (Some r) opened = refl
+
+  pub charged_by : (o : Option Running) → (running_world names entries grid o).charge ≡ charge_of o
+  charged_by None = refl
+  charged_by (Some r) = refl

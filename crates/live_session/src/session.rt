@@ -519,7 +519,7 @@ impl Session {
         requires parts { blank.parts ≡ L.parts }
         requires some { 0 < blank.parts }
         requires beside { StandsBeside self.now book.old }
-        requires opened { is_some self.now.running ≡ true }
+        requires opened { is_some (world_in self.now book.old).design ≡ true }
         requires charged { (counts_of book.old).session + (2 * min passes (links_in (book_in book.old)) + 1) ≤ (world_in self.now book.old).charge }
         ensures answer { IfOk result (λ a. HasSettled kit book.old book.new passes (settled_up_to a)) }
         ensures tried { OnErr result (HasTried book.old book.new (min passes (links_in (book_in book.old)))) }
@@ -541,7 +541,7 @@ impl Session {
         passes: u32,
     ) -> Result<SettleAnswer, NoMemory>
         requires beside { StandsBeside self.now book.old }
-        requires opened { is_some self.now.running ≡ true }
+        requires opened { is_some (world_in self.now book.old).design ≡ true }
         requires charged { (counts_of book.old).session + (2 * min passes (links_in (book_in book.old)) + 1) ≤ (world_in self.now book.old).charge }
         ensures answer { IfOk result (λ a. HasSettled kit book.old book.new passes (settled_up_to a)) }
         ensures tried { OnErr result (HasTried book.old book.new (min passes (links_in (book_in book.old)))) }
