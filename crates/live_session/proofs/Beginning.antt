@@ -1,6 +1,6 @@
 -- The first block: the version at its beginning, and its book.
-use Rattle.std.proofs.Common.{◌≡◌, ◌∙◌, ℕ, ◌+◌, ◌≤◌, ◌<◌, true, List, [], ◌∷◌, ◌++◌, map, length, All, refl, sym, ap, ap₂, subst, true≢false, arith}
-use Rattle.std.specs.Prelude.{codes, false, IfOk, Option, Some, None, Result, Ok, Err, is_some}
+use Rattle.std.proofs.Common.{◌≡◌, ◌∙◌, ℕ, ◌+◌, ◌≤◌, ◌<◌, List, [], ◌∷◌, ◌++◌, map, length, All, refl, sym, ap, ap₂, subst, true≢false, arith}
+use Rattle.std.specs.Prelude.{codes, IfOk, Option, Some, None, Result, Ok, Err, is_some}
 use Rattle.std.specs.Option.{option_map}
 use Rattle.std.proofs.lemmas.List.Elements.{All-nil}
 use Rattle.book_history.specs.Book.{Book, Settings as BookSettings, Opens}

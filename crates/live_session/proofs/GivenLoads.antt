@@ -1,5 +1,5 @@
 -- Loads that gave texts, and what comes behind them.
-use Rattle.std.proofs.Common.{◌≡◌, ◌∙◌, ℕ, suc, ◌+◌, ◌<◌, ◌≤◌, ◌⊎◌, ◌||◌, Bool, true, false, cond, ltb, List, [], ◌∷◌, ◌++◌, map, take, drop, length, get_or, Result, Ok, Err, refl, sym, ap, ap₂, subst, inl, inr, arith, append_assoc}
+use Rattle.std.proofs.Common.{◌≡◌, ◌∙◌, ℕ, suc, ◌+◌, ◌<◌, ◌≤◌, ◌||◌, Bool, true, false, cond, ltb, List, [], ◌∷◌, ◌++◌, map, take, drop, length, get_or, Result, Ok, Err, refl, sym, ap, ap₂, subst, append_assoc}
 use Rattle.std.specs.Global.{Global}
 use Rattle.std.specs.Prelude.{Vec, OnErr}
 use Rattle.std.specs.List.{All, AllZip, list_any}
@@ -7,7 +7,7 @@ use Rattle.std.specs.declared.option.Option.{Option}
 use Rattle.std.specs.declared.option.Option.TheVariants.{Some, None}
 use Rattle.std.proofs.lemmas.Bool.{le-ltb, lt-ltb}
 use Rattle.std.proofs.lemmas.List.{append-nil, map-append, take_more, take-append-drop, take_all}
-use Rattle.std.proofs.lemmas.List.Elements.{All-head, All-tail, All-nil, All-cons, All-take, All-drop}
+use Rattle.std.proofs.lemmas.List.Elements.{All-head, All-tail, All-nil, All-cons, All-drop}
 use Rattle.ls_text.specs.Readings.{fault_view}
 use Rattle.ls_text.specs.Texts.{text_at}
 use Rattle.ls_text.specs.declared.at.At.TheVariants.{Line}
@@ -26,9 +26,8 @@ use Rattle.command_read.specs.Spoken.{loaded_file, AreLoadsWithin}
 use Rattle.command_read.specs.declared.load_line.LoadLine.{LoadLine}
 use Rattle.live_session.specs.Files.{TextFile, text_file}
 use Rattle.live_session.specs.Loads.{LoadAnswer, Gave, Broke, AddsAnswers, AreAnswers, AreToFirst, HasFailed, name_in, file_then, is_broken, loaded_files, shelf_answer, shelf_answers}
-use Rattle.live_session.specs.Loaded.{AreUsable, ComesTo, Loses, result_of}
+use Rattle.live_session.specs.Loaded.{ComesTo, Loses}
 use Rattle.live_session.specs.Worlds.{Refused, refused_at, refused_text}
-use Rattle.live_session.specs.declared.loads.Loads.{Loads}
 use Rattle.live_session.specs.declared.loads.Loads.TheVariants as loads
 
 -- a file is what a load gave

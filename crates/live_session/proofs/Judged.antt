@@ -1,27 +1,25 @@
 -- What a command did, by its verdict and by the entries that it added.
-use Rattle.std.proofs.Common.{◌≡◌, ◌∙◌, ℕ, true, false, List, [], ◌∷◌, ◌++◌, map, Option, Some, None, Result, Ok, Err, refl, sym, ap, subst, append-nil}
+use Rattle.std.proofs.Common.{◌≡◌, ◌∙◌, ℕ, true, false, List, [], ◌∷◌, ◌++◌, map, Some, Result, Ok, Err, refl, sym, ap, subst, append-nil}
 use Rattle.std.specs.Prelude.{IfOk, codes}
 use Rattle.ls_text.specs.Texts.{HasEachOnce}
-use Rattle.book_history.specs.Book.{Book}
 use Rattle.book_history.specs.Outline.{outline_in}
 use Rattle.book_history.specs.Owned.{AllOwned, owned}
-use Rattle.book_settle.specs.Passes.{IsUnfinished, no_pass, no_ticket}
+use Rattle.book_settle.specs.Passes.{no_pass, no_ticket}
 use Rattle.command_read.specs.Asking.{Asked, Sets}
 use Rattle.command_read.specs.Spoken.{setting}
 use Rattle.command_read.specs.declared.port_value.PortValue.{PortValue}
-use Rattle.cycle_eval.specs.declared.design.Design.{Design}
 use Rattle.module_registry.specs.Entries.{Entry}
 use Rattle.version_swap.specs.Behind.{design_of}
 use Rattle.live_session.specs.Beside.{Stands, settings_by}
 use Rattle.live_session.specs.Done.{IsDone}
-use Rattle.live_session.specs.Logs.{InputRow, Log, LogEvent, LogMoment, State, marks_of, moments_after}
+use Rattle.live_session.specs.Logs.{Log, LogEvent, LogMoment, marks_of, moments_after}
 use Rattle.live_session.specs.Replies.{command_text}
 use Rattle.live_session.specs.Rows.{row_of}
 use Rattle.live_session.specs.Scripts.{Agrees, AllAgree, IsAccepted, entry_worlds}
 use Rattle.live_session.specs.Sessions.{world_of}
 use Rattle.live_session.specs.Settings.{Settings}
 use Rattle.live_session.specs.Spelled.{spelled}
-use Rattle.live_session.specs.Turns.{Accepts, AnswersIn, Refuses, StopsIn, no_answer, undone_in, lost_in}
+use Rattle.live_session.specs.Turns.{Accepts, AnswersIn, Refuses, StopsIn, no_answer, undone_in}
 use Rattle.live_session.specs.Verdicts.{command_verdict, set_row, with_row}
 use Rattle.live_session.specs.Worlds.{World, Refused}
 use Rattle.live_session.specs.declared.limits.Limits.{Limits}

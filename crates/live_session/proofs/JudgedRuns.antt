@@ -1,5 +1,5 @@
 -- A run of a design that a session keeps, by the code of its refusal.
-use Rattle.std.proofs.Common.{◌≡◌, ◌∙◌, ℕ, ◌+◌, ◌-◌, ◌<◌, ◌≤◌, Bool, true, false, cond, ltb, List, [], ◌∷◌, ◌++◌, map, length, replicate, Option, Some, None, Result, Ok, Err, refl, sym, ap, ap₂, subst, arith}
+use Rattle.std.proofs.Common.{◌≡◌, ◌∙◌, ℕ, ◌+◌, ◌-◌, ◌<◌, ◌≤◌, Bool, true, false, cond, ltb, List, [], ◌∷◌, ◌++◌, map, length, replicate, Option, Some, None, Result, refl, sym, ap, ap₂, subst, arith}
 use Rattle.std.specs.Prelude.{IfOk}
 use Rattle.std.specs.List.{All}
 use Rattle.std.proofs.lemmas.Bool.{ltb-true}
@@ -14,16 +14,15 @@ use Rattle.module_registry.specs.Entries.{Entry}
 use Rattle.stimulus.specs.Records.{limit_of, rows_of}
 use Rattle.stimulus.specs.Rows.{names_set, are_same as same_numbers}
 use Rattle.cycle_eval.specs.declared.design.Design.{Design}
-use Rattle.live_session.specs.Beside.{RunsIn, Stands, settings_by}
+use Rattle.live_session.specs.Beside.{Stands, settings_by}
 use Rattle.live_session.specs.Kept.{IsKept}
 use Rattle.live_session.specs.Logs.{InputRow, Log, LogMoment, book_in, marks_of, outline_of}
 use Rattle.live_session.specs.Rows.{Row, are_same, row_of}
 use Rattle.live_session.specs.Runs.{run_code}
 use Rattle.live_session.specs.Sessions.{settings_of, world_of}
-use Rattle.live_session.specs.Settings.{Settings}
 use Rattle.live_session.specs.Turns.{Accepts, AnswersIn, Refuses}
 use Rattle.live_session.specs.Verdicts.{counted_verdict, ran}
-use Rattle.live_session.specs.Worlds.{World, cycle, refused_at}
+use Rattle.live_session.specs.Worlds.{cycle, refused_at}
 use Rattle.wave_report.specs.Replies.{run_text}
 use Rattle.live_session.specs.declared.limits.Limits.{Limits}
 use Rattle.live_session.specs.declared.reply.Reply.{Reply}

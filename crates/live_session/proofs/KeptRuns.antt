@@ -9,7 +9,7 @@ use Rattle.stimulus.specs.Records.{limit_of, rows_of}
 use Rattle.version_swap.specs.Behind.{design_of}
 use Rattle.version_swap.specs.Plans.{Plans}
 use Rattle.version_swap.specs.declared.texts.Texts.{Texts}
-use Rattle.live_session.specs.Kept.{AreNamed, IsKept}
+use Rattle.live_session.specs.Kept.{IsKept}
 use Rattle.live_session.specs.declared.limits.Limits.{Limits}
 use Rattle.live_session.specs.declared.running.Running.{Running}
 use Rattle.live_session.proofs.AscendingRows.{AreWithin}

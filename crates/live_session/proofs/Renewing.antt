@@ -1,5 +1,5 @@
 -- A block behind a design that runs: the next version, and its book.
-use Rattle.std.proofs.Common.{◌≡◌, ◌∙◌, ℕ, ◌+◌, ◌-◌, ◌^◌, ◌≤◌, ◌<◌, true, List, [], ◌∷◌, ◌++◌, map, length, All}
+use Rattle.std.proofs.Common.{◌≡◌, ◌∙◌, ℕ, ◌+◌, ◌-◌, ◌^◌, ◌≤◌, ◌<◌, List, [], ◌∷◌, ◌++◌, map, length, All}
 use Rattle.std.proofs.Common.{refl, sym, ap, ap₂, subst, true≢false, arith}
 use Rattle.std.specs.Prelude.{◌==◌, false, if◌then◌else◌, IfOk, OnErr, Option, Some, None, Result, Ok, Err, is_some}
 use Rattle.std.specs.Option.{option_or, unwrap_or}

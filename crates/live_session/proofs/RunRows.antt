@@ -1,6 +1,5 @@
 -- A run that is refused or recorded, by the names that its rows set and by the room of the session.
-use Rattle.std.proofs.Common.{◌≡◌, ◌∙◌, ℕ, zero, suc, ◌+◌, ◌<◌, ◌≤◌, ◌||◌, ◌==◌, Bool, true, false, not, cond, ltb, eqb, List, [], ◌∷◌, ◌++◌, map, take, drop, ◌-◌, length, replicate, Option, Some, None, Result, Ok, Err, refl, sym, ap, ap₂, subst, arith}
-use Rattle.std.specs.Prelude.{nat_lt}
+use Rattle.std.proofs.Common.{◌≡◌, ◌∙◌, ℕ, zero, suc, ◌+◌, ◌≤◌, ◌||◌, Bool, true, false, not, cond, ltb, List, [], ◌∷◌, ◌++◌, map, take, drop, ◌-◌, length, replicate, Option, Some, None, Result, Ok, Err, refl, sym, ap, ap₂, arith}
 use Rattle.std.specs.List.{All}
 use Rattle.std.proofs.lemmas.Bool.{le-ltb, lt-ltb, ltb-false, ltb-true, ne_eqb}
 use Rattle.std.proofs.lemmas.List.{length-append, length-replicate, length-map, map-append, take_all}
@@ -16,7 +15,7 @@ use Rattle.live_session.specs.Settings.{Settings}
 use Rattle.live_session.specs.Verdicts.{counted_verdict, ran}
 use Rattle.live_session.specs.Worlds.{World, Refused, cycle, refused_at}
 use Rattle.live_session.proofs.AscendingRows.{AreWithin}
-use Rattle.live_session.proofs.TextRows.{AreRows, same_count}
+use Rattle.live_session.proofs.TextRows.{same_count}
 
 -- ---- verdicts
 

@@ -1,10 +1,10 @@
 -- A display and a settle beside a book, by the entries that they add.
-use Rattle.std.proofs.Common.{◌≡◌, ◌∙◌, ℕ, ◌+◌, ◌*◌, ◌≤◌, ◌<◌, min, false, List, [], ◌∷◌, ◌++◌, length, Option, Some, None, Result, Ok, Err, refl, sym, ap, ap₂, subst, arith}
+use Rattle.std.proofs.Common.{◌≡◌, ◌∙◌, ℕ, ◌+◌, ◌*◌, ◌≤◌, min, false, List, [], ◌∷◌, length, Option, Some, None, Ok, refl, sym, ap, ap₂, subst, arith}
 use Rattle.ls_text.specs.Texts.{HasEachOnce}
 use Rattle.book_history.specs.Book.{Book, Settings as BookSettings, Shows as ShowsEvent, apply, replay, replay_from}
-use Rattle.book_history.specs.Outline.{Outline, outline_from, outline_in}
+use Rattle.book_history.specs.Outline.{Outline, outline_from}
 use Rattle.book_history.specs.Rooms.{count_all, no_entry}
-use Rattle.book_history.specs.Readers.{links_in, marks_in}
+use Rattle.book_history.specs.Readers.{links_in}
 use Rattle.book_history.proofs.Places.{replay-append}
 use Rattle.book_settle.specs.Passes.{IsSettle}
 use Rattle.book_settle.specs.Settles.{HasSettled, HasTried}
@@ -18,7 +18,6 @@ use Rattle.live_session.specs.Kept.{IsKept}
 use Rattle.live_session.specs.Logs.{InputRow, Log, LogEvent, LogMoment, State, book_in, kit, marks_of, outline_of, valid}
 use Rattle.live_session.specs.Scripts.{Agrees}
 use Rattle.live_session.specs.Sessions.{world_of}
-use Rattle.live_session.specs.Settings.{Settings}
 use Rattle.live_session.specs.Shown.{display_lines, last_values, settle_text}
 use Rattle.live_session.specs.Spelled.{Spelled, spelled}
 use Rattle.live_session.specs.Turns.{AnswersIn, StopsIn, undone_in}
@@ -28,7 +27,7 @@ use Rattle.live_session.specs.declared.limits.Limits.{Limits}
 use Rattle.live_session.specs.declared.reply.Reply.{Reply}
 use Rattle.live_session.specs.declared.running.Running.{Running}
 use Rattle.live_session.proofs.ChargedShows.{has_room}
-use Rattle.live_session.proofs.Judged.{IsSameIn, entry_done}
+use Rattle.live_session.proofs.Judged.{entry_done}
 use Rattle.live_session.proofs.Standing.{Adds, IsLegal, StaysRun, agrees_in, are_owned, legal_behind, outline_behind, stands_left}
 
 -- a show leaves the book

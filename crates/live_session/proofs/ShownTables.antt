@@ -1,5 +1,5 @@
 -- A display of a design beside its book: where it is settled its registers are the true ones, else those of the last mark.
-use Rattle.std.proofs.Common.{◌≡◌, ◌∙◌, ℕ, Bool, true, false, cond, List, ◌++◌, map, length, Option, Some, None, refl, sym, ap, ap₂, subst}
+use Rattle.std.proofs.Common.{◌≡◌, ◌∙◌, ℕ, Bool, true, false, cond, List, ◌++◌, length, Option, Some, None, refl, sym, ap, ap₂, subst}
 use Rattle.std.proofs.lemmas.List.{length-map}
 use Rattle.std.proofs.lemmas.Option.{none-some, same_Some}
 use Rattle.ls_text.specs.Texts.{HasEachOnce}
@@ -27,7 +27,7 @@ use Rattle.live_session.specs.Logs.{InputRow, State, kit}
 use Rattle.live_session.specs.Rows.{row_of}
 use Rattle.live_session.specs.Sessions.{world_of}
 use Rattle.live_session.specs.Shown.{display_lines, last_values, show_line, shown_registers}
-use Rattle.live_session.specs.Spelled.{Spelled, spelled}
+use Rattle.live_session.specs.Spelled.{spelled}
 use Rattle.live_session.specs.Tables.{table_lines, true_registers}
 use Rattle.live_session.specs.Worlds.{World, cycle}
 use Rattle.live_session.specs.declared.running.Running.{Running}

@@ -1,6 +1,5 @@
 -- What a status tells of what runs and of its book.
-use Rattle.std.proofs.Common.{◌≡◌, ◌∙◌, ℕ, ◌+◌, ◌<◌, List, [], ◌∷◌, ◌++◌, map, drop, length, get_or, All, Option, Some, None, Result, Ok, Err, refl, sym, ap, ap₂, append_assoc}
-use Rattle.std.specs.Prelude.{IfOk}
+use Rattle.std.proofs.Common.{◌≡◌, ◌∙◌, ℕ, ◌+◌, ◌<◌, List, [], ◌∷◌, ◌++◌, map, drop, length, get_or, All, Option, Some, None, Ok, refl, sym, ap, ap₂, append_assoc}
 use Rattle.std.proofs.lemmas.List.{length-map}
 use Rattle.std.proofs.lemmas.List.Elements.{All-head, All-tail}
 use Rattle.std.proofs.lemmas.Option.{none-some}
@@ -23,7 +22,7 @@ use Rattle.live_session.specs.Rows.{row_of}
 use Rattle.live_session.specs.Sessions.{world_of}
 use Rattle.live_session.specs.Statuses.{key_line, module_in, status_lines, unit_line}
 use Rattle.live_session.specs.Turns.{Accepts, AnswersIn}
-use Rattle.live_session.specs.Worlds.{World, cycle}
+use Rattle.live_session.specs.Worlds.{cycle}
 use Rattle.live_session.specs.declared.limits.Limits.{Limits}
 use Rattle.live_session.specs.declared.reply.Reply.{Reply}
 use Rattle.live_session.specs.declared.running.Running.{Running}

@@ -1,5 +1,5 @@
 -- What a block comes to, in the code: the first version at its beginning, or the next one.
-use Rattle.std.specs.Prelude.{◌≡◌, ℕ, ◌+◌, List, [], ◌∷◌, ◌++◌, map, take, false, Option, None, Some, Ok}
+use Rattle.std.specs.Prelude.{◌≡◌, ℕ, ◌+◌, List, [], ◌∷◌, ◌++◌, take, false, None, Some, Ok}
 use Rattle.book_history.specs.Book.{Opens, Reloads}
 use Rattle.checkpoint_book.specs.Views.{chosen_in}
 use Rattle.command_read.specs.Asking.{Block}

@@ -1,5 +1,5 @@
 -- A session beside its book.
-use Rattle.std.specs.Prelude.{◌≡◌, ◌≤◌, ℕ, List, false, Option, Some, None}
+use Rattle.std.specs.Prelude.{◌≡◌, ◌≤◌, ℕ, false, Option, Some, None}
 use Rattle.book_history.specs.Outline.{Outline, blank}
 use Rattle.book_history.specs.Rooms.{count_all, no_entry}
 use Rattle.cycle_eval.specs.declared.design.Design.{Design}

@@ -1,5 +1,5 @@
 -- Entries of a history without what has numbers of names: designs, rows and operations.
-use Rattle.std.specs.Prelude.{⊤, ℕ, List, map}
+use Rattle.std.specs.Prelude.{⊤, map}
 use Rattle.book_history.specs.Book.{Event, Opens, Runs, Reloads, Claims, Installs, Releases, Shows, Closes}
 
 abbrev pub bare : {D R O : Type 0} → Event D R O → Event ⊤ ⊤ ⊤

@@ -1,11 +1,10 @@
 -- The history of a session's book, and the book that it leads to.
-use Rattle.std.specs.Prelude.{◌≡◌, ◌≤◌, ℕ, List, [], false, Option, Some, None}
+use Rattle.std.specs.Prelude.{ℕ, List, Option, None}
 use Rattle.machine.specs.Kit.{Kit}
 use Rattle.book_history.specs.Book.{Book, Event, replay}
 use Rattle.book_history.specs.Journal.{Journal}
 use Rattle.book_history.specs.Moments.{Moment, moments_from}
-use Rattle.book_history.specs.Outline.{Outline, blank, outline_in}
-use Rattle.book_history.specs.Rooms.{count_all, no_entry}
+use Rattle.book_history.specs.Outline.{Outline, outline_in}
 use Rattle.cycle_eval.specs.Designs.{design_flat}
 use Rattle.cycle_eval.specs.Kits.{IsValid, carried_of, reset_of, run_of}
 use Rattle.reg_transform.specs.States.{are_alike}

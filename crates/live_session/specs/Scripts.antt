@@ -13,13 +13,13 @@ use Rattle.reg_ops.specs.Operations.{HasNames, operation}
 use Rattle.typed_ir.specs.Cycles.{Signal}
 use Rattle.module_registry.specs.Keys.{KeyData}
 use Rattle.version_swap.specs.Behind.{design_of}
-use Rattle.live_session.specs.Judging.{verdict_on, after, world_or}
+use Rattle.live_session.specs.Judging.{verdict_on, after}
 use Rattle.live_session.specs.Logs.{InputRow, LogEvent, LogMoment, Ops}
 use Rattle.live_session.specs.Rows.{Row, row_of}
 use Rattle.live_session.specs.Settings.{Settings}
 use Rattle.live_session.specs.Spelled.{Spelled, spelled}
 use Rattle.live_session.specs.Verdicts.{Told, chosen, passes_of}
-use Rattle.live_session.specs.Worlds.{World, Refused, cycle}
+use Rattle.live_session.specs.Worlds.{World, Refused}
 
 -- the names of a signal are among so many
 abbrev pub IsNamedIn : (count : ℕ) → Signal → Type 0

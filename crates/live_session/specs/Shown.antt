@@ -1,7 +1,6 @@
 -- What a history says at the place of a command that has an entry of its own.
 use Rattle.std.specs.Prelude.{ℕ, List, [], ◌++◌, Option, Some, None}
 use Rattle.book_history.specs.Book.{Book, Event, Opens, Runs, Reloads, Claims, Installs, Releases, Shows, Closes, last_state}
-use Rattle.book_history.specs.Moments.{Moment}
 use Rattle.reg_transform.specs.States.{state_values}
 use Rattle.wave_report.specs.Replies.{estimate_text, settled_text, show_text, unsettled_text}
 use Rattle.live_session.specs.Logs.{State}

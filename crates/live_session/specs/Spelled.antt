@@ -1,7 +1,7 @@
 -- A design without a table of names: what its signals are called are texts.
 use Rattle.std.specs.Prelude.{ℕ, List, [], ◌∷◌, ◌++◌, map, slice_index_or, Result, Ok, Err}
 use Rattle.ls_text.specs.Readings.{TextFault}
-use Rattle.typed_ir.specs.Cycles.{Signal, Flat}
+use Rattle.typed_ir.specs.Cycles.{Flat}
 use Rattle.version_swap.specs.OnePlan.{nameless, path_texts, own_text, module_text}
 use Rattle.version_swap.specs.Plans.{DesignOfTexts}
 

@@ -1,15 +1,10 @@
-use Rattle.std.proofs.Common.{◌≡◌, ◌∙◌, ◌≤◌, ◌<◌, ◌+◌, ℕ, List, [], ◌∷◌, ◌++◌, length, map, get_or, refl, sym, ap, subst, arith}
-use Rattle.std.specs.Prelude.{OnErr}
-use Rattle.std.specs.declared.option.Option.{Option}
-use Rattle.std.specs.declared.result.Result.{Result}
+use Rattle.std.proofs.Common.{◌≡◌, ◌∙◌, ◌≤◌, ◌<◌, ◌+◌, ℕ, List, length, get_or, refl, sym, ap, subst, arith}
 use Rattle.ls_port.specs.Answers.{AddsAnswer}
-use Rattle.ls_port.specs.declared.shelf_answer.ShelfAnswer.{ShelfAnswer}
 use Rattle.ls_port.specs.declared.shelf_answer.ShelfAnswer.TheVariants as shelf
 use Rattle.ls_text.specs.declared.source_file.SourceFile.{SourceFile}
 use Rattle.ls_text.specs.Texts.{text_at}
 use Rattle.command_read.specs.declared.load_line.LoadLine.{LoadLine}
-use Rattle.live_session.specs.Loaded.{ComesTo, Loses}
-use Rattle.live_session.proofs.GivenLoads.{IsLoading, all_given, begins, broke, failed_adds, failed_rose, full_adds, goes_on, lost, lost_before, on_error, too_long}
+use Rattle.live_session.proofs.GivenLoads.{IsLoading, all_given, broke, failed_adds, failed_rose, full_adds, goes_on, lost, lost_before, on_error, too_long}
 use Rattle.live_session.proofs.loading.loaded.Goals as goal
 
 abbrev no_line : LoadLine

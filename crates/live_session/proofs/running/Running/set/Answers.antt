@@ -1,5 +1,5 @@
-use Rattle.std.proofs.Common.{◌≡◌, ◌∙◌, ◌+◌, ◌≤◌, length, arith, ℕ, List, [], ◌∷◌, map, get_or, refl, sym, ap}
-use Rattle.std.specs.Prelude.{Option, Some, None, Result, Ok}
+use Rattle.std.proofs.Common.{◌≡◌, ◌∙◌, ◌≤◌, length, arith, ℕ, List, [], ◌∷◌, map, get_or, refl, sym, ap}
+use Rattle.std.specs.Prelude.{Option, Some, None, Ok}
 use Rattle.command_read.specs.Asking.{Sets}
 use Rattle.command_read.specs.Spoken.{setting}
 use Rattle.command_read.specs.declared.port_value.PortValue.{PortValue}

@@ -1,4 +1,4 @@
-use Rattle.std.proofs.Common.{◌≡◌, ◌∙◌, ◌+◌, ◌*◌, ◌≤◌, ◌<◌, ℕ, List, false, refl, arith}
+use Rattle.std.proofs.Common.{◌∙◌, ◌+◌, ◌*◌, ◌≤◌, ◌<◌, false, refl, arith}
 use Rattle.checkpoint_book.specs.Answers.{shown_to}
 use Rattle.command_read.specs.Asking.{Settles}
 use Rattle.wave_report.specs.Replies.{reply_text}

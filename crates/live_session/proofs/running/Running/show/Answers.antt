@@ -1,4 +1,4 @@
-use Rattle.std.proofs.Common.{◌≡◌, ◌∙◌, ◌+◌, ◌≤◌, ◌<◌, ℕ, List, [], false, refl, sym, ap, arith}
+use Rattle.std.proofs.Common.{◌∙◌, ◌+◌, ◌≤◌, ◌<◌, [], false, refl, sym, ap, arith}
 use Rattle.checkpoint_book.specs.Answers.{shown_to}
 use Rattle.checkpoint_book.specs.Views.{shown_in}
 use Rattle.command_read.specs.Asking.{Shows}

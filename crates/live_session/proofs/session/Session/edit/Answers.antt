@@ -1,4 +1,4 @@
-use Rattle.std.proofs.Common.{◌≡◌, ◌∙◌, ◌<◌, List, [], length, map, ap, inl, refl, subst, sym, arith}
+use Rattle.std.proofs.Common.{◌<◌, List, length, inl, refl, subst, arith}
 use Rattle.std.specs.List.{list_any}
 use Rattle.command_read.specs.Spoken.{edited}
 use Rattle.command_read.specs.declared.load_line.LoadLine.{LoadLine}
