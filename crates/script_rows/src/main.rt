@@ -116,40 +116,43 @@ fn examples_agree(
     Ok(count)
 }
 
-// Whether the last display of a row is settled, and a run of the last design alone ends with the same registers.
-fn is_of_a_fresh_run(rt: &HostRuntime, alloc: Global, name: &str, fresh: &str) -> io::Result<bool> {
-    let lines = lines_of(rt, alloc, name)?;
-    let script = format!(in alloc; "{fresh}.live")?;
-    let script = fs::read_to_string(rt, script.as_str())?;
+// Whether the last display of these lines is settled, and the script, a run of the last design alone, ends with the same registers.
+fn is_of_a_fresh_run<R: Threads + Sync, F: Shelf>(
+    rt: &R,
+    alloc: Global,
+    shelf: &mut F,
+    script: &str,
+    lines: &str,
+) -> io::Result<bool> {
     let words = words_of(alloc, "")?;
-    let mut source = SolidSource::new(Vec::from_slice(alloc, script.as_str().as_bytes())?);
+    let mut source = SolidSource::new(Vec::from_slice(alloc, script.as_bytes())?);
     let mut sink = SolidSink::new(alloc);
-    let mut shelf = FileShelf::new(rt);
-    let outcome = live_run(rt, alloc, &words, &mut source, &mut sink, &mut shelf);
+    let outcome = live_run(rt, alloc, &words, &mut source, &mut sink, shelf);
     let Ok(written) = str::from_utf8(sink.bytes()) else {
         return Ok(false);
     };
-    match (
-        last_settled(alloc, lines.as_str())?,
-        last_settled(alloc, written)?,
-    ) {
+    match (last_settled(alloc, lines)?, last_settled(alloc, written)?) {
         (Some(shown), Some(true_lines)) => Ok(outcome.status == 0 && shown == true_lines),
         _ => Ok(false),
     }
 }
 
 // How many rows end with the registers of a run of their last design alone; the others are named.
-fn settled_agree(rt: &HostRuntime, alloc: Global) -> io::Result<u32> {
-    let pairs = fs::read_to_string(rt, "fresh.txt")?;
+fn settled_agree<R: Threads + Sync>(host: &HostRuntime, rt: &R, alloc: Global) -> io::Result<u32> {
+    let pairs = fs::read_to_string(host, "fresh.txt")?;
     let mut count = 0u32;
     for pair in pairs.lines() {
         let Some((name, fresh)) = pair.split_once(' ') else {
             continue;
         };
-        if is_of_a_fresh_run(rt, alloc, name, fresh)? {
+        let lines = lines_of(host, alloc, name)?;
+        let script = format!(in alloc; "{fresh}.live")?;
+        let script = fs::read_to_string(host, script.as_str())?;
+        let mut shelf = FileShelf::new(host);
+        if is_of_a_fresh_run(rt, alloc, &mut shelf, script.as_str(), lines.as_str())? {
             count = count.saturating_add(1);
         } else {
-            println!(rt; "{name} doesn't end with the registers of {fresh}")?;
+            println!(host; "{name} doesn't end with the registers of {fresh}")?;
         }
     }
     Ok(count)
@@ -196,6 +199,6 @@ fn main(rt: HostRuntime) -> io::Result<()> {
         }
     }
     println!(rt; "{count} examples of faults agree")?;
-    let count = settled_agree(&rt, alloc)?;
+    let count = settled_agree(&rt, &rt, alloc)?;
     println!(rt; "{count} settled displays are those of the last design alone")
 }
