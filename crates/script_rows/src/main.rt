@@ -116,6 +116,16 @@ fn examples_agree(
     Ok(count)
 }
 
+// Whether the last displays of these lines and of what was written are settled and have the same registers.
+fn end_alike(alloc: Global, lines: &str, written: &[u8]) -> io::Result<bool> {
+    let Ok(written) = str::from_utf8(written) else {
+        return Ok(false);
+    };
+    let shown = last_settled(alloc, lines)?;
+    let alone = last_settled(alloc, written)?;
+    Ok(shown.is_some() && shown == alone)
+}
+
 // Whether the last display of these lines is settled, and the script, a run of the last design alone, ends with the same registers.
 fn is_of_a_fresh_run<R: Threads + Sync, F: Shelf>(
     rt: &R,
@@ -128,13 +138,10 @@ fn is_of_a_fresh_run<R: Threads + Sync, F: Shelf>(
     let mut source = SolidSource::new(Vec::from_slice(alloc, script.as_bytes())?);
     let mut sink = SolidSink::new(alloc);
     let outcome = live_run(rt, alloc, &words, &mut source, &mut sink, shelf);
-    let Ok(written) = str::from_utf8(sink.bytes()) else {
+    if outcome.status != 0 {
         return Ok(false);
-    };
-    match (last_settled(alloc, lines)?, last_settled(alloc, written)?) {
-        (Some(shown), Some(true_lines)) => Ok(outcome.status == 0 && shown == true_lines),
-        _ => Ok(false),
     }
+    end_alike(alloc, lines, sink.bytes())
 }
 
 // How many rows end with the registers of a run of their last design alone; the others are named.
