@@ -1,13 +1,14 @@
 -- Two runs that took the same bytes and were given the same answers have written the same.
-use Rattle.std.proofs.Common.{◌≡◌, ◌≢◌, ◌⊎◌, inl, inr, ℕ, Bool, true, List, [], ◌∷◌, ◌++◌, None, sym, ap, ◌∙◌, subst, append-nil}
+use Rattle.std.proofs.Common.{◌≡◌, ◌≢◌, ◌⊎◌, ⊤, inl, inr, ℕ, Bool, true, List, [], ◌∷◌, ◌++◌, map, None, refl, sym, ap, ◌∙◌, subst, append-nil}
 use Rattle.std.proofs.lemmas.List.{append_cancel_left}
-use Rattle.book_history.specs.Book.{Closes, Settings as BookSettings}
+use Rattle.book_history.specs.Book.{Closes, Event, Settings as BookSettings}
 use Rattle.book_history.specs.Legal.{Follows}
 use Rattle.book_history.specs.Moments.{moments_from}
 use Rattle.book_history.specs.Owned.{AllOwned, owned}
 use Rattle.book_history.proofs.Places.{moments-append}
 use Rattle.book_history.proofs.Prefixes.{follows_first}
 use Rattle.ls_port.specs.declared.shelf_answer.ShelfAnswer.{ShelfAnswer}
+use Rattle.live_session.specs.Entries.{bare}
 use Rattle.live_session.specs.Logs.{Log, LogEvent, LogMoment, kit, moments_of, valid}
 use Rattle.live_session.specs.Readings.{AreRight}
 use Rattle.live_session.specs.Replies.{answers_of, asked_of, lines}
@@ -23,8 +24,9 @@ use Rattle.livesim.proofs.Alone.{alone_front, owned_alone}
 -- ---- the history of a run for which memory was enough
 
 -- the entries of these commands, which lead to these moments in a book with these settings
-pub record HasScript (st : Settings) (told : List Told) (bs : BookSettings) (ms : List LogMoment) : Type 0 where
+pub record HasScript (st : Settings) (told : List Told) (bs : BookSettings) (all : List LogEvent) (ms : List LogMoment) : Type 0 where
   pub entries : List LogEvent
+  pub closes : all ≡ entries ++ Closes ∷ []
   pub follows : Follows kit valid bs entries
   pub alone : AllOwned true entries
   pub script : IsScript st told fresh entries (moments_from kit bs None entries)
@@ -32,13 +34,14 @@ pub record HasScript (st : Settings) (told : List Told) (bs : BookSettings) (ms 
 
 -- they are all but the close, which is no moment
 pub has_script : (st : Settings) (told : List Told) (status : ℕ) (h : Log) → status ≢ 5 → IsLegal h
-    → HasEntries st told status (owned h.events) (moments_of h) → AllOwned true h.events → HasScript st told h.settings (moments_of h)
+    → HasEntries st told status (owned h.events) (moments_of h) → AllOwned true h.events → HasScript st told h.settings h.events (moments_of h)
 has_script st told status h enough legal (all_entries entries is script) alone =
     let all : h.events ≡ entries ++ Closes ∷ [] = sym (owned_alone h.events alone) ∙ is in
     let moments : moments_of h ≡ moments_from kit h.settings None entries = ap (λ (es : List LogEvent). moments_from kit h.settings None es) all
     ∙ moments-append kit h.settings None entries (Closes ∷ []) ∙ append-nil (moments_from kit h.settings None entries) in
     record {
       entries = entries;
+      closes = all;
       follows = follows_first kit h.settings valid None entries (Closes ∷ [])
           (subst (λ (es : List LogEvent). Follows kit valid h.settings es) all legal.follows);
       alone = alone_front entries (Closes ∷ []) (subst (λ (es : List LogEvent). AllOwned true es) all alone);
@@ -88,13 +91,24 @@ GiveOneOutput =
     → IsScript st ts fresh fs (moments_from kit bs None fs)
     → lines st ts fresh (moments_from kit bs None es) ≡ lines st ts fresh (moments_from kit bs None fs)
 
-module _ (one_output : HaveOneOutput) (one_script : HaveOneScript) (all_outputs : GiveOneOutput) where
+-- and the same entries
+abbrev pub GiveOneHistory : Type 0
+GiveOneHistory =
+    (st : Settings) (bs : BookSettings) (ts : List Told) (es fs : List LogEvent) → Follows kit valid bs es → Follows kit valid bs fs
+    → AllOwned true es → AllOwned true fs → IsScript st ts fresh es (moments_from kit bs None es)
+    → IsScript st ts fresh fs (moments_from kit bs None fs) → map bare es ≡ map bare fs
+
+bare_closed : (es : List LogEvent) → map bare (es ++ Closes ∷ []) ≡ map bare es ++ Closes ∷ []
+bare_closed [] = refl
+bare_closed (e ∷ es) = ap (λ (rest : List (Event ⊤ ⊤ ⊤)). bare e ∷ rest) (bare_closed es)
+
+module _ (one_output : HaveOneOutput) (one_script : HaveOneScript) (all_outputs : GiveOneOutput) (one_history : GiveOneHistory) where
   -- what is told of the second is what is told of the first, over a history of its own
-  lines_alike : (st : Settings) (bs cs : BookSettings) (ts us : List Told) (rest others : List ShelfAnswer) (ms ns : List LogMoment)
+  lines_alike : (st : Settings) (bs cs : BookSettings) (ts us : List Told) (rest others : List ShelfAnswer) (ds gs : List LogEvent) (ms ns : List LogMoment)
       → bs ≡ cs → AreRight st fresh ts → AreRight st fresh us → asked_of ts ≡ asked_of us → answers_of ts ++ rest ≡ answers_of us ++ others
-      → HasScript st ts bs ms → HasScript st us cs ns → lines st ts fresh ms ≡ lines st us fresh ns
-  lines_alike st bs cs ts us rest others ms ns same right also_right asked answers first second =
-      let other : HasScript st us bs ns = subst (λ (s : BookSettings). HasScript st us s ns) (sym same) second in
+      → HasScript st ts bs ds ms → HasScript st us cs gs ns → lines st ts fresh ms ≡ lines st us fresh ns
+  lines_alike st bs cs ts us rest others ds gs ms ns same right also_right asked answers first second =
+      let other : HasScript st us bs gs ns = subst (λ (s : BookSettings). HasScript st us s gs ns) (sym same) second in
       ap (λ (x : List LogMoment). lines st ts fresh x) first.moments
       ∙ all_outputs st bs ts first.entries other.entries first.follows other.follows first.alone other.alone first.script
       (one_script st fresh us ts others rest also_right right (sym asked) (sym answers) other.entries (moments_from kit bs None other.entries)
@@ -102,22 +116,48 @@ module _ (one_output : HaveOneOutput) (one_script : HaveOneScript) (all_outputs 
       ∙ ap (λ (x : List LogMoment). lines st ts fresh x) (sym other.moments)
       ∙ one_output st fresh ts us rest others right also_right asked answers ns
 
-  pub outputs_alike : (st : Settings) (bytes : List ℕ) (ended : Bool) (given : List ShelfAnswer) (out other : List ℕ)
-      → WritesAll st bytes ended given out → WritesAll st bytes ended given other → out ≡ other
-  outputs_alike st bytes ended given out other p q =
-      let x = p.lived in
-      let y = q.lived in
-      let first : out ≡ lines st x.told fresh (moments_of p.history)
-      = append_cancel_left p.written _ _ (x.written p.no_sink_fault p.enough_memory) in
-      let second : other ≡ lines st y.told fresh (moments_of q.history)
-      = append_cancel_left q.written _ _ (y.written q.no_sink_fault q.enough_memory) in
-      let answered : given ≡ answers_of x.told ++ x.lost = append_cancel_left p.answers _ _ x.answered in
-      let also_answered : given ≡ answers_of y.told ++ y.lost = append_cancel_left q.answers _ _ y.answered in
-      first
-      ∙ lines_alike st p.history.settings q.history.settings x.told y.told x.lost y.lost (moments_of p.history) (moments_of q.history)
-      (settings_alike st p.history q.history (has_settings st p.history p.status p.enough_memory x.settings)
-      (has_settings st q.history q.status q.enough_memory y.settings))
-      x.right y.right (x.all p.no_sink_fault p.enough_memory ∙ sym (y.all q.no_sink_fault q.enough_memory)) (sym answered ∙ also_answered)
-      (has_script st x.told p.status p.history p.enough_memory x.legal x.entries x.alone)
-      (has_script st y.told q.status q.history q.enough_memory y.legal y.entries y.alone)
-      ∙ sym second
+  entries_alike : (st : Settings) (bs cs : BookSettings) (ts us : List Told) (rest others : List ShelfAnswer) (ds gs : List LogEvent)
+      (ms ns : List LogMoment)
+      → bs ≡ cs → AreRight st fresh ts → AreRight st fresh us → asked_of ts ≡ asked_of us → answers_of ts ++ rest ≡ answers_of us ++ others
+      → HasScript st ts bs ds ms → HasScript st us cs gs ns → map bare ds ≡ map bare gs
+  entries_alike st bs cs ts us rest others ds gs ms ns same right also_right asked answers first second =
+      let other : HasScript st us bs gs ns = subst (λ (s : BookSettings). HasScript st us s gs ns) (sym same) second in
+      ap (map bare) first.closes ∙ bare_closed first.entries
+      ∙ ap (λ (es : List (Event ⊤ ⊤ ⊤)). es ++ Closes ∷ [])
+      (one_history st bs ts first.entries other.entries first.follows other.follows first.alone other.alone first.script
+      (one_script st fresh us ts others rest also_right right (sym asked) (sym answers) other.entries (moments_from kit bs None other.entries)
+      other.script))
+      ∙ sym (bare_closed other.entries) ∙ ap (map bare) (sym other.closes)
+
+  module _ (st : Settings) (bytes : List ℕ) (ended : Bool) (given : List ShelfAnswer) (out other : List ℕ) (j k : Log)
+      (p : WritesAll st bytes ended given out j) (q : WritesAll st bytes ended given other k) where
+    answered : given ≡ answers_of p.lived.told ++ p.lived.lost
+    answered = append_cancel_left p.answers _ _ p.lived.answered
+
+    also_answered : given ≡ answers_of q.lived.told ++ q.lived.lost
+    also_answered = append_cancel_left q.answers _ _ q.lived.answered
+
+    alike : j.settings ≡ k.settings
+    alike =
+        settings_alike st j k (has_settings st j p.status p.enough_memory p.lived.settings) (has_settings st k q.status q.enough_memory q.lived.settings)
+
+    asked : asked_of p.lived.told ≡ asked_of q.lived.told
+    asked = p.lived.all p.no_sink_fault p.enough_memory ∙ sym (q.lived.all q.no_sink_fault q.enough_memory)
+
+    first : HasScript st p.lived.told j.settings j.events (moments_of j)
+    first = has_script st p.lived.told p.status j p.enough_memory p.lived.legal p.lived.entries p.lived.alone
+
+    second : HasScript st q.lived.told k.settings k.events (moments_of k)
+    second = has_script st q.lived.told q.status k q.enough_memory q.lived.legal q.lived.entries q.lived.alone
+
+    pub outputs_alike : out ≡ other
+    outputs_alike =
+        append_cancel_left p.written _ _ (p.lived.written p.no_sink_fault p.enough_memory)
+        ∙ lines_alike st j.settings k.settings p.lived.told q.lived.told p.lived.lost q.lived.lost j.events k.events (moments_of j) (moments_of k) alike
+        p.lived.right q.lived.right asked (sym answered ∙ also_answered) first second
+        ∙ sym (append_cancel_left q.written _ _ (q.lived.written q.no_sink_fault q.enough_memory))
+
+    pub histories_alike : map bare j.events ≡ map bare k.events
+    histories_alike =
+        entries_alike st j.settings k.settings p.lived.told q.lived.told p.lived.lost q.lived.lost j.events k.events (moments_of j) (moments_of k) alike
+        p.lived.right q.lived.right asked (sym answered ∙ also_answered) first second

@@ -7,8 +7,9 @@ use Rattle.live_session.specs.Logs.{Log}
 use Rattle.live_session.specs.Settings.{Settings}
 use Rattle.livesim.specs.Runs.{Lived}
 
--- A run that took these bytes, was given these answers by its shelf and wrote that, and that neither the sink nor want of memory stopped.
-pub record WritesAll (st : Settings) (bytes : List ℕ) (ended : Bool) (given : List ShelfAnswer) (out : List ℕ) : Type 0 where
+-- A run that took these bytes, was given these answers by its shelf, wrote that and has this history, and that neither the sink nor want of memory
+-- stopped.
+pub record WritesAll (st : Settings) (bytes : List ℕ) (ended : Bool) (given : List ShelfAnswer) (out : List ℕ) (history : Log) : Type 0 where
   pub left_before : Option (List ℕ)
   pub left_behind : Option (List ℕ)
   pub written : List ℕ
@@ -16,7 +17,6 @@ pub record WritesAll (st : Settings) (bytes : List ℕ) (ended : Bool) (given : 
   pub faults_before : ℕ
   pub faults_behind : ℕ
   pub status : ℕ
-  pub history : Log
   pub no_sink_fault : status ≢ 4
   pub enough_memory : status ≢ 5
   pub lived : Lived st left_before left_behind (Some written) (Some (written ++ out)) (Some answers) (Some (answers ++ given)) faults_before faults_behind
