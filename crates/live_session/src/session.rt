@@ -592,8 +592,8 @@ impl Session {
     }
 
     /// Carries out a command beside the session's book, and answers it. A refused command changes nothing but the shelf's answers and count and the
-    /// table of names. Where memory runs out, session and book are as before, or as behind the command with its lines lost, or the first passes
-    /// of a settle stand.
+    /// table of names. Where memory runs out, nothing is new but perhaps the charge and first passes of a settle, or session and book are as behind
+    /// the command with its lines lost.
     pub fn step<R: Threads + Sync, F: Shelf>(
         &mut self,
         rt: &R,
