@@ -242,7 +242,8 @@ impl<M: Machine> Book<M> {
         Ok(())
     }
 
-    /// The next version: marks up to the chosen one are carried over, those after it are simulated from it. The counter
+    /// The next version: mark 0 becomes the new machine's reset, the other marks up to the chosen one are carried over, and those after it are
+    /// simulated from it. The counter
     /// rises by the new machine's steps for each cycle from the chosen one on. The chosen cycle is the answer. After want of
     /// memory the book is as before, and the counter has risen by no more than that.
     pub fn reload<L: Ledger>(

@@ -1,10 +1,10 @@
 -- What a command did, by its verdict and by the entries that it added.
-use Rattle.std.proofs.Common.{◌≡◌, ◌∙◌, ℕ, true, false, List, [], ◌∷◌, ◌++◌, map, Some, Result, Ok, Err, refl, sym, ap, subst, append-nil}
+use Rattle.std.proofs.Common.{◌≡◌, ◌∙◌, ℕ, true, false, List, [], ◌∷◌, ◌++◌, map, Some, Result, Ok, Err, refl, sym, ap, ap₂, subst, append-nil}
 use Rattle.std.specs.Prelude.{IfOk, codes}
 use Rattle.ls_text.specs.Texts.{HasEachOnce}
+use Rattle.book_history.specs.Book.{Settings as BookSettings}
 use Rattle.book_history.specs.Outline.{outline_in}
 use Rattle.book_history.specs.Owned.{AllOwned, owned}
-use Rattle.book_settle.specs.Passes.{no_pass, no_ticket}
 use Rattle.command_read.specs.Asking.{Asked, Sets}
 use Rattle.command_read.specs.Spoken.{setting}
 use Rattle.command_read.specs.declared.port_value.PortValue.{PortValue}
@@ -19,7 +19,7 @@ use Rattle.live_session.specs.Scripts.{Agrees, AllAgree, IsAccepted, entry_world
 use Rattle.live_session.specs.Sessions.{world_of}
 use Rattle.live_session.specs.Settings.{Settings}
 use Rattle.live_session.specs.Spelled.{spelled}
-use Rattle.live_session.specs.Turns.{Accepts, AnswersIn, Refuses, StopsIn, no_answer, undone_in}
+use Rattle.live_session.specs.Turns.{Accepts, AnswersIn, Refuses, StopsIn, no_answer, undone_at}
 use Rattle.live_session.specs.Verdicts.{command_verdict, set_row, with_row}
 use Rattle.live_session.specs.Worlds.{World, Refused}
 use Rattle.live_session.specs.declared.limits.Limits.{Limits}
@@ -87,10 +87,9 @@ module _ (st : Settings) (asked : Asked) (names : List (List ℕ)) (once : HasEa
         tells = λ (rest : List LogMoment). ap (λ (ms : List LogMoment). command_text st asked old w (ms ++ rest)) moments ∙ says rest;
       })
 
--- two states of what runs that are one to a session, but for the charge
+-- two states of what runs that are one to a session
 abbrev pub IsSameIn : (names : List (List ℕ)) → (old new : Running) → Type 0
-IsSameIn names old new =
-    (entries : List Entry) (grid : List ℕ) → world_of names entries grid new ≡ record (world_of names entries grid old) { charge = new.charge }
+IsSameIn names old new = (entries : List Entry) (grid : List ℕ) → world_of names entries grid new ≡ world_of names entries grid old
 
 module _ {E : Type 0} (names : List (List ℕ)) (once : HasEachOnce names) (limits : Limits) (asked : Asked) (old new : Running) where
   -- what runs refuses, and its world is as before
@@ -104,13 +103,19 @@ module _ {E : Type 0} (names : List (List ℕ)) (once : HasEachOnce names) (limi
       (same entries (marks_of j))
   refuses_in j (Err e) refused is same says = tt
 
--- memory ran out, and no entry is new
+-- the marks of a book without new entries
+marks_still : (was is : Log) → is.settings ≡ was.settings → is.events ≡ was.events → marks_of is ≡ marks_of was
+marks_still was is settings events =
+    ap₂ (λ (st : BookSettings) (h : List LogEvent). marks_of (record { settings = st; events = h })) settings events
+
+-- memory ran out, and nothing is new
 pub stops_still : (names : List (List ℕ)) (limits : Limits) (asked : Asked) (old new : Running) (was is : Log) → Adds was is []
     → IsSameIn names old new
     → StopsIn names limits asked old new was is
-stops_still names limits asked old new was is adds same =
-    undone_in [] new.charge adds.settings adds.events
-    (record { passes = []; count = 0; last = []; split = refl; are = no_pass; gave_up = no_ticket }) same
+stops_still names limits asked old new was is adds same = λ (entries : List Entry).
+    let events : is.events ≡ was.events = adds.events ∙ append-nil was.events in
+    undone_at adds.settings events
+    (same entries (marks_of is) ∙ ap (λ (grid : List ℕ). world_of names entries grid old) (marks_still was is adds.settings events))
 
 -- what runs with another record
 abbrev pub world_with : (names : List (List ℕ)) → List Entry → (grid : List ℕ) → Running → (rows : List (List (ℕ × ℕ))) → World

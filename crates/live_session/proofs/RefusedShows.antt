@@ -1,14 +1,13 @@
--- A display or a settle that is refused, since the room of its session is too small.
-use Rattle.std.proofs.Common.{◌≡◌, ◌∙◌, ℕ, ◌+◌, ◌<◌, List, [], Option, Result, Ok, Err, refl, ap}
+-- A display that is refused, since the room of its session is too small.
+use Rattle.std.proofs.Common.{ℕ, ◌+◌, ◌<◌, List, [], Result, Ok, Err, refl}
 use Rattle.std.specs.Prelude.{IfOk, OnErr}
 use Rattle.ls_text.specs.Texts.{HasEachOnce}
-use Rattle.command_read.specs.Asking.{Asked, Settles, Shows}
+use Rattle.command_read.specs.Asking.{Asked, Shows}
 use Rattle.module_registry.specs.Entries.{Entry}
 use Rattle.live_session.specs.Beside.{settings_by}
 use Rattle.live_session.specs.Logs.{Log, marks_of}
 use Rattle.live_session.specs.Sessions.{world_of}
 use Rattle.live_session.specs.Turns.{AnswersIn, Refuses, StopsIn}
-use Rattle.live_session.specs.Verdicts.{charged, settle_charge}
 use Rattle.live_session.specs.Worlds.{refused_at}
 use Rattle.live_session.specs.declared.limits.Limits.{Limits}
 use Rattle.live_session.specs.declared.reply.Reply.{Reply}
@@ -23,15 +22,6 @@ module _ {E : Type 0} (names : List (List ℕ)) (once : HasEachOnce names) (limi
   show_refused prefix full =
       refuses_in {E = E} names once limits (Shows line prefix) r r j answer (refused_at 68 line [])
       (λ (entries : List Entry). no_room (settings_by limits j) (world_of names entries (marks_of j) r) line 1 full)
-      (λ (entries : List Entry) (grid : List ℕ). refl) says
-
-  pub settle_refused : (passes : Option ℕ) (more : ℕ)
-      → ((entries : List Entry) → settle_charge (world_of names entries (marks_of j) r) passes ≡ more) → limits.rooms.session < r.charge + more
-      → IfOk answer (AnswersIn names limits (Settles line passes) r r j j)
-  settle_refused passes more all full =
-      refuses_in {E = E} names once limits (Settles line passes) r r j answer (refused_at 68 line [])
-      (λ (entries : List Entry). ap (charged (settings_by limits j) (world_of names entries (marks_of j) r) line) (all entries)
-      ∙ no_room (settings_by limits j) (world_of names entries (marks_of j) r) line more full)
       (λ (entries : List Entry) (grid : List ℕ). refl) says
 
 -- memory ran out where nothing was done yet

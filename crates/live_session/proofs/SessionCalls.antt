@@ -86,8 +86,7 @@ module _ {E : Type 0} (asked : Asked) (old : Session) (j : Log) (r x : Running) 
       → OnErr result (StopsFrom (settings_in old j) asked (world_in old j) (world_of old.names (entries_of old.registry) (marks_of j) x) j j)
   stays_beside (Ok reply) h = tt
   stays_beside (Err e) h =
-      undone_at [] (world_in old j).charge refl (sym (append-nil j.events))
-      (record { passes = []; count = 0; last = []; split = refl; are = no_pass; gave_up = no_ticket })
+      undone_at refl refl
       (ap (world_of old.names (entries_of old.registry) (marks_of j)) h
       ∙ ap (running_world old.names (entries_of old.registry) (marks_of j)) (sym runs))
 

@@ -6,8 +6,6 @@ use Rattle.std.specs.List.{All}
 use Rattle.std.specs.declared.option.Option.{Option}
 use Rattle.std.proofs.lemmas.Bool.{le-ltb, lt-ltb}
 use Rattle.std.proofs.lemmas.List.Elements.{All-cons, All-head, All-nil, All-tail}
-use Rattle.book_settle.proofs.Counting.{unfinished_outline}
-use Rattle.book_settle.specs.Passes.{no_pass, no_ticket}
 use Rattle.ls_port.specs.Causes.{Rose}
 use Rattle.ls_port.specs.declared.shelf_answer.ShelfAnswer.{ShelfAnswer}
 use Rattle.ls_text.specs.Readings.{TextFault}
@@ -21,8 +19,6 @@ use Rattle.command_read.specs.declared.edit.Edit.{Edit}
 use Rattle.command_read.specs.declared.file_line.FileLine.{FileLine}
 use Rattle.module_registry.specs.Entries.{Entry}
 use Rattle.module_registry.specs.Views.{entries_of}
-use Rattle.book_history.specs.Outline.{Outline}
-use Rattle.cycle_eval.specs.declared.design.Design.{Design}
 use Rattle.live_session.specs.Beside.{StandsBeside, settings_by, settings_in, world_in}
 use Rattle.live_session.specs.Done.{IsDone, told}
 use Rattle.live_session.specs.Files.{TextFile}
@@ -30,14 +26,14 @@ use Rattle.live_session.specs.Judging.{verdict_on}
 use Rattle.live_session.specs.Kept.{IsKept}
 use Rattle.live_session.specs.Loaded.{ComesTo, result_of}
 use Rattle.live_session.specs.Loads.{LoadAnswer, Gave, Broke, AddsAnswers, AreToFirst, HasFailed, LosesAnswers, loaded_files, name_in, shelf_answer, shelf_answers}
-use Rattle.live_session.specs.Logs.{InputRow, Log, LogMoment, marks_of, outline_of}
+use Rattle.live_session.specs.Logs.{Log, LogMoment, marks_of}
 use Rattle.live_session.specs.Readings.{IsRight, IsRightEdit}
 use Rattle.live_session.specs.Replies.{answers_to_command}
 use Rattle.live_session.specs.Sessions.{limits_of, running_world, world_of}
 use Rattle.live_session.specs.Settings.{Settings}
-use Rattle.live_session.specs.Steps.{StepsTo, Stops, undone, lost}
+use Rattle.live_session.specs.Steps.{StepsTo, Stops, cut_short, lost, undone}
 use Rattle.live_session.specs.Taken.{LosesBlock, TakesBlock, lost_lines, none_taken}
-use Rattle.live_session.specs.Turns.{Answers, AnswersFrom, AnswersIn, Refuses, StopsAt, StopsFrom, StopsIn, lost_at, lost_in, no_answer, undone_at, undone_in}
+use Rattle.live_session.specs.Turns.{Answers, AnswersFrom, AnswersIn, Refuses, StopsAt, StopsFrom, StopsIn, lost_at, no_answer, short_at, undone_at}
 use Rattle.live_session.specs.Verdicts.{Told, loaded_verdict}
 use Rattle.live_session.specs.Worlds.{World, Refused, fresh, refused_at, refused_text}
 use Rattle.live_session.specs.declared.limits.Limits.{Limits}
@@ -48,7 +44,6 @@ use Rattle.live_session.specs.declared.session.Session.{Session}
 use Rattle.live_session.proofs.GivenLoads.{none_added}
 use Rattle.live_session.proofs.Growing.{kept_grown}
 use Rattle.live_session.proofs.Judged.{refused_done, told_done}
-use Rattle.live_session.proofs.Standing.{IsLegal, outline_behind}
 
 -- no text stands twice in no table
 pub none_twice : HasEachOnce []
@@ -109,30 +104,19 @@ module _ (asked : Asked) (old : Session) (was is : Log) (r x : Running) (runs : 
   answers_on (Ok reply) h = answers_for reply h
 
   -- and stops for it
-  pub stops_for : IsLegal is → StopsIn old.names old.limits asked r x was is
-      → StopsFrom (settings_in old was) asked (world_in old was) world_is was is
-  stops_for legal (lost_in reply h) = lost_at reply (answers_for reply h)
-  stops_for legal (undone_in own charge settings events unfinished same) =
-      let marks : marks_of is ≡ marks_of was =
-      ap (λ (o : Outline Design InputRow). o.marks)
-      (outline_behind was is own (record { settings = settings; events = events }) legal
-      ∙ unfinished_outline was.settings (outline_of was) own unfinished) in
-      undone_at own charge settings events unfinished
-      (same (entries_of old.registry) (marks_of is)
-      ∙ ap (λ (g : List ℕ). record (world_of old.names (entries_of old.registry) g r) { charge = charge }) marks
-      ∙ ap (λ (w : World). record w { charge = charge }) (sym world_was))
+  pub stops_for : StopsIn old.names old.limits asked r x was is → StopsFrom (settings_in old was) asked (world_in old was) world_is was is
+  stops_for h =
+      subst (λ (w : World). StopsFrom (settings_by old.limits was) asked w world_is was is) (sym world_was) (h (entries_of old.registry))
 
-  pub stops_on : {E : Type 0} (result : Result Reply E) → IsLegal is → OnErr result (StopsIn old.names old.limits asked r x was is)
+  pub stops_on : {E : Type 0} (result : Result Reply E) → OnErr result (StopsIn old.names old.limits asked r x was is)
       → OnErr result (StopsFrom (settings_in old was) asked (world_in old was) world_is was is)
-  stops_on (Ok reply) legal h = tt
-  stops_on (Err e) legal h = stops_for legal h
+  stops_on (Ok reply) h = tt
+  stops_on (Err e) h = stops_for h
 
 -- nothing is new
 pub stops_still : {E : Type 0} (asked : Asked) (s : Session) (j : Log) (result : Result Reply E) → OnErr result (StopsAt asked s s j j)
 stops_still asked s j (Ok reply) = tt
-stops_still asked s j (Err e) =
-    undone_at [] (world_in s j).charge refl (sym (append-nil j.events))
-    (record { passes = []; count = 0; last = []; split = refl; are = no_pass; gave_up = no_ticket }) refl
+stops_still asked s j (Err e) = undone_at refl refl refl
 
 -- `quit`
 pub quits_so : (line : ℕ) (s : Session) (j : Log) (reply : Reply) → reply.lines ≡ codes "ok quit\n" → reply.refused ≡ false
@@ -178,7 +162,8 @@ stopped asked answers faults old new was is (Ok reply) limits none right beside 
 stopped asked answers faults old new was is (Err e) limits none right beside h = by h
   where
     by : StopsAt asked old new was is → Stops (Ok asked) answers answers faults faults old new was is
-    by (undone_at own charge settings events unfinished same) = undone own charge settings events unfinished same
+    by (undone_at settings events same) = undone settings events same
+    by (short_at short) = cut_short asked refl short
     by (lost_at reply done) = lost reply.lines reply.refused (step_of asked answers faults old new was is reply limits none right beside done)
 
 -- so nothing is lost
@@ -349,9 +334,7 @@ module _ (names : List (List ℕ)) (e : Edit) (old new : Session) (was is : Log)
     all_stops (Err error) t = by t
       where
         by : LosesBlock st asks (result_of names l) w (world_in new is) was is → Stops (Ok (Edits asks)) before behind faults count old new was is
-        by (none_taken settings events same) =
-            undone [] w.charge settings (events ∙ sym (append-nil was.events))
-            (record { passes = []; count = 0; last = []; split = refl; are = no_pass; gave_up = no_ticket }) same
+        by (none_taken settings events same) = undone settings events same
         by (lost_lines text refused t) = lost text refused (block_steps text refused t)
 
   -- all answers to its loads
@@ -367,9 +350,7 @@ module _ (names : List (List ℕ)) (e : Edit) (old new : Session) (was is : Log)
 -- memory ran out before a block was taken
 pub stops_before : (block : Block) (s : Session) (j : Log) (before behind : Option (List ShelfAnswer)) (faults count : ℕ)
     → Stops (Ok (Edits block)) before behind faults count s s j j
-stops_before block s j before behind faults count =
-    undone [] (world_in s j).charge refl (sym (append-nil j.events))
-    (record { passes = []; count = 0; last = []; split = refl; are = no_pass; gave_up = no_ticket }) refl
+stops_before block s j before behind faults count = undone refl refl refl
 
 -- ---- commands
 

@@ -1,14 +1,13 @@
 -- A display and a settle beside a book, by the entries that they add.
-use Rattle.std.proofs.Common.{◌≡◌, ◌∙◌, ℕ, ◌+◌, ◌*◌, ◌≤◌, min, false, List, [], ◌∷◌, length, Option, Some, None, Ok, refl, sym, ap, ap₂, subst, arith}
+use Rattle.std.proofs.Common.{◌≡◌, ◌∙◌, ℕ, ◌+◌, ◌*◌, ◌≤◌, ◌<◌, min, false, List, [], ◌∷◌, length, Option, Some, None, Ok, refl, sym, ap, ap₂, subst, arith}
 use Rattle.ls_text.specs.Texts.{HasEachOnce}
 use Rattle.book_history.specs.Book.{Book, Settings as BookSettings, Shows as ShowsEvent, apply, replay, replay_from}
 use Rattle.book_history.specs.Outline.{Outline, outline_from}
-use Rattle.book_history.specs.Rooms.{count_all, no_entry}
 use Rattle.book_history.specs.Readers.{links_in}
 use Rattle.book_history.proofs.Places.{replay-append}
 use Rattle.book_settle.specs.Passes.{IsSettle}
 use Rattle.book_settle.specs.Settles.{HasSettled, HasTried}
-use Rattle.book_settle.proofs.Counting.{links_marked, settle_counts, settle_moments, settle_outline, settle_owned, settle_shows, unfinished_counts, unfinished_long, unfinished_outline}
+use Rattle.book_settle.proofs.Counting.{links_marked, settle_moments, settle_outline, settle_owned, settle_shows, unfinished_outline}
 use Rattle.command_read.specs.Asking.{Settles, Shows}
 use Rattle.cycle_eval.specs.declared.design.Design.{Design}
 use Rattle.module_registry.specs.Entries.{Entry}
@@ -20,8 +19,8 @@ use Rattle.live_session.specs.Scripts.{Agrees}
 use Rattle.live_session.specs.Sessions.{world_of}
 use Rattle.live_session.specs.Shown.{display_lines, last_values, settle_text}
 use Rattle.live_session.specs.Spelled.{Spelled, spelled}
-use Rattle.live_session.specs.Turns.{AnswersIn, StopsIn, undone_in}
-use Rattle.live_session.specs.Verdicts.{charged, passes_of}
+use Rattle.live_session.specs.Turns.{AnswersIn, StopsIn, short_at}
+use Rattle.live_session.specs.Verdicts.{charged, passes_of, settle_verdict}
 use Rattle.live_session.specs.Worlds.{World}
 use Rattle.live_session.specs.declared.limits.Limits.{Limits}
 use Rattle.live_session.specs.declared.reply.Reply.{Reply}
@@ -40,9 +39,6 @@ book_shown was is answer adds =
     ap₂ (λ (st : BookSettings) (h : List LogEvent). replay kit st h) adds.settings adds.events
     ∙ replay-append kit was.settings None was.events (ShowsEvent answer ∷ [])
     ∙ shows_leave was.settings answer (book_in was)
-
-at_least : (n a b : ℕ) → n ≤ a → n ≤ b → n ≤ min a b
-at_least n a b one other = omega (arith, one, other)
 
 -- what runs is charged so much more, and nothing else of it is new
 pub record IsCharged (names : List (List ℕ)) (r new : Running) (more : ℕ) : Type 0 where
@@ -103,6 +99,14 @@ module _ (names : List (List ℕ)) (once : HasEachOnce names) (limits : Limits) 
     abbrev more : ℕ
     more = 2 * min most (length (marks_of was)) + 1
 
+    accepted_with : r.charge + more ≤ limits.rooms.session → (entries : List Entry)
+        → (let w = world_of names entries (marks_of was) r in settle_verdict (settings_by limits was) w line passes w.design)
+        ≡ Ok (let w = world_of names entries (marks_of was) r in record w { charge = w.charge + more })
+    accepted_with room entries =
+        let st = settings_by limits was in
+        let w = world_of names entries (marks_of was) r in
+        ap (λ (n : ℕ). charged st w line (2 * min n (length w.grid) + 1)) (all entries) ∙ has_room st w line more room
+
     module _ (answer : Option ℕ) (s : HasSettled kit was is_now most answer) (room : r.charge + more ≤ limits.rooms.session) where
       abbrev links : ℕ
       links = links_in (book_in was)
@@ -130,44 +134,36 @@ module _ (names : List (List ℕ)) (once : HasEachOnce names) (limits : Limits) 
           let next : World = record w { charge = w.charge + more } in
           let m : LogMoment = record { entry = ShowsEvent s.is_settle.answer; book = replay_from kit was.settings (book_in was) s.is_settle.passes }
           in
-          let verdict : charged st w line (2 * min (passes_of w passes) (length w.grid) + 1) ≡ Ok next =
-          ap (λ (n : ℕ). charged st w line (2 * min n (length w.grid) + 1)) (all entries) ∙ has_room st w line more room in
           let lines : reply.lines ≡ settle_text next s.is_settle.answer =
           says entries (marks_of was)
           ∙ ap₂ (λ (x : World) (a : Option ℕ). settle_text x a) (charge.world entries (marks_of was)) (sym s.answers) in
           entry_done st (Settles line passes) names once w (world_of names entries (marks_of is_now) new)
           (charged st w line (2 * min (passes_of w passes) (length w.grid) + 1)) reply was is_now
           s.own s.own adds (are_owned s.own (settle_owned most links s.own s.is_settle)) (settle_owned most links s.own s.is_settle) m
-          (settle_moments kit was.settings (book_in was) most links s.own s.is_settle) next verdict
+          (settle_moments kit was.settings (book_in was) most links s.own s.is_settle) next (accepted_with room entries)
           (charged_world s.own more adds leaves charge entries) (settles entries) refl
           (subst (Agrees names w) (sym (settle_shows kit was.settings valid was.events most links s.own s.is_settle
           (legal_behind was is_now s.own adds legal)))
           (agrees_in names once limits r kept was entries stands))
           (λ (rest : List LogMoment). ap (λ (text : List ℕ). Some (text, rest)) (sym lines)) accepts
 
-      pub settle_stands : Stands limits (Some new) is_now
-      settle_stands =
-          let count = s.is_settle.count in
-          let few : count ≤ most = s.is_settle.few in
-          let within : count ≤ length (marks_of was) = omega (arith, s.within, many) in
-          let least : count ≤ min most (length (marks_of was)) = at_least count most (length (marks_of was)) few within in
-          stands_left limits r new was is_now s.own (2 * count + 1) adds legal stands charge.run (leaves (outline_of was))
-          (settle_counts (count_all no_entry was.events) most links s.own s.is_settle) (omega (arith, charge.charge, least))
-
     module _ (t : HasTried was is_now (min most (links_in (book_in was)))) where
       tried : Adds was is_now t.own
       tried = record { settings = t.settings; events = t.events }
 
-      pub settle_stops : StopsIn names limits (Settles line passes) r new was is_now
-      settle_stops =
-          undone_in t.own new.charge t.settings t.events t.unfinished
-          (λ (entries : List Entry) (grid : List ℕ). charge.world entries grid
-          ∙ ap (λ (n : ℕ). record (world_of names entries grid r) { charge = n }) (sym charge.charge))
-
-      pub unsettled_stands : Stands limits (Some new) is_now
-      unsettled_stands =
-          let most_is : min most (links_in (book_in was)) ≡ min most (length (marks_of was)) = ap (min most) (links_marked (book_in was)) in
-          stands_left limits r new was is_now t.own (length t.own) tried legal stands charge.run
-          (unfinished_outline was.settings (outline_of was) t.own t.unfinished)
-          (unfinished_counts (count_all no_entry was.events) t.own t.unfinished)
-          (omega (arith, charge.charge, most_is, t.few, unfinished_long t.own t.unfinished))
+      pub settle_stops : r.charge + more ≤ limits.rooms.session → StopsIn names limits (Settles line passes) r new was is_now
+      settle_stops room = λ (entries : List Entry).
+          short_at (record {
+            line = line;
+            passes = passes;
+            own = t.own;
+            settles = refl;
+            settings = t.settings;
+            events = t.events;
+            unfinished = t.unfinished;
+            few = subst (λ (n : ℕ). t.unfinished.count < n) (ap₂ min (sym (all entries)) (links_marked (book_in was))) t.few;
+            accepted =
+                accepted_with room entries
+                ∙ ap Ok (sym (charged_world t.own more tried (λ (o : Outline Design InputRow). unfinished_outline was.settings o t.own t.unfinished)
+                charge entries));
+          })

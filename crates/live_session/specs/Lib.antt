@@ -19,8 +19,10 @@ pub mod Done
 pub mod Sessions
 pub mod Beside
 pub mod SettleAnswers
+pub mod CutShort
 pub mod Steps
 pub mod Runs
+pub mod Charging
 pub mod Kept
 pub mod Turns
 pub mod Loaded

@@ -1,16 +1,16 @@
 -- What a step of a session answers to a command, and what it does to the book beside the session.
-use Rattle.std.specs.Prelude.{◌≡◌, ℕ, Bool, List, ◌++◌, Result}
+use Rattle.std.specs.Prelude.{◌≡◌, ℕ, Bool, List, Result, Ok}
 use Rattle.std.specs.List.{list_any}
 use Rattle.std.specs.declared.option.Option.{Option}
 use Rattle.ls_text.specs.Readings.{TextFault}
 use Rattle.ls_port.specs.declared.shelf_answer.ShelfAnswer.{ShelfAnswer}
-use Rattle.book_settle.specs.Passes.{IsUnfinished}
 use Rattle.command_read.specs.Asking.{Asked}
 use Rattle.live_session.specs.Beside.{StandsBeside, settings_in, world_in}
+use Rattle.live_session.specs.CutShort.{IsCutShort}
 use Rattle.live_session.specs.Done.{IsDone, told}
 use Rattle.live_session.specs.Judging.{verdict_on}
 use Rattle.live_session.specs.Loads.{LoadAnswer, AddsAnswers, is_broken, HasFailed}
-use Rattle.live_session.specs.Logs.{Log, LogEvent}
+use Rattle.live_session.specs.Logs.{Log}
 use Rattle.live_session.specs.Readings.{IsRight}
 use Rattle.live_session.specs.Replies.{answers_to}
 use Rattle.live_session.specs.Sessions.{limits_of}
@@ -30,11 +30,13 @@ pub record StepsTo (asked : Result Asked TextFault) (before behind : Option (Lis
       (verdict_on (settings_in old was) (told asked loads answer) (world_in old was)) was is text refused
   pub beside : StandsBeside new is
 
--- Memory ran out, and the command has no reply. The world is as it was but perhaps for its charge, and no entry stands but the passes of a settle
--- that didn't come to its show; or the command was done, and its lines are lost.
+-- Memory ran out, and the command has no reply. Session and book are as they were; or it is a settle, cut short behind its charge; or the command was
+-- done, and its lines are lost.
 pub data Stops (asked : Result Asked TextFault) (before behind : Option (List ShelfAnswer)) (faults count : ℕ) (old new : Session)
     (was is : Log) : Type 0 where
-  undone : (own : List LogEvent) (charge : ℕ) → is.settings ≡ was.settings → is.events ≡ was.events ++ own → IsUnfinished own
-      → world_in new is ≡ record (world_in old was) { charge = charge } → Stops asked before behind faults count old new was is
+  undone : is.settings ≡ was.settings → is.events ≡ was.events → world_in new is ≡ world_in old was
+      → Stops asked before behind faults count old new was is
+  cut_short : (command : Asked) → asked ≡ Ok command → IsCutShort (settings_in old was) command (world_in old was) (world_in new is) was is
+      → Stops asked before behind faults count old new was is
   lost : (text : List ℕ) (refused : Bool) → StepsTo asked before behind faults count old new was is text refused
       → Stops asked before behind faults count old new was is

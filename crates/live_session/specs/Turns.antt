@@ -1,13 +1,13 @@
 -- What calls of a session, and of what it runs, answer to a command that looks at nothing outside.
-use Rattle.std.specs.Prelude.{◌≡◌, ℕ, true, false, List, [], ◌++◌, Ok, Err}
+use Rattle.std.specs.Prelude.{◌≡◌, ℕ, true, false, List, [], Ok, Err}
 use Rattle.ls_text.specs.declared.at.At.TheVariants.{Edit}
-use Rattle.book_settle.specs.Passes.{IsUnfinished}
 use Rattle.command_read.specs.Asking.{Asked}
 use Rattle.module_registry.specs.Entries.{Entry}
 use Rattle.live_session.specs.Beside.{settings_by, settings_in, world_in}
+use Rattle.live_session.specs.CutShort.{IsCutShort}
 use Rattle.live_session.specs.Done.{IsDone, told}
 use Rattle.live_session.specs.Judging.{verdict_on}
-use Rattle.live_session.specs.Logs.{Log, LogEvent, marks_of}
+use Rattle.live_session.specs.Logs.{Log, marks_of}
 use Rattle.live_session.specs.Replies.{refusal_text}
 use Rattle.live_session.specs.Sessions.{world_of}
 use Rattle.live_session.specs.Settings.{Settings}
@@ -42,22 +42,22 @@ AnswersIn names limits asked old new was is reply =
     → IsDone (settings_by limits was) (Ok asked) (world_of names entries (marks_of was) old) (world_of names entries (marks_of is) new)
     (command_verdict (settings_by limits was) (world_of names entries (marks_of was) old) asked [] no_answer) was is reply.lines reply.refused
 
--- memory ran out in it: no entry stands but those of an unfinished settle, and at most the charge is new; or the command was done, and its lines are lost
-pub data StopsIn (names : List (List ℕ)) (limits : Limits) (asked : Asked) (old new : Running) (was is : Log) : Type 0 where
-  undone_in : (own : List LogEvent) (charge : ℕ) → is.settings ≡ was.settings → is.events ≡ was.events ++ own → IsUnfinished own
-      → ((entries : List Entry) (grid : List ℕ) → world_of names entries grid new ≡ record (world_of names entries grid old) { charge = charge })
-      → StopsIn names limits asked old new was is
-  lost_in : (reply : Reply) → AnswersIn names limits asked old new was is reply → StopsIn names limits asked old new was is
-
 -- the same by the worlds before and behind it
 abbrev pub AnswersFrom : Settings → Asked → (old new : World) → (was is : Log) → Reply → Type 0
 AnswersFrom st asked old new was is reply =
     IsDone st (Ok asked) old new (verdict_on st (told (Ok asked) [] no_answer) old) was is reply.lines reply.refused
 
+-- Memory ran out in it: nothing is new; or it is a settle, cut short behind its charge; or it was done, and its lines are lost.
 pub data StopsFrom (st : Settings) (asked : Asked) (old new : World) (was is : Log) : Type 0 where
-  undone_at : (own : List LogEvent) (charge : ℕ) → is.settings ≡ was.settings → is.events ≡ was.events ++ own → IsUnfinished own
-      → new ≡ record old { charge = charge } → StopsFrom st asked old new was is
+  undone_at : is.settings ≡ was.settings → is.events ≡ was.events → new ≡ old → StopsFrom st asked old new was is
+  short_at : IsCutShort st asked old new was is → StopsFrom st asked old new was is
   lost_at : (reply : Reply) → AnswersFrom st asked old new was is reply → StopsFrom st asked old new was is
+
+-- and what a call of a design that runs left, whatever units are held
+abbrev pub StopsIn : (names : List (List ℕ)) → Limits → Asked → (old new : Running) → (was is : Log) → Type 0
+StopsIn names limits asked old new was is =
+    (entries : List Entry)
+    → StopsFrom (settings_by limits was) asked (world_of names entries (marks_of was) old) (world_of names entries (marks_of is) new) was is
 
 -- and of a session
 abbrev pub Answers : Asked → (old new : Session) → (was is : Log) → Reply → Type 0

@@ -90,9 +90,10 @@ impl Session {
     ghost use Rattle.live_session.specs.Logs.{Log, book_in, kit};
     ghost use Rattle.live_session.specs.Sessions.{world, limits_of, names_of, work};
     ghost use Rattle.live_session.specs.SettleAnswers.{settled_up_to};
+    ghost use Rattle.live_session.specs.Shown.{settle_text};
     ghost use Rattle.live_session.specs.Steps.{StepsTo, Stops};
     ghost use Rattle.live_session.specs.Taken.{LosesBlock, TakesBlock};
-    ghost use Rattle.live_session.specs.Turns.{Answers, StopsAt};
+    ghost use Rattle.live_session.specs.Turns.{Accepts, Answers, StopsAt};
     ghost use Rattle.live_session.specs.Worlds.{fresh};
 
     /// A session without a design, with these limits. At most 2^40 cycles are run.
@@ -438,42 +439,6 @@ impl Session {
         }
     }
 
-    // Verifies segments, as many as passes are said, or all; 62 without a design.
-    #[tactic(auto, using(crate::proofs::DesignsShared::design_send, crate::proofs::DesignsShared::design_sync))]
-    fn settle_command<L: Ledger>(
-        &mut self,
-        alloc: Global,
-        book: &mut Book<Design>,
-        line: u64,
-        passes: Option<u32>,
-        steps: &mut Steps<L>,
-    ) -> Result<Reply, NoMemory>
-        requires beside { StandsBeside self.old book.old }
-        ensures answers { IfOk result (Answers (Settles line passes) self.old self.new book.old book.new) }
-        ensures goes_on { IfOk result (λ r. r.quit ≡ false) }
-        ensures stops { OnErr result (StopsAt (Settles line passes) self.old self.new book.old book.new) }
-        ensures beside { StandsBeside self.new book.new }
-        ensures limits { limits_of self.new ≡ limits_of self.old }
-        ensures grows { Grows (names_of self.old) (names_of self.new) }
-    {
-        match &mut self.running {
-            Some(running) => {
-                let reply = running.settle(
-                    alloc,
-                    &self.names,
-                    self.limits,
-                    book,
-                    line,
-                    passes,
-                    steps,
-                );
-                book.legal();
-                reply
-            }
-            None => refused_line(alloc, &self.names, 62, line),
-        }
-    }
-
     // Tells what the session is at.
     fn status(&self, alloc: Global, book: &Book<Design>) -> Result<Reply, NoMemory>
         requires beside { StandsBeside self.now book.now }
@@ -550,6 +515,53 @@ impl Session {
         self.settled::<Brand>(alloc, book, passes, Blank::new(1))
     }
 
+    // The reply to a settle that was answered so.
+    fn settle_reply(&self, alloc: Global, answer: SettleAnswer) -> Result<Reply, NoMemory>
+        ensures { IfOk result (λ r. (grid : List ℕ) → Accepts (settle_text (world self.now grid) (settled_up_to answer)) r) }
+    {
+        let (cycle, version) = match &self.running {
+            Some(running) => (running.record_.len(), running.version.number),
+            None => (0, 0),
+        };
+        let kind = match answer {
+            SettleAnswer::Settled => ReplyKind::Settled { cycle, version },
+            SettleAnswer::Unsettled { settled_to } => ReplyKind::Unsettled { settled_to },
+        };
+        Ok(Reply::accepted(reply_line(alloc, &kind)?))
+    }
+
+    // Verifies segments, as many as passes are said, or all: 62 without a design, 68 where the session's room is too small.
+    #[tactic(auto, using(crate::proofs::DesignsShared::design_send, crate::proofs::DesignsShared::design_sync))]
+    fn settle_command(
+        &mut self,
+        alloc: Global,
+        book: &mut Book<Design>,
+        line: u64,
+        passes: Option<u32>,
+    ) -> Result<Reply, NoMemory>
+        requires beside { StandsBeside self.old book.old }
+        ensures answers { IfOk result (Answers (Settles line passes) self.old self.new book.old book.new) }
+        ensures goes_on { IfOk result (λ r. r.quit ≡ false) }
+        ensures stops { OnErr result (StopsAt (Settles line passes) self.old self.new book.old book.new) }
+        ensures beside { StandsBeside self.new book.new }
+        ensures limits { limits_of self.new ≡ limits_of self.old }
+        ensures grows { Grows (names_of self.old) (names_of self.new) }
+    {
+        has_each_once(&self.names);
+        let charged = match &mut self.running {
+            Some(running) => running.charge_settle(self.limits, book.links(), passes),
+            None => return refused_line(alloc, &self.names, 62, line),
+        };
+        match charged {
+            Some(most) => {
+                let answer = self.settle(alloc, book, most);
+                book.legal();
+                self.settle_reply(alloc, answer?)
+            }
+            None => refused_line(alloc, &self.names, 68, line),
+        }
+    }
+
     // Carries out a command, whose steps are counted by a counter of its own.
     fn carry_out<R: Threads + Sync, L: Ledger, F: Shelf>(
         &mut self,
@@ -583,17 +595,15 @@ impl Session {
             Command::Set { line, values } => self.set(alloc, book, line, values.as_slice()),
             Command::Run { line, n } => self.run(alloc, book, line, n, &mut steps),
             Command::Show { line, prefix } => self.show(alloc, book, line, prefix.bytes()),
-            Command::Settle { line, passes } => {
-                self.settle_command(alloc, book, line, passes, &mut steps)
-            }
+            Command::Settle { line, passes } => self.settle_command(alloc, book, line, passes),
             Command::Status { .. } => self.status(alloc, book),
             Command::Quit { .. } => Self::quit(alloc),
         }
     }
 
     /// Carries out a command beside the session's book, and answers it. A refused command changes nothing but the shelf's answers and count and the
-    /// table of names. Where memory runs out, nothing is new but perhaps the charge and first passes of a settle, or session and book are as behind
-    /// the command with its lines lost.
+    /// table of names. Where memory runs out, session and book are as before, or as behind the command with its lines lost; of a settle its charge and
+    /// the passes that it made may stand.
     pub fn step<R: Threads + Sync, F: Shelf>(
         &mut self,
         rt: &R,

@@ -1,31 +1,13 @@
 // Settling the design that runs.
-ghost use Rattle.std.specs.Prelude.{◌≡◌, ◌≤◌, ℕ, List, Some, false, IfOk, OnErr};
+ghost use Rattle.std.specs.Prelude.{◌≡◌, ◌≤◌};
 ghost use Rattle.checkpoint_book.specs.Answers.{shown_to};
-ghost use Rattle.command_read.specs.Asking.{Settles};
-ghost use Rattle.module_registry.specs.Entries.{Entry};
-ghost use Rattle.wave_report.specs.Replies.{reply_text};
-ghost use Rattle.live_session.specs.Beside.{Stands};
-ghost use Rattle.live_session.specs.Kept.{IsKept};
-ghost use Rattle.live_session.specs.Sessions.{world_of};
+ghost use Rattle.live_session.specs.Charging.{Charges};
 ghost use Rattle.live_session.specs.SettleAnswers.{settled_up_to};
-ghost use Rattle.live_session.specs.Shown.{settle_text};
-ghost use Rattle.live_session.specs.Turns.{AnswersIn, StopsIn};
 
 use crate::limits::Limits;
-use crate::refusing::refused_line;
-use crate::reply::Reply;
 use crate::running::Running;
-use crate::setting::has_each_once;
 use crate::settle_answer::SettleAnswer;
-use book_settle::settle;
-use checkpoint_book::book::Book;
 use checkpoint_book::shown::Shown;
-use cycle_eval::Design;
-use ls_text::{Names, NoMemory};
-use machine::steps::Steps;
-use std::alloc::Global;
-use std::sync::ledger::Ledger;
-use wave_report::{ReplyKind, reply_line};
 
 // What a settle answers, by its show.
 pub fn settle_answer(shown: Shown) -> SettleAnswer
@@ -38,53 +20,18 @@ pub fn settle_answer(shown: Shown) -> SettleAnswer
 }
 
 impl Running {
-    // What answers a settle.
-    fn settled_kind(&self, shown: Shown) -> ReplyKind
-        ensures { (names : List (List ℕ)) (entries : List Entry) (grid : List ℕ)
-            → reply_text result ≡ settle_text (world_of names entries grid self.now) (shown_to shown) }
+    /// Charges the session's room for a settle over so many links: 1, and 2 for each pass that may be made, as many as are said, or one for each link.
+    /// The passes; or None where the room is too small, and then nothing is charged.
+    pub fn charge_settle(&mut self, limits: Limits, links: u32, passes: Option<u32>) -> Option<u32>
+        requires within { self.old.charge ≤ limits.rooms.session }
+        ensures { Charges limits links passes self.old self.new result }
     {
-        match shown {
-            Shown::Settled => ReplyKind::Settled {
-                cycle: self.record_.len(),
-                version: self.version.number,
-            },
-            Shown::Estimate { settled_to } => ReplyKind::Unsettled { settled_to },
-        }
-    }
-
-    /// Verifies the first segments that aren't settled, as many as passes are said, or all; 68 where the session's room is too small.
-    pub fn settle<L: Ledger>(
-        &mut self,
-        alloc: Global,
-        names: &Names,
-        limits: Limits,
-        book: &mut Book<Design>,
-        line: u64,
-        passes: Option<u32>,
-        steps: &mut Steps<L>,
-    ) -> Result<Reply, NoMemory>
-        requires kept { IsKept names.now limits self.old }
-        requires stands { Stands limits (Some self.old) book.old }
-        ensures answers { IfOk result (AnswersIn names.now limits (Settles line passes) self.old self.new book.old book.new) }
-        ensures goes_on { IfOk result (λ r. r.quit ≡ false) }
-        ensures stops { OnErr result (StopsIn names.now limits (Settles line passes) self.old self.new book.old book.new) }
-        ensures kept { IsKept names.now limits self.new }
-        ensures stands { Stands limits (Some self.new) book.new }
-        ensures rises { steps.old ≤ steps.new }
-    {
-        has_each_once(names);
-        let links = book.marks().saturating_sub(1);
         let most = passes.unwrap_or(links);
-        let charge = 2 * most.min(links) + 1;
-        if charge > limits.rooms.session - self.charge {
-            return refused_line(alloc, names, 68, line);
+        let charge = 2 * u64::from(most.min(links)) + 1;
+        if charge > u64::from(limits.rooms.session - self.charge) {
+            return None;
         }
-        self.charge += charge;
-        let settled = settle(alloc, book, most, steps);
-        book.legal();
-        let shown = settled?;
-        let kind = self.settled_kind(shown);
-        let text = reply_line(alloc, &kind)?;
-        Ok(Reply::accepted(text))
+        self.charge += charge as u32;
+        Some(most)
     }
 }

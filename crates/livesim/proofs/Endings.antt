@@ -22,9 +22,10 @@ use Rattle.live_session.specs.Settings.{Settings}
 use Rattle.live_session.specs.Verdicts.{Told}
 use Rattle.live_session.specs.Worlds.{fresh}
 use Rattle.live_session.specs.declared.session.Session.{Session}
-use Rattle.livesim.specs.Runs.{Lived, AreSoon, RisesBy, WritesFront, WritesAtLeast, count_broken, end_with_quit, loads_first}
+use Rattle.livesim.specs.Runs.{Lived, AreSoon, RisesBy, WritesAtLeast, count_broken, end_with_quit, loads_first}
 use Rattle.livesim.specs.Turns.{Sources, Shelves, Ends}
 use Rattle.livesim.specs.declared.ending.Ending.{Ending}
+use Rattle.livesim.specs.Writing.{Writes}
 use Rattle.livesim.proofs.Displays.{shown_truth}
 use Rattle.livesim.proofs.Histories.{IsHistory}
 use Rattle.livesim.proofs.OneTurn.{may_end}
@@ -60,7 +61,7 @@ module _ (st : Settings) (from to : Sources) (shelf shelved : Shelves) (old new 
   pub lived : Finished st from to shelf shelved bytes ended refused told rest lost → IsStatus bytes ended refused rest lost status
       → IsHistory st told status text history
       → RisesBy (count_broken told) shelf.faults shelved.faults ⊎ ((status ≡ 5) × RisesBy (count_broken told + 1) shelf.faults shelved.faults)
-      → (status ≢ 4 → status ≢ 5 → Appends old new text) → WritesFront old new text
+      → (status ≢ 4 → status ≢ 5 → Appends old new text) → Writes old new text
       → ((before : List Told) (last : Told) → before ++ last ∷ [] ≡ told → WritesAtLeast old new (lines st before fresh (moments_of history)))
       → ((status ≡ 4) ⊎ (end_with_quit (asked_of told) ≡ true) → AreSoon (length told) bytes)
       → Lived st from.left to.left old new shelf.answers shelved.answers shelf.faults shelved.faults bytes ended status history
@@ -81,7 +82,7 @@ module _ (st : Settings) (from to : Sources) (shelf shelved : Shelves) (old new 
     lost_first = f.first;
     failed = failed;
     written = λ four five. subst (Appends old new) (sym h.tells) (written four five);
-    front = subst (WritesFront old new) (sym h.tells) front;
+    front = subst (Writes old new) (sym h.tells) front;
     most = most;
     settings = h.has;
     legal = h.legal;

@@ -16,7 +16,7 @@ use Rattle.live_session.specs.Beside.{StandsBeside}
 use Rattle.live_session.specs.Loads.{AddsAnswers, LosesAnswers}
 use Rattle.live_session.specs.Logs.{Log}
 use Rattle.live_session.specs.Sessions.{world, limits_of}
-use Rattle.live_session.specs.Steps.{StepsTo, Stops, undone, lost}
+use Rattle.live_session.specs.Steps.{StepsTo, Stops, cut_short, lost, undone}
 use Rattle.live_session.specs.declared.reply.Reply.{Reply}
 use Rattle.live_session.specs.declared.session.Session.{Session}
 use Rattle.livesim.specs.Turns.{Sources, Shelves, Reads, RunsOut, in_nothing, in_command, Ends, IsTurn, turn_of}
@@ -115,7 +115,8 @@ stopped_turn from to shelf old new session behind j reads stops = record {
 -- a turn keeps the settings of the book
 stops_kept : (asked : Result Asked TextFault) (before behind : Option (List ShelfAnswer)) (faults count : ℕ) (old new : Session) (was is : Log)
     → Stops asked before behind faults count old new was is → is.settings ≡ was.settings
-stops_kept asked before behind faults count old new was is (undone own charge same events unfinished world) = same
+stops_kept asked before behind faults count old new was is (undone same events world) = same
+stops_kept asked before behind faults count old new was is (cut_short command is_command short) = short.settings
 stops_kept asked before behind faults count old new was is (lost text refused steps) = steps.done.settings
 
 pub over_kept : (from to : Sources) (shelf shelved : Shelves) (old new : Reader) (session behind : Session) (was is : Log) (ending : Ending)

@@ -5,6 +5,7 @@ use Rattle.std.proofs.lemmas.List.{length-map}
 use Rattle.std.proofs.KnownBytes.{Appends-nil, Appends-trans, Consumes-nil}
 use Rattle.std.specs.Io.KnownBytes.{Appends}
 use Rattle.book_history.specs.Book.{Closes, Settings as BookSettings}
+use Rattle.book_settle.specs.Passes.{no_pass, no_ticket}
 use Rattle.command_read.specs.Readers.{has_ended, count_taken, stopped, asked_of as still_asked, AreKept}
 use Rattle.ls_text.specs.Readings.{TextFault}
 use Rattle.command_read.specs.Asking.{Asked}
@@ -16,7 +17,7 @@ use Rattle.command_read.specs.declared.stop.Stop.TheVariants as stop
 use Rattle.live_options.specs.Words.{OptionsOf}
 use Rattle.live_session.specs.Logs.{Log, LogEvent, LogMoment, moments_after, moments_of}
 use Rattle.live_session.specs.Replies.{lines, asked_of}
-use Rattle.live_session.specs.Steps.{Stops, undone, lost as lost_lines}
+use Rattle.live_session.specs.Steps.{Stops, cut_short, lost as lost_lines, undone}
 use Rattle.live_session.specs.Sessions.{limits_of, world}
 use Rattle.live_session.specs.Settings.{Settings}
 use Rattle.live_session.specs.Verdicts.{Told}
@@ -285,14 +286,18 @@ module _ (o : OptionsOf) (from mid to : Sources) (shelf mid_shelf shelved : Shel
       holds_by : (s : Option Stop) → stopped new ≡ s → AreKept s e.reads.came e.reads.kept
       holds_by s at = subst (λ s. AreKept s e.reads.came e.reads.kept) at e.reads.takes.holds
 
-      -- in a command, which was undone, or done with its lines lost
+      -- in a command: nothing is new, a settle was cut short, or it was done with its lines lost
       in_a_command : (asked : Result Asked TextFault) → e.told ≡ asked ∷ [] → stopped new ≡ None → (read_in : Session)
           → ((grid : List ℕ) → world read_in grid ≡ world session grid) → limits_of read_in ≡ limits_of session
           → Stops asked mid_shelf.answers shelved.answers mid_shelf.faults shelved.faults read_in behind was now
           → IsLived (settings o) from to shelf shelved written_old written_new (count_taken new) status (closed now)
-      in_a_command asked at going read_in same limited (undone own charge kept events unfinished world_is) =
+      in_a_command asked at going read_in same limited (undone kept events world_is) =
           over_want e status is (ap is_too_much going) [] (holds_by None going ∙ sym (append-nil e.reads.kept))
-          (unfinished_history (settings o) was now told text status own is d.recorded kept events unfinished legal)
+          (unfinished_history (settings o) was now told text status [] is d.recorded kept (events ∙ sym (append-nil was.events))
+          (record { passes = []; count = 0; last = []; split = refl; are = no_pass; gave_up = no_ticket }) legal)
+      in_a_command asked at going read_in same limited (cut_short command is_command short) =
+          over_want e status is (ap is_too_much going) [] (holds_by None going ∙ sym (append-nil e.reads.kept))
+          (unfinished_history (settings o) was now told text status short.own is d.recorded short.settings short.events short.unfinished legal)
       in_a_command asked at going read_in same limited (lost_lines more also steps) =
           let reads : Reads mid to old new (asked ∷ []) = subst (λ (ts : List (Result Asked TextFault)). Reads mid to old new ts) at e.reads in
           let a : Carries mid to mid_shelf shelved old new session behind was now more also

@@ -1,9 +1,8 @@
 -- What was written of some bytes.
-use Rattle.std.proofs.Common.{◌≡◌, ℕ, ◌-◌, List, [], ◌++◌, length, take, drop, Option, Some, None, ap, ◌∙◌, append-nil, append_assoc, take-append-drop, arith}
+use Rattle.std.proofs.Common.{◌≡◌, ℕ, ◌-◌, List, [], ◌++◌, length, take, drop, Option, ap, ◌∙◌, append-nil, append_assoc, take-append-drop, arith}
 use Rattle.std.proofs.lemmas.List.{take_all, length-drop}
 use Rattle.std.proofs.KnownBytes.{Appends-trans}
 use Rattle.std.specs.Io.KnownBytes.{Appends}
-use Rattle.livesim.specs.Runs.{WritesFront}
 use Rattle.livesim.specs.Writing.{Writes}
 
 -- one write more
@@ -18,18 +17,14 @@ wrote_more old mid new front rest all n is before now = (
 )
 
 -- a text and then a front of another are a front of both
-pub writes_front : (old mid new : Option (List ℕ)) (text more : List ℕ) → Appends old mid text → Writes mid new more → WritesFront old new (text ++ more)
-writes_front None mid new text more before w = (w.rest, tt)
-writes_front (Some xs) None new text more before w = absurd before
-writes_front (Some xs) (Some ys) None text more before w = absurd w.appended
-writes_front (Some xs) (Some ys) (Some zs) text more before w = (
-  w.rest,
-  ap (λ z. z ++ w.rest) (w.appended ∙ ap (λ y. y ++ w.front) before) ∙ ap (λ z. z ++ w.rest) (append_assoc xs text w.front)
-      ∙ append_assoc xs (text ++ w.front) w.rest ∙ ap (λ z. xs ++ z) (append_assoc text w.front w.rest ∙ ap (λ z. text ++ z) w.split),
-)
+pub writes_front : (old mid new : Option (List ℕ)) (text more : List ℕ) → Appends old mid text → Writes mid new more → Writes old new (text ++ more)
+writes_front old mid new text more before w = record {
+  front = text ++ w.front;
+  rest = w.rest;
+  split = append_assoc text w.front w.rest ∙ ap (λ z. text ++ z) w.split;
+  appended = Appends-trans old mid new text w.front before w.appended;
+}
 
 -- a whole text is a front of it
-pub front_all : (old new : Option (List ℕ)) (all : List ℕ) → Appends old new all → WritesFront old new all
-front_all None new all h = ([], tt)
-front_all (Some xs) None all h = absurd h
-front_all (Some xs) (Some ys) all h = ([], append-nil ys ∙ h)
+pub front_all : (old new : Option (List ℕ)) (all : List ℕ) → Appends old new all → Writes old new all
+front_all old new all h = record { front = all; rest = []; split = append-nil all; appended = h }

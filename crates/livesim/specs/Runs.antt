@@ -26,16 +26,7 @@ use Rattle.live_session.specs.Spelled.{Spelled}
 use Rattle.live_session.specs.Verdicts.{Told}
 use Rattle.live_session.specs.Worlds.{World, fresh, cycle}
 use Rattle.livesim.specs.Histories.{IsLegal}
-
--- what was written, with the rest, is what was there before with all
-abbrev pub LeavesToWrite : Option (List ℕ) → Option (List ℕ) → List ℕ → List ℕ → Type 0
-LeavesToWrite None new rest all = ⊤
-LeavesToWrite (Some xs) None rest all = ⊥
-LeavesToWrite (Some xs) (Some ys) rest all = ys ++ rest ≡ xs ++ all
-
--- some of it was written, from its front
-abbrev pub WritesFront : Option (List ℕ) → Option (List ℕ) → List ℕ → Type 0
-WritesFront old new all = (rest : List ℕ) × LeavesToWrite old new rest all
+use Rattle.livesim.specs.Writing.{Writes}
 
 -- at least that was written
 abbrev pub WritesAtLeast : Option (List ℕ) → Option (List ℕ) → List ℕ → Type 0
@@ -127,7 +118,7 @@ pub record Lived (st : Settings) (left_old left_new written_old written_new : Op
   pub failed : RisesBy (count_broken told) faults_old faults_new ⊎ ((status ≡ 5) × RisesBy (count_broken told + 1) faults_old faults_new)
   -- what was written: the lines of these commands at their places in the history; at 4 and 5 a front of them, with at least those of all but the last command
   pub written : status ≢ 4 → status ≢ 5 → Appends written_old written_new (lines st told fresh (moments_of history))
-  pub front : WritesFront written_old written_new (lines st told fresh (moments_of history))
+  pub front : Writes written_old written_new (lines st told fresh (moments_of history))
   pub most : (before : List Told) (last : Told) → before ++ last ∷ [] ≡ told
       → WritesAtLeast written_old written_new (lines st before fresh (moments_of history))
   -- it has the settings of these options; but where memory ran out as the words were read it has no entry, and they aren't known

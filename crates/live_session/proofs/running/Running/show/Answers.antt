@@ -1,13 +1,14 @@
-use Rattle.std.proofs.Common.{◌∙◌, ◌+◌, ◌≤◌, ◌<◌, [], false, refl, sym, ap, arith}
+use Rattle.std.proofs.Common.{◌∙◌, ◌+◌, ◌≤◌, ◌<◌, List, [], false, refl, sym, ap, arith}
 use Rattle.checkpoint_book.specs.Answers.{shown_to}
 use Rattle.checkpoint_book.specs.Views.{shown_in}
 use Rattle.command_read.specs.Asking.{Shows}
+use Rattle.module_registry.specs.Entries.{Entry}
 use Rattle.version_swap.specs.Behind.{design_of}
 use Rattle.live_session.specs.Logs.{book_in}
 use Rattle.live_session.specs.Sessions.{world_of}
 use Rattle.live_session.specs.Shown.{display_lines, last_values}
 use Rattle.live_session.specs.Spelled.{spelled}
-use Rattle.live_session.specs.Turns.{lost_in}
+use Rattle.live_session.specs.Turns.{lost_at}
 use Rattle.live_session.specs.declared.reply.Reply.{Reply}
 use Rattle.live_session.specs.declared.running.Running.{Running}
 use Rattle.live_session.proofs.KeptRuns.{kept_on}
@@ -78,12 +79,12 @@ returns-in_err-text-clause-stops c =
     let lines = display_lines (world_of names [] [] r) c.args.prefix.now (spelled names (design_of r.version.value.machine.value r.keys))
     (shown_to c.show-shown.result) (last_values (book_in c.show-shown.new.self)) in
     let reply : Reply = record { lines = lines; refused = false; quit = false } in
-    stopped c.from_residual.result (lost_in reply
+    stopped c.from_residual.result (λ (entries : List Entry). lost_at reply
     (show_done names c.has_each_once.ensures c.args.limits r new c.requires.kept c.args.line c.args.book.now c.show-shown.new.self c.legal.ensures
     c.requires.stands c.args.prefix.now (shown_to c.show-shown.result)
     (record { settings = c.show-shown.ensures.settings; events = c.show-shown.ensures.events })
     (record { run = record { version = refl; machine = refl; rows = refl }; charge = refl; world = λ es grid. refl }) room reply
-    (λ entries grid. refl) refl))
+    (λ es grid. refl) refl entries))
 
 pub returns-in_err-text-clause-kept : goal.returns-in_err-text-clause-kept
 returns-in_err-text-clause-kept c =

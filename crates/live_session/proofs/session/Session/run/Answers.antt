@@ -31,7 +31,7 @@ returns-in-Some-clause-answers g c =
 pub returns-in-Some-clause-stops : goal.returns-in-Some-clause-stops
 returns-in-Some-clause-stops g c =
     stops_on (Runs c.args.line c.args.cycles) c.args.self.now c.args.book.now c.run-reply.new.book c.in-Some.running c.run-reply.new.self
-    c.in-Some.is c.run-reply.result c.legal.ensures c.run-reply.ensures.stops
+    c.in-Some.is c.run-reply.result c.run-reply.ensures.stops
 
 pub returns-in-Some-clause-beside : goal.returns-in-Some-clause-beside
 returns-in-Some-clause-beside g c = record { stands = c.run-reply.ensures.stands; held = c.requires.beside.held }

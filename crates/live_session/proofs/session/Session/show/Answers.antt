@@ -31,7 +31,7 @@ returns-in-Some-clause-answers c =
 pub returns-in-Some-clause-stops : goal.returns-in-Some-clause-stops
 returns-in-Some-clause-stops c =
     stops_on (Shows c.args.line c.args.prefix.now) c.args.self.now c.args.book.now c.show-reply.new.book c.in-Some.running c.show-reply.new.self
-    c.in-Some.is c.show-reply.result c.legal.ensures c.show-reply.ensures.stops
+    c.in-Some.is c.show-reply.result c.show-reply.ensures.stops
 
 pub returns-in-Some-clause-beside : goal.returns-in-Some-clause-beside
 returns-in-Some-clause-beside c = record { stands = c.show-reply.ensures.stands; held = c.requires.beside.held }
