@@ -4,6 +4,7 @@
 #![tactic(auto)]
 
 mod files;
+pub mod laws;
 mod script;
 #[cfg(test)]
 mod tests;
