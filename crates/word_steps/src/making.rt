@@ -4,9 +4,8 @@ ghost use Rattle.word_steps.specs.Walks.{apply, lowest, env_of};
 ghost use Rattle.word_steps.specs.Sound.{is_sized};
 
 use crate::op::Op;
-use crate::short;
 use crate::step::Step;
-use crate::wide;
+use crate::{short, wide};
 
 /// What a step for 128 bits makes of three words.
 pub fn long_made(step: &Step, x: u128, y: u128, z: u128) -> u128
@@ -43,13 +42,7 @@ pub fn long_made(step: &Step, x: u128, y: u128, z: u128) -> u128
         Op::Left => wide::left(x, y, step.width),
         Op::Right => wide::right(x, y),
         Op::Arithmetic => wide::arithmetic(x, y, step.width),
-        Op::Choose => {
-            if x == 0 {
-                z
-            } else {
-                y
-            }
-        }
+        Op::Choose => { if x == 0 { z } else { y } }
         Op::Select => wide::cut(x >> step.low, step.width),
         Op::Join => wide::join(x, y, step.width, step.low),
         Op::Extend => wide::extend(x, step.width, step.low),
@@ -105,11 +98,7 @@ pub fn short_made(step: &Step, words: &[u128]) -> u64
         Op::Choose => {
             let y = short_at(words, step.b);
             let z = short_at(words, step.c);
-            if x == 0 {
-                z
-            } else {
-                y
-            }
+            if x == 0 { z } else { y }
         }
         Op::Select => short::cut(x >> step.low, step.width),
         Op::Join => short::join(x, short_at(words, step.b), step.width, step.low),

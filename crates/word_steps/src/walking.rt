@@ -56,7 +56,12 @@ fn taken(step: &Step, words: &mut [u128]) -> usize
     ensures few { result < 4294967296 }
 {
     if !writes(step.op) {
-        return skips(step.op, step.c, words[step.a as usize], words[step.b as usize]);
+        return skips(
+            step.op,
+            step.c,
+            words[step.a as usize],
+            words[step.b as usize],
+        );
     }
     if step.wide {
         slow(step, words);

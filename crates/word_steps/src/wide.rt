@@ -196,24 +196,23 @@ fn from_below(index: u128, below: u128) -> u128
 pub fn locate(x: u128, y: u128, width: u8) -> u128
     requires at_least_one { 1 ≤ width }
     requires at_most_128 { width ≤ 128 }
-    ensures { result ≡ located (place_of (lowest 32 y) false width (lowest width x)) }
+    ensures { result ≡ located (place_of y false width (lowest width x)) }
 {
-    from_below(cut(x, width), cut(y, 32))
+    from_below(cut(x, width), y)
 }
 
 /// Where a select at run time begins whose index is a signed value.
 pub fn signed_locate(x: u128, y: u128, width: u8) -> u128
     requires at_least_one { 1 ≤ width }
     requires at_most_128 { width ≤ 128 }
-    ensures { result ≡ located (place_of (lowest 32 y) true width (lowest width x)) }
+    ensures { result ≡ located (place_of y true width (lowest width x)) }
 {
     let index = cut(x, width);
-    let below = cut(y, 32);
     if index < 1u128 << (width - 1) {
-        return from_below(index, below);
+        return from_below(index, y);
     }
     let far = ones(width) - index;
-    127u128.saturating_sub(far + below)
+    127u128.saturating_sub(far.saturating_add(y))
 }
 
 // The place that a word tells.
@@ -240,5 +239,7 @@ pub fn put_at(x: u128, y: u128, z: u128, width: u8, total: u8) -> u128
     requires few { total ≤ 128 }
     ensures { result ≡ replaced_within total (lowest total z) (place_at y) width (lowest width x) }
 {
-    Bits::new(total, z).replace(place_at(y), Bits::new(width, x)).value
+    Bits::new(total, z)
+        .replace(place_at(y), Bits::new(width, x))
+        .value
 }
