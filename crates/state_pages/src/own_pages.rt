@@ -1,5 +1,5 @@
 // Writes to pages that may be shared: what is shared is copied before it is written.
-ghost use Rattle.std.specs.Prelude.{◌≡◌, ◌<◌, ◌+◌, length, slice_set, IfOk, OnOk, OnErr};
+ghost use Rattle.std.specs.Prelude.{◌≡◌, ◌<◌, ◌+◌, length, slice_set, OnOk, OnErr};
 ghost use Rattle.std.specs.Arc.{arc_value};
 ghost use Rattle.state_pages.specs.Words.{page_words, words_in};
 
@@ -35,28 +35,14 @@ fn put_pair(page: &mut Arc<Page, Global>, at: usize, low: u64, high: u64) -> Res
     ensures ok { OnOk result (page_words page.new ≡ slice_set (slice_set (page_words page.old) at low) (at + 1) high) }
     ensures err { OnErr result (page_words page.new ≡ page_words page.old) }
 {
-    let page = Arc::make_mut(page)?;
-    page.words[at] = low;
-    page.words[at + 1] = high;
+    let words = &mut Arc::make_mut(page)?.words;
+    words[at] = low;
+    words[at + 1] = high;
     Ok(())
-}
-
-// A copy of a page in which its last word is written.
-fn with_last(
-    alloc: Global,
-    page: &Arc<Page, Global>,
-    value: u64,
-) -> Result<Arc<Page, Global>, NoMemory>
-    ensures { IfOk result (λ copy. page_words copy ≡ slice_set (page_words page.now) 63 value) }
-{
-    let mut copy = **page;
-    copy.words[63] = value;
-    Ok(Arc::new(alloc, copy)?)
 }
 
 // Writes two words of these pages, one behind the other, whose owner is alone. Where they stand in two pages, what may fail comes first.
 fn put_two_within(
-    alloc: Global,
     pages: &mut Vec<Arc<Page, Global>>,
     at: usize,
     low: u64,
@@ -71,7 +57,8 @@ fn put_two_within(
     if at % 64 < 63 {
         return put_pair(&mut pages[place], at % 64, low, high);
     }
-    let last = with_last(alloc, &pages[place], low)?;
+    let mut last = Arc::try_clone(&pages[place])?;
+    put_word(&mut last, 63, low)?;
     put_word(&mut pages[place + 1], 0, high)?;
     pages[place] = last;
     Ok(())
@@ -94,7 +81,6 @@ pub(crate) fn put(
 
 /// Writes two words of these pages, one behind the other, or none of them, as `put` writes one.
 pub(crate) fn put_two(
-    alloc: Global,
     pages: &mut Arc<Vec<Arc<Page, Global>>, Global>,
     at: usize,
     low: u64,
@@ -106,5 +92,5 @@ pub(crate) fn put_two(
     ensures many { length (arc_value pages.new).items ≡ length (arc_value pages.old).items }
 {
     let pages = Arc::make_mut(pages)?;
-    put_two_within(alloc, pages, at, low, high)
+    put_two_within(pages, at, low, high)
 }

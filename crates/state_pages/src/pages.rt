@@ -107,13 +107,7 @@ impl Pages {
     }
 
     /// Writes two words, one behind the other, as `replace_word` writes one. After want of memory both are as before.
-    pub fn replace_two(
-        &mut self,
-        alloc: Global,
-        i: u32,
-        low: u64,
-        high: u64,
-    ) -> Result<(), NoMemory>
+    pub fn replace_two(&mut self, i: u32, low: u64, high: u64) -> Result<(), NoMemory>
         requires { i + 1 < length self.old }
         ensures ok { OnOk result (self.new ≡ slice_set (slice_set self.old i low) (i + 1) high) }
         ensures err { OnErr result (self.new ≡ self.old) }
@@ -124,7 +118,7 @@ impl Pages {
         if self.word(i + 1) == high {
             return self.replace_word(i, low);
         }
-        put_two(alloc, &mut self.pages, i as usize, low, high)
+        put_two(&mut self.pages, i as usize, low, high)
     }
 
     /// The same words once more. It takes no memory, and time that doesn't grow with the words.

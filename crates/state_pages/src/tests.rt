@@ -27,8 +27,7 @@ fn shared_words(alloc: Global) -> Result<(u64, u64, [bool; 3]), NoMemory> {
 /// The words at both sides of the border of two pages, and how many words there are.
 fn border(alloc: Global) -> Result<([u64; 3], u32), NoMemory> {
     let mut pages = Pages::zero(alloc, 65)?;
-    pages.replace_word(63, 1)?;
-    pages.replace_word(64, u64::MAX)?;
+    pages.replace_two(63, 1, u64::MAX)?;
     Ok((
         [pages.word(62), pages.word(63), pages.word(64)],
         pages.len(),

@@ -1,4 +1,4 @@
-use Rattle.std.proofs.Common.{ap, set, length, ◌∙◌, arith}
+use Rattle.std.proofs.Common.{◌+◌, ap, set, length, ◌∙◌, arith}
 use Rattle.std.proofs.lemmas.Result.{on_ok_weaker, on_err_weaker}
 use Rattle.state_pages.proofs.Paging.{owned_words, always, told_at_err, made}
 use Rattle.state_pages.specs.Words.{words_in}

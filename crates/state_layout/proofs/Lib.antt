@@ -1,0 +1,4 @@
+pub mod SlotWords
+pub mod Numbers
+pub mod Splices
+pub mod Reads
