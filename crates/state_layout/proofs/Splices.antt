@@ -1,9 +1,8 @@
 -- A list with a part of it replaced, and a state with a register written.
-use Rattle.std.proofs.Common.{◌≡◌, ℕ, zero, suc, ◌+◌, ◌-◌, ◌^◌, ◌<◌, ◌≤◌, List, [], ◌∷◌, ◌++◌, length, get_or, set, take, drop, refl, sym, ◌∙◌, ap, subst, arith}
-use Rattle.std.proofs.lemmas.Bool.{cases_eq}
-use Rattle.std.proofs.lemmas.List.{append_assoc, set_split, drop_at, drop-drop, get_or-set_same, get_or-set_other, length-set}
+use Rattle.std.proofs.Common.{◌≡◌, ℕ, zero, suc, ◌+◌, ◌-◌, ◌/◌, ◌%◌, ◌^◌, ◌<◌, ◌≤◌, List, [], ◌∷◌, ◌++◌, length, get_or, set, take, drop, refl, sym, ◌∙◌, ap, subst, arith}
+use Rattle.std.proofs.lemmas.List.{append_assoc, set_split, drop_at, drop-drop}
 use Rattle.state_layout.specs.Slots.{slot_size, first_word, words_for, state_words, state_widths, Fit}
-use Rattle.state_layout.proofs.Numbers.{words_for_length}
+use Rattle.state_layout.proofs.Numbers.{words_for_length, one_word, two_words, one_is, two_are}
 
 -- two elements set, one behind the other
 pub set_two : (xs : List ℕ) (f a b : ℕ) → f + 1 < length xs → set (set xs f a) (f + 1) b ≡ take f xs ++ a ∷ b ∷ drop (f + 2) xs
@@ -62,3 +61,18 @@ written_fit (r ∷ rs) zero w y below fit zero d h = below
 written_fit (r ∷ rs) zero w y below fit (suc k) d h = fit (suc k) d h
 written_fit (r ∷ rs) (suc j) w y below fit zero d h = fit zero d (omega arith)
 written_fit (r ∷ rs) (suc j) w y below fit (suc k) d h = written_fit rs j w y below (λ n e l. fit (suc n) e (omega (arith, l))) k d (omega (arith, h))
+
+-- the words with a value put into its slot, by one write and by two
+pub put_one_is : (xs : List ℕ) (f w y : ℕ) → 1 ≤ w → w ≤ 64 → y < 2 ^ w → f + slot_size w ≤ length xs
+    → set xs f y ≡ take f xs ++ words_for (slot_size w) y ++ drop (f + slot_size w) xs
+put_one_is xs f w y some few below within =
+    let size : slot_size w ≡ 1 = one_word w some few in
+    set_one xs f y (omega (arith, within, size)) ∙ sym (append_assoc (take f xs) (y ∷ []) (drop (f + 1) xs))
+    ∙ ap (λ zs. take f xs ++ zs ++ drop (f + 1) xs) (sym (one_is w y some few below)) ∙ ap (λ n. take f xs ++ words_for (slot_size w) y ++ drop (f + n) xs) (sym size)
+
+pub put_two_is : (xs : List ℕ) (f w y : ℕ) → 64 < w → w ≤ 128 → y < 2 ^ w → f + slot_size w ≤ length xs
+    → set (set xs f (y % 2 ^ 64)) (f + 1) (y / 2 ^ 64) ≡ take f xs ++ words_for (slot_size w) y ++ drop (f + slot_size w) xs
+put_two_is xs f w y many few below within =
+    let size : slot_size w ≡ 2 = two_words w many few in
+    set_two xs f (y % 2 ^ 64) (y / 2 ^ 64) (omega (arith, within, size)) ∙ sym (append_assoc (take f xs) (y % 2 ^ 64 ∷ y / 2 ^ 64 ∷ []) (drop (f + 2) xs))
+    ∙ ap (λ zs. take f xs ++ zs ++ drop (f + 2) xs) (sym (two_are w y many few below)) ∙ ap (λ n. take f xs ++ words_for (slot_size w) y ++ drop (f + n) xs) (sym size)

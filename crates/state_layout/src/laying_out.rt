@@ -19,7 +19,8 @@ fn laid_out(alloc: Global, signals: &[Signal], registers: &[SignalId]) -> Result
     let mut layout = Layout::new(alloc);
     for register in registers {
         let place = register.index();
-        layout.add(alloc, signals[place].width)?;
+        let signal = &signals[place];
+        layout.add(alloc, signal.width)?;
     }
     Ok(layout)
 }

@@ -1,6 +1,6 @@
 // The slots of registers, one behind the other.
 ghost use Rattle.std.specs.Prelude.{◌≡◌, ◌≤◌, ◌<◌, ◌+◌, ◌++◌, ◌∷◌, [], ℕ, true, length, slice_index, OnOk, IfErr};
-ghost use Rattle.state_layout.specs.Words.{words_of, IsTooManyWhere};
+ghost use Rattle.state_layout.specs.Words.{words_of, IsTooMany, IsTooManyWhere};
 ghost use Rattle.state_layout.specs.Slots.{slot_size, first_word};
 
 use crate::slot::Slot;
@@ -36,7 +36,7 @@ impl Model for Layout {
 
 // The fault TooMany.
 fn too_many(alloc: Global) -> Refusal
-    ensures { IsTooManyWhere (0 ≡ 0) result }
+    ensures { IsTooMany result }
 {
     Refusal::Fault(Fault {
         code: 40,

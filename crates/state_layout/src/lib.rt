@@ -10,6 +10,8 @@ mod laying_out;
 mod putting;
 mod slot;
 mod slot_state;
+#[cfg(test)]
+mod tests;
 
 pub use layout::Layout;
 pub use laws::{slots_stand_apart, words_give_states};

@@ -1,5 +1,5 @@
 // States in shared pages.
-ghost use Rattle.std.specs.Prelude.{◌≡◌, ◌<◌, ℕ, true, length, map, slice_get, slice_set, Some, IfOk, OnOk, OnErr, ◌==◌};
+ghost use Rattle.std.specs.Prelude.{◌≡◌, ◌<◌, ℕ, true, length, map, slice_get, slice_index, slice_set, Some, IfOk, OnOk, OnErr, ◌==◌};
 ghost use Rattle.std.specs.Arc.{arc_value};
 ghost use Rattle.typed_ir.specs.States.{sized_value};
 ghost use Rattle.typed_ir.specs.Views.{widths};
@@ -93,7 +93,8 @@ impl SlotState {
     /// Gives a register a value of its width, and leaves all others. Words that stay the same are not written. After want of memory the state is
     /// as before.
     pub fn write(&mut self, register: RegisterId, value: Bits) -> Result<(), NoMemory>
-        requires { slice_get (state_widths self.old) register ≡ Some value.width }
+        requires there { register < length self.old }
+        requires width { slice_index (state_widths self.old) register ≡ value.width }
         ensures ok { OnOk result (self.new ≡ slice_set self.old register (value.width, value.value)) }
         ensures err { OnErr result (self.new ≡ self.old) }
     {
