@@ -50,7 +50,6 @@ same_width_at a b i x y same there one other =
 
 -- one slot more
 module _ (slots new : List Slot) (words : ℕ) (x : Slot) (put : new ≡ slots ++ x ∷ []) (many : words ≡ words_of (map (λ (s : Slot). s.width) slots)) where
-
   new_widths : widths_in new ≡ widths_in slots ++ x.width ∷ []
   new_widths = ap widths_in put ∙ map_push (λ (s : Slot). s.width) slots x
 

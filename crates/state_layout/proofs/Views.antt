@@ -33,7 +33,6 @@ either_way (Err e) p q f g = g q
 
 module _ (ws us xs : List ℕ) (view : List (ℕ × ℕ)) (k first width : ℕ)
     (same : us ≡ ws) (is : state_in ws xs ≡ view) (at : first ≡ first_word us k) (wide : width ≡ get_or us k 0) (there : k < length view) where
-
   pub listed : k < length ws
   listed = omega (arith, there, ap length is, state_length ws xs)
 
@@ -65,7 +64,6 @@ module _ (ws us xs : List ℕ) (view : List (ℕ × ℕ)) (k first width : ℕ)
 
   module _ (new : List ℕ) (v y : ℕ) (want : get_or (state_widths view) k 0 ≡ v) (below : y < 2 ^ v) (clean : IsClean ws xs)
       (put : new ≡ take first xs ++ words_for (slot_size width) y ++ drop (first + slot_size width) xs) where
-
     own_width : (get_or view k (0, 0)).0 ≡ v
     own_width = sym (width_at view k) ∙ want
 

@@ -4,17 +4,17 @@
 // apart. `slot_state` is a state in shared pages by such a layout, `putting` reads and writes its slots. `tests` are states put together by hand.
 #![tactic(auto)]
 
-mod layout;
 mod laws;
 mod laying_out;
+mod layout;
 mod putting;
 mod slot;
 mod slot_state;
 #[cfg(test)]
 mod tests;
 
-pub use layout::Layout;
 pub use laws::{slots_stand_apart, words_give_states};
 pub use laying_out::layout_of;
+pub use layout::Layout;
 pub use slot::Slot;
 pub use slot_state::SlotState;

@@ -56,10 +56,7 @@ fn filled(alloc: Global) -> Result<([u128; 2], bool), Refusal> {
     let one = SlotState::filled(alloc, &layout, &values)?;
     let other = SlotState::filled(alloc, &layout, &values)?;
     Ok((
-        [
-            one.read(RegisterId(0)).value,
-            one.read(RegisterId(1)).value,
-        ],
+        [one.read(RegisterId(0)).value, one.read(RegisterId(1)).value],
         one.same(&other),
     ))
 }

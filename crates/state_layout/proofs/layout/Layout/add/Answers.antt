@@ -13,10 +13,11 @@ returns-then-more-self-clause-refused c =
 
 pub invariant_of-self-2 : goal.invariant_of-self-2
 invariant_of-self-2 c =
-    let more = ap (λ n. c.self.inside.words + (n + 63) / 64) c.from.ensures in
-    (added_firsts c.self.inside.slots.items c.push.new.self.items c.self.inside.words _ c.in_ok-push.ensures.items c.self.invariant.1 c.self.invariant.0 refl,
-    more ∙ added_words c.self.inside.slots.items c.push.new.self.items c.self.inside.words _ c.in_ok-push.ensures.items c.self.invariant.1,
-    omega (arith, c.if-more-self.false, c.self.invariant.2))
+    let more = ap (λ n. c.self.inside.words + (n + 63) / 64) c.from.ensures in (
+      added_firsts c.self.inside.slots.items c.push.new.self.items c.self.inside.words _ c.in_ok-push.ensures.items c.self.invariant.1 c.self.invariant.0 refl,
+      more ∙ added_words c.self.inside.slots.items c.push.new.self.items c.self.inside.words _ c.in_ok-push.ensures.items c.self.invariant.1,
+      omega (arith, c.if-more-self.false, c.self.invariant.2),
+    )
 
 pub returns-clause-few : goal.returns-clause-few
 returns-clause-few c =

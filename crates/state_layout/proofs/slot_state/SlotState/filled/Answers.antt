@@ -10,8 +10,8 @@ use Rattle.state_layout.proofs.slot_state.SlotState.filled.Goals as goal
 
 pub loop-place-init : goal.loop-place-init
 loop-place-init c = record {
-    filled = refl;
-    alike = ap state_widths c.in_ok-state.ensures ∙ blank_widths c.args.layout.now.value ∙ sym c.requires;
+  filled = refl;
+  alike = ap state_widths c.in_ok-state.ensures ∙ blank_widths c.args.layout.now.value ∙ sym c.requires;
 }
 
 pub loop-place-preserved : goal.loop-place-preserved

@@ -13,10 +13,10 @@ slot_value-value-requires c =
 
 pub invariant_of-result : goal.invariant_of-result
 invariant_of-result c = record {
-    at_least_one = c.slot-slot.result.at_least_one;
-    at_most_128 = c.slot-slot.result.at_most_128;
-    fits = read_fits c.self.inside.layout.value c.deref.result.now c.self.inside.pages c.args.self.now c.args.register c.slot-slot.result.first c.slot-slot.result.width
-        c.deref.ensures c.self.view_is c.slot-slot.ensures.first c.slot-slot.ensures.width c.requires c.slot_value-value.result c.slot_value-value.ensures c.self.invariant;
+  at_least_one = c.slot-slot.result.at_least_one;
+  at_most_128 = c.slot-slot.result.at_most_128;
+  fits = read_fits c.self.inside.layout.value c.deref.result.now c.self.inside.pages c.args.self.now c.args.register c.slot-slot.result.first c.slot-slot.result.width
+      c.deref.ensures c.self.view_is c.slot-slot.ensures.first c.slot-slot.ensures.width c.requires c.slot_value-value.result c.slot_value-value.ensures c.self.invariant;
 }
 
 pub returns : goal.returns
