@@ -5,8 +5,10 @@ ghost use Rattle.state_layout.specs.Slots.{slot_size, first_word, state_in, stat
 
 /// Slots stand apart: each ends before any one behind it begins, and within the words of a state.
 pub fn slots_stand_apart()
-    ensures apart { (widths : List ℕ) (j k : ℕ) → j < k → k < length widths → first_word widths j + slot_size (slice_index widths j) ≤ first_word widths k }
-    ensures within { (widths : List ℕ) (k : ℕ) → k < length widths → first_word widths k + slot_size (slice_index widths k) ≤ words_of widths }
+    ensures apart { (widths : List ℕ) (j k : ℕ) → j < k → k < length widths
+        → first_word widths j + slot_size (slice_index widths j) ≤ first_word widths k }
+    ensures within { (widths : List ℕ) (k : ℕ) → k < length widths
+        → first_word widths k + slot_size (slice_index widths k) ≤ words_of widths }
 {}
 
 /// The words of a state are as many as its slots have together, and give the state back.

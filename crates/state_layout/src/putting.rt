@@ -26,7 +26,8 @@ pub(crate) fn slot_value(pages: &Pages, slot: Slot) -> u128
 pub(crate) fn put_value(pages: &mut Pages, slot: Slot, value: u128) -> Result<(), NoMemory>
     requires within { slot.first + slot_size slot.width ≤ length pages.old }
     requires fits { value < 2 ^ slot.width }
-    ensures ok { OnOk result (pages.new ≡ take slot.first pages.old ++ words_for (slot_size slot.width) value ++ drop (slot.first + slot_size slot.width) pages.old) }
+    ensures ok { OnOk result (pages.new ≡ take slot.first pages.old
+        ++ words_for (slot_size slot.width) value ++ drop (slot.first + slot_size slot.width) pages.old) }
     ensures err { OnErr result (pages.new ≡ pages.old) }
 {
     if slot.width <= 64 {

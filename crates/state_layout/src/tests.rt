@@ -5,6 +5,7 @@ ghost use Rattle.std.specs.Arc.{arc_value};
 use crate::{Layout, SlotState};
 use bits::Bits;
 use ls_text::Refusal;
+use no_memory::NoMemory;
 use std::alloc::Global;
 use std::sync::Arc;
 use std::test::Fail;
@@ -20,24 +21,14 @@ fn two_registers(alloc: Global) -> Result<Arc<Layout, Global>, Refusal>
     Ok(Arc::new(alloc, layout)?)
 }
 
-/// The first words of their slots, and how many words there are.
-fn words(alloc: Global) -> Result<[u32; 3], Refusal> {
-    let layout = two_registers(alloc)?;
-    Ok([
-        layout.slot(RegisterId(0)).first,
-        layout.slot(RegisterId(1)).first,
-        layout.words(),
-    ])
-}
-
 /// Both values, once the first is written in a state of zeros, and once the second is written then in a share of it.
-fn values(alloc: Global) -> Result<([u128; 4], bool), Refusal> {
-    let layout = two_registers(alloc)?;
-    let mut one = SlotState::zeros(alloc, &layout)?;
+fn written(alloc: Global, layout: &Arc<Layout, Global>) -> Result<([u128; 4], bool), NoMemory>
+    requires { arc_value layout.now ≡ 65 ∷ 1 ∷ [] }
+{
+    let mut one = SlotState::zeros(alloc, layout)?;
     one.write(RegisterId(0), Bits::new(65, (1 << 64) + 5))?;
     let mut other = one.share()?;
     other.write(RegisterId(1), Bits::new(1, 1))?;
-    let same = one.same(&other);
     Ok((
         [
             one.read(RegisterId(0)).value,
@@ -45,20 +36,31 @@ fn values(alloc: Global) -> Result<([u128; 4], bool), Refusal> {
             other.read(RegisterId(0)).value,
             other.read(RegisterId(1)).value,
         ],
-        same,
+        one.same(&other),
     ))
 }
 
-/// Both values of a state that is filled with them, and whether it is the same as one that is filled once more.
-fn filled(alloc: Global) -> Result<([u128; 2], bool), Refusal> {
-    let layout = two_registers(alloc)?;
+/// Both values of a state that is filled with them.
+fn filled(alloc: Global, layout: &Arc<Layout, Global>) -> Result<[u128; 2], NoMemory>
+    requires { arc_value layout.now ≡ 65 ∷ 1 ∷ [] }
+{
     let values = [Bits::new(65, 1 << 64), Bits::new(1, 1)];
-    let one = SlotState::filled(alloc, &layout, &values)?;
-    let other = SlotState::filled(alloc, &layout, &values)?;
-    Ok((
-        [one.read(RegisterId(0)).value, one.read(RegisterId(1)).value],
-        one.same(&other),
-    ))
+    let state = SlotState::filled(alloc, layout, &values)?;
+    Ok([
+        state.read(RegisterId(0)).value,
+        state.read(RegisterId(1)).value,
+    ])
+}
+
+/// The first words of both slots and the number of words.
+fn words(layout: &Layout) -> [u32; 3]
+    requires { layout.now ≡ 65 ∷ 1 ∷ [] }
+{
+    [
+        layout.slot(RegisterId(0)).first,
+        layout.slot(RegisterId(1)).first,
+        layout.words(),
+    ]
 }
 
 /// How many registers of a width have room, of 65,537.
@@ -82,12 +84,18 @@ fn crossed<T: Send + Sync>(value: T) -> T {
 #[test]
 fn states_by_hand(rt: HostRuntime) -> Result<(), Fail> {
     let alloc = rt.alloc();
-    assert_eq!(rt; words(alloc)?, [0, 2, 3]);
+    let layout = two_registers(alloc)?;
     let five = (1 << 64) + 5;
-    assert_eq!(rt; values(alloc)?, ([five, 0, five, 1], false));
-    assert_eq!(rt; filled(alloc)?, ([1 << 64, 1], true));
-    assert_eq!(rt; registers_with_room(alloc, 64), 65_536);
-    assert_eq!(rt; registers_with_room(alloc, 65), 32_768);
+    assert_eq!(rt; words(&layout), [0, 2, 3]);
+    assert_eq!(rt; written(alloc, &layout)?, ([five, 0, five, 1], false));
+    assert_eq!(rt; filled(alloc, &layout)?, [1 << 64, 1]);
+    Ok(())
+}
+
+#[test]
+fn limit_by_hand(rt: HostRuntime) -> Result<(), Fail> {
+    assert_eq!(rt; registers_with_room(rt.alloc(), 64), 65_536);
+    assert_eq!(rt; registers_with_room(rt.alloc(), 65), 32_768);
     Ok(())
 }
 
