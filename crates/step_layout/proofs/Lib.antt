@@ -1,0 +1,10 @@
+pub mod Fits
+pub mod Seen
+pub mod Applying
+pub mod CopiesOfOne
+pub mod Ready
+pub mod Layouts
+pub mod PartValues
+pub mod Doing
+pub mod Passing
+pub mod Assigning

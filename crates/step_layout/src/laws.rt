@@ -1,0 +1,33 @@
+// What laid out steps do.
+ghost use Rattle.std.specs.Prelude.{◌≡◌, ◌≤◌, ℕ, List, IsTrue};
+ghost use Rattle.typed_ir.specs.Valuations.{Valuation};
+ghost use Rattle.typed_ir.specs.Orders.{Each, pass};
+ghost use Rattle.typed_ir.specs.Sized.{Sized, value_of};
+ghost use Rattle.typed_ir.specs.Stmts.{SizedStmt, is_sized, exec, pending};
+ghost use Rattle.typed_ir.specs.Nodes.{FlatNode, drive};
+ghost use Rattle.step_layout.specs.Plans.{Plan, IsApart, IsReady, IsKnown, signals};
+ghost use Rattle.step_layout.specs.Expressions.{code, constants_of};
+ghost use Rattle.step_layout.specs.Statements.{stmt_code};
+ghost use Rattle.step_layout.specs.Nodes.{nodes_code, all_later};
+ghost use Rattle.step_layout.specs.Right.{Puts, Leaves, IsLaid, IsLaidNode};
+
+/// The steps of an expression put its value at their place, and change nothing else below the mark.
+pub fn expressions_are_right()
+    ensures { (l : Plan) (registers : List ℕ) (n to mark : ℕ) (e : Sized) (w : Valuation) → IsApart l registers n → IsReady l registers w
+        → IsTrue (is_sized e l.widths) → Each (IsKnown l) (constants_of e) → n ≤ mark
+        → Puts (code l e to mark) w to mark (value_of e (signals l w)) }
+{}
+
+/// The steps of a statement leave the signals as its blocking assignments do, and next values as its nonblocking ones do.
+pub fn statements_are_right()
+    ensures { (l : Plan) (registers : List ℕ) (n mark : ℕ) (st : SizedStmt) (w : Valuation) → IsApart l registers n → IsReady l registers w
+        → IsLaid l registers st → n ≤ mark
+        → Leaves l registers (stmt_code l st mark) w n (exec st (signals l w)) (pending st (signals l w)) }
+{}
+
+/// The steps of nodes leave the signals as the nodes do that are evaluated in place, one after another.
+pub fn nodes_are_right()
+    ensures { (l : Plan) (registers : List ℕ) (n mark : ℕ) (nodes : List FlatNode) (w : Valuation) → IsApart l registers n → IsReady l registers w
+        → Each (IsLaidNode l registers) nodes → n ≤ mark
+        → Leaves l registers (nodes_code l nodes mark) w n (pass drive nodes (signals l w)) (all_later nodes (signals l w)) }
+{}
