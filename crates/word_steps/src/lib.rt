@@ -9,6 +9,8 @@ mod op;
 mod short;
 mod soundness;
 mod step;
+#[cfg(test)]
+mod tests;
 mod walking;
 mod wide;
 
