@@ -10,4 +10,5 @@ pub mod Turns
 pub mod Displays
 pub mod Endings
 pub mod Over
+pub mod Made
 pub mod Outputs

@@ -4,4 +4,5 @@ pub mod Runs
 pub mod Writing
 pub mod Endings
 pub mod Turns
+pub mod Made
 pub mod Outputs

@@ -2,6 +2,7 @@
 ghost use Rattle.std.specs.Prelude.{◌≡◌, ◌≢◌, ◌⊎◌, ◌<◌, ◌≤◌, ℕ, List, [], ◌∷◌, ◌++◌, length, map, string_bytes, Bool, false, Some, None, if◌then◌else◌};
 ghost use Rattle.ls_port.specs.Causes.{Rose};
 ghost use Rattle.command_read.specs.Readers.{left, next_number, has_ended, count_taken, stopped};
+ghost use Rattle.live_options.specs.Bounds.{AreWithin};
 ghost use Rattle.live_options.specs.Words.{OptionsOf, options, options_of};
 ghost use Rattle.book_history.specs.Book.{Closes};
 ghost use Rattle.checkpoint_book.specs.Views.{counts_of};
@@ -10,6 +11,7 @@ ghost use Rattle.live_session.specs.Sessions.{world};
 ghost use Rattle.live_session.specs.Worlds.{fresh};
 ghost use Rattle.livesim.specs.Endings.{status_of};
 ghost use Rattle.livesim.specs.Histories.{IsLegal, closed};
+ghost use Rattle.livesim.specs.Made.{LivedBy, LivedMade};
 ghost use Rattle.livesim.specs.Runs.{HasSettings, IsComplete, Lived};
 ghost use Rattle.livesim.specs.Settings.{settings};
 ghost use Rattle.livesim.specs.Turns.{HasLimits};
@@ -27,7 +29,8 @@ use cycle_eval::Design;
 use live_options::laws::options_are_within;
 use live_options::{Options, read_options};
 use live_session::{Limits, Session};
-use ls_port::{Shelf, Sink, SinkRefusal, Source};
+use load_maker::make;
+use ls_port::{Shelf, Sink, SinkRefusal, SolidSource, Source};
 use ls_text::NoMemory;
 use std::alloc::Global;
 use std::thread::Threads;
@@ -193,11 +196,75 @@ fn run<R: Threads + Sync, S: Source, K: Sink, F: Shelf>(
     }
 }
 
+// What such words ask for, over the script of so many stages, which is made and takes nothing from outside.
+fn run_made<R: Threads + Sync, K: Sink, F: Shelf>(
+    rt: &R,
+    alloc: Global,
+    options: Options,
+    stages: u32,
+    sink: &mut K,
+    shelf: &mut F,
+) -> Outcome
+    requires interval { 1 ≤ options.interval }
+    requires some { 1 ≤ stages }
+    requires few { stages ≤ 4096 }
+    ensures taken { result.taken ≡ 0 }
+    ensures lived { LivedMade (settings (options_of options)) stages (K.written sink.old) (K.written sink.new)
+        (F.answers shelf.old) (F.answers shelf.new) (F.faults shelf.old) (F.faults shelf.new) result.status result.history }
+    ensures write_fault { result.status ≡ 4 → Rose (K.faults sink.old) (K.faults sink.new) }
+    ensures known { result.status ≤ 6 }
+    ensures words { result.status ≢ 2 }
+    ensures sink_once { (K.faults sink.new ≡ K.faults sink.old) ⊎ Rose (K.faults sink.old) (K.faults sink.new) }
+    ensures sink_kept { result.status ≢ 4 → K.faults sink.new ≡ K.faults sink.old }
+{
+    let Ok(script) = make(alloc, stages) else {
+        return stopped(alloc, 5, options.interval, options.lookback);
+    };
+    let mut source = SolidSource::new(script);
+    let made = run(rt, alloc, options, &mut source, sink, shelf);
+    Outcome {
+        status: made.status,
+        history: made.history,
+        taken: 0,
+    }
+}
+
+// What words that are taken ask for, over the script of the source, or over one that is made.
+fn run_asked<R: Threads + Sync, S: Source, K: Sink, F: Shelf>(
+    rt: &R,
+    alloc: Global,
+    options: Options,
+    source: &mut S,
+    sink: &mut K,
+    shelf: &mut F,
+) -> Outcome
+    requires within { AreWithin (options_of options) }
+    ensures lived { LivedBy (settings (options_of options)) options.load (S.left source.old) (S.left source.new)
+        (K.written sink.old) (K.written sink.new) (F.answers shelf.old) (F.answers shelf.new) (F.faults shelf.old) (F.faults shelf.new)
+        result.taken result.status result.history }
+    ensures made { (stages : ℕ) → options.load ≡ Some stages → source.new ≡ source.old }
+    ensures read_fault { result.status ≡ 3 → Rose (S.faults source.old) (S.faults source.new) }
+    ensures write_fault { result.status ≡ 4 → Rose (K.faults sink.old) (K.faults sink.new) }
+    ensures known { result.status ≤ 6 }
+    ensures words { result.status ≢ 2 }
+    ensures source_once { (S.faults source.new ≡ S.faults source.old) ⊎ Rose (S.faults source.old) (S.faults source.new) }
+    ensures sink_once { (K.faults sink.new ≡ K.faults sink.old) ⊎ Rose (K.faults sink.old) (K.faults sink.new) }
+    ensures source_kept { result.status ≢ 3 → S.faults source.new ≡ S.faults source.old }
+    ensures sink_kept { result.status ≢ 4 → K.faults sink.new ≡ K.faults sink.old }
+    ensures few { result.taken ≤ 67108865 }
+    ensures much { result.status ≡ 6 → 67108864 < result.taken }
+{
+    match options.load {
+        None => run(rt, alloc, options, source, sink, shelf),
+        Some(stages) => run_made(rt, alloc, options, stages, sink, shelf),
+    }
+}
+
 /// Reads a script, carries out its commands and writes their lines.
 ///
 /// The words are those of the command line, the program's name first. A command is carried out and its lines are written as soon as its last line is
 /// read, before more is read. It ends at the end of the input, at `quit`, at a fault of the source or the sink, for want of memory, or one byte
-/// above 67,108,864.
+/// above 67,108,864. Where the words ask for a load, the script of so many stages is made and read in place of the source.
 pub fn live_run<R: Threads + Sync, S: Source, K: Sink, F: Shelf>(
     rt: &R,
     alloc: Global,
@@ -214,11 +281,12 @@ pub fn live_run<R: Threads + Sync, S: Source, K: Sink, F: Shelf>(
         → (result.taken ≡ 0) × (source.new ≡ source.old) × (sink.new ≡ sink.old) × (shelf.new ≡ shelf.old)
         × (result.history.events ≡ []) }
 
-    // Where they ask for options: the bytes taken, what was asked of the shelf, the lines written, and what the status says of them.
+    // Where they ask for options: the bytes taken, what was asked of the shelf, the lines written, and what the status says of them. Where these
+    // ask for a load, the commands are those of the script of so many stages, and the source isn't touched.
     ensures lived { (o : OptionsOf) → options (map string_bytes words.now) ≡ Some o
-        → (bytes : List ℕ) × (ended : Bool) × (length bytes ≡ result.taken)
-        × Lived (settings o) (S.left source.old) (S.left source.new) (K.written sink.old) (K.written sink.new)
-        (F.answers shelf.old) (F.answers shelf.new) (F.faults shelf.old) (F.faults shelf.new) bytes ended result.status result.history }
+        → LivedBy (settings o) o.load (S.left source.old) (S.left source.new) (K.written sink.old) (K.written sink.new)
+        (F.answers shelf.old) (F.answers shelf.new) (F.faults shelf.old) (F.faults shelf.new) result.taken result.status result.history }
+    ensures made { (o : OptionsOf) (stages : ℕ) → options (map string_bytes words.now) ≡ Some o → o.load ≡ Some stages → source.new ≡ source.old }
 
     // The causes of 3 and 4: the count rose, and by one.
     ensures read_fault { result.status ≡ 3 → Rose (S.faults source.old) (S.faults source.new) }
@@ -242,6 +310,6 @@ pub fn live_run<R: Threads + Sync, S: Source, K: Sink, F: Shelf>(
     match read_options(alloc, words) {
         Err(NoMemory) => stopped(alloc, 5, INTERVAL, LOOKBACK),
         Ok(None) => stopped(alloc, 2, INTERVAL, LOOKBACK),
-        Ok(Some(options)) => run(rt, alloc, options, source, sink, shelf),
+        Ok(Some(options)) => run_asked(rt, alloc, options, source, sink, shelf),
     }
 }

@@ -1,7 +1,7 @@
 -- What steps make of operands is what the operators of the definition do.
-use Rattle.std.proofs.Common.{◌≡◌, ℕ, zero, suc, ◌+◌, ◌-◌, ◌*◌, ◌/◌, ◌%◌, ◌^◌, ◌<◌, ◌≤◌, min, Bool, true, false, ◌&&◌, not, nat_le, nat_lt, refl, sym, ap, ap₂, ◌∙◌, subst, arith, ℤ, pos}
-use Rattle.std.specs.Prelude.{bit_or, if◌then◌else◌, negsuc}
-use Rattle.std.proofs.Math.Nat.{mul-add, mul_assoc, mul_comm, zero-mul}
+use Rattle.std.proofs.Common.{◌≡◌, ℕ, zero, suc, ◌+◌, ◌-◌, ◌*◌, ◌/◌, ◌%◌, ◌^◌, ◌<◌, ◌≤◌, min, Bool, true, false, ◌&&◌, ◌==◌, not, nat_le, nat_lt, refl, sym, ap, ap₂, ◌∙◌, subst, arith, ℤ, pos}
+use Rattle.std.specs.Prelude.{bit_or, if◌then◌else◌, negsuc, ◌-ℤ◌}
+use Rattle.std.proofs.Math.Nat.{mul-add, mul_assoc, mul_comm, suc-mul, zero-mul}
 use Rattle.std.proofs.lemmas.Bool.{leb-true, ltb-true, ltb-false, cond-true, cond-false}
 use Rattle.std.proofs.lemmas.Int.{ints}
 use Rattle.std.proofs.lemmas.Nat.{or_shifted, shl_whole}

@@ -1,5 +1,5 @@
 -- Assignments to one part, and to more.
-use Rattle.std.proofs.Common.{◌≡◌, ℕ, ◌+◌, List, [], ◌∷◌, ◌++◌, length, get_or, Result, Ok, Err, OnOk, append_assoc, refl, ap, ◌∙◌, arith}
+use Rattle.std.proofs.Common.{◌≡◌, ℕ, ◌+◌, List, [], ◌∷◌, ◌++◌, length, get_or, Result, Ok, Err, OnOk, append_assoc, refl, sym, ap, ◌∙◌, arith}
 use Rattle.word_steps.specs.declared.step.Step.{Step}
 use Rattle.typed_ir.specs.declared.target.Target.{Target}
 use Rattle.typed_ir.specs.Sized.{Sized, width_of}

@@ -1,6 +1,6 @@
 -- Copies of a 1 as a quotient.
-use Rattle.std.proofs.Common.{◌≡◌, ℕ, zero, suc, ◌+◌, ◌-◌, ◌*◌, ◌/◌, ◌^◌, ◌<◌, ◌≤◌, sym, ap, ◌∙◌, arith}
-use Rattle.std.proofs.Math.Nat.{mul_assoc, mul_comm, suc-mul, zero-mul, add-mul, mul-div_cancel}
+use Rattle.std.proofs.Common.{◌≡◌, ℕ, zero, suc, ◌+◌, ◌-◌, ◌*◌, ◌/◌, ◌^◌, ◌<◌, ◌≤◌, refl, sym, ap, ap₂, ◌∙◌, arith}
+use Rattle.std.proofs.Math.Nat.{mul-add, mul_assoc, mul_comm, suc-mul, zero-mul, add-mul, mul-div_cancel}
 use Rattle.std.proofs.lemmas.Nat.{pow-add, pow_pos, pow_below}
 use Rattle.typed_ir.specs.Sized.{copies}
 

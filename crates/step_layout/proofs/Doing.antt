@@ -1,5 +1,5 @@
 -- The steps of a statement do what it says.
-use Rattle.std.proofs.Common.{◌≡◌, ℕ, ◌+◌, ◌/◌, ◌^◌, ◌<◌, ◌≤◌, Bool, true, false, ◌&&◌, ◌||◌, ◌==◌, not, nat_le, nat_lt, List, [], ◌∷◌, ◌++◌, map, length, refl, sym, ap, ap₂, ◌∙◌, subst, arith}
+use Rattle.std.proofs.Common.{◌≡◌, ℕ, zero, suc, ◌+◌, ◌-◌, ◌/◌, ◌%◌, ◌^◌, ◌<◌, ◌≤◌, Bool, true, false, ◌&&◌, ◌||◌, ◌==◌, not, nat_le, nat_lt, List, [], ◌∷◌, ◌++◌, map, length, refl, sym, ap, ap₂, ◌∙◌, subst, arith, cond}
 use Rattle.std.specs.Prelude.{if◌then◌else◌, bit_or}
 use Rattle.std.specs.Int.Bits.{or_zero_r}
 use Rattle.std.proofs.lemmas.Bool.{eqb-true, eqb-false, leb-true, cond-true, cond-false}
@@ -7,14 +7,14 @@ use Rattle.bits.specs.Runs.{replaced}
 use Rattle.bits.proofs.Modulo.{small, fits_wider}
 use Rattle.typed_ir.specs.declared.span.Span.{Span}
 use Rattle.typed_ir.specs.declared.update.Update.{Update}
-use Rattle.typed_ir.specs.Valuations.{Valuation, put}
+use Rattle.typed_ir.specs.Valuations.{Valuation, put, placed}
 use Rattle.typed_ir.specs.Orders.{Each, Member}
 use Rattle.typed_ir.specs.Sized.{Sized, value_of, width_of, agrees, fits_signals, is_width, is_signal, is_span}
 use Rattle.typed_ir.specs.Stmts.{SizedTarget, Fixed, Moving, SizedItem, SizedStmt, SizedArms, Skip as Nothing, Assign, Later, Then, If, Case, Arm, Default, is_target, are_targets, is_sized, are_items, is_legal, are_legal_arms, update_of, updates_of, all_applied, applied, written, matches_item, matches_any, exec, exec_arms, pending, pending_arms, span_of, targets, arm_targets, later_targets, later_arm_targets}
 use Rattle.typed_ir.proofs.Cases.{by_cases, and_left, and_right}
 use Rattle.word_steps.specs.declared.step.Step.{Step}
 use Rattle.word_steps.specs.declared.op.Op.TheVariants.{Or, SkipIfZero, SkipIfEqual, SkipUnlessEqual, Skip}
-use Rattle.word_steps.specs.Walks.{at, walk}
+use Rattle.word_steps.specs.Walks.{At, at, walk, seen}
 use Rattle.word_steps.proofs.Words.{put-same, put-other}
 use Rattle.word_steps.proofs.Steps.{walk-append, walk-past}
 use Rattle.step_layout.specs.Plans.{Plan, IsApart, IsReady, IsKnown, IsAlone, signals, width_at}
@@ -23,7 +23,7 @@ use Rattle.step_layout.specs.Statements.{signal_of, is_whole, is_direct, part_co
 use Rattle.step_layout.specs.Right.{IsLaid}
 use Rattle.step_layout.proofs.Fits.{value_fits, signal_is}
 use Rattle.step_layout.proofs.Ready.{each_left, each_right, same_signals, still_ready}
-use Rattle.step_layout.proofs.Layouts.{Runs, Stands, Gives, Fine, stands_runs, gives_runs, stands, gives}
+use Rattle.step_layout.proofs.Layouts.{Runs, Stands, Gives, Fine, runs_none, join, stands_runs, finish, at_mark, gives_runs, stands, gives}
 use Rattle.step_layout.proofs.PartValues.{part_value, applied_part, part_right, part_fits, span_lies, whole_right, gives_by}
 
 -- ---- updates of one signal depend on that signal alone

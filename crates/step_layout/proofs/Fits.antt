@@ -1,8 +1,8 @@
 -- Values of expressions fit their widths.
-use Rattle.std.proofs.Common.{◌≡◌, ℕ, suc, ◌+◌, ◌-◌, ◌*◌, ◌/◌, ◌%◌, ◌^◌, ◌<◌, ◌≤◌, Bool, true, false, ◌&&◌, ◌==◌, nat_le, nat_lt, List, length, sym, subst, arith, lt_of_le_of_lt, ℤ, pos}
+use Rattle.std.proofs.Common.{◌≡◌, ℕ, zero, suc, ◌+◌, ◌-◌, ◌*◌, ◌/◌, ◌%◌, ◌^◌, ◌<◌, ◌≤◌, Bool, true, false, ◌&&◌, ◌==◌, nat_le, nat_lt, List, length, refl, sym, ap, ◌∙◌, subst, arith, lt_of_le_of_lt, ℤ, pos}
 use Rattle.std.specs.Prelude.{negsuc, slice_index, if◌then◌else◌, int_div, int_rem}
 use Rattle.std.proofs.Math.Nat.{div-le_self, mod-le}
-use Rattle.std.proofs.lemmas.Bool.{eqb-true, leb-true, ltb-true}
+use Rattle.std.proofs.lemmas.Bool.{eqb-true, leb-true, ltb-true, cond-true, cond-false}
 use Rattle.std.proofs.lemmas.Nat.{pow_pos, or_lt, xor_lt, and_le_l, mul-le}
 use Rattle.bits.specs.Values.{wrapped, signed_of, quotient, remainder}
 use Rattle.bits.specs.Runs.{selected}
@@ -16,7 +16,7 @@ use Rattle.typed_ir.specs.declared.binary_operator.BinaryOperator.TheVariants.{A
 use Rattle.typed_ir.specs.Valuations.{Valuation}
 use Rattle.typed_ir.specs.Sized.{Sized, Constant, Name, Part, Pick, Unary, Binary, Choice, Concat, Repeat, Resized, width_of, unary_width, binary_width, value_of, truth_value, is_width, is_signal, takes_widths, agrees, fits_signals, apply_unary, apply_binary, apply_comparison, apply_logical, place_of, is_signed}
 use Rattle.typed_ir.proofs.Copies.{above_fits, copies_fit}
-use Rattle.typed_ir.proofs.Cases.{and_left, and_right}
+use Rattle.typed_ir.proofs.Cases.{by_cases, and_left, and_right}
 
 truth_fits : (b : Bool) → truth_value b < 2 ^ 1
 truth_fits true = omega arith

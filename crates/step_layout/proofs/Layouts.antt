@@ -1,25 +1,27 @@
 -- The steps of an expression give its value.
-use Rattle.std.proofs.Common.{◌≡◌, ℕ, ◌+◌, ◌*◌, ◌/◌, ◌%◌, ◌^◌, ◌<◌, ◌≤◌, max, Bool, true, false, ◌==◌, nat_le, nat_lt, List, [], ◌∷◌, ◌++◌, length, refl, sym, ap, ap₂, ◌∙◌, subst, arith}
-use Rattle.std.specs.Prelude.{bit_or, if◌then◌else◌}
+use Rattle.std.proofs.Common.{◌≡◌, ℕ, zero, suc, ◌+◌, ◌-◌, ◌*◌, ◌/◌, ◌%◌, ◌^◌, ◌<◌, ◌≤◌, max, Bool, true, false, ◌&&◌, ◌==◌, nat_le, nat_lt, List, [], ◌∷◌, ◌++◌, length, refl, sym, ap, ap₂, ◌∙◌, subst, arith}
+use Rattle.std.specs.Prelude.{bit_or, if◌then◌else◌, slice_index}
 use Rattle.std.proofs.lemmas.Bool.{eqb-true, leb-true, ltb-true}
 use Rattle.std.proofs.lemmas.Nat.{pow_below, mul-le}
+use Rattle.bits.specs.Values.{resized}
 use Rattle.bits.specs.Runs.{selected}
-use Rattle.bits.proofs.Modulo.{fits_wider}
+use Rattle.bits.proofs.Modulo.{small, fits_wider}
 use Rattle.typed_ir.specs.Valuations.{Valuation, put}
 use Rattle.typed_ir.specs.Orders.{Each}
-use Rattle.typed_ir.specs.Sized.{Sized, Constant, Name, Part, Pick as Pick', Unary, Binary, Choice, Concat, Repeat, Resized, width_of, value_of, is_width, takes_widths, agrees, fits_signals, copies, place_of}
+use Rattle.typed_ir.specs.Sized.{Sized, Constant, Name, Part, Pick as Pick', Unary, Binary, Choice, Concat, Repeat, Resized, width_of, value_of, is_width, is_signal, is_span, takes_widths, agrees, fits_signals, apply_unary, apply_binary, copies, place_of}
 use Rattle.typed_ir.proofs.Copies.{copies_fit}
-use Rattle.typed_ir.proofs.Cases.{and_left, and_right}
+use Rattle.typed_ir.proofs.Cases.{by_cases, and_left, and_right}
 use Rattle.word_steps.specs.declared.step.Step.{Step}
+use Rattle.word_steps.specs.declared.op.Op.{Op}
 use Rattle.word_steps.specs.declared.op.Op.TheVariants.{Copy, Choose, Select, Join, Product, Pick}
-use Rattle.word_steps.specs.Walks.{apply, skips, writes, seen, at, walk, located, place_at}
+use Rattle.word_steps.specs.Walks.{apply, skips, writes, seen, act, At, at, go_at, walk, located, place_at, lowest}
 use Rattle.word_steps.specs.Sound.{is_long}
 use Rattle.word_steps.proofs.Words.{put-same, put-other}
 use Rattle.word_steps.proofs.Steps.{walk-append, act-writes}
 use Rattle.step_layout.specs.Plans.{Plan, IsApart, IsReady, IsKnown, signals, width_at}
 use Rattle.step_layout.specs.Expressions.{step, is_wide, unary_op, binary_op, swaps, locate_op, resize_op, resize_low, is_plain, operand, before, code, constants_of}
 use Rattle.step_layout.proofs.Seen.{seen_whole, seen_part}
-use Rattle.step_layout.proofs.Fits.{a_width, widths_right, agree_both, agree_three, value_fits}
+use Rattle.step_layout.proofs.Fits.{a_width, widths_right, agree_both, agree_three, signal_is, value_fits}
 use Rattle.step_layout.proofs.Applying.{unary_none, unary_writes, unary_right, binary_none, binary_writes, binary_right, join_right, repeat_right, resize_none, resize_writes, resize_right, plain_right, pick_right, locate_none, locate_writes, locate_right}
 use Rattle.step_layout.proofs.Ready.{each_left, each_right, same_signals, still_ready}
 

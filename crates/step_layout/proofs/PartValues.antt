@@ -1,31 +1,34 @@
 -- What the steps of a part left of an assignment write.
-use Rattle.std.proofs.Common.{◌≡◌, ℕ, suc, ◌+◌, ◌-◌, ◌*◌, ◌/◌, ◌%◌, ◌^◌, ◌<◌, ◌≤◌, max, min, Bool, true, false, ◌&&◌, ◌==◌, nat_le, nat_lt, List, [], ◌∷◌, ◌++◌, length, refl, sym, ap, ap₂, ◌∙◌, subst, arith, ℤ, pos}
+use Rattle.std.proofs.Common.{◌≡◌, ℕ, zero, suc, ◌+◌, ◌-◌, ◌*◌, ◌/◌, ◌%◌, ◌^◌, ◌<◌, ◌≤◌, max, min, Bool, true, false, ◌&&◌, ◌==◌, nat_le, nat_lt, List, [], ◌∷◌, ◌++◌, length, refl, sym, ap, ap₂, ◌∙◌, subst, arith, ℤ, pos, lt_of_le_of_lt}
 use Rattle.std.specs.Prelude.{if◌then◌else◌, negsuc, slice_index}
-use Rattle.std.proofs.Math.Nat.{div-lt_iff_lt-mul}
-use Rattle.std.proofs.lemmas.Bool.{eqb-true, leb-true, ltb-true, ltb-false, cond-true, cond-false}
+use Rattle.std.proofs.Math.Nat.{div-lt_iff_lt-mul, div-le_self}
+use Rattle.std.proofs.lemmas.Bool.{eqb-true, eqb-false, leb-true, ltb-true, ltb-false, cond-true, cond-false}
 use Rattle.std.proofs.lemmas.Nat.{pow_pos}
 use Rattle.bits.specs.Runs.{replaced, replaced_within}
 use Rattle.bits.proofs.Modulo.{small, cut, gone_below, power_splits, fits_wider}
 use Rattle.bits.proofs.Runs.{by_order, below_pow}
 use Rattle.typed_ir.specs.declared.span.Span.{Span}
+use Rattle.typed_ir.specs.declared.lane.Lane.{Lane}
 use Rattle.typed_ir.specs.declared.reach.Reach.{Reach}
+use Rattle.typed_ir.specs.declared.update.Update.{Update}
 use Rattle.typed_ir.specs.Valuations.{Valuation, put}
 use Rattle.typed_ir.specs.Orders.{Each}
-use Rattle.typed_ir.specs.Sized.{value_of, width_of, is_width, is_signal, is_span, agrees, fits_signals, place_of}
+use Rattle.typed_ir.specs.Sized.{Sized, value_of, width_of, is_width, is_signal, is_span, agrees, fits_signals, place_of}
 use Rattle.typed_ir.specs.Stmts.{SizedTarget, Fixed, Moving, is_target, is_sized, moved, update_of, all_applied}
 use Rattle.typed_ir.proofs.Cases.{by_cases, and_left, and_right}
 use Rattle.typed_ir.proofs.Copies.{above_fits}
 use Rattle.word_steps.specs.declared.step.Step.{Step}
 use Rattle.word_steps.specs.declared.op.Op.TheVariants.{Select, Place, PlaceAt}
-use Rattle.word_steps.specs.Walks.{seen, located, lowest, place_at}
+use Rattle.word_steps.specs.Walks.{apply, seen, located, lowest, place_at, At, at, walk}
+use Rattle.word_steps.proofs.Words.{put-same, put-other}
 use Rattle.step_layout.specs.Plans.{Plan, IsApart, IsReady, IsKnown, signals, width_at}
 use Rattle.step_layout.specs.Expressions.{step, is_wide, locate_op, operand, before, code, constants_of}
 use Rattle.step_layout.specs.Statements.{signal_of, is_whole, shifted, shift_code, part_code, part_constants}
 use Rattle.step_layout.proofs.Seen.{seen_whole, in_lowest}
 use Rattle.step_layout.proofs.Fits.{a_width, signal_is}
-use Rattle.step_layout.proofs.Applying.{put_right, none_of}
-use Rattle.step_layout.proofs.Ready.{each_left, each_right}
-use Rattle.step_layout.proofs.Layouts.{Stands, Gives, Fine, runs_none, join, stands_runs, finish, at_mark, gives_runs, finds}
+use Rattle.step_layout.proofs.Applying.{locate_none, locate_writes, locate_right, put_right, replaced_none, none_of}
+use Rattle.step_layout.proofs.Ready.{each_left, each_right, same_signals, still_ready}
+use Rattle.step_layout.proofs.Layouts.{Runs, Stands, Gives, Fine, runs_none, join, stands_runs, finish, at_mark, gives_runs, stands, gives, finds}
 
 -- ---- numbers
 

@@ -1,10 +1,10 @@
 -- The steps of nodes do what the nodes do in place, one after another.
-use Rattle.std.proofs.Common.{◌≡◌, ℕ, ◌≤◌, true, ◌&&◌, nat_lt, List, [], ◌∷◌, refl, sym, ap, ◌∙◌, subst}
+use Rattle.std.proofs.Common.{◌≡◌, ℕ, ◌+◌, ◌/◌, ◌^◌, ◌≤◌, true, ◌&&◌, nat_lt, List, [], ◌∷◌, ◌++◌, refl, sym, ap, ◌∙◌, subst}
 use Rattle.typed_ir.specs.declared.lane.Lane.{Lane}
 use Rattle.typed_ir.specs.Valuations.{Valuation}
 use Rattle.typed_ir.specs.Orders.{Each, pass}
 use Rattle.typed_ir.specs.Sized.{value_of, is_span}
-use Rattle.typed_ir.specs.Stmts.{exec, pending, written, are_targets, is_legal, is_sized}
+use Rattle.typed_ir.specs.Stmts.{Fixed, exec, pending, written, are_targets, is_legal, is_sized}
 use Rattle.typed_ir.specs.Nodes.{FlatNode, Drive, Block, drive, spread, are_lanes, is_legal_node}
 use Rattle.typed_ir.proofs.Locals.{block_in_place}
 use Rattle.step_layout.specs.Plans.{Plan, IsApart, IsReady, signals}

@@ -1,7 +1,7 @@
 -- What stays where words below a place stay.
-use Rattle.std.proofs.Common.{◌≡◌, ℕ, ◌^◌, ◌<◌, List, [], ◌∷◌, ◌++◌, sym, ◌∙◌, subst}
+use Rattle.std.proofs.Common.{◌≡◌, ℕ, ◌+◌, ◌^◌, ◌<◌, ◌≤◌, List, [], ◌∷◌, ◌++◌, length, sym, ap, ◌∙◌, subst}
 use Rattle.typed_ir.specs.Valuations.{Valuation}
-use Rattle.typed_ir.specs.Orders.{Each}
+use Rattle.typed_ir.specs.Orders.{Member, Each}
 use Rattle.step_layout.specs.Plans.{Plan, IsApart, IsReady, signals, width_at}
 
 pub each_left : {A : Type 0} (P : A → Type 0) (xs ys : List A) → Each P (xs ++ ys) → Each P xs

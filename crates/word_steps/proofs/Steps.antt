@@ -1,12 +1,12 @@
 -- Walks over lists of steps.
-use Rattle.std.proofs.Common.{Bool, ◌≡◌, ℕ, zero, suc, ◌+◌, ◌<◌, List, [], ◌∷◌, ◌++◌, length, get_or, drop, refl, sym, ◌∙◌, ap, arith}
-use Rattle.std.specs.Prelude.{◌&&◌, ◌||◌, not, nat_lt}
+use Rattle.std.proofs.Common.{Bool, ◌≡◌, ℕ, zero, suc, ◌+◌, ◌<◌, ◌≤◌, List, [], ◌∷◌, ◌++◌, length, get_or, drop, refl, sym, ◌∙◌, ap, arith, drop-cons}
+use Rattle.std.specs.Prelude.{◌&&◌, ◌||◌, not, nat_lt, nat_le}
 use Rattle.std.proofs.lemmas.Bool.{cond-true, cond-false, ltb-true}
 use Rattle.typed_ir.specs.Valuations.{Valuation, put}
 use Rattle.typed_ir.proofs.Cases.{and_left, and_right}
 use Rattle.word_steps.specs.declared.step.Step.{Step}
 use Rattle.word_steps.specs.Walks.{At, at, act, apply, go_at, skips, writes, walk, seen, lowest}
-use Rattle.word_steps.specs.Sound.{are_sound, is_sound, is_sized}
+use Rattle.word_steps.specs.Sound.{are_sound, is_sound, is_placed, is_sized}
 
 pub walk-append : (xs ys : List Step) (p : At) → walk (xs ++ ys) p ≡ walk ys (walk xs p)
 walk-append [] ys p = refl

@@ -1,5 +1,6 @@
 -- Words that are read and written, as a valuation.
-use Rattle.std.proofs.Common.{Bool, ◌≡◌, ℕ, ◌<◌, List, length, get_or, set, ◌==◌, sym, ◌∙◌, ap, arith, get_or-set_same, get_or-set_other}
+use Rattle.std.proofs.Common.{Bool, ◌≡◌, ℕ, zero, suc, ◌+◌, ◌<◌, List, [], ◌∷◌, length, get_or, set, ◌==◌, refl, sym, ◌∙◌, ap, arith, get_or-set_same, get_or-set_other, drop, drop-cons}
+use Rattle.std.specs.Prelude.{slice_index}
 use Rattle.std.proofs.lemmas.Bool.{eqb-true, eqb-false, cond-true, cond-false}
 use Rattle.typed_ir.specs.Valuations.{Valuation, put}
 use Rattle.word_steps.specs.Walks.{env_of}

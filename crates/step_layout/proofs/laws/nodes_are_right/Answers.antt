@@ -1,4 +1,4 @@
-use Rattle.std.proofs.Common.{arith, ap, ◌∙◌, subst, sym}
+use Rattle.std.proofs.Common.{◌≤◌, arith, ap, ◌∙◌, subst, sym}
 use Rattle.word_steps.specs.Walks.{At}
 use Rattle.step_layout.specs.Plans.{IsReady}
 use Rattle.step_layout.proofs.Passing.{does_nodes}

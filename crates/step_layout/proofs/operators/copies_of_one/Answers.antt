@@ -1,4 +1,4 @@
-use Rattle.std.proofs.Common.{◌-◌, ◌/◌, ◌^◌, ◌<◌, ap, ap₂, ◌∙◌, arith}
+use Rattle.std.proofs.Common.{◌≡◌, ◌≤◌, ◌-◌, ◌*◌, ◌/◌, ◌^◌, ◌<◌, ap, ap₂, ◌∙◌, arith}
 use Rattle.std.proofs.lemmas.Nat.{mul-le, pow_below}
 use Rattle.step_layout.proofs.CopiesOfOne.{by_quotient}
 use Rattle.step_layout.proofs.operators.copies_of_one.Goals as goal

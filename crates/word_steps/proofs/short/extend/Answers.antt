@@ -1,4 +1,4 @@
-use Rattle.std.proofs.Common.{◌+◌, ◌∙◌, ◌^◌, ◌<◌, arith}
+use Rattle.std.proofs.Common.{◌+◌, ◌∙◌, ◌^◌, ◌<◌, sym, arith}
 use Rattle.std.proofs.lemmas.Nat.{pow_below}
 use Rattle.word_steps.proofs.Signs.{filled, cut_or_zeros}
 use Rattle.word_steps.proofs.short.extend.Goals as goal

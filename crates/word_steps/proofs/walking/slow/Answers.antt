@@ -1,7 +1,7 @@
 use Rattle.std.proofs.Common.{length, ap, sym, ◌∙◌}
 use Rattle.word_steps.specs.Walks.{env_of}
 use Rattle.typed_ir.specs.Valuations.{put}
-use Rattle.word_steps.proofs.Steps.{act_wide, sound_to}
+use Rattle.word_steps.proofs.Steps.{act_wide, act_short, sound_to}
 use Rattle.word_steps.proofs.Words.{word_set}
 use Rattle.word_steps.proofs.walking.slow.Goals as goal
 

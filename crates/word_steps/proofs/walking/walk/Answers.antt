@@ -1,5 +1,5 @@
-use Rattle.std.proofs.Common.{length, drop, ap, ◌∙◌, ◌+◌}
-use Rattle.word_steps.specs.Walks.{env_of}
+use Rattle.std.proofs.Common.{◌≡◌, IsTrue, length, drop, ap, sym, ◌∙◌, ◌+◌}
+use Rattle.word_steps.specs.Walks.{walk, at, env_of}
 use Rattle.word_steps.specs.Sound.{are_sound}
 use Rattle.word_steps.proofs.Steps.{walk-next, sound-after, sound-at}
 use Rattle.word_steps.proofs.walking.walk.Goals as goal

@@ -1,4 +1,4 @@
-use Rattle.std.proofs.Common.{◌∙◌, ◌*◌, ◌^◌, sym, arith}
+use Rattle.std.proofs.Common.{◌∙◌, ◌*◌, ◌^◌, ◌≤◌, sym, arith}
 use Rattle.bits.proofs.Modulo.{cut, gone_above}
 use Rattle.word_steps.proofs.wide.left.Goals as goal
 

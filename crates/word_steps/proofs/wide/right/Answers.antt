@@ -1,4 +1,4 @@
-use Rattle.std.proofs.Common.{sym}
+use Rattle.std.proofs.Common.{sym, arith}
 use Rattle.bits.proofs.Modulo.{gone_below}
 use Rattle.word_steps.proofs.wide.right.Goals as goal
 
