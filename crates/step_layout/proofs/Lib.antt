@@ -8,3 +8,4 @@ pub mod PartValues
 pub mod Doing
 pub mod Passing
 pub mod Assigning
+pub mod Numbered
