@@ -9,3 +9,4 @@ pub mod Doing
 pub mod Passing
 pub mod Assigning
 pub mod Numbered
+pub mod Sizing

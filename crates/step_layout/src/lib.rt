@@ -23,7 +23,7 @@ mod statements;
 pub use constants::Constants;
 pub use expressions::lay;
 pub use home::Home;
-pub use laws::{expressions_are_right, nodes_are_right, statements_are_right};
+pub use laws::{expressions_are_right, nodes_are_right, statements_are_right, steps_are_sized};
 pub use layout::Layout;
 pub use nodes::{lay_node, lay_nodes};
 pub use operand::Operand;
