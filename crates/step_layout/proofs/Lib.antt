@@ -8,3 +8,5 @@ pub mod PartValues
 pub mod Doing
 pub mod Passing
 pub mod Assigning
+pub mod Numbered
+pub mod Sizing

@@ -26,7 +26,7 @@ unfolding drive
 in_place (Drive form lanes e) env = lanes_spread lanes (value_of e env) env
 in_place (Block shown body) env = sym (block_in_place shown body env)
 
-node_legal : (k : FlatNode) (ws : List ℕ) → is_legal_node k ws ≡ true → is_legal (as_statement k) ws ≡ true
+pub node_legal : (k : FlatNode) (ws : List ℕ) → is_legal_node k ws ≡ true → is_legal (as_statement k) ws ≡ true
 unfolding is_legal_node
 node_legal (Drive form lanes e) ws h = ap (λ b. b && is_sized e ws) (lanes_legal lanes ws) ∙ h
 node_legal (Block shown body) ws h = h

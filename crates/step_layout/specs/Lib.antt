@@ -6,3 +6,4 @@ pub mod Statements
 pub mod Homes
 pub mod Nodes
 pub mod Right
+pub mod Sizes

@@ -1,5 +1,5 @@
 -- How nodes are laid out as steps: as the statements that do the same.
-use Rattle.std.specs.Prelude.{ℕ, List, [], ◌∷◌, ◌++◌, map}
+use Rattle.std.specs.Prelude.{ℕ, zero, suc, List, [], ◌∷◌, ◌++◌, map}
 use Rattle.typed_ir.specs.declared.lane.Lane.{Lane}
 use Rattle.typed_ir.specs.declared.update.Update.{Update}
 use Rattle.typed_ir.specs.Valuations.{Valuation}
@@ -20,6 +20,17 @@ as_statement (Block shown body) = body
 abbrev pub nodes_code : Plan → List FlatNode → ℕ → List Step
 nodes_code l [] mark = []
 nodes_code l (k ∷ ks) mark = stmt_code l (as_statement k) mark ++ nodes_code l ks mark
+
+-- the node of a number; none where there is none
+abbrev pub node_at : List FlatNode → ℕ → List FlatNode
+node_at [] k = []
+node_at (n ∷ ns) zero = n ∷ []
+node_at (n ∷ ns) (suc k) = node_at ns k
+
+-- the nodes of these numbers
+abbrev pub in_order : List FlatNode → List ℕ → List FlatNode
+in_order nodes [] = []
+in_order nodes (k ∷ ks) = node_at nodes k ++ in_order nodes ks
 
 -- the nonblocking updates of nodes that are driven one after another
 abbrev pub all_later : List FlatNode → Valuation → List Update

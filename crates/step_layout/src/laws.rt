@@ -10,6 +10,7 @@ ghost use Rattle.step_layout.specs.Expressions.{code, constants_of};
 ghost use Rattle.step_layout.specs.Statements.{stmt_code};
 ghost use Rattle.step_layout.specs.Nodes.{nodes_code, all_later};
 ghost use Rattle.step_layout.specs.Right.{Puts, Leaves, IsLaid, IsLaidNode};
+ghost use Rattle.step_layout.specs.Sizes.{are_sized};
 
 /// The steps of an expression put its value at their place, and change nothing else below the mark.
 pub fn expressions_are_right()
@@ -30,4 +31,12 @@ pub fn nodes_are_right()
     ensures { (l : Plan) (registers : List ℕ) (n mark : ℕ) (nodes : List FlatNode) (w : Valuation) → IsApart l registers n → IsReady l registers w
         → Each (IsLaidNode l registers) nodes → n ≤ mark
         → Leaves l registers (nodes_code l nodes mark) w n (pass drive nodes (signals l w)) (all_later nodes (signals l w)) }
+{}
+
+/// The steps of a statement, and those of nodes, fit the words that they take.
+pub fn steps_are_sized()
+    ensures statements { (l : Plan) (registers : List ℕ) (n mark : ℕ) (st : SizedStmt) → IsApart l registers n → IsLaid l registers st
+        → IsTrue (are_sized (stmt_code l st mark)) }
+    ensures nodes { (l : Plan) (registers : List ℕ) (n mark : ℕ) (nodes : List FlatNode) → IsApart l registers n → Each (IsLaidNode l registers) nodes
+        → IsTrue (are_sized (nodes_code l nodes mark)) }
 {}

@@ -1,23 +1,34 @@
 // Expressions, statements and nodes laid out as a flat list of steps over words.
 //
 // `layout` says where signals, next values and constants (`constants`) stand. `expressions` lays expressions out by the operators of
-// `operators`, and `laws` says what the steps do.
+// `operators`, `parts` and `drives` what is assigned; `statements` lays statements out, with `matching` for the items of a case, and `nodes`
+// nodes, all from the last one to the first, by steps that are put in front of others (`fronting`). `laws` says what the steps do.
 #![tactic(auto)]
 
 mod constants;
+mod drives;
 mod expressions;
+mod fronting;
 mod home;
 mod laws;
 mod layout;
+#[cfg(test)]
+mod layout_tests;
+mod matching;
+mod nodes;
 mod operand;
 mod operators;
 mod parts;
 mod putting;
+mod statements;
 
 pub use constants::Constants;
 pub use expressions::lay;
 pub use home::Home;
-pub use laws::{expressions_are_right, nodes_are_right, statements_are_right};
+pub use laws::{expressions_are_right, nodes_are_right, statements_are_right, steps_are_sized};
 pub use layout::Layout;
+pub use nodes::{lay_node, lay_nodes};
 pub use operand::Operand;
+pub use operators::copies_of_one;
 pub use parts::lay_assignment;
+pub use statements::{lay_sequence, lay_statement};

@@ -71,8 +71,8 @@ fn stand_shifted(
     Ok(mark)
 }
 
-// Bits that are known.
-fn lay_lane(
+/// Bits that are known.
+pub fn lay_lane(
     lane: Lane,
     layout: &Layout,
     to: u32,
@@ -231,8 +231,8 @@ fn is_direct(target: &Target, from: u8, layout: &Layout) -> bool
     }
 }
 
-// An assignment to one part.
-fn lay_one(
+/// An assignment to one part.
+pub fn lay_one(
     target: &Target,
     value: &Typed,
     home: Home,

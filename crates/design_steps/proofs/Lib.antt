@@ -1,0 +1,7 @@
+pub mod Holding
+pub mod Apart
+pub mod Placing
+pub mod Copied
+pub mod Beginning
+pub mod Made
+pub mod Turning

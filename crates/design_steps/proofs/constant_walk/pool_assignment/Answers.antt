@@ -1,0 +1,5 @@
+use Rattle.design_steps.proofs.Holding.{both_ok}
+use Rattle.design_steps.proofs.constant_walk.pool_assignment.Goals as goal
+
+pub returns : goal.returns
+returns c = both_ok c.pool_targets.result _ _ _ _ _ c.in_ok-pool_form.ensures c.pool_targets.ensures

@@ -1,0 +1,5 @@
+pub mod Pooled
+pub mod Layings
+pub mod Places
+pub mod Carries
+pub mod Programs

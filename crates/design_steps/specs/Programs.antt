@@ -1,0 +1,30 @@
+-- What a program is of a design, and words that it runs over.
+use Rattle.std.specs.Prelude.{◌≡◌, ◌<◌, ℕ, List, [], length, map, IsTrue}
+use Rattle.typed_ir.specs.declared.linked.Linked.{Linked}
+use Rattle.typed_ir.specs.Cycles.{IsReady as IsBased}
+use Rattle.typed_ir.specs.FlatNodes.{node_of}
+use Rattle.typed_ir.specs.Linkeds.{flat}
+use Rattle.typed_ir.specs.Statements.{stmt_of, sequence_of}
+use Rattle.word_steps.specs.Sound.{are_sound}
+use Rattle.word_steps.specs.Walks.{env_of}
+use Rattle.step_layout.specs.Plans.{IsReady, signals}
+use Rattle.step_layout.specs.Statements.{stmt_code}
+use Rattle.step_layout.specs.Nodes.{nodes_code, in_order}
+use Rattle.step_layout.specs.Views.{plan_of}
+use Rattle.design_steps.specs.Layings.{LaysOut, mark_of, signals_of}
+use Rattle.design_steps.specs.declared.program.Program.{Program}
+
+-- values fit and constants are there; and the registers, the inputs and the bits that no node drives are as they are to be
+pub record IsAt (p : Program) (l : Linked) (state inputs words : List ℕ) : Type 0 where
+  pub ready : IsReady (plan_of p.layout) (signals_of l.design) (env_of words)
+  pub based : IsBased (flat l.design) state inputs (signals (plan_of p.layout) (env_of words))
+
+-- the steps of the nodes in their order, and those of the clocked blocks, over words for which both are sound
+pub record IsProgramOf (p : Program) (l : Linked) : Type 0 where
+  pub lays : LaysOut p.layout l.design
+  pub settles : p.settling.items ≡ nodes_code (plan_of p.layout) (in_order (map node_of l.design.nodes.items) l.order.items) (mark_of p.layout)
+  pub clocks : p.clocking.items ≡ stmt_code (plan_of p.layout) (sequence_of (map stmt_of l.design.clocked.items)) (mark_of p.layout)
+  pub sound_nodes : IsTrue (are_sound (length p.beginning.items) p.settling.items)
+  pub sound_blocks : IsTrue (are_sound (length p.beginning.items) p.clocking.items)
+  pub room : mark_of p.layout < length p.beginning.items
+  pub begins : IsAt p l [] [] p.beginning.items

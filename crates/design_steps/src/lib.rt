@@ -1,0 +1,26 @@
+// A linked design as a flat list of steps over words.
+//
+// `design_layout` says where a design's signals, their next values and its constants stand; `pooling` and `constant_walk` gather the
+// constants, and `laws` says that nodes and blocks are laid out by it. `making` makes a `Program` of a linked design, with the words that it
+// begins with (`words`), and `cycling` runs it cycle by cycle: the wires settle, the clocked blocks write next values, and these are copied
+// over (`carrying`).
+#![tactic(auto)]
+
+mod carrying;
+mod constant_walk;
+mod cycling;
+mod design_layout;
+mod laws;
+mod making;
+mod pooling;
+mod program;
+mod words;
+
+pub use carrying::carry;
+pub use constant_walk::{pool_all, pool_nodes, pool_statement};
+pub use design_layout::{free_from, layout_of};
+pub use laws::layouts_are_right;
+pub use making::program_of;
+pub use pooling::{pool_form, pool_value};
+pub use program::Program;
+pub use words::{beginning_of, greatest_of};

@@ -1,0 +1,87 @@
+// How a program is made of a linked design.
+ghost use Rattle.std.specs.Prelude.{◌≡◌, [], map, IfOk};
+ghost use Rattle.typed_ir.specs.FlatNodes.{node_of};
+ghost use Rattle.typed_ir.specs.Statements.{stmt_of, sequence_of};
+ghost use Rattle.step_layout.specs.Statements.{stmt_code};
+ghost use Rattle.step_layout.specs.Nodes.{nodes_code, in_order};
+ghost use Rattle.step_layout.specs.Views.{plan_of};
+ghost use Rattle.design_steps.specs.Programs.{IsProgramOf};
+
+use crate::design_layout::{free_from, layout_of};
+use crate::program::Program;
+use crate::words::{beginning_of, greatest_of};
+use no_memory::NoMemory;
+use std::alloc::Global;
+use std::collections::VecDeque;
+use step_layout::{Layout, lay_nodes, lay_sequence};
+use typed_ir::Linked;
+use word_steps::Step;
+
+// The same steps in a list.
+fn listed(alloc: Global, steps: VecDeque<Step>) -> Result<Vec<Step>, NoMemory>
+    ensures { IfOk result (λ list. list.items ≡ steps.items) }
+{
+    let mut steps = steps;
+    let mut list = Vec::with_capacity(alloc, steps.len())?;
+    'taking: while let Some(step) = steps.pop_front() {
+        list.push(step)?;
+    }
+    Ok(list)
+}
+
+// The steps of the nodes, in their order.
+fn settling_of(
+    alloc: Global,
+    linked: &Linked,
+    layout: &Layout,
+    mark: u32,
+) -> Result<Vec<Step>, NoMemory>
+    ensures { IfOk result (λ list. list.items ≡ nodes_code (plan_of layout.now)
+        (in_order (map node_of linked.now.design.nodes.items) linked.now.order.items) mark) }
+{
+    let mut first = Vec::new(alloc);
+    let mut steps = VecDeque::new(alloc);
+    lay_nodes(
+        &linked.design.nodes,
+        &linked.order,
+        layout,
+        mark,
+        &mut first,
+        &mut steps,
+    )?;
+    listed(alloc, steps)
+}
+
+// The steps of the clocked blocks.
+fn clocking_of(
+    alloc: Global,
+    linked: &Linked,
+    layout: &Layout,
+    mark: u32,
+) -> Result<Vec<Step>, NoMemory>
+    ensures { IfOk result (λ list. list.items ≡ stmt_code (plan_of layout.now) (sequence_of (map stmt_of linked.now.design.clocked.items)) mark) }
+{
+    let mut first = Vec::new(alloc);
+    let mut steps = VecDeque::new(alloc);
+    lay_sequence(&linked.design.clocked, layout, mark, &mut first, &mut steps)?;
+    listed(alloc, steps)
+}
+
+/// The program of a linked design. Want of memory, and a place or a number of steps above the largest number, is `NoMemory`.
+pub fn program_of(alloc: Global, linked: &Linked) -> Result<Program, NoMemory>
+    ensures { IfOk result (λ p. IsProgramOf p linked.now) }
+{
+    let layout = layout_of(alloc, &linked.design)?;
+    let mark = free_from(&layout)?;
+    let settling = settling_of(alloc, linked, &layout, mark)?;
+    let clocking = clocking_of(alloc, linked, &layout, mark)?;
+    let last = greatest_of(&clocking, greatest_of(&settling, mark));
+    let count = last as usize + 1;
+    let beginning = beginning_of(alloc, &layout, count)?;
+    Ok(Program {
+        layout,
+        settling,
+        clocking,
+        beginning,
+    })
+}
