@@ -1,31 +1,24 @@
 -- The history that a book comes back with behind a session's work and its workers.
 use Rattle.std.proofs.Common.{◌≡◌, ◌∙◌, ℕ, true, false, List, [], ◌∷◌, ◌++◌, None, refl, sym, ap, subst}
 use Rattle.book_history.specs.Book.{Closes}
-use Rattle.book_history.specs.Owned.{AllOwned, IsPrefix, owned}
+use Rattle.book_history.specs.Owned.{AllOwned, owned}
 use Rattle.book_history.specs.Legal.{Legal}
-use Rattle.book_turn.specs.Known.{apart_from_splits, begun}
-use Rattle.book_turn.specs.Rule.{Learned}
-use Rattle.book_turn.proofs.Histories.{added_append, owned_append, prefix_trans}
-use Rattle.book_turn.specs.Turns.{GoesOn, HasAdded}
+use Rattle.book_turn.specs.Known.{begun}
+use Rattle.book_turn.proofs.Histories.{owned_append}
+use Rattle.book_turn.specs.Turns.{GoesOn}
 use Rattle.command_read.specs.Readers.{count_taken, has_ended, left, next_number, stopped}
 use Rattle.command_read.specs.declared.reader.Reader.{Reader}
-use Rattle.live_session.specs.AtTurn.{Sight, StandsAt, carried_settings, log_of}
+use Rattle.live_session.specs.AtTurn.{Sight, StandsAt, log_of}
 use Rattle.live_session.specs.Beside.{StandsBeside}
 use Rattle.live_session.specs.Logs.{Log, LogEvent, kit, valid}
 use Rattle.live_session.specs.Sessions.{world}
 use Rattle.live_session.specs.Worlds.{fresh}
 use Rattle.live_session.specs.declared.session.Session.{Session}
-use Rattle.live_session.proofs.SharedSettles.{cancel}
 use Rattle.live_session.proofs.Standing.{are_owned}
-use Rattle.live_options.specs.Words.{OptionsOf}
-use Rattle.live_session.specs.Settings.{Settings}
-use Rattle.livesim.specs.Histories.{EndsFrom, IsLegal}
-use Rattle.livesim.specs.Runs.{HasSettings}
+use Rattle.livesim.specs.Histories.{EndsFrom}
 use Rattle.livesim.specs.Settings.{settings}
-use Rattle.livesim.specs.Turns.{HasLimits, Shelves, Sources}
+use Rattle.livesim.specs.Turns.{HasLimits}
 use Rattle.livesim.specs.Working.{IsReadyAt}
-use Rattle.livesim.proofs.Histories.{settings_kept}
-use Rattle.livesim.proofs.Over.{IsLived}
 
 -- a session that has changed, as by reading, and stands beside what its pass has seen
 pub stands_as : (s t : Session) (v : Sight) → StandsAt s v → StandsBeside t (log_of v) → StandsAt t v

@@ -1,21 +1,13 @@
 -- What the session of a script asks of its pass.
-use Rattle.std.specs.Prelude.{◌≡◌, ◌≢◌, ◌⊎◌, ◌<◌, ◌≤◌, ℕ, Bool, false, List, [], length}
-use Rattle.std.specs.declared.option.Option.{Option}
+use Rattle.std.specs.Prelude.{◌≡◌, ℕ, false, List, []}
 use Rattle.std.specs.declared.option.Option.TheVariants.{None}
-use Rattle.ls_port.specs.Causes.{Rose}
-use Rattle.book_history.specs.Owned.{owned}
 use Rattle.command_read.specs.Readers.{left, next_number, has_ended, count_taken, stopped}
 use Rattle.command_read.specs.declared.reader.Reader.{Reader}
-use Rattle.live_options.specs.Words.{OptionsOf}
-use Rattle.live_session.specs.AtTurn.{Sight, StandsAt, log_of}
-use Rattle.live_session.specs.Logs.{Log}
+use Rattle.live_session.specs.AtTurn.{Sight, StandsAt}
 use Rattle.live_session.specs.Sessions.{world}
 use Rattle.live_session.specs.Worlds.{fresh}
 use Rattle.live_session.specs.declared.session.Session.{Session}
-use Rattle.livesim.specs.Histories.{EndsFrom, IsLegal}
-use Rattle.livesim.specs.Runs.{HasSettings, Lived}
-use Rattle.livesim.specs.Settings.{settings}
-use Rattle.livesim.specs.Turns.{HasLimits, Shelves, Sources}
+use Rattle.livesim.specs.Turns.{HasLimits}
 
 -- nothing was read yet, and the session stands at a book without entries
 pub record IsReadyAt (s : Session) (r : Reader) (v : Sight) : Type 0 where

@@ -34,12 +34,12 @@ carry_out-status-requires-clause-ready g c κs within =
     its.ensures.taken its.ensures.ended its.ensures.stop
 
 pub history_of-requires-clause-alone : goal.history_of-requires-clause-alone
-history_of-requires-clause-alone g c κs within =
+history_of-requires-clause-alone g c =
     let made : known c.in-Ok.pass ≡ begun c.in-Ok-Ok-Ok.book.value = c.in-Ok.ensures.1 in
     c.carry_out-status.ensures.goes.added.alone ∙ ap (λ x. x.alone) made
 
 pub history_of-requires-clause-still_open : goal.history_of-requires-clause-still_open
-history_of-requires-clause-still_open g c κs within = c.carry_out-status.ensures.at.stands.stands.still_open
+history_of-requires-clause-still_open g c = c.carry_out-status.ensures.at.stands.stands.still_open
 
 pub returns-in_default-clause-lived : goal.returns-in_default-clause-lived
 returns-in_default-clause-lived g c =
