@@ -31,16 +31,16 @@ module _ (st : Settings) (asked : Asked) (names : List (List ℕ)) (once : HasEa
     (r : Reply) where
   -- it was refused: no entry is new, and the world is as before
   pub refused_done : (j : Log) (refused : Refused) → v ≡ Err refused → Refuses refused r → new ≡ old
-      → IsDone st (Ok asked) old new v j j r.lines r.refused
+      → IsDone true st (Ok asked) old new v j j r.lines r.refused
   refused_done j refused is says same =
-      subst (λ (x : Result World Refused). IsDone st (Ok asked) old new x j j r.lines r.refused) (sym is)
+      subst (λ (x : Result World Refused). IsDone true st (Ok asked) old new x j j r.lines r.refused) (sym is)
       (record {
         added = [];
         settings = refl;
         events = sym (append-nil j.events);
         goes = same;
         refusal = says.refusal;
-        alone = tt;
+        all_own = λ alone. tt;
         part = record { names = names; once = once; is = refl; agree = tt };
         tells = λ (rest : List LogMoment). ap (λ (text : List ℕ). Some (text, rest)) (sym says.text);
       })
@@ -48,35 +48,35 @@ module _ (st : Settings) (asked : Asked) (names : List (List ℕ)) (once : HasEa
   -- it was accepted, and has no entry of its own
   pub told_done : (j : Log) (w : World) → v ≡ Ok w → new ≡ w → IsAccepted names st old w [] asked → entry_worlds old asked ≡ []
       → ((rest : List LogMoment) → command_text st asked old w rest ≡ Some (r.lines, rest)) → r.refused ≡ false
-      → IsDone st (Ok asked) old new v j j r.lines r.refused
+      → IsDone true st (Ok asked) old new v j j r.lines r.refused
   told_done j w is same part none says accepts =
-      subst (λ (x : Result World Refused). IsDone st (Ok asked) old new x j j r.lines r.refused) (sym is)
+      subst (λ (x : Result World Refused). IsDone true st (Ok asked) old new x j j r.lines r.refused) (sym is)
       (record {
         added = [];
         settings = refl;
         events = sym (append-nil j.events);
         goes = same;
         refusal = accepts;
-        alone = tt;
+        all_own = λ alone. tt;
         part = record { names = names; once = once; is = part; agree = subst (λ (ws : List World). AllAgree names ws []) (sym none) tt };
         tells = says;
       })
 
   -- it was accepted, and one of the entries is its own
-  pub entry_done : (was is : Log) (es own : List LogEvent) → Adds was is es → AllOwned true es → owned es ≡ own → (m : LogMoment)
+  pub entry_done : (alone : Bool) (was is : Log) (es own : List LogEvent) → Adds was is es → (alone ≡ true → AllOwned true es) → owned es ≡ own → (m : LogMoment)
       → moments_after was es ≡ m ∷ [] → (w : World) → v ≡ Ok w → new ≡ w → IsAccepted names st old w own asked → entry_worlds old asked ≡ old ∷ []
       → Agrees names old (outline_in m.book) → ((rest : List LogMoment) → command_text st asked old w (m ∷ rest) ≡ Some (r.lines, rest))
       → r.refused ≡ false
-      → IsDone st (Ok asked) old new v was is r.lines r.refused
-  entry_done was is es own adds alone mine m moments w judged same part at_one agrees says accepts =
-      subst (λ (x : Result World Refused). IsDone st (Ok asked) old new x was is r.lines r.refused) (sym judged)
+      → IsDone alone st (Ok asked) old new v was is r.lines r.refused
+  entry_done alone was is es own adds all_own mine m moments w judged same part at_one agrees says accepts =
+      subst (λ (x : Result World Refused). IsDone alone st (Ok asked) old new x was is r.lines r.refused) (sym judged)
       (record {
         added = es;
         settings = adds.settings;
         events = adds.events;
         goes = same;
         refusal = accepts;
-        alone = alone;
+        all_own = all_own;
         part = record {
           names = names;
           once = once;
@@ -139,7 +139,7 @@ pub set_done : (names : List (List ℕ)) (once : HasEachOnce names) (limits : Li
     → set_row line (spelled names (design_of old.version.value.machine.value old.keys)) (row_of names old.row.value) (map (setting names) values)
     ≡ Ok (row_of names row)
     → Accepts (codes "ok set\n") reply → (j : Log) (entries : List Entry)
-    → IsDone (settings_by limits j) (Ok (Sets line (map (setting names) values))) (world_of names entries (marks_of j) old)
+    → IsDone true (settings_by limits j) (Ok (Sets line (map (setting names) values))) (world_of names entries (marks_of j) old)
     (let w = world_of names entries (marks_of j) old in record w { row = row_of names row })
     (command_verdict (settings_by limits j) (world_of names entries (marks_of j) old) (Sets line (map (setting names) values)) [] no_answer)
     j j reply.lines reply.refused

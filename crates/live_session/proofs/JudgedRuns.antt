@@ -99,8 +99,8 @@ module _ (names : List (List ℕ)) (once : HasEachOnce names) (limits : Limits) 
         let st = settings_by limits was in
         let w = world_of names entries (marks_of was) r in
         let m : LogMoment = record { entry = RunsEvent n rows; book = book_in was } in
-        entry_done st (Runs line n) names once w (world_of names entries (marks_of is_now) new) (counted_verdict st w line n) reply was is_now
-        (RunsEvent n rows ∷ []) (RunsEvent n rows ∷ []) adds (refl, tt) refl m refl (ran st w n)
+        entry_done st (Runs line n) names once w (world_of names entries (marks_of is_now) new) (counted_verdict st w line n) reply true was is_now
+        (RunsEvent n rows ∷ []) (RunsEvent n rows ∷ []) adds (λ only. (refl, tt)) refl m refl (ran st w n)
         (judged was.settings.interval was.settings.lookback entries (marks_of was) ∙ ap (verdict_by st w line n) none)
         (goes entries) (
           rows,

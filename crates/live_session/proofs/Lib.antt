@@ -40,5 +40,10 @@ pub mod KeptRuns
 pub mod ChargedShows
 pub mod JudgedRuns
 pub mod RefusedRuns
+pub mod Among
+pub mod InTurn
+pub mod SharedSettles
+pub mod SettledAtTurn
 pub mod SessionSteps
+pub mod SettleCommands
 pub mod SessionCalls

@@ -183,7 +183,7 @@ module _ (old new : List (List ℕ)) (e : Edit) (loaded : List SourceFile) (t : 
       read = read_again w block files (Ok design) its_read;
       done =
           entry_done st (Edits block) new h.also w (world_of new entries (marks_of is) r) (loaded_verdict w block (Ok design) (Ok files))
-          (record { lines = line; refused = false; quit = false }) was is (own ∷ []) (own ∷ []) adds alone mine
+          (record { lines = line; refused = false; quit = false }) true was is (own ∷ []) (own ∷ []) adds (λ only. alone) mine
           (record { entry = own; book = book_in was }) one behind no_fault (ap (λ (g : List ℕ). world_of new entries g r) grid ∙ its_world) (
             r.version.value.machine.value,
             record { keys = r.keys; is = refl; within = its_named },

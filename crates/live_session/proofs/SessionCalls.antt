@@ -26,7 +26,7 @@ use Rattle.live_session.specs.Logs.{Log, LogEvent, LogMoment, marks_of}
 use Rattle.live_session.specs.Sessions.{running_work, running_world, world_of}
 use Rattle.live_session.specs.Settings.{Settings}
 use Rattle.live_session.specs.Statuses.{status_lines}
-use Rattle.live_session.specs.Steps.{StepsTo, Stops}
+use Rattle.live_session.specs.Steps.{StepsTo, StopsInTurn}
 use Rattle.live_session.specs.Taken.{LosesBlock, TakesBlock, none_taken}
 use Rattle.live_session.specs.Turns.{Accepts, Answers, AnswersFrom, AnswersIn, Refuses, StopsFrom, no_answer, undone_at}
 use Rattle.live_session.specs.Worlds.{World, Refused, fresh, refused_at}
@@ -177,13 +177,13 @@ fresh_accepted names limits block loaded entries was is running line reply old b
 
 module _ {E : Type 0} (asked also : Asked) (same : also ≡ asked) (before behind : Option (List ShelfAnswer)) (result : Result Reply E) where
   module _ (faults count : ℕ) (old new : Session) (was is : Log) where
-    pub steps_as : IfOk result (λ r. StepsTo (Ok asked) before behind faults count old new was is r.lines r.refused)
-        → IfOk result (λ r. StepsTo (Ok also) before behind faults count old new was is r.lines r.refused)
-    steps_as h = subst (λ (a : Asked). IfOk result (λ r. StepsTo (Ok a) before behind faults count old new was is r.lines r.refused)) (sym same) h
+    pub steps_as : IfOk result (λ r. StepsTo true (Ok asked) before behind faults count old new was is r.lines r.refused)
+        → IfOk result (λ r. StepsTo true (Ok also) before behind faults count old new was is r.lines r.refused)
+    steps_as h = subst (λ (a : Asked). IfOk result (λ r. StepsTo true (Ok a) before behind faults count old new was is r.lines r.refused)) (sym same) h
 
-    pub stops_as : OnErr result (Stops (Ok asked) before behind faults count old new was is)
-        → OnErr result (Stops (Ok also) before behind faults count old new was is)
-    stops_as h = subst (λ (a : Asked). OnErr result (Stops (Ok a) before behind faults count old new was is)) (sym same) h
+    pub stops_as : OnErr result (StopsInTurn (Ok asked) before behind faults count old new was is)
+        → OnErr result (StopsInTurn (Ok also) before behind faults count old new was is)
+    stops_as h = subst (λ (a : Asked). OnErr result (StopsInTurn (Ok a) before behind faults count old new was is)) (sym same) h
 
   pub loses_as : OnErr result (LosesAnswers asked before behind) → OnErr result (LosesAnswers also before behind)
   loses_as h = subst (λ (a : Asked). OnErr result (LosesAnswers a before behind)) (sym same) h
@@ -196,6 +196,6 @@ quits_as asked also same quit is (Ok reply) h = h ∙ sym is ∙ ap (λ (a : Ask
 
 -- memory ran out before a block was taken
 pub block_stops : {E : Type 0} (block : Block) (s : Session) (j : Log) (before behind : Option (List ShelfAnswer)) (faults count : ℕ)
-    (result : Result Reply E) → OnErr result (Stops (Ok (Edits block)) before behind faults count s s j j)
+    (result : Result Reply E) → OnErr result (StopsInTurn (Ok (Edits block)) before behind faults count s s j j)
 block_stops block s j before behind faults count (Ok reply) = tt
 block_stops block s j before behind faults count (Err e) = stops_before block s j before behind faults count

@@ -31,9 +31,9 @@ use Rattle.live_session.specs.Readings.{IsRight, IsRightEdit}
 use Rattle.live_session.specs.Replies.{answers_to_command}
 use Rattle.live_session.specs.Sessions.{limits_of, running_world, world_of}
 use Rattle.live_session.specs.Settings.{Settings}
-use Rattle.live_session.specs.Steps.{StepsTo, Stops, cut_short, lost, undone}
+use Rattle.live_session.specs.Steps.{StepsTo, StopsInTurn, loses, stays}
 use Rattle.live_session.specs.Taken.{LosesBlock, TakesBlock, lost_lines, none_taken}
-use Rattle.live_session.specs.Turns.{Answers, AnswersFrom, AnswersIn, Refuses, StopsAt, StopsFrom, StopsIn, lost_at, no_answer, short_at, undone_at}
+use Rattle.live_session.specs.Turns.{Answers, AnswersFrom, AnswersIn, Refuses, StopsAt, StopsFrom, StopsIn, lost_at, no_answer, undone_at}
 use Rattle.live_session.specs.Verdicts.{Told, loaded_verdict}
 use Rattle.live_session.specs.Worlds.{World, Refused, fresh, refused_at, refused_text}
 use Rattle.live_session.specs.declared.limits.Limits.{Limits}
@@ -59,17 +59,17 @@ kept_on_names old new grows limits (Some r) h = kept_grown old new grows limits 
 
 -- a refusal leaves session and book as they are
 pub refuses_done : (st : Settings) (asked : Result Asked TextFault) (w : World) (v : Result World Refused) (j : Log) (refused : Refused) (r : Reply)
-    → v ≡ Err refused → Refuses refused r → IsDone st asked w w v j j r.lines r.refused
+    → v ≡ Err refused → Refuses refused r → IsDone true st asked w w v j j r.lines r.refused
 refuses_done st (Ok asked) w v j refused r is says = refused_done st asked [] none_twice w w v r j refused is says refl
 refuses_done st (Err fault) w v j refused r is says =
-    subst (λ (x : Result World Refused). IsDone st (Err fault) w w x j j r.lines r.refused) (sym is)
+    subst (λ (x : Result World Refused). IsDone true st (Err fault) w w x j j r.lines r.refused) (sym is)
     (record {
       added = [];
       settings = refl;
       events = sym (append-nil j.events);
       goes = refl;
       refusal = says.refusal;
-      alone = tt;
+      all_own = λ alone. tt;
       part = record { names = []; once = none_twice; is = refl; agree = tt };
       tells = λ (rest : List LogMoment). ap (λ (text : List ℕ). Some (text, rest)) (sym says.text);
     })
@@ -95,7 +95,7 @@ module _ (asked : Asked) (old : Session) (was is : Log) (r x : Running) (runs : 
       → AnswersFrom (settings_in old was) asked (world_in old was) world_is was is reply
   answers_for reply h =
       let st = settings_by old.limits was in
-      subst (λ (w : World). IsDone st (Ok asked) w world_is (verdict_on st (told (Ok asked) [] no_answer) w) was is reply.lines reply.refused)
+      subst (λ (w : World). IsDone true st (Ok asked) w world_is (verdict_on st (told (Ok asked) [] no_answer) w) was is reply.lines reply.refused)
       (sym world_was) (h (entries_of old.registry))
 
   pub answers_on : {E : Type 0} (result : Result Reply E) → IfOk result (AnswersIn old.names old.limits asked r x was is)
@@ -128,14 +128,14 @@ quits_so line s j reply says accepts =
 
 -- ---- steps
 
--- nothing is looked at
-pub answered : {E : Type 0} (asked : Asked) (answers : Option (List ShelfAnswer)) (faults : ℕ) (old new : Session) (was is : Log)
-    (result : Result Reply E)
-    → limits_of new ≡ limits_of old → answers_to_command asked [] ≡ [] → ((st : Settings) (w : World) → IsRight st w (told (Ok asked) [] no_answer))
-    → StandsBeside new is → IfOk result (Answers asked old new was is)
-    → IfOk result (λ r. StepsTo (Ok asked) answers answers faults faults old new was is r.lines r.refused)
-answered asked answers faults old new was is (Err e) limits none right beside h = tt
-answered asked answers faults old new was is (Ok reply) limits none right beside h = record {
+-- a command that looks at nothing outside was done so
+pub step_by : (alone : Bool) (asked : Asked) (answers : Option (List ShelfAnswer)) (faults : ℕ) (old new : Session) (was is : Log) (text : List ℕ)
+    (refused : Bool) → limits_of new ≡ limits_of old → answers_to_command asked [] ≡ []
+    → ((st : Settings) (w : World) → IsRight st w (told (Ok asked) [] no_answer)) → StandsBeside new is
+    → IsDone alone (settings_in old was) (Ok asked) (world_in old was) (world_in new is)
+    (verdict_on (settings_in old was) (told (Ok asked) [] no_answer) (world_in old was)) was is text refused
+    → StepsTo alone (Ok asked) answers answers faults faults old new was is text refused
+step_by alone asked answers faults old new was is text refused limits none right beside h = record {
   loads = [];
   answer = no_answer;
   adds = subst (AddsAnswers answers answers) (sym none) (none_added answers);
@@ -146,10 +146,20 @@ answered asked answers faults old new was is (Ok reply) limits none right beside
   beside = beside;
 }
 
+-- nothing is looked at
+pub answered : {E : Type 0} (asked : Asked) (answers : Option (List ShelfAnswer)) (faults : ℕ) (old new : Session) (was is : Log)
+    (result : Result Reply E)
+    → limits_of new ≡ limits_of old → answers_to_command asked [] ≡ [] → ((st : Settings) (w : World) → IsRight st w (told (Ok asked) [] no_answer))
+    → StandsBeside new is → IfOk result (Answers asked old new was is)
+    → IfOk result (λ r. StepsTo true (Ok asked) answers answers faults faults old new was is r.lines r.refused)
+answered asked answers faults old new was is (Err e) limits none right beside h = tt
+answered asked answers faults old new was is (Ok reply) limits none right beside h =
+    step_by true asked answers faults old new was is reply.lines reply.refused limits none right beside h
+
 step_of : (asked : Asked) (answers : Option (List ShelfAnswer)) (faults : ℕ) (old new : Session) (was is : Log) (reply : Reply)
     → limits_of new ≡ limits_of old → answers_to_command asked [] ≡ [] → ((st : Settings) (w : World) → IsRight st w (told (Ok asked) [] no_answer))
     → StandsBeside new is → Answers asked old new was is reply
-    → StepsTo (Ok asked) answers answers faults faults old new was is reply.lines reply.refused
+    → StepsTo true (Ok asked) answers answers faults faults old new was is reply.lines reply.refused
 step_of asked answers faults old new was is reply limits none right beside h =
     answered {E = ℕ} asked answers faults old new was is (Ok reply) limits none right beside h
 
@@ -157,14 +167,13 @@ pub stopped : {E : Type 0} (asked : Asked) (answers : Option (List ShelfAnswer))
     (result : Result Reply E)
     → limits_of new ≡ limits_of old → answers_to_command asked [] ≡ [] → ((st : Settings) (w : World) → IsRight st w (told (Ok asked) [] no_answer))
     → StandsBeside new is → OnErr result (StopsAt asked old new was is)
-    → OnErr result (Stops (Ok asked) answers answers faults faults old new was is)
+    → OnErr result (StopsInTurn (Ok asked) answers answers faults faults old new was is)
 stopped asked answers faults old new was is (Ok reply) limits none right beside h = tt
 stopped asked answers faults old new was is (Err e) limits none right beside h = by h
   where
-    by : StopsAt asked old new was is → Stops (Ok asked) answers answers faults faults old new was is
-    by (undone_at settings events same) = undone settings events same
-    by (short_at short) = cut_short asked refl short
-    by (lost_at reply done) = lost reply.lines reply.refused (step_of asked answers faults old new was is reply limits none right beside done)
+    by : StopsAt asked old new was is → StopsInTurn (Ok asked) answers answers faults faults old new was is
+    by (undone_at settings events same) = stays settings events same
+    by (lost_at reply done) = loses reply.lines reply.refused (step_of asked answers faults old new was is reply limits none right beside done)
 
 -- so nothing is lost
 pub none_lost : {E : Type 0} (asked : Asked) (answers : Option (List ShelfAnswer)) (result : Result Reply E)
@@ -175,7 +184,7 @@ none_lost asked answers (Err e) = record { more = []; adds = none_added answers;
 -- a line that is refused as it is read
 pub fault_steps : {E : Type 0} (fault : TextFault) (s : Session) (result : Result Reply E) → IfOk result (Refuses (refused_text [] 0 fault))
     → IfOk result (λ r. (answers : Option (List ShelfAnswer)) (faults : ℕ) (j : Log) → StandsBeside s j
-    → StepsTo (Err fault) answers answers faults faults s s j j r.lines r.refused)
+    → StepsTo true (Err fault) answers answers faults faults s s j j r.lines r.refused)
 fault_steps fault s (Err e) says = tt
 fault_steps fault s (Ok reply) says = λ (answers : Option (List ShelfAnswer)) (faults : ℕ) (j : Log) (beside : StandsBeside s j). record {
   loads = [];
@@ -220,7 +229,7 @@ module _ (block : Block) (s : Session) (j : Log) (answers : Option (List ShelfAn
 
   refuses_block : {E : Type 0} (refused : Refused) (result : Result Reply E) → verdict_on (settings_in s j) without (world_in s j) ≡ Err refused
       → IsRight (settings_in s j) (world_in s j) without → IfOk result (Refuses refused)
-      → IfOk result (λ r. StepsTo (Ok (Edits block)) answers answers faults faults s s j j r.lines r.refused)
+      → IfOk result (λ r. StepsTo true (Ok (Edits block)) answers answers faults faults s s j j r.lines r.refused)
   refuses_block refused (Err e) is right says = tt
   refuses_block refused (Ok reply) is right says = record {
     loads = [];
@@ -237,7 +246,7 @@ module _ (block : Block) (s : Session) (j : Log) (answers : Option (List ShelfAn
   -- 68
   pub full_steps : {E : Type 0} (result : Result Reply E) → (limits_of s).rooms.session ≤ (world_in s j).charge
       → IfOk result (Refuses (refused_at 68 block.line []))
-      → IfOk result (λ r. StepsTo (Ok (Edits block)) answers answers faults faults s s j j r.lines r.refused)
+      → IfOk result (λ r. StepsTo true (Ok (Edits block)) answers answers faults faults s s j j r.lines r.refused)
   full_steps result full =
       let w = world_in s j in
       let no_room : ltb (limits_of s).rooms.session (w.charge + 1) ≡ true = lt-ltb (limits_of s).rooms.session (w.charge + 1) (omega (arith, full)) in
@@ -304,7 +313,7 @@ module _ (names : List (List ℕ)) (e : Edit) (old new : Session) (was is : Log)
 
     -- a block whose loads came to that, and which was taken so
     pub block_steps : (text : List ℕ) (refused : Bool) → TakesBlock st asks (result_of names l) w (world_in new is) was is text refused
-        → StepsTo (Ok (Edits asks)) before behind faults count old new was is text refused
+        → StepsTo true (Ok (Edits asks)) before behind faults count old new was is text refused
     block_steps text refused t =
         let is_verdict : verdict_on st (told (Ok (Edits asks)) h.answers t.answer) w ≡ loaded_verdict w asks t.answer (result_of names l) =
         ap (λ (b : Bool). cond b (Err (refused_at 68 asks.line [])) (loaded_verdict w asks t.answer (loaded_files asks.loads h.answers))) has_room
@@ -318,24 +327,24 @@ module _ (names : List (List ℕ)) (e : Edit) (old new : Session) (was is : Log)
           right =
               subst (λ (b : Bool). MatchBool b (h.answers ≡ nothing) (IsRightEdit w asks h.answers t.answer)) (sym has_room)
               (record { loaded = h.right; read = λ files is. t.read files (sym h.comes ∙ is) });
-          done = subst (λ (v : Result World Refused). IsDone st (Ok (Edits asks)) w (world_in new is) v was is text refused) (sym is_verdict) t.done;
+          done = subst (λ (v : Result World Refused). IsDone true st (Ok (Edits asks)) w (world_in new is) v was is text refused) (sym is_verdict) t.done;
           beside = beside;
         }
 
     pub all_steps : {E : Type 0} (result : Result Reply E)
         → IfOk result (λ r. TakesBlock st asks (result_of names l) w (world_in new is) was is r.lines r.refused)
-        → IfOk result (λ r. StepsTo (Ok (Edits asks)) before behind faults count old new was is r.lines r.refused)
+        → IfOk result (λ r. StepsTo true (Ok (Edits asks)) before behind faults count old new was is r.lines r.refused)
     all_steps (Err error) t = tt
     all_steps (Ok reply) t = block_steps reply.lines reply.refused t
 
     pub all_stops : {E : Type 0} (result : Result Reply E) → OnErr result (LosesBlock st asks (result_of names l) w (world_in new is) was is)
-        → OnErr result (Stops (Ok (Edits asks)) before behind faults count old new was is)
+        → OnErr result (StopsInTurn (Ok (Edits asks)) before behind faults count old new was is)
     all_stops (Ok reply) t = tt
     all_stops (Err error) t = by t
       where
-        by : LosesBlock st asks (result_of names l) w (world_in new is) was is → Stops (Ok (Edits asks)) before behind faults count old new was is
-        by (none_taken settings events same) = undone settings events same
-        by (lost_lines text refused t) = lost text refused (block_steps text refused t)
+        by : LosesBlock st asks (result_of names l) w (world_in new is) was is → StopsInTurn (Ok (Edits asks)) before behind faults count old new was is
+        by (none_taken settings events same) = stays settings events same
+        by (lost_lines text refused t) = loses text refused (block_steps text refused t)
 
   -- all answers to its loads
   pub all_lost : {E : Type 0} (l : Loads) (result : Result Reply E) → ComesTo names e.loads before behind faults count l
@@ -349,8 +358,8 @@ module _ (names : List (List ℕ)) (e : Edit) (old new : Session) (was is : Log)
 
 -- memory ran out before a block was taken
 pub stops_before : (block : Block) (s : Session) (j : Log) (before behind : Option (List ShelfAnswer)) (faults count : ℕ)
-    → Stops (Ok (Edits block)) before behind faults count s s j j
-stops_before block s j before behind faults count = undone refl refl refl
+    → StopsInTurn (Ok (Edits block)) before behind faults count s s j j
+stops_before block s j before behind faults count = stays refl refl refl
 
 -- ---- commands
 
@@ -375,13 +384,13 @@ module _ {E : Type 0} (names : List (List ℕ)) (command : Command) (asked : Ask
     (none : answers_to_command asked [] ≡ []) (right : (st : Settings) (w : World) → IsRight st w (told (Ok asked) [] no_answer))
     (beside : StandsBeside new is) where
   pub commanded : IfOk result (Answers asked old new was is)
-      → IfOk result (λ r. StepsTo (Ok (spoken names command)) answers answers faults faults old new was is r.lines r.refused)
+      → IfOk result (λ r. StepsTo true (Ok (spoken names command)) answers answers faults faults old new was is r.lines r.refused)
   commanded h =
-      subst (λ (a : Asked). IfOk result (λ r. StepsTo (Ok a) answers answers faults faults old new was is r.lines r.refused)) (sym means)
+      subst (λ (a : Asked). IfOk result (λ r. StepsTo true (Ok a) answers answers faults faults old new was is r.lines r.refused)) (sym means)
       (answered asked answers faults old new was is result limits none right beside h)
 
   pub command_stops : OnErr result (StopsAt asked old new was is)
-      → OnErr result (Stops (Ok (spoken names command)) answers answers faults faults old new was is)
+      → OnErr result (StopsInTurn (Ok (spoken names command)) answers answers faults faults old new was is)
   command_stops h =
-      subst (λ (a : Asked). OnErr result (Stops (Ok a) answers answers faults faults old new was is)) (sym means)
+      subst (λ (a : Asked). OnErr result (StopsInTurn (Ok a) answers answers faults faults old new was is)) (sym means)
       (stopped asked answers faults old new was is result limits none right beside h)

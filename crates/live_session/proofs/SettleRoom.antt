@@ -1,70 +1,61 @@
 -- A settle by what became of its charge.
-use Rattle.std.proofs.Common.{◌≡◌, ◌∙◌, ℕ, ◌+◌, ◌*◌, ◌≤◌, ◌<◌, min, false, List, [], length, Option, Some, None, Result, Ok, Err, refl, sym, ap, ap₂, subst, arith}
-use Rattle.std.specs.Prelude.{IfOk, OnErr}
+use Rattle.std.proofs.Common.{◌≡◌, ◌∙◌, ℕ, ◌+◌, ◌*◌, ◌≤◌, ◌<◌, min, Bool, true, false, List, [], ◌∷◌, length, Option, Some, None, Result, Ok, refl, sym, ap, ap₂, subst, arith}
+use Rattle.std.specs.Prelude.{IfOk}
 use Rattle.std.specs.Option.{unwrap_or}
 use Rattle.ls_text.specs.Texts.{HasEachOnce}
+use Rattle.book_history.specs.Book.{Book, Shows as ShowsEvent}
+use Rattle.book_history.specs.Outline.{outline_in}
+use Rattle.book_history.specs.Owned.{AllOwned, owned}
 use Rattle.book_history.specs.Readers.{links_in}
 use Rattle.book_settle.proofs.Counting.{links_marked}
-use Rattle.book_settle.specs.Settles.{HasSettled, HasTried}
+use Rattle.book_settle.specs.Passes.{IsSettle, IsUnfinished}
 use Rattle.checkpoint_book.specs.Views.{counts_of}
 use Rattle.command_read.specs.Asking.{Settles}
+use Rattle.cycle_eval.specs.declared.design.Design.{Design}
 use Rattle.module_registry.specs.Entries.{Entry}
 use Rattle.stimulus.specs.Records.{rows_of}
 use Rattle.wave_report.specs.Replies.{settled_text}
 use Rattle.live_session.specs.Beside.{Stands, settings_by}
 use Rattle.live_session.specs.Charging.{IsChargedFor, charge_for}
+use Rattle.live_session.specs.CutShort.{IsCutShort}
+use Rattle.live_session.specs.Done.{IsDone}
 use Rattle.live_session.specs.Kept.{IsKept}
-use Rattle.live_session.specs.Logs.{Log, book_in, kit, marks_of, outline_of}
+use Rattle.live_session.specs.Logs.{InputRow, Log, LogEvent, State, book_in, marks_of, moments_after, outline_of}
 use Rattle.live_session.specs.Sessions.{world_of}
 use Rattle.live_session.specs.Shown.{settle_text}
-use Rattle.live_session.specs.Turns.{Accepts, AnswersIn, Refuses, StopsIn, lost_at}
+use Rattle.live_session.specs.Turns.{Accepts, AnswersIn, Refuses}
+use Rattle.live_session.specs.Verdicts.{settle_verdict}
 use Rattle.live_session.specs.Worlds.{World, cycle, refused_at}
 use Rattle.live_session.specs.declared.limits.Limits.{Limits}
 use Rattle.live_session.specs.declared.reply.Reply.{Reply}
 use Rattle.live_session.specs.declared.running.Running.{Running}
 use Rattle.live_session.proofs.ChargedShows.{no_room}
 use Rattle.live_session.proofs.Judged.{refuses_in}
-use Rattle.live_session.proofs.RefusedShows.{refused_stops}
-use Rattle.live_session.proofs.ShownBeside.{IsCharged, settle_done, settle_stops}
-use Rattle.live_session.proofs.Standing.{IsLegal, StaysRun, runs_still, stands_still}
+use Rattle.live_session.proofs.ShownBeside.{IsCharged, settle_done, settle_short}
+use Rattle.live_session.proofs.Standing.{Adds, IsLegal, StaysRun, runs_still, stands_still}
 
 -- the lines of a settle tell the cycle and the version
 settle_lines : (w v : World) (answer : Option ℕ) → cycle w ≡ cycle v → w.version ≡ v.version → settle_text w answer ≡ settle_text v answer
 settle_lines w v None cycles versions = ap₂ settled_text cycles versions
 settle_lines w v (Some settled_to) cycles versions = refl
 
--- a settle doesn't end the run
-pub settle_goes_on : {E : Type 0} (text : (grid : List ℕ) → List ℕ) (result : Result Reply E)
-    → IfOk result (λ (reply : Reply). (grid : List ℕ) → Accepts (text grid) reply) → IfOk result (λ (reply : Reply). reply.quit ≡ false)
-settle_goes_on text (Ok reply) says = (says []).goes_on
-settle_goes_on text (Err e) says = tt
-
 module _ (names : List (List ℕ)) (once : HasEachOnce names) (limits : Limits) (r new : Running) (kept : IsKept names limits r) (line : ℕ)
-    (passes : Option ℕ) (j : Log) (stands : Stands limits (Some r) j) (links : ℕ) (links_are : links ≡ links_in (book_in j)) where
-  marked : links ≡ length (marks_of j)
-  marked = links_are ∙ links_marked (book_in j)
+    (passes : Option ℕ) (j : Log) (stands : Stands limits (Some r) j) (links : ℕ) (marked : links ≡ length (marks_of j)) where
+  -- the room is too small
+  pub settle_refused : {E : Type 0} → new ≡ r → (answer : Result Reply E)
+      → limits.rooms.session < r.charge + charge_for links (unwrap_or passes links) → IfOk answer (Refuses (refused_at 68 line []))
+      → IfOk answer (AnswersIn names limits (Settles line passes) r new j j)
+  settle_refused {E = E} same answer full says =
+      let full_there : limits.rooms.session < r.charge + charge_for (length (marks_of j)) (unwrap_or passes (length (marks_of j))) =
+      subst (λ (n : ℕ). limits.rooms.session < r.charge + charge_for n (unwrap_or passes n)) marked full in
+      subst (λ (x : Running). IfOk answer (AnswersIn names limits (Settles line passes) r x j j)) (sym same)
+      (refuses_in {E = E} names once limits (Settles line passes) r r j answer (refused_at 68 line [])
+      (λ (entries : List Entry).
+      no_room (settings_by limits j) (world_of names entries (marks_of j) r) line
+      (charge_for (length (marks_of j)) (unwrap_or passes (length (marks_of j)))) full_there)
+      (λ (entries : List Entry) (grid : List ℕ). refl) says)
 
-  -- ---- the room is too small
-
-  module _ {E : Type 0} (same : new ≡ r) (answer : Result Reply E) where
-    pub settle_refused : limits.rooms.session < r.charge + charge_for links (unwrap_or passes links) → IfOk answer (Refuses (refused_at 68 line []))
-        → IfOk answer (AnswersIn names limits (Settles line passes) r new j j)
-    settle_refused full says =
-        let full_there : limits.rooms.session < r.charge + charge_for (length (marks_of j)) (unwrap_or passes (length (marks_of j))) =
-        subst (λ (n : ℕ). limits.rooms.session < r.charge + charge_for n (unwrap_or passes n)) marked full in
-        subst (λ (x : Running). IfOk answer (AnswersIn names limits (Settles line passes) r x j j)) (sym same)
-        (refuses_in {E = E} names once limits (Settles line passes) r r j answer (refused_at 68 line [])
-        (λ (entries : List Entry).
-        no_room (settings_by limits j) (world_of names entries (marks_of j) r) line (charge_for (length (marks_of j)) (unwrap_or passes (length (marks_of j)))) full_there)
-        (λ (entries : List Entry) (grid : List ℕ). refl) says)
-
-    pub refused_settle_stops : OnErr answer (StopsIn names limits (Settles line passes) r new j j)
-    refused_settle_stops =
-        subst (λ (x : Running). OnErr answer (StopsIn names limits (Settles line passes) r x j j)) (sym same)
-        (refused_stops names limits (Settles line passes) r j answer)
-
-  -- ---- it was charged
-
+  -- it was charged
   module _ (most : ℕ) (passes_are : most ≡ unwrap_or passes links) (c : IsChargedFor limits links most r new) where
     abbrev more : ℕ
     more = charge_for (length (marks_of j)) most
@@ -103,31 +94,34 @@ module _ (names : List (List ℕ)) (once : HasEachOnce names) (limits : Limits) 
         subst (λ (n : ℕ). (counts_of j).session + (2 * min most n + 1) ≤ new.charge) (sym (links_marked (book_in j)))
         (omega (arith, stands.charged, charge_is))
 
-    module _ (is_now : Log) (legal : IsLegal is_now) where
-      module _ (answer : Option ℕ) (s : HasSettled kit j is_now most answer) where
-        settled_so : (reply : Reply) (entries : List Entry) (grid : List ℕ) → reply.lines ≡ settle_text (world_of names entries grid new) answer
-            → reply.refused ≡ false → AnswersIn names limits (Settles line passes) r new j is_now reply
-        settled_so reply entries grid says accepts =
-            settle_done names once limits r new kept line j is_now legal stands passes most all charge answer s room reply
-            (λ (es : List Entry) (g : List ℕ).
-            says ∙ settle_lines (world_of names entries grid new) (world_of names es g new) answer refl refl)
-            accepts
+    module _ (is_now : Log) (legal : IsLegal is_now) (alone : Bool) (zs own : List LogEvent) (adds : Adds j is_now zs) (own_are : owned zs ≡ own)
+        (only : alone ≡ true → AllOwned true zs) where
+      abbrev pub IsSettled : List Entry → List ℕ → Bool → Type 0
+      IsSettled entries text refused =
+          let w = world_of names entries (marks_of j) r in
+          IsDone alone (settings_by limits j) (Ok (Settles line passes)) w (world_of names entries (marks_of is_now) new)
+          (settle_verdict (settings_by limits j) w line passes w.design) j is_now text refused
 
-        pub settle_answers : (entries : List Entry) (grid : List ℕ) (reply : Reply) → Accepts (settle_text (world_of names entries grid new) answer) reply
-            → AnswersIn names limits (Settles line passes) r new j is_now reply
-        settle_answers entries grid reply says = settled_so reply entries grid says.text says.refusal
-
-        pub all_answers : {E : Type 0} (entries : List Entry) (result : Result Reply E)
-            → IfOk result (λ (reply : Reply). (grid : List ℕ) → Accepts (settle_text (world_of names entries grid new) answer) reply)
-            → IfOk result (AnswersIn names limits (Settles line passes) r new j is_now)
-        all_answers entries (Ok reply) says = settle_answers entries [] reply (says [])
-        all_answers entries (Err e) says = tt
+      module _ (settle : IsSettle most (links_in (book_in j)) own) (book : Option (Book Design State InputRow))
+          (moment : moments_after j zs ≡ record { entry = ShowsEvent settle.answer; book = book } ∷ []) (same : outline_in book ≡ outline_of j) where
+        pub settle_answers : (entries es : List Entry) (grid : List ℕ) (reply : Reply)
+            → Accepts (settle_text (world_of names es grid new) settle.answer) reply → IsSettled entries reply.lines reply.refused
+        settle_answers entries es grid reply says =
+            settle_done names once limits r new kept line j is_now legal stands passes most all charge alone zs own adds own_are only room
+            settle book moment same reply
+            (λ (fs : List Entry) (g : List ℕ).
+            says.text ∙ settle_lines (world_of names es grid new) (world_of names fs g new) settle.answer refl refl)
+            says.refusal entries
 
         -- its lines are lost
-        pub settle_loses : StopsIn names limits (Settles line passes) r new j is_now
-        settle_loses = λ (entries : List Entry).
-            let reply : Reply = record { lines = settle_text (world_of names entries [] new) answer; refused = false; quit = false } in
-            lost_at reply (settled_so reply entries [] refl refl entries)
+        pub settle_loses : (entries : List Entry) → IsSettled entries (settle_text (world_of names entries [] new) settle.answer) false
+        settle_loses entries =
+            settle_answers entries entries []
+            (record { lines = settle_text (world_of names entries [] new) settle.answer; refused = false; quit = false })
+            (record { text = refl; refusal = refl; goes_on = refl })
 
-      pub settle_cut_short : HasTried j is_now (min most (links_in (book_in j))) → StopsIn names limits (Settles line passes) r new j is_now
-      settle_cut_short t = settle_stops names once limits r new kept line j is_now legal stands passes most all charge t room
+      pub settle_cut_short : (u : IsUnfinished own) → u.count < min most (links_in (book_in j)) → (entries : List Entry)
+          → IsCutShort alone (settings_by limits j) (Settles line passes) (world_of names entries (marks_of j) r)
+          (world_of names entries (marks_of is_now) new) j is_now
+      settle_cut_short u few entries =
+          settle_short names once limits r new kept line j is_now legal stands passes most all charge alone zs own adds own_are only room u few entries

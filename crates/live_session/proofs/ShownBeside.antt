@@ -1,25 +1,28 @@
 -- A display and a settle beside a book, by the entries that they add.
 use Rattle.std.proofs.Common.{◌≡◌, ◌∙◌, ℕ, ◌+◌, ◌*◌, ◌≤◌, ◌<◌, min, false, List, [], ◌∷◌, length, Option, Some, None, Ok, refl, sym, ap, ap₂, subst, arith}
 use Rattle.ls_text.specs.Texts.{HasEachOnce}
-use Rattle.book_history.specs.Book.{Book, Settings as BookSettings, Shows as ShowsEvent, apply, replay, replay_from}
-use Rattle.book_history.specs.Outline.{Outline, outline_from}
+use Rattle.book_history.specs.Book.{Book, Settings as BookSettings, Shows as ShowsEvent, apply, replay}
+use Rattle.book_history.specs.Outline.{Outline, outline_from, outline_in}
 use Rattle.book_history.specs.Readers.{links_in}
 use Rattle.book_history.proofs.Places.{replay-append}
-use Rattle.book_settle.specs.Passes.{IsSettle}
-use Rattle.book_settle.specs.Settles.{HasSettled, HasTried}
-use Rattle.book_settle.proofs.Counting.{links_marked, settle_moments, settle_outline, settle_owned, settle_shows, unfinished_outline}
+use Rattle.book_history.proofs.Outlines.{owned_outline}
+use Rattle.book_history.specs.Owned.{AllOwned, owned}
+use Rattle.book_settle.specs.Passes.{IsSettle, IsUnfinished}
+use Rattle.book_settle.proofs.Counting.{links_marked, settle_outline, unfinished_outline}
 use Rattle.command_read.specs.Asking.{Settles, Shows}
 use Rattle.cycle_eval.specs.declared.design.Design.{Design}
 use Rattle.module_registry.specs.Entries.{Entry}
 use Rattle.version_swap.specs.Behind.{design_of}
 use Rattle.live_session.specs.Beside.{RunsIn, Stands, settings_by}
+use Rattle.live_session.specs.CutShort.{IsCutShort}
+use Rattle.live_session.specs.Done.{IsDone}
 use Rattle.live_session.specs.Kept.{IsKept}
-use Rattle.live_session.specs.Logs.{InputRow, Log, LogEvent, LogMoment, State, book_in, kit, marks_of, outline_of, valid}
+use Rattle.live_session.specs.Logs.{InputRow, Log, LogEvent, LogMoment, State, book_in, kit, marks_of, moments_after, outline_of}
 use Rattle.live_session.specs.Scripts.{Agrees}
 use Rattle.live_session.specs.Sessions.{world_of}
 use Rattle.live_session.specs.Shown.{display_lines, last_values, settle_text}
 use Rattle.live_session.specs.Spelled.{Spelled, spelled}
-use Rattle.live_session.specs.Turns.{AnswersIn, StopsIn, short_at}
+use Rattle.live_session.specs.Turns.{AnswersIn}
 use Rattle.live_session.specs.Verdicts.{charged, passes_of, settle_verdict}
 use Rattle.live_session.specs.Worlds.{World}
 use Rattle.live_session.specs.declared.limits.Limits.{Limits}
@@ -27,7 +30,11 @@ use Rattle.live_session.specs.declared.reply.Reply.{Reply}
 use Rattle.live_session.specs.declared.running.Running.{Running}
 use Rattle.live_session.proofs.ChargedShows.{has_room}
 use Rattle.live_session.proofs.Judged.{entry_done}
-use Rattle.live_session.proofs.Standing.{Adds, IsLegal, StaysRun, agrees_in, are_owned, legal_behind, outline_behind, stands_left}
+use Rattle.live_session.proofs.Standing.{Adds, IsLegal, StaysRun, agrees_in, outline_behind, stands_left}
+
+-- the number of passes goes with the entries
+pub few_moved : (es fs : List LogEvent) (same : es ≡ fs) (u : IsUnfinished es) (n : ℕ) → u.count < n → (subst IsUnfinished same u).count < n
+few_moved es fs refl u n few = few
 
 -- a show leaves the book
 shows_leave : (st : BookSettings) (answer : Option ℕ) (b : Option (Book Design State InputRow)) → apply kit st b (ShowsEvent answer) ≡ b
@@ -79,8 +86,8 @@ module _ (names : List (List ℕ)) (once : HasEachOnce names) (limits : Limits) 
         says entries (marks_of was)
         ∙ ap₂ (λ (x : World) (b : Option (Book Design State InputRow)). display_lines x prefix design answer (last_values b))
         (charge.world entries (marks_of was)) (book_shown was is_now answer adds) in
-        entry_done st (Shows line prefix) names once w (world_of names entries (marks_of is_now) new) (charged st w line 1) reply was is_now
-        (ShowsEvent answer ∷ []) (ShowsEvent answer ∷ []) adds (refl, tt) refl m refl next (has_room st w line 1 room)
+        entry_done st (Shows line prefix) names once w (world_of names entries (marks_of is_now) new) (charged st w line 1) reply true was is_now
+        (ShowsEvent answer ∷ []) (ShowsEvent answer ∷ []) adds (λ only. (refl, tt)) refl m refl next (has_room st w line 1 room)
         (charged_world (ShowsEvent answer ∷ []) 1 adds (λ (o : Outline Design InputRow). refl) charge entries)
         (answer, refl) refl (agrees_in names once limits r kept was entries stands)
         (λ (rest : List LogMoment). ap (λ (text : List ℕ). Some (text, rest)) (sym lines)) accepts
@@ -107,63 +114,66 @@ module _ (names : List (List ℕ)) (once : HasEachOnce names) (limits : Limits) 
         let w = world_of names entries (marks_of was) r in
         ap (λ (n : ℕ). charged st w line (2 * min n (length w.grid) + 1)) (all entries) ∙ has_room st w line more room
 
-    module _ (answer : Option ℕ) (s : HasSettled kit was is_now most answer) (room : r.charge + more ≤ limits.rooms.session) where
+    -- its entries, which stand among those of others
+    module _ (alone : Bool) (zs own : List LogEvent) (adds : Adds was is_now zs) (own_are : owned zs ≡ own) (only : alone ≡ true → AllOwned true zs)
+        (room : r.charge + more ≤ limits.rooms.session) where
       abbrev links : ℕ
       links = links_in (book_in was)
 
       many : links ≡ length (marks_of was)
       many = links_marked (book_in was)
 
-      adds : Adds was is_now s.own
-      adds = record { settings = s.settings; events = s.events }
+      module _ (settle : IsSettle most links own) (book : Option (Book Design State InputRow))
+          (moment : moments_after was zs ≡ record { entry = ShowsEvent settle.answer; book = book } ∷ [])
+          (same : outline_in book ≡ outline_of was) where
+        leaves : (o : Outline Design InputRow) → outline_from was.settings o zs ≡ o
+        leaves o =
+            owned_outline was.settings o zs ∙ ap (outline_from was.settings o) own_are ∙ settle_outline was.settings o most links own settle
 
-      leaves : (o : Outline Design InputRow) → outline_from was.settings o s.own ≡ o
-      leaves o = settle_outline was.settings o most links s.own s.is_settle
+        settles : (entries : List Entry) → IsSettle (passes_of (world_of names entries (marks_of was) r) passes) (length (marks_of was)) own
+        settles entries =
+            subst (λ (n : ℕ). IsSettle n (length (marks_of was)) own) (sym (all entries))
+            (subst (λ (n : ℕ). IsSettle most n own) many settle)
 
-      settles : (entries : List Entry) → IsSettle (passes_of (world_of names entries (marks_of was) r) passes) (length (marks_of was)) s.own
-      settles entries =
-          subst (λ (n : ℕ). IsSettle n (length (marks_of was)) s.own) (sym (all entries))
-          (subst (λ (n : ℕ). IsSettle most n s.own) many s.is_settle)
+        pub settle_done : (reply : Reply)
+            → ((entries : List Entry) (grid : List ℕ) → reply.lines ≡ settle_text (world_of names entries grid new) settle.answer)
+            → reply.refused ≡ false → (entries : List Entry)
+            → (let w = world_of names entries (marks_of was) r in
+            IsDone alone (settings_by limits was) (Ok (Settles line passes)) w (world_of names entries (marks_of is_now) new)
+            (settle_verdict (settings_by limits was) w line passes w.design) was is_now reply.lines reply.refused)
+        settle_done reply says accepts entries =
+            let st = settings_by limits was in
+            let w = world_of names entries (marks_of was) r in
+            let next : World = record w { charge = w.charge + more } in
+            let m : LogMoment = record { entry = ShowsEvent settle.answer; book = book } in
+            let lines : reply.lines ≡ settle_text next settle.answer =
+            says entries (marks_of was) ∙ ap (λ (x : World). settle_text x settle.answer) (charge.world entries (marks_of was)) in
+            entry_done st (Settles line passes) names once w (world_of names entries (marks_of is_now) new)
+            (settle_verdict st w line passes w.design) reply alone was is_now
+            zs own adds only own_are m moment next (accepted_with room entries)
+            (charged_world zs more adds leaves charge entries) (settles entries) refl
+            (subst (Agrees names w) (sym same) (agrees_in names once limits r kept was entries stands))
+            (λ (rest : List LogMoment). ap (λ (text : List ℕ). Some (text, rest)) (sym lines)) accepts
 
-      pub settle_done : (reply : Reply)
-          → ((entries : List Entry) (grid : List ℕ) → reply.lines ≡ settle_text (world_of names entries grid new) answer)
-          → reply.refused ≡ false → AnswersIn names limits (Settles line passes) r new was is_now reply
-      settle_done reply says accepts = λ (entries : List Entry).
-          let st = settings_by limits was in
-          let w = world_of names entries (marks_of was) r in
-          let next : World = record w { charge = w.charge + more } in
-          let m : LogMoment = record { entry = ShowsEvent s.is_settle.answer; book = replay_from kit was.settings (book_in was) s.is_settle.passes }
-          in
-          let lines : reply.lines ≡ settle_text next s.is_settle.answer =
-          says entries (marks_of was)
-          ∙ ap₂ (λ (x : World) (a : Option ℕ). settle_text x a) (charge.world entries (marks_of was)) (sym s.answers) in
-          entry_done st (Settles line passes) names once w (world_of names entries (marks_of is_now) new)
-          (charged st w line (2 * min (passes_of w passes) (length w.grid) + 1)) reply was is_now
-          s.own s.own adds (are_owned s.own (settle_owned most links s.own s.is_settle)) (settle_owned most links s.own s.is_settle) m
-          (settle_moments kit was.settings (book_in was) most links s.own s.is_settle) next (accepted_with room entries)
-          (charged_world s.own more adds leaves charge entries) (settles entries) refl
-          (subst (Agrees names w) (sym (settle_shows kit was.settings valid was.events most links s.own s.is_settle
-          (legal_behind was is_now s.own adds legal)))
-          (agrees_in names once limits r kept was entries stands))
-          (λ (rest : List LogMoment). ap (λ (text : List ℕ). Some (text, rest)) (sym lines)) accepts
-
-    module _ (t : HasTried was is_now (min most (links_in (book_in was)))) where
-      tried : Adds was is_now t.own
-      tried = record { settings = t.settings; events = t.events }
-
-      pub settle_stops : r.charge + more ≤ limits.rooms.session → StopsIn names limits (Settles line passes) r new was is_now
-      settle_stops room = λ (entries : List Entry).
-          short_at (record {
-            line = line;
-            passes = passes;
-            own = t.own;
-            settles = refl;
-            settings = t.settings;
-            events = t.events;
-            unfinished = t.unfinished;
-            few = subst (λ (n : ℕ). t.unfinished.count < n) (ap₂ min (sym (all entries)) (links_marked (book_in was))) t.few;
-            accepted =
-                accepted_with room entries
-                ∙ ap Ok (sym (charged_world t.own more tried (λ (o : Outline Design InputRow). unfinished_outline was.settings o t.own t.unfinished)
-                charge entries));
-          })
+      -- and of one that memory ran out for
+      module _ (unfinished : IsUnfinished own) (few : unfinished.count < min most links) where
+        pub settle_short : (entries : List Entry)
+            → IsCutShort alone (settings_by limits was) (Settles line passes) (world_of names entries (marks_of was) r)
+            (world_of names entries (marks_of is_now) new) was is_now
+        settle_short entries =
+            let leaves : (o : Outline Design InputRow) → outline_from was.settings o zs ≡ o =
+            λ (o : Outline Design InputRow).
+            owned_outline was.settings o zs ∙ ap (outline_from was.settings o) own_are ∙ unfinished_outline was.settings o own unfinished in
+            record {
+              line = line;
+              passes = passes;
+              added = zs;
+              settles = refl;
+              settings = adds.settings;
+              events = adds.events;
+              unfinished = subst IsUnfinished (sym own_are) unfinished;
+              all_own = only;
+              few = few_moved own (owned zs) (sym own_are) unfinished (min (passes_of (world_of names entries (marks_of was) r) passes)
+                  (length (marks_of was))) (subst (λ (n : ℕ). unfinished.count < n) (ap₂ min (sym (all entries)) many) few);
+              accepted = accepted_with room entries ∙ ap Ok (sym (charged_world zs more adds leaves charge entries));
+            }

@@ -21,6 +21,7 @@ pub mod Beside
 pub mod SettleAnswers
 pub mod CutShort
 pub mod Steps
+pub mod AtTurn
 pub mod Runs
 pub mod Charging
 pub mod Kept

@@ -15,7 +15,7 @@ pub record TakesBlock (st : Settings) (block : Block) (given : Result (List Text
     (refused : Bool) : Type 0 where
   pub answer : Answer
   pub read : (files : List TextFile) → given ≡ Ok files → FilesRead (files_after old block files) (top_after old block) (clock_after old block) answer
-  pub done : IsDone st (Ok (Edits block)) old new (loaded_verdict old block answer given) was is text refused
+  pub done : IsDone true st (Ok (Edits block)) old new (loaded_verdict old block answer given) was is text refused
 
 -- memory ran out: nothing is new; or the block was done, and its lines are lost
 pub data LosesBlock (st : Settings) (block : Block) (given : Result (List TextFile) Refused) (old new : World) (was is : Log) : Type 0 where

@@ -4,7 +4,6 @@ use Rattle.ls_text.specs.declared.at.At.TheVariants.{Edit}
 use Rattle.command_read.specs.Asking.{Asked}
 use Rattle.module_registry.specs.Entries.{Entry}
 use Rattle.live_session.specs.Beside.{settings_by, settings_in, world_in}
-use Rattle.live_session.specs.CutShort.{IsCutShort}
 use Rattle.live_session.specs.Done.{IsDone, told}
 use Rattle.live_session.specs.Judging.{verdict_on}
 use Rattle.live_session.specs.Logs.{Log, marks_of}
@@ -39,18 +38,17 @@ no_answer = Err (record { code = 0; at = Edit; words = [] })
 abbrev pub AnswersIn : (names : List (List ℕ)) → Limits → Asked → (old new : Running) → (was is : Log) → Reply → Type 0
 AnswersIn names limits asked old new was is reply =
     (entries : List Entry)
-    → IsDone (settings_by limits was) (Ok asked) (world_of names entries (marks_of was) old) (world_of names entries (marks_of is) new)
+    → IsDone true (settings_by limits was) (Ok asked) (world_of names entries (marks_of was) old) (world_of names entries (marks_of is) new)
     (command_verdict (settings_by limits was) (world_of names entries (marks_of was) old) asked [] no_answer) was is reply.lines reply.refused
 
 -- the same by the worlds before and behind it
 abbrev pub AnswersFrom : Settings → Asked → (old new : World) → (was is : Log) → Reply → Type 0
 AnswersFrom st asked old new was is reply =
-    IsDone st (Ok asked) old new (verdict_on st (told (Ok asked) [] no_answer) old) was is reply.lines reply.refused
+    IsDone true st (Ok asked) old new (verdict_on st (told (Ok asked) [] no_answer) old) was is reply.lines reply.refused
 
--- Memory ran out in it: nothing is new; or it is a settle, cut short behind its charge; or it was done, and its lines are lost.
+-- Memory ran out in it: nothing is new; or it was done, and its lines are lost.
 pub data StopsFrom (st : Settings) (asked : Asked) (old new : World) (was is : Log) : Type 0 where
   undone_at : is.settings ≡ was.settings → is.events ≡ was.events → new ≡ old → StopsFrom st asked old new was is
-  short_at : IsCutShort st asked old new was is → StopsFrom st asked old new was is
   lost_at : (reply : Reply) → AnswersFrom st asked old new was is reply → StopsFrom st asked old new was is
 
 -- and what a call of a design that runs left, whatever units are held

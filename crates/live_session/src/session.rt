@@ -16,18 +16,20 @@ use crate::running::Running;
 use crate::setting::has_each_once;
 use crate::settle_answer::SettleAnswer;
 use crate::settling::settle_answer;
-use book_settle::settle;
+use book_turn::{SessionPass, Turn};
 use checkpoint_book::book::Book;
 use command_read::{Command, Edit, PortValue, ReadEnd, Reader};
 use cycle_eval::Design;
-use ls_port::{Shelf, Source};
+use ls_port::{Gate, Shelf, Source};
 use ls_text::{Fault, NameId, Names, NoMemory, SourceFile, TextBytes};
 use machine::steps::Steps;
 use module_registry::Registry;
 use std::alloc::Global;
 use std::marker::Brand;
+use std::sync::Wait;
 use std::sync::ledger::{Blank, Ledger};
 use std::thread::Threads;
+use turn_settle::{links, settle};
 use unit_forge::RayonForge;
 use wave_report::{ReplyKind, UnitLines, reply_line};
 
@@ -55,7 +57,9 @@ impl Session {
     ghost use Rattle.std.specs.List.{All};
     ghost use Rattle.std.specs.declared.option.Option.{Option};
     ghost use Rattle.book_history.specs.Readers.{links_in};
-    ghost use Rattle.book_settle.specs.Settles.{HasSettled, HasTried};
+    ghost use Rattle.book_turn.specs.Passes.{IsOf, known};
+    ghost use Rattle.book_turn.specs.Turns.{GoesOn};
+    ghost use Rattle.turn_settle.specs.Settled.{HasSettledBeside, HasTriedBeside};
     ghost use Rattle.checkpoint_book.specs.Views.{counts_of};
     ghost use Rattle.ls_text.specs.Texts.{Grows};
     ghost use Rattle.ls_text.specs.Readings.{fault_view};
@@ -83,6 +87,7 @@ impl Session {
     ghost use Rattle.command_read.specs.Spoken.{spoken, setting, edited, IsCommandWithin, IsEditWithin};
     ghost use Rattle.command_read.specs.declared.stop.Stop.{Stop};
     ghost use Rattle.command_read.specs.declared.stop.Stop.TheVariants.{End, NoMemory as OutOfMemory};
+    ghost use Rattle.live_session.specs.AtTurn.{StandsAt, log_of};
     ghost use Rattle.live_session.specs.Beside.{StandsBeside, settings_in, world_in};
     ghost use Rattle.live_session.specs.Files.{text_file};
     ghost use Rattle.live_session.specs.Loaded.{AreUsable, result_of};
@@ -91,7 +96,7 @@ impl Session {
     ghost use Rattle.live_session.specs.Sessions.{world, limits_of, names_of, work};
     ghost use Rattle.live_session.specs.SettleAnswers.{settled_up_to};
     ghost use Rattle.live_session.specs.Shown.{settle_text};
-    ghost use Rattle.live_session.specs.Steps.{StepsTo, Stops};
+    ghost use Rattle.live_session.specs.Steps.{StepsTo, Stops, StopsInTurn, is_settle};
     ghost use Rattle.live_session.specs.Taken.{LosesBlock, TakesBlock};
     ghost use Rattle.live_session.specs.Turns.{Accepts, Answers, StopsAt};
     ghost use Rattle.live_session.specs.Worlds.{fresh};
@@ -159,7 +164,7 @@ impl Session {
     pub fn refusal(&self, alloc: Global, fault: &Fault) -> Result<Reply, NoMemory>
         requires { All (λ id. id.0 < length (names_of self.now)) fault.now.names }
         ensures steps { IfOk result (λ r. (answers : Option (List ShelfAnswer)) (faults : ℕ) (j : Log) → StandsBeside self.now j
-            → StepsTo (Err (fault_view (names_of self.now) fault.now)) answers answers faults faults self.now self.now j j r.lines r.refused) }
+            → StepsTo true (Err (fault_view (names_of self.now) fault.now)) answers answers faults faults self.now self.now j j r.lines r.refused) }
         ensures quits { IfOk result (λ r. r.quit ≡ false) }
     {
         refused_text(alloc, &self.names, &[], 0, fault)
@@ -342,10 +347,10 @@ impl Session {
         requires beside { StandsBeside self.old book.old }
         requires edit { IsEditWithin (length (names_of self.old)) edit.now }
         requires given { All (λ g. length g.file.text ≤ 4194304) edit.now.files }
-        ensures steps { IfOk result (λ r. StepsTo (Ok (Edits (edited (names_of self.old) edit.now))) (F.answers shelf.old) (F.answers shelf.new)
+        ensures steps { IfOk result (λ r. StepsTo true (Ok (Edits (edited (names_of self.old) edit.now))) (F.answers shelf.old) (F.answers shelf.new)
             (F.faults shelf.old) (F.faults shelf.new) self.old self.new book.old book.new r.lines r.refused) }
         ensures goes_on { IfOk result (λ r. r.quit ≡ false) }
-        ensures stops { OnErr result (Stops (Ok (Edits (edited (names_of self.old) edit.now))) (F.answers shelf.old) (F.answers shelf.new)
+        ensures stops { OnErr result (StopsInTurn (Ok (Edits (edited (names_of self.old) edit.now))) (F.answers shelf.old) (F.answers shelf.new)
             (F.faults shelf.old) (F.faults shelf.new) self.old self.new book.old book.new) }
         ensures lost { OnErr result (LosesAnswers (Edits (edited (names_of self.old) edit.now)) (F.answers shelf.old) (F.answers shelf.new)) }
         ensures cause { OnErr result ((F.faults shelf.new ≡ F.faults shelf.old) ⊎ Rose (F.faults shelf.old) (F.faults shelf.new)) }
@@ -472,47 +477,31 @@ impl Session {
         })
     }
 
-    // Verifies the first segments that aren't settled, at most so many; the steps are counted by a counter of its own.
-    fn settled<L: Ledger>(
+    /// Verifies the first segments that aren't settled, at most so many, in turns of the book, for a session that was charged for it: 1, and 2 for each
+    /// pass that may be made. Each segment is verified outside of the turns. Each pass makes at least one link more lead, whatever workers do between;
+    /// with a pass for each link the answer is settled. The session's world stays. Where memory runs out, the passes that were made stand.
+    pub fn settle<R: Wait, G: Gate>(
         &self,
+        rt: &R,
         alloc: Global,
-        book: &mut Book<Design>,
-        passes: u32,
-        blank: Blank,
-    ) -> Result<SettleAnswer, NoMemory>
-        requires name { blank.name ≡ L.name }
-        requires parts { blank.parts ≡ L.parts }
-        requires some { 0 < blank.parts }
-        requires beside { StandsBeside self.now book.old }
-        requires opened { is_some (world_in self.now book.old).design ≡ true }
-        requires charged { (counts_of book.old).session + (2 * min passes (links_in (book_in book.old)) + 1) ≤ (world_in self.now book.old).charge }
-        ensures answer { IfOk result (λ a. HasSettled kit book.old book.new passes (settled_up_to a)) }
-        ensures tried { OnErr result (HasTried book.old book.new (min passes (links_in (book_in book.old)))) }
-        ensures beside { StandsBeside self.now book.new }
-    {
-        let mut steps = Steps::<L>::start(blank);
-        let shown = settle(alloc, book, passes, &mut steps);
-        book.legal();
-        Ok(settle_answer(shown?))
-    }
-
-    /// Verifies the first segments that aren't settled, at most so many, in the book of a session that was charged for it: 1, and 2 for each pass that
-    /// may be made. Each pass makes at least one link more lead; with a pass for each link the answer is settled. The session's world stays. Where
-    /// memory runs out, the passes that were made stand.
-    pub fn settle(
-        &self,
-        alloc: Global,
-        book: &mut Book<Design>,
+        turn: &Turn<Book<Design>>,
+        pass: &mut SessionPass<Book<Design>>,
+        gate: &G,
         passes: u32,
     ) -> Result<SettleAnswer, NoMemory>
-        requires beside { StandsBeside self.now book.old }
-        requires opened { is_some (world_in self.now book.old).design ≡ true }
-        requires charged { (counts_of book.old).session + (2 * min passes (links_in (book_in book.old)) + 1) ≤ (world_in self.now book.old).charge }
-        ensures answer { IfOk result (λ a. HasSettled kit book.old book.new passes (settled_up_to a)) }
-        ensures tried { OnErr result (HasTried book.old book.new (min passes (links_in (book_in book.old)))) }
-        ensures beside { StandsBeside self.now book.new }
+        requires turn { IsOf turn.now pass.old true }
+        requires at { StandsAt self.now (known pass.old) }
+        requires opened { is_some (world_in self.now (log_of (known pass.old))).design ≡ true }
+        requires charged { (counts_of (log_of (known pass.old))).session + (2 * min passes (links_in (book_in (log_of (known pass.old)))) + 1)
+            ≤ (world_in self.now (log_of (known pass.old))).charge }
+        ensures answer { IfOk result (λ a. HasSettledBeside kit (known pass.old) (known pass.new) passes (settled_up_to a)) }
+        ensures tried { OnErr result (HasTriedBeside (known pass.old) (known pass.new) (min passes (links_in (book_in (log_of (known pass.old)))))) }
+        ensures turn { IsOf turn.now pass.new true }
+        ensures at { StandsAt self.now (known pass.new) }
+        ensures goes { GoesOn (known pass.old) (known pass.new) }
     {
-        self.settled::<Brand>(alloc, book, passes, Blank::new(1))
+        let shown = settle(rt, alloc, turn, pass, gate, passes)?;
+        Ok(settle_answer(shown))
     }
 
     // The reply to a settle that was answered so.
@@ -531,38 +520,47 @@ impl Session {
     }
 
     // Verifies segments, as many as passes are said, or all: 62 without a design, 68 where the session's room is too small.
-    #[tactic(auto, using(crate::proofs::DesignsShared::design_send, crate::proofs::DesignsShared::design_sync))]
-    fn settle_command(
+    fn settle_command<R: Wait, G: Gate>(
         &mut self,
+        rt: &R,
         alloc: Global,
-        book: &mut Book<Design>,
+        turn: &Turn<Book<Design>>,
+        pass: &mut SessionPass<Book<Design>>,
+        gate: &G,
         line: u64,
         passes: Option<u32>,
     ) -> Result<Reply, NoMemory>
-        requires beside { StandsBeside self.old book.old }
-        ensures answers { IfOk result (Answers (Settles line passes) self.old self.new book.old book.new) }
+        requires turn { IsOf turn.now pass.old true }
+        requires at { StandsAt self.old (known pass.old) }
+        ensures steps { IfOk result (λ r. (answers : Option (List ShelfAnswer)) (faults : ℕ) → StepsTo (known pass.old).alone (Ok (Settles line passes))
+            answers answers faults faults self.old self.new (log_of (known pass.old)) (log_of (known pass.new)) r.lines r.refused) }
         ensures goes_on { IfOk result (λ r. r.quit ≡ false) }
-        ensures stops { OnErr result (StopsAt (Settles line passes) self.old self.new book.old book.new) }
-        ensures beside { StandsBeside self.new book.new }
+        ensures stops { OnErr result ((answers : Option (List ShelfAnswer)) (faults : ℕ) → Stops (known pass.old).alone (Ok (Settles line passes))
+            answers answers faults faults self.old self.new (log_of (known pass.old)) (log_of (known pass.new))) }
+        ensures turn { IsOf turn.now pass.new true }
+        ensures at { StandsAt self.new (known pass.new) }
+        ensures goes { GoesOn (known pass.old) (known pass.new) }
         ensures limits { limits_of self.new ≡ limits_of self.old }
         ensures grows { Grows (names_of self.old) (names_of self.new) }
     {
         has_each_once(&self.names);
         let charged = match &mut self.running {
-            Some(running) => running.charge_settle(self.limits, book.links(), passes),
+            Some(running) => {
+                let links = links(rt, turn, pass);
+                running.charge_settle(self.limits, links, passes)
+            }
             None => return refused_line(alloc, &self.names, 62, line),
         };
         match charged {
             Some(most) => {
-                let answer = self.settle(alloc, book, most);
-                book.legal();
-                self.settle_reply(alloc, answer?)
+                let answer = self.settle(rt, alloc, turn, pass, gate, most)?;
+                self.settle_reply(alloc, answer)
             }
             None => refused_line(alloc, &self.names, 68, line),
         }
     }
 
-    // Carries out a command, whose steps are counted by a counter of its own.
+    // Carries out a command that isn't a settle, whose steps are counted by a counter of its own.
     fn carry_out<R: Threads + Sync, L: Ledger, F: Shelf>(
         &mut self,
         rt: &R,
@@ -577,11 +575,12 @@ impl Session {
         requires some { 0 < blank.parts }
         requires within { IsCommandWithin (length (names_of self.old)) command }
         requires formed { IsFormed (spoken (names_of self.old) command) }
+        requires plain { is_settle (Ok (spoken (names_of self.old) command)) ≡ false }
         requires beside { StandsBeside self.old book.old }
-        ensures steps { IfOk result (λ r. StepsTo (Ok (spoken (names_of self.old) command)) (F.answers shelf.old) (F.answers shelf.new)
+        ensures steps { IfOk result (λ r. StepsTo true (Ok (spoken (names_of self.old) command)) (F.answers shelf.old) (F.answers shelf.new)
             (F.faults shelf.old) (F.faults shelf.new) self.old self.new book.old book.new r.lines r.refused) }
         ensures quits { IfOk result (λ r. r.quit ≡ is_quit (Ok (spoken (names_of self.old) command))) }
-        ensures stops { OnErr result (Stops (Ok (spoken (names_of self.old) command)) (F.answers shelf.old) (F.answers shelf.new)
+        ensures stops { OnErr result (StopsInTurn (Ok (spoken (names_of self.old) command)) (F.answers shelf.old) (F.answers shelf.new)
             (F.faults shelf.old) (F.faults shelf.new) self.old self.new book.old book.new) }
         ensures lost { OnErr result (LosesAnswers (spoken (names_of self.old) command) (F.answers shelf.old) (F.answers shelf.new)) }
         ensures cause { OnErr result ((F.faults shelf.new ≡ F.faults shelf.old) ⊎ Rose (F.faults shelf.old) (F.faults shelf.new)) }
@@ -595,16 +594,14 @@ impl Session {
             Command::Set { line, values } => self.set(alloc, book, line, values.as_slice()),
             Command::Run { line, n } => self.run(alloc, book, line, n, &mut steps),
             Command::Show { line, prefix } => self.show(alloc, book, line, prefix.bytes()),
-            Command::Settle { line, passes } => self.settle_command(alloc, book, line, passes),
+            Command::Settle { .. } => unreachable!(),
             Command::Status { .. } => self.status(alloc, book),
             Command::Quit { .. } => Self::quit(alloc),
         }
     }
 
-    /// Carries out a command beside the session's book, and answers it. A refused command changes nothing but the shelf's answers and count and the
-    /// table of names. Where memory runs out, session and book are as before, or as behind the command with its lines lost; of a settle its charge and
-    /// the passes that it made may stand.
-    pub fn step<R: Threads + Sync, F: Shelf>(
+    // The same with a fresh counter.
+    fn step_beside<R: Threads + Sync, F: Shelf>(
         &mut self,
         rt: &R,
         alloc: Global,
@@ -614,11 +611,12 @@ impl Session {
     ) -> Result<Reply, NoMemory>
         requires within { IsCommandWithin (length (names_of self.old)) command }
         requires formed { IsFormed (spoken (names_of self.old) command) }
+        requires plain { is_settle (Ok (spoken (names_of self.old) command)) ≡ false }
         requires beside { StandsBeside self.old book.old }
-        ensures steps { IfOk result (λ r. StepsTo (Ok (spoken (names_of self.old) command)) (F.answers shelf.old) (F.answers shelf.new)
+        ensures steps { IfOk result (λ r. StepsTo true (Ok (spoken (names_of self.old) command)) (F.answers shelf.old) (F.answers shelf.new)
             (F.faults shelf.old) (F.faults shelf.new) self.old self.new book.old book.new r.lines r.refused) }
         ensures quits { IfOk result (λ r. r.quit ≡ is_quit (Ok (spoken (names_of self.old) command))) }
-        ensures stops { OnErr result (Stops (Ok (spoken (names_of self.old) command)) (F.answers shelf.old) (F.answers shelf.new)
+        ensures stops { OnErr result (StopsInTurn (Ok (spoken (names_of self.old) command)) (F.answers shelf.old) (F.answers shelf.new)
             (F.faults shelf.old) (F.faults shelf.new) self.old self.new book.old book.new) }
         ensures lost { OnErr result (LosesAnswers (spoken (names_of self.old) command) (F.answers shelf.old) (F.answers shelf.new)) }
         ensures cause { OnErr result ((F.faults shelf.new ≡ F.faults shelf.old) ⊎ Rose (F.faults shelf.old) (F.faults shelf.new)) }
@@ -627,5 +625,82 @@ impl Session {
         ensures grows { Grows (names_of self.old) (names_of self.new) }
     {
         self.carry_out::<R, Brand, F>(rt, alloc, book, shelf, command, Blank::new(1))
+    }
+
+    // The same in one turn of the book.
+    #[tactic(auto, using(crate::proofs::DesignsShared::design_send, crate::proofs::DesignsShared::design_sync))]
+    fn step_in_turn<R: Threads + Wait + Sync, F: Shelf>(
+        &mut self,
+        rt: &R,
+        alloc: Global,
+        turn: &Turn<Book<Design>>,
+        pass: &mut SessionPass<Book<Design>>,
+        shelf: &mut F,
+        command: Command,
+    ) -> Result<Reply, NoMemory>
+        requires within { IsCommandWithin (length (names_of self.old)) command }
+        requires formed { IsFormed (spoken (names_of self.old) command) }
+        requires plain { is_settle (Ok (spoken (names_of self.old) command)) ≡ false }
+        requires turn { IsOf turn.now pass.old true }
+        requires at { StandsAt self.old (known pass.old) }
+        ensures steps { IfOk result (λ r. StepsTo (known pass.old).alone (Ok (spoken (names_of self.old) command)) (F.answers shelf.old) (F.answers shelf.new)
+            (F.faults shelf.old) (F.faults shelf.new) self.old self.new (log_of (known pass.old)) (log_of (known pass.new)) r.lines r.refused) }
+        ensures quits { IfOk result (λ r. r.quit ≡ is_quit (Ok (spoken (names_of self.old) command))) }
+        ensures stops { OnErr result (Stops (known pass.old).alone (Ok (spoken (names_of self.old) command)) (F.answers shelf.old) (F.answers shelf.new)
+            (F.faults shelf.old) (F.faults shelf.new) self.old self.new (log_of (known pass.old)) (log_of (known pass.new))) }
+        ensures lost { OnErr result (LosesAnswers (spoken (names_of self.old) command) (F.answers shelf.old) (F.answers shelf.new)) }
+        ensures cause { OnErr result ((F.faults shelf.new ≡ F.faults shelf.old) ⊎ Rose (F.faults shelf.old) (F.faults shelf.new)) }
+        ensures turn { IsOf turn.now pass.new true }
+        ensures at { StandsAt self.new (known pass.new) }
+        ensures goes { GoesOn (known pass.old) (known pass.new) }
+        ensures limits { limits_of self.new ≡ limits_of self.old }
+        ensures grows { Grows (names_of self.old) (names_of self.new) }
+    {
+        let mut boxed = turn.enter(rt, pass);
+        let book: &mut Book<Design> = &mut boxed;
+        book.legal();
+        let reply = self.step_beside(rt, alloc, book, shelf, command);
+        book.legal();
+        turn.leave(rt, pass, boxed);
+        reply
+    }
+
+    /// Carries out a command in turns of the session's book, and answers it: a settle in several, every other command in one. A refused command changes
+    /// nothing but the shelf's answers and count, the table of names, and what the pass has seen of workers' entries. Where memory runs out, session and
+    /// book are as before but for such entries, or as behind the command with its lines lost; of a settle its charge and the passes that it made may
+    /// stand.
+    pub fn step<R: Threads + Wait + Sync, F: Shelf, G: Gate>(
+        &mut self,
+        rt: &R,
+        alloc: Global,
+        turn: &Turn<Book<Design>>,
+        pass: &mut SessionPass<Book<Design>>,
+        shelf: &mut F,
+        gate: &G,
+        command: Command,
+    ) -> Result<Reply, NoMemory>
+        requires within { IsCommandWithin (length (names_of self.old)) command }
+        requires formed { IsFormed (spoken (names_of self.old) command) }
+        requires turn { IsOf turn.now pass.old true }
+        requires at { StandsAt self.old (known pass.old) }
+        ensures steps { IfOk result (λ r. StepsTo (known pass.old).alone (Ok (spoken (names_of self.old) command)) (F.answers shelf.old) (F.answers shelf.new)
+            (F.faults shelf.old) (F.faults shelf.new) self.old self.new (log_of (known pass.old)) (log_of (known pass.new)) r.lines r.refused) }
+        ensures quits { IfOk result (λ r. r.quit ≡ is_quit (Ok (spoken (names_of self.old) command))) }
+        ensures stops { OnErr result (Stops (known pass.old).alone (Ok (spoken (names_of self.old) command)) (F.answers shelf.old) (F.answers shelf.new)
+            (F.faults shelf.old) (F.faults shelf.new) self.old self.new (log_of (known pass.old)) (log_of (known pass.new))) }
+        ensures lost { OnErr result (LosesAnswers (spoken (names_of self.old) command) (F.answers shelf.old) (F.answers shelf.new)) }
+        ensures cause { OnErr result ((F.faults shelf.new ≡ F.faults shelf.old) ⊎ Rose (F.faults shelf.old) (F.faults shelf.new)) }
+        ensures turn { IsOf turn.now pass.new true }
+        ensures at { StandsAt self.new (known pass.new) }
+        ensures goes { GoesOn (known pass.old) (known pass.new) }
+        ensures limits { limits_of self.new ≡ limits_of self.old }
+        ensures grows { Grows (names_of self.old) (names_of self.new) }
+    {
+        match command {
+            Command::Settle { line, passes } => {
+                self.settle_command(rt, alloc, turn, pass, gate, line, passes)
+            }
+            command => self.step_in_turn(rt, alloc, turn, pass, shelf, command),
+        }
     }
 }

@@ -87,7 +87,6 @@ module _ (st : Settings) (from to : Sources) (shelf shelved : Shelves) (old new 
     settings = h.has;
     legal = h.legal;
     entries = h.entries;
-    alone = h.alone;
     settled = shown_truth st told (moments_of history);
     too_much = s.too_much;
     not_too_much = s.not_too_much;

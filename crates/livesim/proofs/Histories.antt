@@ -3,10 +3,10 @@ use Rattle.std.proofs.Common.{◌≡◌, ◌⊎◌, inl, inr, ℕ, Bool, true, L
 use Rattle.book_history.specs.Book.{Closes, Settings as BookSettings}
 use Rattle.book_history.specs.Legal.{Legal}
 use Rattle.book_history.specs.Moments.{moments_from}
-use Rattle.book_history.specs.Owned.{AllOwned, owned}
+use Rattle.book_history.specs.Owned.{owned}
 use Rattle.book_history.proofs.Places.{moments-append}
 use Rattle.book_settle.specs.Passes.{IsUnfinished}
-use Rattle.book_settle.proofs.Counting.{owned-append, unfinished_moments, unfinished_owned}
+use Rattle.book_settle.proofs.Counting.{owned-append}
 use Rattle.live_session.specs.Done.{IsDone}
 use Rattle.live_session.specs.Judging.{after, verdict_on, world_after}
 use Rattle.live_session.specs.Logs.{Log, LogEvent, LogMoment, book_in, kit, moments_after, moments_of, valid}
@@ -15,9 +15,9 @@ use Rattle.live_session.specs.Scripts.{IsScript}
 use Rattle.live_session.specs.Settings.{Settings}
 use Rattle.live_session.specs.Verdicts.{Told}
 use Rattle.live_session.specs.Worlds.{World, fresh}
-use Rattle.livesim.specs.Histories.{IsLegal, closed}
+use Rattle.live_session.proofs.SharedSettles.{AreQuiet, unfinished_quiet, unspoken_among}
+use Rattle.livesim.specs.Histories.{EndsFrom, IsLegal}
 use Rattle.livesim.specs.Runs.{HasEntries, all_entries, unfinished_settle, no_entries, HasSettings}
-use Rattle.livesim.proofs.Alone.{alone-append, unfinished_alone}
 use Rattle.livesim.proofs.Steps.{after-append, script-append}
 
 -- These commands are carried out, and these are their lines: whatever commands and entries come behind, the lines of all are these and then those of
@@ -25,7 +25,6 @@ use Rattle.livesim.proofs.Steps.{after-append, script-append}
 pub record IsRecorded (st : Settings) (j : Log) (told : List Told) (text : List ℕ) : Type 0 where
   pub has : HasSettings st j
   pub script : IsScript st told fresh (owned j.events) (moments_of j)
-  pub alone : AllOwned true j.events
   pub tells : (ts : List Told) (ms : List LogMoment) → lines st (told ++ ts) fresh (moments_of j ++ ms) ≡ text ++ lines st ts (world_after st told fresh) ms
 
 -- before the first
@@ -33,7 +32,6 @@ pub none_recorded : (st : Settings) (j : Log) → HasSettings st j → j.events 
 none_recorded st j has blank = record {
   has = has;
   script = (ap (λ (es : List LogEvent). owned es) blank, ap (λ (es : List LogEvent). moments_from kit j.settings None es) blank);
-  alone = subst (λ (es : List LogEvent). AllOwned true es) (sym blank) tt;
   tells = λ ts ms. ap (λ (es : List LogEvent). lines st ts fresh (moments_from kit j.settings None es ++ ms)) blank;
 }
 
@@ -52,13 +50,22 @@ moments_behind j k own same events =
     ∙ ap (λ (s : BookSettings). moments_from kit s None (j.events ++ own)) same
     ∙ moments-append kit j.settings None j.events own
 
--- the close isn't one of them
-pub moments_closed : (j : Log) → moments_of (closed j) ≡ moments_of j
-moments_closed j = moments_behind j (closed j) (Closes ∷ []) refl refl ∙ append-nil (moments_of j)
+-- what comes behind them when the book is closed is none of them
+module _ (now h : Log) (e : EndsFrom now h) where
+  pub moments_ended : moments_of h ≡ moments_of now
+  moments_ended =
+      moments_behind now h e.rest e.settings e.events
+      ∙ ap (λ (ms : List LogMoment). moments_of now ++ ms)
+      (unspoken_among now.settings (book_in now) e.rest (subst AreQuiet (sym e.closes) (refl, tt)))
+      ∙ append-nil (moments_of now)
+
+  pub owned_ended : owned h.events ≡ owned now.events ++ Closes ∷ []
+  owned_ended =
+      ap owned e.events ∙ owned-append now.events e.rest ∙ ap (λ (es : List LogEvent). owned now.events ++ es) e.closes
 
 -- one more
-module _ (st : Settings) (j k : Log) (told : List Told) (t : Told) (text more : List ℕ) (new : World) (refused : Bool) (d : IsRecorded st j told text)
-    (p : IsDone st t.asked (world_after st told fresh) new (verdict_on st t (world_after st told fresh)) j k more refused) where
+module _ (alone : Bool) (st : Settings) (j k : Log) (told : List Told) (t : Told) (text more : List ℕ) (new : World) (refused : Bool) (d : IsRecorded st j told text)
+    (p : IsDone alone st t.asked (world_after st told fresh) new (verdict_on st t (world_after st told fresh)) j k more refused) where
   abbrev here : World
   here = world_after st told fresh
 
@@ -83,7 +90,6 @@ module _ (st : Settings) (j k : Log) (told : List Told) (t : Told) (text more : 
         (sym (ap (λ (es : List LogEvent). owned es) p.events ∙ owned-append j.events p.added))
         (subst (λ (ms : List LogMoment). IsScript st (told ++ t ∷ []) fresh (owned j.events ++ owned p.added) ms) (sym moments_more)
         (script-append st told (owned j.events) (owned p.added) (moments_of j) (moments_after j p.added) t fresh d.script p.part));
-    alone = subst (λ (es : List LogEvent). AllOwned true es) (sym p.events) (alone-append j.events p.added d.alone p.alone);
     tells = lines_more;
   }
 
@@ -103,38 +109,36 @@ pub record IsHistory (st : Settings) (told : List Told) (status : ℕ) (text : L
   pub has : HasSettings st h ⊎ ((status ≡ 5) × (h.events ≡ []))
   pub legal : IsLegal h
   pub entries : HasEntries st told status (owned h.events) (moments_of h)
-  pub alone : AllOwned true h.events
   pub tells : lines st told fresh (moments_of h) ≡ text
 
 -- behind these commands it was closed
-pub closed_history : (st : Settings) (j : Log) (told : List Told) (text : List ℕ) (status : ℕ) → IsRecorded st j told text
-    → IsLegal (closed j) → IsHistory st told status text (closed j)
-closed_history st j told text status d legal = record {
-  has = inl d.has;
+pub ended_history : (st : Settings) (j h : Log) → EndsFrom j h → (told : List Told) (text : List ℕ) (status : ℕ) → IsRecorded st j told text
+    → IsLegal h → IsHistory st told status text h
+ended_history st j h e told text status d legal = record {
+  has = inl (settings_kept st j h e.settings d.has);
   legal = legal;
-  entries = all_entries (owned j.events) (owned-append j.events (Closes ∷ []))
-      (subst (λ (ms : List LogMoment). IsScript st told fresh (owned j.events) ms) (sym (moments_closed j)) d.script);
-  alone = alone-append j.events (Closes ∷ []) d.alone (refl, tt);
-  tells = ap (λ (ms : List LogMoment). lines st told fresh ms) (moments_closed j) ∙ lines_recorded st j told text d;
+  entries = all_entries (owned j.events) (owned_ended j h e)
+      (subst (λ (ms : List LogMoment). IsScript st told fresh (owned j.events) ms) (sym (moments_ended j h e)) d.script);
+  tells = ap (λ (ms : List LogMoment). lines st told fresh ms) (moments_ended j h e) ∙ lines_recorded st j told text d;
 }
 
 -- behind them memory ran out in a settle, and then it was closed
-pub unfinished_history : (st : Settings) (j k : Log) (told : List Told) (text : List ℕ) (status : ℕ) (own : List LogEvent) → status ≡ 5 → IsRecorded st j told text
-    → k.settings ≡ j.settings → k.events ≡ j.events ++ own → IsUnfinished own → IsLegal (closed k) → IsHistory st told status text (closed k)
-unfinished_history st j k told text status own five d same events unfinished legal =
-    let none : moments_after j own ≡ [] = unfinished_moments kit j.settings (book_in j) own unfinished in
-    let moments : moments_of (closed k) ≡ moments_of j = moments_closed k ∙ moments_behind j k own same events
+pub unfinished_history : (st : Settings) (j k h : Log) → EndsFrom k h → (told : List Told) (text : List ℕ) (status : ℕ) (added : List LogEvent)
+    → status ≡ 5 → IsRecorded st j told text → k.settings ≡ j.settings → k.events ≡ j.events ++ added → IsUnfinished (owned added) → IsLegal h
+    → IsHistory st told status text h
+unfinished_history st j k h e told text status added five d same events unfinished legal =
+    let none : moments_after j added ≡ [] =
+    unspoken_among j.settings (book_in j) added (unfinished_quiet (owned added) unfinished) in
+    let moments : moments_of h ≡ moments_of j = moments_ended k h e ∙ moments_behind j k added same events
     ∙ ap (λ (ms : List LogMoment). moments_of j ++ ms) none ∙ append-nil (moments_of j) in
-    let its_own : owned k.events ≡ owned j.events ++ own = ap (λ (es : List LogEvent). owned es) events ∙ owned-append j.events own
-    ∙ ap (λ (es : List LogEvent). owned j.events ++ es) (unfinished_owned own unfinished) in
+    let its_own : owned k.events ≡ owned j.events ++ owned added = ap owned events ∙ owned-append j.events added in
     record {
-      has = inl (settings_kept st j k same d.has);
+      has = inl (settings_kept st j h (e.settings ∙ same) d.has);
       legal = legal;
-      entries = unfinished_settle (owned j.events) own five
-          (owned-append k.events (Closes ∷ []) ∙ ap (λ (es : List LogEvent). es ++ Closes ∷ []) its_own ∙ append_assoc (owned j.events) own (Closes ∷ []))
+      entries = unfinished_settle (owned j.events) (owned added) five
+          (owned_ended k h e ∙ ap (λ (es : List LogEvent). es ++ Closes ∷ []) its_own
+          ∙ append_assoc (owned j.events) (owned added) (Closes ∷ []))
           (subst (λ (ms : List LogMoment). IsScript st told fresh (owned j.events) ms) (sym moments) d.script) unfinished;
-      alone = alone-append k.events (Closes ∷ [])
-          (subst (λ (es : List LogEvent). AllOwned true es) (sym events) (alone-append j.events own d.alone (unfinished_alone own unfinished))) (refl, tt);
       tells = ap (λ (ms : List LogMoment). lines st told fresh ms) moments ∙ lines_recorded st j told text d;
     }
 
@@ -144,6 +148,5 @@ nothing_history st h blank = record {
   has = inr (refl, blank);
   legal = subst (λ (es : List LogEvent). Legal kit valid h.settings es) (sym blank) (record { follows = tt; in_rooms = tt });
   entries = no_entries refl (ap (λ (es : List LogEvent). owned es) blank) refl;
-  alone = subst (λ (es : List LogEvent). AllOwned true es) (sym blank) tt;
   tells = refl;
 }

@@ -11,3 +11,4 @@ pub mod Displays
 pub mod Endings
 pub mod Over
 pub mod Outputs
+pub mod Working

@@ -38,19 +38,19 @@ pub adds_none : (answers : Option (List ShelfAnswer)) → AddsAnswers answers an
 adds_none None = tt
 adds_none (Some xs) = sym (append-nil xs)
 
-module _ (from to : Sources) (shelf shelved : Shelves) (old new : Reader) (session read_in behind : Session) (was is : Log) where
+module _ (from to : Sources) (shelf shelved : Shelves) (old new : Reader) (session read_in behind : Session) (was is : Log) (alone : Bool) where
   -- a command, by what the session answers to it
   pub command_turn : {E : Type 0} (asked : Asked) (r : Result Reply E) (t : Turn) → t ≡ turn_of r → Reads from to old new (Ok asked ∷ []) → stopped new ≡ None
       → still_of new < still_of old → ((grid : List ℕ) → world read_in grid ≡ world session grid) → limits_of read_in ≡ limits_of session
-      → IfOk r (λ x. StepsTo (Ok asked) shelf.answers shelved.answers shelf.faults shelved.faults read_in behind was is x.lines x.refused)
+      → IfOk r (λ x. StepsTo alone (Ok asked) shelf.answers shelved.answers shelf.faults shelved.faults read_in behind was is x.lines x.refused)
       → IfOk r (λ x. x.quit ≡ is_quit (Ok asked))
-      → OnErr r (Stops (Ok asked) shelf.answers shelved.answers shelf.faults shelved.faults read_in behind was is)
+      → OnErr r (Stops alone (Ok asked) shelf.answers shelved.answers shelf.faults shelved.faults read_in behind was is)
       → OnErr r (LosesAnswers asked shelf.answers shelved.answers)
       → OnErr r ((shelved.faults ≡ shelf.faults) ⊎ Rose shelf.faults shelved.faults)
       → IsTurn from to shelf shelved old new session behind was is t
   command_turn asked (Ok x) t same_turn reads going falls same limits steps quits stops losing cause =
       subst (IsTurn from to shelf shelved old new session behind was is) (sym same_turn) (record {
-        carries = record { asked = Ok asked; reads = reads; going = going; read_in = read_in; same = same; limits = limits; steps = steps };
+        carries = record { alone = alone; asked = Ok asked; reads = reads; going = going; read_in = read_in; same = same; limits = limits; steps = steps };
         falls = falls;
         quits = quits;
       })
@@ -62,7 +62,7 @@ module _ (from to : Sources) (shelf shelved : Shelves) (old new : Reader) (sessi
         adds = losing.adds;
         first = losing.first;
         cause = cause;
-        over = in_command (Ok asked) refl going read_in same limits stops;
+        over = in_command alone (Ok asked) refl going read_in same limits stops;
       })
 
 -- a line that is refused, which looks at nothing outside
@@ -71,12 +71,13 @@ pub refused_turn : {E : Type 0} (from to : Sources) (shelf : Shelves) (old new :
     → still_of new < still_of old → ((grid : List ℕ) → world read_in grid ≡ world session grid) → limits_of read_in ≡ limits_of session
     → StandsBeside read_in j
     → IfOk r (λ x. (answers : Option (List ShelfAnswer)) (faults : ℕ) (j : Log) → StandsBeside read_in j
-    → StepsTo (Err fault) answers answers faults faults read_in read_in j j x.lines x.refused)
+    → StepsTo true (Err fault) answers answers faults faults read_in read_in j j x.lines x.refused)
     → IfOk r (λ x. x.quit ≡ false)
     → IsTurn from to shelf shelf old new session read_in j j t
 refused_turn from to shelf old new session read_in j fault (Ok x) t is reads going falls same limits beside steps quits =
     subst (IsTurn from to shelf shelf old new session read_in j j) (sym is) (record {
       carries = record {
+        alone = true;
         asked = Err fault;
         reads = reads;
         going = going;
@@ -113,11 +114,11 @@ stopped_turn from to shelf old new session behind j reads stops = record {
 }
 
 -- a turn keeps the settings of the book
-stops_kept : (asked : Result Asked TextFault) (before behind : Option (List ShelfAnswer)) (faults count : ℕ) (old new : Session) (was is : Log)
-    → Stops asked before behind faults count old new was is → is.settings ≡ was.settings
-stops_kept asked before behind faults count old new was is (undone same events world) = same
-stops_kept asked before behind faults count old new was is (cut_short command is_command short) = short.settings
-stops_kept asked before behind faults count old new was is (lost text refused steps) = steps.done.settings
+stops_kept : (alone : Bool) (asked : Result Asked TextFault) (before behind : Option (List ShelfAnswer)) (faults count : ℕ) (old new : Session) (was is : Log)
+    → Stops alone asked before behind faults count old new was is → is.settings ≡ was.settings
+stops_kept alone asked before behind faults count old new was is (undone stayed world) = stayed.settings
+stops_kept alone asked before behind faults count old new was is (cut_short command is_command short) = short.settings
+stops_kept alone asked before behind faults count old new was is (lost text refused steps) = steps.done.settings
 
 pub over_kept : (from to : Sources) (shelf shelved : Shelves) (old new : Reader) (session behind : Session) (was is : Log) (ending : Ending)
     → Ends from to shelf shelved old new session behind was is ending → is.settings ≡ was.settings
@@ -128,5 +129,5 @@ over_kept from to shelf shelved old new session behind was is NoMemory e = by e.
   where
     by : RunsOut shelf shelved new session behind was is e.told → is.settings ≡ was.settings
     by (in_nothing stops same) = ap (λ (j : Log). j.settings) same
-    by (in_command asked told going read_in same limits stops) =
-        stops_kept asked shelf.answers shelved.answers shelf.faults shelved.faults read_in behind was is stops
+    by (in_command alone asked told going read_in same limits stops) =
+        stops_kept alone asked shelf.answers shelved.answers shelf.faults shelved.faults read_in behind was is stops

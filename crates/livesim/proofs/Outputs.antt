@@ -146,10 +146,10 @@ module _ (one_output : HaveOneOutput) (one_script : HaveOneScript) (all_outputs 
     asked = p.lived.all p.no_sink_fault p.enough_memory ∙ sym (q.lived.all q.no_sink_fault q.enough_memory)
 
     first : HasScript st p.lived.told j.settings j.events (moments_of j)
-    first = has_script st p.lived.told p.status j p.enough_memory p.lived.legal p.lived.entries p.lived.alone
+    first = has_script st p.lived.told p.status j p.enough_memory p.lived.legal p.lived.entries p.alone
 
     second : HasScript st q.lived.told k.settings k.events (moments_of k)
-    second = has_script st q.lived.told q.status k q.enough_memory q.lived.legal q.lived.entries q.lived.alone
+    second = has_script st q.lived.told q.status k q.enough_memory q.lived.legal q.lived.entries q.alone
 
     pub outputs_alike : out ≡ other
     outputs_alike =

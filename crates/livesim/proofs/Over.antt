@@ -5,7 +5,7 @@ use Rattle.std.proofs.lemmas.List.{length-map}
 use Rattle.std.proofs.KnownBytes.{Appends-nil, Appends-trans, Consumes-nil}
 use Rattle.std.specs.Io.KnownBytes.{Appends}
 use Rattle.book_history.specs.Book.{Closes, Settings as BookSettings}
-use Rattle.book_settle.specs.Passes.{no_pass, no_ticket}
+use Rattle.book_settle.specs.Passes.{IsUnfinished, no_pass, no_ticket}
 use Rattle.command_read.specs.Readers.{has_ended, count_taken, stopped, asked_of as still_asked, AreKept}
 use Rattle.ls_text.specs.Readings.{TextFault}
 use Rattle.command_read.specs.Asking.{Asked}
@@ -24,7 +24,7 @@ use Rattle.live_session.specs.Verdicts.{Told}
 use Rattle.live_session.specs.Worlds.{fresh}
 use Rattle.live_session.specs.declared.session.Session.{Session}
 use Rattle.livesim.specs.Endings.{status_of}
-use Rattle.livesim.specs.Histories.{IsLegal, closed}
+use Rattle.livesim.specs.Histories.{EndsFrom, IsLegal}
 use Rattle.livesim.specs.Runs.{HasSettings, Lived, AreSoon, RisesBy, WritesAtLeast, count_broken, end_with_quit}
 use Rattle.livesim.specs.Settings.{settings}
 use Rattle.livesim.specs.Turns.{Sources, Shelves, Reads, Carries, RunsOut, in_nothing, in_command, Ends, HasLimits, HasStopped}
@@ -33,7 +33,7 @@ use Rattle.livesim.specs.declared.ending.Ending.{Ending}
 use Rattle.livesim.specs.declared.ending.Ending.TheVariants.{Whole, Failed, TooMuch, NoMemory}
 use Rattle.livesim.proofs.Counts.{rises_perhaps}
 use Rattle.livesim.proofs.Endings.{Finished, IsStatus, AreCut, lived, lived_all, few_taken, many_taken, most_taken, finished_now, finished_then, taken_then}
-use Rattle.livesim.proofs.Histories.{IsHistory, IsRecorded, closed_history, lines_with, moments_behind, moments_closed, nothing_history, unfinished_history}
+use Rattle.livesim.proofs.Histories.{IsHistory, IsRecorded, ended_history, lines_with, moments_behind, moments_ended, nothing_history, unfinished_history}
 use Rattle.livesim.proofs.OneTurn.{adds_none}
 use Rattle.livesim.proofs.Quits.{ends_with, few_front, most_front, never_quits}
 use Rattle.livesim.proofs.Soon.{soon_of}
@@ -71,7 +71,7 @@ same_front xs ys x y is =
     sym (take-append_seam xs (x ∷ [])) ∙ ap (take (length xs)) is ∙ ap (λ n. take n (ys ++ y ∷ [])) count ∙ take-append_seam ys (y ∷ [])
 
 -- a front of a command's lines was written
-module _ (o : OptionsOf) (from mid to : Sources) (shelf mid_shelf shelved : Shelves) (session behind : Session) (old new : Reader) (was now : Log) (refused : Bool)
+module _ (o : OptionsOf) (from mid to : Sources) (shelf mid_shelf shelved : Shelves) (session behind : Session) (old new : Reader) (was now h : Log) (ends : EndsFrom now h) (refused : Bool)
     (told : List Told) (text more : List ℕ) (also : Bool) (limits : HasLimits session) (d : Done (settings o) from mid shelf mid_shelf session old was refused false told text)
     (a : Carries mid to mid_shelf shelved old new session behind was now more also) (written_old written_mid written_new : Option (List ℕ))
     (written : Appends written_old written_mid text) (w : Writes written_mid written_new more) where
@@ -79,24 +79,24 @@ module _ (o : OptionsOf) (from mid to : Sources) (shelf mid_shelf shelved : Shel
   said = turn_told o from mid to shelf mid_shelf shelved session behind old new was now refused told text more also limits d a
 
   -- the lines of those before it at their places
-  lines_before : lines (settings o) told fresh (moments_of (closed now)) ≡ text
+  lines_before : lines (settings o) told fresh (moments_of h) ≡ text
   lines_before =
       let done = step o from mid to shelf mid_shelf shelved session behind old new was now refused told text more also limits d a in
-      ap (λ (ms : List LogMoment). lines (settings o) told fresh ms) (moments_closed now ∙ moments_behind was now done.done.added done.done.settings done.done.events)
+      ap (λ (ms : List LogMoment). lines (settings o) told fresh ms) (moments_ended now h ends ∙ moments_behind was now done.done.added done.done.settings done.done.events)
       ∙ lines_with (settings o) was told text (moments_after was done.done.added) d.recorded
 
   at_least : (before : List Told) (last : Told) → before ++ last ∷ [] ≡ told ++ said ∷ []
-      → WritesAtLeast written_old written_new (lines (settings o) before fresh (moments_of (closed now)))
+      → WritesAtLeast written_old written_new (lines (settings o) before fresh (moments_of h))
   at_least before last same =
       let front : told ≡ before = sym (same_front before told last said same) in (
         w.front,
         subst (λ (t : List ℕ). Appends written_old written_new (t ++ w.front))
-            (sym lines_before ∙ ap (λ (ts : List Told). lines (settings o) ts fresh (moments_of (closed now))) front)
+            (sym lines_before ∙ ap (λ (ts : List Told). lines (settings o) ts fresh (moments_of h)) front)
             (Appends-trans written_old written_mid written_new text w.front written w.appended),
       )
 
-  pub front_lived : IsLegal (closed now) → (status : ℕ) → (status ≡ 4) ⊎ (status ≡ 5)
-      → IsLived (settings o) from to shelf shelved written_old written_new (count_taken new) status (closed now)
+  pub front_lived : IsLegal h → (status : ℕ) → (status ≡ 4) ⊎ (status ≡ 5)
+      → IsLived (settings o) from to shelf shelved written_old written_new (count_taken new) status h
   front_lived legal status which_is =
       let done = more_done o from mid to shelf mid_shelf shelved session behind old new was now refused told text more also limits d a in
       let few = few_taken new (ap is_too_much a.going) in
@@ -117,8 +117,8 @@ module _ (o : OptionsOf) (from mid to : Sources) (shelf mid_shelf shelved : Shel
         done.bytes,
         has_ended new,
         sym done.count,
-        lived (settings o) from to shelf shelved written_old written_new done.bytes (has_ended new) (refused || also) all _ [] status (text ++ more) (closed now) f s
-            (closed_history (settings o) now all (text ++ more) status done.recorded legal) (inl done.failed)
+        lived (settings o) from to shelf shelved written_old written_new done.bytes (has_ended new) (refused || also) all _ [] status (text ++ more) h f s
+            (ended_history (settings o) now h ends all (text ++ more) status done.recorded legal) (inl done.failed)
             (λ four five. absurd (never four five))
             (writes_front written_old written_mid written_new text more written w)
             at_least
@@ -126,12 +126,12 @@ module _ (o : OptionsOf) (from mid to : Sources) (shelf mid_shelf shelved : Shel
       )
 
 module _ (o : OptionsOf) (from mid to : Sources) (shelf mid_shelf shelved : Shelves) (written_old written_new : Option (List ℕ)) (session behind : Session) (old new : Reader)
-    (was now : Log) (refused : Bool) (told : List Told) (text : List ℕ) (limits : HasLimits session) (written : Appends written_old written_new text)
-    (d : Done (settings o) from mid shelf mid_shelf session old was refused false told text) (legal : IsLegal (closed now)) where
+    (was now h : Log) (ends : EndsFrom now h) (refused : Bool) (told : List Told) (text : List ℕ) (limits : HasLimits session) (written : Appends written_old written_new text)
+    (d : Done (settings o) from mid shelf mid_shelf session old was refused false told text) (legal : IsLegal h) where
   -- a book that is as it was
-  as_before : (status : ℕ) → now ≡ was → IsHistory (settings o) told status text (closed now)
+  as_before : (status : ℕ) → now ≡ was → IsHistory (settings o) told status text h
   as_before status same =
-      closed_history (settings o) now told text status (subst (λ (j : Log). IsRecorded (settings o) j told text) (sym same) d.recorded) legal
+      ended_history (settings o) now h ends told text status (subst (λ (j : Log). IsRecorded (settings o) j told text) (sym same) d.recorded) legal
 
   -- all that came is kept, and no byte is above the limit
   all_kept : (came kept : List ℕ) → came ≡ kept → length (d.bytes ++ came) ≡ count_taken new → is_too_much (stopped new) ≡ false
@@ -150,7 +150,7 @@ module _ (o : OptionsOf) (from mid to : Sources) (shelf mid_shelf shelved : Shel
   none_left stopped_for asked lost faults count h = ap (λ t. up_to_quit (t ++ still_asked new [] (has_ended new))) h.none ∙ ap up_to_quit h.nothing
 
   over_whole : (e : Ends mid to mid_shelf shelved old new session behind was now Whole) (status : ℕ) → status ≡ status_of Whole refused
-      → IsLived (settings o) from to shelf shelved written_old written_new (count_taken new) status (closed now)
+      → IsLived (settings o) from to shelf shelved written_old written_new (count_taken new) status h
   over_whole e status is =
       let h = e.over.0 in
       let ended = e.over.1 in
@@ -172,7 +172,7 @@ module _ (o : OptionsOf) (from mid to : Sources) (shelf mid_shelf shelved : Shel
         bytes,
         has_ended new,
         taken,
-        lived_all (settings o) from to shelf shelved written_old written_new bytes (has_ended new) refused told rest e.lost status text (closed now)
+        lived_all (settings o) from to shelf shelved written_old written_new bytes (has_ended new) refused told rest e.lost status text h
             (finished_then (settings o) from mid to shelf mid_shelf shelved session behind old new was now refused told text Whole d e []
             (all_kept e.reads.came e.reads.kept (e.reads.takes.whole ended) taken going)) s (as_before status h.same)
             (inl (subst (RisesBy (count_broken told) shelf.faults) (sym h.unfailed) d.failed)) written
@@ -180,7 +180,7 @@ module _ (o : OptionsOf) (from mid to : Sources) (shelf mid_shelf shelved : Shel
       )
 
   over_failed : (e : Ends mid to mid_shelf shelved old new session behind was now Failed) (status : ℕ) → status ≡ 3
-      → IsLived (settings o) from to shelf shelved written_old written_new (count_taken new) status (closed now)
+      → IsLived (settings o) from to shelf shelved written_old written_new (count_taken new) status h
   over_failed e status is =
       let h = e.over in
       let going : is_too_much (stopped new) ≡ false = ap is_too_much h.reason_is in
@@ -202,7 +202,7 @@ module _ (o : OptionsOf) (from mid to : Sources) (shelf mid_shelf shelved : Shel
         bytes,
         has_ended new,
         taken,
-        lived_all (settings o) from to shelf shelved written_old written_new bytes (has_ended new) refused told rest e.lost status text (closed now)
+        lived_all (settings o) from to shelf shelved written_old written_new bytes (has_ended new) refused told rest e.lost status text h
             (finished_then (settings o) from mid to shelf mid_shelf shelved session behind old new was now refused told text Failed d e [] (all_kept e.reads.came e.reads.kept same taken going)) s
             (as_before status h.same)
             (inl (subst (RisesBy (count_broken told) shelf.faults) (sym h.unfailed) d.failed)) written
@@ -210,7 +210,7 @@ module _ (o : OptionsOf) (from mid to : Sources) (shelf mid_shelf shelved : Shel
       )
 
   over_much : (e : Ends mid to mid_shelf shelved old new session behind was now TooMuch) (status : ℕ) → status ≡ 6
-      → IsLived (settings o) from to shelf shelved written_old written_new (count_taken new) status (closed now)
+      → IsLived (settings o) from to shelf shelved written_old written_new (count_taken new) status h
   over_much e status is =
       let h = e.over in
       let taken = taken_then (settings o) from mid to shelf mid_shelf shelved session behind old new was now refused told text TooMuch d e in
@@ -238,7 +238,7 @@ module _ (o : OptionsOf) (from mid to : Sources) (shelf mid_shelf shelved : Shel
         bytes,
         has_ended new,
         taken,
-        lived_all (settings o) from to shelf shelved written_old written_new bytes (has_ended new) refused told rest e.lost status text (closed now)
+        lived_all (settings o) from to shelf shelved written_old written_new bytes (has_ended new) refused told rest e.lost status text h
             (finished_then (settings o) from mid to shelf mid_shelf shelved session behind old new was now refused told text TooMuch d e [] cut) s (as_before status h.same)
             (inl (subst (RisesBy (count_broken told) shelf.faults) (sym h.unfailed) d.failed)) written
             (not_soon bytes status (λ z. omega (arith, z, is))),
@@ -246,8 +246,8 @@ module _ (o : OptionsOf) (from mid to : Sources) (shelf mid_shelf shelved : Shel
 
   -- memory ran out, with these bytes behind those that are kept, and this history
   over_want : (e : Ends mid to mid_shelf shelved old new session behind was now NoMemory) (status : ℕ) → status ≡ 5 → is_too_much (stopped new) ≡ false → (lost : List ℕ)
-      → e.reads.came ≡ e.reads.kept ++ lost → IsHistory (settings o) told status text (closed now)
-      → IsLived (settings o) from to shelf shelved written_old written_new (count_taken new) status (closed now)
+      → e.reads.came ≡ e.reads.kept ++ lost → IsHistory (settings o) told status text h
+      → IsLived (settings o) from to shelf shelved written_old written_new (count_taken new) status h
   over_want e status is going lost came h =
       let taken = taken_then (settings o) from mid to shelf mid_shelf shelved session behind old new was now refused told text NoMemory d e in
       let bytes = d.bytes ++ e.reads.came in
@@ -269,7 +269,7 @@ module _ (o : OptionsOf) (from mid to : Sources) (shelf mid_shelf shelved : Shel
         bytes,
         has_ended new,
         taken,
-        lived_all (settings o) from to shelf shelved written_old written_new bytes (has_ended new) refused told rest e.lost status text (closed now)
+        lived_all (settings o) from to shelf shelved written_old written_new bytes (has_ended new) refused told rest e.lost status text h
             (finished_then (settings o) from mid to shelf mid_shelf shelved session behind old new was now refused told text NoMemory d e lost cut) s h
             (rises_perhaps (count_broken told) shelf.faults mid_shelf.faults shelved.faults status is d.failed e.cause) written
             (not_soon bytes status (λ z. omega (arith, z, is))),
@@ -277,7 +277,7 @@ module _ (o : OptionsOf) (from mid to : Sources) (shelf mid_shelf shelved : Shel
 
   -- however the reading ended
   pub over_lived : (ending : Ending) (e : Ends mid to mid_shelf shelved old new session behind was now ending) (status : ℕ) → status ≡ status_of ending refused
-      → IsLived (settings o) from to shelf shelved written_old written_new (count_taken new) status (closed now)
+      → IsLived (settings o) from to shelf shelved written_old written_new (count_taken new) status h
   over_lived Whole e status is = over_whole e status is
   over_lived Failed e status is = over_failed e status is
   over_lived TooMuch e status is = over_much e status is
@@ -287,38 +287,38 @@ module _ (o : OptionsOf) (from mid to : Sources) (shelf mid_shelf shelved : Shel
       holds_by s at = subst (λ s. AreKept s e.reads.came e.reads.kept) at e.reads.takes.holds
 
       -- in a command: nothing is new, a settle was cut short, or it was done with its lines lost
-      in_a_command : (asked : Result Asked TextFault) → e.told ≡ asked ∷ [] → stopped new ≡ None → (read_in : Session)
+      in_a_command : (alone : Bool) (asked : Result Asked TextFault) → e.told ≡ asked ∷ [] → stopped new ≡ None → (read_in : Session)
           → ((grid : List ℕ) → world read_in grid ≡ world session grid) → limits_of read_in ≡ limits_of session
-          → Stops asked mid_shelf.answers shelved.answers mid_shelf.faults shelved.faults read_in behind was now
-          → IsLived (settings o) from to shelf shelved written_old written_new (count_taken new) status (closed now)
-      in_a_command asked at going read_in same limited (undone kept events world_is) =
+          → Stops alone asked mid_shelf.answers shelved.answers mid_shelf.faults shelved.faults read_in behind was now
+          → IsLived (settings o) from to shelf shelved written_old written_new (count_taken new) status h
+      in_a_command alone asked at going read_in same limited (undone stayed world_is) =
           over_want e status is (ap is_too_much going) [] (holds_by None going ∙ sym (append-nil e.reads.kept))
-          (unfinished_history (settings o) was now told text status [] is d.recorded kept (events ∙ sym (append-nil was.events))
-          (record { passes = []; count = 0; last = []; split = refl; are = no_pass; gave_up = no_ticket }) legal)
-      in_a_command asked at going read_in same limited (cut_short command is_command short) =
+          (unfinished_history (settings o) was now h ends told text status stayed.added is d.recorded stayed.settings stayed.events
+          (subst IsUnfinished (sym stayed.none_own) (record { passes = []; count = 0; last = []; split = refl; are = no_pass; gave_up = no_ticket })) legal)
+      in_a_command alone asked at going read_in same limited (cut_short command is_command short) =
           over_want e status is (ap is_too_much going) [] (holds_by None going ∙ sym (append-nil e.reads.kept))
-          (unfinished_history (settings o) was now told text status short.own is d.recorded short.settings short.events short.unfinished legal)
-      in_a_command asked at going read_in same limited (lost_lines more also steps) =
+          (unfinished_history (settings o) was now h ends told text status short.added is d.recorded short.settings short.events short.unfinished legal)
+      in_a_command alone asked at going read_in same limited (lost_lines more also steps) =
           let reads : Reads mid to old new (asked ∷ []) = subst (λ (ts : List (Result Asked TextFault)). Reads mid to old new ts) at e.reads in
           let a : Carries mid to mid_shelf shelved old new session behind was now more also
-          = record { asked = asked; reads = reads; going = going; read_in = read_in; same = same; limits = limited; steps = steps } in
-          front_lived o from mid to shelf mid_shelf shelved session behind old new was now refused told text more also limits d a written_old written_new written_new written
+          = record { alone = alone; asked = asked; reads = reads; going = going; read_in = read_in; same = same; limits = limited; steps = steps } in
+          front_lived o from mid to shelf mid_shelf shelved session behind old new was now h ends refused told text more also limits d a written_old written_new written_new written
           (record { front = []; rest = more; split = refl; appended = Appends-nil written_new }) legal status (inr is)
 
-      by : RunsOut mid_shelf shelved new session behind was now e.told → IsLived (settings o) from to shelf shelved written_old written_new (count_taken new) status (closed now)
+      by : RunsOut mid_shelf shelved new session behind was now e.told → IsLived (settings o) from to shelf shelved written_old written_new (count_taken new) status h
       by (in_nothing (inl going) same) =
           over_want e status is (ap is_too_much going) [] (holds_by None going ∙ sym (append-nil e.reads.kept)) (as_before status same)
       by (in_nothing (inr stops) same) =
           let kept = holds_by (Some stop.NoMemory) stops in
           over_want e status is (ap is_too_much stops) kept.0 kept.1 (as_before status same)
-      by (in_command asked at going read_in same limited stops) = in_a_command asked at going read_in same limited stops
+      by (in_command alone asked at going read_in same limited stops) = in_a_command alone asked at going read_in same limited stops
 
 -- the script quit
 pub quit_lived : (st : Settings) (from to : Sources) (shelf shelved : Shelves) (old new : Option (List ℕ)) (session : Session) (r : Reader) (j : Log) (refused quit : Bool)
     (told : List Told) (text : List ℕ) → Appends old new text → Done st from to shelf shelved session r j refused quit told text → quit ≡ true → stopped r ≡ None
-    → IsLegal (closed j) → (status : ℕ) → status ≡ status_of Whole refused → IsLived st from to shelf shelved old new (count_taken r) status (closed j)
-quit_lived st from to shelf shelved old new session r j refused false told text written d quits going legal status is = absurd (true≢false (sym quits))
-quit_lived st from to shelf shelved old new session r j refused true told text written d quits going legal status is =
+    → (h : Log) → EndsFrom j h → IsLegal h → (status : ℕ) → status ≡ status_of Whole refused → IsLived st from to shelf shelved old new (count_taken r) status h
+quit_lived st from to shelf shelved old new session r j refused false told text written d quits going h ends legal status is = absurd (true≢false (sym quits))
+quit_lived st from to shelf shelved old new session r j refused true told text written d quits going h ends legal status is =
     let below = small refused status is in
     let few = few_taken r (ap is_too_much going) in
     let f = finished_now st from to shelf shelved session r j refused true told text d few in
@@ -334,8 +334,8 @@ quit_lived st from to shelf shelved old new session r j refused true told text w
       d.bytes,
       has_ended r,
       sym d.count,
-      lived_all st from to shelf shelved old new d.bytes (has_ended r) refused told [] [] status text (closed j) f s
-          (closed_history st j told text status d.recorded legal) (inl d.failed) written
+      lived_all st from to shelf shelved old new d.bytes (has_ended r) refused told [] [] status text h f s
+          (ended_history st j h ends told text status d.recorded legal) (inl d.failed) written
           (λ which. soon_of told d.bytes d.soon (omega (arith, sym (length-map told (λ (t : Told). t.asked)), ap length d.ends.2, length-append d.ends.0 (d.ends.1 ∷ [])))),
     )
 
@@ -375,19 +375,6 @@ pub stopped_lived : (st : Settings) (from : Sources) (shelf : Shelves) (old : Op
 stopped_lived st from shelf old taken status h none five blank =
     subst (λ (n : ℕ). IsLived st from from shelf shelf old old n status h) (sym none)
     (subst (λ (n : ℕ). IsLived st from from shelf shelf old old 0 n h) (sym five) (nothing_lived st from shelf old h blank))
-
--- the history of a book behind its close
-same_log : (h k : Log) → h.settings ≡ k.settings → h.events ≡ k.events → h ≡ k
-same_log h k same events =
-    ap (λ (s : BookSettings). record { settings = s; events = h.events }) same ∙ ap (λ (es : List LogEvent). record { settings = k.settings; events = es }) events
-
-pub handed_lived : (st : Settings) (from to : Sources) (shelf shelved : Shelves) (old new : Option (List ℕ)) (taken count status : ℕ) (j h : Log) → h.settings ≡ j.settings
-    → h.events ≡ j.events ++ Closes ∷ [] → IsLegal h → taken ≡ count → (IsLegal (closed j) → IsLived st from to shelf shelved old new count status (closed j))
-    → IsLived st from to shelf shelved old new taken status h
-handed_lived st from to shelf shelved old new taken count status j h same events legal counted lives =
-    let one : h ≡ closed j = same_log h (closed j) same events in
-    subst (λ (k : Log). IsLived st from to shelf shelved old new taken status k) (sym one)
-    (subst (λ (n : ℕ). IsLived st from to shelf shelved old new n status (closed j)) (sym counted) (lives (subst IsLegal one legal)))
 
 -- a book with the interval and lookback of the options and the program's rooms
 pub made_with : (o : OptionsOf) (j : Log) → j.settings ≡ record { interval = o.interval; lookback = o.lookback; rooms = record { session = 1048576; workers = 3145728 } }

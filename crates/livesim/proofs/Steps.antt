@@ -85,18 +85,18 @@ script-append st (x ∷ xs) es own ms more t w (mine, rest, here, there, split, 
 -- ---- a step
 
 -- what a command does in a world, with what was told of it
-pub record IsStep (st : Settings) (w : World) (t : Told) (behind : Session) (was is : Log) (text : List ℕ) (refused : Bool) : Type 0 where
+pub record IsStep (alone : Bool) (st : Settings) (w : World) (t : Told) (behind : Session) (was is : Log) (text : List ℕ) (refused : Bool) : Type 0 where
   pub right : IsRight st w t
-  pub done : IsDone st t.asked w (world_in behind is) (verdict_on st t w) was is text refused
+  pub done : IsDone alone st t.asked w (world_in behind is) (verdict_on st t w) was is text refused
 
 -- a step of a session that has that world, under the settings of its limits and its book
-module _ (asked : Result Asked TextFault) (before behind : Option (List ShelfAnswer)) (faults count : ℕ) (old new : Session) (was is : Log) (text : List ℕ) (refused : Bool)
-    (steps : StepsTo asked before behind faults count old new was is text refused) where
+module _ (alone : Bool) (asked : Result Asked TextFault) (before behind : Option (List ShelfAnswer)) (faults count : ℕ) (old new : Session) (was is : Log) (text : List ℕ) (refused : Bool)
+    (steps : StepsTo alone asked before behind faults count old new was is text refused) where
   -- what is told of it
   abbrev pub step_told : Told
   step_told = told asked steps.loads steps.answer
 
-  pub step_in : (st : Settings) (w : World) → settings_in old was ≡ st → world_in old was ≡ w → IsStep st w step_told new was is text refused
+  pub step_in : (st : Settings) (w : World) → settings_in old was ≡ st → world_in old was ≡ w → IsStep alone st w step_told new was is text refused
   step_in st w so here =
-      subst (λ (x : Settings). IsStep x w step_told new was is text refused) so
-      (subst (λ (x : World). IsStep (settings_in old was) x step_told new was is text refused) here (record { right = steps.right; done = steps.done }))
+      subst (λ (x : Settings). IsStep alone x w step_told new was is text refused) so
+      (subst (λ (x : World). IsStep alone (settings_in old was) x step_told new was is text refused) here (record { right = steps.right; done = steps.done }))

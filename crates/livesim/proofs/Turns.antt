@@ -90,14 +90,14 @@ module _ (o : OptionsOf) (from mid to : Sources) (shelf mid_shelf shelved : Shel
     (a : Carries mid to mid_shelf shelved old new session behind was is more also) where
   -- what is told of it
   abbrev pub turn_told : Told
-  turn_told = step_told a.asked _ _ _ _ _ _ _ _ _ _ a.steps
+  turn_told = step_told a.alone a.asked _ _ _ _ _ _ _ _ _ _ a.steps
 
   abbrev here : World
   here = world_after (settings o) told fresh
 
-  pub step : IsStep (settings o) here turn_told behind was is more also
+  pub step : IsStep a.alone (settings o) here turn_told behind was is more also
   step =
-      step_in a.asked _ _ _ _ _ _ _ _ _ _ a.steps (settings o) here (run_with o session a.read_in was limits a.limits d.recorded.has)
+      step_in a.alone a.asked _ _ _ _ _ _ _ _ _ _ a.steps (settings o) here (run_with o session a.read_in was limits a.limits d.recorded.has)
       (a.same (marks_of was) ∙ d.goes)
 
   same_kept : a.reads.came ≡ a.reads.kept
@@ -116,7 +116,7 @@ module _ (o : OptionsOf) (from mid to : Sources) (shelf mid_shelf shelved : Shel
     bytes = d.bytes ++ a.reads.came;
     right = right-append (settings o) told (turn_told ∷ []) fresh d.right (step.right, tt);
     goes = step.done.goes ∙ sym (after-append (settings o) told (turn_told ∷ []) fresh);
-    recorded = more_recorded (settings o) was is told turn_told text more (world_in behind is) also d.recorded step.done;
+    recorded = more_recorded a.alone (settings o) was is told turn_told text more (world_in behind is) also d.recorded step.done;
     has = subst (λ k. HasTold new (d.bytes ++ k) (asked_of (told ++ turn_told ∷ []))) (sym same_kept)
         (subst (HasTold new (d.bytes ++ a.reads.kept)) (sym (asked-more told turn_told))
         (told_on old new d.bytes a.reads.kept (asked_of told) (a.asked ∷ []) d.has (λ ended. let still = a.reads.takes.quiet ended in (still.1, still.2)) a.reads.hands));

@@ -1,11 +1,16 @@
--- The history of a run behind its close.
-use Rattle.std.specs.Prelude.{[], ◌∷◌, ◌++◌}
+-- The history of a run.
+use Rattle.std.specs.Prelude.{◌≡◌, List, [], ◌∷◌, ◌++◌}
 use Rattle.book_history.specs.Book.{Closes}
 use Rattle.book_history.specs.Legal.{Legal}
-use Rattle.live_session.specs.Logs.{Log, kit, valid}
+use Rattle.book_history.specs.Owned.{owned}
+use Rattle.live_session.specs.Logs.{Log, LogEvent, kit, valid}
 
-abbrev pub closed : Log → Log
-closed j = record j { events = j.events ++ Closes ∷ [] }
+-- The session has closed its book, whose history was `now` when it last had it; others may have added entries before the close and behind it.
+pub record EndsFrom (now h : Log) : Type 0 where
+  pub rest : List LogEvent
+  pub settings : h.settings ≡ now.settings
+  pub events : h.events ≡ now.events ++ rest
+  pub closes : owned rest ≡ Closes ∷ []
 
 abbrev pub IsLegal : Log → Type 0
 IsLegal j = Legal kit valid j.settings j.events

@@ -5,3 +5,4 @@ pub mod Writing
 pub mod Endings
 pub mod Turns
 pub mod Outputs
+pub mod Working

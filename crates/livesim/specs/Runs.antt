@@ -14,7 +14,7 @@ use Rattle.live_session.specs.Judging.{after, world_after, any_refused}
 use Rattle.live_session.specs.Loads.{AddsAnswers, AreToFirst, is_broken, loads_of}
 use Rattle.live_session.specs.Readings.{AreRight}
 use Rattle.book_history.specs.Book.{Closes}
-use Rattle.book_history.specs.Owned.{AllOwned, owned}
+use Rattle.book_history.specs.Owned.{owned}
 use Rattle.book_settle.specs.Passes.{IsUnfinished}
 use Rattle.live_session.specs.Logs.{Log, LogEvent, LogMoment, moments_of}
 use Rattle.live_session.specs.Replies.{lines, reply, asked_of, answers_of}
@@ -128,8 +128,6 @@ pub record Lived (st : Settings) (left_old left_new written_old written_new : Op
   pub legal : IsLegal history
   -- at the place of each command's own entry the book has the version, the design, the record and the marks of the world
   pub entries : HasEntries st told status (owned history.events) (moments_of history)
-  -- no worker has an entry
-  pub alone : AllOwned true history.events
   -- a display whose entry says that all is settled tells the truth of the world's design on its record
   pub settled : (before rest : List Told) (line : ℕ) (prefix : List ℕ) (t : Told) (design : Spelled) (m : LogMoment) (ms : List LogMoment)
       → before ++ t ∷ rest ≡ told → t.asked ≡ Ok (Shows line prefix) → (world_after st before fresh).design ≡ Some design

@@ -56,13 +56,14 @@ pub record Reads (before behind : Sources) (old new : Reader) (told : List (Resu
 -- A command was read and carried out in a session that reading it left as it was, beside its book; these are its lines, and the reader goes on.
 pub record Carries (from to : Sources) (shelf shelved : Shelves) (old new : Reader) (session behind : Session) (was is : Log) (text : List ℕ)
     (refused : Bool) : Type 0 where
+  pub alone : Bool
   pub asked : Result Asked TextFault
   pub reads : Reads from to old new (asked ∷ [])
   pub going : stopped new ≡ None
   pub read_in : Session
   pub same : (grid : List ℕ) → world read_in grid ≡ world session grid
   pub limits : limits_of read_in ≡ limits_of session
-  pub steps : StepsTo asked shelf.answers shelved.answers shelf.faults shelved.faults read_in behind was is text refused
+  pub steps : StepsTo alone asked shelf.answers shelved.answers shelf.faults shelved.faults read_in behind was is text refused
 
 -- the same with a reply, and fewer bytes are left to hand out
 pub record Answers (from to : Sources) (shelf shelved : Shelves) (old new : Reader) (session behind : Session) (was is : Log) (r : Reply) : Type 0 where
@@ -85,9 +86,9 @@ pub record HasStopped (reason : Stop) (new : Reader) (told : List (Result Asked 
 pub data RunsOut (shelf shelved : Shelves) (new : Reader) (session behind : Session) (was is : Log) (told : List (Result Asked TextFault)) : Type 0
   where
     in_nothing : (stopped new ≡ None) ⊎ (stopped new ≡ Some stop.NoMemory) → is ≡ was → RunsOut shelf shelved new session behind was is told
-    in_command : (asked : Result Asked TextFault) → told ≡ asked ∷ [] → stopped new ≡ None → (read_in : Session)
+    in_command : (alone : Bool) (asked : Result Asked TextFault) → told ≡ asked ∷ [] → stopped new ≡ None → (read_in : Session)
         → ((grid : List ℕ) → world read_in grid ≡ world session grid) → limits_of read_in ≡ limits_of session
-        → Stops asked shelf.answers shelved.answers shelf.faults shelved.faults read_in behind was is
+        → Stops alone asked shelf.answers shelved.answers shelf.faults shelved.faults read_in behind was is
         → RunsOut shelf shelved new session behind was is told
 
 abbrev pub IsOver : Ending → (shelf shelved : Shelves) → (session behind : Session) → (was is : Log) → Reader → List (Result Asked TextFault) → List ShelfAnswer

@@ -11,6 +11,7 @@ mod laws;
 mod limit_tests;
 mod live;
 mod outcome;
+mod script;
 mod turn;
 mod turning;
 mod writing;

@@ -1,19 +1,22 @@
 // Limits that no script reaches in a test's time: sessions with small ones, turn by turn; and files that a shelf holds.
-ghost use Rattle.std.specs.Prelude.{◌≡◌, ◌≤◌, ◌^◌, None, []};
+ghost use Rattle.std.specs.Prelude.{◌≡◌, ◌≤◌, ◌^◌, true, None, []};
 ghost use Rattle.command_read.specs.Readers.{stopped};
-ghost use Rattle.live_session.specs.Beside.{StandsBeside};
+ghost use Rattle.book_turn.specs.Passes.{IsOf, known};
+ghost use Rattle.live_session.specs.AtTurn.{StandsAt};
 
 use crate::turn::Turn;
 use crate::turning::turn;
 use book_history::rooms::Rooms;
+use book_turn::{SessionPass, Turn as BookTurn};
 use checkpoint_book::book::Book;
 use command_read::Reader;
 use cycle_eval::Design;
 use live_session::{Limits, Session};
-use ls_port::{MemShelf, NamedText, SolidSource};
+use ls_port::{MemShelf, NamedText, OpenGate, SolidSource};
 use ls_text::{NoMemory, TextBytes};
 use std::alloc::Global;
 use std::test::Fail;
+use std::sync::Wait;
 use std::thread::Threads;
 
 // A block with an accumulator of an input, eleven lines long.
@@ -43,24 +46,28 @@ fn limits(cycles: u64, stimulus: u64, session: u32) -> Limits
 }
 
 // Takes so many turns at most, and adds the lines of each.
-fn play_on<R: Threads + Sync>(
+fn play_on<R: Threads + Wait + Sync>(
     rt: &R,
     alloc: Global,
     session: &mut Session,
     reader: &mut Reader,
-    book: &mut Book<Design>,
+    book_turn: &BookTurn<Book<Design>>,
+    pass: &mut SessionPass<Book<Design>>,
     source: &mut SolidSource,
     shelf: &mut MemShelf,
     lines: &mut Vec<u8>,
     turns: u32,
 ) -> Result<(), NoMemory>
     requires going { stopped reader.old ≡ None }
-    requires beside { StandsBeside session.old book.old }
+    requires turn { IsOf book_turn.now pass.old true }
+    requires at { StandsAt session.old (known pass.old) }
 {
     if turns == 0 {
         return Ok(());
     }
-    match turn(rt, alloc, session, reader, book, source, shelf) {
+    match turn(
+        rt, alloc, session, reader, book_turn, pass, source, shelf, &OpenGate,
+    ) {
         Turn::Answered(reply) => {
             lines.extend_from_slice(reply.lines.bytes())?;
             play_on(
@@ -68,7 +75,8 @@ fn play_on<R: Threads + Sync>(
                 alloc,
                 session,
                 reader,
-                book,
+                book_turn,
+                pass,
                 source,
                 shelf,
                 lines,
@@ -81,7 +89,7 @@ fn play_on<R: Threads + Sync>(
 
 // The lines that answer a script of at most 64 commands in a session with these limits, over this shelf. Its book has a mark at each fourth cycle,
 // and an edit is simulated from the last one that is a cycle back.
-fn played<R: Threads + Sync>(
+fn played<R: Threads + Wait + Sync>(
     rt: &R,
     alloc: Global,
     limits: Limits,
@@ -92,7 +100,8 @@ fn played<R: Threads + Sync>(
 {
     let mut session = Session::new(alloc, limits)?;
     let mut reader = Reader::new(alloc)?;
-    let mut book = Book::new(alloc, 4, 1, limits.rooms)?;
+    let book = Book::new(alloc, 4, 1, limits.rooms)?;
+    let (book_turn, mut pass) = BookTurn::make(rt, alloc, book)?;
     let mut source = SolidSource::new(Vec::from_slice(alloc, script)?);
     let mut lines = Vec::new(alloc);
     play_on(
@@ -100,7 +109,8 @@ fn played<R: Threads + Sync>(
         alloc,
         &mut session,
         &mut reader,
-        &mut book,
+        &book_turn,
+        &mut pass,
         &mut source,
         shelf,
         &mut lines,

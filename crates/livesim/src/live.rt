@@ -1,36 +1,32 @@
 // The top call.
 ghost use Rattle.std.specs.Prelude.{◌≡◌, ◌≢◌, ◌⊎◌, ◌<◌, ◌≤◌, ℕ, List, [], ◌∷◌, ◌++◌, length, map, string_bytes, Bool, false, Some, None, if◌then◌else◌};
 ghost use Rattle.ls_port.specs.Causes.{Rose};
-ghost use Rattle.command_read.specs.Readers.{left, next_number, has_ended, count_taken, stopped};
 ghost use Rattle.live_options.specs.Words.{OptionsOf, options, options_of};
-ghost use Rattle.book_history.specs.Book.{Closes};
-ghost use Rattle.checkpoint_book.specs.Views.{counts_of};
-ghost use Rattle.live_session.specs.Beside.{StandsBeside};
-ghost use Rattle.live_session.specs.Sessions.{world};
-ghost use Rattle.live_session.specs.Worlds.{fresh};
-ghost use Rattle.livesim.specs.Endings.{status_of};
-ghost use Rattle.livesim.specs.Histories.{IsLegal, closed};
-ghost use Rattle.livesim.specs.Runs.{HasSettings, IsComplete, Lived};
+ghost use Rattle.book_history.specs.Owned.{AllOwned};
+ghost use Rattle.book_turn.specs.Passes.{IsOf, known};
+ghost use Rattle.book_turn.specs.Rule.{Learned};
+ghost use Rattle.segment_verify.specs.Workers.{IsFree};
+ghost use Rattle.livesim.specs.Histories.{IsLegal};
+ghost use Rattle.livesim.specs.Runs.{IsComplete, Lived};
 ghost use Rattle.livesim.specs.Settings.{settings};
-ghost use Rattle.livesim.specs.Turns.{HasLimits};
 
-use crate::ending::Ending;
 use crate::outcome::Outcome;
-use crate::turn::Turn;
-use crate::turning::turn;
-use crate::writing::write_all;
+use crate::script::Script;
 use book_history::history::History;
 use book_history::rooms::Rooms;
+use book_turn::{SessionPass, Turn as BookTurn};
 use checkpoint_book::book::Book;
 use command_read::Reader;
 use cycle_eval::Design;
 use live_options::laws::options_are_within;
 use live_options::{Options, read_options};
 use live_session::{Limits, Session};
-use ls_port::{Shelf, Sink, SinkRefusal, Source};
+use ls_port::{Gate, Shelf, Sink, Source};
 use ls_text::NoMemory;
 use std::alloc::Global;
+use std::sync::Wait;
 use std::thread::Threads;
+use worker_scope::with_workers;
 
 /// What the program's sessions may use: 2^40 cycles, 16,777,216 names set in the record, and the rooms of the history.
 const LIMITS: Limits = Limits {
@@ -63,100 +59,38 @@ fn stopped(alloc: Global, status: u8, interval: u64, lookback: u64) -> Outcome
     }
 }
 
-// The status of a run whose lines were all written, by whether a command was refused.
-fn status_of(ending: Ending, refused: bool) -> u8
-    ensures { result ≡ status_of ending refused }
-{
-    match ending {
-        Ending::Whole => u8::from(refused),
-        Ending::Failed => 3,
-        Ending::NoMemory => 5,
-        Ending::TooMuch => 6,
-    }
-}
-
-// Command after command, each with its lines written before more is read: the status. The book is to be closed then, and its history is known to be
-// legal where it is handed out, so that is a premise here.
-fn carry_out<R: Threads + Sync, S: Source, K: Sink, F: Shelf>(
+// The history of the book of a turn, which is closed, and which nobody else has.
+fn history_of<R: Wait>(
     rt: &R,
-    alloc: Global,
-    session: &mut Session,
-    reader: &mut Reader,
-    book: &mut Book<Design>,
-    source: &mut S,
-    sink: &mut K,
-    shelf: &mut F,
-) -> u8
-    requires begins { (grid : List ℕ) → world session.old grid ≡ fresh }
-    requires beside { StandsBeside session.old book.old }
-    requires blank { book.old.events ≡ [] }
-    requires limits { HasLimits session.old }
-    requires left { left reader.old ≡ [] }
-    requires number { next_number reader.old ≡ 1 }
-    requires taken { count_taken reader.old ≡ 0 }
-    requires ended { has_ended reader.old ≡ false }
-    requires going { stopped reader.old ≡ None }
-    ensures lived { (o : OptionsOf) → HasSettings (settings o) book.old → IsLegal (closed book.new)
-        → (bytes : List ℕ) × (ended : Bool) × (length bytes ≡ count_taken reader.new)
-        × Lived (settings o) (S.left source.old) (S.left source.new) (K.written sink.old) (K.written sink.new)
-        (F.answers shelf.old) (F.answers shelf.new) (F.faults shelf.old) (F.faults shelf.new) bytes ended result (closed book.new) }
-    ensures settings { book.new.settings ≡ book.old.settings }
-    ensures still_open { (counts_of book.new).closed ≡ false }
-    ensures read_fault { result ≡ 3 → Rose (S.faults source.old) (S.faults source.new) }
-    ensures write_fault { result ≡ 4 → Rose (K.faults sink.old) (K.faults sink.new) }
-    ensures known { result ≤ 6 }
-    ensures words { result ≢ 2 }
-    ensures source_once { (S.faults source.new ≡ S.faults source.old) ⊎ Rose (S.faults source.old) (S.faults source.new) }
-    ensures sink_once { (K.faults sink.new ≡ K.faults sink.old) ⊎ Rose (K.faults sink.old) (K.faults sink.new) }
-    ensures source_kept { result ≢ 3 → S.faults source.new ≡ S.faults source.old }
-    ensures sink_kept { result ≢ 4 → K.faults sink.new ≡ K.faults sink.old }
-    ensures few { count_taken reader.new ≤ 67108865 }
-    ensures much { result ≡ 6 → 67108864 < count_taken reader.new }
-{
-    let mut refused = false;
-    'commands: loop {
-        let reply = match turn(rt, alloc, session, reader, book, source, shelf) {
-            Turn::Answered(reply) => reply,
-            Turn::Over(ending) => return status_of(ending, refused),
-        };
-        match write_all(sink, reply.lines.bytes()) {
-            Ok(()) => {}
-            Err(SinkRefusal::Failed) => return 4,
-            Err(SinkRefusal::NoMemory) => return 5,
-        }
-        refused = refused || reply.refused;
-        if reply.quit {
-            return status_of(Ending::Whole, refused);
-        }
-    }
-}
-
-// The history of a book, which is closed.
-fn history_of(mut book: Box<Book<Design>>) -> History<Design>
-    requires { (counts_of book.value).closed ≡ false }
-    ensures settings { result.settings ≡ book.value.settings }
-    ensures events { result.events ≡ book.value.events ++ Closes ∷ [] }
+    turn: BookTurn<Book<Design>>,
+    pass: SessionPass<Book<Design>>,
+) -> History<Design>
+    requires turn { IsOf turn pass true }
+    requires free { IsFree (known pass) }
+    ensures learned { Learned (known pass) result }
+    ensures alone { (known pass).alone ≡ true → result.events ≡ (known pass).seen }
     ensures legal { IsLegal result }
 {
-    book.close();
-    let history = Book::into_history(book);
+    let history = Book::into_history(turn.finish(rt, pass));
     history.legal();
     history
 }
 
 // What words that are taken ask for, beside a book of its own.
-fn run<R: Threads + Sync, S: Source, K: Sink, F: Shelf>(
+fn run<R: Threads + Wait + Sync, S: Source, K: Sink, F: Shelf, G: Gate>(
     rt: &R,
     alloc: Global,
     options: Options,
     source: &mut S,
     sink: &mut K,
     shelf: &mut F,
+    gate: &G,
 ) -> Outcome
     requires interval { 1 ≤ options.interval }
     ensures lived { (bytes : List ℕ) × (ended : Bool) × (length bytes ≡ result.taken)
         × Lived (settings (options_of options)) (S.left source.old) (S.left source.new) (K.written sink.old) (K.written sink.new)
         (F.answers shelf.old) (F.answers shelf.new) (F.faults shelf.old) (F.faults shelf.new) bytes ended result.status result.history }
+    ensures alone { options.workers ≡ 0 → AllOwned true result.history.events }
     ensures read_fault { result.status ≡ 3 → Rose (S.faults source.old) (S.faults source.new) }
     ensures write_fault { result.status ≡ 4 → Rose (K.faults sink.old) (K.faults sink.new) }
     ensures known { result.status ≤ 6 }
@@ -168,28 +102,38 @@ fn run<R: Threads + Sync, S: Source, K: Sink, F: Shelf>(
     ensures few { result.taken ≤ 67108865 }
     ensures much { result.status ≡ 6 → 67108864 < result.taken }
 {
-    let (Ok(mut reader), Ok(mut session), Ok(mut book)) = (
+    let (Ok(reader), Ok(session), Ok(book)) = (
         Reader::new(alloc),
         Session::new(alloc, LIMITS),
         Book::new(alloc, options.interval, options.lookback, LIMITS.rooms),
     ) else {
         return stopped(alloc, 5, options.interval, options.lookback);
     };
-    let status = carry_out(
-        rt,
+    let Ok((turn, pass)) = BookTurn::make(rt, alloc, book) else {
+        return stopped(alloc, 5, options.interval, options.lookback);
+    };
+    let script = Script {
         alloc,
-        &mut session,
-        &mut reader,
-        &mut book,
+        session,
+        reader,
         source,
         sink,
         shelf,
+        gate,
+    };
+    let worked = with_workers(
+        rt,
+        alloc,
+        &turn,
+        pass,
+        u16::from(options.workers),
+        gate,
+        script,
     );
-    let history = history_of(book);
     Outcome {
-        status,
-        history,
-        taken: reader.taken(),
+        status: worked.answer.status,
+        taken: worked.answer.script.reader.taken(),
+        history: history_of(rt, turn, worked.pass),
     }
 }
 
@@ -198,13 +142,14 @@ fn run<R: Threads + Sync, S: Source, K: Sink, F: Shelf>(
 /// The words are those of the command line, the program's name first. A command is carried out and its lines are written as soon as its last line is
 /// read, before more is read. It ends at the end of the input, at `quit`, at a fault of the source or the sink, for want of memory, or one byte
 /// above 67,108,864.
-pub fn live_run<R: Threads + Sync, S: Source, K: Sink, F: Shelf>(
+pub fn live_run<R: Threads + Wait + Sync, S: Source, K: Sink, F: Shelf, G: Gate>(
     rt: &R,
     alloc: Global,
     words: &[String],
     source: &mut S,
     sink: &mut K,
     shelf: &mut F,
+    gate: &G,
 ) -> Outcome
     // Status 2 comes only where the words ask for no options, and then no other status does, but 5 where memory runs out as they are read; and
     // nothing is touched.
@@ -219,6 +164,9 @@ pub fn live_run<R: Threads + Sync, S: Source, K: Sink, F: Shelf>(
         → (bytes : List ℕ) × (ended : Bool) × (length bytes ≡ result.taken)
         × Lived (settings o) (S.left source.old) (S.left source.new) (K.written sink.old) (K.written sink.new)
         (F.answers shelf.old) (F.answers shelf.new) (F.faults shelf.old) (F.faults shelf.new) bytes ended result.status result.history }
+
+    // Without workers no entry is a worker's.
+    ensures alone { (o : OptionsOf) → options (map string_bytes words.now) ≡ Some o → o.workers ≡ 0 → AllOwned true result.history.events }
 
     // The causes of 3 and 4: the count rose, and by one.
     ensures read_fault { result.status ≡ 3 → Rose (S.faults source.old) (S.faults source.new) }
@@ -242,6 +190,6 @@ pub fn live_run<R: Threads + Sync, S: Source, K: Sink, F: Shelf>(
     match read_options(alloc, words) {
         Err(NoMemory) => stopped(alloc, 5, INTERVAL, LOOKBACK),
         Ok(None) => stopped(alloc, 2, INTERVAL, LOOKBACK),
-        Ok(Some(options)) => run(rt, alloc, options, source, sink, shelf),
+        Ok(Some(options)) => run(rt, alloc, options, source, sink, shelf, gate),
     }
 }

@@ -1,19 +1,23 @@
 // One turn: a command is read and carried out.
-ghost use Rattle.std.specs.Prelude.{◌≡◌, None};
+ghost use Rattle.std.specs.Prelude.{◌≡◌, true, None};
 ghost use Rattle.command_read.specs.Readers.{stopped};
-ghost use Rattle.live_session.specs.Beside.{StandsBeside};
+ghost use Rattle.book_turn.specs.Passes.{IsOf, known};
+ghost use Rattle.book_turn.specs.Turns.{GoesOn};
+ghost use Rattle.live_session.specs.AtTurn.{StandsAt, log_of};
 ghost use Rattle.live_session.specs.Sessions.{limits_of};
 ghost use Rattle.livesim.specs.Turns.{IsTurn, source_at, shelf_at, turn_of};
 
 use crate::ending::Ending;
 use crate::turn::Turn;
+use book_turn::{SessionPass, Turn as BookTurn};
 use checkpoint_book::book::Book;
 use command_read::{ReadEnd, Reader};
 use cycle_eval::Design;
 use live_session::{Reply, Session};
-use ls_port::{Shelf, Source};
+use ls_port::{Gate, Shelf, Source};
 use ls_text::NoMemory;
 use std::alloc::Global;
+use std::sync::Wait;
 use std::thread::Threads;
 
 // A reply, or the end for want of memory.
@@ -27,25 +31,32 @@ fn answered(reply: Result<Reply, NoMemory>) -> Turn
 }
 
 /// Reads a command and carries it out, before more is read.
-pub fn turn<R: Threads + Sync, S: Source, F: Shelf>(
+pub fn turn<R: Threads + Wait + Sync, S: Source, F: Shelf, G: Gate>(
     rt: &R,
     alloc: Global,
     session: &mut Session,
     reader: &mut Reader,
-    book: &mut Book<Design>,
+    book_turn: &BookTurn<Book<Design>>,
+    pass: &mut SessionPass<Book<Design>>,
     source: &mut S,
     shelf: &mut F,
+    gate: &G,
 ) -> Turn
     requires going { stopped reader.old ≡ None }
-    requires beside { StandsBeside session.old book.old }
+    requires turn { IsOf book_turn.now pass.old true }
+    requires at { StandsAt session.old (known pass.old) }
     ensures turned { IsTurn (source_at (S.left source.old) (S.faults source.old)) (source_at (S.left source.new) (S.faults source.new))
         (shelf_at (F.answers shelf.old) (F.faults shelf.old)) (shelf_at (F.answers shelf.new) (F.faults shelf.new))
-        reader.old reader.new session.old session.new book.old book.new result }
+        reader.old reader.new session.old session.new (log_of (known pass.old)) (log_of (known pass.new)) result }
     ensures limits { limits_of session.new ≡ limits_of session.old }
-    ensures beside { StandsBeside session.new book.new }
+    ensures turn { IsOf book_turn.now pass.new true }
+    ensures at { StandsAt session.new (known pass.new) }
+    ensures goes { GoesOn (known pass.old) (known pass.new) }
 {
     match session.read(reader, source) {
-        ReadEnd::Command(command) => answered(session.step(rt, alloc, book, shelf, command)),
+        ReadEnd::Command(command) => {
+            answered(session.step(rt, alloc, book_turn, pass, shelf, gate, command))
+        },
         ReadEnd::Refused(fault) => answered(session.refusal(alloc, &fault)),
         ReadEnd::End => Turn::Over(Ending::Whole),
         ReadEnd::Fault => Turn::Over(Ending::Failed),

@@ -5,7 +5,7 @@ ghost use Rattle.std.specs.Prelude.{◌≡◌, ◌↔◌, ◌⊎◌};
 ghost use Rattle.std.specs.declared.io.ErrorKind.TheVariants.{OutOfMemory};
 
 use livesim::live_run;
-use ls_port::{FileShelf, StdSink, StdSource};
+use ls_port::{FileShelf, OpenGate, StdSink, StdSource};
 use std::process::ExitCode;
 use std::{env, io};
 
@@ -32,6 +32,6 @@ fn main(rt: HostRuntime) -> ExitCode {
     let mut source = StdSource::new(rt.reader());
     let mut sink = StdSink::new(io::writer(&rt));
     let mut shelf = FileShelf::new(&rt);
-    let outcome = live_run(&rt, rt.alloc(), &words, &mut source, &mut sink, &mut shelf);
+    let outcome = live_run(&rt, rt.alloc(), &words, &mut source, &mut sink, &mut shelf, &OpenGate);
     ExitCode::from(outcome.status)
 }

@@ -15,8 +15,9 @@ mod tests;
 use crate::fresh::last_settled;
 use crate::page::{example_of, has, row_of};
 use livesim::live_run;
-use ls_port::{FileShelf, Shelf, SolidSink, SolidSource};
+use ls_port::{FileShelf, OpenGate, Shelf, SolidSink, SolidSource};
 use std::alloc::Global;
+use std::sync::Wait;
 use std::thread::Threads;
 use std::{fs, io};
 
@@ -38,7 +39,7 @@ fn name_and_words(row: &str) -> (&str, &str) {
 }
 
 // How a script ends and the first line of it that is another one, where it doesn't end with this status and write these lines.
-fn difference<R: Threads + Sync, F: Shelf>(
+fn difference<R: Threads + Wait + Sync, F: Shelf>(
     rt: &R,
     alloc: Global,
     shelf: &mut F,
@@ -50,7 +51,7 @@ fn difference<R: Threads + Sync, F: Shelf>(
     let words = words_of(alloc, given)?;
     let mut source = SolidSource::new(Vec::from_slice(alloc, script.as_bytes())?);
     let mut sink = SolidSink::new(alloc);
-    let outcome = live_run(rt, alloc, &words, &mut source, &mut sink, shelf);
+    let outcome = live_run(rt, alloc, &words, &mut source, &mut sink, shelf, &OpenGate);
     let ended = format!(in alloc; "{}", outcome.status)?;
     if ended.as_str() == status && sink.bytes() == lines.as_bytes() {
         return Ok(None);
@@ -127,7 +128,7 @@ fn end_alike(alloc: Global, lines: &str, written: &[u8]) -> io::Result<bool> {
 }
 
 // Whether the last display of these lines is settled, and the script, a run of the last design alone, ends with the same registers.
-fn is_of_a_fresh_run<R: Threads + Sync, F: Shelf>(
+fn is_of_a_fresh_run<R: Threads + Wait + Sync, F: Shelf>(
     rt: &R,
     alloc: Global,
     shelf: &mut F,
@@ -137,7 +138,7 @@ fn is_of_a_fresh_run<R: Threads + Sync, F: Shelf>(
     let words = words_of(alloc, "")?;
     let mut source = SolidSource::new(Vec::from_slice(alloc, script.as_bytes())?);
     let mut sink = SolidSink::new(alloc);
-    let outcome = live_run(rt, alloc, &words, &mut source, &mut sink, shelf);
+    let outcome = live_run(rt, alloc, &words, &mut source, &mut sink, shelf, &OpenGate);
     if outcome.status != 0 {
         return Ok(false);
     }
@@ -145,7 +146,7 @@ fn is_of_a_fresh_run<R: Threads + Sync, F: Shelf>(
 }
 
 // How many rows end with the registers of a run of their last design alone; the others are named.
-fn settled_agree<R: Threads + Sync>(host: &HostRuntime, rt: &R, alloc: Global) -> io::Result<u32> {
+fn settled_agree<R: Threads + Wait + Sync>(host: &HostRuntime, rt: &R, alloc: Global) -> io::Result<u32> {
     let pairs = fs::read_to_string(host, "fresh.txt")?;
     let mut count = 0u32;
     for pair in pairs.lines() {

@@ -1,11 +1,12 @@
 // What no script can reach: reads and writes that fail, scripts that are cut, and limits; and the reading of displays.
 use crate::fresh::last_settled;
 use livesim::{Outcome, live_run};
-use ls_port::{MemShelf, MemSink, MemSource, NamedText, Shelf, SolidShelf};
+use ls_port::{MemShelf, MemSink, MemSource, NamedText, OpenGate, Shelf, SolidShelf};
 use ls_text::TextBytes;
 use no_memory::NoMemory;
 use std::alloc::Global;
 use std::test::Fail;
+use std::sync::Wait;
 use std::thread::Threads;
 
 const HEAD: &[u8] = b"edit\ntop top\nclock clk\nfile a.v\nmodule top(input clk);\n";
@@ -24,7 +25,7 @@ fn words_of(alloc: Global, given: &[&str]) -> Result<Vec<String>, NoMemory> {
 }
 
 // A script over a shelf, with the calls that fail: how it ended, and what was written.
-fn shelved<R: Threads + Sync, F: Shelf>(
+fn shelved<R: Threads + Wait + Sync, F: Shelf>(
     rt: &R,
     alloc: Global,
     script: Vec<u8>,
@@ -35,12 +36,12 @@ fn shelved<R: Threads + Sync, F: Shelf>(
     let words = words_of(alloc, &[])?;
     let mut source = MemSource::new(script, reads);
     let mut sink = MemSink::new(alloc, writes);
-    let outcome = live_run(rt, alloc, &words, &mut source, &mut sink, shelf);
+    let outcome = live_run(rt, alloc, &words, &mut source, &mut sink, shelf, &OpenGate);
     Ok((outcome, Vec::from_slice(alloc, sink.bytes())?))
 }
 
 // The same over an empty shelf.
-fn lived<R: Threads + Sync>(
+fn lived<R: Threads + Wait + Sync>(
     rt: &R,
     alloc: Global,
     script: Vec<u8>,
@@ -158,7 +159,7 @@ fn scripts_are_cut(rt: HostRuntime) -> Result<(), Fail> {
 }
 
 // Whether a command behind an accepted block is answered by this line, and refused where it says so.
-fn is_answered<R: Threads + Sync>(
+fn is_answered<R: Threads + Wait + Sync>(
     rt: &R,
     alloc: Global,
     block: &[u8],
@@ -405,7 +406,7 @@ fn other_words_are_refused(rt: HostRuntime) -> Result<(), Fail> {
         let mut source = MemSource::new(Vec::from_slice(alloc, b"show\n")?, Vec::new(alloc));
         let mut sink = MemSink::new(alloc, Vec::new(alloc));
         let mut shelf = SolidShelf::new(alloc, Vec::new(alloc));
-        let outcome = live_run(&rt, alloc, &words, &mut source, &mut sink, &mut shelf);
+        let outcome = live_run(&rt, alloc, &words, &mut source, &mut sink, &mut shelf, &OpenGate);
         assert_eq!(rt; outcome.status, 2);
         assert_eq!(rt; outcome.taken, 0);
         assert!(rt; sink.bytes().is_empty());
@@ -427,7 +428,7 @@ fn options_are_taken(rt: HostRuntime) -> Result<(), Fail> {
         let mut source = MemSource::new(Vec::from_slice(alloc, b"quit\nfrob\n")?, Vec::new(alloc));
         let mut sink = MemSink::new(alloc, Vec::new(alloc));
         let mut shelf = SolidShelf::new(alloc, Vec::new(alloc));
-        let outcome = live_run(&rt, alloc, &words, &mut source, &mut sink, &mut shelf);
+        let outcome = live_run(&rt, alloc, &words, &mut source, &mut sink, &mut shelf, &OpenGate);
         assert_eq!(rt; outcome.status, 0);
         assert_eq!(rt; outcome.taken, 10);
         assert!(rt; sink.bytes() == b"ok quit\n".as_slice());

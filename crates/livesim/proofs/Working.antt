@@ -1,0 +1,115 @@
+-- The history that a book comes back with behind a session's work and its workers.
+use Rattle.std.proofs.Common.{◌≡◌, ◌∙◌, ℕ, true, false, List, [], ◌∷◌, ◌++◌, None, refl, sym, ap, subst}
+use Rattle.book_history.specs.Book.{Closes}
+use Rattle.book_history.specs.Owned.{AllOwned, IsPrefix, owned}
+use Rattle.book_history.specs.Legal.{Legal}
+use Rattle.book_turn.specs.Known.{apart_from_splits, begun}
+use Rattle.book_turn.specs.Rule.{Learned}
+use Rattle.book_turn.proofs.Histories.{added_append, owned_append, prefix_trans}
+use Rattle.book_turn.specs.Turns.{GoesOn, HasAdded}
+use Rattle.command_read.specs.Readers.{count_taken, has_ended, left, next_number, stopped}
+use Rattle.command_read.specs.declared.reader.Reader.{Reader}
+use Rattle.live_session.specs.AtTurn.{Sight, StandsAt, carried_settings, log_of}
+use Rattle.live_session.specs.Beside.{StandsBeside}
+use Rattle.live_session.specs.Logs.{Log, LogEvent, kit, valid}
+use Rattle.live_session.specs.Sessions.{world}
+use Rattle.live_session.specs.Worlds.{fresh}
+use Rattle.live_session.specs.declared.session.Session.{Session}
+use Rattle.live_session.proofs.SharedSettles.{cancel}
+use Rattle.live_session.proofs.Standing.{are_owned}
+use Rattle.livesim.specs.Histories.{EndsFrom}
+use Rattle.livesim.specs.Turns.{HasLimits}
+use Rattle.livesim.specs.Working.{IsReadyAt}
+
+-- ---- a pass that was split
+
+-- all that a session asks of its pass is apart from its splits
+stands_apart : (s : Session) (u : Sight) → StandsAt s (apart_from_splits u) → StandsAt s u
+stands_apart s u h = record {
+  free = record { outside = h.free.outside; no_ticket = h.free.no_ticket };
+  carries = h.carries;
+  sees = h.sees;
+  legal = h.legal;
+  stands = h.stands;
+}
+
+apart_stands : (s : Session) (u : Sight) → StandsAt s u → StandsAt s (apart_from_splits u)
+apart_stands s u h = record {
+  free = record { outside = h.free.outside; no_ticket = h.free.no_ticket };
+  carries = h.carries;
+  sees = h.sees;
+  legal = h.legal;
+  stands = h.stands;
+}
+
+pub ready_split : (s : Session) (r : Reader) (v u : Sight) → apart_from_splits u ≡ apart_from_splits v → IsReadyAt s r v → IsReadyAt s r u
+ready_split s r v u same h = record {
+  begins = h.begins;
+  at = stands_apart s u (subst (StandsAt s) (sym same) (apart_stands s v h.at));
+  blank = ap (λ (x : Sight). x.seen) same ∙ h.blank;
+  limits = h.limits;
+  left = h.left;
+  number = h.number;
+  taken = h.taken;
+  ended = h.ended;
+  going = h.going;
+}
+
+-- ---- the end of a run
+
+-- behind the session's work, its close and the joins, the book that comes back goes on from what the session had last seen
+module _ (after behind last : Sight) (h : Log) (sees : owned after.seen ≡ after.own) (closed : HasAdded (Closes ∷ []) after behind)
+    (own : last.own ≡ behind.own) (settings : last.settings ≡ behind.settings) (begins : IsPrefix behind.seen last.seen)
+    (session : last.session ≡ true) (learned : Learned last h) where
+  ends_in : IsPrefix after.seen h.events
+  ends_in = prefix_trans after.seen behind.seen h.events closed.begins (prefix_trans behind.seen last.seen h.events begins learned.begins)
+
+  pub ends_from : EndsFrom (log_of after) h
+  ends_from = record {
+    rest = ends_in.0;
+    settings = sym (ap carried_settings (sym (settings ∙ closed.settings) ∙ learned.carries));
+    events = ends_in.1;
+    closes =
+        cancel (owned after.seen) (owned ends_in.0) (Closes ∷ [])
+        (sym (owned_append after.seen ends_in.0) ∙ ap owned (sym ends_in.1) ∙ learned.own session ∙ own ∙ closed.own
+        ∙ ap (λ (es : List LogEvent). es ++ Closes ∷ []) (sym sees));
+  }
+
+-- where the session was alone from the beginning on, all entries are its own
+pub alone_all : (v after last : Sight) (h : Log) → v.seen ≡ [] → v.own ≡ [] → v.alone ≡ true → GoesOn v after → HasAdded (Closes ∷ []) after last
+    → owned h.events ≡ last.own → h.events ≡ last.seen → AllOwned true h.events
+alone_all v after last h blank none alone goes closed own seen =
+    let es : List LogEvent = goes.entries in
+    let all_seen : last.seen ≡ es ++ Closes ∷ [] =
+    closed.whole (goes.added.alone ∙ alone)
+    ∙ ap (λ (xs : List LogEvent). xs ++ Closes ∷ []) (goes.added.whole alone ∙ ap (λ (xs : List LogEvent). xs ++ es) blank) in
+    let all_own : last.own ≡ es ++ Closes ∷ [] =
+    closed.own ∙ ap (λ (xs : List LogEvent). xs ++ Closes ∷ []) (goes.added.own ∙ ap (λ (xs : List LogEvent). xs ++ es) none) in
+    are_owned h.events (own ∙ all_own ∙ sym all_seen ∙ sym seen)
+
+-- ---- the beginning
+
+begun_stands : (s : Session) (j : Log) → j.events ≡ [] → StandsBeside s j → StandsAt s (begun j)
+begun_stands s j blank beside = record {
+  free = record { outside = refl; no_ticket = refl };
+  carries = refl;
+  sees = refl;
+  legal = subst (Legal kit valid j.settings) (sym blank) (record { follows = tt; in_rooms = tt });
+  stands = beside;
+}
+
+-- a session without a design, beside a book that was just made
+pub made_ready : (s : Session) (r : Reader) (v : Sight) (j : Log) → v ≡ begun j → j.events ≡ [] → StandsBeside s j
+    → ((grid : List ℕ) → world s grid ≡ fresh) → HasLimits s → left r ≡ [] → next_number r ≡ 1 → count_taken r ≡ 0 → has_ended r ≡ false
+    → stopped r ≡ None → IsReadyAt s r v
+made_ready s r v j is blank beside begins limits nothing first none more going = record {
+  begins = begins;
+  at = subst (StandsAt s) (sym is) (begun_stands s j blank beside);
+  blank = ap (λ (x : Sight). x.seen) is ∙ blank;
+  limits = limits;
+  left = nothing;
+  number = first;
+  taken = none;
+  ended = more;
+  going = going;
+}

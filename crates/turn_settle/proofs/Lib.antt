@@ -1,0 +1,4 @@
+pub mod Visiting
+pub mod Passing
+pub mod Settling
+pub mod Beginning

@@ -1,0 +1,4 @@
+pub mod Seen
+pub mod Visits
+pub mod Passed
+pub mod Settled
