@@ -47,3 +47,4 @@ pub mod SettledAtTurn
 pub mod SessionSteps
 pub mod SettleCommands
 pub mod SessionCalls
+pub mod SettleLooks

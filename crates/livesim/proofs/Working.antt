@@ -55,6 +55,10 @@ ready_split s r v u same h = record {
   going = h.going;
 }
 
+-- a session that has changed, as by reading, and stands beside what its pass has seen
+pub stands_as : (s t : Session) (v : Sight) → StandsAt s v → StandsBeside t (log_of v) → StandsAt t v
+stands_as s t v h beside = record { free = h.free; carries = h.carries; sees = h.sees; legal = h.legal; stands = beside }
+
 -- ---- the end of a run
 
 -- behind the session's work, its close and the joins, the book that comes back goes on from what the session had last seen

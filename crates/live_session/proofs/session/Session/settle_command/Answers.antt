@@ -1,48 +1,167 @@
-use Rattle.std.proofs.Common.{refl}
+use Rattle.std.proofs.Common.{[], refl}
 use denote.Param.Send.{sendable}
 use Rattle.std.proofs.Crossing.{crosses}
-use Rattle.command_read.specs.Asking.{Settles}
+use Rattle.book_turn.specs.Passes.{known}
+use Rattle.book_turn.proofs.Turns.{goes_more, goes_none}
+use Rattle.live_session.specs.AtTurn.{log_of}
+use Rattle.live_session.specs.SettleAnswers.{settled_up_to}
 use Rattle.live_session.proofs.DesignsShared.{design_send, design_sync}
-use Rattle.live_session.proofs.SessionCalls.{kept_there, none_runs, stands_there}
-use Rattle.live_session.proofs.SessionSteps.{answers_on, stops_on, stops_still}
+use Rattle.live_session.proofs.RefusedShows.{stopped}
+use Rattle.live_session.proofs.SessionCalls.{kept_there, stands_there}
+use Rattle.live_session.proofs.SettleCommands.{cut_stops, settled_steps, settled_stops}
+use Rattle.live_session.proofs.SettledAtTurn.{goes_by}
+use Rattle.live_session.proofs.SettleLooks.{full_steps, full_stops, looked_at, looked_links, none_steps, none_stops}
+use Rattle.live_session.proofs.SettleRoom.{charge_covers, charged_stands, settle_goes_on}
 use Rattle.live_session.proofs.session.Session.settle_command.Goals as goal
 
-pub legal-requires-send-M : goal.legal-requires-send-M
-legal-requires-send-M g c κs = search (design_send, sendable, crosses) depth 40 fits 20000
+pub links-links-requires-send-M : goal.links-links-requires-send-M
+links-links-requires-send-M g c κs within = search (design_send, sendable, crosses) depth 40 fits 20000
 
-pub legal-requires-sync-M : goal.legal-requires-sync-M
-legal-requires-sync-M g c κs = search (design_sync, sendable, crosses) depth 40 fits 20000
+pub links-links-requires-sync-M : goal.links-links-requires-sync-M
+links-links-requires-sync-M g c κs within = search (design_sync, sendable, crosses) depth 40 fits 20000
 
-pub settle-reply-requires-clause-kept : goal.settle-reply-requires-clause-kept
-settle-reply-requires-clause-kept g c =
-    let s = c.args.self.now in
-    kept_there s.names s.limits s.running c.in-Some.running c.in-Some.is s.kept
-
-pub settle-reply-requires-clause-stands : goal.settle-reply-requires-clause-stands
-settle-reply-requires-clause-stands g c =
-    let s = c.args.self.now in
-    stands_there s.limits s.running c.in-Some.running c.args.book.now c.in-Some.is c.requires.beside.stands
-
-pub returns-in-Some-clause-answers : goal.returns-in-Some-clause-answers
-returns-in-Some-clause-answers g c =
-    answers_on (Settles c.args.line c.args.passes) c.args.self.now c.args.book.now c.settle-reply.new.book c.in-Some.running c.settle-reply.new.self
-    c.in-Some.is c.settle-reply.result c.settle-reply.ensures.answers
-
-pub returns-in-Some-clause-stops : goal.returns-in-Some-clause-stops
-returns-in-Some-clause-stops g c =
-    stops_on (Settles c.args.line c.args.passes) c.args.self.now c.args.book.now c.settle-reply.new.book c.in-Some.running c.settle-reply.new.self
-    c.in-Some.is c.settle-reply.result c.legal.ensures c.settle-reply.ensures.stops
-
-pub returns-in-Some-clause-beside : goal.returns-in-Some-clause-beside
-returns-in-Some-clause-beside g c = record { stands = c.settle-reply.ensures.stands; held = c.requires.beside.held }
-
-pub returns-in-None-clause-answers : goal.returns-in-None-clause-answers
-returns-in-None-clause-answers g c =
-    none_runs (Settles c.args.line c.args.passes) c.args.self.now c.args.book.now c.args.line c.refused_line.result c.in-None.is refl
-    c.refused_line.ensures
+pub returns-in-None-clause-steps : goal.returns-in-None-clause-steps
+returns-in-None-clause-steps g c =
+    none_steps c.args.self.now (known c.args.pass.now) c.requires.at c.in-None.is c.args.line c.args.passes c.refused_line.result c.refused_line.ensures
 
 pub returns-in-None-clause-stops : goal.returns-in-None-clause-stops
-returns-in-None-clause-stops g c = stops_still (Settles c.args.line c.args.passes) c.args.self.now c.args.book.now c.refused_line.result
+returns-in-None-clause-stops g c =
+    none_stops c.args.self.now (known c.args.pass.now) c.requires.at c.in-None.is c.args.line c.args.passes c.refused_line.result
 
-pub returns-in-None-clause-beside : goal.returns-in-None-clause-beside
-returns-in-None-clause-beside g c = record { stands = c.requires.beside.stands; held = c.requires.beside.held }
+pub returns-in-None-clause-goes : goal.returns-in-None-clause-goes
+returns-in-None-clause-goes g c = goes_none (known c.args.pass.now)
+
+pub settle-answer-requires-clause-at : goal.settle-answer-requires-clause-at
+settle-answer-requires-clause-at g c κs within =
+    let s = c.args.self.now in
+    let v = known c.args.pass.now in
+    let u = known c.links-links.new.pass in
+    let r = c.in-Some.running in
+    let x = c.charge_settle-charged.new.self in
+    let visit = c.links-links.ensures.visit in
+    let at = looked_at s v u c.requires.at c.links-links.ensures.free visit in
+    let there = stands_there s.limits s.running r (log_of u) c.in-Some.is at.stands.stands in
+    let kept = kept_there s.names s.limits s.running r c.in-Some.is s.kept in
+    let marked = looked_links s v u c.requires.at c.links-links.ensures.free visit c.links-links.result c.links-links.ensures.links in
+    let charge = c.in-Some-charged.ensures in
+    record {
+      free = at.free;
+      carries = at.carries;
+      sees = at.sees;
+      legal = at.legal;
+      stands = record {
+        stands = charged_stands s.names c.has_each_once.ensures s.limits r x kept c.args.line c.args.passes (log_of u) there c.links-links.result marked
+            c.in-Some-charged.most charge.0 charge.1;
+        held = at.stands.held;
+      };
+    }
+
+pub settle-answer-requires-clause-charged : goal.settle-answer-requires-clause-charged
+settle-answer-requires-clause-charged g c κs within =
+    let s = c.args.self.now in
+    let v = known c.args.pass.now in
+    let u = known c.links-links.new.pass in
+    let r = c.in-Some.running in
+    let x = c.charge_settle-charged.new.self in
+    let visit = c.links-links.ensures.visit in
+    let at = looked_at s v u c.requires.at c.links-links.ensures.free visit in
+    let there = stands_there s.limits s.running r (log_of u) c.in-Some.is at.stands.stands in
+    let kept = kept_there s.names s.limits s.running r c.in-Some.is s.kept in
+    let marked = looked_links s v u c.requires.at c.links-links.ensures.free visit c.links-links.result c.links-links.ensures.links in
+    let charge = c.in-Some-charged.ensures in
+    charge_covers s.names c.has_each_once.ensures s.limits r x kept c.args.line c.args.passes (log_of u) there c.links-links.result marked
+    c.in-Some-charged.most charge.0 charge.1
+
+pub returns-in_err-answer-in-Some-charged-clause-stops : goal.returns-in_err-answer-in-Some-charged-clause-stops
+returns-in_err-answer-in-Some-charged-clause-stops g c =
+    let s = c.args.self.now in
+    let v = known c.args.pass.now in
+    let u = known c.links-links.new.pass in
+    let r = c.in-Some.running in
+    let x = c.charge_settle-charged.new.self in
+    let visit = c.links-links.ensures.visit in
+    let at = looked_at s v u c.requires.at c.links-links.ensures.free visit in
+    let there = stands_there s.limits s.running r (log_of u) c.in-Some.is at.stands.stands in
+    let kept = kept_there s.names s.limits s.running r c.in-Some.is s.kept in
+    let marked = looked_links s v u c.requires.at c.links-links.ensures.free visit c.links-links.result c.links-links.ensures.links in
+    let charge = c.in-Some-charged.ensures in
+    stopped c.from_residual.result
+    (cut_stops s _ r x c.in-Some.is (λ grid. refl) refl c.has_each_once.ensures kept v u (known c.settle-answer.new.pass)
+    visit.added c.requires.at at c.settle-answer.ensures.at c.args.line c.args.passes c.links-links.result marked there c.in-Some-charged.most charge.0 charge.1 c.in_err-answer-in-Some-charged.ensures.tried)
+
+pub returns-in_err-answer-in-Some-charged-clause-goes : goal.returns-in_err-answer-in-Some-charged-clause-goes
+returns-in_err-answer-in-Some-charged-clause-goes g c =
+    goes_more _ _ _ (goes_by [] (known c.args.pass.now) (known c.links-links.new.pass) c.links-links.ensures.visit.added) c.settle-answer.ensures.goes
+
+pub returns-in_ok-answer-in-Some-charged-clause-goes : goal.returns-in_ok-answer-in-Some-charged-clause-goes
+returns-in_ok-answer-in-Some-charged-clause-goes g c =
+    goes_more _ _ _ (goes_by [] (known c.args.pass.now) (known c.links-links.new.pass) c.links-links.ensures.visit.added) c.settle-answer.ensures.goes
+
+pub returns-in_ok-answer-in-Some-charged-clause-steps : goal.returns-in_ok-answer-in-Some-charged-clause-steps
+returns-in_ok-answer-in-Some-charged-clause-steps g c =
+    let s = c.args.self.now in
+    let v = known c.args.pass.now in
+    let u = known c.links-links.new.pass in
+    let r = c.in-Some.running in
+    let x = c.charge_settle-charged.new.self in
+    let visit = c.links-links.ensures.visit in
+    let at = looked_at s v u c.requires.at c.links-links.ensures.free visit in
+    let there = stands_there s.limits s.running r (log_of u) c.in-Some.is at.stands.stands in
+    let kept = kept_there s.names s.limits s.running r c.in-Some.is s.kept in
+    let marked = looked_links s v u c.requires.at c.links-links.ensures.free visit c.links-links.result c.links-links.ensures.links in
+    let charge = c.in-Some-charged.ensures in
+    settled_steps s _ r x c.in-Some.is (λ grid. refl) refl c.has_each_once.ensures kept v u (known c.settle-answer.new.pass)
+    visit.added c.requires.at at c.settle-answer.ensures.at c.args.line c.args.passes c.links-links.result marked there c.in-Some-charged.most charge.0 charge.1 (settled_up_to c.in_ok-answer-in-Some-charged.field-0) c.in_ok-answer-in-Some-charged.ensures.answer c.settle_reply.result
+    c.settle_reply.ensures
+
+pub returns-in_ok-answer-in-Some-charged-clause-stops : goal.returns-in_ok-answer-in-Some-charged-clause-stops
+returns-in_ok-answer-in-Some-charged-clause-stops g c =
+    let s = c.args.self.now in
+    let v = known c.args.pass.now in
+    let u = known c.links-links.new.pass in
+    let r = c.in-Some.running in
+    let x = c.charge_settle-charged.new.self in
+    let visit = c.links-links.ensures.visit in
+    let at = looked_at s v u c.requires.at c.links-links.ensures.free visit in
+    let there = stands_there s.limits s.running r (log_of u) c.in-Some.is at.stands.stands in
+    let kept = kept_there s.names s.limits s.running r c.in-Some.is s.kept in
+    let marked = looked_links s v u c.requires.at c.links-links.ensures.free visit c.links-links.result c.links-links.ensures.links in
+    let charge = c.in-Some-charged.ensures in
+    settled_stops s _ r x c.in-Some.is (λ grid. refl) refl c.has_each_once.ensures kept v u (known c.settle-answer.new.pass)
+    visit.added c.requires.at at c.settle-answer.ensures.at c.args.line c.args.passes c.links-links.result marked there c.in-Some-charged.most charge.0 charge.1 (settled_up_to c.in_ok-answer-in-Some-charged.field-0) c.in_ok-answer-in-Some-charged.ensures.answer c.settle_reply.result
+
+pub returns-in-None-charged-clause-steps : goal.returns-in-None-charged-clause-steps
+returns-in-None-charged-clause-steps g c =
+    let s = c.args.self.now in
+    let v = known c.args.pass.now in
+    let u = known c.links-links.new.pass in
+    let r = c.in-Some.running in
+    let x = c.charge_settle-charged.new.self in
+    let visit = c.links-links.ensures.visit in
+    let at = looked_at s v u c.requires.at c.links-links.ensures.free visit in
+    let there = stands_there s.limits s.running r (log_of u) c.in-Some.is at.stands.stands in
+    let kept = kept_there s.names s.limits s.running r c.in-Some.is s.kept in
+    let marked = looked_links s v u c.requires.at c.links-links.ensures.free visit c.links-links.result c.links-links.ensures.links in
+    let charge = c.in-None-charged.ensures in
+    full_steps s _ r x c.in-Some.is (λ grid. refl) refl c.has_each_once.ensures kept v u c.requires.at c.links-links.ensures.free visit
+    (record { stands = at.stands.stands; held = at.stands.held }) charge.0 c.args.line c.args.passes c.links-links.result marked c.refused_line-in-None-charged.result charge.1
+    c.refused_line-in-None-charged.ensures
+
+pub returns-in-None-charged-clause-stops : goal.returns-in-None-charged-clause-stops
+returns-in-None-charged-clause-stops g c =
+    let s = c.args.self.now in
+    let v = known c.args.pass.now in
+    let u = known c.links-links.new.pass in
+    let r = c.in-Some.running in
+    let x = c.charge_settle-charged.new.self in
+    let visit = c.links-links.ensures.visit in
+    let at = looked_at s v u c.requires.at c.links-links.ensures.free visit in
+    let there = stands_there s.limits s.running r (log_of u) c.in-Some.is at.stands.stands in
+    let kept = kept_there s.names s.limits s.running r c.in-Some.is s.kept in
+    let marked = looked_links s v u c.requires.at c.links-links.ensures.free visit c.links-links.result c.links-links.ensures.links in
+    let charge = c.in-None-charged.ensures in
+    full_stops s _ r x c.in-Some.is (λ grid. refl) refl c.has_each_once.ensures kept v u c.requires.at c.links-links.ensures.free visit
+    (record { stands = at.stands.stands; held = at.stands.held }) charge.0 c.args.line c.args.passes c.links-links.result marked c.refused_line-in-None-charged.result
+
+pub returns-in-None-charged-clause-goes : goal.returns-in-None-charged-clause-goes
+returns-in-None-charged-clause-goes g c = goes_by [] (known c.args.pass.now) (known c.links-links.new.pass) c.links-links.ensures.visit.added
