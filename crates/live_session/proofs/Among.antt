@@ -2,10 +2,10 @@
 use Rattle.std.proofs.Common.{◌≡◌, ◌∙◌, ℕ, ◌≤◌, Bool, true, false, cond, List, [], ◌∷◌, ◌++◌, Option, Some, None, refl, sym, ap, ap₂, subst, true≢false, arith, append_assoc, append-nil}
 use Rattle.std.proofs.lemmas.Bool.{cond_both}
 use Rattle.book_history.specs.Book.{Book, Settings as BookSettings, apply, replay, replay_from}
-use Rattle.book_history.specs.Kind.{Kind, SessionsOwn, DrawsTicket, UsesTicket, EndsClaims, is_of_session, kind_of}
+use Rattle.book_history.specs.Kind.{Kind, SessionsOwn, DrawsTicket, UsesTicket, EndsClaims, kind_of}
 use Rattle.book_history.specs.Moments.{is_spoken, is_spoken_kind, moments_from}
 use Rattle.book_history.specs.Outline.{Outline, blank, outline_from, outline_in}
-use Rattle.book_history.specs.Owned.{AllOwned, IsPrefix, added, is_owned, owned}
+use Rattle.book_history.specs.Owned.{AllOwned, IsPrefix, added, is_of_session, is_owned, owned}
 use Rattle.book_history.specs.Rooms.{Counts, count_all, no_entry}
 use Rattle.book_history.proofs.Outlines.{legal_outline, owned_counts}
 use Rattle.book_history.proofs.Places.{moments-append, replay-append}

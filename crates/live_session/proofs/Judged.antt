@@ -1,5 +1,5 @@
 -- What a command did, by its verdict and by the entries that it added.
-use Rattle.std.proofs.Common.{◌≡◌, ◌∙◌, ℕ, true, false, List, [], ◌∷◌, ◌++◌, map, Some, Result, Ok, Err, refl, sym, ap, ap₂, subst, append-nil}
+use Rattle.std.proofs.Common.{◌≡◌, ◌∙◌, ℕ, true, false, List, [], ◌∷◌, ◌++◌, map, Some, Result, Ok, Err, refl, sym, ap, ap₂, subst, append-nil, Bool}
 use Rattle.std.specs.Prelude.{IfOk, codes}
 use Rattle.ls_text.specs.Texts.{HasEachOnce}
 use Rattle.book_history.specs.Book.{Settings as BookSettings}

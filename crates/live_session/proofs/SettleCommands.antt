@@ -1,5 +1,5 @@
 -- The command `settle` in turns of the book: what it answers, told of what the pass had seen before it.
-use Rattle.std.proofs.Common.{◌≡◌, ◌∙◌, ℕ, ◌+◌, ◌<◌, min, Bool, true, false, List, [], ◌∷◌, length, Option, Some, None, Result, Ok, Err, refl, sym, ap, subst}
+use Rattle.std.proofs.Common.{◌≡◌, ◌∙◌, ℕ, ◌+◌, ◌<◌, ◌≤◌, min, Bool, true, false, List, [], ◌∷◌, length, Option, Some, None, Result, Ok, Err, refl, sym, ap, subst}
 use Rattle.std.specs.Prelude.{IfOk, OnErr}
 use Rattle.std.specs.Option.{unwrap_or}
 use Rattle.ls_port.specs.declared.shelf_answer.ShelfAnswer.{ShelfAnswer}
@@ -56,11 +56,6 @@ looked s t v w adds before after =
       seen_legal = before.legal;
     }
 
--- the answer of a settle goes with it
-answer_moved : (n : ℕ) (es : List LogEvent) (b c : Option (Book Design State InputRow)) (same : b ≡ c) (s : IsSettle n (links_in b) es)
-    → (subst (λ (y : Option (Book Design State InputRow)). IsSettle n (links_in y) es) same s).answer ≡ s.answer
-answer_moved n es b c refl s = refl
-
 -- v is what the pass had seen before the command, u when it had looked, and w behind the settle; r runs before its charge and x behind it, as in the
 -- session behind the command
 module _ (old new : Session) (r x : Running) (runs : old.running ≡ Some r)
@@ -99,25 +94,30 @@ module _ (old new : Session) (r x : Running) (runs : old.running ≡ Some r)
         → StepsTo v.alone (Ok asked) answers answers faults faults old new (log_of v) (log_of w) text refused
     told_before answers faults text refused d =
         step_among v (log_of u) (log_of w) meets_u u.alone only_u (Ok asked) answers answers faults faults old new text refused
-        (step_by u.alone asked answers faults old new (log_of u) (log_of w) text refused limits refl (λ (st : Settings) (y : World). refl)
-        at_w.stands (done_in (world_in old (log_of u)) (world_in new (log_of w)) (sym world_old) (sym (is_new (marks_of (log_of w)))) d))
-      where
-        done_in : (y z : World) → world_of old.names (entries_of old.registry) (marks_of (log_of u)) r ≡ y
-            → world_of old.names (entries_of old.registry) (marks_of (log_of w)) x ≡ z
-            → (let w_old = world_of old.names (entries_of old.registry) (marks_of (log_of u)) r in
-            IsDone u.alone (settings_by old.limits (log_of u)) (Ok asked) w_old (world_of old.names (entries_of old.registry) (marks_of (log_of w)) x)
-            (settle_verdict (settings_by old.limits (log_of u)) w_old line passes w_old.design) (log_of u) (log_of w) text refused)
-            → IsDone u.alone (settings_in old (log_of u)) (Ok asked) y z (verdict_on (settings_in old (log_of u)) (told (Ok asked) [] no_answer) y)
-            (log_of u) (log_of w) text refused
-        done_in y z refl refl d = d
+        (step_by u.alone asked answers faults old new (log_of u) (log_of w) text refused limits refl (λ (st : Settings) (y : World). refl) at_w.stands
+        (subst (λ (y : World). IsDone u.alone (settings_in old (log_of u)) (Ok asked) y (world_in new (log_of w))
+        (verdict_on (settings_in old (log_of u)) (told (Ok asked) [] no_answer) y) (log_of u) (log_of w) text refused) (sym world_old)
+        (subst (λ (z : World). (let y = world_of old.names (entries_of old.registry) (marks_of (log_of u)) r in
+        IsDone u.alone (settings_in old (log_of u)) (Ok asked) y z (verdict_on (settings_in old (log_of u)) (told (Ok asked) [] no_answer) y)
+        (log_of u) (log_of w) text refused)) (sym (is_new (marks_of (log_of w)))) d)))
 
   -- the settle ended
   module _ (answer : Option ℕ) (h : HasSettledBeside kit u w most answer) where
-    settle : IsSettle most (links_in (book_in (log_of u))) h.own
-    settle = subst (λ (b : Option (Book Design State InputRow)). IsSettle most (links_in b) h.own) (book_is old u at_u) h.is_settle
+    abbrev settle : IsSettle most (links_in (book_in (log_of u))) h.own
+    settle = record {
+      passes = h.is_settle.passes;
+      count = h.is_settle.count;
+      answer = h.is_settle.answer;
+      split = h.is_settle.split;
+      are = h.is_settle.are;
+      few = h.is_settle.few;
+      stops = h.is_settle.stops;
+      all = λ enough.
+          h.is_settle.all (subst (λ (b : Option (Book Design State InputRow)). links_in b ≤ most) (sym (book_is old u at_u)) enough);
+    }
 
     answers_so : settle.answer ≡ answer
-    answers_so = answer_moved most h.own (book_seen kit u) (book_in (log_of u)) (book_is old u at_u) h.is_settle ∙ h.answers
+    answers_so = h.answers
 
     alone_so : u.alone ≡ true → AllOwned true h.added.begins.0
     alone_so = zs_alone h.own h.added (settle_owned most (links_in (book_in (log_of u))) h.own settle)
@@ -161,11 +161,7 @@ module _ (old new : Session) (r x : Running) (runs : old.running ≡ Some r)
       let short = settle_cut_short old.names once old.limits r x kept line passes (log_of u) stands links marked most passes_are c (log_of w) at_w.legal
       u.alone h.added.begins.0 h.own (zs_added h.own h.added) (zs_own h.own h.added) alone h.unfinished h.few (entries_of old.registry) in
       stops_among v (log_of u) (log_of w) meets_u u.alone only_u (Ok asked) answers answers faults faults old new
-      (cut_short asked refl (short_in (world_in old (log_of u)) (world_in new (log_of w)) (sym world_old) (sym (is_new (marks_of (log_of w)))) short))
-    where
-      short_in : (y z : World) → world_of old.names (entries_of old.registry) (marks_of (log_of u)) r ≡ y
-          → world_of old.names (entries_of old.registry) (marks_of (log_of w)) x ≡ z
-          → IsCutShort u.alone (settings_by old.limits (log_of u)) asked (world_of old.names (entries_of old.registry) (marks_of (log_of u)) r)
-          (world_of old.names (entries_of old.registry) (marks_of (log_of w)) x) (log_of u) (log_of w)
-          → IsCutShort u.alone (settings_in old (log_of u)) asked y z (log_of u) (log_of w)
-      short_in y z refl refl short = short
+      (cut_short asked refl
+      (subst (λ (y : World). IsCutShort u.alone (settings_in old (log_of u)) asked y (world_in new (log_of w)) (log_of u) (log_of w)) (sym world_old)
+      (subst (λ (z : World). IsCutShort u.alone (settings_in old (log_of u)) asked
+      (world_of old.names (entries_of old.registry) (marks_of (log_of u)) r) z (log_of u) (log_of w)) (sym (is_new (marks_of (log_of w)))) short)))

@@ -29,7 +29,7 @@ cancel xs ys zs same = sym (added_append xs ys) ∙ ap (added xs) same ∙ added
 -- ---- own entries among others
 
 -- where one entry of the session stands among these
-record IsAmong (zs ps : List LogEvent) (e : LogEvent) : Type 0 where
+pub record IsAmong (zs ps : List LogEvent) (e : LogEvent) : Type 0 where
   pub front : List LogEvent
   pub back : List LogEvent
   pub split : zs ≡ front ++ e ∷ back
@@ -41,7 +41,7 @@ head_or e [] = e
 head_or e (x ∷ xs) = x
 
 -- the last of them
-last_among : (zs ps : List LogEvent) (e : LogEvent) → owned zs ≡ ps ++ e ∷ [] → IsAmong zs ps e
+pub last_among : (zs ps : List LogEvent) (e : LogEvent) → owned zs ≡ ps ++ e ∷ [] → IsAmong zs ps e
 last_among [] [] e is = absurd (true≢false (ap has_none is))
 last_among [] (p ∷ ps) e is = absurd (true≢false (ap has_none is))
 last_among (z ∷ zs) ps e is = by (is_owned z) refl ps is (λ (qs : List LogEvent) (here : owned zs ≡ qs ++ e ∷ []). last_among zs qs e here)
@@ -148,14 +148,14 @@ module _ (s t : Session) (v w : Sight) (es : List LogEvent) (adds : HasAdded es 
 
   legal_here : (front back : List LogEvent) → zs ≡ front ++ back → IsLegal (record { settings = was.settings; events = was.events ++ front })
   legal_here front back split =
-      legal_first kit valid was.settings (was.events ++ front) back
+      legal_first kit was.settings valid (was.events ++ front) back
       (subst (λ (h : List LogEvent). IsLegal (record { settings = was.settings; events = h }))
       (adds.begins.1 ∙ ap (λ (h : List LogEvent). was.events ++ h) split ∙ sym (append_assoc was.events front back))
       (subst (λ (st : BookSettings). IsLegal (record { settings = st; events = now.events })) (settings_same s t v w es adds) after.legal))
 
   -- a whole settle has one moment, at a book with the outline of that before
   module _ (n links : ℕ) (settle : IsSettle n links es) where
-    among : IsAmong zs settle.passes (ShowsEvent settle.answer)
+    abbrev pub among : IsAmong zs settle.passes (ShowsEvent settle.answer)
     among = last_among zs settle.passes (ShowsEvent settle.answer) (owned_are ∙ settle.split)
 
     abbrev pub shown_at : LogMoment

@@ -1,5 +1,5 @@
 -- A display and a settle beside a book, by the entries that they add.
-use Rattle.std.proofs.Common.{◌≡◌, ◌∙◌, ℕ, ◌+◌, ◌*◌, ◌≤◌, ◌<◌, min, false, List, [], ◌∷◌, length, Option, Some, None, Ok, refl, sym, ap, ap₂, subst, arith}
+use Rattle.std.proofs.Common.{◌≡◌, ◌∙◌, ℕ, ◌+◌, ◌*◌, ◌≤◌, ◌<◌, min, false, List, [], ◌∷◌, length, Option, Some, None, Ok, refl, sym, ap, ap₂, subst, arith, true, Bool}
 use Rattle.ls_text.specs.Texts.{HasEachOnce}
 use Rattle.book_history.specs.Book.{Book, Settings as BookSettings, Shows as ShowsEvent, apply, replay}
 use Rattle.book_history.specs.Outline.{Outline, outline_from, outline_in}
@@ -34,7 +34,7 @@ use Rattle.live_session.proofs.Standing.{Adds, IsLegal, StaysRun, agrees_in, out
 
 -- the number of passes goes with the entries
 pub few_moved : (es fs : List LogEvent) (same : es ≡ fs) (u : IsUnfinished es) (n : ℕ) → u.count < n → (subst IsUnfinished same u).count < n
-few_moved es fs refl u n few = few
+few_moved es fs same u n few = few
 
 -- a show leaves the book
 shows_leave : (st : BookSettings) (answer : Option ℕ) (b : Option (Book Design State InputRow)) → apply kit st b (ShowsEvent answer) ≡ b

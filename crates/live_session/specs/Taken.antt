@@ -1,5 +1,5 @@
 -- What becomes of a block whose loads came to something.
-use Rattle.std.specs.Prelude.{◌≡◌, ℕ, Bool, List, Result, Ok}
+use Rattle.std.specs.Prelude.{◌≡◌, ℕ, Bool, true, List, Result, Ok}
 use Rattle.command_read.specs.Asking.{Block, Edits}
 use Rattle.live_session.specs.Done.{IsDone}
 use Rattle.live_session.specs.Files.{TextFile}

@@ -26,7 +26,7 @@ use ls_text::NoMemory;
 use std::alloc::Global;
 use std::sync::Wait;
 use std::thread::Threads;
-use worker_scope::with_workers;
+use worker_scope::{Worked, with_workers};
 
 /// What the program's sessions may use: 2^40 cycles, 16,777,216 names set in the record, and the rooms of the history.
 const LIMITS: Limits = Limits {
@@ -121,7 +121,12 @@ fn run<R: Threads + Wait + Sync, S: Source, K: Sink, F: Shelf, G: Gate>(
         shelf,
         gate,
     };
-    let worked = with_workers(
+    let Worked {
+        pass,
+        answer,
+        started: _,
+        refusal: _,
+    } = with_workers(
         rt,
         alloc,
         &turn,
@@ -131,9 +136,9 @@ fn run<R: Threads + Wait + Sync, S: Source, K: Sink, F: Shelf, G: Gate>(
         script,
     );
     Outcome {
-        status: worked.answer.status,
-        taken: worked.answer.script.reader.taken(),
-        history: history_of(rt, turn, worked.pass),
+        status: answer.status,
+        taken: answer.script.reader.taken(),
+        history: history_of(rt, turn, pass),
     }
 }
 
