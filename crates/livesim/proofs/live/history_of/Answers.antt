@@ -3,20 +3,14 @@ use Rattle.std.proofs.Crossing.{crosses}
 use Rattle.live_session.proofs.DesignsShared.{design_send, design_sync}
 use Rattle.livesim.proofs.live.history_of.Goals as goal
 
-pub close-requires-send-M : goal.close-requires-send-M
-close-requires-send-M c κs = search (design_send, sendable, crosses) depth 40 fits 20000
-
-pub close-requires-sync-M : goal.close-requires-sync-M
-close-requires-sync-M c κs = search (design_sync, sendable, crosses) depth 40 fits 20000
-
 pub into_history-history-requires-send-M : goal.into_history-history-requires-send-M
-into_history-history-requires-send-M c κs = search (design_send, sendable, crosses) depth 40 fits 20000
+into_history-history-requires-send-M g c κs = search (design_send, sendable, crosses) depth 40 fits 20000
 
 pub into_history-history-requires-sync-M : goal.into_history-history-requires-sync-M
-into_history-history-requires-sync-M c κs = search (design_sync, sendable, crosses) depth 40 fits 20000
+into_history-history-requires-sync-M g c κs = search (design_sync, sendable, crosses) depth 40 fits 20000
 
 pub legal-requires-send-M : goal.legal-requires-send-M
-legal-requires-send-M c κs = search (design_send, sendable, crosses) depth 40 fits 20000
+legal-requires-send-M g c κs = search (design_send, sendable, crosses) depth 40 fits 20000
 
 pub legal-requires-sync-M : goal.legal-requires-sync-M
-legal-requires-sync-M c κs = search (design_sync, sendable, crosses) depth 40 fits 20000
+legal-requires-sync-M g c κs = search (design_sync, sendable, crosses) depth 40 fits 20000
