@@ -152,17 +152,17 @@ module _ (o : OptionsOf) (from mid to : Sources) (shelf mid_shelf shelved : Shel
   over_whole : (e : Ends mid to mid_shelf shelved old new session behind was now Whole) (status : ℕ) → status ≡ status_of Whole refused
       → IsLived (settings o) from to shelf shelved written_old written_new (count_taken new) status h
   over_whole e status is =
-      let h = e.over.0 in
+      let halt = e.over.0 in
       let ended = e.over.1 in
-      let going : is_too_much (stopped new) ≡ false = ap is_too_much h.reason_is in
+      let going : is_too_much (stopped new) ≡ false = ap is_too_much halt.reason_is in
       let taken = taken_then (settings o) from mid to shelf mid_shelf shelved session behind old new was now refused told text Whole d e in
       let bytes = d.bytes ++ e.reads.came in
       let rest = up_to_quit (e.told ++ still_asked new [] (has_ended new)) in
       let below = small refused status is in
       let few = few_taken new going in
       let s : IsStatus bytes (has_ended new) refused rest e.lost status = record {
-        none_left = λ four five. none_left stop.End e.told e.lost _ _ h;
-        none_lost = λ five. h.none_lost;
+        none_left = λ four five. none_left stop.End e.told e.lost _ _ halt;
+        none_lost = λ five. halt.none_lost;
         whole = λ which. inl ended;
         judged = λ which. is;
         cut = λ which. absurd (⊎_elim (λ z. omega (arith, z, below)) (λ z. omega (arith, z, below)) which);
@@ -174,25 +174,25 @@ module _ (o : OptionsOf) (from mid to : Sources) (shelf mid_shelf shelved : Shel
         taken,
         lived_all (settings o) from to shelf shelved written_old written_new bytes (has_ended new) refused told rest e.lost status text h
             (finished_then (settings o) from mid to shelf mid_shelf shelved session behind old new was now refused told text Whole d e []
-            (all_kept e.reads.came e.reads.kept (e.reads.takes.whole ended) taken going)) s (as_before status h.same)
-            (inl (subst (RisesBy (count_broken told) shelf.faults) (sym h.unfailed) d.failed)) written
+            (all_kept e.reads.came e.reads.kept (e.reads.takes.whole ended) taken going)) s (as_before status halt.same)
+            (inl (subst (RisesBy (count_broken told) shelf.faults) (sym halt.unfailed) d.failed)) written
             (not_soon bytes status (λ z. omega (arith, z, below))),
       )
 
   over_failed : (e : Ends mid to mid_shelf shelved old new session behind was now Failed) (status : ℕ) → status ≡ 3
       → IsLived (settings o) from to shelf shelved written_old written_new (count_taken new) status h
   over_failed e status is =
-      let h = e.over in
-      let going : is_too_much (stopped new) ≡ false = ap is_too_much h.reason_is in
+      let halt = e.over in
+      let going : is_too_much (stopped new) ≡ false = ap is_too_much halt.reason_is in
       let taken = taken_then (settings o) from mid to shelf mid_shelf shelved session behind old new was now refused told text Failed d e in
       let bytes = d.bytes ++ e.reads.came in
       let rest = up_to_quit (e.told ++ still_asked new [] (has_ended new)) in
       let few = few_taken new going in
-      let unended : has_ended new ≡ false = open_reader (has_ended new) (λ ended. e.reads.takes.faultless ended h.reason_is) in
-      let same : e.reads.came ≡ e.reads.kept = subst (λ s. AreKept s e.reads.came e.reads.kept) h.reason_is e.reads.takes.holds in
+      let unended : has_ended new ≡ false = open_reader (has_ended new) (λ ended. e.reads.takes.faultless ended halt.reason_is) in
+      let same : e.reads.came ≡ e.reads.kept = subst (λ s. AreKept s e.reads.came e.reads.kept) halt.reason_is e.reads.takes.holds in
       let s : IsStatus bytes (has_ended new) refused rest e.lost status = record {
-        none_left = λ four five. none_left stop.Fault e.told e.lost _ _ h;
-        none_lost = λ five. h.none_lost;
+        none_left = λ four five. none_left stop.Fault e.told e.lost _ _ halt;
+        none_lost = λ five. halt.none_lost;
         whole = λ which. absurd (neither 3 0 1 status is (λ z. omega (arith, z)) (λ z. omega (arith, z)) which);
         judged = λ which. absurd (neither 3 0 1 status is (λ z. omega (arith, z)) (λ z. omega (arith, z)) which);
         cut = λ which. unended;
@@ -204,22 +204,22 @@ module _ (o : OptionsOf) (from mid to : Sources) (shelf mid_shelf shelved : Shel
         taken,
         lived_all (settings o) from to shelf shelved written_old written_new bytes (has_ended new) refused told rest e.lost status text h
             (finished_then (settings o) from mid to shelf mid_shelf shelved session behind old new was now refused told text Failed d e [] (all_kept e.reads.came e.reads.kept same taken going)) s
-            (as_before status h.same)
-            (inl (subst (RisesBy (count_broken told) shelf.faults) (sym h.unfailed) d.failed)) written
+            (as_before status halt.same)
+            (inl (subst (RisesBy (count_broken told) shelf.faults) (sym halt.unfailed) d.failed)) written
             (not_soon bytes status (λ z. omega (arith, z, is))),
       )
 
   over_much : (e : Ends mid to mid_shelf shelved old new session behind was now TooMuch) (status : ℕ) → status ≡ 6
       → IsLived (settings o) from to shelf shelved written_old written_new (count_taken new) status h
   over_much e status is =
-      let h = e.over in
+      let halt = e.over in
       let taken = taken_then (settings o) from mid to shelf mid_shelf shelved session behind old new was now refused told text TooMuch d e in
       let bytes = d.bytes ++ e.reads.came in
       let rest = up_to_quit (e.told ++ still_asked new [] (has_ended new)) in
-      let many = many_taken new (ap is_too_much h.reason_is) in
+      let many = many_taken new (ap is_too_much halt.reason_is) in
       let most = most_taken new in
-      let unended : has_ended new ≡ false = open_reader (has_ended new) (λ ended. e.reads.takes.few ended h.reason_is) in
-      let last = subst (λ s. AreKept s e.reads.came e.reads.kept) h.reason_is e.reads.takes.holds in
+      let unended : has_ended new ≡ false = open_reader (has_ended new) (λ ended. e.reads.takes.few ended halt.reason_is) in
+      let last = subst (λ s. AreKept s e.reads.came e.reads.kept) halt.reason_is e.reads.takes.holds in
       let one_more : bytes ≡ (d.bytes ++ e.reads.kept) ++ last.0 ∷ [] = ap (λ c. d.bytes ++ c) last.1 ∙ sym (append_assoc d.bytes e.reads.kept (last.0 ∷ [])) in
       let cut : AreCut new bytes (d.bytes ++ e.reads.kept) [] = record {
         front = most_front 67108864 last.0 bytes (d.bytes ++ e.reads.kept) one_more
@@ -227,8 +227,8 @@ module _ (o : OptionsOf) (from mid to : Sources) (shelf mid_shelf shelved : Shel
         whole = λ ended. refl;
       } in
       let s : IsStatus bytes (has_ended new) refused rest e.lost status = record {
-        none_left = λ four five. none_left stop.TooMuch e.told e.lost _ _ h;
-        none_lost = λ five. h.none_lost;
+        none_left = λ four five. none_left stop.TooMuch e.told e.lost _ _ halt;
+        none_lost = λ five. halt.none_lost;
         whole = λ which. absurd (neither 6 0 1 status is (λ z. omega (arith, z)) (λ z. omega (arith, z)) which);
         judged = λ which. absurd (neither 6 0 1 status is (λ z. omega (arith, z)) (λ z. omega (arith, z)) which);
         cut = λ which. unended;
@@ -239,8 +239,8 @@ module _ (o : OptionsOf) (from mid to : Sources) (shelf mid_shelf shelved : Shel
         has_ended new,
         taken,
         lived_all (settings o) from to shelf shelved written_old written_new bytes (has_ended new) refused told rest e.lost status text h
-            (finished_then (settings o) from mid to shelf mid_shelf shelved session behind old new was now refused told text TooMuch d e [] cut) s (as_before status h.same)
-            (inl (subst (RisesBy (count_broken told) shelf.faults) (sym h.unfailed) d.failed)) written
+            (finished_then (settings o) from mid to shelf mid_shelf shelved session behind old new was now refused told text TooMuch d e [] cut) s (as_before status halt.same)
+            (inl (subst (RisesBy (count_broken told) shelf.faults) (sym halt.unfailed) d.failed)) written
             (not_soon bytes status (λ z. omega (arith, z, is))),
       )
 
@@ -248,7 +248,7 @@ module _ (o : OptionsOf) (from mid to : Sources) (shelf mid_shelf shelved : Shel
   over_want : (e : Ends mid to mid_shelf shelved old new session behind was now NoMemory) (status : ℕ) → status ≡ 5 → is_too_much (stopped new) ≡ false → (lost : List ℕ)
       → e.reads.came ≡ e.reads.kept ++ lost → IsHistory (settings o) told status text h
       → IsLived (settings o) from to shelf shelved written_old written_new (count_taken new) status h
-  over_want e status is going lost came h =
+  over_want e status is going lost came so =
       let taken = taken_then (settings o) from mid to shelf mid_shelf shelved session behind old new was now refused told text NoMemory d e in
       let bytes = d.bytes ++ e.reads.came in
       let rest = up_to_quit (e.told ++ still_asked new lost (has_ended new)) in
@@ -270,7 +270,7 @@ module _ (o : OptionsOf) (from mid to : Sources) (shelf mid_shelf shelved : Shel
         has_ended new,
         taken,
         lived_all (settings o) from to shelf shelved written_old written_new bytes (has_ended new) refused told rest e.lost status text h
-            (finished_then (settings o) from mid to shelf mid_shelf shelved session behind old new was now refused told text NoMemory d e lost cut) s h
+            (finished_then (settings o) from mid to shelf mid_shelf shelved session behind old new was now refused told text NoMemory d e lost cut) s so
             (rises_perhaps (count_broken told) shelf.faults mid_shelf.faults shelved.faults status is d.failed e.cause) written
             (not_soon bytes status (λ z. omega (arith, z, is))),
       )
