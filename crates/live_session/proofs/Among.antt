@@ -55,6 +55,7 @@ unspoken st b (z ∷ zs) h = go (is_owned z) refl h (λ e. unspoken st (apply ki
         → cond spoken (record { entry = z; book = b } ∷ ms) ms ≡ []
     silent true e ms none = absurd (true≢false e)
     silent false e ms none = none
+
     go : (own : Bool) → is_owned z ≡ own → cond own (z ∷ owned zs) (owned zs) ≡ []
         → (owned zs ≡ [] → moments_from kit st (apply kit st b z) zs ≡ []) → moments_from kit st b (z ∷ zs) ≡ []
     go true is e more = absurd (true≢false (ap (λ (xs : List LogEvent). is_some_entry xs) e))

@@ -68,9 +68,10 @@ judged_spoken names st (Err fault) old es (Err refused) plain p = none_spoken es
 -- a holder may add them, and keeps its tickets
 spoken_may : (h : List LogEvent) (ts : List ℕ) (es : List LogEvent) → AreSpoken es → MayAddAll h ts es
 spoken_may h ts [] all = tt
-spoken_may h ts (e ∷ es) all =
-    (subst (MayAddKind h ts) (sym all.0) tt,
-    spoken_may (h ++ e ∷ []) (kept_by ts (kind_of e)) es all.1)
+spoken_may h ts (e ∷ es) all = (
+  subst (MayAddKind h ts) (sym all.0) tt,
+  spoken_may (h ++ e ∷ []) (kept_by ts (kind_of e)) es all.1,
+)
 
 spoken_kept : (ts : List ℕ) (es : List LogEvent) → AreSpoken es → kept_all ts es ≡ ts
 spoken_kept ts [] all = refl

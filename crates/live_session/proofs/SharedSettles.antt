@@ -48,6 +48,7 @@ last_among (z ∷ zs) ps e is = by (is_owned z) refl ps is (λ (qs : List LogEve
   where
     with_front : (front : List LogEvent) (own : Bool) → is_owned z ≡ own → owned (z ∷ front) ≡ cond own (z ∷ owned front) (owned front)
     with_front front own is = ap (λ (b : Bool). cond b (z ∷ owned front) (owned front)) is
+
     by : (own : Bool) → is_owned z ≡ own → (ps : List LogEvent) → cond own (z ∷ owned zs) (owned zs) ≡ ps ++ e ∷ []
         → ((qs : List LogEvent) → owned zs ≡ qs ++ e ∷ [] → IsAmong zs qs e) → IsAmong (z ∷ zs) ps e
     by false other ps is more =
@@ -106,6 +107,7 @@ unspoken_among st b (z ∷ zs) all = by (is_owned z) refl all (unspoken_among st
     silent : (spoken : Bool) → spoken ≡ false → (ms : List LogMoment) → ms ≡ [] → cond spoken (record { entry = z; book = b } ∷ ms) ms ≡ []
     silent true e ms none = absurd (true≢false e)
     silent false e ms none = none
+
     by : (own : Bool) → is_owned z ≡ own → AreQuiet (cond own (z ∷ owned zs) (owned zs))
         → (AreQuiet (owned zs) → moments_from kit st (apply kit st b z) zs ≡ []) → moments_from kit st b (z ∷ zs) ≡ []
     by true own all more = silent (is_spoken z) all.0 (moments_from kit st (apply kit st b z) zs) (more all.1)

@@ -22,12 +22,7 @@ pub fn settle_answer(shown: Shown) -> SettleAnswer
 impl Running {
     /// Charges the session's room for a settle over so many links: 1, and 2 for each pass that may be made, as many as are said, or one for each link.
     /// The passes; or None where the room is too small, and then nothing is charged.
-    pub fn charge_settle(
-        &mut self,
-        limits: Limits,
-        links: u32,
-        passes: Option<u32>,
-    ) -> Option<u32>
+    pub fn charge_settle(&mut self, limits: Limits, links: u32, passes: Option<u32>) -> Option<u32>
         requires within { self.old.charge ≤ limits.rooms.session }
         ensures { Charges limits links passes self.old self.new result }
     {

@@ -15,8 +15,8 @@ use live_session::{Limits, Session};
 use ls_port::{MemShelf, NamedText, OpenGate, SolidSource};
 use ls_text::{NoMemory, TextBytes};
 use std::alloc::Global;
-use std::test::Fail;
 use std::sync::Wait;
+use std::test::Fail;
 use std::thread::Threads;
 
 // A block with an accumulator of an input, eleven lines long.

@@ -32,6 +32,14 @@ fn main(rt: HostRuntime) -> ExitCode {
     let mut source = StdSource::new(rt.reader());
     let mut sink = StdSink::new(io::writer(&rt));
     let mut shelf = FileShelf::new(&rt);
-    let outcome = live_run(&rt, rt.alloc(), &words, &mut source, &mut sink, &mut shelf, &OpenGate);
+    let outcome = live_run(
+        &rt,
+        rt.alloc(),
+        &words,
+        &mut source,
+        &mut sink,
+        &mut shelf,
+        &OpenGate,
+    );
     ExitCode::from(outcome.status)
 }

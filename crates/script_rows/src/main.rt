@@ -146,7 +146,11 @@ fn is_of_a_fresh_run<R: Threads + Wait + Sync, F: Shelf>(
 }
 
 // How many rows end with the registers of a run of their last design alone; the others are named.
-fn settled_agree<R: Threads + Wait + Sync>(host: &HostRuntime, rt: &R, alloc: Global) -> io::Result<u32> {
+fn settled_agree<R: Threads + Wait + Sync>(
+    host: &HostRuntime,
+    rt: &R,
+    alloc: Global,
+) -> io::Result<u32> {
     let pairs = fs::read_to_string(host, "fresh.txt")?;
     let mut count = 0u32;
     for pair in pairs.lines() {

@@ -24,8 +24,6 @@ ghost use Rattle.turn_settle.specs.Settled.{HasSettledBeside, HasTriedBeside};
 ghost use Rattle.turn_settle.specs.Visits.{IsVisit, HasInstalled};
 
 use book_history::laws::{legal_histories, outlines_of_histories};
-pub use visits::links;
-
 use book_turn::{SessionPass, Turn};
 use checkpoint_book::book::Book;
 use checkpoint_book::shown::Shown;
@@ -40,6 +38,7 @@ use std::alloc::Global;
 use std::marker::Brand;
 use std::sync::Wait;
 use std::sync::ledger::{Blank, Ledger};
+pub use visits::links;
 
 /// Settles a book in turns of the session's own, by at most so many passes, and then shows it. A pass claims the first link that
 /// isn't joined, even if it is out with a worker, runs its ticket's machine over its rows while others may have the book, and
