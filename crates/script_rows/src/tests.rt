@@ -5,8 +5,8 @@ use ls_port::{MemShelf, MemSink, MemSource, NamedText, OpenGate, Shelf, SolidShe
 use ls_text::TextBytes;
 use no_memory::NoMemory;
 use std::alloc::Global;
-use std::test::Fail;
 use std::sync::Wait;
+use std::test::Fail;
 use std::thread::Threads;
 
 const HEAD: &[u8] = b"edit\ntop top\nclock clk\nfile a.v\nmodule top(input clk);\n";
@@ -406,7 +406,15 @@ fn other_words_are_refused(rt: HostRuntime) -> Result<(), Fail> {
         let mut source = MemSource::new(Vec::from_slice(alloc, b"show\n")?, Vec::new(alloc));
         let mut sink = MemSink::new(alloc, Vec::new(alloc));
         let mut shelf = SolidShelf::new(alloc, Vec::new(alloc));
-        let outcome = live_run(&rt, alloc, &words, &mut source, &mut sink, &mut shelf, &OpenGate);
+        let outcome = live_run(
+            &rt,
+            alloc,
+            &words,
+            &mut source,
+            &mut sink,
+            &mut shelf,
+            &OpenGate,
+        );
         assert_eq!(rt; outcome.status, 2);
         assert_eq!(rt; outcome.taken, 0);
         assert!(rt; sink.bytes().is_empty());
@@ -428,7 +436,15 @@ fn options_are_taken(rt: HostRuntime) -> Result<(), Fail> {
         let mut source = MemSource::new(Vec::from_slice(alloc, b"quit\nfrob\n")?, Vec::new(alloc));
         let mut sink = MemSink::new(alloc, Vec::new(alloc));
         let mut shelf = SolidShelf::new(alloc, Vec::new(alloc));
-        let outcome = live_run(&rt, alloc, &words, &mut source, &mut sink, &mut shelf, &OpenGate);
+        let outcome = live_run(
+            &rt,
+            alloc,
+            &words,
+            &mut source,
+            &mut sink,
+            &mut shelf,
+            &OpenGate,
+        );
         assert_eq!(rt; outcome.status, 0);
         assert_eq!(rt; outcome.taken, 10);
         assert!(rt; sink.bytes() == b"ok quit\n".as_slice());
