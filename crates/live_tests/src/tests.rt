@@ -112,18 +112,22 @@ fn a_ticket_waits_at_install_for_that_of_one_of_eight_workers(rt: HostRuntime) -
     meet(&rt, rt.alloc(), "8")
 }
 
-/// The short script and then so many displays at most, beside two workers, until one is settled.
-fn asked<R: Threads + Wait + Sync>(rt: &R, alloc: Global, asks: u32) -> Result<Ran, NoMemory> {
+/// The short script and then so many displays at most, beside two workers, until one is settled, which raises the flag.
+fn asked<R: Threads + Wait + Sync>(
+    rt: &R,
+    alloc: Global,
+    asks: u32,
+    settled: &AtomicBool,
+) -> Result<Ran, NoMemory> {
     let words = words_of(alloc, "2")?;
-    let settled = AtomicBool::new(false);
     let mut source = AskingSource {
         script: SolidSource::new(joined(alloc, &[RUN, EDIT])?),
-        settled: &settled,
+        settled,
         asks,
     };
     let mut sink = WatchedSink {
         sink: SolidSink::new(alloc),
-        settled: &settled,
+        settled,
     };
     let mut shelf = SolidShelf::new(alloc, Vec::new(alloc));
     let outcome = live_run(
@@ -145,7 +149,8 @@ fn asked<R: Threads + Wait + Sync>(rt: &R, alloc: Global, asks: u32) -> Result<R
 #[test]
 fn only_workers_settle(rt: HostRuntime) -> Result<(), Fail> {
     let alloc = rt.alloc();
-    let ran = asked(&rt, alloc, 1000)?;
+    let settled = AtomicBool::new(false);
+    let ran = asked(&rt, alloc, 1000, &settled)?;
     assert_eq!(rt; ran.status, 0);
     assert!(rt; ran.lines.ends_with(DISPLAY));
     let (of_session, of_workers) = claims(&ran.history);
