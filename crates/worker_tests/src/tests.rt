@@ -5,8 +5,6 @@ ghost use Rattle.book_turn.specs.Known.{Known};
 ghost use Rattle.checkpoint_book.specs.Views.{counts_of};
 
 use crate::asking::Asking;
-use crate::meeting::Meeting;
-use crate::meeting_gate::MeetingGate;
 use crate::noting_gate::NotingGate;
 use crate::reloading::{Reloading, numbered, reload_next};
 use crate::replay::Replay;
@@ -31,6 +29,7 @@ use std::sync::ledger::{Blank, Ledger};
 use std::sync::{Arc, Wait};
 use std::test::Fail;
 use std::thread::Threads;
+use test_gates::{Meeting, MeetingGate};
 use worker_scope::{SessionWork, Worked, with_workers};
 
 /// How often a session asks at most.
