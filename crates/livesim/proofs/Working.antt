@@ -17,9 +17,15 @@ use Rattle.live_session.specs.Worlds.{fresh}
 use Rattle.live_session.specs.declared.session.Session.{Session}
 use Rattle.live_session.proofs.SharedSettles.{cancel}
 use Rattle.live_session.proofs.Standing.{are_owned}
-use Rattle.livesim.specs.Histories.{EndsFrom}
-use Rattle.livesim.specs.Turns.{HasLimits}
-use Rattle.livesim.specs.Working.{IsReadyAt}
+use Rattle.live_options.specs.Words.{OptionsOf}
+use Rattle.live_session.specs.Settings.{Settings}
+use Rattle.livesim.specs.Histories.{EndsFrom, IsLegal}
+use Rattle.livesim.specs.Runs.{HasSettings}
+use Rattle.livesim.specs.Settings.{settings}
+use Rattle.livesim.specs.Turns.{HasLimits, Shelves, Sources}
+use Rattle.livesim.specs.Working.{IsReadyAt, Sinks, Works}
+use Rattle.livesim.proofs.Histories.{settings_kept}
+use Rattle.livesim.proofs.Over.{IsLived}
 
 -- ---- a pass that was split
 
@@ -78,6 +84,21 @@ module _ (after behind last : Sight) (h : Log) (sees : owned after.seen ≡ afte
         (sym (owned_append after.seen ends_in.0) ∙ ap owned (sym ends_in.1) ∙ learned.own session ∙ own ∙ closed.own
         ∙ ap (λ (es : List LogEvent). es ++ Closes ∷ []) (sym sees));
   }
+
+-- a pass that was split carries the settings that it had
+split_settings : (st : Settings) (v u : Sight) → apart_from_splits u ≡ apart_from_splits v → HasSettings st (log_of v) → HasSettings st (log_of u)
+split_settings st v u same has =
+    settings_kept st (log_of v) (log_of u) (ap (λ (x : Sight). carried_settings x.settings) same) has
+
+-- what a script's work tells, of the history that the book comes back with
+pub worked_lived : (o : OptionsOf) (v before after behind last : Sight) (h : Log) (from to : Sources) (sink sunk : Sinks) (shelf shelved : Shelves) (r : Reader)
+    (status : ℕ) → HasSettings (settings o) (log_of v) → apart_from_splits before ≡ apart_from_splits v
+    → Works from to sink sunk shelf shelved r before after status → HasAdded (Closes ∷ []) after behind → last.own ≡ behind.own
+    → last.settings ≡ behind.settings → IsPrefix behind.seen last.seen → last.session ≡ true → Learned last h → IsLegal h
+    → IsLived (settings o) from to shelf shelved sink.written sunk.written (count_taken r) status h
+worked_lived o v before after behind last h from to sink sunk shelf shelved r status has same works closed own kept begins session learned legal =
+    works.lived o h (split_settings (settings o) v before same has)
+    (ends_from after behind last h works.sees closed own kept begins session learned) legal
 
 -- where the session was alone from the beginning on, all entries are its own
 pub alone_all : (v after last : Sight) (h : Log) → v.seen ≡ [] → v.own ≡ [] → v.alone ≡ true → GoesOn v after → HasAdded (Closes ∷ []) after last
