@@ -53,7 +53,8 @@ pub record Reads (before behind : Sources) (old new : Reader) (told : List (Resu
   pub hands : HandsOut old new told kept
   pub soon : IsSoon old came
 
--- A command was read and carried out in a session that reading it left as it was, beside its book; these are its lines, and the reader goes on.
+-- A command was read and carried out in a session that reading it left as it was, beside its book; these are its lines, and the reader goes on. Whether the
+-- session's pass is alone is told beside it (`goes` of `turn`).
 pub record Carries (from to : Sources) (shelf shelved : Shelves) (old new : Reader) (session behind : Session) (was is : Log) (text : List ℕ)
     (refused : Bool) : Type 0 where
   pub alone : Bool

@@ -142,7 +142,8 @@ fn run<R: Threads + Wait + Sync, S: Source, K: Sink, F: Shelf, G: Gate>(
     }
 }
 
-/// Reads a script, carries out its commands and writes their lines.
+/// Reads a script, carries out its commands and writes their lines, while workers verify older stretches of the book; the gate is asked before each
+/// verification and each install. The book is closed and the workers are joined at the end, whatever ended the run, and the history is handed back.
 ///
 /// The words are those of the command line, the program's name first. A command is carried out and its lines are written as soon as its last line is
 /// read, before more is read. It ends at the end of the input, at `quit`, at a fault of the source or the sink, for want of memory, or one byte
