@@ -1,5 +1,5 @@
 -- A session that looks at its book before a settle, and a settle that is refused then.
-use Rattle.std.proofs.Common.{◌≡◌, ◌∙◌, ℕ, ◌+◌, ◌<◌, true, List, [], ◌++◌, length, Option, Some, None, Result, Ok, Err, refl, sym, ap, subst, append-nil}
+use Rattle.std.proofs.Common.{◌≡◌, ◌∙◌, ℕ, ◌+◌, ◌<◌, true, false, List, [], ◌++◌, length, Option, Some, None, Result, Ok, Err, refl, sym, ap, subst, append-nil}
 use Rattle.std.specs.Prelude.{IfOk, OnErr}
 use Rattle.std.specs.Option.{unwrap_or}
 use Rattle.ls_port.specs.declared.shelf_answer.ShelfAnswer.{ShelfAnswer}
@@ -22,7 +22,7 @@ use Rattle.live_session.specs.Logs.{InputRow, Log, LogEvent, State, book_in, kit
 use Rattle.live_session.specs.Sessions.{limits_of, running_world, world, world_of}
 use Rattle.live_session.specs.Settings.{Settings}
 use Rattle.live_session.specs.Steps.{StepsTo, Stops, undone}
-use Rattle.live_session.specs.Turns.{Answers, AnswersFrom, Refuses}
+use Rattle.live_session.specs.Turns.{Accepts, Answers, AnswersFrom, Refuses}
 use Rattle.live_session.specs.Worlds.{World, refused_at}
 use Rattle.live_session.specs.declared.reply.Reply.{Reply}
 use Rattle.live_session.specs.declared.running.Running.{Running}
@@ -84,6 +84,12 @@ meets_itself s v at = record {
   legal = at.legal;
   seen_legal = at.legal;
 }
+
+-- a settle doesn't end the run
+pub settle_goes_on : {E : Type 0} (text : (grid : List ℕ) → List ℕ) (result : Result Reply E)
+    → IfOk result (λ (reply : Reply). (grid : List ℕ) → Accepts (text grid) reply) → IfOk result (λ (reply : Reply). reply.quit ≡ false)
+settle_goes_on text (Ok reply) says = (says []).goes_on
+settle_goes_on text (Err e) says = tt
 
 -- ---- a settle that is refused
 

@@ -1,5 +1,5 @@
 // The top call.
-ghost use Rattle.std.specs.Prelude.{◌≡◌, ◌≢◌, ◌⊎◌, ◌<◌, ◌≤◌, ℕ, List, [], ◌∷◌, ◌++◌, length, map, string_bytes, Bool, false, Some, None, if◌then◌else◌};
+ghost use Rattle.std.specs.Prelude.{◌≡◌, ◌≢◌, ◌⊎◌, ◌<◌, ◌≤◌, ℕ, List, [], ◌∷◌, ◌++◌, length, map, string_bytes, Bool, true, Some, None};
 ghost use Rattle.ls_port.specs.Causes.{Rose};
 ghost use Rattle.live_options.specs.Words.{OptionsOf, options, options_of};
 ghost use Rattle.book_history.specs.Owned.{AllOwned};
@@ -77,14 +77,14 @@ fn history_of<R: Wait>(
 }
 
 // What words that are taken ask for, beside a book of its own.
-fn run<R: Threads + Wait + Sync, S: Source, K: Sink, F: Shelf, G: Gate>(
+fn run<'a, R: Threads + Wait + Sync, S: Source, K: Sink, F: Shelf, G: Gate>(
     rt: &R,
     alloc: Global,
     options: Options,
-    source: &mut S,
-    sink: &mut K,
-    shelf: &mut F,
-    gate: &G,
+    source: &'a mut S,
+    sink: &'a mut K,
+    shelf: &'a mut F,
+    gate: &'a G,
 ) -> Outcome
     requires interval { 1 ≤ options.interval }
     ensures lived { (bytes : List ℕ) × (ended : Bool) × (length bytes ≡ result.taken)

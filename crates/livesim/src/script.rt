@@ -47,19 +47,38 @@ impl<'a, S: Source, K: Sink, F: Shelf, G: Gate> SessionWork<Design> for Script<'
         turn: &BookTurn<Book<Design>>,
         pass: &mut SessionPass<Book<Design>>,
     ) -> Ended<'a, S, K, F, G> {
-        let mut script = self;
+        let Script {
+            alloc,
+            mut session,
+            mut reader,
+            source,
+            sink,
+            shelf,
+            gate,
+        } = self;
         let status = carry_out(
             rt,
-            script.alloc,
-            &mut script.session,
-            &mut script.reader,
+            alloc,
+            &mut session,
+            &mut reader,
             turn,
             pass,
-            script.source,
-            script.sink,
-            script.shelf,
-            script.gate,
+            source,
+            sink,
+            shelf,
+            gate,
         );
-        Ended { script, status }
+        Ended {
+            script: Script {
+                alloc,
+                session,
+                reader,
+                source,
+                sink,
+                shelf,
+                gate,
+            },
+            status,
+        }
     }
 }

@@ -78,8 +78,14 @@ returns-in_err-reply-clause-stops g c =
 pub returns-in_err-code-clause-stops : goal.returns-in_err-code-clause-stops
 returns-in_err-code-clause-stops g c =
     let r = c.args.self.now in
+    let before : rows_of c.recorded.new.record_ ≡ rows_of r.record_ = c.in_err-code.ensures.before in
+    let new : Running = record r {
+      record_ = c.recorded.new.record_;
+      in_range = subst (λ (rs : List InputRow). length rs ≤ 2 ^ 40) (sym before) r.in_range;
+      rows_ascend = subst (All AreAscending) (sym before) r.rows_ascend;
+    } in
     stopped c.from_residual-in_err-code.result
-    (stops_still c.args.names.now c.args.limits (Runs c.args.line c.args.cycles) r _ c.args.book.now c.args.book.now (adds_nothing c.args.book.now)
+    (stops_still c.args.names.now c.args.limits (Runs c.args.line c.args.cycles) r new c.args.book.now c.args.book.now (adds_nothing c.args.book.now)
     (λ (entries : List Entry) (grid : List ℕ). ap (world_with c.args.names.now entries grid r) c.in_err-code.ensures.before))
 
 pub returns-in_err-code-clause-stands : goal.returns-in_err-code-clause-stands
@@ -116,8 +122,13 @@ returns-in-Some-clause-stops g c =
     let more = replicate n r.row.value in
     let rows : rows_of c.recorded.new.record_ ≡ rows_of r.record_ =
     c.in_ok-code.ensures.rows ∙ ap (λ o. rows_behind o (rows_of r.record_) more) c.in-Some.is in
+    let new : Running = record r {
+      record_ = c.recorded.new.record_;
+      in_range = subst (λ (rs : List InputRow). length rs ≤ 2 ^ 40) (sym rows) r.in_range;
+      rows_ascend = subst (All AreAscending) (sym rows) r.rows_ascend;
+    } in
     stopped c.refused_line-in-Some.result
-    (stops_still names c.args.limits (Runs c.args.line c.args.cycles) r _ c.args.book.now c.args.book.now (adds_nothing c.args.book.now)
+    (stops_still names c.args.limits (Runs c.args.line c.args.cycles) r new c.args.book.now c.args.book.now (adds_nothing c.args.book.now)
     (λ (entries : List Entry) (grid : List ℕ). ap (world_with names entries grid r) rows))
 
 pub returns-in-Some-clause-stands : goal.returns-in-Some-clause-stands
@@ -218,7 +229,12 @@ returns-in-Err-clause-stops g c =
     let back : rows_of c.advance_or_cut.new.record_ ≡ rows =
     cut_back rows more (rows_of c.recorded.new.record_) (rows_of c.advance_or_cut.new.record_) c.len-from.result c.len-from.ensures all
     c.in-Err.ensures.before in
-    stops_still names c.args.limits (Runs c.args.line c.args.cycles) r _ c.args.book.now c.advance_or_cut.new.book
+    let new : Running = record r {
+      record_ = c.advance_or_cut.new.record_;
+      in_range = subst (λ (rs : List InputRow). length rs ≤ 2 ^ 40) (sym back) r.in_range;
+      rows_ascend = subst (All AreAscending) (sym back) r.rows_ascend;
+    } in
+    stops_still names c.args.limits (Runs c.args.line c.args.cycles) r new c.args.book.now c.advance_or_cut.new.book
     (adds_none c.args.book.now c.advance_or_cut.new.book c.advance_or_cut.ensures.settings c.in-Err.ensures.err)
     (λ (entries : List Entry) (grid : List ℕ). ap (world_with names entries grid r) back)
 

@@ -126,34 +126,6 @@ returns-in-Show-clause-lost g c = none_lost (spoken c.args.self.now.names c.args
 pub returns-in-Show-clause-cause : goal.returns-in-Show-clause-cause
 returns-in-Show-clause-cause g c = always c.show.result (inl refl)
 
-pub returns-in-Settle-clause-steps : goal.returns-in-Settle-clause-steps
-returns-in-Settle-clause-steps g c =
-    let s = c.args.self.now in
-    commanded s.names c.args.command (Settles c.in-Settle.line c.in-Settle.passes) (g.F.Shelf.answers c.args.shelf.now)
-    (g.F.Shelf.faults c.args.shelf.now) s c.settle_command.new.self
-    c.args.book.now c.settle_command.new.book c.settle_command.result (ap (spoken s.names) c.in-Settle.is)
-    c.settle_command.ensures.limits refl (λ st w. refl) c.settle_command.ensures.beside c.settle_command.ensures.answers
-
-pub returns-in-Settle-clause-stops : goal.returns-in-Settle-clause-stops
-returns-in-Settle-clause-stops g c =
-    let s = c.args.self.now in
-    command_stops s.names c.args.command (Settles c.in-Settle.line c.in-Settle.passes) (g.F.Shelf.answers c.args.shelf.now)
-    (g.F.Shelf.faults c.args.shelf.now) s c.settle_command.new.self
-    c.args.book.now c.settle_command.new.book c.settle_command.result (ap (spoken s.names) c.in-Settle.is)
-    c.settle_command.ensures.limits refl (λ st w. refl) c.settle_command.ensures.beside c.settle_command.ensures.stops
-
-pub returns-in-Settle-clause-quits : goal.returns-in-Settle-clause-quits
-returns-in-Settle-clause-quits g c =
-    let s = c.args.self.now in
-    quits_as (Settles c.in-Settle.line c.in-Settle.passes) (spoken s.names c.args.command) (ap (spoken s.names) c.in-Settle.is) false refl
-    c.settle_command.result c.settle_command.ensures.goes_on
-
-pub returns-in-Settle-clause-lost : goal.returns-in-Settle-clause-lost
-returns-in-Settle-clause-lost g c = none_lost (spoken c.args.self.now.names c.args.command) (g.F.Shelf.answers c.args.shelf.now) c.settle_command.result
-
-pub returns-in-Settle-clause-cause : goal.returns-in-Settle-clause-cause
-returns-in-Settle-clause-cause g c = always c.settle_command.result (inl refl)
-
 pub returns-in-Status-clause-steps : goal.returns-in-Status-clause-steps
 returns-in-Status-clause-steps g c =
     let s = c.args.self.now in

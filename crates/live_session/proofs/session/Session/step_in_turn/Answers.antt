@@ -11,7 +11,7 @@ use Rattle.live_session.proofs.InTurn.{adds_of, may_leave, stands_then, steps_th
 use Rattle.live_session.proofs.session.Session.step_in_turn.Goals as goal
 
 pub step_beside-reply-requires-clause-beside : goal.step_beside-reply-requires-clause-beside
-step_beside-reply-requires-clause-beside g c =
+step_beside-reply-requires-clause-beside g c κs within =
     let s = c.args.self.now in
     let v = known c.args.pass.now in
     let i = c.deref_mut-book.result.now in

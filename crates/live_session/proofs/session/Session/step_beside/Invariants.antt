@@ -1,4 +1,4 @@
-use Rattle.live_session.proofs.session.Session.step.Given as goal
+use Rattle.live_session.proofs.session.Session.step_beside.Given as goal
 
 abbrev pub ghosts-carry_out : goal.ghosts-carry_out
 ghosts-carry_out g a = record { name = a.blank.name; parts = a.blank.parts }
