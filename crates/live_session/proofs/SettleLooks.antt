@@ -125,17 +125,21 @@ module _ (v : Sight) (i : Log) (m : Meets v i) (line : ℕ) (passes : Option ℕ
       (undone (record { added = []; settings = refl; events = sym (append-nil i.events); none_own = refl; none = λ alone. refl }) same)
 
 -- no design runs: 62
-module _ {E : Type 0} (s : Session) (v : Sight) (at : StandsAt s v) (none : s.running ≡ None) (line : ℕ) (passes : Option ℕ) (result : Result Reply E) where
+module _ {E : Type 0} (old new : Session) (v : Sight) (at : StandsAt old v) (none : old.running ≡ None) (limits : limits_of new ≡ limits_of old)
+    (same : world_in new (log_of v) ≡ world_in old (log_of v)) (beside : StandsBeside new (log_of v)) (line : ℕ) (passes : Option ℕ)
+    (result : Result Reply E) where
   pub none_steps : IfOk result (Refuses (refused_at 62 line []))
       → IfOk result (λ (r : Reply). (answers : Option (List ShelfAnswer)) (faults : ℕ)
-      → StepsTo v.alone (Ok (Settles line passes)) answers answers faults faults s s (log_of v) (log_of v) r.lines r.refused)
+      → StepsTo v.alone (Ok (Settles line passes)) answers answers faults faults old new (log_of v) (log_of v) r.lines r.refused)
   none_steps says =
-      refused_steps v (log_of v) (meets_itself s v at) line passes s s refl at.stands result
-      (none_runs (Settles line passes) s (log_of v) line result none refl says)
+      let i = log_of v in
+      refused_steps v i (meets_itself old v at) line passes old new limits beside result
+      (subst (λ (w : World). IfOk result (AnswersFrom (settings_in old i) (Settles line passes) (world_in old i) w i i)) (sym same)
+      (none_runs (Settles line passes) old i line result none refl says))
 
   pub none_stops : OnErr result ((answers : Option (List ShelfAnswer)) (faults : ℕ)
-      → Stops v.alone (Ok (Settles line passes)) answers answers faults faults s s (log_of v) (log_of v))
-  none_stops = refused_stops v (log_of v) (meets_itself s v at) line passes s s refl at.stands result refl
+      → Stops v.alone (Ok (Settles line passes)) answers answers faults faults old new (log_of v) (log_of v))
+  none_stops = refused_stops v (log_of v) (meets_itself old v at) line passes old new limits beside result same
 
 -- the room is too small: 68
 module _ {E : Type 0} (old new : Session) (r x : Running) (runs : old.running ≡ Some r)

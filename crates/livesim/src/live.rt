@@ -10,6 +10,7 @@ ghost use Rattle.livesim.specs.Histories.{IsLegal};
 ghost use Rattle.livesim.specs.Runs.{IsComplete, Lived};
 ghost use Rattle.livesim.specs.Settings.{settings};
 
+use crate::ended::Ended;
 use crate::outcome::Outcome;
 use crate::script::Script;
 use book_history::history::History;
@@ -78,7 +79,7 @@ fn history_of<R: Wait>(
 
 // What words that are taken ask for, beside a book of its own.
 fn run<'a, R: Threads + Wait + Sync, S: Source, K: Sink, F: Shelf, G: Gate>(
-    rt: &R,
+    rt: &'a R,
     alloc: Global,
     options: Options,
     source: &'a mut S,
@@ -113,6 +114,7 @@ fn run<'a, R: Threads + Wait + Sync, S: Source, K: Sink, F: Shelf, G: Gate>(
         return stopped(alloc, 5, options.interval, options.lookback);
     };
     let script = Script {
+        rt,
         alloc,
         session,
         reader,
@@ -135,10 +137,12 @@ fn run<'a, R: Threads + Wait + Sync, S: Source, K: Sink, F: Shelf, G: Gate>(
         gate,
         script,
     );
+    let Ended { script, status } = answer;
+    let taken = script.reader.taken();
     Outcome {
-        status: answer.status,
-        taken: answer.script.reader.taken(),
+        status,
         history: history_of(rt, turn, pass),
+        taken,
     }
 }
 

@@ -1,5 +1,6 @@
 // A script in a session, beside workers.
 ghost use Rattle.std.specs.Prelude.{◌≡◌};
+ghost use Rattle.std.specs.Thread.{IsSync};
 ghost use Rattle.livesim.specs.Turns.{shelf_at, source_at};
 ghost use Rattle.livesim.specs.Working.{IsReadyAt, Works, sink_at};
 
@@ -18,7 +19,8 @@ use worker_scope::SessionWork;
 
 /// A session that reads a script from its source, and writes to its sink.
 #[derive(Drop)]
-pub struct Script<'a, S: Source, K: Sink, F: Shelf, G: Gate> {
+pub struct Script<'a, R: Threads + Wait + Sync, S: Source, K: Sink, F: Shelf, G: Gate> {
+    pub rt: &'a R,
     pub alloc: Global,
     pub session: Session,
     pub reader: Reader,
@@ -28,10 +30,12 @@ pub struct Script<'a, S: Source, K: Sink, F: Shelf, G: Gate> {
     pub gate: &'a G,
 }
 
-impl<'a, S: Source, K: Sink, F: Shelf, G: Gate> SessionWork<Design> for Script<'a, S, K, F, G> {
-    type Answer = Ended<'a, S, K, F, G>;
+impl<'a, R: Threads + Wait + Sync, S: Source, K: Sink, F: Shelf, G: Gate> SessionWork<Design>
+    for Script<'a, R, S, K, F, G> {
+    type Answer = Ended<'a, R, S, K, F, G>;
 
-    ghost ready = { λ s v. IsReadyAt s.session s.reader v };
+    // Threads that build units share what it is run by.
+    ghost ready = { λ s v. IsSync R.row × IsReadyAt s.session s.reader v };
 
     // It comes back with the same source, sink and shelf.
     ghost does = { λ old v w ended. (ended.script.source.ghost_name ≡ old.source.ghost_name) × (ended.script.sink.ghost_name ≡ old.sink.ghost_name)
@@ -41,13 +45,14 @@ impl<'a, S: Source, K: Sink, F: Shelf, G: Gate> SessionWork<Design> for Script<'
         (shelf_at (F.answers old.shelf.now) (F.faults old.shelf.now)) (shelf_at (F.answers ended.script.shelf.now) (F.faults ended.script.shelf.now))
         ended.script.reader v w ended.status };
 
-    fn work<R: Threads + Wait + Sync>(
+    fn work<T: Threads + Wait + Sync>(
         self,
-        rt: &R,
+        _rt: &T,
         turn: &BookTurn<Book<Design>>,
         pass: &mut SessionPass<Book<Design>>,
-    ) -> Ended<'a, S, K, F, G> {
+    ) -> Ended<'a, R, S, K, F, G> {
         let Script {
+            rt,
             alloc,
             mut session,
             mut reader,
@@ -70,6 +75,7 @@ impl<'a, S: Source, K: Sink, F: Shelf, G: Gate> SessionWork<Design> for Script<'
         );
         Ended {
             script: Script {
+                rt,
                 alloc,
                 session,
                 reader,

@@ -14,3 +14,6 @@ legal-requires-send-M g c κs = search (design_send, sendable, crosses) depth 40
 
 pub legal-requires-sync-M : goal.legal-requires-sync-M
 legal-requires-sync-M g c κs = search (design_sync, sendable, crosses) depth 40 fits 20000
+
+pub finish-requires-send-B : goal.finish-requires-send-B
+finish-requires-send-B g c κs within = search (design_send, design_sync, sendable, crosses) depth 40 fits 20000

@@ -26,11 +26,13 @@ links-links-requires-sync-M g c κs within = search (design_sync, sendable, cros
 
 pub returns-in-None-clause-steps : goal.returns-in-None-clause-steps
 returns-in-None-clause-steps g c =
-    none_steps c.args.self.now (known c.args.pass.now) c.requires.at c.in-None.is c.args.line c.args.passes c.refused_line.result c.refused_line.ensures
+    none_steps c.args.self.now _ (known c.args.pass.now) c.requires.at c.in-None.is refl refl
+    (record { stands = c.requires.at.stands.stands; held = c.requires.at.stands.held }) c.args.line c.args.passes c.refused_line.result c.refused_line.ensures
 
 pub returns-in-None-clause-stops : goal.returns-in-None-clause-stops
 returns-in-None-clause-stops g c =
-    none_stops c.args.self.now (known c.args.pass.now) c.requires.at c.in-None.is c.args.line c.args.passes c.refused_line.result
+    none_stops c.args.self.now _ (known c.args.pass.now) c.requires.at c.in-None.is refl refl
+    (record { stands = c.requires.at.stands.stands; held = c.requires.at.stands.held }) c.args.line c.args.passes c.refused_line.result
 
 pub returns-in-None-clause-goes : goal.returns-in-None-clause-goes
 returns-in-None-clause-goes g c = goes_none (known c.args.pass.now)
@@ -115,7 +117,7 @@ returns-in_ok-answer-in-Some-charged-clause-steps g c =
     let marked = looked_links s v u c.requires.at c.links-links.ensures.free visit c.links-links.result c.links-links.ensures.links in
     let charge = c.in-Some-charged.ensures in
     settled_steps s _ r x c.in-Some.is (λ grid. refl) refl c.has_each_once.ensures kept v u (known c.settle.new.pass)
-    visit.added c.requires.at at c.settle.ensures.at c.args.line c.args.passes c.links-links.result marked there c.in-Some-charged.most charge.0 charge.1 (settled_up_to c.in_ok-answer-in-Some-charged.field-0) c.in_ok-answer-in-Some-charged.ensures.answer c.settle_reply.result
+    visit.added c.requires.at at c.settle.ensures.at c.args.line c.args.passes c.links-links.result marked there c.in-Some-charged.most charge.0 charge.1 (settled_up_to c.in_ok-answer-in-Some-charged.answer) c.in_ok-answer-in-Some-charged.ensures.answer c.settle_reply.result
     c.settle_reply.ensures
 
 pub returns-in_ok-answer-in-Some-charged-clause-stops : goal.returns-in_ok-answer-in-Some-charged-clause-stops
@@ -132,7 +134,7 @@ returns-in_ok-answer-in-Some-charged-clause-stops g c =
     let marked = looked_links s v u c.requires.at c.links-links.ensures.free visit c.links-links.result c.links-links.ensures.links in
     let charge = c.in-Some-charged.ensures in
     settled_stops s _ r x c.in-Some.is (λ grid. refl) refl c.has_each_once.ensures kept v u (known c.settle.new.pass)
-    visit.added c.requires.at at c.settle.ensures.at c.args.line c.args.passes c.links-links.result marked there c.in-Some-charged.most charge.0 charge.1 (settled_up_to c.in_ok-answer-in-Some-charged.field-0) c.in_ok-answer-in-Some-charged.ensures.answer c.settle_reply.result
+    visit.added c.requires.at at c.settle.ensures.at c.args.line c.args.passes c.links-links.result marked there c.in-Some-charged.most charge.0 charge.1 (settled_up_to c.in_ok-answer-in-Some-charged.answer) c.in_ok-answer-in-Some-charged.ensures.answer c.settle_reply.result
 
 pub returns-in-None-charged-clause-steps : goal.returns-in-None-charged-clause-steps
 returns-in-None-charged-clause-steps g c =
@@ -193,4 +195,4 @@ returns-in_ok-answer-in-Some-charged-clause-goes_on g c =
     let s = c.args.self.now in
     settle_goes_on
     (λ grid. settle_text (world_of s.names (entries_of s.registry) grid c.charge_settle-charged.new.self)
-    (settled_up_to c.in_ok-answer-in-Some-charged.field-0)) c.settle_reply.result c.settle_reply.ensures
+    (settled_up_to c.in_ok-answer-in-Some-charged.answer)) c.settle_reply.result c.settle_reply.ensures

@@ -89,3 +89,21 @@ returns-clause-at g c =
 
 pub returns-clause-goes : goal.returns-clause-goes
 returns-clause-goes g c = goes_more _ _ _ c.enter-boxed.ensures.goes c.leave.ensures.goes
+
+pub enter-boxed-requires-send-B : goal.enter-boxed-requires-send-B
+enter-boxed-requires-send-B g c κs within = search (design_send, design_sync, sendable, crosses) depth 40 fits 20000
+
+pub leave-requires-send-B : goal.leave-requires-send-B
+leave-requires-send-B g c κs within = search (design_send, design_sync, sendable, crosses) depth 40 fits 20000
+
+pub legal-requires-send-M : goal.legal-requires-send-M
+legal-requires-send-M g c κs within = search (design_send, design_sync, sendable, crosses) depth 40 fits 20000
+
+pub legal-requires-2-send-M : goal.legal-requires-2-send-M
+legal-requires-2-send-M g c κs within = search (design_send, design_sync, sendable, crosses) depth 40 fits 20000
+
+pub legal-requires-sync-M : goal.legal-requires-sync-M
+legal-requires-sync-M g c κs within = search (design_sync, sendable, crosses) depth 40 fits 20000
+
+pub legal-requires-2-sync-M : goal.legal-requires-2-sync-M
+legal-requires-2-sync-M g c κs within = search (design_sync, sendable, crosses) depth 40 fits 20000
