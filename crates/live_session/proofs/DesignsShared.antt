@@ -10,6 +10,9 @@ use Rattle.typed_ir.specs.contracts.lane.Lane as LaneRow
 use Rattle.typed_ir.specs.contracts.target.Target as TargetRow
 use Rattle.typed_ir.specs.contracts.stmt.Stmt as StmtRow
 use Rattle.typed_ir.specs.contracts.node.Node as NodeRow
+use Rattle.typed_ir.specs.contracts.reg_state.RegState as StateRow
+use Rattle.reg_ops.specs.contracts.reg_ops.RegOps as OpsRow
+use Rattle.stimulus.specs.contracts.row.Row as InputsRow
 use Rattle.cycle_eval.specs.contracts.design.Design as DesignRow
 
 form_field_send : IsSend (FormRow.the_field).row
@@ -71,3 +74,23 @@ design_send = search (node_send, stmt_send, sendable, crosses) depth 40 fits 200
 
 pub design_sync : IsSync DesignRow.the_row
 design_sync = search (node_sync, stmt_sync, sendable, crosses) depth 40 fits 20000
+
+-- and so may its states, its rows and the operations between designs
+
+pub state_send : IsSend StateRow.the_row
+state_send = search (sendable, crosses) depth 40 fits 20000
+
+pub state_sync : IsSync StateRow.the_row
+state_sync = search (sendable, crosses) depth 40 fits 20000
+
+pub inputs_send : IsSend InputsRow.the_row
+inputs_send = search (sendable, crosses) depth 40 fits 20000
+
+pub inputs_sync : IsSync InputsRow.the_row
+inputs_sync = search (sendable, crosses) depth 40 fits 20000
+
+pub ops_send : IsSend OpsRow.the_row
+ops_send = search (sendable, crosses) depth 40 fits 20000
+
+pub ops_sync : IsSync OpsRow.the_row
+ops_sync = search (sendable, crosses) depth 40 fits 20000

@@ -1,6 +1,6 @@
 // The top call: a script's bytes come in, reply bytes go out.
 //
-// `live` reads the words of the command line, makes the book, its turn and the session, and has workers beside the `script`, which comes back `ended`.
+// `live` reads the words of the command line, makes the book, its turn and the session, and has workers beside the `script` in a `scope`, which gives it back `ended`.
 // `carrying` goes command after command: `turning` reads one and has the session carry it out, which comes to a `turn`, and `writing` writes its lines
 // before more is read. `ending` says how the reading ended, `outcome` how the run did. `laws` says that what a run writes is decided by what comes in.
 #![tactic(auto)]
@@ -13,6 +13,7 @@ mod laws;
 mod limit_tests;
 mod live;
 mod outcome;
+mod scope;
 mod script;
 mod turn;
 mod turning;

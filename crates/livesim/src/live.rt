@@ -12,6 +12,7 @@ ghost use Rattle.livesim.specs.Settings.{settings};
 
 use crate::ended::Ended;
 use crate::outcome::Outcome;
+use crate::scope::beside_workers;
 use crate::script::Script;
 use book_history::history::History;
 use book_history::rooms::Rooms;
@@ -27,7 +28,7 @@ use ls_text::NoMemory;
 use std::alloc::Global;
 use std::sync::Wait;
 use std::thread::Threads;
-use worker_scope::{Worked, with_workers};
+use worker_scope::Worked;
 
 /// What the program's sessions may use: 2^40 cycles, 16,777,216 names set in the record, and the rooms of the history.
 const LIMITS: Limits = Limits {
@@ -128,7 +129,7 @@ fn run<'a, R: Threads + Wait + Sync, S: Source, K: Sink, F: Shelf, G: Gate>(
         answer,
         started: _,
         refusal: _,
-    } = with_workers(
+    } = beside_workers(
         rt,
         alloc,
         &turn,

@@ -25,7 +25,7 @@ use std::thread;
 use std::thread::{PromisedHandle, Scope, Threads};
 
 /// A worker's thread, whose pass comes back as it promises.
-type Child<M> = PromisedHandle<WorkerPass<Book<M>>, Ends<Book<M>>>;
+pub type Child<M> = PromisedHandle<WorkerPass<Book<M>>, Ends<Book<M>>>;
 
 /// Has so many workers, numbered from 0, run beside the session's work, and closes the book behind it.
 ///
@@ -130,7 +130,7 @@ fn beside<'s, E, M: Machine + 's, G: Gate + 's, W: SessionWork<M>, R: Threads + 
 }
 
 /// Starts workers up to the first that can't be started, whose refusal is handed out beside them.
-fn start<'s, E, M: Machine + 's, G: Gate + 's, R: Threads + Wait + Sync>(
+pub fn start<'s, E, M: Machine + 's, G: Gate + 's, R: Threads + Wait + Sync>(
     scope: &Scope<'s, E>,
     rt: &'s R,
     alloc: Global,
@@ -201,7 +201,7 @@ fn start_one<'s, E, M: Machine + 's, G: Gate + 's, R: Threads + Wait + Sync>(
 }
 
 /// Waits for the workers, and takes in what they have seen and added.
-fn join_all<M: Machine, R: Threads>(
+pub fn join_all<M: Machine, R: Threads>(
     rt: &R,
     turn: &Turn<Book<M>>,
     pass: &mut SessionPass<Book<M>>,
@@ -240,7 +240,7 @@ fn join_one<M: Machine, R: Threads>(
 }
 
 /// Closes the book in one turn.
-fn close<M: Machine, R: Wait>(rt: &R, turn: &Turn<Book<M>>, pass: &mut SessionPass<Book<M>>)
+pub fn close<M: Machine, R: Wait>(rt: &R, turn: &Turn<Book<M>>, pass: &mut SessionPass<Book<M>>)
     requires turn { IsOf turn.now pass.old true }
     requires free { IsFree (known pass.old) }
     requires open { is_closed (known pass.old).own ≡ false }

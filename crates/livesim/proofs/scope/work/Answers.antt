@@ -1,7 +1,7 @@
 use Rattle.std.proofs.Common.{refl}
 use Rattle.book_turn.specs.Passes.{known}
 use Rattle.live_session.proofs.SettledAtTurn.{own_open}
-use Rattle.livesim.proofs.script.ScriptSessionWorkDesign.work.Goals as goal
+use Rattle.livesim.proofs.scope.work.Goals as goal
 
 pub returns-clause-does : goal.returns-clause-does
 returns-clause-does g c = (
