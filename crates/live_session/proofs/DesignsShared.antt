@@ -80,9 +80,6 @@ design_sync = search (node_sync, stmt_sync, sendable, crosses) depth 40 fits 200
 pub state_send : IsSend StateRow.the_row
 state_send = search (sendable, crosses) depth 40 fits 20000
 
-pub state_sync : IsSync StateRow.the_row
-state_sync = search (sendable, crosses) depth 40 fits 20000
-
 pub inputs_send : IsSend InputsRow.the_row
 inputs_send = search (sendable, crosses) depth 40 fits 20000
 

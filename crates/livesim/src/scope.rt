@@ -99,7 +99,7 @@ pub fn beside_workers<'s, 'a, R: Threads + Wait + Sync, S: Source, K: Sink, F: S
     thread::scope(
         thread::scope_env(),
         rt,
-        |scope| -> Worked<Design, Ended<'a, R, S, K, F, G>>
+        |scope| -> Worked<Design, Ended<R, S, K, F, G>>
             requires { IsOf turn.now pass true × IsFree (known pass) × (is_closed (known pass).own ≡ false) × IsReadyAt script.session script.reader (known pass) }
             ensures { IsOf turn.entry.now result.pass true × IsFree (known result.pass) × HasWorked (λ v w ended. (ended.script.source.ghost_name ≡ script.source.ghost_name) × (ended.script.sink.ghost_name ≡ script.sink.ghost_name) × (ended.script.shelf.ghost_name ≡ script.shelf.ghost_name) × Works (source_at (S.left script.source.now) (S.faults script.source.now)) (source_at (S.left ended.script.source.now) (S.faults ended.script.source.now)) (sink_at (K.written script.sink.now) (K.faults script.sink.now)) (sink_at (K.written ended.script.sink.now) (K.faults ended.script.sink.now)) (shelf_at (F.answers script.shelf.now) (F.faults script.shelf.now)) (shelf_at (F.answers ended.script.shelf.now) (F.faults ended.script.shelf.now)) ended.script.reader v w ended.status) result.started (lost_in result.refusal) (known pass) (known result.pass) result.answer }
         { beside(scope, rt, alloc, turn, pass, workers, gate, script) },

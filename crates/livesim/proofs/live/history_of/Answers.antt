@@ -1,6 +1,6 @@
 use denote.Param.Send.{sendable}
 use Rattle.std.proofs.Crossing.{crosses}
-use Rattle.live_session.proofs.DesignsShared.{design_send, design_sync}
+use Rattle.live_session.proofs.DesignsShared.{design_send, design_sync, inputs_send, inputs_sync, ops_send, ops_sync, state_send}
 use Rattle.livesim.proofs.live.history_of.Goals as goal
 
 pub into_history-history-requires-send-M : goal.into_history-history-requires-send-M
@@ -16,4 +16,4 @@ pub legal-requires-sync-M : goal.legal-requires-sync-M
 legal-requires-sync-M g c κs = search (design_sync, sendable, crosses) depth 40 fits 20000
 
 pub finish-requires-send-B : goal.finish-requires-send-B
-finish-requires-send-B g c κs within = search (design_send, design_sync, sendable, crosses) depth 40 fits 20000
+finish-requires-send-B g c κs within = search (design_send, design_sync, state_send, inputs_send, inputs_sync, ops_send, ops_sync, sendable, crosses) depth 60 fits 100000

@@ -1,12 +1,12 @@
 use Rattle.std.proofs.Common.{lit<}
-use denote.Param.Send.{sendable, param_send}
+use denote.Param.Send.{sendable}
 use Rattle.std.proofs.Crossing.{crosses}
 use Rattle.book_turn.proofs.Turns.{goes_more}
 use Rattle.book_turn.specs.Passes.{known}
 use Rattle.command_read.specs.Spoken.{spoken}
 use Rattle.live_session.specs.Sessions.{names_of}
 use Rattle.live_session.proofs.Among.{beside_there, meets}
-use Rattle.live_session.proofs.DesignsShared.{design_send, design_sync, inputs_send, inputs_sync, ops_send, ops_sync, state_send, state_sync}
+use Rattle.live_session.proofs.DesignsShared.{design_send, design_sync, inputs_send, inputs_sync, ops_send, ops_sync, state_send}
 use Rattle.live_session.proofs.InTurn.{adds_of, may_leave, stands_then, steps_then, stops_then}
 use Rattle.live_session.proofs.session.Session.step_in_turn.Goals as goal
 
@@ -91,17 +91,16 @@ pub returns-clause-goes : goal.returns-clause-goes
 returns-clause-goes g c = goes_more _ _ _ c.enter-boxed.ensures.goes c.leave.ensures.goes
 
 pub enter-boxed-requires-send-B : goal.enter-boxed-requires-send-B
-enter-boxed-requires-send-B g c κs within =
-    param_send 0 _ (search (design_send, design_sync, state_send, state_sync, inputs_send, inputs_sync, ops_send, ops_sync, sendable, crosses) depth 60 fits 100000)
+enter-boxed-requires-send-B g c κs within = search (design_send, design_sync, state_send, inputs_send, inputs_sync, ops_send, ops_sync, sendable, crosses) depth 60 fits 100000
 
 pub leave-requires-send-B : goal.leave-requires-send-B
-leave-requires-send-B g c κs within = search (design_send, design_sync, state_send, state_sync, inputs_send, inputs_sync, ops_send, ops_sync, sendable, crosses) depth 60 fits 100000
+leave-requires-send-B g c κs within = search (design_send, design_sync, state_send, inputs_send, inputs_sync, ops_send, ops_sync, sendable, crosses) depth 60 fits 100000
 
 pub legal-requires-send-M : goal.legal-requires-send-M
-legal-requires-send-M g c κs = search (design_send, design_sync, sendable, crosses) depth 40 fits 20000
+legal-requires-send-M g c κs = search (design_send, sendable, crosses) depth 40 fits 20000
 
 pub legal-requires-2-send-M : goal.legal-requires-2-send-M
-legal-requires-2-send-M g c κs = search (design_send, design_sync, sendable, crosses) depth 40 fits 20000
+legal-requires-2-send-M g c κs = search (design_send, sendable, crosses) depth 40 fits 20000
 
 pub legal-requires-sync-M : goal.legal-requires-sync-M
 legal-requires-sync-M g c κs = search (design_sync, sendable, crosses) depth 40 fits 20000
