@@ -1,23 +1,20 @@
 -- A session beside a book to which others added entries since its pass last saw it.
-use Rattle.std.proofs.Common.{◌≡◌, ◌∙◌, ℕ, ◌≤◌, Bool, true, false, cond, List, [], ◌∷◌, ◌++◌, Option, Some, None, refl, sym, ap, ap₂, subst, true≢false, arith, append_assoc, append-nil}
-use Rattle.std.proofs.lemmas.Bool.{cond_both}
+use Rattle.std.proofs.Common.{◌≡◌, ◌∙◌, Bool, true, false, cond, List, [], ◌∷◌, ◌++◌, Option, None, refl, sym, ap, ap₂, subst, true≢false, arith, append_assoc, append-nil}
 use Rattle.book_history.specs.Book.{Book, Settings as BookSettings, apply, replay, replay_from}
 use Rattle.book_history.specs.Kind.{Kind, SessionsOwn, DrawsTicket, UsesTicket, EndsClaims, kind_of}
 use Rattle.book_history.specs.Moments.{is_spoken, is_spoken_kind, moments_from}
-use Rattle.book_history.specs.Outline.{Outline, blank, outline_from, outline_in}
-use Rattle.book_history.specs.Owned.{AllOwned, IsPrefix, added, is_of_session, is_owned, owned}
-use Rattle.book_history.specs.Rooms.{Counts, count_all, no_entry}
+use Rattle.book_history.specs.Outline.{Outline, blank, outline_from}
+use Rattle.book_history.specs.Owned.{AllOwned, is_of_session, is_owned, owned}
+use Rattle.book_history.specs.Rooms.{count_all, no_entry}
 use Rattle.book_history.proofs.Outlines.{legal_outline, owned_counts}
 use Rattle.book_history.proofs.Places.{moments-append, replay-append}
 use Rattle.book_turn.specs.Rule.{Learned}
 use Rattle.book_turn.proofs.Histories.{owned_append}
 use Rattle.cycle_eval.specs.declared.design.Design.{Design}
 use Rattle.live_session.specs.AtTurn.{Sight, StandsAt, carried_settings, log_of}
-use Rattle.live_session.specs.Beside.{IsOutlined, Stands, StandsBeside, settings_by, settings_in, world_in}
+use Rattle.live_session.specs.Beside.{IsOutlined, Stands, StandsBeside, settings_by, world_in}
 use Rattle.live_session.specs.Logs.{InputRow, Log, LogEvent, LogMoment, State, kit, marks_of, moments_after, outline_of, valid}
 use Rattle.live_session.specs.Sessions.{limits_of, world}
-use Rattle.live_session.specs.Settings.{Settings}
-use Rattle.live_session.specs.Worlds.{World}
 use Rattle.live_session.specs.declared.limits.Limits.{Limits}
 use Rattle.live_session.specs.declared.running.Running.{Running}
 use Rattle.live_session.specs.declared.session.Session.{Session}

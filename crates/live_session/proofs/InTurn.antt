@@ -1,5 +1,5 @@
 -- A command in one turn of the book: from what the pass had seen to what it then has seen.
-use Rattle.std.proofs.Common.{◌≡◌, ◌∙◌, ℕ, ◌+◌, ◌<◌, eqb, min, Bool, true, false, List, [], ◌∷◌, ◌++◌, length, Option, Some, None, Result, Ok, Err, refl, sym, ap, ap₂, subst, true≢false, append-nil}
+use Rattle.std.proofs.Common.{◌≡◌, ◌∙◌, ℕ, ◌+◌, eqb, min, Bool, true, false, List, [], ◌∷◌, ◌++◌, length, Option, Some, Result, Ok, Err, refl, sym, ap, ap₂, subst, true≢false, append-nil}
 use Rattle.std.specs.Prelude.{IfOk, OnErr}
 use Rattle.ls_port.specs.declared.shelf_answer.ShelfAnswer.{ShelfAnswer}
 use Rattle.ls_text.specs.Readings.{TextFault}
@@ -12,7 +12,7 @@ use Rattle.book_settle.specs.Passes.{IsUnfinished}
 use Rattle.book_turn.specs.Known.{entered, left}
 use Rattle.book_turn.specs.Rule.{Learned, MayLeave}
 use Rattle.book_turn.proofs.Histories.{added_append, all_owned, owned_append}
-use Rattle.command_read.specs.Asking.{Asked, Block, AsksStatus, Edits, Quits, Runs, Sets, Settles, Shows}
+use Rattle.command_read.specs.Asking.{Asked, AsksStatus, Edits, Quits, Runs, Sets, Settles, Shows}
 use Rattle.live_session.specs.AtTurn.{Sight, StandsAt, log_of}
 use Rattle.live_session.specs.Beside.{StandsBeside, settings_in, world_in}
 use Rattle.live_session.specs.CutShort.{HasStayed, IsCutShort}
@@ -28,7 +28,7 @@ use Rattle.live_session.specs.Verdicts.{Told, chosen, passes_of}
 use Rattle.live_session.specs.Worlds.{World, Refused}
 use Rattle.live_session.specs.declared.reply.Reply.{Reply}
 use Rattle.live_session.specs.declared.session.Session.{Session}
-use Rattle.live_session.proofs.Among.{Meets, all_among, events_among, own_among, same_owned, same_settings, same_world, spoken_among}
+use Rattle.live_session.proofs.Among.{Meets, all_among, events_among, own_among, same_settings, same_world, spoken_among}
 use Rattle.live_session.proofs.ShownBeside.{few_moved}
 use Rattle.live_session.proofs.Standing.{IsLegal}
 

@@ -1,8 +1,7 @@
 -- Calls of a session by those of the design that it runs, and a command by its call.
-use Rattle.std.proofs.Common.{◌≡◌, ◌∙◌, ◌+◌, ◌*◌, ◌≤◌, ◌<◌, ℕ, Bool, List, [], map, Result, Ok, Err, refl, sym, ap, ap₂, subst, append-nil, true}
+use Rattle.std.proofs.Common.{◌≡◌, ◌∙◌, ◌+◌, ◌*◌, ◌≤◌, ◌<◌, ℕ, Bool, List, [], map, Result, Ok, Err, refl, sym, ap, ap₂, subst, true}
 use Rattle.std.specs.Prelude.{IfOk, IfSome, OnErr, Option, Some, None}
 use Rattle.book_history.specs.Book.{Settings as BookSettings}
-use Rattle.book_settle.specs.Passes.{no_pass, no_ticket}
 use Rattle.ls_text.specs.Texts.{HasEachOnce}
 use Rattle.ls_port.specs.declared.shelf_answer.ShelfAnswer.{ShelfAnswer}
 use Rattle.command_read.specs.Asking.{Asked, AsksStatus, Block, Edits, Quits}

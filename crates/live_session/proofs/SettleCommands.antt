@@ -1,5 +1,5 @@
 -- The command `settle` in turns of the book: what it answers, told of what the pass had seen before it.
-use Rattle.std.proofs.Common.{◌≡◌, ◌∙◌, ℕ, ◌+◌, ◌<◌, ◌≤◌, min, Bool, true, false, List, [], ◌∷◌, length, Option, Some, None, Result, Ok, Err, refl, sym, ap, subst}
+use Rattle.std.proofs.Common.{◌≡◌, ◌∙◌, ℕ, ◌≤◌, min, Bool, true, false, List, [], length, Option, Some, Result, Ok, Err, refl, sym, ap, subst}
 use Rattle.std.specs.Prelude.{IfOk, OnErr}
 use Rattle.std.specs.Option.{unwrap_or}
 use Rattle.ls_port.specs.declared.shelf_answer.ShelfAnswer.{ShelfAnswer}
@@ -12,9 +12,7 @@ use Rattle.book_settle.specs.Passes.{IsSettle}
 use Rattle.book_turn.specs.Turns.{HasAdded}
 use Rattle.command_read.specs.Asking.{Asked, Settles}
 use Rattle.cycle_eval.specs.declared.design.Design.{Design}
-use Rattle.module_registry.specs.Entries.{Entry}
 use Rattle.module_registry.specs.Views.{entries_of}
-use Rattle.turn_settle.specs.Seen.{book_seen}
 use Rattle.turn_settle.specs.Settled.{HasSettledBeside, HasTriedBeside}
 use Rattle.live_session.specs.AtTurn.{Sight, StandsAt, log_of}
 use Rattle.live_session.specs.Beside.{Stands, settings_by, settings_in, world_in}
@@ -23,7 +21,7 @@ use Rattle.live_session.specs.CutShort.{IsCutShort}
 use Rattle.live_session.specs.Done.{IsDone, told}
 use Rattle.live_session.specs.Judging.{verdict_on}
 use Rattle.live_session.specs.Kept.{IsKept}
-use Rattle.live_session.specs.Logs.{InputRow, Log, LogEvent, State, book_in, kit, marks_of}
+use Rattle.live_session.specs.Logs.{InputRow, LogEvent, State, book_in, kit, marks_of}
 use Rattle.live_session.specs.Sessions.{limits_of, running_world, world, world_of}
 use Rattle.live_session.specs.Shown.{settle_text}
 use Rattle.live_session.specs.Settings.{Settings}

@@ -1,5 +1,5 @@
 -- A session that looks at its book before a settle, and a settle that is refused then.
-use Rattle.std.proofs.Common.{◌≡◌, ◌∙◌, ℕ, ◌+◌, ◌<◌, true, false, List, [], ◌++◌, length, Option, Some, None, Result, Ok, Err, refl, sym, ap, subst, append-nil}
+use Rattle.std.proofs.Common.{◌≡◌, ◌∙◌, ℕ, ◌+◌, ◌<◌, true, false, List, [], length, Option, Some, None, Result, Ok, Err, refl, sym, ap, subst, append-nil}
 use Rattle.std.specs.Prelude.{IfOk, OnErr}
 use Rattle.std.specs.Option.{unwrap_or}
 use Rattle.ls_port.specs.declared.shelf_answer.ShelfAnswer.{ShelfAnswer}
@@ -7,7 +7,6 @@ use Rattle.ls_text.specs.Texts.{HasEachOnce}
 use Rattle.book_history.specs.Book.{Book, Settings as BookSettings}
 use Rattle.book_history.specs.Readers.{links_in}
 use Rattle.book_settle.proofs.Counting.{links_marked}
-use Rattle.book_turn.specs.Turns.{HasAdded}
 use Rattle.command_read.specs.Asking.{Asked, Settles}
 use Rattle.cycle_eval.specs.declared.design.Design.{Design}
 use Rattle.module_registry.specs.Views.{entries_of}
@@ -18,7 +17,7 @@ use Rattle.live_session.specs.AtTurn.{Sight, StandsAt, log_of}
 use Rattle.live_session.specs.Beside.{StandsBeside, settings_in, world_in}
 use Rattle.live_session.specs.Charging.{charge_for}
 use Rattle.live_session.specs.Kept.{IsKept}
-use Rattle.live_session.specs.Logs.{InputRow, Log, LogEvent, State, book_in, kit, marks_of, valid}
+use Rattle.live_session.specs.Logs.{InputRow, Log, State, book_in, kit, marks_of, valid}
 use Rattle.live_session.specs.Sessions.{limits_of, running_world, world, world_of}
 use Rattle.live_session.specs.Settings.{Settings}
 use Rattle.live_session.specs.Steps.{StepsTo, Stops, undone}
@@ -90,6 +89,13 @@ pub settle_goes_on : {E : Type 0} (text : (grid : List ℕ) → List ℕ) (resul
     → IfOk result (λ (reply : Reply). (grid : List ℕ) → Accepts (text grid) reply) → IfOk result (λ (reply : Reply). reply.quit ≡ false)
 settle_goes_on text (Ok reply) says = (says []).goes_on
 settle_goes_on text (Err e) says = tt
+
+-- where memory ran out, told of a shelf that isn't asked
+pub stop_there : {T E : Type 0} (result : Result T E) (P : Option (List ShelfAnswer) → ℕ → Type 0)
+    → OnErr result ((answers : Option (List ShelfAnswer)) (faults : ℕ) → P answers faults) → (answers : Option (List ShelfAnswer)) (faults : ℕ)
+    → OnErr result (P answers faults)
+stop_there (Ok x) P h answers faults = tt
+stop_there (Err e) P h answers faults = h answers faults
 
 -- ---- a settle that is refused
 

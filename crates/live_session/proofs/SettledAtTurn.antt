@@ -1,5 +1,5 @@
 -- A session at its pass before and behind a settle that was charged before.
-use Rattle.std.proofs.Common.{◌≡◌, ◌∙◌, ℕ, ◌+◌, ◌*◌, ◌≤◌, ◌<◌, min, true, false, List, Option, Some, None, refl, sym, ap, subst, true≢false, arith}
+use Rattle.std.proofs.Common.{◌≡◌, ◌∙◌, ℕ, ◌+◌, ◌*◌, ◌≤◌, min, true, false, List, Option, Some, None, refl, sym, ap, subst, true≢false, arith}
 use Rattle.std.specs.Prelude.{IfSome, is_some}
 use Rattle.book_history.specs.Book.{Book, Settings as BookSettings}
 use Rattle.book_history.specs.declared.rooms.Rooms.{Rooms as BookRooms}
@@ -7,7 +7,6 @@ use Rattle.book_history.specs.Owned.{owned}
 use Rattle.book_history.specs.Readers.{IsOpened, links_in}
 use Rattle.book_history.specs.Rooms.{count_all, no_entry}
 use Rattle.book_history.proofs.Outlines.{owned_counts}
-use Rattle.book_settle.specs.Passes.{IsSettle, IsUnfinished}
 use Rattle.book_turn.specs.Turns.{GoesOn, HasAdded}
 use Rattle.checkpoint_book.specs.Views.{counts_of}
 use Rattle.cycle_eval.specs.declared.design.Design.{Design}
@@ -16,9 +15,9 @@ use Rattle.segment_verify.specs.Workers.{IsFree, is_closed}
 use Rattle.turn_settle.specs.Seen.{FitRoom, HasOwnRoom, IsLegalUnder, book_seen, book_under}
 use Rattle.turn_settle.specs.Settled.{HasSettledBeside, HasTriedBeside}
 use Rattle.live_session.specs.AtTurn.{Sight, StandsAt, log_of}
-use Rattle.live_session.specs.Beside.{Stands, StandsBeside, charge_of, world_in}
+use Rattle.live_session.specs.Beside.{Stands, charge_of, world_in}
 use Rattle.live_session.specs.Kept.{IsKept}
-use Rattle.live_session.specs.Logs.{InputRow, Log, LogEvent, State, book_in, kit, marks_of, valid}
+use Rattle.live_session.specs.Logs.{InputRow, LogEvent, State, book_in, kit, marks_of, valid}
 use Rattle.live_session.specs.declared.limits.Limits.{Limits}
 use Rattle.live_session.specs.declared.running.Running.{Running}
 use Rattle.live_session.specs.declared.session.Session.{Session}

@@ -1,11 +1,11 @@
 -- A settle in turns of the book, told of what the pass had seen before it: its entries stand among those of others.
-use Rattle.std.proofs.Common.{◌≡◌, ◌∙◌, ℕ, Bool, true, false, cond, List, [], ◌∷◌, ◌++◌, drop, Option, Some, None, refl, sym, ap, ap₂, subst, true≢false, append_assoc, append-nil}
+use Rattle.std.proofs.Common.{◌≡◌, ◌∙◌, ℕ, Bool, true, false, cond, List, [], ◌∷◌, ◌++◌, drop, Option, None, refl, sym, ap, ap₂, subst, true≢false, append_assoc}
 use Rattle.book_history.specs.Book.{Book, Settings as BookSettings, Claims, Installs, Shows as ShowsEvent, apply, replay, replay_from}
 use Rattle.book_history.specs.Moments.{is_spoken, moments_from}
-use Rattle.book_history.specs.Outline.{Outline, blank, outline_from, outline_in}
-use Rattle.book_history.specs.Owned.{AllOwned, added, is_owned, owned}
+use Rattle.book_history.specs.Outline.{blank, outline_from, outline_in}
+use Rattle.book_history.specs.Owned.{added, is_owned, owned}
 use Rattle.book_history.specs.declared.who.Who.TheVariants.{Session as SessionWho}
-use Rattle.book_history.proofs.Outlines.{legal_outline, outline-append, outline_more}
+use Rattle.book_history.proofs.Outlines.{legal_outline, outline-append}
 use Rattle.book_history.proofs.Places.{moments-append, replay-append}
 use Rattle.book_history.proofs.Prefixes.{legal_first}
 use Rattle.book_settle.proofs.Counting.{passes_outline}

@@ -1,12 +1,8 @@
 use Rattle.std.proofs.Common.{sym, subst, ◌+◌}
 use Rattle.book_turn.specs.Passes.{known}
 use Rattle.worker_scope.specs.Scope.{HasJoined, HasSplit, lost_in}
-use Rattle.worker_scope.proofs.Sessions.{own_started}
 use Rattle.livesim.proofs.Working.{ready_split}
 use Rattle.livesim.proofs.scope.beside.Goals as goal
-
-pub work-answer-requires-clause-open : goal.work-answer-requires-clause-open
-work-answer-requires-clause-open g c = own_started _ (known c.args.pass) (known c.start-children.new.pass) c.start-children.ensures.split c.requires.open
 
 pub work-answer-requires-clause-ready : goal.work-answer-requires-clause-ready
 work-answer-requires-clause-ready g c κs within =

@@ -1,6 +1,6 @@
 use Rattle.std.proofs.Common.{◌∙◌, ℕ, List, ap, map, refl, sym, inl}
 use Rattle.std.specs.Prelude.{false, true}
-use Rattle.command_read.specs.Asking.{AsksStatus, Edits, Quits, Runs, Sets, Settles, Shows}
+use Rattle.command_read.specs.Asking.{AsksStatus, Edits, Quits, Runs, Sets, Shows}
 use Rattle.command_read.specs.Spoken.{edited, setting, spoken}
 use Rattle.command_read.specs.declared.port_value.PortValue.{PortValue}
 use Rattle.live_session.proofs.SessionCalls.{always, loses_as, quit_at, quits_as, status_at, steps_as, stops_as}

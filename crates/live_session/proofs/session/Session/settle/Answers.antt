@@ -1,4 +1,4 @@
-use Rattle.std.proofs.Common.{ap, min, subst, sym}
+use Rattle.std.proofs.Common.{min, subst, sym}
 use denote.Param.Send.{sendable}
 use Rattle.std.proofs.Crossing.{crosses}
 use Rattle.book_history.specs.Readers.{links_in}

@@ -3,8 +3,6 @@ use denote.Param.Send.{sendable}
 use Rattle.std.proofs.Crossing.{crosses}
 use Rattle.book_turn.proofs.Turns.{goes_more}
 use Rattle.book_turn.specs.Passes.{known}
-use Rattle.command_read.specs.Spoken.{spoken}
-use Rattle.live_session.specs.Sessions.{names_of}
 use Rattle.live_session.proofs.Among.{beside_there, meets}
 use Rattle.live_session.proofs.DesignsShared.{design_send, design_sync, inputs_send, inputs_sync, ops_send, ops_sync, state_send}
 use Rattle.live_session.proofs.InTurn.{adds_of, may_leave, stands_then, steps_then, stops_then}
