@@ -4,7 +4,7 @@ use crate::replay::Replay;
 use book_history::entry::Entry;
 use book_history::history::History;
 use cycle_eval::Design;
-use livesim::live_run;
+use livesim::{Outcome, live_run};
 use ls_port::{Gate, SolidShelf, SolidSink, SolidSource, Source};
 use ls_text::NameId;
 use no_memory::NoMemory;
@@ -51,11 +51,22 @@ pub fn ran<R: Threads + Wait + Sync, G: Gate>(
     let mut sink = SolidSink::new(alloc);
     let mut shelf = SolidShelf::new(alloc, Vec::new(alloc));
     let outcome = live_run(rt, alloc, &words, &mut source, &mut sink, &mut shelf, gate);
+    ran_of(alloc, &outcome, sink.bytes())
+}
+
+/// What comes of a run that ended so and wrote these lines.
+pub fn ran_of(alloc: Global, outcome: &Outcome, lines: &[u8]) -> Result<Ran, NoMemory> {
     Ok(Ran {
         status: outcome.status,
-        lines: Vec::from_slice(alloc, sink.bytes())?,
-        history: outcome.history,
+        lines: Vec::from_slice(alloc, lines)?,
+        entries: entries_of(alloc, &outcome.history)?,
+        inputs: inputs_of(alloc, &outcome.history)?,
     })
+}
+
+/// The entries of a history.
+fn entries_of(alloc: Global, history: &History<Design>) -> Result<Vec<Entry>, NoMemory> {
+    Ok(Vec::from_slice(alloc, history.entries())?)
 }
 
 /// The value of the one input that a row sets, or 0.
@@ -82,14 +93,10 @@ fn inputs_of(alloc: Global, history: &History<Design>) -> Result<Vec<u8>, NoMemo
 }
 
 /// What the whole history comes to, or None where an entry doesn't stand right in it, or a joined link isn't true behind one.
-pub fn replayed(
-    alloc: Global,
-    history: &History<Design>,
-    adds: Vec<u8>,
-) -> Result<Option<Replay>, NoMemory> {
-    let inputs = inputs_of(alloc, history)?;
+pub fn replayed(alloc: Global, ran: &Ran, adds: Vec<u8>) -> Result<Option<Replay>, NoMemory> {
+    let inputs = Vec::from_slice(alloc, &ran.inputs)?;
     let mut replay = Replay::new(alloc, INTERVAL, LOOKBACK, adds, inputs);
-    for entry in history.entries() {
+    for entry in &ran.entries {
         if !replay.take(*entry) {
             return Ok(None);
         }

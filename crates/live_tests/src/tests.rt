@@ -2,13 +2,11 @@
 use crate::asking_source::AskingSource;
 use crate::held_source::HeldSource;
 use crate::ran::Ran;
-use crate::running::{ran, replayed, words_of};
+use crate::running::{ran, ran_of, replayed, words_of};
 use crate::scripts::{DISPLAY, EDIT, EDIT_LINES, RUN, RUN_LINES, joined, many_added, many_edits};
 use crate::watched_sink::WatchedSink;
 use book_history::entry::Entry;
-use book_history::history::History;
 use book_history::who::Who;
-use cycle_eval::Design;
 use livesim::live_run;
 use ls_port::{GateStep, MemSink, MemSource, OpenGate, SolidShelf, SolidSink, SolidSource};
 use no_memory::NoMemory;
@@ -29,18 +27,16 @@ fn two_added(alloc: Global) -> Result<Vec<u8>, NoMemory> {
 }
 
 /// How often this ticket was installed.
-fn installs(history: &History<Design>, number: u64) -> usize {
-    history
-        .entries()
+fn installs(entries: &[Entry], number: u64) -> usize {
+    entries
         .iter()
         .filter(|entry| matches!(entry, Entry::Install { ticket, .. } if *ticket == number))
         .count()
 }
 
 /// How many tickets the session claimed, and how many the workers.
-fn claims(history: &History<Design>) -> (usize, usize) {
-    let of_session = history
-        .entries()
+fn claims(entries: &[Entry]) -> (usize, usize) {
+    let of_session = entries
         .iter()
         .filter(|entry| matches!(
             entry,
@@ -50,8 +46,7 @@ fn claims(history: &History<Design>) -> (usize, usize) {
             }
         ))
         .count();
-    let of_workers = history
-        .entries()
+    let of_workers = entries
         .iter()
         .filter(|entry| matches!(
             entry,
@@ -87,12 +82,12 @@ fn meet<R: Threads + Wait + Sync + Abort>(
     };
     assert_eq!(rt;
         (
-            installs(&ran.history, first),
-            installs(&ran.history, second)
+            installs(&ran.entries, first),
+            installs(&ran.entries, second)
         ),
         (1, 1)
     );
-    let Some(replay) = replayed(alloc, &ran.history, two_added(alloc)?)? else {
+    let Some(replay) = replayed(alloc, &ran, two_added(alloc)?)? else {
         return Err("the history isn't right")?;
     };
     assert_eq!(rt;
@@ -139,11 +134,7 @@ fn asked<R: Threads + Wait + Sync>(
         &mut shelf,
         &OpenGate,
     );
-    Ok(Ran {
-        status: outcome.status,
-        lines: Vec::from_slice(alloc, sink.sink.bytes())?,
-        history: outcome.history,
-    })
+    ran_of(alloc, &outcome, sink.sink.bytes())
 }
 
 #[test]
@@ -153,9 +144,9 @@ fn only_workers_settle(rt: HostRuntime) -> Result<(), Fail> {
     let ran = asked(&rt, alloc, 1000, &settled)?;
     assert_eq!(rt; ran.status, 0);
     assert!(rt; ran.lines.ends_with(DISPLAY));
-    let (of_session, of_workers) = claims(&ran.history);
+    let (of_session, of_workers) = claims(&ran.entries);
     assert!(rt; of_session == 0 && of_workers > 0);
-    let Some(replay) = replayed(alloc, &ran.history, two_added(alloc)?)? else {
+    let Some(replay) = replayed(alloc, &ran, two_added(alloc)?)? else {
         return Err("the history isn't right")?;
     };
     assert_eq!(rt;
@@ -182,7 +173,7 @@ fn edit_often<R: Threads + Wait + Sync + Abort>(
     workers: &str,
 ) -> Result<u8, Fail> {
     let ran = ran(rt, alloc, workers, many_edits(alloc, EDITS)?, &OpenGate)?;
-    let Some(replay) = replayed(alloc, &ran.history, many_added(alloc, EDITS)?)? else {
+    let Some(replay) = replayed(alloc, &ran, many_added(alloc, EDITS)?)? else {
         return Err("the history isn't right")?;
     };
     let acc = replay.acc();
@@ -224,11 +215,7 @@ fn ended<R: Threads + Wait + Sync>(
     let mut sink = MemSink::new(alloc, writes);
     let mut shelf = SolidShelf::new(alloc, Vec::new(alloc));
     let outcome = live_run(rt, alloc, &words, &mut source, &mut sink, &mut shelf, gate);
-    Ok(Ran {
-        status: outcome.status,
-        lines: Vec::from_slice(alloc, sink.bytes())?,
-        history: outcome.history,
-    })
+    ran_of(alloc, &outcome, sink.bytes())
 }
 
 /// The run ends so, with these lines behind the short script's, and all that the workers claimed is used up then.
@@ -248,9 +235,9 @@ fn end_while_held<R: Threads + Wait + Sync + Abort>(
     assert!(rt; !gate.missed());
     assert_eq!(rt; ran.status, status);
     assert!(rt; ran.lines.as_slice() == wanted.as_slice());
-    let (of_session, of_workers) = claims(&ran.history);
+    let (of_session, of_workers) = claims(&ran.entries);
     assert!(rt; of_session == 0 && of_workers > 0);
-    let Some(replay) = replayed(alloc, &ran.history, two_added(alloc)?)? else {
+    let Some(replay) = replayed(alloc, &ran, two_added(alloc)?)? else {
         return Err("the history isn't right")?;
     };
     assert!(rt; replay.is_over());
