@@ -1,5 +1,5 @@
 -- The history that a book comes back with behind a session's work and its workers.
-use Rattle.std.proofs.Common.{◌≡◌, ◌∙◌, ℕ, true, false, List, [], ◌∷◌, ◌++◌, None, refl, sym, ap, subst}
+use Rattle.std.proofs.Common.{◌≡◌, ◌∙◌, ℕ, Bool, true, false, List, [], ◌∷◌, ◌++◌, length, Option, None, refl, sym, ap, subst}
 use Rattle.book_history.specs.Book.{Closes}
 use Rattle.book_history.specs.Owned.{AllOwned, IsPrefix, owned}
 use Rattle.book_history.specs.Legal.{Legal}
@@ -17,10 +17,11 @@ use Rattle.live_session.specs.Worlds.{fresh}
 use Rattle.live_session.specs.declared.session.Session.{Session}
 use Rattle.live_session.proofs.SharedSettles.{cancel}
 use Rattle.live_session.proofs.Standing.{are_owned}
+use Rattle.ls_port.specs.declared.shelf_answer.ShelfAnswer.{ShelfAnswer}
 use Rattle.live_options.specs.Words.{OptionsOf}
 use Rattle.live_session.specs.Settings.{Settings}
 use Rattle.livesim.specs.Histories.{EndsFrom, IsLegal}
-use Rattle.livesim.specs.Runs.{HasSettings}
+use Rattle.livesim.specs.Runs.{HasSettings, Lived}
 use Rattle.livesim.specs.Settings.{settings}
 use Rattle.livesim.specs.Turns.{HasLimits, Shelves, Sources}
 use Rattle.livesim.specs.Working.{IsReadyAt, Sinks, Works}
@@ -99,6 +100,29 @@ pub worked_lived : (o : OptionsOf) (v before after behind last : Sight) (h : Log
 worked_lived o v before after behind last h from to sink sunk shelf shelved r status has same works closed own kept begins session learned legal =
     works.lived o h (split_settings (settings o) v before same has)
     (ends_from after behind last h works.sees closed own kept begins session learned) legal
+
+-- what is known of what a reference led to, told of what it leads to now
+pub along : {A : Type 0} (P : A → Type 0) (x y : A) → x ≡ y → P y → P x
+along P x y same p = subst P (sym same) p
+
+pub lived_at : (st : Settings) (left_old left_new left_is written_old written_new written_is : Option (List ℕ))
+    (answers_old answers_new answers_are : Option (List ShelfAnswer)) (faults_old faults_new faults_are taken count status : ℕ) (h : Log)
+    → left_new ≡ left_is → written_new ≡ written_is → answers_new ≡ answers_are → faults_new ≡ faults_are → taken ≡ count
+    → (bytes : List ℕ) × (ended : Bool) × (length bytes ≡ count)
+    × Lived st left_old left_is written_old written_is answers_old answers_are faults_old faults_are bytes ended status h
+    → (bytes : List ℕ) × (ended : Bool) × (length bytes ≡ taken)
+    × Lived st left_old left_new written_old written_new answers_old answers_new faults_old faults_new bytes ended status h
+lived_at st left_old left_new left_is written_old written_new written_is answers_old answers_new answers_are faults_old faults_new faults_are taken count status h
+    left written answers faults took l = (
+      l.0,
+      l.1,
+      l.2 ∙ sym took,
+      subst (λ (x : Option (List ℕ)). Lived st left_old x written_old written_new answers_old answers_new faults_old faults_new l.0 l.1 status h) (sym left)
+          (subst (λ (x : Option (List ℕ)). Lived st left_old left_is written_old x answers_old answers_new faults_old faults_new l.0 l.1 status h) (sym written)
+          (subst (λ (x : Option (List ShelfAnswer)). Lived st left_old left_is written_old written_is answers_old x faults_old faults_new l.0 l.1 status h)
+          (sym answers)
+          (subst (λ (x : ℕ). Lived st left_old left_is written_old written_is answers_old answers_are faults_old x l.0 l.1 status h) (sym faults) l.3))),
+    )
 
 -- where the session was alone from the beginning on, all entries are its own
 pub alone_all : (v after last : Sight) (h : Log) → v.seen ≡ [] → v.own ≡ [] → v.alone ≡ true → GoesOn v after → HasAdded (Closes ∷ []) after last

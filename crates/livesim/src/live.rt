@@ -139,7 +139,18 @@ fn run<'a, R: Threads + Wait + Sync, S: Source, K: Sink, F: Shelf, G: Gate>(
         script,
     );
     let Ended { script, status } = answer;
-    let taken = script.reader.taken();
+    // What is lent comes back one by one, so that it is known what stands behind it.
+    let Script {
+        rt: _,
+        alloc: _,
+        session: _session,
+        reader,
+        source: _source,
+        sink: _sink,
+        shelf: _shelf,
+        gate: _,
+    } = script;
+    let taken = reader.taken();
     Outcome {
         status,
         history: history_of(rt, turn, pass),

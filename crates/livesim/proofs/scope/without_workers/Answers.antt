@@ -1,4 +1,7 @@
 use Rattle.std.proofs.Common.{refl}
+use denote.Param.Send.{sendable}
+use Rattle.std.proofs.Crossing.{crosses}
+use Rattle.live_session.proofs.DesignsShared.{design_send, design_sync}
 use Rattle.book_turn.specs.Passes.{known}
 use Rattle.worker_scope.proofs.Joins.{joined_none}
 use Rattle.worker_scope.proofs.Sessions.{split_none}
@@ -15,3 +18,9 @@ returns-clause-worked g c = record {
   worked = record { after = known c.work-answer.new.pass; did = c.work-answer.ensures.does; goes = c.work-answer.ensures.goes; closed = c.close.ensures.closed };
   all_joined = joined_none _;
 }
+
+pub close-requires-send-M : goal.close-requires-send-M
+close-requires-send-M g c κs within = search (design_send, sendable, crosses) depth 40 fits 20000
+
+pub close-requires-sync-M : goal.close-requires-sync-M
+close-requires-sync-M g c κs within = search (design_sync, sendable, crosses) depth 40 fits 20000
