@@ -1,19 +1,19 @@
 -- States that are put into an environment, and read from it.
-use Rattle.std.proofs.Common.{◌≡◌, ℕ, zero, suc, ◌+◌, ◌<◌, nat_lt, List, [], ◌∷◌, ◌++◌, length, map, get_or, set, drop, IsTrue, refl, sym, ◌∙◌, ap, ap₂, arith}
+use Rattle.std.proofs.Common.{◌≡◌, ℕ, zero, suc, ◌+◌, ◌<◌, ◌≤◌, nat_lt, List, [], ◌∷◌, ◌++◌, length, map, get_or, set, take, drop, IsTrue, refl, sym, ◌∙◌, ap, ap₂, subst, arith}
 use Rattle.std.specs.Prelude.{slice_index, slice_get, Some}
 use Rattle.bits.specs.declared.Bits.{Bits}
-use Rattle.typed_ir.specs.States.{sized_value}
 use Rattle.typed_ir.specs.Views.{widths, env_of}
 use Rattle.typed_ir.proofs.Views.{widths-read, env_of-read}
 use Rattle.std.proofs.lemmas.Bool.{ltb-true}
-use Rattle.std.proofs.lemmas.List.{map-set, set-get_or}
+use Rattle.std.proofs.lemmas.List.{length-map, map-set, set-get_or, take_more_set, map_more}
 use Rattle.typed_ir.specs.Valuations.{Valuation, put}
 use Rattle.typed_ir.specs.Cycles.{fill}
 use Rattle.typed_ir.specs.Flats.{are_below}
 use Rattle.typed_ir.proofs.Cases.{and_left, and_right}
 use Rattle.typed_ir.proofs.Lists.{drop_split}
-use Rattle.reg_transform.specs.States.{paired, state_widths, state_values}
-use Rattle.cycle_eval.proofs.Carries.{pair, push_step}
+use Rattle.reg_transform.specs.States.{paired, state_values}
+use Rattle.state_layout.specs.Slots.{state_widths}
+use Rattle.cycle_eval.proofs.Carries.{pair}
 
 -- each register is there
 pub below_read : (rs : List ℕ) (count i : ℕ) → IsTrue (are_below rs count) → i < length rs → get_or rs i 0 < count
@@ -51,16 +51,33 @@ got_within (x ∷ xs) (suc i) p e = let rest : i < length (state_values xs) = go
 pub widths_put : (env : List Bits) (i : ℕ) (x : Bits) → x.width ≡ slice_index (widths env) i → widths (set env i x) ≡ widths env
 widths_put env i x same = map-set (λ (b : Bits). b.width) env i x ∙ ap (set (widths env) i) same ∙ set-get_or (widths env) i 0
 
--- one more register read
-pub store_step : (env : List Bits) (rs : List ℕ) (i : ℕ) (old new : List Bits) (b : Bits) → i < length rs → get_or rs i 0 < length env
-    → b ≡ get_or env (get_or rs i 0) b → new ≡ old ++ b ∷ []
-    → map sized_value new ++ map (λ (r : ℕ). (slice_index (widths env) r, env_of env r)) (drop (i + 1) rs)
-    ≡ map sized_value old ++ map (λ (r : ℕ). (slice_index (widths env) r, env_of env r)) (drop i rs)
-store_step env rs i old new b h k is e =
+-- a state has as many registers as it has widths
+state_long : (s : List (ℕ × ℕ)) (ws : List ℕ) → state_widths s ≡ ws → length s ≡ length ws
+state_long s ws e = sym (length-map s (λ (p : ℕ × ℕ). p.0)) ∙ ap length e
+
+pub state_there : (s : List (ℕ × ℕ)) (ws : List ℕ) (p : ℕ) → state_widths s ≡ ws → p < length ws → p < length s
+state_there s ws p e h = subst (λ n. p < n) (sym (state_long s ws e)) h
+
+pub state_few : (s : List (ℕ × ℕ)) (ws : List ℕ) (p : ℕ) → state_widths s ≡ ws → length ws ≤ p → length s ≤ p
+state_few s ws p e h = subst (λ n. n ≤ p) (sym (state_long s ws e)) h
+
+pub rs_there : (f : ℕ → ℕ) (rs : List ℕ) (p : ℕ) → p < length rs → p < length (map f rs)
+rs_there f rs p h = subst (λ n. p < n) (sym (length-map rs f)) h
+
+pub rs_few : (f : ℕ → ℕ) (rs : List ℕ) (p : ℕ) → length rs ≤ p → length (map f rs) ≤ p
+rs_few f rs p h = subst (λ n. n ≤ p) (sym (length-map rs f)) h
+
+-- one more register written
+pub written_step : (env : List Bits) (rs : List ℕ) (p : ℕ) (s new : List (ℕ × ℕ)) (b : Bits) → p < length rs → p < length s → get_or rs p 0 < length env
+    → b ≡ get_or env (get_or rs p 0) b → new ≡ set s p (b.width, b.value)
+    → take p s ≡ map (λ (r : ℕ). (slice_index (widths env) r, env_of env r)) (take p rs)
+    → take (p + 1) new ≡ map (λ (r : ℕ). (slice_index (widths env) r, env_of env r)) (take (p + 1) rs)
+written_step env rs p s new b listed there within is put before =
     let f : ℕ → ℕ × ℕ = λ r. (slice_index (widths env) r, env_of env r) in
-    let here : sized_value b ≡ f (get_or rs i 0) =
-    ap₂ pair (widths-read env (get_or rs i 0) b k is) (env_of-read env (get_or rs i 0) b k is) in
-    push_step f rs i old new b h here e
+    let here : pair b.width b.value ≡ f (get_or rs p 0) =
+    ap₂ pair (widths-read env (get_or rs p 0) b within is) (env_of-read env (get_or rs p 0) b within is) in
+    ap (take (p + 1)) put ∙ take_more_set s p (b.width, b.value) there ∙ ap (λ zs. zs ++ (b.width, b.value) ∷ []) before
+    ∙ ap (λ q. map f (take p rs) ++ q ∷ []) here ∙ sym (map_more f rs p 0 listed)
 
 -- where no input is given, all of them are 0
 pub no_inputs : (ss : List ℕ) (env : Valuation) → ((s : ℕ) → env s ≡ 0) → env ≡ fill ss [] (λ s. 0)

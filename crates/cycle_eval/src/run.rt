@@ -6,7 +6,8 @@ ghost use Rattle.typed_ir.specs.Flats.{signal_widths};
 ghost use Rattle.typed_ir.specs.Views.{widths, env_of};
 ghost use Rattle.cycle_eval.specs.Designs.{design_flat, work_of};
 ghost use Rattle.cycle_eval.specs.Inputs.{row_values};
-ghost use Rattle.cycle_eval.specs.Kits.{Fits, register_widths, driven};
+ghost use Rattle.cycle_eval.specs.Kits.{Fits, driven};
+ghost use Rattle.state_layout.specs.Words.{register_widths};
 ghost use Rattle.reg_transform.specs.States.{paired, state_values};
 ghost use Rattle.cycle_eval.specs.Updates.{all_updates};
 
@@ -16,10 +17,11 @@ use bits::Bits;
 use machine::row_runs::RowRuns;
 use machine::steps::Steps;
 use no_memory::NoMemory;
+use state_layout::SlotState;
 use std::alloc::Global;
 use std::sync::ledger::Ledger;
 use stimulus::Row;
-use typed_ir::{RegState, Update};
+use typed_ir::Update;
 
 // The earlier of two cycles.
 fn earlier(a: u64, b: u64) -> u64
@@ -32,7 +34,7 @@ fn earlier(a: u64, b: u64) -> u64
 
 impl Design {
     /// An environment with the registers of a state; all else is 0.
-    pub(crate) fn loaded(&self, alloc: Global, from: &RegState) -> Result<Vec<Bits>, NoMemory>
+    pub(crate) fn loaded(&self, alloc: Global, from: &SlotState) -> Result<Vec<Bits>, NoMemory>
         requires { Fits (design_flat self.now) from.now }
         ensures widths { IfOk result (λ env. widths env.items ≡ signal_widths self.now.linked.design.signals.items) }
         ensures value { IfOk result (λ env. env_of env.items ≡ base (design_flat self.now) (state_values from.now) []) }
@@ -105,11 +107,12 @@ impl Design {
         }
     }
 
-    /// The registers of an environment, as a state.
-    pub(crate) fn state_of(&self, alloc: Global, env: &[Bits]) -> Result<RegState, NoMemory>
-        requires { widths env.now ≡ signal_widths self.now.linked.design.signals.items }
+    /// The registers of an environment, as a state that shares with another one what is the same in both.
+    pub(crate) fn state_of(&self, env: &[Bits], from: &SlotState) -> Result<SlotState, NoMemory>
+        requires widths { widths env.now ≡ signal_widths self.now.linked.design.signals.items }
+        requires fits { Fits (design_flat self.now) from.now }
         ensures { IfOk result (λ s. s ≡ paired (register_widths (design_flat self.now)) (map (env_of env.now) self.now.linked.design.registers.items)) }
     {
-        stored(alloc, &self.linked.design.registers, env)
+        stored(&self.linked.design.registers, env, from)
     }
 }

@@ -23,14 +23,14 @@ loop-left-preserved c =
     let i = c.loop-left.left - 1 in
     let r = c.index_at-register.result in
     let same : r ≡ get_or rs i 0 = c.index_at-register.ensures in
-    let x = c.get.result in
+    let x = c.read.result in
     let within : i < length rs = omega arith in
     let listed : get_or rs i 0 < length c.args.env.now = below_read rs (length c.args.env.now) i c.requires.there within in
     let there : r < length c.args.env.now = omega (arith, listed, same) in
     let here : r < length c.loop-left.env = omega (arith, there, c.loop-left.auto.env) in
     let more : i + 1 ≡ c.loop-left.left = omega arith in
     let width : x.width ≡ slice_index (widths c.loop-left.env) r =
-    sym (got_width from i (x.width, x.value) c.get.ensures)
+    sym (got_width from i (x.width, x.value) c.read.ensures)
     ∙ ap (λ zs. get_or zs i 0) c.requires.fits
     ∙ get_or-map (λ (s : ℕ). slice_index (widths c.args.env.now) s) rs i 0 0 within
     ∙ ap (λ z. slice_index (widths c.args.env.now) z) (sym same)
@@ -40,7 +40,7 @@ loop-left-preserved c =
       widths = widths_put c.loop-left.env r x width ∙ c.loop-left.invariant.widths;
       value = env_of-set c.loop-left.env r x here
           ∙ fill_step rs (state_values from) i (env_of c.args.env.now) (env_of c.loop-left.env) r x.value within
-          (got_within from i (x.width, x.value) c.get.ensures) same (sym (got_value from i (x.width, x.value) c.get.ensures))
+          (got_within from i (x.width, x.value) c.read.ensures) same (sym (got_value from i (x.width, x.value) c.read.ensures))
           (subst (λ k. env_of c.loop-left.env ≡ fill (drop k rs) (drop k (state_values from)) (env_of c.args.env.now)) (sym more) c.loop-left.invariant.value);
     }
 

@@ -1,10 +1,11 @@
-use Rattle.std.proofs.Common.{◌≡◌, ◌++◌, ℕ, map, drop}
+use Rattle.std.proofs.Common.{◌≡◌, ℕ, map, take}
 use Rattle.std.specs.Prelude.{slice_index}
-use Rattle.typed_ir.specs.States.{sized_value}
 use Rattle.typed_ir.specs.Views.{widths, env_of}
+use Rattle.state_layout.specs.Slots.{state_widths}
 use Rattle.cycle_eval.proofs.state.stored.Given as goal
 
-abbrev pub invariant-loop-register : goal.invariant-loop-register
-invariant-loop-register l =
-    map sized_value l.values.items ++ map (λ (r : ℕ). (slice_index (widths l.env) r, env_of l.env r)) (drop l.register-index l.registers)
-    ≡ map (λ (r : ℕ). (slice_index (widths l.env) r, env_of l.env r)) l.registers
+abbrev pub invariant-loop-place : goal.invariant-loop-place
+invariant-loop-place l = record {
+  kept : state_widths l.state ≡ state_widths l.from;
+  written : take l.place l.state ≡ map (λ (r : ℕ). (slice_index (widths l.env) r, env_of l.env r)) (take l.place l.registers);
+}

@@ -7,7 +7,8 @@ use Rattle.typed_ir.specs.Valuations.{look}
 use Rattle.typed_ir.specs.Cycles.{base, fill, width_at, IsReady}
 use Rattle.typed_ir.specs.Views.{env_of}
 use Rattle.cycle_eval.specs.Designs.{design_flat}
-use Rattle.cycle_eval.specs.Kits.{driven, run_of, register_widths}
+use Rattle.cycle_eval.specs.Kits.{driven, run_of}
+use Rattle.state_layout.specs.Words.{register_widths}
 use Rattle.reg_transform.specs.States.{paired, state_values}
 use Rattle.typed_ir.proofs.Lists.{written_back}
 use Rattle.cycle_eval.proofs.Laws.{run_is, fill_back, between_length}
