@@ -1,5 +1,5 @@
 -- What a history has of the commands that were carried out, and of one more.
-use Rattle.std.proofs.Common.{◌≡◌, ◌⊎◌, inl, inr, ℕ, Bool, List, [], ◌∷◌, ◌++◌, Option, None, refl, sym, ap, ◌∙◌, subst, append-nil, append_assoc}
+use Rattle.std.proofs.Common.{◌≡◌, ◌⊎◌, inl, inr, ℕ, Bool, true, List, [], ◌∷◌, ◌++◌, Option, None, refl, sym, ap, ◌∙◌, subst, append-nil, append_assoc}
 use Rattle.book_history.specs.Book.{Closes, Settings as BookSettings}
 use Rattle.book_history.specs.Legal.{Legal}
 use Rattle.book_history.specs.Moments.{moments_from}

@@ -12,3 +12,4 @@ pub mod Endings
 pub mod Over
 pub mod Outputs
 pub mod Working
+pub mod Lendings

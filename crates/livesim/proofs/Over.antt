@@ -4,7 +4,7 @@ use Rattle.std.proofs.Math.Seq.{take-append_seam}
 use Rattle.std.proofs.lemmas.List.{length-map}
 use Rattle.std.proofs.KnownBytes.{Appends-nil, Appends-trans, Consumes-nil}
 use Rattle.std.specs.Io.KnownBytes.{Appends}
-use Rattle.book_history.specs.Book.{Settings as BookSettings}
+use Rattle.book_history.specs.Book.{Closes, Settings as BookSettings}
 use Rattle.book_settle.specs.Passes.{IsUnfinished, no_pass, no_ticket}
 use Rattle.command_read.specs.Readers.{has_ended, count_taken, stopped, asked_of as still_asked, AreKept}
 use Rattle.ls_text.specs.Readings.{TextFault}
@@ -15,7 +15,7 @@ use Rattle.command_read.specs.declared.reader.Reader.{Reader}
 use Rattle.command_read.specs.declared.stop.Stop.{Stop}
 use Rattle.command_read.specs.declared.stop.Stop.TheVariants as stop
 use Rattle.live_options.specs.Words.{OptionsOf}
-use Rattle.live_session.specs.Logs.{Log, LogMoment, moments_after, moments_of}
+use Rattle.live_session.specs.Logs.{Log, LogEvent, LogMoment, moments_after, moments_of}
 use Rattle.live_session.specs.Replies.{lines, asked_of}
 use Rattle.live_session.specs.Steps.{Stops, cut_short, lost as lost_lines, undone}
 use Rattle.live_session.specs.Sessions.{limits_of, world}

@@ -1,24 +1,66 @@
 -- The history that a book comes back with behind a session's work and its workers.
-use Rattle.std.proofs.Common.{◌≡◌, ◌∙◌, ℕ, true, false, List, [], ◌∷◌, ◌++◌, None, refl, sym, ap, subst}
+use Rattle.std.proofs.Common.{◌≡◌, ◌∙◌, ℕ, Bool, true, false, List, [], ◌∷◌, ◌++◌, length, Option, None, refl, sym, ap, subst}
 use Rattle.book_history.specs.Book.{Closes}
-use Rattle.book_history.specs.Owned.{AllOwned, owned}
+use Rattle.book_history.specs.Owned.{AllOwned, IsPrefix, owned}
 use Rattle.book_history.specs.Legal.{Legal}
-use Rattle.book_turn.specs.Known.{begun}
-use Rattle.book_turn.proofs.Histories.{owned_append}
-use Rattle.book_turn.specs.Turns.{GoesOn}
+use Rattle.book_turn.specs.Known.{apart_from_splits, begun}
+use Rattle.book_turn.specs.Rule.{Learned}
+use Rattle.book_turn.proofs.Histories.{added_append, owned_append, prefix_trans}
+use Rattle.book_turn.specs.Turns.{GoesOn, HasAdded}
 use Rattle.command_read.specs.Readers.{count_taken, has_ended, left, next_number, stopped}
 use Rattle.command_read.specs.declared.reader.Reader.{Reader}
-use Rattle.live_session.specs.AtTurn.{Sight, StandsAt, log_of}
+use Rattle.live_session.specs.AtTurn.{Sight, StandsAt, carried_settings, log_of}
 use Rattle.live_session.specs.Beside.{StandsBeside}
 use Rattle.live_session.specs.Logs.{Log, LogEvent, kit, valid}
 use Rattle.live_session.specs.Sessions.{world}
 use Rattle.live_session.specs.Worlds.{fresh}
 use Rattle.live_session.specs.declared.session.Session.{Session}
+use Rattle.live_session.proofs.SharedSettles.{cancel}
 use Rattle.live_session.proofs.Standing.{are_owned}
-use Rattle.livesim.specs.Histories.{EndsFrom}
+use Rattle.ls_port.specs.declared.shelf_answer.ShelfAnswer.{ShelfAnswer}
+use Rattle.live_options.specs.Words.{OptionsOf}
+use Rattle.live_session.specs.Settings.{Settings}
+use Rattle.livesim.specs.Histories.{EndsFrom, IsLegal}
+use Rattle.livesim.specs.Runs.{HasSettings, Lived}
 use Rattle.livesim.specs.Settings.{settings}
-use Rattle.livesim.specs.Turns.{HasLimits}
-use Rattle.livesim.specs.Working.{IsReadyAt}
+use Rattle.livesim.specs.Turns.{HasLimits, Shelves, Sources}
+use Rattle.livesim.specs.Working.{IsReadyAt, Sinks, Works}
+use Rattle.livesim.proofs.Histories.{settings_kept}
+use Rattle.livesim.proofs.Over.{IsLived}
+
+-- ---- a pass that was split
+
+-- all that a session asks of its pass is apart from its splits
+stands_apart : (s : Session) (u : Sight) → StandsAt s (apart_from_splits u) → StandsAt s u
+stands_apart s u h = record {
+  free = record { outside = h.free.outside; no_ticket = h.free.no_ticket };
+  carries = h.carries;
+  sees = h.sees;
+  legal = h.legal;
+  stands = h.stands;
+}
+
+apart_stands : (s : Session) (u : Sight) → StandsAt s u → StandsAt s (apart_from_splits u)
+apart_stands s u h = record {
+  free = record { outside = h.free.outside; no_ticket = h.free.no_ticket };
+  carries = h.carries;
+  sees = h.sees;
+  legal = h.legal;
+  stands = h.stands;
+}
+
+pub ready_split : (s : Session) (r : Reader) (v u : Sight) → apart_from_splits u ≡ apart_from_splits v → IsReadyAt s r v → IsReadyAt s r u
+ready_split s r v u same h = record {
+  begins = h.begins;
+  at = stands_apart s u (subst (StandsAt s) (sym same) (apart_stands s v h.at));
+  blank = ap (λ (x : Sight). x.seen) same ∙ h.blank;
+  limits = h.limits;
+  left = h.left;
+  number = h.number;
+  taken = h.taken;
+  ended = h.ended;
+  going = h.going;
+}
 
 -- a session that has changed, as by reading, and stands beside what its pass has seen
 pub stands_as : (s t : Session) (v : Sight) → StandsAt s v → StandsBeside t (log_of v) → StandsAt t v
@@ -26,20 +68,77 @@ stands_as s t v h beside = record { free = h.free; carries = h.carries; sees = h
 
 -- ---- the end of a run
 
--- the book is closed, which nobody else has
-pub closed_from : (v : Sight) (h : Log) → h.settings ≡ (log_of v).settings → h.events ≡ v.seen ++ Closes ∷ [] → EndsFrom (log_of v) h
-closed_from v h settings events = record { rest = Closes ∷ []; settings = settings; events = events; closes = refl }
+-- behind the session's work, its close and the joins, the book that comes back goes on from what the session had last seen
+module _ (after behind last : Sight) (h : Log) (sees : owned after.seen ≡ after.own) (closed : HasAdded (Closes ∷ []) after behind)
+    (own : last.own ≡ behind.own) (settings : last.settings ≡ behind.settings) (begins : IsPrefix behind.seen last.seen)
+    (session : last.session ≡ true) (learned : Learned last h) where
+  ends_in : IsPrefix after.seen h.events
+  ends_in = prefix_trans after.seen behind.seen h.events closed.begins (prefix_trans behind.seen last.seen h.events begins learned.begins)
+
+  pub ends_from : EndsFrom (log_of after) h
+  ends_from = record {
+    rest = ends_in.0;
+    settings = sym (ap carried_settings (sym (settings ∙ closed.settings) ∙ learned.carries));
+    events = ends_in.1;
+    closes =
+        cancel (owned after.seen) (owned ends_in.0) (Closes ∷ [])
+        (sym (owned_append after.seen ends_in.0) ∙ ap owned (sym ends_in.1) ∙ learned.own session ∙ own ∙ closed.own
+        ∙ ap (λ (es : List LogEvent). es ++ Closes ∷ []) (sym sees));
+  }
+
+-- a pass that was split carries the settings that it had
+split_settings : (st : Settings) (v u : Sight) → apart_from_splits u ≡ apart_from_splits v → HasSettings st (log_of v) → HasSettings st (log_of u)
+split_settings st v u same has =
+    settings_kept st (log_of v) (log_of u) (ap (λ (x : Sight). carried_settings x.settings) same) has
+
+-- what the work made of a pass that knew as much
+pub works_as : {from to : Sources} {sink sunk : Sinks} {shelf shelved : Shelves} {r : Reader} (v x w y : Sight) (status : ℕ) → v ≡ x → w ≡ y
+    → Works from to sink sunk shelf shelved r v w status → Works from to sink sunk shelf shelved r x y status
+works_as {from} {to} {sink} {sunk} {shelf} {shelved} {r} v x w y status knew knows works =
+    subst (λ (z : Sight). Works from to sink sunk shelf shelved r x z status) knows
+    (subst (λ (z : Sight). Works from to sink sunk shelf shelved r z w status) knew works)
+
+-- what a script's work tells, of the history that the book comes back with
+pub worked_lived : (o : OptionsOf) (v before after behind last : Sight) (h : Log) (from to : Sources) (sink sunk : Sinks) (shelf shelved : Shelves) (r : Reader)
+    (status : ℕ) → HasSettings (settings o) (log_of v) → apart_from_splits before ≡ apart_from_splits v
+    → Works from to sink sunk shelf shelved r before after status → HasAdded (Closes ∷ []) after behind → last.own ≡ behind.own
+    → last.settings ≡ behind.settings → IsPrefix behind.seen last.seen → last.session ≡ true → Learned last h → IsLegal h
+    → IsLived (settings o) from to shelf shelved sink.written sunk.written (count_taken r) status h
+worked_lived o v before after behind last h from to sink sunk shelf shelved r status has same works closed own kept begins session learned legal =
+    works.lived o h (split_settings (settings o) v before same has)
+    (ends_from after behind last h works.sees closed own kept begins session learned) legal
+
+-- and of what references lead to that lead to the same
+pub lived_at : (st : Settings) (left_old left_new left_is written_old written_new written_is : Option (List ℕ))
+    (answers_old answers_new answers_are : Option (List ShelfAnswer)) (faults_old faults_new faults_are taken count status : ℕ) (h : Log)
+    → left_new ≡ left_is → written_new ≡ written_is → answers_new ≡ answers_are → faults_new ≡ faults_are → taken ≡ count
+    → (bytes : List ℕ) × (ended : Bool) × (length bytes ≡ count)
+    × Lived st left_old left_is written_old written_is answers_old answers_are faults_old faults_are bytes ended status h
+    → (bytes : List ℕ) × (ended : Bool) × (length bytes ≡ taken)
+    × Lived st left_old left_new written_old written_new answers_old answers_new faults_old faults_new bytes ended status h
+lived_at st left_old left_new left_is written_old written_new written_is answers_old answers_new answers_are faults_old faults_new faults_are taken count status h
+    left written answers faults took l = (
+      l.0,
+      l.1,
+      l.2 ∙ sym took,
+      subst (λ (x : Option (List ℕ)). Lived st left_old x written_old written_new answers_old answers_new faults_old faults_new l.0 l.1 status h) (sym left)
+          (subst (λ (x : Option (List ℕ)). Lived st left_old left_is written_old x answers_old answers_new faults_old faults_new l.0 l.1 status h) (sym written)
+          (subst (λ (x : Option (List ShelfAnswer)). Lived st left_old left_is written_old written_is answers_old x faults_old faults_new l.0 l.1 status h)
+          (sym answers)
+          (subst (λ (x : ℕ). Lived st left_old left_is written_old written_is answers_old answers_are faults_old x l.0 l.1 status h) (sym faults) l.3))),
+    )
 
 -- where the session was alone from the beginning on, all entries are its own
-pub alone_all : (v after : Sight) (h : Log) → v.seen ≡ [] → v.own ≡ [] → v.alone ≡ true → owned after.seen ≡ after.own → GoesOn v after
-    → h.events ≡ after.seen ++ Closes ∷ [] → AllOwned true h.events
-alone_all v after h blank none alone sees goes events =
+pub alone_all : (v after last : Sight) (h : Log) → v.seen ≡ [] → v.own ≡ [] → v.alone ≡ true → GoesOn v after → HasAdded (Closes ∷ []) after last
+    → owned h.events ≡ last.own → h.events ≡ last.seen → AllOwned true h.events
+alone_all v after last h blank none alone goes closed own seen =
     let es : List LogEvent = goes.entries in
-    let all_seen : after.seen ≡ es = goes.added.whole alone ∙ ap (λ (xs : List LogEvent). xs ++ es) blank in
-    let all_own : after.own ≡ es = goes.added.own ∙ ap (λ (xs : List LogEvent). xs ++ es) none in
-    let same : owned (after.seen ++ Closes ∷ []) ≡ after.seen ++ Closes ∷ [] =
-    owned_append after.seen (Closes ∷ []) ∙ ap (λ (xs : List LogEvent). xs ++ Closes ∷ []) (sees ∙ all_own ∙ sym all_seen) in
-    subst (AllOwned true) (sym events) (are_owned (after.seen ++ Closes ∷ []) same)
+    let all_seen : last.seen ≡ es ++ Closes ∷ [] =
+    closed.whole (goes.added.alone ∙ alone)
+    ∙ ap (λ (xs : List LogEvent). xs ++ Closes ∷ []) (goes.added.whole alone ∙ ap (λ (xs : List LogEvent). xs ++ es) blank) in
+    let all_own : last.own ≡ es ++ Closes ∷ [] =
+    closed.own ∙ ap (λ (xs : List LogEvent). xs ++ Closes ∷ []) (goes.added.own ∙ ap (λ (xs : List LogEvent). xs ++ es) none) in
+    are_owned h.events (own ∙ all_own ∙ sym all_seen ∙ sym seen)
 
 -- ---- the beginning
 

@@ -6,3 +6,4 @@ pub mod Endings
 pub mod Turns
 pub mod Outputs
 pub mod Working
+pub mod Lent

@@ -1,18 +1,21 @@
 // The top call.
-ghost use Rattle.std.specs.Prelude.{◌≡◌, ◌≢◌, ◌⊎◌, ◌<◌, ◌≤◌, ℕ, List, [], ◌∷◌, ◌++◌, length, map, string_bytes, Bool, true, false, Some, None};
+ghost use Rattle.std.specs.Prelude.{◌≡◌, ◌≢◌, ◌⊎◌, ◌<◌, ◌≤◌, ℕ, List, [], ◌∷◌, ◌++◌, length, map, string_bytes, Bool, true, Some, None};
 ghost use Rattle.ls_port.specs.Causes.{Rose};
 ghost use Rattle.live_options.specs.Words.{OptionsOf, options, options_of};
 ghost use Rattle.book_history.specs.Owned.{AllOwned};
-ghost use Rattle.book_history.specs.Book.{Closes};
 ghost use Rattle.book_turn.specs.Passes.{IsOf, known};
-ghost use Rattle.checkpoint_book.specs.Views.{counts_of};
+ghost use Rattle.book_turn.specs.Rule.{Learned};
+ghost use Rattle.book_turn.specs.Turns.{GoesOn};
 ghost use Rattle.segment_verify.specs.Workers.{IsFree};
-ghost use Rattle.live_session.specs.AtTurn.{log_of};
 ghost use Rattle.livesim.specs.Histories.{IsLegal};
+ghost use Rattle.livesim.specs.Lent.{IsAtWork};
 ghost use Rattle.livesim.specs.Runs.{IsComplete, Lived};
 ghost use Rattle.livesim.specs.Settings.{settings};
+ghost use Rattle.livesim.specs.Turns.{shelf_at, source_at};
+ghost use Rattle.livesim.specs.Working.{IsReadyAt, Works, sink_at};
 
 use crate::carrying::carry_out;
+use crate::lending::beside_workers;
 use crate::outcome::Outcome;
 use book_history::history::History;
 use book_history::rooms::Rooms;
@@ -28,6 +31,7 @@ use ls_text::NoMemory;
 use std::alloc::Global;
 use std::sync::Wait;
 use std::thread::Threads;
+use worker_scope::Worked;
 
 /// What the program's sessions may use: 2^40 cycles, 16,777,216 names set in the record, and the rooms of the history.
 const LIMITS: Limits = Limits {
@@ -60,7 +64,7 @@ fn stopped(alloc: Global, status: u8, interval: u64, lookback: u64) -> Outcome
     }
 }
 
-// The history of the book of a turn that the session alone had, which is closed now.
+// The history of the book of a turn, which is closed, and which nobody else has.
 fn history_of<R: Wait>(
     rt: &R,
     turn: BookTurn<Book<Design>>,
@@ -68,15 +72,11 @@ fn history_of<R: Wait>(
 ) -> History<Design>
     requires turn { IsOf turn pass true }
     requires free { IsFree (known pass) }
-    requires alone { (known pass).alone ≡ true }
-    requires still_open { (counts_of (log_of (known pass))).closed ≡ false }
-    ensures settings { result.settings ≡ (log_of (known pass)).settings }
-    ensures events { result.events ≡ (known pass).seen ++ Closes ∷ [] }
+    ensures learned { Learned (known pass) result }
+    ensures alone { (known pass).alone ≡ true → result.events ≡ (known pass).seen }
     ensures legal { IsLegal result }
 {
-    let mut book = turn.finish(rt, pass);
-    book.close();
-    let history = Book::into_history(book);
+    let history = Book::into_history(turn.finish(rt, pass));
     history.legal();
     history
 }
@@ -95,7 +95,7 @@ fn run<R: Threads + Wait + Sync, S: Source, K: Sink, F: Shelf, G: Gate>(
     ensures lived { (bytes : List ℕ) × (ended : Bool) × (length bytes ≡ result.taken)
         × Lived (settings (options_of options)) (S.left source.old) (S.left source.new) (K.written sink.old) (K.written sink.new)
         (F.answers shelf.old) (F.answers shelf.new) (F.faults shelf.old) (F.faults shelf.new) bytes ended result.status result.history }
-    ensures alone { AllOwned true result.history.events }
+    ensures alone { options.workers ≡ 0 → AllOwned true result.history.events }
     ensures read_fault { result.status ≡ 3 → Rose (S.faults source.old) (S.faults source.new) }
     ensures write_fault { result.status ≡ 4 → Rose (K.faults sink.old) (K.faults sink.new) }
     ensures known { result.status ≤ 6 }
@@ -114,20 +114,45 @@ fn run<R: Threads + Wait + Sync, S: Source, K: Sink, F: Shelf, G: Gate>(
     ) else {
         return stopped(alloc, 5, options.interval, options.lookback);
     };
-    let Ok((turn, mut pass)) = BookTurn::make(rt, alloc, book) else {
+    let Ok((turn, pass)) = BookTurn::make(rt, alloc, book) else {
         return stopped(alloc, 5, options.interval, options.lookback);
     };
-    let status = carry_out(
+    let mut script = |turn: &BookTurn<Book<Design>>, pass: &mut SessionPass<Book<Design>>| -> u8
+        requires turn { IsOf turn.now pass.old true }
+        requires ready { IsReadyAt session reader (known pass.old) }
+        ensures turn { IsAtWork turn.now pass.new }
+        ensures goes { GoesOn (known pass.old) (known pass.new) }
+        ensures works { Works (source_at (S.left source.entry.now) (S.faults source.entry.now)) (source_at (S.left source.exit.now) (S.faults source.exit.now))
+            (sink_at (K.written sink.entry.now) (K.faults sink.entry.now)) (sink_at (K.written sink.exit.now) (K.faults sink.exit.now))
+            (shelf_at (F.answers shelf.entry.now) (F.faults shelf.entry.now)) (shelf_at (F.answers shelf.exit.now) (F.faults shelf.exit.now))
+            reader.exit (known pass.old) (known pass.new) result }
+    {
+        carry_out(
+            rt,
+            alloc,
+            &mut session,
+            &mut reader,
+            turn,
+            pass,
+            source,
+            sink,
+            shelf,
+            gate,
+        )
+    };
+    let Worked {
+        pass,
+        answer: status,
+        started: _,
+        refusal: _,
+    } = beside_workers(
         rt,
         alloc,
-        &mut session,
-        &mut reader,
         &turn,
-        &mut pass,
-        source,
-        sink,
-        shelf,
+        pass,
+        u16::from(options.workers),
         gate,
+        &mut script,
     );
     Outcome {
         status,
@@ -136,8 +161,8 @@ fn run<R: Threads + Wait + Sync, S: Source, K: Sink, F: Shelf, G: Gate>(
     }
 }
 
-/// Reads a script, carries out its commands and writes their lines. The gate is asked before each verification and each install. The book is closed at
-/// the end, whatever ended the run, and its history is handed back. Workers aren't started yet, so `settle` alone verifies.
+/// Reads a script, carries out its commands and writes their lines, while workers verify older stretches of the book; the gate is asked before each
+/// verification and each install. The book is closed and the workers are joined at the end, whatever ended the run, and the history is handed back.
 ///
 /// The words are those of the command line, the program's name first. A command is carried out and its lines are written as soon as its last line is
 /// read, before more is read. It ends at the end of the input, at `quit`, at a fault of the source or the sink, for want of memory, or one byte
@@ -165,8 +190,8 @@ pub fn live_run<R: Threads + Wait + Sync, S: Source, K: Sink, F: Shelf, G: Gate>
         × Lived (settings o) (S.left source.old) (S.left source.new) (K.written sink.old) (K.written sink.new)
         (F.answers shelf.old) (F.answers shelf.new) (F.faults shelf.old) (F.faults shelf.new) bytes ended result.status result.history }
 
-    // No entry is a worker's.
-    ensures alone { AllOwned true result.history.events }
+    // Without workers no entry is a worker's.
+    ensures alone { (o : OptionsOf) → options (map string_bytes words.now) ≡ Some o → o.workers ≡ 0 → AllOwned true result.history.events }
 
     // The causes of 3 and 4: the count rose, and by one.
     ensures read_fault { result.status ≡ 3 → Rose (S.faults source.old) (S.faults source.new) }

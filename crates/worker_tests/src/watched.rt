@@ -3,7 +3,6 @@ ghost use Rattle.std.specs.Prelude.{◌≡◌, ℕ, List, [], ◌++◌, Bool, tr
 ghost use Rattle.machine.specs.Tally.{tally_after};
 ghost use Rattle.machine.specs.TallyLaws.{tally_more, eqb_is};
 
-use crate::meeting::Meeting;
 use machine::Machine;
 use machine::row_runs::RowRuns;
 use machine::steps::Steps;
@@ -13,6 +12,7 @@ use std::alloc::Global;
 use std::sync::Arc;
 use std::sync::atomic::{AtomicBool, Ordering};
 use std::sync::ledger::Ledger;
+use test_gates::Meeting;
 
 /// The machine that adds. Where `refuses` is set, it answers want of memory once, at a run from cycle 0. Where there is a
 /// meeting, a run from one of the cycles 0 to 6 reaches it.

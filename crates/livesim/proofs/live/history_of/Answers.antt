@@ -3,15 +3,6 @@ use Rattle.std.proofs.Crossing.{crosses}
 use Rattle.live_session.proofs.DesignsShared.{design_send, design_sync, inputs_send, inputs_sync, ops_send, ops_sync, state_send}
 use Rattle.livesim.proofs.live.history_of.Goals as goal
 
-pub finish-book-requires-send-B : goal.finish-book-requires-send-B
-finish-book-requires-send-B g c κs within = search (design_send, design_sync, state_send, inputs_send, inputs_sync, ops_send, ops_sync, sendable, crosses) depth 60 fits 100000
-
-pub close-requires-send-M : goal.close-requires-send-M
-close-requires-send-M g c κs = search (design_send, sendable, crosses) depth 40 fits 20000
-
-pub close-requires-sync-M : goal.close-requires-sync-M
-close-requires-sync-M g c κs = search (design_sync, sendable, crosses) depth 40 fits 20000
-
 pub into_history-history-requires-send-M : goal.into_history-history-requires-send-M
 into_history-history-requires-send-M g c κs = search (design_send, sendable, crosses) depth 40 fits 20000
 
@@ -23,3 +14,6 @@ legal-requires-send-M g c κs = search (design_send, sendable, crosses) depth 40
 
 pub legal-requires-sync-M : goal.legal-requires-sync-M
 legal-requires-sync-M g c κs = search (design_sync, sendable, crosses) depth 40 fits 20000
+
+pub finish-requires-send-B : goal.finish-requires-send-B
+finish-requires-send-B g c κs within = search (design_send, design_sync, state_send, inputs_send, inputs_sync, ops_send, ops_sync, sendable, crosses) depth 60 fits 100000

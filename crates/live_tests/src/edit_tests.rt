@@ -1,0 +1,90 @@
+// Edits beside workers. The assertions are the same whatever the schedule.
+use crate::held::Held;
+use crate::outcome::right;
+use crate::running::{ran, ran_held, replayed};
+use crate::scripts::{
+    AGAIN, AGAIN_LINES, EDIT, EDIT_LINES, OPEN, OPEN_LINES, RUN, RUN_LINES, joined, many_added,
+    many_edits,
+};
+use ls_port::OpenGate;
+use std::alloc::Global;
+use std::process::Abort;
+use std::sync::Wait;
+use std::test::Fail;
+use std::thread::Threads;
+use test_gates::HoldingGate;
+
+/// How many edits the longest script has.
+const EDITS: u32 = 300;
+
+/// A digit of a register.
+fn digit(value: u8) -> u8 {
+    let digit = value % 16;
+    if digit < 10 {
+        b'0' + digit
+    } else {
+        b'a' + (digit - 10)
+    }
+}
+
+/// The longest script under these words ends with the settled display of the register that the plain replay has.
+fn edit_often<R: Threads + Wait + Sync + Abort>(
+    rt: &R,
+    alloc: Global,
+    given: &str,
+) -> Result<u8, Fail> {
+    let ran = ran(rt, alloc, given, many_edits(alloc, EDITS)?, &OpenGate)?;
+    let Some(replay) = replayed(alloc, &ran, many_added(alloc, EDITS)?)? else {
+        return Err("the history isn't right")?;
+    };
+    let acc = replay.acc();
+    let register = [digit(acc / 16), digit(acc), b'\n'];
+    let display = joined(
+        alloc,
+        &[b"show cycle=65 settled v=301\ntop.acc ", &register],
+    )?;
+    assert_eq!(rt; ran.status, 0);
+    assert!(rt; ran.lines.ends_with(&display));
+    assert_eq!(rt; (replay.settled_to(), replay.is_over()), (None, true));
+    Ok(acc)
+}
+
+#[test]
+fn sixty_four_workers_beside_three_hundred_edits(rt: HostRuntime) -> Result<(), Fail> {
+    let alloc = rt.alloc();
+    let alone = edit_often(&rt, alloc, "--workers 0")?;
+    let beside = edit_often(&rt, alloc, "--workers 64")?;
+    assert_eq!(rt; alone, beside);
+    Ok(())
+}
+
+// Two workers verify stretches of version 2 until version 3 is there. Five cycles of five each are 25.
+#[test]
+fn results_of_an_older_version_change_nothing(rt: HostRuntime) -> Result<(), Fail> {
+    let alloc = rt.alloc();
+    let gate = HoldingGate::new(2);
+    let again = joined(alloc, &[AGAIN, b"settle\nshow\n"])?;
+    let then = Held {
+        script: again.as_slice(),
+        at: b"ok edit v=3",
+        read: 9,
+        write: 9,
+    };
+    let script = joined(alloc, &[OPEN, RUN, EDIT])?;
+    let ran = ran_held(&rt, alloc, "--workers 2", script, &then, &gate)?;
+    let lines: [&[u8]; 6] = [
+        OPEN_LINES,
+        RUN_LINES,
+        EDIT_LINES,
+        AGAIN_LINES,
+        b"settled cycle=5 v=3\n",
+        b"show cycle=5 settled v=3\ntop.acc 19\n",
+    ];
+    let replay = right(&rt, alloc, &ran, 0, &lines, &[0, 1, 2])?;
+    assert!(rt; gate.has_let_go());
+    assert_eq!(rt;
+        (replay.older(), replay.settled_to(), replay.acc()),
+        (2, None, 25)
+    );
+    Ok(())
+}

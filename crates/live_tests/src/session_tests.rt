@@ -1,0 +1,77 @@
+// What the session does about its own tickets. The assertions are the same whatever the schedule.
+use crate::counting::{claims, tickets};
+use crate::held::Held;
+use crate::outcome::right;
+use crate::running::{ran, ran_held};
+use crate::scripts::{DISPLAY, EDIT, EDIT_LINES, OPEN, OPEN_LINES, RUN, RUN_LINES, joined};
+use book_history::who::Who;
+use std::alloc::Global;
+use std::process::Abort;
+use std::sync::Wait;
+use std::test::Fail;
+use std::thread::Threads;
+use test_gates::{HoldingGate, NotingGate};
+
+/// The lines of the short script that is settled.
+const SETTLED_LINES: [&[u8]; 5] = [
+    OPEN_LINES,
+    RUN_LINES,
+    EDIT_LINES,
+    b"settled cycle=5 v=2\n",
+    DISPLAY,
+];
+
+/// Each ticket of the settled script comes to the gate twice, in order: how many there are, and how many are the session's.
+fn note<R: Threads + Wait + Sync + Abort>(
+    rt: &R,
+    alloc: Global,
+    given: &str,
+) -> Result<(usize, usize), Fail> {
+    let gate = NotingGate::new();
+    let script = joined(alloc, &[OPEN, RUN, EDIT, b"settle\nshow\n"])?;
+    let ran = ran(rt, alloc, given, script, &gate)?;
+    right(rt, alloc, &ran, 0, &SETTLED_LINES, &[0, 1])?;
+    let count = tickets(&ran.entries);
+    for number in 0..count {
+        assert!(rt; gate.noted(number as u64 + 1));
+    }
+    assert!(rt; !gate.mixed_up());
+    Ok((count, claims(&ran.entries, Who::Session)))
+}
+
+// Without workers the session draws a ticket for each of the three links.
+#[test]
+fn the_gate_is_asked_before_each_step_of_the_session(rt: HostRuntime) -> Result<(), Fail> {
+    assert_eq!(rt; note(&rt, rt.alloc(), "--workers 0")?, (3, 3));
+    Ok(())
+}
+
+#[test]
+fn the_gate_is_asked_before_each_step_beside_two_workers(rt: HostRuntime) -> Result<(), Fail> {
+    let (count, _) = note(&rt, rt.alloc(), "--workers 2")?;
+    assert!(rt; count > 2);
+    Ok(())
+}
+
+// Two workers hold the two open links until the settle is answered, so the session verifies all three links itself.
+#[test]
+fn a_settle_waits_for_no_worker(rt: HostRuntime) -> Result<(), Fail> {
+    let alloc = rt.alloc();
+    let gate = HoldingGate::new(2);
+    let then = Held {
+        script: b"settle\nshow\n",
+        at: b"settled",
+        read: 9,
+        write: 9,
+    };
+    let script = joined(alloc, &[OPEN, RUN, EDIT])?;
+    let ran = ran_held(&rt, alloc, "--workers 2", script, &then, &gate)?;
+    let replay = right(&rt, alloc, &ran, 0, &SETTLED_LINES, &[0, 1])?;
+    assert!(rt; gate.has_let_go());
+    assert_eq!(rt;
+        (tickets(&ran.entries), claims(&ran.entries, Who::Session)),
+        (5, 3)
+    );
+    assert_eq!(rt; (replay.settled_to(), replay.acc()), (None, 20));
+    Ok(())
+}
