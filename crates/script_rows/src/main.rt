@@ -1,19 +1,22 @@
 // Runs the scripts of its folder of data in memory, and compares what they write with what they have to write.
 //
 // `rows.txt` has a line `STATUS NAME WORDS` for each row: NAME.live is the script, NAME.out are the lines, STATUS is how the run
-// ends, and WORDS are those of the command line, where there are any. `FAULTS.md` is the page of faults (`page`): each of its examples is a row, and shows the fault by the line that the page tells;
-// each fault that a row shows is on the page. `fresh.txt` has a line `NAME FRESH` for each row whose last display is settled: FRESH.live has its last design
+// ends, and WORDS are those of the command line, where there are any, but for the workers (`row`): each row runs without one, and those that print no
+// estimate with two as well. `FAULTS.md` is the page of faults (`page`): each of its examples is a row, and shows the fault by the line that the page
+// tells; each fault that a row shows is on the page. `fresh.txt` has a line `NAME FRESH` for each row whose last display is settled: FRESH.live has its last design
 // alone, with the inputs and cycles that were recorded, and the registers are the same (`fresh`). What differs is named, with the first line that does. `tests`
 // has rows and pages that don't agree.
 #![tactic(auto)]
 
 mod fresh;
 mod page;
+mod row;
 #[cfg(test)]
 mod tests;
 
 use crate::fresh::last_settled;
 use crate::page::{example_of, has, row_of};
+use crate::row::{Row, are_of_every_schedule};
 use livesim::live_run;
 use ls_port::{FileShelf, OpenGate, Shelf, SolidSink, SolidSource};
 use std::alloc::Global;
@@ -21,9 +24,12 @@ use std::sync::Wait;
 use std::thread::Threads;
 use std::{fs, io};
 
-// The words of a command line, of those behind the program's name.
-fn words_of(alloc: Global, given: &str) -> io::Result<Vec<String>> {
-    let mut words = vec![in alloc; String::from_str(alloc, "livesim")?]?;
+// The words of a command line with so many workers, of those behind the program's name.
+fn words_of(alloc: Global, given: &str, workers: &str) -> io::Result<Vec<String>> {
+    let mut words = Vec::new(alloc);
+    for word in ["livesim", "--workers", workers] {
+        words.push(String::from_str(alloc, word)?)?;
+    }
     for word in given.split_whitespace() {
         words.push(String::from_str(alloc, word)?)?;
     }
@@ -38,29 +44,46 @@ fn name_and_words(row: &str) -> (&str, &str) {
     }
 }
 
-// How a script ends and the first line of it that is another one, where it doesn't end with this status and write these lines.
+// How a row ends beside so many workers and the first line of it that is another one, where it doesn't end with its status and write its lines.
 fn difference<R: Threads + Wait + Sync, F: Shelf>(
     rt: &R,
     alloc: Global,
     shelf: &mut F,
-    given: &str,
-    script: &str,
-    lines: &str,
-    status: &str,
+    row: &Row<'_>,
+    workers: &str,
 ) -> io::Result<Option<String>> {
-    let words = words_of(alloc, given)?;
-    let mut source = SolidSource::new(Vec::from_slice(alloc, script.as_bytes())?);
+    let words = words_of(alloc, row.words, workers)?;
+    let mut source = SolidSource::new(Vec::from_slice(alloc, row.script.as_bytes())?);
     let mut sink = SolidSink::new(alloc);
     let outcome = live_run(rt, alloc, &words, &mut source, &mut sink, shelf, &OpenGate);
     let ended = format!(in alloc; "{}", outcome.status)?;
-    if ended.as_str() == status && sink.bytes() == lines.as_bytes() {
+    if ended.as_str() == row.status && sink.bytes() == row.lines.as_bytes() {
         return Ok(None);
     }
     let line = match str::from_utf8(sink.bytes()) {
-        Ok(written) => first_other(written, lines),
+        Ok(written) => first_other(written, row.lines),
         Err(_) => "",
     };
     Ok(Some(format!(in alloc; "ended with {ended}; {line}")?))
+}
+
+// Whether a row agrees beside so many workers; what differs is named.
+fn agrees<R: Threads + Wait + Sync>(
+    host: &HostRuntime,
+    rt: &R,
+    alloc: Global,
+    name: &str,
+    row: &Row<'_>,
+    workers: &str,
+) -> io::Result<bool> {
+    let mut shelf = FileShelf::new(host);
+    match difference(rt, alloc, &mut shelf, row, workers)? {
+        None => Ok(true),
+        Some(found) => {
+            println!(host; "{name} differs with {workers} workers: {found}")?;
+            Ok(false)
+        }
+    }
 }
 
 // The first line of a text that another text doesn't have at its place.
@@ -135,7 +158,7 @@ fn is_of_a_fresh_run<R: Threads + Wait + Sync, F: Shelf>(
     script: &str,
     lines: &str,
 ) -> io::Result<bool> {
-    let words = words_of(alloc, "")?;
+    let words = words_of(alloc, "", "0")?;
     let mut source = SolidSource::new(Vec::from_slice(alloc, script.as_bytes())?);
     let mut sink = SolidSink::new(alloc);
     let outcome = live_run(rt, alloc, &words, &mut source, &mut sink, shelf, &OpenGate);
@@ -170,39 +193,64 @@ fn settled_agree<R: Threads + Wait + Sync>(
     Ok(count)
 }
 
-fn main(rt: HostRuntime) -> io::Result<()> {
-    let alloc = rt.alloc();
-    let rows = fs::read_to_string(&rt, "rows.txt")?;
-    let page = fs::read_to_string(&rt, "FAULTS.md")?;
-    let mut count = 0u32;
+// How many rows agree without workers, and how many with two; the others are named.
+fn rows_agree<R: Threads + Wait + Sync>(
+    host: &HostRuntime,
+    rt: &R,
+    alloc: Global,
+    rows: &str,
+) -> io::Result<(u32, u32)> {
+    let mut alone = 0u32;
+    let mut beside = 0u32;
     for row in rows.lines() {
         let Some((status, row)) = row.split_once(' ') else {
             continue;
         };
         let (name, words) = name_and_words(row);
         let script = format!(in alloc; "{name}.live")?;
-        let script = fs::read_to_string(&rt, script.as_str())?;
-        let lines = lines_of(&rt, alloc, name)?;
-        let mut shelf = FileShelf::new(&rt);
-        match difference(
-            &rt,
-            alloc,
-            &mut shelf,
+        let script = fs::read_to_string(host, script.as_str())?;
+        let lines = lines_of(host, alloc, name)?;
+        let row = Row {
             words,
-            script.as_str(),
-            lines.as_str(),
+            script: script.as_str(),
+            lines: lines.as_str(),
             status,
-        )? {
-            None => count = count.saturating_add(1),
-            Some(found) => println!(rt; "{name} differs: {found}")?,
+        };
+        if agrees(host, rt, alloc, name, &row, "0")? {
+            alone = alone.saturating_add(1);
         }
+        if are_of_every_schedule(row.lines) && agrees(host, rt, alloc, name, &row, "2")? {
+            beside = beside.saturating_add(1);
+        }
+    }
+    Ok((alone, beside))
+}
+
+// Names each fault that a row shows and that isn't on the page.
+fn name_the_unlisted(rt: &HostRuntime, alloc: Global, rows: &str, page: &str) -> io::Result<()> {
+    for row in rows.lines() {
+        let Some((_status, row)) = row.split_once(' ') else {
+            continue;
+        };
+        let (name, _words) = name_and_words(row);
+        let lines = lines_of(rt, alloc, name)?;
         for line in lines.as_str().lines() {
-            if line.starts_with("refused ") && !has(page.as_str(), line) {
+            if line.starts_with("refused ") && !has(page, line) {
                 println!(rt; "{name} shows a fault that isn't on the page: {line}")?;
             }
         }
     }
-    println!(rt; "{count} rows agree")?;
+    Ok(())
+}
+
+fn main(rt: HostRuntime) -> io::Result<()> {
+    let alloc = rt.alloc();
+    let rows = fs::read_to_string(&rt, "rows.txt")?;
+    let page = fs::read_to_string(&rt, "FAULTS.md")?;
+    let (alone, beside) = rows_agree(&rt, &rt, alloc, rows.as_str())?;
+    name_the_unlisted(&rt, alloc, rows.as_str(), page.as_str())?;
+    println!(rt; "{alone} rows agree without workers")?;
+    println!(rt; "{beside} rows agree with two workers")?;
     let mut count = 0u32;
     for line in page.lines() {
         if let Some(entry) = row_of(line) {
