@@ -132,33 +132,33 @@ module _ (one_output : HaveOneOutput) (one_script : HaveOneScript) (all_outputs 
 
   module _ (st : Settings) (bytes : List ℕ) (ended : Bool) (given : List ShelfAnswer) (out other : List ℕ) (j k : Log)
       (p : WritesAll st bytes ended given out j) (q : WritesAll st bytes ended given other k) where
-    answered : given ≡ answers_of p.lived.told ++ p.lived.lost
-    answered = append_cancel_left p.answers _ _ p.lived.answered
+    answered : given ≡ answers_of p.ran.told ++ p.ran.lost
+    answered = append_cancel_left p.answers _ _ p.ran.answered
 
-    also_answered : given ≡ answers_of q.lived.told ++ q.lived.lost
-    also_answered = append_cancel_left q.answers _ _ q.lived.answered
+    also_answered : given ≡ answers_of q.ran.told ++ q.ran.lost
+    also_answered = append_cancel_left q.answers _ _ q.ran.answered
 
     alike : j.settings ≡ k.settings
     alike =
-        settings_alike st j k (has_settings st j p.status p.enough_memory p.lived.settings) (has_settings st k q.status q.enough_memory q.lived.settings)
+        settings_alike st j k (has_settings st j p.status p.enough_memory p.ran.settings) (has_settings st k q.status q.enough_memory q.ran.settings)
 
-    asked : asked_of p.lived.told ≡ asked_of q.lived.told
-    asked = p.lived.all p.no_sink_fault p.enough_memory ∙ sym (q.lived.all q.no_sink_fault q.enough_memory)
+    asked : asked_of p.ran.told ≡ asked_of q.ran.told
+    asked = p.ran.all p.no_sink_fault p.enough_memory ∙ sym (q.ran.all q.no_sink_fault q.enough_memory)
 
-    first : HasScript st p.lived.told j.settings j.events (moments_of j)
-    first = has_script st p.lived.told p.status j p.enough_memory p.lived.legal p.lived.entries p.alone
+    first : HasScript st p.ran.told j.settings j.events (moments_of j)
+    first = has_script st p.ran.told p.status j p.enough_memory p.ran.legal p.ran.entries p.alone
 
-    second : HasScript st q.lived.told k.settings k.events (moments_of k)
-    second = has_script st q.lived.told q.status k q.enough_memory q.lived.legal q.lived.entries q.alone
+    second : HasScript st q.ran.told k.settings k.events (moments_of k)
+    second = has_script st q.ran.told q.status k q.enough_memory q.ran.legal q.ran.entries q.alone
 
     pub outputs_alike : out ≡ other
     outputs_alike =
-        append_cancel_left p.written _ _ (p.lived.written p.no_sink_fault p.enough_memory)
-        ∙ lines_alike st j.settings k.settings p.lived.told q.lived.told p.lived.lost q.lived.lost j.events k.events (moments_of j) (moments_of k) alike
-        p.lived.right q.lived.right asked (sym answered ∙ also_answered) first second
-        ∙ sym (append_cancel_left q.written _ _ (q.lived.written q.no_sink_fault q.enough_memory))
+        append_cancel_left p.written _ _ (p.ran.written p.no_sink_fault p.enough_memory)
+        ∙ lines_alike st j.settings k.settings p.ran.told q.ran.told p.ran.lost q.ran.lost j.events k.events (moments_of j) (moments_of k) alike
+        p.ran.right q.ran.right asked (sym answered ∙ also_answered) first second
+        ∙ sym (append_cancel_left q.written _ _ (q.ran.written q.no_sink_fault q.enough_memory))
 
     pub histories_alike : map bare j.events ≡ map bare k.events
     histories_alike =
-        entries_alike st j.settings k.settings p.lived.told q.lived.told p.lived.lost q.lived.lost j.events k.events (moments_of j) (moments_of k) alike
-        p.lived.right q.lived.right asked (sym answered ∙ also_answered) first second
+        entries_alike st j.settings k.settings p.ran.told q.ran.told p.ran.lost q.ran.lost j.events k.events (moments_of j) (moments_of k) alike
+        p.ran.right q.ran.right asked (sym answered ∙ also_answered) first second

@@ -89,13 +89,10 @@ pub data HasEntries (st : Settings) (told : List Told) (status : ℕ) (own : Lis
       → IsScript st told fresh entries moments → IsUnfinished passes → HasEntries st told status own moments
   no_entries : status ≡ 5 → own ≡ [] → told ≡ [] → HasEntries st told status own moments
 
--- These bytes were taken, and the input ended with them or not. The lines of their commands were written, but at 4 and 5 perhaps only a front
--- of these; and this is the history of the book.
-pub record Lived (st : Settings) (left_old left_new written_old written_new : Option (List ℕ)) (answers_old answers_new : Option (List ShelfAnswer))
+-- The script of these bytes was carried out, and the input ends with them or not. The lines of its commands were written, but at 4 and 5 perhaps only a
+-- front of these; and this is the history of the book.
+pub record HasRun (st : Settings) (written_old written_new : Option (List ℕ)) (answers_old answers_new : Option (List ShelfAnswer))
     (faults_old faults_new : ℕ) (bytes : List ℕ) (ended : Bool) (status : ℕ) (history : Log) : Type 0 where
-  -- what the source had left is the bytes taken, and then what it has left now
-  pub consumed : Consumes left_old left_new bytes
-  pub at_end : ended ≡ true → IsAtEnd left_new
   -- commands from the first on, each with what the shelf answered and its files come to
   pub told : List Told
   pub right : AreRight st fresh told
@@ -138,8 +135,16 @@ pub record Lived (st : Settings) (left_old left_new written_old written_new : Op
   -- 6 comes exactly where too much was taken
   pub too_much : status ≡ 6 → 67108864 < length bytes
   pub not_too_much : 67108864 < length bytes → status ≡ 6
+
+-- These bytes were taken, and the input ended with them or not; and their script was carried out.
+pub record Lived (st : Settings) (left_old left_new written_old written_new : Option (List ℕ)) (answers_old answers_new : Option (List ShelfAnswer))
+    (faults_old faults_new : ℕ) (bytes : List ℕ) (ended : Bool) (status : ℕ) (history : Log) : Type 0 where
+  -- what the source had left is the bytes taken, and then what it has left now
+  pub consumed : Consumes left_old left_new bytes
+  pub at_end : ended ≡ true → IsAtEnd left_new
+  pub ran : HasRun st written_old written_new answers_old answers_new faults_old faults_new bytes ended status history
   -- at 4, and where the script quit: once the last command that is told was complete, nothing more was read
-  pub soon : (status ≡ 4) ⊎ (end_with_quit (asked_of told) ≡ true) → AreSoon (length told) bytes
+  pub soon : (status ≡ 4) ⊎ (end_with_quit (asked_of ran.told) ≡ true) → AreSoon (length ran.told) bytes
 
 -- at status 0, 1 or 5, where nothing outside failed and the script isn't too long
 abbrev pub IsComplete : ℕ → Type 0

@@ -1,11 +1,10 @@
 // The verification of a stretch between two marks: its ticket's own machine runs over the ticket's rows. And the worker
-// that claims such stretches from a shared book, verifies and installs them (`worker`), and sleeps in between (`idling`).
+// that claims such stretches from a shared book, verifies and installs them.
 #![tactic(auto)]
 
 ghost use Rattle.std.specs.Prelude.{◌≡◌, ◌+◌, ◌-◌, ◌*◌, ◌≤◌};
 ghost use Rattle.segment_verify.specs.Outcome.{IsTicketOf, IsDone};
 
-mod idling;
 pub mod verification;
 pub mod worker;
 
