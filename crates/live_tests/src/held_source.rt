@@ -1,10 +1,10 @@
-// A source that goes on once workers are held at a gate.
+// A source whose end comes while a worker is held.
 ghost use Rattle.std.specs.Prelude.{None};
 
 use ls_port::{Failed, SolidSource, Source};
 use test_gates::HoldingGate;
 
-/// A script, and then what another source gives, once all the gate's tickets are held. Where that one ends or fails, the gate lets go first.
+/// A script, and then what another source gives, once a worker is held at the gate and is told to go.
 #[derive(Drop)]
 pub struct HeldSource<'a, S: Source> {
     pub script: SolidSource,
@@ -21,13 +21,8 @@ impl<'a, S: Source> Source for HeldSource<'a, S> {
         match self.script.read(buf) {
             Ok(count) if count > 0 => Ok(count),
             _ => {
-                self.gate.await_all();
-                let answer = self.end.read(buf);
-                match &answer {
-                    Ok(count) if *count > 0 => {}
-                    _ => self.gate.let_go(),
-                }
-                answer
+                self.gate.let_go();
+                self.end.read(buf)
             }
         }
     }

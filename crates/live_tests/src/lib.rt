@@ -1,32 +1,17 @@
 // Tests of the whole program beside workers, in a crate of their own, since a crate with tests is proved twice.
 //
-// `scripts` are what is run, `running` runs it and `ran` is what comes of it, of which `outcome` asks what each test asks, and `counting` tells who did
-// what. `asking_source` and `watched_sink` ask until a display is settled; `held_source` and `held_sink` go on as a gate holds workers, by `held`.
-// `replay`, `mark` and `drawn` take the history that is left, entry by entry.
+// `scripts` are what is run, `running` runs it and `ran` is what comes of it. `asking_source` and `watched_sink` ask until a display is
+// settled, `held_source` ends while a worker is held; `replay`, `mark` and `drawn` take the history that is left, entry by entry.
 #![tactic(auto)]
 
 #[cfg(test)]
 mod asking_source;
 #[cfg(test)]
-mod counting;
-#[cfg(test)]
 mod drawn;
-#[cfg(test)]
-mod edit_tests;
-#[cfg(test)]
-mod ending_tests;
-#[cfg(test)]
-mod held;
-#[cfg(test)]
-mod held_sink;
 #[cfg(test)]
 mod held_source;
 #[cfg(test)]
 mod mark;
-#[cfg(test)]
-mod number_tests;
-#[cfg(test)]
-mod outcome;
 #[cfg(test)]
 mod ran;
 #[cfg(test)]
@@ -36,8 +21,6 @@ mod running;
 #[cfg(test)]
 mod scripts;
 #[cfg(test)]
-mod session_tests;
-#[cfg(test)]
-mod settling_tests;
+mod tests;
 #[cfg(test)]
 mod watched_sink;

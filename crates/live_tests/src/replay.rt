@@ -17,7 +17,6 @@ pub struct Replay {
     version: u64,
     marks: Vec<Mark>,
     tickets: Vec<Drawn>,
-    older: u64,
     closed: bool,
 }
 
@@ -38,7 +37,6 @@ impl Replay {
             version: 0,
             marks: Vec::new(alloc),
             tickets: Vec::new(alloc),
-            older: 0,
             closed: false,
         }
     }
@@ -71,11 +69,6 @@ impl Replay {
     /// The last mark's register.
     pub fn acc(&self) -> u8 {
         self.last().acc
-    }
-
-    /// How many results of an older version were handed in.
-    pub fn older(&self) -> u64 {
-        self.older
     }
 
     /// Whether the book is closed and no ticket is out.
@@ -278,21 +271,17 @@ impl Replay {
         0
     }
 
-    /// The link is joined exactly where version, cycles and start are still the ticket's. A result of an older version changes nothing.
+    /// The link is joined exactly where version, cycles and start are still the ticket's.
     fn install(&mut self, ticket: u64, joined: bool, by: Who) -> bool {
         let Some(drawn) = self.use_up(ticket) else {
             return false;
         };
-        let right = drawn.out && drawn.by == by;
-        if drawn.version < self.version {
-            self.older = self.older.saturating_add(1);
-            return right && !joined;
-        }
         let at = self.place(drawn.a, drawn.b, drawn.start);
-        if at > 0 {
+        let current = drawn.version == self.version && at > 0;
+        if current {
             self.join(at);
         }
-        right && joined == (at > 0)
+        drawn.out && drawn.by == by && current == joined
     }
 
     /// The link to this mark is joined. Where the register changes, the next link opens.

@@ -1,21 +1,17 @@
 // Runs of the program, and plain replays of their histories.
-use crate::held::Held;
-use crate::held_sink::HeldSink;
-use crate::held_source::HeldSource;
 use crate::ran::Ran;
 use crate::replay::Replay;
 use book_history::entry::Entry;
 use book_history::history::History;
 use cycle_eval::Design;
 use livesim::{Outcome, live_run};
-use ls_port::{Gate, MemSink, MemSource, SolidShelf, SolidSink, SolidSource};
+use ls_port::{Gate, SolidShelf, SolidSink, SolidSource, Source};
 use ls_text::NameId;
 use no_memory::NoMemory;
 use std::alloc::Global;
 use std::sync::Wait;
 use std::thread::Threads;
 use stimulus::Row;
-use test_gates::HoldingGate;
 
 /// The interval and the lookback of all runs.
 const INTERVAL: u64 = 2;
@@ -25,61 +21,37 @@ const LOOKBACK: u64 = 1;
 /// How many names the values of a row are looked for under: more than the table of names of a test's script has.
 const NAMES: u64 = 1024;
 
-/// The words of a command line with the interval and the lookback, and these.
-pub fn words_of(alloc: Global, given: &str) -> Result<Vec<String>, NoMemory> {
+/// The words of a command line with so many workers.
+pub fn words_of(alloc: Global, workers: &str) -> Result<Vec<String>, NoMemory> {
     let mut words = Vec::new(alloc);
-    for word in ["livesim", "--interval", "2", "--lookback", "1"] {
-        words.push(String::from_str(alloc, word)?)?;
-    }
-    for word in given.split_whitespace() {
+    for word in [
+        "livesim",
+        "--interval",
+        "2",
+        "--lookback",
+        "1",
+        "--workers",
+        workers,
+    ] {
         words.push(String::from_str(alloc, word)?)?;
     }
     Ok(words)
 }
 
-/// A script under these words, over an empty shelf.
+/// A script beside so many workers, over an empty shelf.
 pub fn ran<R: Threads + Wait + Sync, G: Gate>(
     rt: &R,
     alloc: Global,
-    given: &str,
+    workers: &str,
     script: Vec<u8>,
     gate: &G,
 ) -> Result<Ran, NoMemory> {
-    let words = words_of(alloc, given)?;
+    let words = words_of(alloc, workers)?;
     let mut source = SolidSource::new(script);
     let mut sink = SolidSink::new(alloc);
     let mut shelf = SolidShelf::new(alloc, Vec::new(alloc));
     let outcome = live_run(rt, alloc, &words, &mut source, &mut sink, &mut shelf, gate);
     ran_of(alloc, &outcome, sink.bytes())
-}
-
-/// A script, and what follows once workers hold the gate's tickets, whose read and write of these numbers, from 0, fail; the gate lets go where it
-/// ends or fails, or before a reply that begins so.
-pub fn ran_held<R: Threads + Wait + Sync>(
-    rt: &R,
-    alloc: Global,
-    given: &str,
-    script: Vec<u8>,
-    then: &Held<'_>,
-    gate: &HoldingGate,
-) -> Result<Ran, NoMemory> {
-    let words = words_of(alloc, given)?;
-    let mut source = HeldSource {
-        script: SolidSource::new(script),
-        gate,
-        end: MemSource::new(
-            Vec::from_slice(alloc, then.script)?,
-            vec![in alloc; then.read]?,
-        ),
-    };
-    let mut sink = HeldSink {
-        sink: MemSink::new(alloc, vec![in alloc; then.write]?),
-        gate,
-        at: then.at,
-    };
-    let mut shelf = SolidShelf::new(alloc, Vec::new(alloc));
-    let outcome = live_run(rt, alloc, &words, &mut source, &mut sink, &mut shelf, gate);
-    ran_of(alloc, &outcome, sink.sink.bytes())
 }
 
 /// What comes of a run that ended so and wrote these lines.

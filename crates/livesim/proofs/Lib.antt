@@ -12,4 +12,3 @@ pub mod Endings
 pub mod Over
 pub mod Outputs
 pub mod Working
-pub mod Lendings

@@ -91,13 +91,6 @@ split_settings : (st : Settings) (v u : Sight) → apart_from_splits u ≡ apart
 split_settings st v u same has =
     settings_kept st (log_of v) (log_of u) (ap (λ (x : Sight). carried_settings x.settings) same) has
 
--- what the work made of a pass that knew as much
-pub works_as : {from to : Sources} {sink sunk : Sinks} {shelf shelved : Shelves} {r : Reader} (v x w y : Sight) (status : ℕ) → v ≡ x → w ≡ y
-    → Works from to sink sunk shelf shelved r v w status → Works from to sink sunk shelf shelved r x y status
-works_as {from} {to} {sink} {sunk} {shelf} {shelved} {r} v x w y status knew knows works =
-    subst (λ (z : Sight). Works from to sink sunk shelf shelved r x z status) knows
-    (subst (λ (z : Sight). Works from to sink sunk shelf shelved r z w status) knew works)
-
 -- what a script's work tells, of the history that the book comes back with
 pub worked_lived : (o : OptionsOf) (v before after behind last : Sight) (h : Log) (from to : Sources) (sink sunk : Sinks) (shelf shelved : Shelves) (r : Reader)
     (status : ℕ) → HasSettings (settings o) (log_of v) → apart_from_splits before ≡ apart_from_splits v
@@ -108,7 +101,10 @@ worked_lived o v before after behind last h from to sink sunk shelf shelved r st
     works.lived o h (split_settings (settings o) v before same has)
     (ends_from after behind last h works.sees closed own kept begins session learned) legal
 
--- and of what references lead to that lead to the same
+-- what is known of what a reference led to, told of what it leads to now
+pub along : {A : Type 0} (P : A → Type 0) (x y : A) → x ≡ y → P y → P x
+along P x y same p = subst P (sym same) p
+
 pub lived_at : (st : Settings) (left_old left_new left_is written_old written_new written_is : Option (List ℕ))
     (answers_old answers_new answers_are : Option (List ShelfAnswer)) (faults_old faults_new faults_are taken count status : ℕ) (h : Log)
     → left_new ≡ left_is → written_new ≡ written_is → answers_new ≡ answers_are → faults_new ≡ faults_are → taken ≡ count
@@ -151,17 +147,13 @@ begun_stands s j blank beside = record {
   stands = beside;
 }
 
--- so at the pass of a book that was just made
-pub made_at : (s : Session) (v : Sight) (j : Log) → v ≡ begun j → j.events ≡ [] → StandsBeside s j → StandsAt s v
-made_at s v j is blank beside = subst (StandsAt s) (sym is) (begun_stands s j blank beside)
-
 -- a session without a design, beside a book that was just made
 pub made_ready : (s : Session) (r : Reader) (v : Sight) (j : Log) → v ≡ begun j → j.events ≡ [] → StandsBeside s j
     → ((grid : List ℕ) → world s grid ≡ fresh) → HasLimits s → left r ≡ [] → next_number r ≡ 1 → count_taken r ≡ 0 → has_ended r ≡ false
     → stopped r ≡ None → IsReadyAt s r v
 made_ready s r v j is blank beside begins limits nothing first none more going = record {
   begins = begins;
-  at = made_at s v j is blank beside;
+  at = subst (StandsAt s) (sym is) (begun_stands s j blank beside);
   blank = ap (λ (x : Sight). x.seen) is ∙ blank;
   limits = limits;
   left = nothing;

@@ -6,4 +6,3 @@ pub mod Endings
 pub mod Turns
 pub mod Outputs
 pub mod Working
-pub mod Lent

@@ -8,7 +8,7 @@ ghost use Rattle.livesim.specs.Outputs.{WritesAll};
 
 use live_session::{commands_have_one_output, histories_have_one_output};
 
-/// Two runs without a worker's entry, under the same options, that took the same bytes, ended or not, and were given the same answers by their shelves have written the same,
+/// Two runs under the same options that took the same bytes, ended or not, and were given the same answers by their shelves have written the same,
 /// where neither the sink nor want of memory stopped them: estimates and the answers to settles too. And their histories have the same entries, without
 /// the designs, the rows and the operations of these, which hold numbers of names; the commands fix those by their texts.
 #[tactic(none)]

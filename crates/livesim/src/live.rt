@@ -6,16 +6,15 @@ ghost use Rattle.book_history.specs.Owned.{AllOwned};
 ghost use Rattle.book_turn.specs.Passes.{IsOf, known};
 ghost use Rattle.book_turn.specs.Rule.{Learned};
 ghost use Rattle.book_turn.specs.Turns.{GoesOn};
+ghost use Rattle.worker_scope.specs.Lent.{IsAtWork};
 ghost use Rattle.segment_verify.specs.Workers.{IsFree};
 ghost use Rattle.livesim.specs.Histories.{IsLegal};
-ghost use Rattle.livesim.specs.Lent.{IsAtWork};
 ghost use Rattle.livesim.specs.Runs.{IsComplete, Lived};
 ghost use Rattle.livesim.specs.Settings.{settings};
 ghost use Rattle.livesim.specs.Turns.{shelf_at, source_at};
 ghost use Rattle.livesim.specs.Working.{IsReadyAt, Works, sink_at};
 
 use crate::carrying::carry_out;
-use crate::lending::beside_workers;
 use crate::outcome::Outcome;
 use book_history::history::History;
 use book_history::rooms::Rooms;
@@ -31,7 +30,7 @@ use ls_text::NoMemory;
 use std::alloc::Global;
 use std::sync::Wait;
 use std::thread::Threads;
-use worker_scope::Worked;
+use worker_scope::{Worked, beside_workers};
 
 /// What the program's sessions may use: 2^40 cycles, 16,777,216 names set in the record, and the rooms of the history.
 const LIMITS: Limits = Limits {
@@ -122,10 +121,7 @@ fn run<R: Threads + Wait + Sync, S: Source, K: Sink, F: Shelf, G: Gate>(
         requires ready { IsReadyAt session reader (known pass.old) }
         ensures turn { IsAtWork turn.now pass.new }
         ensures goes { GoesOn (known pass.old) (known pass.new) }
-        ensures works { Works (source_at (S.left source.entry.now) (S.faults source.entry.now)) (source_at (S.left source.exit.now) (S.faults source.exit.now))
-            (sink_at (K.written sink.entry.now) (K.faults sink.entry.now)) (sink_at (K.written sink.exit.now) (K.faults sink.exit.now))
-            (shelf_at (F.answers shelf.entry.now) (F.faults shelf.entry.now)) (shelf_at (F.answers shelf.exit.now) (F.faults shelf.exit.now))
-            reader.exit (known pass.old) (known pass.new) result }
+        ensures works { Works (source_at (S.left source.entry.now) (S.faults source.entry.now)) (source_at (S.left source.exit.now) (S.faults source.exit.now)) (sink_at (K.written sink.entry.now) (K.faults sink.entry.now)) (sink_at (K.written sink.exit.now) (K.faults sink.exit.now)) (shelf_at (F.answers shelf.entry.now) (F.faults shelf.entry.now)) (shelf_at (F.answers shelf.exit.now) (F.faults shelf.exit.now)) reader.exit (known pass.old) (known pass.new) result }
     {
         carry_out(
             rt,

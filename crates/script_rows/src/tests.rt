@@ -5,7 +5,6 @@ use ls_port::{MemShelf, MemSink, MemSource, NamedText, OpenGate, Shelf, SolidShe
 use ls_text::TextBytes;
 use no_memory::NoMemory;
 use std::alloc::Global;
-use std::process::Abort;
 use std::sync::Wait;
 use std::test::Fail;
 use std::thread::Threads;
@@ -25,17 +24,16 @@ fn words_of(alloc: Global, given: &[&str]) -> Result<Vec<String>, NoMemory> {
     Ok(words)
 }
 
-// A script over a shelf beside so many workers, with the calls that fail: how it ended, and what was written.
+// A script over a shelf, with the calls that fail: how it ended, and what was written.
 fn shelved<R: Threads + Wait + Sync, F: Shelf>(
     rt: &R,
     alloc: Global,
-    workers: &str,
     script: Vec<u8>,
     reads: Vec<u64>,
     writes: Vec<u64>,
     shelf: &mut F,
 ) -> Result<(Outcome, Vec<u8>), NoMemory> {
-    let words = words_of(alloc, &["--workers", workers])?;
+    let words = words_of(alloc, &[])?;
     let mut source = MemSource::new(script, reads);
     let mut sink = MemSink::new(alloc, writes);
     let outcome = live_run(rt, alloc, &words, &mut source, &mut sink, shelf, &OpenGate);
@@ -43,36 +41,15 @@ fn shelved<R: Threads + Wait + Sync, F: Shelf>(
 }
 
 // The same over an empty shelf.
-fn bare<R: Threads + Wait + Sync>(
-    rt: &R,
-    alloc: Global,
-    workers: &str,
-    script: Vec<u8>,
-    reads: Vec<u64>,
-    writes: Vec<u64>,
-) -> Result<(Outcome, Vec<u8>), NoMemory> {
-    let mut shelf = SolidShelf::new(alloc, Vec::new(alloc));
-    shelved(rt, alloc, workers, script, reads, writes, &mut shelf)
-}
-
-// The same without workers and beside two, which end alike and write the same.
 fn lived<R: Threads + Wait + Sync>(
     rt: &R,
     alloc: Global,
     script: Vec<u8>,
     reads: Vec<u64>,
     writes: Vec<u64>,
-) -> Result<(Outcome, Vec<u8>), Fail> {
-    let again = Vec::from_slice(alloc, &script)?;
-    let reads_again = Vec::from_slice(alloc, &reads)?;
-    let writes_again = Vec::from_slice(alloc, &writes)?;
-    let (alone, lines) = bare(rt, alloc, "0", script, reads, writes)?;
-    let (beside, written) = bare(rt, alloc, "2", again, reads_again, writes_again)?;
-    let same = beside.status == alone.status && beside.taken == alone.taken;
-    if !same || written.as_slice() != lines.as_slice() {
-        return Err("two workers change how it ends")?;
-    }
-    Ok((beside, written))
+) -> Result<(Outcome, Vec<u8>), NoMemory> {
+    let mut shelf = SolidShelf::new(alloc, Vec::new(alloc));
+    shelved(rt, alloc, script, reads, writes, &mut shelf)
 }
 
 // The bytes of some parts, one after another.
@@ -188,7 +165,7 @@ fn is_answered<R: Threads + Wait + Sync>(
     block: &[u8],
     command: &[u8],
     line: &[u8],
-) -> Result<bool, Fail> {
+) -> Result<bool, NoMemory> {
     let mut script = Vec::from_slice(alloc, block)?;
     script.extend_from_slice(command)?;
     let mut want = Vec::from_slice(alloc, OK_EDIT)?;
@@ -345,12 +322,10 @@ fn a_read_fails_behind_the_commands(rt: HostRuntime) -> Result<(), Fail> {
     Ok(())
 }
 
-// A shelf that fails at its first call: the edit is refused, and the same one after it is taken.
-fn fails_once<R: Threads + Wait + Sync + Abort>(
-    rt: &R,
-    alloc: Global,
-    workers: &str,
-) -> Result<(), Fail> {
+// A shelf that fails once: the edit is refused and the run goes on.
+#[test]
+fn a_shelf_fails_once(rt: HostRuntime) -> Result<(), Fail> {
+    let alloc = rt.alloc();
     let text = b"module top(input clk);\nreg acc;\nalways @(posedge clk) acc <= 1'b1;\nendmodule\n";
     let texts = vec![in alloc;
         NamedText {
@@ -362,9 +337,8 @@ fn fails_once<R: Threads + Wait + Sync + Abort>(
     let block: &[u8] = b"edit\ntop top\nload a.v\nend\n";
     let script = joined(alloc, &[block, block])?;
     let (outcome, written) = shelved(
-        rt,
+        &rt,
         alloc,
-        workers,
         script,
         Vec::new(alloc),
         Vec::new(alloc),
@@ -375,16 +349,6 @@ fn fails_once<R: Threads + Wait + Sync + Abort>(
     assert!(rt; written.as_slice() == want.as_slice());
     assert_eq!(rt; shelf.answers().len(), 2);
     Ok(())
-}
-
-#[test]
-fn a_shelf_fails_once(rt: HostRuntime) -> Result<(), Fail> {
-    fails_once(&rt, rt.alloc(), "0")
-}
-
-#[test]
-fn a_shelf_fails_once_beside_workers(rt: HostRuntime) -> Result<(), Fail> {
-    fails_once(&rt, rt.alloc(), "2")
 }
 
 // A block, `run 5` and two `show`, with a write that fails: the status and how many bytes were written before it.
@@ -413,29 +377,19 @@ fn replies_are_written_whole(rt: HostRuntime) -> Result<(), Fail> {
 #[test]
 fn limit_of_the_input(rt: HostRuntime) -> Result<(), Fail> {
     let alloc = rt.alloc();
-    // How many workers there are, how the script begins before its newlines, its length, the status, and what is written.
-    let rows: [(&str, &[u8], usize, u8, &[u8]); 6] = [
-        ("0", b"", 67_108_864, 0, b""),
-        ("2", b"", 67_108_864, 0, b""),
-        ("0", b"", 67_108_865, 6, b""),
-        ("2", b"", 67_108_865, 6, b""),
-        ("0", b"show", 67_108_865, 6, b"refused 62 NoDesign @1 -\n"),
-        ("2", b"show", 67_108_865, 6, b"refused 62 NoDesign @1 -\n"),
+    // How the script begins before its newlines, its length, the status, and what is written.
+    let rows: [(&[u8], usize, u8, &[u8]); 3] = [
+        (b"", 67_108_864, 0, b""),
+        (b"", 67_108_865, 6, b""),
+        (b"show", 67_108_865, 6, b"refused 62 NoDesign @1 -\n"),
     ];
-    for (workers, start, length, status, want) in rows {
+    for (start, length, status, want) in rows {
         let mut script = Vec::with_capacity(alloc, length)?;
         script.extend_from_slice(start)?;
         for _ in start.len()..length {
             script.push(b'\n')?;
         }
-        let (outcome, written) = bare(
-            &rt,
-            alloc,
-            workers,
-            script,
-            Vec::new(alloc),
-            Vec::new(alloc),
-        )?;
+        let (outcome, written) = lived(&rt, alloc, script, Vec::new(alloc), Vec::new(alloc))?;
         assert_eq!(rt; outcome.status, status);
         assert_eq!(rt; outcome.taken, length as u64);
         assert!(rt; written.as_slice() == want);

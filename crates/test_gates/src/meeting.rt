@@ -1,8 +1,8 @@
 // Where two threads meet.
-use crate::patience::counts;
 use std::sync::atomic::{AtomicBool, AtomicU64, Ordering};
+use std::thread::yield_now;
 
-/// Holds the first number that reaches it until another one does, or patience ends. 0 stands for none.
+/// Holds the first number that reaches it until another one does, for 1,000,000,000 turns at most. 0 stands for none.
 #[derive(Drop)]
 pub struct Meeting {
     first: AtomicU64,
@@ -42,8 +42,12 @@ impl Meeting {
                 .compare_exchange(0, number, Ordering::SeqCst, Ordering::SeqCst);
             return;
         }
-        if !counts(&self.second, 1) {
-            self.missed.store(true, Ordering::SeqCst);
+        for _ in 0..1000000000 {
+            if self.second.load(Ordering::SeqCst) != 0 {
+                return;
+            }
+            yield_now();
         }
+        self.missed.store(true, Ordering::SeqCst);
     }
 }

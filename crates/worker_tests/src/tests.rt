@@ -5,6 +5,7 @@ ghost use Rattle.book_turn.specs.Known.{Known};
 ghost use Rattle.checkpoint_book.specs.Views.{counts_of};
 
 use crate::asking::Asking;
+use crate::noting_gate::NotingGate;
 use crate::reloading::{Reloading, numbered, reload_next};
 use crate::replay::Replay;
 use crate::watched::WatchedMachine;
@@ -28,7 +29,7 @@ use std::sync::ledger::{Blank, Ledger};
 use std::sync::{Arc, Wait};
 use std::test::Fail;
 use std::thread::Threads;
-use test_gates::{Meeting, MeetingGate, NotingGate};
+use test_gates::{Meeting, MeetingGate};
 use worker_scope::{SessionWork, Worked, with_workers};
 
 /// How often a session asks at most.
@@ -355,7 +356,7 @@ fn releases<M: Machine>(history: &History<M>) -> usize {
 fn a_worker_gives_a_ticket_up_at_want_of_memory(rt: HostRuntime) -> Result<(), Fail> {
     let alloc = rt.alloc();
     let book = edited_and_watched::<Brand>(alloc, true, None, Blank::new(1))?;
-    let gate = NotingGate::new();
+    let gate = NotingGate::new(1);
     let (book, settled) = beside(&rt, alloc, book, 2, &gate, Asking { times: TIMES })?;
     assert!(rt; settled);
     assert_eq!(rt; *last(&book)?, 32);
@@ -364,6 +365,6 @@ fn a_worker_gives_a_ticket_up_at_want_of_memory(rt: HostRuntime) -> Result<(), F
     // The first ticket is that of the first link, and so of the first run from cycle 0.
     assert_eq!(rt; (releases(&history), installs(&history, 1)), (1, 0));
     // Its release was asked for at the gate as an install is.
-    assert!(rt; gate.noted(1) && !gate.mixed_up());
+    assert_eq!(rt; gate.noted(), (true, true));
     Ok(())
 }

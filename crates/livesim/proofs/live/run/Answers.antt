@@ -1,4 +1,5 @@
-use Rattle.std.proofs.Common.{◌≡◌, ◌∙◌, ap, rules, subst, sym, true}
+use Rattle.std.proofs.Common.{◌≡◌, ◌≢◌, ◌⊎◌, ◌∙◌, ℕ, [], ap, sym, true}
+use Rattle.ls_port.specs.Causes.{Rose}
 use Rattle.book_history.specs.Book.{Settings as BookSettings}
 use Rattle.book_history.specs.Owned.{owned}
 use Rattle.book_turn.specs.Known.{begun}
@@ -11,9 +12,9 @@ use Rattle.live_session.specs.AtTurn.{carried_settings, log_of}
 use Rattle.live_session.specs.Sessions.{settings_of}
 use Rattle.livesim.specs.Settings.{settings}
 use Rattle.livesim.specs.Turns.{source_at, shelf_at}
-use Rattle.livesim.specs.Working.{IsReadyAt}
+use Rattle.livesim.specs.Working.{sink_at}
 use Rattle.livesim.proofs.Over.{made_with, stopped_lived}
-use Rattle.livesim.proofs.Working.{alone_all, lived_at, made_ready, ready_split, worked_lived, works_as}
+use Rattle.livesim.proofs.Working.{alone_all, along, lived_at, made_ready, worked_lived}
 use Rattle.livesim.proofs.live.run.Goals as goal
 
 pub new-requires-3-send-M : goal.new-requires-3-send-M
@@ -39,23 +40,13 @@ returns-in_default-make-clause-lived g c =
     c.stopped-in_default-make.ensures.events
 
 pub beside_workers-pass-requires-clause-ready : goal.beside_workers-pass-requires-clause-ready
-beside_workers-pass-requires-clause-ready g c κs within = λ u same.
+beside_workers-pass-requires-clause-ready g c κs within =
     let its = c.in-Ok-Ok-Ok in
     let made : known c.in-Ok.pass ≡ begun its.book.value = c.in-Ok.ensures.1 in
-    let ready = made_ready its.session its.reader (known c.in-Ok.pass) its.book.value made its.ensures''.events
+    made_ready its.session its.reader (known c.in-Ok.pass) its.book.value made its.ensures''.events
     (its.ensures'.beside its.book.value its.ensures''.events (ap (λ (s : BookSettings). s.rooms) its.ensures''.settings))
     its.ensures'.fresh (λ options. ap (settings_of options.interval options.lookback) its.ensures'.limits) its.ensures.left its.ensures.number
-    its.ensures.taken its.ensures.ended its.ensures.stop in
-    record {
-      may_call = λ t p at knew. (
-        at.turn,
-        (
-          subst (λ v. IsReadyAt its.session its.reader v) (sym knew) (ready_split its.session its.reader (known c.in-Ok.pass) u same ready),
-          search rules,
-        ),
-      );
-      stays = λ t p q a f at knew step. (step.met.1.0, step.met.1.1.0);
-    }
+    its.ensures.taken its.ensures.ended its.ensures.stop
 
 pub returns-clause-lived : goal.returns-clause-lived
 returns-clause-lived g c =
@@ -63,13 +54,19 @@ returns-clause-lived g c =
     let its = c.in-Ok-Ok-Ok in
     let made : known c.in-Ok.pass ≡ begun its.book.value = c.in-Ok.ensures.1 in
     let last = c.beside_workers-pass in
+    let script = last.result.answer.script in
     let worked = last.ensures.worked in
-    let did = worked.worked.did in
-    let lived = worked_lived o (known c.in-Ok.pass) worked.before worked.worked.after worked.behind (known last.result.pass) c.history_of.result _ _ _ _ _ _ _ _
+    let lived = worked_lived o (known c.in-Ok.pass) worked.before worked.worked.after worked.behind (known last.result.pass) c.history_of.result
+    (source_at (g.S.Source.left c.args.source.now) (g.S.Source.faults c.args.source.now)) (source_at (g.S.Source.left script.source.now) (g.S.Source.faults script.source.now))
+    (sink_at (g.K.Sink.written c.args.sink.now) (g.K.Sink.faults c.args.sink.now)) (sink_at (g.K.Sink.written script.sink.now) (g.K.Sink.faults script.sink.now))
+    (shelf_at (g.F.Shelf.answers c.args.shelf.now) (g.F.Shelf.faults c.args.shelf.now))
+    (shelf_at (g.F.Shelf.answers script.shelf.now) (g.F.Shelf.faults script.shelf.now)) script.reader last.result.answer.status
     (made_with o (log_of (known c.in-Ok.pass)) (ap (λ x. carried_settings x.settings) made ∙ its.ensures''.settings)) worked.started.else_same
-    (works_as _ _ _ _ _ did.knew did.knows did.called.met.1.1.1) worked.worked.closed worked.all_joined.own worked.all_joined.settings worked.all_joined.begins
-    last.ensures.turn.kind c.history_of.ensures.learned c.history_of.ensures.legal in
-    lived_at (settings o) _ _ _ _ _ _ _ _ _ _ _ _ _ _ _ _ (search rules) (search rules) (search rules) (search rules) (search rules) lived
+    worked.worked.did.3 worked.worked.closed worked.all_joined.own worked.all_joined.settings worked.all_joined.begins last.ensures.turn.kind
+    c.history_of.ensures.learned c.history_of.ensures.legal in
+    lived_at (settings o) _ _ _ _ _ _ _ _ _ _ _ _ _ _ _ _ (ap (λ s. g.S.Source.left s) (c.source-1.given.1 (sym worked.worked.did.0)))
+    (ap (λ s. g.K.Sink.written s) (c.sink-1.given.1 (sym worked.worked.did.1))) (ap (λ s. g.F.Shelf.answers s) (c.shelf-1.given.1 (sym worked.worked.did.2)))
+    (ap (λ s. g.F.Shelf.faults s) (c.shelf-1.given.1 (sym worked.worked.did.2))) c.taken-taken.ensures lived
 
 pub returns-clause-alone : goal.returns-clause-alone
 returns-clause-alone g c = λ none.
@@ -81,3 +78,39 @@ returns-clause-alone g c = λ none.
     alone_all (known c.in-Ok.pass) alone.after (known last.result.pass) c.history_of.result (ap (λ x. x.seen) made ∙ its.ensures''.events)
     (ap (λ x. x.own) made ∙ ap owned its.ensures''.events) (ap (λ x. x.alone) made) alone.goes alone.closed
     (c.history_of.ensures.learned.own last.ensures.turn.kind) (c.history_of.ensures.alone only)
+
+pub returns-clause-read_fault : goal.returns-clause-read_fault
+returns-clause-read_fault g c =
+    let status = c.beside_workers-pass.result.answer.status in
+    along (λ (n : ℕ). status ≡ 3 → Rose (g.S.Source.faults c.args.source.now) n) _ _ (ap (λ s. g.S.Source.faults s) (c.source-1.given.1 (sym c.beside_workers-pass.ensures.worked.worked.did.0)))
+    c.beside_workers-pass.ensures.worked.worked.did.3.read_fault
+
+pub returns-clause-write_fault : goal.returns-clause-write_fault
+returns-clause-write_fault g c =
+    let status = c.beside_workers-pass.result.answer.status in
+    along (λ (n : ℕ). status ≡ 4 → Rose (g.K.Sink.faults c.args.sink.now) n) _ _ (ap (λ s. g.K.Sink.faults s) (c.sink-1.given.1 (sym c.beside_workers-pass.ensures.worked.worked.did.1)))
+    c.beside_workers-pass.ensures.worked.worked.did.3.write_fault
+
+pub returns-clause-source_once : goal.returns-clause-source_once
+returns-clause-source_once g c =
+    let status = c.beside_workers-pass.result.answer.status in
+    along (λ (n : ℕ). (n ≡ g.S.Source.faults c.args.source.now) ⊎ Rose (g.S.Source.faults c.args.source.now) n) _ _ (ap (λ s. g.S.Source.faults s) (c.source-1.given.1 (sym c.beside_workers-pass.ensures.worked.worked.did.0)))
+    c.beside_workers-pass.ensures.worked.worked.did.3.source_once
+
+pub returns-clause-sink_once : goal.returns-clause-sink_once
+returns-clause-sink_once g c =
+    let status = c.beside_workers-pass.result.answer.status in
+    along (λ (n : ℕ). (n ≡ g.K.Sink.faults c.args.sink.now) ⊎ Rose (g.K.Sink.faults c.args.sink.now) n) _ _ (ap (λ s. g.K.Sink.faults s) (c.sink-1.given.1 (sym c.beside_workers-pass.ensures.worked.worked.did.1)))
+    c.beside_workers-pass.ensures.worked.worked.did.3.sink_once
+
+pub returns-clause-source_kept : goal.returns-clause-source_kept
+returns-clause-source_kept g c =
+    let status = c.beside_workers-pass.result.answer.status in
+    along (λ (n : ℕ). status ≢ 3 → n ≡ g.S.Source.faults c.args.source.now) _ _ (ap (λ s. g.S.Source.faults s) (c.source-1.given.1 (sym c.beside_workers-pass.ensures.worked.worked.did.0)))
+    c.beside_workers-pass.ensures.worked.worked.did.3.source_kept
+
+pub returns-clause-sink_kept : goal.returns-clause-sink_kept
+returns-clause-sink_kept g c =
+    let status = c.beside_workers-pass.result.answer.status in
+    along (λ (n : ℕ). status ≢ 4 → n ≡ g.K.Sink.faults c.args.sink.now) _ _ (ap (λ s. g.K.Sink.faults s) (c.sink-1.given.1 (sym c.beside_workers-pass.ensures.worked.worked.did.1)))
+    c.beside_workers-pass.ensures.worked.worked.did.3.sink_kept

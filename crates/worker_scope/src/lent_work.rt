@@ -1,13 +1,13 @@
 // Work of a closure that is lent.
 ghost use Rattle.std.specs.Prelude.{◌≡◌};
-ghost use Rattle.livesim.specs.Lent.{HasCalled, IsLendable};
+ghost use Rattle.worker_scope.specs.Lent.{HasCalled, IsLendable};
 
+use crate::session_work::SessionWork;
 use book_turn::{SessionPass, Turn};
 use checkpoint_book::book::Book;
-use cycle_eval::Design;
+use machine::Machine;
 use std::sync::Wait;
 use std::thread::Threads;
-use worker_scope::SessionWork;
 
 /// The session's work as a closure that stays its owner's.
 #[derive(Drop)]
@@ -15,7 +15,7 @@ pub(crate) struct LentWork<'a, F> {
     pub(crate) work: &'a mut F,
 }
 
-impl<'a, F: FnMut(&Turn<Book<Design>>, &mut SessionPass<Book<Design>>) -> A, A> SessionWork<Design>
+impl<'a, M: Machine, F: FnMut(&Turn<Book<M>>, &mut SessionPass<Book<M>>) -> A, A> SessionWork<M>
     for LentWork<'a, F> {
     type Answer = (&'a mut F, A);
 
@@ -26,8 +26,8 @@ impl<'a, F: FnMut(&Turn<Book<Design>>, &mut SessionPass<Book<Design>>) -> A, A> 
     fn work<R: Threads + Wait + Sync>(
         self,
         _rt: &R,
-        turn: &Turn<Book<Design>>,
-        pass: &mut SessionPass<Book<Design>>,
+        turn: &Turn<Book<M>>,
+        pass: &mut SessionPass<Book<M>>,
     ) -> (&'a mut F, A) {
         let LentWork { work } = self;
         let answer = work(turn, pass);
