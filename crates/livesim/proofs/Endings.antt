@@ -59,7 +59,7 @@ pub record IsStatus (bytes : List ℕ) (ended refused : Bool) (rest : List (Resu
 module _ (st : Settings) (from to : Sources) (shelf shelved : Shelves) (old new : Option (List ℕ)) (bytes : List ℕ) (ended refused : Bool) (told : List Told)
     (rest : List (Result Asked TextFault)) (lost : List ShelfAnswer) (status : ℕ) (text : List ℕ) (history : Log) where
   pub lived : Finished st from to shelf shelved bytes ended refused told rest lost → IsStatus bytes ended refused rest lost status
-      → IsHistory st told status text history
+      → IsHistory st told rest status text history
       → RisesBy (count_broken told) shelf.faults shelved.faults ⊎ ((status ≡ 5) × RisesBy (count_broken told + 1) shelf.faults shelved.faults)
       → (status ≢ 4 → status ≢ 5 → Appends old new text) → Writes old new text
       → ((before : List Told) (last : Told) → before ++ last ∷ [] ≡ told → WritesAtLeast old new (lines st before fresh (moments_of history)))
@@ -68,34 +68,36 @@ module _ (st : Settings) (from to : Sources) (shelf shelved : Shelves) (old new 
   lived f s h failed written front most soon = record {
     consumed = f.consumed;
     at_end = f.at_end;
-    told = told;
-    right = f.right;
-    all = λ four five. sym (append-nil (asked_of told)) ∙ ap (λ r. asked_of told ++ r) (sym (s.none_left four five)) ∙ sym f.begins;
-    begins = (rest, f.begins);
-    begins_all = f.begins_all;
-    whole = s.whole;
-    judged = λ which. s.judged which ∙ ap (λ b. cond b 1 0) f.judged;
-    cut = s.cut;
-    lost = lost;
-    answered = f.answered;
-    none_lost = s.none_lost;
-    lost_first = f.first;
-    failed = failed;
-    written = λ four five. subst (Appends old new) (sym h.tells) (written four five);
-    front = subst (Writes old new) (sym h.tells) front;
-    most = most;
-    settings = h.has;
-    legal = h.legal;
-    entries = h.entries;
-    settled = shown_truth st told (moments_of history);
-    too_much = s.too_much;
-    not_too_much = s.not_too_much;
+    ran = record {
+      told = told;
+      right = f.right;
+      all = λ four five. sym (append-nil (asked_of told)) ∙ ap (λ r. asked_of told ++ r) (sym (s.none_left four five)) ∙ sym f.begins;
+      begins = (rest, f.begins);
+      begins_all = f.begins_all;
+      whole = s.whole;
+      judged = λ which. s.judged which ∙ ap (λ b. cond b 1 0) f.judged;
+      cut = s.cut;
+      lost = lost;
+      answered = f.answered;
+      none_lost = s.none_lost;
+      lost_first = f.first;
+      failed = failed;
+      written = λ four five. subst (Appends old new) (sym h.tells) (written four five);
+      front = subst (Writes old new) (sym h.tells) front;
+      most = most;
+      settings = h.has;
+      legal = h.legal;
+      entries = h.entries;
+      settled = shown_truth st told (moments_of history);
+      too_much = s.too_much;
+      not_too_much = s.not_too_much;
+    };
     soon = soon;
   }
 
   -- where all lines were written
   pub lived_all : Finished st from to shelf shelved bytes ended refused told rest lost → IsStatus bytes ended refused rest lost status
-      → IsHistory st told status text history
+      → IsHistory st told rest status text history
       → RisesBy (count_broken told) shelf.faults shelved.faults ⊎ ((status ≡ 5) × RisesBy (count_broken told + 1) shelf.faults shelved.faults)
       → Appends old new text
       → ((status ≡ 4) ⊎ (end_with_quit (asked_of told) ≡ true) → AreSoon (length told) bytes)
