@@ -4,7 +4,7 @@ use crate::running::ran;
 use crate::scripts::{SETTLED, replies, script};
 use book_history::entry::Entry;
 use book_history::who::Who;
-use ls_port::{MemSink, MemSource, OpenGate, SolidShelf, SolidSource};
+use ls_port::{MemSink, MemSource, SolidShelf, SolidSource};
 use no_memory::NoMemory;
 use std::alloc::Global;
 use std::process::Abort;
@@ -51,25 +51,20 @@ fn fails_at<R: Threads + Wait + Sync + Abort>(
     let mut source = MemSource::new(Vec::from_slice(alloc, bytes)?, vec![in alloc; read as u64]?);
     let mut sink = MemSink::new(alloc, vec![in alloc; write as u64]?);
     let mut shelf = SolidShelf::new(alloc, Vec::new(alloc));
-    let outcome = ran(
-        rt,
-        alloc,
-        "0",
-        &mut source,
-        &mut sink,
-        &mut shelf,
-        &OpenGate,
-    )?;
+    let outcome = ran(rt, alloc, &mut source, &mut sink, &mut shelf)?;
     let (status, answered) = ending(read, write);
     let wanted = replies(alloc, &SETTLED, answered)?;
     assert_eq!(rt; outcome.status, status);
     assert!(rt; sink.bytes() == wanted.as_slice());
-    if status == 3 {
-        assert_eq!(rt;
-            outcome.taken as usize,
-            bytes.len().min(read.saturating_mul(READ))
-        );
-    }
+    let reads = if status == 4 {
+        write.saturating_add(2)
+    } else {
+        read
+    };
+    assert_eq!(rt;
+        outcome.taken as usize,
+        bytes.len().min(reads.saturating_mul(READ))
+    );
     Ok(())
 }
 
@@ -172,15 +167,7 @@ fn is_refused_at<R: Threads + Wait + Sync + Abort>(
     let mut source = SolidSource::new(script(alloc, &SETTLED)?);
     let mut sink = ByteSink::new(alloc, refused, is_dry);
     let mut shelf = SolidShelf::new(alloc, Vec::new(alloc));
-    let outcome = ran(
-        rt,
-        alloc,
-        "0",
-        &mut source,
-        &mut sink,
-        &mut shelf,
-        &OpenGate,
-    )?;
+    let outcome = ran(rt, alloc, &mut source, &mut sink, &mut shelf)?;
     let stopped = if is_dry { 5 } else { 4 };
     let status = if refused < lines.len() { stopped } else { 0 };
     assert_eq!(rt; outcome.status, status);

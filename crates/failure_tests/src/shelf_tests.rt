@@ -3,7 +3,7 @@ use crate::dry_shelf::DryShelf;
 use crate::running::ran;
 use book_history::entry::Entry;
 use livesim::Outcome;
-use ls_port::{MemShelf, NamedText, OpenGate, Shelf, SolidSink, SolidSource};
+use ls_port::{MemShelf, NamedText, Shelf, SolidSink, SolidSource};
 use ls_text::TextBytes;
 use no_memory::NoMemory;
 use std::alloc::Global;
@@ -69,7 +69,7 @@ fn run_over<R: Threads + Wait + Sync, F: Shelf>(
     }
     let mut source = SolidSource::new(script);
     let mut sink = SolidSink::new(alloc);
-    let outcome = ran(rt, alloc, "0", &mut source, &mut sink, shelf, &OpenGate)?;
+    let outcome = ran(rt, alloc, &mut source, &mut sink, shelf)?;
     Ok((outcome, Vec::from_slice(alloc, sink.bytes())?))
 }
 

@@ -2,7 +2,7 @@
 use crate::running::ran;
 use crate::scripts::{ACCEPTED, BLOCK};
 use crate::texts::{TEXTS, text};
-use ls_port::{OpenGate, SolidShelf, SolidSink, SolidSource};
+use ls_port::{SolidShelf, SolidSink, SolidSource};
 use no_memory::NoMemory;
 use std::alloc::Global;
 use std::test::Fail;
@@ -85,15 +85,7 @@ fn texts_that_pass_a_limit_leave_the_session(rt: HostRuntime) -> Result<(), Fail
     let mut source = SolidSource::new(script);
     let mut sink = SolidSink::new(alloc);
     let mut shelf = SolidShelf::new(alloc, Vec::new(alloc));
-    let outcome = ran(
-        &rt,
-        alloc,
-        "0",
-        &mut source,
-        &mut sink,
-        &mut shelf,
-        &OpenGate,
-    )?;
+    let outcome = ran(&rt, alloc, &mut source, &mut sink, &mut shelf)?;
     assert_eq!(rt; outcome.status, 1);
     assert!(rt; sink.bytes() == lines.as_slice());
     Ok(())

@@ -25,7 +25,7 @@ use Rattle.live_session.specs.Files.{TextFile}
 use Rattle.live_session.specs.Judging.{verdict_on}
 use Rattle.live_session.specs.Kept.{IsKept}
 use Rattle.live_session.specs.Loaded.{ComesTo, result_of}
-use Rattle.live_session.specs.Loads.{LoadAnswer, Gave, Broke, AddsAnswers, AreToFirst, HasFailed, LosesAnswers, loaded_files, name_in, shelf_answer, shelf_answers}
+use Rattle.live_session.specs.Loads.{LoadAnswer, Gave, Broke, AddsAnswers, AreAnswers, AreToFirst, HasFailed, LosesAnswers, loaded_files, shelf_answers}
 use Rattle.live_session.specs.Logs.{Log, LogMoment, marks_of}
 use Rattle.live_session.specs.Readings.{IsRight, IsRightEdit}
 use Rattle.live_session.specs.Replies.{answers_to_command}
@@ -199,16 +199,6 @@ fault_steps fault s (Ok reply) says = λ (answers : Option (List ShelfAnswer)) (
 
 -- ---- answers to loads
 
-name_is : (load : LoadedFile) (answer : LoadAnswer) → name_in (shelf_answer load answer) ≡ load.name
-name_is load (Gave text) = refl
-name_is load Broke = refl
-
--- answers are to the first of the loads
-pub all_to : (loads : List LoadedFile) (answers : List LoadAnswer) → AreToFirst loads (shelf_answers loads answers)
-all_to [] answers = tt
-all_to (load ∷ loads) [] = tt
-all_to (load ∷ loads) (answer ∷ answers) = (name_is load answer, all_to loads answers)
-
 pub failed_or : (failed : Bool) (faults count : ℕ) → HasFailed failed faults count → (count ≡ faults) ⊎ Rose faults count
 failed_or true faults count h = inr h
 failed_or false faults count h = inl h
@@ -220,6 +210,18 @@ none_given (load ∷ loads) = refl
 
 abbrev nothing : List LoadAnswer
 nothing = []
+
+-- answers to the loads that are reached are to the first ones
+pub all_to : (loads : List LoadedFile) (answers : List LoadAnswer) → AreAnswers loads answers → AreToFirst loads (shelf_answers loads answers)
+all_to [] answers right = tt
+all_to (load ∷ loads) [] right = tt
+all_to (load ∷ loads) (Broke ∷ answers) right = (refl, ap (shelf_answers loads) right ∙ none_given loads)
+all_to (load ∷ loads) (Gave text ∷ answers) right = (refl, by (ltb 4194304 (length text)) right)
+  where
+    by : (t : Bool) → MatchBool t (answers ≡ []) (AreAnswers loads answers)
+        → MatchBool t (shelf_answers loads answers ≡ []) (AreToFirst loads (shelf_answers loads answers))
+    by true none = ap (shelf_answers loads) none ∙ none_given loads
+    by false more = all_to loads answers more
 
 -- ---- a block that is refused before anything is loaded
 
@@ -353,7 +355,7 @@ module _ (names : List (List ℕ)) (e : Edit) (old new : Session) (was is : Log)
   all_lost l (Err error) h = record {
     more = shelf_answers asks.loads h.answers;
     adds = h.adds;
-    first = all_to asks.loads h.answers;
+    first = all_to asks.loads h.answers h.right;
   }
 
 -- memory ran out before a block was taken

@@ -63,11 +63,13 @@ abbrev pub name_in : ShelfAnswer → List ℕ
 name_in (shelf.Given name text) = name
 name_in (shelf.Failed name) = name
 
--- these are answers to the first of the loads, each under the name of its file
+-- these are answers to the first of the loads, each under the name of its file, and none comes behind one that wasn't a text of at most 4,194,304 bytes
 abbrev pub AreToFirst : List LoadedFile → List ShelfAnswer → Type 0
 AreToFirst loads [] = ⊤
 AreToFirst [] (a ∷ answers) = ⊥
-AreToFirst (load ∷ loads) (a ∷ answers) = (name_in a ≡ load.name) × AreToFirst loads answers
+AreToFirst (load ∷ loads) (shelf.Given name text ∷ answers) =
+    (name ≡ load.name) × MatchBool (nat_lt 4194304 (length text)) (answers ≡ []) (AreToFirst loads answers)
+AreToFirst (load ∷ loads) (shelf.Failed name ∷ answers) = (name ≡ load.name) × (answers ≡ [])
 
 abbrev pub loads_of : Asked → List LoadedFile
 loads_of (Edits block) = block.loads

@@ -28,7 +28,7 @@ pub fn tickets(entries: &[Entry]) -> usize {
 
 /// Whether this ticket was drawn by that one.
 pub fn drew(entries: &[Entry], number: u64, who: Who) -> bool {
-    entries
-        .iter()
-        .any(|entry| matches!(entry, Entry::Claim { ticket, by, .. } if *ticket == number && *by == who))
+    entries.iter().any(
+        |entry| matches!(entry, Entry::Claim { ticket, by, .. } if *ticket == number && *by == who),
+    )
 }

@@ -2,7 +2,7 @@
 //
 // `scripts` are what is run, `running` runs it and `ran` is what comes of it, of which `outcome` asks what each test asks, and `counting` tells who did
 // what. `asking_source` and `watched_sink` ask until a display is settled; `held_source` and `held_sink` go on as a gate holds workers, by `held`,
-// and `passing_gate` has one ticket let others go.
+// `passing_gate` has one ticket let others go, and `install_gate` holds them later.
 // `replay`, `mark` and `drawn` take the history that is left, entry by entry.
 #![tactic(auto)]
 
@@ -22,6 +22,8 @@ mod held;
 mod held_sink;
 #[cfg(test)]
 mod held_source;
+#[cfg(test)]
+mod install_gate;
 #[cfg(test)]
 mod mark;
 #[cfg(test)]

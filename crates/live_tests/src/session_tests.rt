@@ -115,11 +115,15 @@ fn ask<R: Threads + Wait + Sync + Abort>(
 }
 
 #[test]
-fn others_have_the_book_as_the_session_asks_before_it_verifies(rt: HostRuntime) -> Result<(), Fail> {
+fn others_have_the_book_as_the_session_asks_before_it_verifies(
+    rt: HostRuntime,
+) -> Result<(), Fail> {
     ask(&rt, rt.alloc(), GateStep::Verify)
 }
 
 #[test]
-fn others_have_the_book_as_the_session_asks_before_it_installs(rt: HostRuntime) -> Result<(), Fail> {
+fn others_have_the_book_as_the_session_asks_before_it_installs(
+    rt: HostRuntime,
+) -> Result<(), Fail> {
     ask(&rt, rt.alloc(), GateStep::Install)
 }

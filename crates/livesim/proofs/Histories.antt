@@ -161,7 +161,7 @@ unfinished_history st j k h e told rest text status added five d same events unf
       tells = ap (λ (ms : List LogMoment). lines st told fresh ms) moments ∙ lines_recorded st j told text d;
     }
 
--- nothing was touched
+-- there is no entry
 pub nothing_history : (st : Settings) (rest : List (Result Asked TextFault)) (h : Log) → h.events ≡ [] → IsHistory st [] rest 5 [] h
 nothing_history st rest h blank = record {
   has = inr (refl, blank);

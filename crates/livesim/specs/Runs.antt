@@ -94,12 +94,12 @@ pub record IsCut (st : Settings) (w : World) (made : ℕ) (asked : List (Result 
 -- first passes of this may stand before the close, without its show; or there is no entry, and then nothing was told.
 pub data HasEntries (st : Settings) (told : List Told) (rest : List (Result Asked TextFault)) (status : ℕ) (own : List LogEvent)
     (moments : List LogMoment) : Type 0 where
-      all_entries : (entries : List LogEvent) → own ≡ entries ++ Closes ∷ [] → IsScript st told fresh entries moments
-          → HasEntries st told rest status own moments
-      unfinished_settle : (entries passes : List LogEvent) → status ≡ 5 → own ≡ entries ++ (passes ++ Closes ∷ [])
-          → IsScript st told fresh entries moments → (unfinished : IsUnfinished passes) → IsCut st (world_after st told fresh) unfinished.count rest
-          → HasEntries st told rest status own moments
-      no_entries : status ≡ 5 → own ≡ [] → told ≡ [] → HasEntries st told rest status own moments
+  all_entries : (entries : List LogEvent) → own ≡ entries ++ Closes ∷ [] → IsScript st told fresh entries moments
+      → HasEntries st told rest status own moments
+  unfinished_settle : (entries passes : List LogEvent) → status ≡ 5 → own ≡ entries ++ (passes ++ Closes ∷ [])
+      → IsScript st told fresh entries moments → (unfinished : IsUnfinished passes) → IsCut st (world_after st told fresh) unfinished.count rest
+      → HasEntries st told rest status own moments
+  no_entries : status ≡ 5 → own ≡ [] → told ≡ [] → HasEntries st told rest status own moments
 
 -- The script of these bytes was carried out, and the input ends with them or not. The lines of its commands were written, but at 4 and 5 perhaps only a
 -- front of these; and this is the history of the book.
