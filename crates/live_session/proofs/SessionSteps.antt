@@ -29,7 +29,7 @@ use Rattle.live_session.specs.Loads.{LoadAnswer, Gave, Broke, AddsAnswers, AreAn
 use Rattle.live_session.specs.Logs.{Log, LogMoment, marks_of}
 use Rattle.live_session.specs.Readings.{IsRight, IsRightEdit}
 use Rattle.live_session.specs.Replies.{answers_to_command}
-use Rattle.live_session.specs.Sessions.{limits_of, running_world, world_of}
+use Rattle.live_session.specs.Sessions.{limits_of, running_world, world, world_of}
 use Rattle.live_session.specs.Settings.{Settings}
 use Rattle.live_session.specs.Steps.{StepsTo, StopsInTurn, loses, stays}
 use Rattle.live_session.specs.Taken.{LosesBlock, TakesBlock, lost_lines, none_taken}
@@ -176,10 +176,10 @@ stopped asked answers faults old new was is (Err e) limits none right beside h =
     by (lost_at reply done) = loses reply.lines reply.refused (step_of asked answers faults old new was is reply limits none right beside done)
 
 -- so nothing is lost
-pub none_lost : {E : Type 0} (asked : Asked) (answers : Option (List ShelfAnswer)) (result : Result Reply E)
-    → OnErr result (LosesAnswers asked answers answers)
-none_lost asked answers (Ok r) = tt
-none_lost asked answers (Err e) = record { more = []; adds = none_added answers; first = tt }
+pub none_lost : {E : Type 0} (s : Session) (asked : Asked) (answers : Option (List ShelfAnswer)) (result : Result Reply E)
+    → OnErr result (LosesAnswers s asked answers answers)
+none_lost s asked answers (Ok r) = tt
+none_lost s asked answers (Err e) = record { more = []; adds = none_added answers; first = tt; reached = λ grid full. refl }
 
 -- a line that is refused as it is read
 pub fault_steps : {E : Type 0} (fault : TextFault) (s : Session) (result : Result Reply E) → IfOk result (Refuses (refused_text [] 0 fault))
@@ -349,13 +349,14 @@ module _ (names : List (List ℕ)) (e : Edit) (old new : Session) (was is : Log)
         by (lost_lines text refused t) = loses text refused (block_steps text refused t)
 
   -- all answers to its loads
-  pub all_lost : {E : Type 0} (l : Loads) (result : Result Reply E) → ComesTo names e.loads before behind faults count l
-      → OnErr result (LosesAnswers (Edits asks) before behind)
-  all_lost l (Ok reply) h = tt
-  all_lost l (Err error) h = record {
+  pub all_lost : {E : Type 0} (l : Loads) (result : Result Reply E) → ((grid : List ℕ) → (world old grid).charge < (limits_of old).rooms.session)
+      → ComesTo names e.loads before behind faults count l → OnErr result (LosesAnswers old (Edits asks) before behind)
+  all_lost l (Ok reply) room h = tt
+  all_lost l (Err error) room h = record {
     more = shelf_answers asks.loads h.answers;
     adds = h.adds;
     first = all_to asks.loads h.answers h.right;
+    reached = λ grid full. absurd (omega (arith, full, room grid));
   }
 
 -- memory ran out before a block was taken

@@ -136,6 +136,7 @@ script_run st script left written_old written_new answers_old answers_new faults
       answered = ran.answered;
       none_lost = ran.none_lost;
       lost_first = leads.first;
+      none_reached = ran.none_reached;
       failed = ran.failed;
       written = ran.written;
       front = ran.front;

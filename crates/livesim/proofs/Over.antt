@@ -155,6 +155,12 @@ module _ (o : OptionsOf) (from mid to : Sources) (shelf mid_shelf shelved : Shel
   as_before rest status same =
       ended_history (settings o) now h ends told rest text status (subst (λ (j : Log). IsRecorded (settings o) j told text) (sym same) d.recorded) legal
 
+  -- no load is reached where the session's room is full
+  none_reached : (ending : Ending) (e : Ends mid to mid_shelf shelved old new session behind was now ending)
+      → (settings o).room ≤ (world_after (settings o) told fresh).charge → e.lost ≡ []
+  none_reached ending e room =
+      e.full (marks_of was) (omega (arith, room, ap (λ (s : Settings). s.room) (limits o), ap (λ (w : World). w.charge) d.goes))
+
   -- all that came is kept, and no byte is above the limit
   all_kept : (came kept : List ℕ) → came ≡ kept → length (d.bytes ++ came) ≡ count_taken new → is_too_much (stopped new) ≡ false
       → AreCut new (d.bytes ++ came) (d.bytes ++ kept) []
@@ -195,7 +201,7 @@ module _ (o : OptionsOf) (from mid to : Sources) (shelf mid_shelf shelved : Shel
         has_ended new,
         taken,
         lived_all (settings o) from to shelf shelved written_old written_new bytes (has_ended new) refused told rest e.lost status text h
-            (finished_then (settings o) from mid to shelf mid_shelf shelved session behind old new was now refused told text Whole d e []
+            (finished_then (settings o) from mid to shelf mid_shelf shelved session behind old new was now refused told text Whole d e (none_reached Whole e) []
             (all_kept e.reads.came e.reads.kept (e.reads.takes.whole ended) taken going)) s (as_before rest status halt.same)
             (inl (subst (RisesBy (count_broken told) shelf.faults) (sym halt.unfailed) d.failed)) written
             (not_soon bytes status (λ z. omega (arith, z, below))),
@@ -225,7 +231,7 @@ module _ (o : OptionsOf) (from mid to : Sources) (shelf mid_shelf shelved : Shel
         has_ended new,
         taken,
         lived_all (settings o) from to shelf shelved written_old written_new bytes (has_ended new) refused told rest e.lost status text h
-            (finished_then (settings o) from mid to shelf mid_shelf shelved session behind old new was now refused told text Failed d e [] (all_kept e.reads.came e.reads.kept same taken going)) s
+            (finished_then (settings o) from mid to shelf mid_shelf shelved session behind old new was now refused told text Failed d e (none_reached Failed e) [] (all_kept e.reads.came e.reads.kept same taken going)) s
             (as_before rest status halt.same)
             (inl (subst (RisesBy (count_broken told) shelf.faults) (sym halt.unfailed) d.failed)) written
             (not_soon bytes status (λ z. omega (arith, z, is))),
@@ -261,7 +267,7 @@ module _ (o : OptionsOf) (from mid to : Sources) (shelf mid_shelf shelved : Shel
         has_ended new,
         taken,
         lived_all (settings o) from to shelf shelved written_old written_new bytes (has_ended new) refused told rest e.lost status text h
-            (finished_then (settings o) from mid to shelf mid_shelf shelved session behind old new was now refused told text TooMuch d e [] cut) s (as_before rest status halt.same)
+            (finished_then (settings o) from mid to shelf mid_shelf shelved session behind old new was now refused told text TooMuch d e (none_reached TooMuch e) [] cut) s (as_before rest status halt.same)
             (inl (subst (RisesBy (count_broken told) shelf.faults) (sym halt.unfailed) d.failed)) written
             (not_soon bytes status (λ z. omega (arith, z, is))),
       )
@@ -293,7 +299,7 @@ module _ (o : OptionsOf) (from mid to : Sources) (shelf mid_shelf shelved : Shel
         has_ended new,
         taken,
         lived_all (settings o) from to shelf shelved written_old written_new bytes (has_ended new) refused told rest e.lost status text h
-            (finished_then (settings o) from mid to shelf mid_shelf shelved session behind old new was now refused told text NoMemory d e lost cut) s so
+            (finished_then (settings o) from mid to shelf mid_shelf shelved session behind old new was now refused told text NoMemory d e (none_reached NoMemory e) lost cut) s so
             (rises_perhaps (count_broken told) shelf.faults mid_shelf.faults shelved.faults status is d.failed e.cause) written
             (not_soon bytes status (λ z. omega (arith, z, is))),
       )
@@ -380,6 +386,7 @@ nothing_lived st from shelf old h blank =
       answered = adds_none shelf.answers;
       first = tt;
       judged = refl;
+      full = λ room. refl;
     } in
     let s : IsStatus [] false false (commands [] false) [] 5 = record {
       none_left = λ four five. absurd (five refl);

@@ -118,11 +118,13 @@ pub record HasRun (st : Settings) (written_old written_new : Option (List ℕ)) 
   pub judged : (status ≡ 0) ⊎ (status ≡ 1) → status ≡ (if any_refused st told fresh then 1 else 0)
   -- at 3 and 6 it wasn't
   pub cut : (status ≡ 3) ⊎ (status ≡ 6) → ended ≡ false
-  -- what the shelf answered: to each load that is reached, in their order; where memory ran out also to the first loads of the next command
+  -- what the shelf answered: to each load that is reached, in their order; where memory ran out also to the first loads of the next command, but to none
+  -- where the session's room is full, since none is reached then
   pub lost : List ShelfAnswer
   pub answered : AddsAnswers answers_old answers_new (answers_of told ++ lost)
   pub none_lost : status ≢ 5 → lost ≡ []
   pub lost_first : AreToFirst (loads_first begins.0) lost
+  pub none_reached : st.room ≤ (world_after st told fresh).charge → lost ≡ []
   -- its count has risen by as many as there are commands at which it failed; where memory ran out perhaps by one more
   pub failed : RisesBy (count_broken told) faults_old faults_new ⊎ ((status ≡ 5) × RisesBy (count_broken told + 1) faults_old faults_new)
   -- what was written: the lines of these commands at their places in the history; at 4 and 5 a front of them, with at least those of all but the last command
