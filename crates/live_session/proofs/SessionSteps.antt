@@ -216,12 +216,13 @@ pub all_to : (loads : List LoadedFile) (answers : List LoadAnswer) → AreAnswer
 all_to [] answers right = tt
 all_to (load ∷ loads) [] right = tt
 all_to (load ∷ loads) (Broke ∷ answers) right = (refl, ap (shelf_answers loads) right ∙ none_given loads)
-all_to (load ∷ loads) (Gave text ∷ answers) right = (refl, by (ltb 4194304 (length text)) right)
+all_to (load ∷ loads) (Gave text ∷ answers) right = (refl, by (ltb 4194304 (length text)) right (all_to loads answers))
   where
     by : (t : Bool) → MatchBool t (answers ≡ []) (AreAnswers loads answers)
+        → (AreAnswers loads answers → AreToFirst loads (shelf_answers loads answers))
         → MatchBool t (shelf_answers loads answers ≡ []) (AreToFirst loads (shelf_answers loads answers))
-    by true none = ap (shelf_answers loads) none ∙ none_given loads
-    by false more = all_to loads answers more
+    by true none later = ap (shelf_answers loads) none ∙ none_given loads
+    by false more later = later more
 
 -- ---- a block that is refused before anything is loaded
 

@@ -29,11 +29,12 @@ later_quits x (u ∷ us) none ends = ends
 -- nothing counts behind commands of which the last is `quit`
 nothing_behind : (xs ys : List (Result Asked TextFault)) → end_with_quit (up_to_quit xs) ≡ true → up_to_quit (xs ++ ys) ≡ up_to_quit xs
 nothing_behind [] ys quits = absurd (true≢false (sym quits))
-nothing_behind (x ∷ xs) ys quits = by (is_quit x) refl quits
+nothing_behind (x ∷ xs) ys quits = by (is_quit x) refl quits (nothing_behind xs ys)
   where
-    by : (q : Bool) → is_quit x ≡ q → end_with_quit (x ∷ cond q [] (up_to_quit xs)) ≡ true → x ∷ cond q [] (up_to_quit (xs ++ ys)) ≡ x ∷ cond q [] (up_to_quit xs)
-    by true is ends = refl
-    by false is ends = ap (λ t. x ∷ t) (nothing_behind xs ys (later_quits x (up_to_quit xs) is ends))
+    by : (q : Bool) → is_quit x ≡ q → end_with_quit (x ∷ cond q [] (up_to_quit xs)) ≡ true
+        → (end_with_quit (up_to_quit xs) ≡ true → up_to_quit (xs ++ ys) ≡ up_to_quit xs) → x ∷ cond q [] (up_to_quit (xs ++ ys)) ≡ x ∷ cond q [] (up_to_quit xs)
+    by true is ends later = refl
+    by false is ends later = ap (λ t. x ∷ t) (later (later_quits x (up_to_quit xs) is ends))
 
 -- so the commands of a script that is cut behind its `quit` are those of the whole script
 quits_whole : (bytes more : List ℕ) (end : Bool) → length (bytes ++ more) ≤ 67108864 → end_with_quit (commands bytes false) ≡ true
