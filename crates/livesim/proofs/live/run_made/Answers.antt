@@ -12,7 +12,7 @@ returns-in_default-clause-made g c =
 
 pub returns-clause-made : goal.returns-clause-made
 returns-clause-made g c =
-    made_run (settings (options_of c.args.options)) c.args.stages _ _ _ _ _ _ _ _ _ _ c.run-ran.result.history (c.new.ensures ∙ c.in-Ok.ensures) c.requires.few
+    made_run (settings (options_of c.args.options)) c.args.stages _ _ _ _ _ _ _ _ _ _ c.run-ran.result.history (c.new-source.ensures ∙ c.in-Ok.ensures) c.requires.few
     c.run-ran.ensures.known c.run-ran.ensures.words (never_rose _ c.run-ran.ensures.read_fault) c.run-ran.ensures.lived
 
 pub returns-clause-no_read_fault : goal.returns-clause-no_read_fault
@@ -21,5 +21,5 @@ returns-clause-no_read_fault g c = never_rose _ c.run-ran.ensures.read_fault
 pub returns-clause-short : goal.returns-clause-short
 returns-clause-short g c =
     made_short (settings (options_of c.args.options)) _ _ _ _ _ _ _ _ c.run-ran.result.history
-    (made_run (settings (options_of c.args.options)) c.args.stages _ _ _ _ _ _ _ _ _ _ c.run-ran.result.history (c.new.ensures ∙ c.in-Ok.ensures) c.requires.few
+    (made_run (settings (options_of c.args.options)) c.args.stages _ _ _ _ _ _ _ _ _ _ c.run-ran.result.history (c.new-source.ensures ∙ c.in-Ok.ensures) c.requires.few
     c.run-ran.ensures.known c.run-ran.ensures.words (never_rose _ c.run-ran.ensures.read_fault) c.run-ran.ensures.lived)
