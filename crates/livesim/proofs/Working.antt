@@ -151,13 +151,17 @@ begun_stands s j blank beside = record {
   stands = beside;
 }
 
+-- so at the pass of a book that was just made
+pub made_at : (s : Session) (v : Sight) (j : Log) → v ≡ begun j → j.events ≡ [] → StandsBeside s j → StandsAt s v
+made_at s v j is blank beside = subst (StandsAt s) (sym is) (begun_stands s j blank beside)
+
 -- a session without a design, beside a book that was just made
 pub made_ready : (s : Session) (r : Reader) (v : Sight) (j : Log) → v ≡ begun j → j.events ≡ [] → StandsBeside s j
     → ((grid : List ℕ) → world s grid ≡ fresh) → HasLimits s → left r ≡ [] → next_number r ≡ 1 → count_taken r ≡ 0 → has_ended r ≡ false
     → stopped r ≡ None → IsReadyAt s r v
 made_ready s r v j is blank beside begins limits nothing first none more going = record {
   begins = begins;
-  at = subst (StandsAt s) (sym is) (begun_stands s j blank beside);
+  at = made_at s v j is blank beside;
   blank = ap (λ (x : Sight). x.seen) is ∙ blank;
   limits = limits;
   left = nothing;
