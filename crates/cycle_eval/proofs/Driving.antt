@@ -1,5 +1,5 @@
 -- Runs stretch by stretch, and the names of inputs.
-use Rattle.std.proofs.Common.{◌≡◌, ℕ, zero, suc, ◌+◌, ◌-◌, ◌<◌, ◌≤◌, List, [], ◌∷◌, ◌++◌, length, map, take, drop, get_or, Some, cond, refl, sym, ◌∙◌, ap, ap₂, arith, add-zero}
+use Rattle.std.proofs.Common.{◌≡◌, ℕ, zero, suc, ◌+◌, ◌-◌, ◌<◌, ◌≤◌, List, [], ◌∷◌, ◌++◌, length, map, take, drop, get_or, Some, cond, refl, sym, ◌∙◌, ap, arith, add-zero}
 use Rattle.std.specs.Prelude.{slice_index}
 use Rattle.std.proofs.lemmas.Bool.{eq-eqb, ne_eqb}
 use Rattle.machine.specs.Rows.{between}
@@ -12,7 +12,6 @@ use Rattle.typed_ir.specs.Linkeds.{flat}
 use Rattle.typed_ir.specs.Orders.{at_or}
 use Rattle.typed_ir.specs.Paths.{paths_of}
 use Rattle.typed_ir.proofs.Lists.{drop_split}
-use Rattle.stimulus.specs.Rows.{value_in}
 use Rattle.cycle_eval.specs.DesignLaws.{driven_first}
 use Rattle.cycle_eval.specs.Inputs.{own_name, name_at, row_values, width_among}
 use Rattle.cycle_eval.specs.Kits.{driven}
@@ -35,13 +34,6 @@ named rows (x ∷ xs) (suc s) = named rows xs s
 pub name_is : (f : Flat') (s : ℕ) → name_at (flat f) s ≡ name_in f.signals.items s
 name_is f s = named f.instances.rows.items f.signals.items s
 
-pub row_values_are : (f : Flat') (row : List (ℕ × ℕ)) → map (value_in row) (map (name_in f.signals.items) f.inputs.items) ≡ row_values (flat f) row
-row_values_are f row = go f.inputs.items
-  where
-    go : (ss : List ℕ) → map (value_in row) (map (name_in f.signals.items) ss) ≡ map (value_in row) (map (name_at (flat f)) ss)
-    go [] = refl
-    go (s ∷ ss) = ap₂ (λ (n : ℕ) (ns : List ℕ). value_in row n ∷ ns) (sym (name_is f s)) (go ss)
-
 -- the name of a signal that was read
 pub signal_name : (xs : List Signal') (s : ℕ) (x : Signal') → s < length xs → (get_or xs s x).name.0 ≡ name_in xs s
 signal_name [] s x h = absurd (omega (arith, h))
@@ -60,13 +52,6 @@ signal_width f s x h is = go f.signals.items s h is
 
 pub read_name : (f : Flat') (s : ℕ) (x : Signal') → s < length f.signals.items → x ≡ get_or f.signals.items s x → x.name.0 ≡ name_at (flat f) s
 read_name f s x h is = ap (λ (z : Signal'). z.name.0) is ∙ signal_name f.signals.items s x h ∙ sym (name_is f s)
-
--- the value that a row has for the name of one of these signals
-pub value_read : (xs : List Signal') (row : List (ℕ × ℕ)) (ss : List ℕ) (i : ℕ) → i < length ss
-    → get_or (map (value_in row) (map (name_in xs) ss)) i 0 ≡ value_in row (name_in xs (get_or ss i 0))
-value_read xs row [] i h = absurd (omega (arith, h))
-value_read xs row (s ∷ ss) zero h = refl
-value_read xs row (s ∷ ss) (suc i) h = value_read xs row ss i (omega (arith, h))
 
 -- ---- the width of an input
 

@@ -1,8 +1,8 @@
 -- Data inputs that are set by a row.
-use Rattle.std.proofs.Common.{◌≡◌, ℕ, zero, suc, ◌<◌, ◌%◌, ◌^◌, ◌==◌, cond, List, [], ◌∷◌, length, map, get_or, refl, sym, ◌∙◌, ap, arith, inl, inr}
+use Rattle.std.proofs.Common.{◌≡◌, ℕ, zero, suc, ◌<◌, ◌%◌, ◌^◌, ◌==◌, cond, List, [], ◌∷◌, length, map, get_or, refl, sym, ◌∙◌, ap, ap₂, subst, arith, inl, inr}
 use Rattle.std.proofs.lemmas.Bool.{eqb-false, cond-true}
 use Rattle.std.proofs.lemmas.Nat.{pow_pos}
-use Rattle.std.proofs.lemmas.List.{length-map}
+use Rattle.std.proofs.lemmas.List.{length-map, get_or-map}
 use Rattle.bits.proofs.Modulo.{small}
 use Rattle.typed_ir.specs.Valuations.{Valuation, look}
 use Rattle.typed_ir.specs.Orders.{Member}
@@ -10,6 +10,8 @@ use Rattle.typed_ir.specs.Cycles.{Flat, fill, cut_to, input, width_at, IsReady}
 use Rattle.typed_ir.proofs.Cases.{by_cases}
 use Rattle.typed_ir.proofs.Members.{member_later}
 use Rattle.typed_ir.proofs.Ready.{member_or, fill-other}
+use Rattle.stimulus.specs.Rows.{value_in}
+use Rattle.cycle_eval.specs.Inputs.{name_at, row_values}
 use Rattle.cycle_eval.proofs.Laws.{map_same}
 
 pub cut_length : (ws xs : List ℕ) → length (cut_to ws xs) ≡ length ws
@@ -58,3 +60,24 @@ inputs_ready design state inputs row env apart ready s i free =
       | inr n ↦ ap (λ x. look (λ t. x) s i) (fill-other ss xs env s n) ∙ ready s i free
           ∙ ap (λ x. look (λ t. x) s i) (fill_at rs state (fill ss inputs zeros) (fill ss xs zeros) s (fill-other ss inputs zeros s n ∙ sym (fill-other ss xs zeros s n)))
     ]
+
+-- what a row gives one data input
+pub given_at : (design : Flat) (row : List (ℕ × ℕ)) (i s : ℕ) → i < length design.inputs → s ≡ get_or design.inputs i 0
+    → value_in row (name_at design s) % 2 ^ width_at design s ≡ get_or (input design (row_values design row)) i 0
+given_at design row i s h is =
+    let ss = design.inputs in
+    let ws = map (width_at design) ss in
+    let vs = row_values design row in
+    let named : i < length (map (name_at design) ss) = subst (λ n. i < n) (sym (length-map ss (name_at design))) h in
+    let few : i < length ws = subst (λ n. i < n) (sym (length-map ss (width_at design))) h in
+    let value : value_in row (name_at design s) ≡ get_or vs i 0 =
+    ap (λ t. value_in row (name_at design t)) is
+    ∙ sym (get_or-map (value_in row) (map (name_at design) ss) i 0 0 named ∙ ap (value_in row) (get_or-map (name_at design) ss i 0 0 h)) in
+    let width : width_at design s ≡ get_or ws i 0 = ap (width_at design) is ∙ sym (get_or-map (width_at design) ss i 0 0 h) in
+    ap₂ (λ n w. n % 2 ^ w) value width ∙ cut_read ws vs i few
+
+-- it gives each one
+pub given_all : (design : Flat) (row : List ℕ) (i : ℕ) → i < length design.inputs → i < length (input design row)
+given_all design row i h =
+    let ss = design.inputs in
+    subst (λ n. i < n) (sym (cut_length (map (width_at design) ss) row ∙ length-map ss (width_at design))) h

@@ -12,10 +12,12 @@ use Rattle.typed_ir.specs.Orders.{at_or}
 use Rattle.typed_ir.specs.Paths.{paths_of}
 use Rattle.reg_transform.specs.Registers.{Register, widths_of}
 use Rattle.reg_transform.specs.Regs.{register_of as row_register, register_at as row_register_at}
-use Rattle.reg_transform.specs.States.{paired, state_widths}
+use Rattle.reg_transform.specs.States.{paired}
+use Rattle.state_layout.specs.Slots.{state_widths}
 use Rattle.cycle_eval.specs.Inputs.{own_name}
-use Rattle.cycle_eval.specs.Kits.{Fits, instance_path, register_at, register_of, register_widths, regs_of, reset_of}
-use Rattle.cycle_eval.specs.Paths.{width_in, initial_in}
+use Rattle.cycle_eval.specs.Kits.{Fits, instance_path, register_at, register_of, regs_of, reset_of}
+use Rattle.state_layout.specs.Words.{register_widths, width_in}
+use Rattle.cycle_eval.specs.Paths.{initial_in}
 
 -- ---- widths and values at the beginning
 

@@ -1,5 +1,5 @@
 -- What a run of a design begins with and gives.
-use Rattle.std.proofs.Common.{◌≡◌, ℕ, zero, suc, ◌+◌, ◌-◌, ◌<◌, false, ◌&&◌, ◌==◌, List, [], ◌∷◌, length, map, drop, refl, sym, ◌∙◌, ap, ap₂, arith, subst, min, inl, inr, length-drop}
+use Rattle.std.proofs.Common.{◌≡◌, ℕ, ◌-◌, ◌<◌, Bool, true, false, true≢false, ◌==◌, List, [], ◌∷◌, length, map, drop, refl, sym, ◌∙◌, ap₂, arith, subst, min, inl, inr, length-drop}
 use Rattle.std.proofs.lemmas.Bool.{eq-eqb, cond-true, cond-false, ne_eqb}
 use Rattle.std.proofs.lemmas.List.{length-take}
 use Rattle.machine.specs.Rows.{between, Covers}
@@ -7,10 +7,10 @@ use Rattle.typed_ir.specs.Valuations.{Valuation}
 use Rattle.typed_ir.specs.Orders.{Member, Distinct}
 use Rattle.typed_ir.specs.Cycles.{Flat, fill}
 use Rattle.typed_ir.proofs.Cases.{by_cases}
-use Rattle.cycle_eval.specs.Kits.{driven, run_of, register_widths}
+use Rattle.cycle_eval.specs.Kits.{driven, run_of}
+use Rattle.state_layout.specs.Words.{register_widths}
 use Rattle.reg_transform.specs.States.{paired, state_values, are_alike}
 use Rattle.cycle_eval.specs.DesignLaws.{alike_is}
-use Rattle.std.specs.Prelude.{slice_get, Some}
 
 -- a run of at least one row
 pub run_is : (design : Flat) (rows : List (List (ℕ × ℕ))) (s : List (ℕ × ℕ)) → 0 < length rows
@@ -41,19 +41,7 @@ between_length rows a b h =
     let d : length (drop (a - rows.0) rows.1) ≡ length rows.1 - (a - rows.0) = length-drop (a - rows.0) rows.1 in
     omega (arith, t, d, h.begins, h.rises, h.ends)
 
--- what is left from an element on
-pub drop_got : (xs : List (ℕ × ℕ)) (i : ℕ) (p : ℕ × ℕ) → slice_get xs i ≡ Some p → drop i xs ≡ p ∷ drop (i + 1) xs
-drop_got [] i p e = cc
-drop_got (x ∷ xs) zero p e = let same : x ≡ p = cc in ap (λ z. z ∷ xs) same
-drop_got (x ∷ xs) (suc i) p e =
-    let more : suc i + 1 ≡ suc (i + 1) = omega arith in
-    drop_got xs i p e ∙ ap (λ k. p ∷ drop k (x ∷ xs)) (sym more)
-
-pub alike_step : (xs ys : List (ℕ × ℕ)) (i : ℕ) (p q : ℕ × ℕ) → slice_get xs i ≡ Some p → slice_get ys i ≡ Some q
-    → are_alike (drop i xs) (drop i ys) ≡ (((p.0 == q.0) && (p.1 == q.1)) && are_alike (drop (i + 1) xs) (drop (i + 1) ys))
-alike_step xs ys i p q e f = ap₂ are_alike (drop_got xs i p e) (drop_got ys i q f)
-
-pub unlike_lengths : (xs ys : List (ℕ × ℕ)) → (length xs ≡ length ys → ⊥) → false ≡ are_alike xs ys
-unlike_lengths xs ys h = by_cases (are_alike xs ys)
-    (λ yes. absurd (h (ap length ((alike_is xs ys).0 yes))))
-    (λ no. sym no)
+-- a test of equal states answers what the definition does
+pub same_is : (b : Bool) (x y : List (ℕ × ℕ)) → (b ≡ true → x ≡ y) → (x ≡ y → b ≡ true) → b ≡ are_alike x y
+same_is true x y f g = sym ((alike_is x y).1 (f refl))
+same_is false x y f g = by_cases (are_alike x y) (λ yes. absurd (true≢false (sym (g ((alike_is x y).0 yes))))) (λ no. sym no)

@@ -1,5 +1,4 @@
-pub mod Blocks
-pub mod Passes
+pub mod Widths
 pub mod Loads
 pub mod Carries
 pub mod Keys

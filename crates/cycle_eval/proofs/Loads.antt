@@ -1,19 +1,16 @@
--- States that are put into an environment, and read from it.
-use Rattle.std.proofs.Common.{◌≡◌, ℕ, zero, suc, ◌+◌, ◌<◌, nat_lt, List, [], ◌∷◌, ◌++◌, length, map, get_or, set, drop, IsTrue, refl, sym, ◌∙◌, ap, ap₂, arith}
-use Rattle.std.specs.Prelude.{slice_index, slice_get, Some}
-use Rattle.bits.specs.declared.Bits.{Bits}
-use Rattle.typed_ir.specs.States.{sized_value}
-use Rattle.typed_ir.specs.Views.{widths, env_of}
-use Rattle.typed_ir.proofs.Views.{widths-read, env_of-read}
-use Rattle.std.proofs.lemmas.Bool.{ltb-true}
-use Rattle.std.proofs.lemmas.List.{map-set, set-get_or}
-use Rattle.typed_ir.specs.Valuations.{Valuation, put}
+-- States that are put among words, and read out of them.
+use Rattle.std.proofs.Common.{◌≡◌, ℕ, zero, suc, ◌+◌, ◌<◌, ◌≤◌, ◌==◌, nat_lt, List, [], ◌∷◌, ◌++◌, length, map, get_or, set, take, drop, IsTrue, refl, sym, ◌∙◌, ap, ap₂, subst, arith}
+use Rattle.std.specs.Prelude.{slice_get, Some}
+use Rattle.std.proofs.lemmas.Bool.{ltb-true, cond-true, cond-false}
+use Rattle.std.proofs.lemmas.List.{length-map, take_more_set, map_more}
+use Rattle.typed_ir.specs.Valuations.{Valuation, put, look}
 use Rattle.typed_ir.specs.Cycles.{fill}
 use Rattle.typed_ir.specs.Flats.{are_below}
-use Rattle.typed_ir.proofs.Cases.{and_left, and_right}
+use Rattle.typed_ir.proofs.Cases.{and_left, and_right, by_cases}
 use Rattle.typed_ir.proofs.Lists.{drop_split}
-use Rattle.reg_transform.specs.States.{paired, state_widths, state_values}
-use Rattle.cycle_eval.proofs.Carries.{pair, push_step}
+use Rattle.reg_transform.specs.States.{paired, state_values}
+use Rattle.state_layout.specs.Slots.{state_widths}
+use Rattle.cycle_eval.proofs.Carries.{pair}
 
 -- each register is there
 pub below_read : (rs : List ℕ) (count i : ℕ) → IsTrue (are_below rs count) → i < length rs → get_or rs i 0 < count
@@ -48,21 +45,45 @@ got_within [] i p e = cc
 got_within (x ∷ xs) zero p e = omega arith
 got_within (x ∷ xs) (suc i) p e = let rest : i < length (state_values xs) = got_within xs i p e in omega (arith, rest)
 
-pub widths_put : (env : List Bits) (i : ℕ) (x : Bits) → x.width ≡ slice_index (widths env) i → widths (set env i x) ≡ widths env
-widths_put env i x same = map-set (λ (b : Bits). b.width) env i x ∙ ap (set (widths env) i) same ∙ set-get_or (widths env) i 0
+-- a state has as many registers as it has widths
+state_long : (s : List (ℕ × ℕ)) (ws : List ℕ) → state_widths s ≡ ws → length s ≡ length ws
+state_long s ws e = sym (length-map s (λ (p : ℕ × ℕ). p.0)) ∙ ap length e
 
--- one more register read
-pub store_step : (env : List Bits) (rs : List ℕ) (i : ℕ) (old new : List Bits) (b : Bits) → i < length rs → get_or rs i 0 < length env
-    → b ≡ get_or env (get_or rs i 0) b → new ≡ old ++ b ∷ []
-    → map sized_value new ++ map (λ (r : ℕ). (slice_index (widths env) r, env_of env r)) (drop (i + 1) rs)
-    ≡ map sized_value old ++ map (λ (r : ℕ). (slice_index (widths env) r, env_of env r)) (drop i rs)
-store_step env rs i old new b h k is e =
-    let f : ℕ → ℕ × ℕ = λ r. (slice_index (widths env) r, env_of env r) in
-    let here : sized_value b ≡ f (get_or rs i 0) =
-    ap₂ pair (widths-read env (get_or rs i 0) b k is) (env_of-read env (get_or rs i 0) b k is) in
-    push_step f rs i old new b h here e
+pub state_there : (s : List (ℕ × ℕ)) (ws : List ℕ) (p : ℕ) → state_widths s ≡ ws → p < length ws → p < length s
+state_there s ws p e h = subst (λ n. p < n) (sym (state_long s ws e)) h
 
--- where no input is given, all of them are 0
-pub no_inputs : (ss : List ℕ) (env : Valuation) → ((s : ℕ) → env s ≡ 0) → env ≡ fill ss [] (λ s. 0)
-no_inputs [] env z = λ j s. z s j
-no_inputs (t ∷ ts) env z = λ j s. z s j
+pub state_few : (s : List (ℕ × ℕ)) (ws : List ℕ) (p : ℕ) → state_widths s ≡ ws → length ws ≤ p → length s ≤ p
+state_few s ws p e h = subst (λ n. n ≤ p) (sym (state_long s ws e)) h
+
+pub rs_there : (f : ℕ → ℕ) (rs : List ℕ) (p : ℕ) → p < length rs → p < length (map f rs)
+rs_there f rs p h = subst (λ n. p < n) (sym (length-map rs f)) h
+
+pub rs_few : (f : ℕ → ℕ) (rs : List ℕ) (p : ℕ) → length rs ≤ p → length (map f rs) ≤ p
+rs_few f rs p h = subst (λ n. n ≤ p) (sym (length-map rs f)) h
+
+-- one more register written
+pub written_step : (f g : ℕ → ℕ) (rs : List ℕ) (p : ℕ) (s new : List (ℕ × ℕ)) (w x : ℕ) → p < length rs → p < length s
+    → w ≡ f (get_or rs p 0) → x ≡ g (get_or rs p 0) → new ≡ set s p (w, x)
+    → take p s ≡ map (λ (r : ℕ). (f r, g r)) (take p rs) → take (p + 1) new ≡ map (λ (r : ℕ). (f r, g r)) (take (p + 1) rs)
+written_step f g rs p s new w x listed there width value put before =
+    let h : ℕ → ℕ × ℕ = λ r. (f r, g r) in
+    ap (take (p + 1)) put ∙ take_more_set s p (w, x) there ∙ ap (λ zs. zs ++ (w, x) ∷ []) before
+    ∙ ap (λ q. map h (take p rs) ++ q ∷ []) (ap₂ pair width value) ∙ sym (map_more h rs p 0 listed)
+
+-- all registers that were left are filled
+pub all_filled : (left : ℕ) (ss xs : List ℕ) (start env : Valuation) → left ≡ 0 → env ≡ fill (drop left ss) (drop left xs) start → env ≡ fill ss xs start
+all_filled left ss xs start env none is = subst (λ k. env ≡ fill (drop k ss) (drop k xs) start) none is
+
+-- nothing is filled where nothing is given
+pub fill_none : (ss : List ℕ) (env : Valuation) → fill ss [] env ≡ env
+fill_none [] env = refl
+fill_none (s ∷ ss) env = refl
+
+-- a bit that is the same is so after the same was filled
+pub fill_look : (ss xs : List ℕ) (v w : Valuation) (s i : ℕ) → look v s i ≡ look w s i → look (fill ss xs v) s i ≡ look (fill ss xs w) s i
+fill_look [] xs v w s i e = e
+fill_look (t ∷ ts) [] v w s i e = e
+fill_look (t ∷ ts) (x ∷ xs) v w s i e = by_cases (s == t)
+    (λ yes. ap (λ n. look (λ k. n) s i) (cond-true (s == t) x (fill ts xs v s) yes ∙ sym (cond-true (s == t) x (fill ts xs w s) yes)))
+    (λ no. ap (λ n. look (λ k. n) s i) (cond-false (s == t) x (fill ts xs v s) no) ∙ fill_look ts xs v w s i e
+    ∙ ap (λ n. look (λ k. n) s i) (sym (cond-false (s == t) x (fill ts xs w s) no)))

@@ -13,8 +13,10 @@ use Rattle.typed_ir.specs.RunLaws.{seg_more}
 use Rattle.typed_ir.specs.Stmts.{all_applied}
 use Rattle.typed_ir.specs.Cycles.{Signal, Flat, width_at, initial_at, wires, all_pending, input, step, seg}
 use Rattle.cycle_eval.specs.Inputs.{row_values, values_at}
-use Rattle.cycle_eval.specs.Kits.{run_of, driven, register_widths, Fits, reset_of, carried_of, register_of, register_at, regs_of}
-use Rattle.reg_transform.specs.States.{paired, state_widths, state_values, are_alike}
+use Rattle.cycle_eval.specs.Kits.{run_of, driven, Fits, reset_of, carried_of, register_of, register_at, regs_of}
+use Rattle.state_layout.specs.Words.{register_widths}
+use Rattle.reg_transform.specs.States.{paired, state_values, are_alike}
+use Rattle.state_layout.specs.Slots.{state_widths}
 
 -- each register's width with its value
 pub paired_widths : (g f : ℕ → ℕ) (rs : List ℕ) → state_widths (paired (map g rs) (map f rs)) ≡ map g rs

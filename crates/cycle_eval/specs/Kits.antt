@@ -4,13 +4,12 @@ use Rattle.reg_ops.specs.declared.reg_op.RegOp.{RegOp}
 use Rattle.reg_transform.specs.Carrying.{carried}
 use Rattle.reg_transform.specs.OperationFaults.{AreValid}
 use Rattle.reg_transform.specs.Registers.{Register}
-use Rattle.typed_ir.specs.Cycles.{Signal, Flat, width_at, reset, seg}
+use Rattle.typed_ir.specs.Cycles.{Signal, Flat, reset, seg}
 use Rattle.typed_ir.specs.Orders.{at_or}
 use Rattle.cycle_eval.specs.Inputs.{own_name, values_at}
 use Rattle.reg_transform.specs.States.{paired, state_values}
-
-abbrev pub register_widths : Flat → List ℕ
-register_widths design = map (width_at design) design.registers
+-- the widths of a design's registers
+pub use Rattle.state_layout.specs.Words.{register_widths}
 
 abbrev pub reset_of : Flat → List (ℕ × ℕ)
 reset_of design = paired (register_widths design) (reset design)

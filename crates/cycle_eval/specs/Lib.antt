@@ -3,5 +3,3 @@ pub mod Inputs
 pub mod Kits
 pub mod Paths
 pub mod DesignLaws
-pub mod Words
-pub mod Updates

@@ -1,13 +1,9 @@
 -- What the signals of the code's type have, by their numbers.
 use Rattle.std.specs.Prelude.{ℕ, List, map, slice_index}
 use Rattle.typed_ir.specs.declared.signal.Signal.{Signal}
-use Rattle.typed_ir.specs.Flats.{signal_widths}
 
 abbrev pub name_in : List Signal → ℕ → ℕ
 name_in signals s = slice_index (map (λ (x : Signal). x.name.0) signals) s
-
-abbrev pub width_in : List Signal → ℕ → ℕ
-width_in signals s = slice_index (signal_widths signals) s
 
 abbrev pub initial_in : List Signal → ℕ → ℕ
 initial_in signals s = slice_index (map (λ (x : Signal). x.initial) signals) s

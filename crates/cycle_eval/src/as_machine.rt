@@ -1,48 +1,23 @@
 // A design as a machine over rows of its inputs, with operations on registers.
-ghost use Rattle.std.specs.Prelude.{◌≡◌, ◌==◌, ◌&&◌, ℕ, refl, true};
+ghost use Rattle.std.specs.Prelude.{◌≡◌, refl, true};
 ghost use Rattle.cycle_eval.specs.Designs.{design_flat, work_of};
 ghost use Rattle.cycle_eval.specs.Kits.{Fits, IsValid, reset_of, run_of, carried_of};
 ghost use Rattle.reg_transform.specs.States.{are_alike};
 ghost use Rattle.cycle_eval.specs.DesignLaws.{run_more, run_fits, reset_fits, carried_fits, alike_is};
 
 use crate::design::Design;
-use bits::Bits;
 use machine::Machine;
 use machine::row_runs::RowRuns;
 use machine::steps::Steps;
 use no_memory::NoMemory;
 use reg_ops::RegOps;
+use state_layout::SlotState;
 use std::alloc::Global;
 use std::sync::ledger::Ledger;
 use stimulus::Row;
-use typed_ir::{RegState, RegisterId};
-
-// Whether two values have the same width and number.
-fn same_bits(p: Bits, q: Bits) -> bool
-    ensures { result ≡ ((p.width == q.width) && (p.value == q.value)) }
-{
-    p.width == q.width && p.value == q.value
-}
-
-// Whether two states have the same values.
-fn alike(x: &RegState, y: &RegState) -> bool
-    ensures { result ≡ are_alike x.now y.now }
-{
-    if x.len() != y.len() {
-        return false;
-    }
-    for i in 0..x.len() {
-        let p = x.get(RegisterId(i));
-        let q = y.get(RegisterId(i));
-        if !same_bits(p, q) {
-            return false;
-        }
-    }
-    true
-}
 
 impl Machine for Design {
-    type State = RegState;
+    type State = SlotState;
 
     type Row = Row;
 
@@ -61,7 +36,7 @@ impl Machine for Design {
 
     ghost valid = { λ old m ops. IsValid ops (design_flat old) (design_flat m) };
 
-    fn reset(&self, alloc: Global) -> Result<RegState, NoMemory> {
+    fn reset(&self, alloc: Global) -> Result<SlotState, NoMemory> {
         self.reset_state(alloc)
     }
 
@@ -69,18 +44,17 @@ impl Machine for Design {
         &self,
         alloc: Global,
         rows: &RowRuns<Row>,
-        from: &RegState,
+        from: &SlotState,
         a: u64,
         b: u64,
         steps: &mut Steps<L>,
-    ) -> Result<RegState, NoMemory> {
+    ) -> Result<SlotState, NoMemory> {
         if a == b {
             return from.share();
         }
-        let mut env = self.loaded(alloc, from)?;
-        let mut updates = self.room(alloc)?;
-        self.run(&mut env, &mut updates, rows, a, b, steps);
-        self.state_of(alloc, &env)
+        let mut words = self.loaded(alloc, from)?;
+        self.run(&mut words, rows, a, b, steps);
+        self.state_of(&words, from)
     }
 
     fn carry(
@@ -88,16 +62,16 @@ impl Machine for Design {
         alloc: Global,
         old: &Self,
         ops: &RegOps,
-        state: &RegState,
-    ) -> Result<RegState, NoMemory> {
+        state: &SlotState,
+    ) -> Result<SlotState, NoMemory> {
         self.carried(alloc, old, ops.as_slice(), state)
     }
 
-    fn same(&self, x: &RegState, y: &RegState) -> bool {
-        alike(x, y)
+    fn same(&self, x: &SlotState, y: &SlotState) -> bool {
+        x.same(y)
     }
 
-    fn share(&self, _alloc: Global, x: &RegState) -> Result<RegState, NoMemory> {
+    fn share(&self, _alloc: Global, x: &SlotState) -> Result<SlotState, NoMemory> {
         x.share()
     }
 

@@ -10,6 +10,7 @@ use machine::Machine;
 use machine::steps::Steps;
 use no_memory::NoMemory;
 use reg_ops::RegOp;
+use state_layout::SlotState;
 use std::alloc::Global;
 use std::marker::Brand;
 use std::process::Abort;
@@ -18,8 +19,8 @@ use std::sync::ledger::{Blank, Ledger};
 use std::test::Fail;
 use stimulus::{Record, RecordRefusal, Row};
 use typed_ir::{
-    ArithmeticOperator, BinaryOperator, InstanceId, InstanceTable, Lane, Node, RegState,
-    RegisterId, Signal, SignalId, Span, Stmt, Target, TargetForm, Typed,
+    ArithmeticOperator, BinaryOperator, InstanceId, InstanceTable, Lane, Node, RegisterId, Signal,
+    SignalId, Span, Stmt, Target, TargetForm, Typed,
 };
 
 // Signals of these widths and values at the beginning, all of one instance.
@@ -157,10 +158,10 @@ fn record_of(
 }
 
 // The numbers of a state.
-fn values_of(alloc: Global, state: &RegState) -> Result<Vec<u128>, NoMemory> {
+fn values_of(alloc: Global, state: &SlotState) -> Result<Vec<u128>, NoMemory> {
     let mut values = Vec::new(alloc);
     for i in 0..state.len() {
-        values.push(state.get(RegisterId(i)).value())?;
+        values.push(state.read(RegisterId(i)).value())?;
     }
     Ok(values)
 }
@@ -172,7 +173,7 @@ fn state_after<L: Ledger>(
     record: &Record,
     middle: u64,
     blank: Blank,
-) -> Result<RegState, NoMemory>
+) -> Result<SlotState, NoMemory>
     requires middle { middle ≤ length (rows_of record.now) }
     requires name { blank.name ≡ L.name }
     requires parts { blank.parts ≡ L.parts }

@@ -1,9 +1,9 @@
-// The evaluator: cycles of a linked design, in place over one flat environment.
+// The evaluator: cycles of a linked design, in place over words.
 //
-// `making` tests that a design's registers have room, `design` holds it, `inputs` writes what a row gives the inputs, by their names, and
-// tells their widths, `cycle` settles the wires and applies the updates, `run` goes from one state (`state`) to another, stretch by stretch of
-// equal rows, and `carrying` has the beginning state and hands registers of an older design over (crate `reg_transform`). `parts` are
-// what a table of registers shows, and `as_machine` is the design as a machine; `input_tests` are rows of inputs worked out by hand.
+// `making` has a design's registers laid out and its steps made, `design` holds both, `inputs` puts what a row gives among the words, by the inputs'
+// names, and tells their widths, `cycle` takes the steps of a cycle, `run` goes from one state (`state`) to another, stretch by stretch of equal
+// rows, and `carrying` has the beginning state and hands registers of an older design over (crate `reg_transform`). `parts` are what a table of
+// registers shows, and `as_machine` is the design as a machine; `input_tests` are rows of inputs worked out by hand.
 #![tactic(auto)]
 
 mod as_machine;
@@ -14,7 +14,6 @@ mod design;
 mod input_tests;
 mod inputs;
 mod making;
-mod numbers;
 mod parts;
 mod run;
 mod state;

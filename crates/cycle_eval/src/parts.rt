@@ -8,7 +8,8 @@ ghost use Rattle.reg_transform.specs.Regs.{registers_in};
 use crate::design::Design;
 use bits::Bits;
 use reg_transform::Regs;
-use typed_ir::{InstanceName, RegState, RegisterId, Signal, SignalId};
+use state_layout::SlotState;
+use typed_ir::{InstanceName, RegisterId, Signal, SignalId};
 
 impl Design {
     /// The instances, each behind the one that it stands in.
@@ -46,11 +47,11 @@ impl Design {
     }
 
     /// The value that a register has in a state of the design, with its width.
-    pub fn read(&self, state: &RegState, register: u32) -> Bits
+    pub fn read(&self, state: &SlotState, register: u32) -> Bits
         requires fits { Fits (design_flat self.now) state.now }
         requires within { register < length (design_flat self.now).registers }
         ensures { slice_get state.now register ≡ Some (result.width, result.value) }
     {
-        state.get(RegisterId(register as usize))
+        state.read(RegisterId(register as usize))
     }
 }

@@ -1,55 +1,79 @@
-// Register states into an environment, and out of it.
-ghost use Rattle.std.specs.Prelude.{◌≡◌, ◌<◌, ℕ, [], IsTrue, IfOk, map, length, slice_index};
-ghost use Rattle.typed_ir.specs.Cycles.{base, input, fill};
-ghost use Rattle.typed_ir.specs.Flats.{signal_widths, are_below};
-ghost use Rattle.typed_ir.specs.Views.{widths, env_of};
+// States of registers put among words, and read out of them.
+ghost use Rattle.std.specs.Prelude.{◌≡◌, ◌<◌, map, length, slice_index, IfOk};
+ghost use Rattle.typed_ir.specs.Cycles.{fill, width_at};
+ghost use Rattle.typed_ir.specs.Valuations.{put};
+ghost use Rattle.design_steps.specs.Programs.{AreHeld, values_in};
+ghost use Rattle.reg_transform.specs.States.{paired, state_values};
+ghost use Rattle.state_layout.specs.Words.{register_widths};
 ghost use Rattle.cycle_eval.specs.Designs.{design_flat};
-ghost use Rattle.cycle_eval.specs.Kits.{register_widths, Fits};
-ghost use Rattle.reg_transform.specs.States.{paired, state_widths, state_values};
+ghost use Rattle.cycle_eval.specs.Kits.{Fits};
 
 use crate::design::Design;
-use crate::numbers::index_at;
 use bits::Bits;
 use no_memory::NoMemory;
-use std::alloc::Global;
-use typed_ir::{RegState, RegisterId, Signal, SignalId};
+use state_layout::SlotState;
+use typed_ir::RegisterId;
 
-// 0 for each signal.
-pub fn zeros(alloc: Global, signals: &[Signal]) -> Result<Vec<Bits>, NoMemory>
-    ensures widths { IfOk result (λ env. widths env.items ≡ signal_widths signals.now) }
-    ensures value { IfOk result (λ env. (s : ℕ) → env_of env.items s ≡ 0) }
-{
-    let mut env = Vec::new(alloc);
-    for signal in signals {
-        env.push(Bits::new(signal.width, 0))?;
+impl Design {
+    // Gives a register among the words the value that it has in a state.
+    fn load_register(&self, place: usize, from: &SlotState, words: &mut [u128])
+        requires long { length words.old ≡ length self.now.program.beginning.items }
+        requires fits { Fits (design_flat self.now) from.now }
+        requires there { place < length self.now.linked.design.registers.items }
+        ensures value { values_in self.now.program words.new ≡ put (values_in self.now.program words.old)
+            (slice_index self.now.linked.design.registers.items place) (slice_index (state_values from.now) place) }
+        ensures held { AreHeld self.now.program self.now.linked words.old → AreHeld self.now.program self.now.linked words.new }
+    {
+        let register = self.linked.design.registers[place];
+        let value = from.read(RegisterId(place));
+        self.program.put(&self.linked, register, value.value, words);
     }
-    Ok(env)
-}
 
-// Puts the values of a state at its registers.
-pub fn load(registers: &[SignalId], from: &RegState, env: &mut [Bits])
-    requires there { IsTrue (are_below registers.now (length env.old)) }
-    requires fits { state_widths from.now ≡ map (λ s. slice_index (widths env.old) s) registers.now }
-    ensures widths { widths env.new ≡ widths env.old }
-    ensures value { env_of env.new ≡ fill registers.now (state_values from.now) (env_of env.old) }
-{
-    let mut left = registers.len();
-    while left > 0 {
-        left -= 1;
-        let register = index_at(registers, left);
-        env[register] = from.get(RegisterId(left));
+    /// Puts the values of a state at its registers.
+    pub(crate) fn load(&self, from: &SlotState, words: &mut [u128])
+        requires long { length words.old ≡ length self.now.program.beginning.items }
+        requires fits { Fits (design_flat self.now) from.now }
+        ensures value { values_in self.now.program words.new
+            ≡ fill self.now.linked.design.registers.items (state_values from.now) (values_in self.now.program words.old) }
+        ensures held { AreHeld self.now.program self.now.linked words.old → AreHeld self.now.program self.now.linked words.new }
+    {
+        let mut left = self.linked.design.registers.len();
+        while left > 0 {
+            left -= 1;
+            self.load_register(left, from, words);
+        }
     }
-}
 
-// The values that an environment has at these registers.
-pub fn stored(alloc: Global, registers: &[SignalId], env: &[Bits]) -> Result<RegState, NoMemory>
-    requires { IsTrue (are_below registers.now (length env.now)) }
-    ensures { IfOk result (λ s. s ≡ paired (map (λ s. slice_index (widths env.now) s) registers.now) (map (env_of env.now) registers.now)) }
-{
-    let mut values = Vec::new(alloc);
-    for register in registers {
-        let place = register.index();
-        values.push(env[place])?;
+    // What a register has among the words, with its width.
+    fn register(&self, place: usize, words: &[u128]) -> Bits
+        requires long { length words.now ≡ length self.now.program.beginning.items }
+        requires held { AreHeld self.now.program self.now.linked words.now }
+        requires there { place < length self.now.linked.design.registers.items }
+        ensures width { result.width ≡ width_at (design_flat self.now) (slice_index self.now.linked.design.registers.items place) }
+        ensures value { result.value ≡ values_in self.now.program words.now (slice_index self.now.linked.design.registers.items place) }
+    {
+        let design = &self.linked.design;
+        let register = design.registers[place];
+        let number = register.index();
+        let signal = &design.signals[number];
+        let word = self.program.value(&self.linked, register, words);
+        Bits::new(signal.width, word)
     }
-    RegState::new(values)
+
+    /// The registers among the words, written into a share of a state. Words that stay the same aren't written, so pages in which nothing has
+    /// changed are shared with it.
+    pub(crate) fn state_of(&self, words: &[u128], from: &SlotState) -> Result<SlotState, NoMemory>
+        requires long { length words.now ≡ length self.now.program.beginning.items }
+        requires held { AreHeld self.now.program self.now.linked words.now }
+        requires fits { Fits (design_flat self.now) from.now }
+        ensures { IfOk result (λ s. s ≡ paired (register_widths (design_flat self.now))
+            (map (values_in self.now.program words.now) self.now.linked.design.registers.items)) }
+    {
+        let mut state = from.share()?;
+        for place in 0..self.linked.design.registers.len() {
+            let value = self.register(place, words);
+            state.write(RegisterId(place), value)?;
+        }
+        Ok(state)
+    }
 }

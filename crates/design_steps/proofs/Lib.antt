@@ -5,3 +5,4 @@ pub mod Copied
 pub mod Beginning
 pub mod Made
 pub mod Turning
+pub mod Signals

@@ -166,7 +166,7 @@ module _ (p : Program) (l : Linked) (is : IsProgramOf p l) where
       same : (n s r : ℕ) {x : ℕ} → x ≡ n + 1 + s → x ≡ n + 1 + r → r ≡ s
       same n s r e f = omega (arith, e, f)
 
-  slot_low : (s : ℕ) → (plan_of p.layout).slot s ≤ length l.design.signals.items
+  pub slot_low : (s : ℕ) → (plan_of p.layout).slot s ≤ length l.design.signals.items
   slot_low s =
       let n = length l.design.signals.items in
       let t = stand p.layout l.design is.lays in
@@ -174,13 +174,13 @@ module _ (p : Program) (l : Linked) (is : IsProgramOf p l) where
       (λ yes. let less : s < n = ltb-true s n yes in let e = t.here s less in omega (arith, e, less))
       (λ no. let e = t.none s (ltb-false s n no) in omega (arith, e))
 
-  place_high : (v : ℕ) → 2 * length l.design.signals.items + 1 ≤ (plan_of p.layout).place v
+  pub place_high : (v : ℕ) → 2 * length l.design.signals.items + 1 ≤ (plan_of p.layout).place v
   place_high v = let t = stand p.layout l.design is.lays in let e = t.low v in omega (arith, e)
 
   few : (s : ℕ) → s < length (plan_of p.layout).widths → s < length l.design.signals.items
   few s less = let e = ap length is.lays.widths ∙ length-map l.design.signals.items (λ (x : Signal). x.width) in omega (arith, e, less)
 
-  wide : (s : ℕ) → s < length l.design.signals.items → s < length (plan_of p.layout).widths
+  pub wide : (s : ℕ) → s < length l.design.signals.items → s < length (plan_of p.layout).widths
   wide s less = let e = ap length is.lays.widths ∙ length-map l.design.signals.items (λ (x : Signal). x.width) in omega (arith, e, less)
 
   listed : (s : ℕ) → Member s l.design.registers.items → Member s (signals_of l.design)

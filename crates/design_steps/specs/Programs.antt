@@ -5,6 +5,7 @@ use Rattle.typed_ir.specs.Cycles.{IsReady as IsBased}
 use Rattle.typed_ir.specs.FlatNodes.{node_of}
 use Rattle.typed_ir.specs.Linkeds.{flat}
 use Rattle.typed_ir.specs.Statements.{stmt_of, sequence_of}
+use Rattle.typed_ir.specs.Valuations.{Valuation}
 use Rattle.word_steps.specs.Sound.{are_sound}
 use Rattle.word_steps.specs.Walks.{env_of}
 use Rattle.step_layout.specs.Plans.{IsReady, signals}
@@ -14,10 +15,18 @@ use Rattle.step_layout.specs.Views.{plan_of}
 use Rattle.design_steps.specs.Layings.{LaysOut, mark_of, signals_of}
 use Rattle.design_steps.specs.declared.program.Program.{Program}
 
+-- what the words say of the signals
+abbrev pub values_in : Program → List ℕ → Valuation
+values_in p words = signals (plan_of p.layout) (env_of words)
+
+-- values fit and constants are there
+abbrev pub AreHeld : Program → Linked → List ℕ → Type 0
+AreHeld p l words = IsReady (plan_of p.layout) (signals_of l.design) (env_of words)
+
 -- values fit and constants are there; and the registers, the inputs and the bits that no node drives are as they are to be
 pub record IsAt (p : Program) (l : Linked) (state inputs words : List ℕ) : Type 0 where
-  pub ready : IsReady (plan_of p.layout) (signals_of l.design) (env_of words)
-  pub based : IsBased (flat l.design) state inputs (signals (plan_of p.layout) (env_of words))
+  pub ready : AreHeld p l words
+  pub based : IsBased (flat l.design) state inputs (values_in p words)
 
 -- the steps of the nodes in their order, and those of the clocked blocks, over words for which both are sound
 pub record IsProgramOf (p : Program) (l : Linked) : Type 0 where

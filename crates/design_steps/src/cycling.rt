@@ -1,12 +1,11 @@
 // One cycle of a program, in place.
-ghost use Rattle.std.specs.Prelude.{◌≡◌, ◌+◌, ℕ, List, length, map};
+ghost use Rattle.std.specs.Prelude.{◌≡◌, ◌<◌, ◌+◌, ◌*◌, ℕ, List, IsTrue, length, map};
 ghost use Rattle.typed_ir.specs.Cycles.{wires, step};
 ghost use Rattle.typed_ir.specs.Linkeds.{flat};
+ghost use Rattle.word_steps.specs.Sound.{are_sound};
 ghost use Rattle.word_steps.specs.Walks.{env_of, walk, at};
-ghost use Rattle.step_layout.specs.Plans.{signals};
-ghost use Rattle.step_layout.specs.Views.{plan_of};
 ghost use Rattle.design_steps.specs.Carries.{carried};
-ghost use Rattle.design_steps.specs.Programs.{IsProgramOf, IsAt};
+ghost use Rattle.design_steps.specs.Programs.{IsProgramOf, IsAt, values_in};
 
 use crate::carrying::carry;
 use crate::program::Program;
@@ -16,10 +15,10 @@ use word_steps::walk;
 impl Program {
     /// Settles the wires, whatever they hold. It takes no memory.
     pub fn settle(&self, linked: &Linked, words: &mut [u128])
-        requires program { IsProgramOf self.now linked.now }
+        requires program { ∥ IsProgramOf self.now linked.now ∥₁ }
         requires long { length words.old ≡ length self.now.beginning.items }
         ensures value { (state inputs : List ℕ) → IsAt self.now linked.now state inputs words.old
-            → signals (plan_of self.now.layout) (env_of words.new) ≡ wires (flat linked.now.design) state inputs }
+            → values_in self.now words.new ≡ wires (flat linked.now.design) state inputs }
         ensures ready { (state inputs : List ℕ) → IsAt self.now linked.now state inputs words.old → IsAt self.now linked.now state inputs words.new }
     {
         let _linked = linked;
@@ -29,8 +28,8 @@ impl Program {
     // The clocked blocks over settled wires: all of them read what is there now, and then the registers go on to their next values. It
     // takes no memory.
     fn clock(&self, linked: &Linked, words: &mut [u128])
-        requires program { IsProgramOf self.now linked.now }
-        requires long { length words.old ≡ length self.now.beginning.items }
+        requires sound { IsTrue (are_sound (length words.old) self.now.clocking.items) }
+        requires room { 2 * length linked.now.design.signals.items + 1 < length words.old }
         ensures { env_of words.new ≡ carried linked.now.design.registers.items (length linked.now.design.signals.items + 1) 1
             (walk self.now.clocking.items (at 0 (carried linked.now.design.registers.items 1 (length linked.now.design.signals.items + 1)
             (env_of words.old)))).words }
@@ -44,10 +43,10 @@ impl Program {
     /// One cycle: the wires settle, and the registers go on to their next values. Nothing is cleared before or after it, and it takes no
     /// memory.
     pub fn cycle(&self, linked: &Linked, words: &mut [u128])
-        requires program { IsProgramOf self.now linked.now }
+        requires program { ∥ IsProgramOf self.now linked.now ∥₁ }
         requires long { length words.old ≡ length self.now.beginning.items }
         ensures value { (state inputs : List ℕ) → IsAt self.now linked.now state inputs words.old
-            → map (signals (plan_of self.now.layout) (env_of words.new)) linked.now.design.registers.items ≡ step (flat linked.now.design) state inputs }
+            → map (values_in self.now words.new) linked.now.design.registers.items ≡ step (flat linked.now.design) state inputs }
 
         // It is ready for the next cycle under the same inputs.
         ensures ready { (state inputs : List ℕ) → IsAt self.now linked.now state inputs words.old

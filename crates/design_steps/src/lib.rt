@@ -3,7 +3,7 @@
 // `design_layout` says where a design's signals, their next values and its constants stand; `pooling` and `constant_walk` gather the
 // constants, and `laws` says that nodes and blocks are laid out by it. `making` makes a `Program` of a linked design, with the words that it
 // begins with (`words`), and `cycling` runs it cycle by cycle: the wires settle, the clocked blocks write next values, and these are copied
-// over (`carrying`).
+// over (`carrying`). `signal_words` reads and puts the values of signals.
 #![tactic(auto)]
 
 mod carrying;
@@ -14,6 +14,7 @@ mod laws;
 mod making;
 mod pooling;
 mod program;
+mod signal_words;
 mod words;
 
 pub use carrying::carry;

@@ -6,7 +6,7 @@ use Rattle.clap.specs.Words.{Row, first_of, matches_of, takes}
 use Rattle.clap.proofs.WalkLemmas.{both}
 use Rattle.ls_text.specs.Options.{guard, ◌>>=◌}
 use Rattle.live_options.specs.declared.options.Options.{Options}
-use Rattle.live_options.specs.Words.{livesim_app, number_of, options, options_in, options_of, value_of, value_within}
+use Rattle.live_options.specs.Words.{livesim_app, choice_within, load_of, number_of, number_within, options, options_in, options_of, value_of, value_within}
 use Rattle.live_options.specs.Bounds.{AreWithin, AskWithin}
 
 -- a reading that goes on keeps what each step gives
@@ -28,10 +28,26 @@ between least most n = by (leb least n && leb n most) (λ h. let each = both (le
     by true h = h refl
     by false h = tt
 
+number_between : (least most : ℕ) (text : List ℕ) → IfSome (number_within least most text) (IsBetween least most)
+number_between least most text =
+    any_some (IsBetween least most) (number_of text) (λ n. guard (leb least n && leb n most) n) (λ n. between least most n)
+
 value_between : (default least most : ℕ) (given : Option (List ℕ)) → least ≤ default → default ≤ most → IfSome (value_within default least most given) (IsBetween least most)
 value_between default least most None low high = (low, high)
-value_between default least most (Some text) low high =
-    any_some (IsBetween least most) (number_of text) (λ n. guard (leb least n && leb n most) n) (λ n. between least most n)
+value_between default least most (Some text) low high = number_between least most text
+
+-- a number that is given, where one is
+abbrev IsChoice : (least most : ℕ) → Option ℕ → Type 0
+IsChoice least most o = IfSome o (IsBetween least most)
+
+choice_between : (least most : ℕ) (given : Option (List ℕ)) → IfSome (choice_within least most given) (IsChoice least most)
+choice_between least most None = tt
+choice_between least most (Some text) =
+    then_some (IsBetween least most) (IsChoice least most) (number_within least most text) (λ n. Some (Some n)) (number_between least most text) (λ n h. h)
+
+if_some : (P Q : ℕ → Type 0) (o : Option ℕ) → IfSome o P → ((n : ℕ) → P n → Q n) → IfSome o Q
+if_some P Q (Some n) h next = next n h
+if_some P Q None h next = tt
 
 found_within : (found : List Row) → IfSome (options_in found) AreWithin
 found_within found =
@@ -40,7 +56,15 @@ found_within found =
     (value_between 10000 1 1000000000 (first_of (codes "interval") found) (omega arith) (omega arith))
     (λ interval short. then_some (IsBetween 0 1099511627776) AreWithin (value_of (codes "lookback") 10000 0 1099511627776 found) _
     (value_between 10000 0 1099511627776 (first_of (codes "lookback") found) (omega arith) (omega arith))
-    (λ lookback near. record { workers = few.1; some = short.0; interval = short.1; lookback = near.1 })))
+    (λ lookback near. then_some (IsChoice 1 4096) AreWithin (load_of found) _ (choice_between 1 4096 (first_of (codes "load") found))
+    (λ load made. record {
+      workers = few.1;
+      some = short.0;
+      interval = short.1;
+      lookback = near.1;
+      some_stage = if_some (IsBetween 1 4096) (λ n. 1 ≤ n) load made (λ n h. h.0);
+      stages = if_some (IsBetween 1 4096) (λ n. n ≤ 4096) load made (λ n h. h.1);
+    }))))
 
 pub options_within : AskWithin
 unfolding options

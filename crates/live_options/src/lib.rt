@@ -1,4 +1,4 @@
-// The words of the program's command line: how many workers it has, and how it keeps its history.
+// The words of the program's command line: how many workers it has, how it keeps its history, and whether its script is made.
 //
 // `read_options` reads the words by `clap`, takes the value of each option (`values`) and answers the options, or none for faulty words.
 #![tactic(auto)]

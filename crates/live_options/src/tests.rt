@@ -18,6 +18,17 @@ fn options(workers: u8, interval: u64, lookback: u64) -> Option<Options> {
         workers,
         interval,
         lookback,
+        load: None,
+    })
+}
+
+// The defaults, with a made script of so many stages.
+fn made(stages: u32) -> Option<Options> {
+    Some(Options {
+        workers: 2,
+        interval: 10_000,
+        lookback: 10_000,
+        load: Some(stages),
     })
 }
 
@@ -55,6 +66,9 @@ fn words_ask_for_options(rt: HostRuntime) -> Result<(), Fail> {
             "livesim --lookback=5 --workers 1 --interval=20 --",
             options(1, 20, 5),
         ),
+        ("livesim --load 4", made(4)),
+        ("livesim --load=1", made(1)),
+        ("livesim --load 0000000004096", made(4096)),
         (
             "livesim --interval 2 --workers 0 --lookback 1",
             options(0, 2, 1),
@@ -76,6 +90,8 @@ fn faulty_words_ask_for_nothing(rt: HostRuntime) -> Result<(), Fail> {
         "livesim --interval 1000000001",
         "livesim --lookback 1099511627777",
         "livesim --workers 9999999999999",
+        "livesim --load 0",
+        "livesim --load 4097",
         // no 1 to 13 digits
         "livesim --workers 00000000000003",
         "livesim --workers +3",
@@ -92,13 +108,13 @@ fn faulty_words_ask_for_nothing(rt: HostRuntime) -> Result<(), Fail> {
         // without a value
         "livesim --workers",
         "livesim --lookback --workers 1",
+        "livesim --load",
         "livesim --workers --",
         // unknown
         "livesim --help",
         "livesim -h",
         "livesim --version",
         "livesim -V",
-        "livesim --load 4",
         "livesim --worker 1",
         "livesim -workers 1",
         "livesim --Workers 1",

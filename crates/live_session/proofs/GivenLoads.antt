@@ -89,6 +89,9 @@ on_error (Err e) p = p
 abbrev nothing : List LoadAnswer
 nothing = []
 
+abbrev no_more : List ShelfAnswer
+no_more = []
+
 abbrev tested : Bool → Type 0 → Type 0 → Type 0
 tested t x y = cond t x y
 
@@ -145,7 +148,21 @@ module _ (names : List (List ℕ)) where
   first_along [] rest [] more given first = first
   first_along [] rest (f ∷ files) more given first = absurd given
   first_along (l ∷ front) rest [] more given first = absurd given
-  first_along (l ∷ front) rest (f ∷ files) more given first = (refl, first_along front rest files more given.1 first)
+  first_along (l ∷ front) rest (f ∷ files) more given first =
+      let later = shelf_answers (map (loaded_file names) front) (gave files) ++ more in (
+        refl,
+        subst (λ (t : Bool). tested t (later ≡ []) (AreToFirst (map (loaded_file names) (front ++ rest)) later))
+            (sym (le-ltb 4194304 (length f.text) given.0.short)) (first_along front rest files more given.1 first),
+      )
+
+-- one answer is to the first load
+one_to : (load : LoadedFile) (loads : List LoadedFile) (x : ShelfAnswer) → name_in x ≡ load.name → AreToFirst (load ∷ loads) (x ∷ [])
+one_to load loads (shelf.Given name text) named = (named, by (ltb 4194304 (length text)))
+  where
+    by : (t : Bool) → tested t (no_more ≡ []) (AreToFirst loads no_more)
+    by true = refl
+    by false = tt
+one_to load loads (shelf.Failed name) named = (named, refl)
 
 no_answers : (lines : List LoadedFile) → shelf_answers lines [] ≡ []
 no_answers [] = refl
@@ -290,7 +307,7 @@ module _ (names : List (List ℕ)) (lines : List LoadLine) (i : ℕ) (files : Li
     adds = one_added before now later (shelf_answers (map (loaded_file names) front) (gave files)) x h.adds adds;
     first = subst (λ (ls : List LoadLine). AreToFirst (map (loaded_file names) ls)
         (shelf_answers (map (loaded_file names) front) (gave files) ++ x ∷ [])) all_lines
-        (first_along names front (l ∷ rest) files (x ∷ []) h.each (named, tt));
+        (first_along names front (l ∷ rest) files (x ∷ []) h.each (one_to (loaded_file names l) (map (loaded_file names) rest) x named));
   }
 
   pub lost_before : KeepsAnswers now later → Loses (map (loaded_file names) lines) before later

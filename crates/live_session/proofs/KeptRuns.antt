@@ -1,5 +1,5 @@
 -- What a session keeps of its design where some of it changes.
-use Rattle.std.proofs.Common.{◌≡◌, ◌≤◌, ◌<◌, ℕ, List, length, sym, subst}
+use Rattle.std.proofs.Common.{◌≡◌, ◌≤◌, ◌<◌, ℕ, List, Option, Some, None, length, ap, sym, subst}
 use Rattle.std.specs.List.{All}
 use Rattle.std.specs.Prelude.{Ok, IfSome}
 use Rattle.cycle_eval.specs.declared.design.Design.{Design}
@@ -9,6 +9,7 @@ use Rattle.stimulus.specs.Records.{limit_of, rows_of}
 use Rattle.version_swap.specs.Behind.{design_of}
 use Rattle.version_swap.specs.Plans.{Plans}
 use Rattle.version_swap.specs.declared.texts.Texts.{Texts}
+use Rattle.live_session.specs.Charging.{Charges}
 use Rattle.live_session.specs.Kept.{IsKept}
 use Rattle.live_session.specs.declared.limits.Limits.{Limits}
 use Rattle.live_session.specs.declared.running.Running.{Running}
@@ -43,3 +44,19 @@ kept_on names limits old new kept stays row rows charge stimulus = record {
   charge = charge;
   stimulus = stimulus;
 }
+
+-- a settle's charge is all that becomes another, where it is charged
+pub charged_kept : (names : List (List ℕ)) (limits : Limits) (links : ℕ) (passes : Option ℕ) (old new : Running) (result : Option ℕ)
+    → IsKept names limits old → Charges limits links passes old new result → IsKept names limits new
+charged_kept names limits links passes old new None kept charges = subst (λ (r : Running). IsKept names limits r) (sym charges.0) kept
+charged_kept names limits links passes old new (Some most) kept charges =
+    let is = charges.1.is in
+    kept_on names limits old new kept
+    (record {
+      texts = ap (λ (r : Running). r.texts) is;
+      machine = ap (λ (r : Running). r.version.value.machine.value) is;
+      keys = ap (λ (r : Running). r.keys) is;
+    })
+    (subst (λ (r : Running). AreWithin (length names) r.row.value) (sym is) kept.named.row)
+    (subst (λ (r : Running). All (AreWithin (length names)) (rows_of r.record_)) (sym is) kept.named.rows) charges.1.room
+    (subst (λ (r : Running). limit_of r.record_ ≡ limits.stimulus) (sym is) kept.stimulus)

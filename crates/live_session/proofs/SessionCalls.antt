@@ -1,5 +1,5 @@
 -- Calls of a session by those of the design that it runs, and a command by its call.
-use Rattle.std.proofs.Common.{◌≡◌, ◌∙◌, ◌+◌, ◌*◌, ◌≤◌, ◌<◌, ℕ, Bool, List, [], map, Result, Ok, Err, refl, sym, ap, ap₂, subst, true}
+use Rattle.std.proofs.Common.{◌≡◌, ◌∙◌, ◌+◌, ◌*◌, ◌≤◌, ◌<◌, ℕ, Bool, List, [], map, Result, Ok, Err, refl, sym, ap, ap₂, subst, true, arith}
 use Rattle.std.specs.Prelude.{IfOk, IfSome, OnErr, Option, Some, None}
 use Rattle.book_history.specs.Book.{Settings as BookSettings}
 use Rattle.ls_text.specs.Texts.{HasEachOnce}
@@ -22,7 +22,7 @@ use Rattle.live_session.specs.Kept.{IsKept}
 use Rattle.live_session.specs.Loaded.{Loses}
 use Rattle.live_session.specs.Loads.{AreToFirst, LosesAnswers}
 use Rattle.live_session.specs.Logs.{Log, LogEvent, LogMoment, marks_of}
-use Rattle.live_session.specs.Sessions.{running_work, running_world, world_of}
+use Rattle.live_session.specs.Sessions.{limits_of, running_work, running_world, world, world_of}
 use Rattle.live_session.specs.Settings.{Settings}
 use Rattle.live_session.specs.Statuses.{status_lines}
 use Rattle.live_session.specs.Steps.{StepsTo, StopsInTurn}
@@ -129,12 +129,14 @@ quit_at line s j (Ok reply) h = h line s j
 -- ---- a first block
 
 -- the loads came to nothing
-pub loses_loads : (names : List (List ℕ)) (e : Edit) (lines : List LoadLine) (before behind : Option (List ShelfAnswer)) → lines ≡ e.loads
-    → Loses (map (loaded_file names) lines) before behind → LosesAnswers (Edits (edited names e)) before behind
-loses_loads names e lines before behind same l = record {
+pub loses_loads : (s : Session) (names : List (List ℕ)) (e : Edit) (lines : List LoadLine) (before behind : Option (List ShelfAnswer))
+    → ((grid : List ℕ) → (world s grid).charge < (limits_of s).rooms.session) → lines ≡ e.loads
+    → Loses (map (loaded_file names) lines) before behind → LosesAnswers s (Edits (edited names e)) before behind
+loses_loads s names e lines before behind room same l = record {
   more = l.more;
   adds = l.adds;
   first = subst (λ (ls : List LoadLine). AreToFirst (map (loaded_file names) ls) l.more) same l.first;
+  reached = λ grid full. absurd (omega (arith, full, room grid));
 }
 
 -- no entry is new
@@ -184,8 +186,8 @@ module _ {E : Type 0} (asked also : Asked) (same : also ≡ asked) (before behin
         → OnErr result (StopsInTurn (Ok also) before behind faults count old new was is)
     stops_as h = subst (λ (a : Asked). OnErr result (StopsInTurn (Ok a) before behind faults count old new was is)) (sym same) h
 
-  pub loses_as : OnErr result (LosesAnswers asked before behind) → OnErr result (LosesAnswers also before behind)
-  loses_as h = subst (λ (a : Asked). OnErr result (LosesAnswers a before behind)) (sym same) h
+  pub loses_as : (s : Session) → OnErr result (LosesAnswers s asked before behind) → OnErr result (LosesAnswers s also before behind)
+  loses_as s h = subst (λ (a : Asked). OnErr result (LosesAnswers s a before behind)) (sym same) h
 
 -- whether it is `quit`
 pub quits_as : {E : Type 0} (asked also : Asked) (same : also ≡ asked) (quit : Bool) → is_quit (Ok asked) ≡ quit → (result : Result Reply E)

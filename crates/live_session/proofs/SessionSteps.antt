@@ -25,11 +25,11 @@ use Rattle.live_session.specs.Files.{TextFile}
 use Rattle.live_session.specs.Judging.{verdict_on}
 use Rattle.live_session.specs.Kept.{IsKept}
 use Rattle.live_session.specs.Loaded.{ComesTo, result_of}
-use Rattle.live_session.specs.Loads.{LoadAnswer, Gave, Broke, AddsAnswers, AreToFirst, HasFailed, LosesAnswers, loaded_files, name_in, shelf_answer, shelf_answers}
+use Rattle.live_session.specs.Loads.{LoadAnswer, Gave, Broke, AddsAnswers, AreAnswers, AreToFirst, HasFailed, LosesAnswers, loaded_files, shelf_answers}
 use Rattle.live_session.specs.Logs.{Log, LogMoment, marks_of}
 use Rattle.live_session.specs.Readings.{IsRight, IsRightEdit}
 use Rattle.live_session.specs.Replies.{answers_to_command}
-use Rattle.live_session.specs.Sessions.{limits_of, running_world, world_of}
+use Rattle.live_session.specs.Sessions.{limits_of, running_world, world, world_of}
 use Rattle.live_session.specs.Settings.{Settings}
 use Rattle.live_session.specs.Steps.{StepsTo, StopsInTurn, loses, stays}
 use Rattle.live_session.specs.Taken.{LosesBlock, TakesBlock, lost_lines, none_taken}
@@ -176,10 +176,10 @@ stopped asked answers faults old new was is (Err e) limits none right beside h =
     by (lost_at reply done) = loses reply.lines reply.refused (step_of asked answers faults old new was is reply limits none right beside done)
 
 -- so nothing is lost
-pub none_lost : {E : Type 0} (asked : Asked) (answers : Option (List ShelfAnswer)) (result : Result Reply E)
-    → OnErr result (LosesAnswers asked answers answers)
-none_lost asked answers (Ok r) = tt
-none_lost asked answers (Err e) = record { more = []; adds = none_added answers; first = tt }
+pub none_lost : {E : Type 0} (s : Session) (asked : Asked) (answers : Option (List ShelfAnswer)) (result : Result Reply E)
+    → OnErr result (LosesAnswers s asked answers answers)
+none_lost s asked answers (Ok r) = tt
+none_lost s asked answers (Err e) = record { more = []; adds = none_added answers; first = tt; reached = λ grid full. refl }
 
 -- a line that is refused as it is read
 pub fault_steps : {E : Type 0} (fault : TextFault) (s : Session) (result : Result Reply E) → IfOk result (Refuses (refused_text [] 0 fault))
@@ -199,16 +199,6 @@ fault_steps fault s (Ok reply) says = λ (answers : Option (List ShelfAnswer)) (
 
 -- ---- answers to loads
 
-name_is : (load : LoadedFile) (answer : LoadAnswer) → name_in (shelf_answer load answer) ≡ load.name
-name_is load (Gave text) = refl
-name_is load Broke = refl
-
--- answers are to the first of the loads
-pub all_to : (loads : List LoadedFile) (answers : List LoadAnswer) → AreToFirst loads (shelf_answers loads answers)
-all_to [] answers = tt
-all_to (load ∷ loads) [] = tt
-all_to (load ∷ loads) (answer ∷ answers) = (name_is load answer, all_to loads answers)
-
 pub failed_or : (failed : Bool) (faults count : ℕ) → HasFailed failed faults count → (count ≡ faults) ⊎ Rose faults count
 failed_or true faults count h = inr h
 failed_or false faults count h = inl h
@@ -220,6 +210,19 @@ none_given (load ∷ loads) = refl
 
 abbrev nothing : List LoadAnswer
 nothing = []
+
+-- answers to the loads that are reached are to the first ones
+pub all_to : (loads : List LoadedFile) (answers : List LoadAnswer) → AreAnswers loads answers → AreToFirst loads (shelf_answers loads answers)
+all_to [] answers right = tt
+all_to (load ∷ loads) [] right = tt
+all_to (load ∷ loads) (Broke ∷ answers) right = (refl, ap (shelf_answers loads) right ∙ none_given loads)
+all_to (load ∷ loads) (Gave text ∷ answers) right = (refl, by (ltb 4194304 (length text)) right (all_to loads answers))
+  where
+    by : (t : Bool) → MatchBool t (answers ≡ []) (AreAnswers loads answers)
+        → (AreAnswers loads answers → AreToFirst loads (shelf_answers loads answers))
+        → MatchBool t (shelf_answers loads answers ≡ []) (AreToFirst loads (shelf_answers loads answers))
+    by true none later = ap (shelf_answers loads) none ∙ none_given loads
+    by false more later = later more
 
 -- ---- a block that is refused before anything is loaded
 
@@ -347,13 +350,14 @@ module _ (names : List (List ℕ)) (e : Edit) (old new : Session) (was is : Log)
         by (lost_lines text refused t) = loses text refused (block_steps text refused t)
 
   -- all answers to its loads
-  pub all_lost : {E : Type 0} (l : Loads) (result : Result Reply E) → ComesTo names e.loads before behind faults count l
-      → OnErr result (LosesAnswers (Edits asks) before behind)
-  all_lost l (Ok reply) h = tt
-  all_lost l (Err error) h = record {
+  pub all_lost : {E : Type 0} (l : Loads) (result : Result Reply E) → ((grid : List ℕ) → (world old grid).charge < (limits_of old).rooms.session)
+      → ComesTo names e.loads before behind faults count l → OnErr result (LosesAnswers old (Edits asks) before behind)
+  all_lost l (Ok reply) room h = tt
+  all_lost l (Err error) room h = record {
     more = shelf_answers asks.loads h.answers;
     adds = h.adds;
-    first = all_to asks.loads h.answers;
+    first = all_to asks.loads h.answers h.right;
+    reached = λ grid full. absurd (omega (arith, full, room grid));
   }
 
 -- memory ran out before a block was taken

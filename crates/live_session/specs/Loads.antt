@@ -1,5 +1,5 @@
 -- What a shelf answers to the loads of a block.
-use Rattle.std.specs.Prelude.{◌≡◌, ⊤, ℕ, Bool, true, false, nat_lt, if◌then◌else◌, List, [], ◌∷◌, ◌++◌, length, Result, Ok, Err}
+use Rattle.std.specs.Prelude.{◌≡◌, ◌≤◌, ⊤, ℕ, Bool, true, false, nat_lt, if◌then◌else◌, List, [], ◌∷◌, ◌++◌, length, Result, Ok, Err}
 use Rattle.std.specs.Bool.{MatchBool}
 use Rattle.std.specs.declared.option.Option.{Option}
 use Rattle.std.specs.declared.option.Option.TheVariants.{Some, None}
@@ -8,7 +8,9 @@ use Rattle.ls_port.specs.declared.shelf_answer.ShelfAnswer.TheVariants as shelf
 use Rattle.ls_port.specs.Causes.{Rose}
 use Rattle.command_read.specs.Asking.{LoadedFile, Asked, Edits, Sets, Runs, Shows, Settles, AsksStatus, Quits}
 use Rattle.live_session.specs.Files.{TextFile}
+use Rattle.live_session.specs.Sessions.{limits_of, world}
 use Rattle.live_session.specs.Worlds.{Refused, refused_at}
+use Rattle.live_session.specs.declared.session.Session.{Session}
 
 pub data LoadAnswer : Type 0 where
   Gave : (text : List ℕ) → LoadAnswer
@@ -63,11 +65,13 @@ abbrev pub name_in : ShelfAnswer → List ℕ
 name_in (shelf.Given name text) = name
 name_in (shelf.Failed name) = name
 
--- these are answers to the first of the loads, each under the name of its file
+-- these are answers to the first of the loads, each under the name of its file, and none comes behind one that wasn't a text of at most 4,194,304 bytes
 abbrev pub AreToFirst : List LoadedFile → List ShelfAnswer → Type 0
 AreToFirst loads [] = ⊤
 AreToFirst [] (a ∷ answers) = ⊥
-AreToFirst (load ∷ loads) (a ∷ answers) = (name_in a ≡ load.name) × AreToFirst loads answers
+AreToFirst (load ∷ loads) (shelf.Given name text ∷ answers) =
+    (name ≡ load.name) × MatchBool (nat_lt 4194304 (length text)) (answers ≡ []) (AreToFirst loads answers)
+AreToFirst (load ∷ loads) (shelf.Failed name ∷ answers) = (name ≡ load.name) × (answers ≡ [])
 
 abbrev pub loads_of : Asked → List LoadedFile
 loads_of (Edits block) = block.loads
@@ -78,8 +82,10 @@ loads_of (Settles line passes) = []
 loads_of (AsksStatus line) = []
 loads_of (Quits line) = []
 
--- a command that has no reply: the answers of a shelf that tells them grow by some to the first of its loads
-pub record LosesAnswers (asked : Asked) (before behind : Option (List ShelfAnswer)) : Type 0 where
+-- A command that has no reply in this session: the answers of a shelf that tells them grow by some to the first of its loads, and by none where the
+-- session's room is full, since no load is reached then.
+pub record LosesAnswers (s : Session) (asked : Asked) (before behind : Option (List ShelfAnswer)) : Type 0 where
   pub more : List ShelfAnswer
   pub adds : AddsAnswers before behind more
   pub first : AreToFirst (loads_of asked) more
+  pub reached : (grid : List ℕ) → (limits_of s).rooms.session ≤ (world s grid).charge → more ≡ []

@@ -352,7 +352,7 @@ impl Session {
         ensures goes_on { IfOk result (λ r. r.quit ≡ false) }
         ensures stops { OnErr result (StopsInTurn (Ok (Edits (edited (names_of self.old) edit.now))) (F.answers shelf.old) (F.answers shelf.new)
             (F.faults shelf.old) (F.faults shelf.new) self.old self.new book.old book.new) }
-        ensures lost { OnErr result (LosesAnswers (Edits (edited (names_of self.old) edit.now)) (F.answers shelf.old) (F.answers shelf.new)) }
+        ensures lost { OnErr result (LosesAnswers self.old (Edits (edited (names_of self.old) edit.now)) (F.answers shelf.old) (F.answers shelf.new)) }
         ensures cause { OnErr result ((F.faults shelf.new ≡ F.faults shelf.old) ⊎ Rose (F.faults shelf.old) (F.faults shelf.new)) }
         ensures beside { StandsBeside self.new book.new }
         ensures limits { limits_of self.new ≡ limits_of self.old }
@@ -582,7 +582,7 @@ impl Session {
         ensures quits { IfOk result (λ r. r.quit ≡ is_quit (Ok (spoken (names_of self.old) command))) }
         ensures stops { OnErr result (StopsInTurn (Ok (spoken (names_of self.old) command)) (F.answers shelf.old) (F.answers shelf.new)
             (F.faults shelf.old) (F.faults shelf.new) self.old self.new book.old book.new) }
-        ensures lost { OnErr result (LosesAnswers (spoken (names_of self.old) command) (F.answers shelf.old) (F.answers shelf.new)) }
+        ensures lost { OnErr result (LosesAnswers self.old (spoken (names_of self.old) command) (F.answers shelf.old) (F.answers shelf.new)) }
         ensures cause { OnErr result ((F.faults shelf.new ≡ F.faults shelf.old) ⊎ Rose (F.faults shelf.old) (F.faults shelf.new)) }
         ensures beside { StandsBeside self.new book.new }
         ensures limits { limits_of self.new ≡ limits_of self.old }
@@ -618,7 +618,7 @@ impl Session {
         ensures quits { IfOk result (λ r. r.quit ≡ is_quit (Ok (spoken (names_of self.old) command))) }
         ensures stops { OnErr result (StopsInTurn (Ok (spoken (names_of self.old) command)) (F.answers shelf.old) (F.answers shelf.new)
             (F.faults shelf.old) (F.faults shelf.new) self.old self.new book.old book.new) }
-        ensures lost { OnErr result (LosesAnswers (spoken (names_of self.old) command) (F.answers shelf.old) (F.answers shelf.new)) }
+        ensures lost { OnErr result (LosesAnswers self.old (spoken (names_of self.old) command) (F.answers shelf.old) (F.answers shelf.new)) }
         ensures cause { OnErr result ((F.faults shelf.new ≡ F.faults shelf.old) ⊎ Rose (F.faults shelf.old) (F.faults shelf.new)) }
         ensures beside { StandsBeside self.new book.new }
         ensures limits { limits_of self.new ≡ limits_of self.old }
@@ -648,7 +648,7 @@ impl Session {
         ensures quits { IfOk result (λ r. r.quit ≡ is_quit (Ok (spoken (names_of self.old) command))) }
         ensures stops { OnErr result (Stops (known pass.old).alone (Ok (spoken (names_of self.old) command)) (F.answers shelf.old) (F.answers shelf.new)
             (F.faults shelf.old) (F.faults shelf.new) self.old self.new (log_of (known pass.old)) (log_of (known pass.new))) }
-        ensures lost { OnErr result (LosesAnswers (spoken (names_of self.old) command) (F.answers shelf.old) (F.answers shelf.new)) }
+        ensures lost { OnErr result (LosesAnswers self.old (spoken (names_of self.old) command) (F.answers shelf.old) (F.answers shelf.new)) }
         ensures cause { OnErr result ((F.faults shelf.new ≡ F.faults shelf.old) ⊎ Rose (F.faults shelf.old) (F.faults shelf.new)) }
         ensures turn { IsOf turn.now pass.new true }
         ensures at { StandsAt self.new (known pass.new) }
@@ -688,7 +688,7 @@ impl Session {
         ensures quits { IfOk result (λ r. r.quit ≡ is_quit (Ok (spoken (names_of self.old) command))) }
         ensures stops { OnErr result (Stops (known pass.old).alone (Ok (spoken (names_of self.old) command)) (F.answers shelf.old) (F.answers shelf.new)
             (F.faults shelf.old) (F.faults shelf.new) self.old self.new (log_of (known pass.old)) (log_of (known pass.new))) }
-        ensures lost { OnErr result (LosesAnswers (spoken (names_of self.old) command) (F.answers shelf.old) (F.answers shelf.new)) }
+        ensures lost { OnErr result (LosesAnswers self.old (spoken (names_of self.old) command) (F.answers shelf.old) (F.answers shelf.new)) }
         ensures cause { OnErr result ((F.faults shelf.new ≡ F.faults shelf.old) ⊎ Rose (F.faults shelf.old) (F.faults shelf.new)) }
         ensures turn { IsOf turn.now pass.new true }
         ensures at { StandsAt self.new (known pass.new) }

@@ -25,3 +25,10 @@ pub fn tickets(entries: &[Entry]) -> usize {
         .filter(|entry| matches!(entry, Entry::Claim { .. }))
         .count()
 }
+
+/// Whether this ticket was drawn by that one.
+pub fn drew(entries: &[Entry], number: u64, who: Who) -> bool {
+    entries.iter().any(
+        |entry| matches!(entry, Entry::Claim { ticket, by, .. } if *ticket == number && *by == who),
+    )
+}

@@ -1,12 +1,13 @@
 // Edits beside workers. The assertions are the same whatever the schedule.
 use crate::held::Held;
+use crate::install_gate::InstallGate;
 use crate::outcome::right;
-use crate::running::{ran, ran_held, replayed};
+use crate::running::{ran, ran_before, replayed};
 use crate::scripts::{
     AGAIN, AGAIN_LINES, EDIT, EDIT_LINES, OPEN, OPEN_LINES, RUN, RUN_LINES, joined, many_added,
     many_edits,
 };
-use ls_port::OpenGate;
+use ls_port::{Gate, OpenGate};
 use std::alloc::Global;
 use std::process::Abort;
 use std::sync::Wait;
@@ -58,11 +59,13 @@ fn sixty_four_workers_beside_three_hundred_edits(rt: HostRuntime) -> Result<(), 
     Ok(())
 }
 
-// Two workers verify stretches of version 2 until version 3 is there. Five cycles of five each are 25.
-#[test]
-fn results_of_an_older_version_change_nothing(rt: HostRuntime) -> Result<(), Fail> {
-    let alloc = rt.alloc();
-    let gate = HoldingGate::new(2);
+/// Two workers hold tickets of version 2 at this gate until version 3 is there. Five cycles of five each are 25.
+fn outdate<R: Threads + Wait + Sync + Abort, G: Gate>(
+    rt: &R,
+    alloc: Global,
+    holding: &HoldingGate,
+    gate: &G,
+) -> Result<(), Fail> {
     let again = joined(alloc, &[AGAIN, b"settle\nshow\n"])?;
     let then = Held {
         script: again.as_slice(),
@@ -71,7 +74,7 @@ fn results_of_an_older_version_change_nothing(rt: HostRuntime) -> Result<(), Fai
         write: 9,
     };
     let script = joined(alloc, &[OPEN, RUN, EDIT])?;
-    let ran = ran_held(&rt, alloc, "--workers 2", script, &then, &gate)?;
+    let ran = ran_before(rt, alloc, "--workers 2", script, &then, holding, gate)?;
     let lines: [&[u8]; 6] = [
         OPEN_LINES,
         RUN_LINES,
@@ -80,11 +83,24 @@ fn results_of_an_older_version_change_nothing(rt: HostRuntime) -> Result<(), Fai
         b"settled cycle=5 v=3\n",
         b"show cycle=5 settled v=3\ntop.acc 19\n",
     ];
-    let replay = right(&rt, alloc, &ran, 0, &lines, &[0, 1, 2])?;
-    assert!(rt; gate.has_let_go());
+    let replay = right(rt, alloc, &ran, 0, &lines, &[0, 1, 2])?;
+    assert!(rt; holding.has_let_go());
     assert_eq!(rt;
         (replay.older(), replay.settled_to(), replay.acc()),
         (2, None, 25)
     );
     Ok(())
+}
+
+#[test]
+fn what_is_verified_for_an_older_version_changes_nothing(rt: HostRuntime) -> Result<(), Fail> {
+    let holding = HoldingGate::new(2);
+    outdate(&rt, rt.alloc(), &holding, &holding)
+}
+
+#[test]
+fn results_of_an_older_version_change_nothing(rt: HostRuntime) -> Result<(), Fail> {
+    let holding = HoldingGate::new(2);
+    let gate = InstallGate { holding: &holding };
+    outdate(&rt, rt.alloc(), &holding, &gate)
 }

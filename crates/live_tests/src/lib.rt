@@ -1,7 +1,8 @@
 // Tests of the whole program beside workers, in a crate of their own, since a crate with tests is proved twice.
 //
 // `scripts` are what is run, `running` runs it and `ran` is what comes of it, of which `outcome` asks what each test asks, and `counting` tells who did
-// what. `asking_source` and `watched_sink` ask until a display is settled; `held_source` and `held_sink` go on as a gate holds workers, by `held`.
+// what. `asking_source` and `watched_sink` ask until a display is settled; `held_source` and `held_sink` go on as a gate holds workers, by `held`,
+// `passing_gate` has one ticket let others go, and `install_gate` holds them later.
 // `replay`, `mark` and `drawn` take the history that is left, entry by entry.
 #![tactic(auto)]
 
@@ -22,11 +23,15 @@ mod held_sink;
 #[cfg(test)]
 mod held_source;
 #[cfg(test)]
+mod install_gate;
+#[cfg(test)]
 mod mark;
 #[cfg(test)]
 mod number_tests;
 #[cfg(test)]
 mod outcome;
+#[cfg(test)]
+mod passing_gate;
 #[cfg(test)]
 mod ran;
 #[cfg(test)]

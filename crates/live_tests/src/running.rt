@@ -63,10 +63,23 @@ pub fn ran_held<R: Threads + Wait + Sync>(
     then: &Held<'_>,
     gate: &HoldingGate,
 ) -> Result<Ran, NoMemory> {
+    ran_before(rt, alloc, given, script, then, gate, gate)
+}
+
+/// The same, where the run asks a gate of its own.
+pub fn ran_before<R: Threads + Wait + Sync, G: Gate>(
+    rt: &R,
+    alloc: Global,
+    given: &str,
+    script: Vec<u8>,
+    then: &Held<'_>,
+    holding: &HoldingGate,
+    gate: &G,
+) -> Result<Ran, NoMemory> {
     let words = words_of(alloc, given)?;
     let mut source = HeldSource {
         script: SolidSource::new(script),
-        gate,
+        gate: holding,
         end: MemSource::new(
             Vec::from_slice(alloc, then.script)?,
             vec![in alloc; then.read]?,
@@ -74,7 +87,7 @@ pub fn ran_held<R: Threads + Wait + Sync>(
     };
     let mut sink = HeldSink {
         sink: MemSink::new(alloc, vec![in alloc; then.write]?),
-        gate,
+        gate: holding,
         at: then.at,
     };
     let mut shelf = SolidShelf::new(alloc, Vec::new(alloc));

@@ -90,7 +90,7 @@ fn asked<R: Threads + Wait + Sync>(
 fn only_workers_settle(rt: HostRuntime) -> Result<(), Fail> {
     let alloc = rt.alloc();
     let settled = AtomicBool::new(false);
-    let ran = asked(&rt, alloc, 20, &settled)?;
+    let ran = asked(&rt, alloc, 1000, &settled)?;
     assert_eq!(rt; ran.status, 0);
     assert!(rt; ran.lines.ends_with(DISPLAY));
     assert_eq!(rt; claims(&ran.entries, Who::Session), 0);

@@ -13,7 +13,7 @@ use Rattle.command_read.specs.Scripts.{commands, up_to_quit}
 use Rattle.command_read.specs.Sound.{is_too_much}
 use Rattle.command_read.specs.declared.reader.Reader.{Reader}
 use Rattle.command_read.proofs.Cutting.{told_on}
-use Rattle.live_session.specs.Judging.{any_refused}
+use Rattle.live_session.specs.Judging.{any_refused, world_after}
 use Rattle.live_session.specs.Loads.{AddsAnswers, AreToFirst}
 use Rattle.live_session.specs.Readings.{AreRight}
 use Rattle.live_session.specs.Logs.{Log, moments_of}
@@ -45,6 +45,7 @@ pub record Finished (st : Settings) (from to : Sources) (shelf shelved : Shelves
   pub answered : AddsAnswers shelf.answers shelved.answers (answers_of told ++ lost)
   pub first : AreToFirst (loads_first rest) lost
   pub judged : refused ≡ any_refused st told fresh
+  pub full : st.room ≤ (world_after st told fresh).charge → lost ≡ []
 
 -- what the status says of them
 pub record IsStatus (bytes : List ℕ) (ended refused : Bool) (rest : List (Result Asked TextFault)) (lost : List ShelfAnswer) (status : ℕ) : Type 0 where
@@ -59,7 +60,7 @@ pub record IsStatus (bytes : List ℕ) (ended refused : Bool) (rest : List (Resu
 module _ (st : Settings) (from to : Sources) (shelf shelved : Shelves) (old new : Option (List ℕ)) (bytes : List ℕ) (ended refused : Bool) (told : List Told)
     (rest : List (Result Asked TextFault)) (lost : List ShelfAnswer) (status : ℕ) (text : List ℕ) (history : Log) where
   pub lived : Finished st from to shelf shelved bytes ended refused told rest lost → IsStatus bytes ended refused rest lost status
-      → IsHistory st told status text history
+      → IsHistory st told rest status text history
       → RisesBy (count_broken told) shelf.faults shelved.faults ⊎ ((status ≡ 5) × RisesBy (count_broken told + 1) shelf.faults shelved.faults)
       → (status ≢ 4 → status ≢ 5 → Appends old new text) → Writes old new text
       → ((before : List Told) (last : Told) → before ++ last ∷ [] ≡ told → WritesAtLeast old new (lines st before fresh (moments_of history)))
@@ -68,34 +69,37 @@ module _ (st : Settings) (from to : Sources) (shelf shelved : Shelves) (old new 
   lived f s h failed written front most soon = record {
     consumed = f.consumed;
     at_end = f.at_end;
-    told = told;
-    right = f.right;
-    all = λ four five. sym (append-nil (asked_of told)) ∙ ap (λ r. asked_of told ++ r) (sym (s.none_left four five)) ∙ sym f.begins;
-    begins = (rest, f.begins);
-    begins_all = f.begins_all;
-    whole = s.whole;
-    judged = λ which. s.judged which ∙ ap (λ b. cond b 1 0) f.judged;
-    cut = s.cut;
-    lost = lost;
-    answered = f.answered;
-    none_lost = s.none_lost;
-    lost_first = f.first;
-    failed = failed;
-    written = λ four five. subst (Appends old new) (sym h.tells) (written four five);
-    front = subst (Writes old new) (sym h.tells) front;
-    most = most;
-    settings = h.has;
-    legal = h.legal;
-    entries = h.entries;
-    settled = shown_truth st told (moments_of history);
-    too_much = s.too_much;
-    not_too_much = s.not_too_much;
+    ran = record {
+      told = told;
+      right = f.right;
+      all = λ four five. sym (append-nil (asked_of told)) ∙ ap (λ r. asked_of told ++ r) (sym (s.none_left four five)) ∙ sym f.begins;
+      begins = (rest, f.begins);
+      begins_all = f.begins_all;
+      whole = s.whole;
+      judged = λ which. s.judged which ∙ ap (λ b. cond b 1 0) f.judged;
+      cut = s.cut;
+      lost = lost;
+      answered = f.answered;
+      none_lost = s.none_lost;
+      lost_first = f.first;
+      none_reached = f.full;
+      failed = failed;
+      written = λ four five. subst (Appends old new) (sym h.tells) (written four five);
+      front = subst (Writes old new) (sym h.tells) front;
+      most = most;
+      settings = h.has;
+      legal = h.legal;
+      entries = h.entries;
+      settled = shown_truth st told (moments_of history);
+      too_much = s.too_much;
+      not_too_much = s.not_too_much;
+    };
     soon = soon;
   }
 
   -- where all lines were written
   pub lived_all : Finished st from to shelf shelved bytes ended refused told rest lost → IsStatus bytes ended refused rest lost status
-      → IsHistory st told status text history
+      → IsHistory st told rest status text history
       → RisesBy (count_broken told) shelf.faults shelved.faults ⊎ ((status ≡ 5) × RisesBy (count_broken told + 1) shelf.faults shelved.faults)
       → Appends old new text
       → ((status ≡ 4) ⊎ (end_with_quit (asked_of told) ≡ true) → AreSoon (length told) bytes)
@@ -146,6 +150,7 @@ finished_now st from to shelf shelved session r j refused quit told text d few =
       answered = adds_no_more shelf.answers shelved.answers (answers_of told) d.answered;
       first = tt;
       judged = d.judged;
+      full = λ room. refl;
     }
 
 -- ---- where no command is read any more
@@ -182,10 +187,11 @@ module _ (st : Settings) (from mid to : Sources) (shelf mid_shelf shelved : Shel
   pub taken_then : length (d.bytes ++ e.reads.came) ≡ count_taken new
   taken_then = omega (arith, e.reads.takes.counted, d.count, length-append d.bytes e.reads.came)
 
-  pub finished_then : (lost : List ℕ) → AreCut new (d.bytes ++ e.reads.came) (d.bytes ++ e.reads.kept) lost
+  pub finished_then : (st.room ≤ (world_after st told fresh).charge → e.lost ≡ []) → (lost : List ℕ)
+      → AreCut new (d.bytes ++ e.reads.came) (d.bytes ++ e.reads.kept) lost
       → Finished st from to shelf shelved (d.bytes ++ e.reads.came) (has_ended new) refused told
       (up_to_quit (e.told ++ still_asked new lost (has_ended new))) e.lost
-  finished_then lost cut = record {
+  finished_then full lost cut = record {
     consumed = Consumes-trans from.left mid.left to.left d.bytes e.reads.came d.consumed e.reads.takes.consumed;
     at_end = at_end_then;
     right = d.right;
@@ -195,4 +201,5 @@ module _ (st : Settings) (from mid to : Sources) (shelf mid_shelf shelved : Shel
     answered = adds_more shelf.answers mid_shelf.answers shelved.answers _ _ d.answered e.adds;
     first = lost_first e.told (still_asked new lost (has_ended new)) e.lost e.first;
     judged = d.judged;
+    full = full;
   }

@@ -1,5 +1,5 @@
 -- What a history has of the commands that were carried out, and of one more.
-use Rattle.std.proofs.Common.{◌≡◌, ◌⊎◌, inl, inr, ℕ, Bool, true, List, [], ◌∷◌, ◌++◌, Option, None, refl, sym, ap, ◌∙◌, subst, append-nil, append_assoc}
+use Rattle.std.proofs.Common.{◌≡◌, ◌⊎◌, inl, inr, ℕ, Bool, true, List, [], ◌∷◌, ◌++◌, Option, None, Result, refl, sym, ap, ◌∙◌, subst, append-nil, append_assoc}
 use Rattle.book_history.specs.Book.{Closes, Settings as BookSettings}
 use Rattle.book_history.specs.Legal.{Legal}
 use Rattle.book_history.specs.Moments.{moments_from}
@@ -7,6 +7,8 @@ use Rattle.book_history.specs.Owned.{owned}
 use Rattle.book_history.proofs.Places.{moments-append}
 use Rattle.book_settle.specs.Passes.{IsUnfinished}
 use Rattle.book_settle.proofs.Counting.{owned-append}
+use Rattle.command_read.specs.Asking.{Asked}
+use Rattle.ls_text.specs.Readings.{TextFault}
 use Rattle.live_session.specs.Done.{IsDone}
 use Rattle.live_session.specs.Judging.{after, verdict_on, world_after}
 use Rattle.live_session.specs.Logs.{Log, LogEvent, LogMoment, book_in, kit, moments_after, moments_of, valid}
@@ -17,7 +19,7 @@ use Rattle.live_session.specs.Verdicts.{Told}
 use Rattle.live_session.specs.Worlds.{World, fresh}
 use Rattle.live_session.proofs.SharedSettles.{AreQuiet, unfinished_quiet, unspoken_among}
 use Rattle.livesim.specs.Histories.{EndsFrom, IsLegal}
-use Rattle.livesim.specs.Runs.{HasEntries, all_entries, unfinished_settle, no_entries, HasSettings}
+use Rattle.livesim.specs.Runs.{HasEntries, all_entries, unfinished_settle, no_entries, HasSettings, IsCut}
 use Rattle.livesim.proofs.Steps.{after-append, script-append}
 
 -- These commands are carried out, and these are their lines: whatever commands and entries come behind, the lines of all are these and then those of
@@ -93,6 +95,22 @@ module _ (alone : Bool) (st : Settings) (j k : Log) (told : List Told) (t : Told
     tells = lines_more;
   }
 
+-- where only others' entries have come behind them
+pub stayed_recorded : (st : Settings) (j k : Log) (told : List Told) (text : List ℕ) (added : List LogEvent) → k.settings ≡ j.settings
+    → k.events ≡ j.events ++ added → owned added ≡ [] → IsRecorded st j told text → IsRecorded st k told text
+stayed_recorded st j k told text added same events none d =
+    let moments : moments_of k ≡ moments_of j = moments_behind j k added same events
+    ∙ ap (λ (ms : List LogMoment). moments_of j ++ ms) (unspoken_among j.settings (book_in j) added (subst AreQuiet (sym none) tt))
+    ∙ append-nil (moments_of j) in
+    let its_own : owned k.events ≡ owned j.events = ap owned events ∙ owned-append j.events added
+    ∙ ap (λ (es : List LogEvent). owned j.events ++ es) none ∙ append-nil (owned j.events) in
+    record {
+      has = settings_kept st j k same d.has;
+      script = subst (λ (es : List LogEvent). IsScript st told fresh es (moments_of k)) (sym its_own)
+          (subst (λ (ms : List LogMoment). IsScript st told fresh (owned j.events) ms) (sym moments) d.script);
+      tells = λ ts ms. ap (λ (x : List LogMoment). lines st (told ++ ts) fresh (x ++ ms)) moments ∙ d.tells ts ms;
+    }
+
 -- the lines of these commands at their places, whatever comes behind
 pub lines_with : (st : Settings) (j : Log) (told : List Told) (text : List ℕ) (ms : List LogMoment) → IsRecorded st j told text
     → lines st told fresh (moments_of j ++ ms) ≡ text
@@ -105,16 +123,16 @@ lines_recorded st j told text d =
 
 -- ---- the history of a run
 
-pub record IsHistory (st : Settings) (told : List Told) (status : ℕ) (text : List ℕ) (h : Log) : Type 0 where
+pub record IsHistory (st : Settings) (told : List Told) (rest : List (Result Asked TextFault)) (status : ℕ) (text : List ℕ) (h : Log) : Type 0 where
   pub has : HasSettings st h ⊎ ((status ≡ 5) × (h.events ≡ []))
   pub legal : IsLegal h
-  pub entries : HasEntries st told status (owned h.events) (moments_of h)
+  pub entries : HasEntries st told rest status (owned h.events) (moments_of h)
   pub tells : lines st told fresh (moments_of h) ≡ text
 
 -- behind these commands it was closed
-pub ended_history : (st : Settings) (j h : Log) → EndsFrom j h → (told : List Told) (text : List ℕ) (status : ℕ) → IsRecorded st j told text
-    → IsLegal h → IsHistory st told status text h
-ended_history st j h e told text status d legal = record {
+pub ended_history : (st : Settings) (j h : Log) → EndsFrom j h → (told : List Told) (rest : List (Result Asked TextFault)) (text : List ℕ) (status : ℕ)
+    → IsRecorded st j told text → IsLegal h → IsHistory st told rest status text h
+ended_history st j h e told rest text status d legal = record {
   has = inl (settings_kept st j h e.settings d.has);
   legal = legal;
   entries = all_entries (owned j.events) (owned_ended j h e)
@@ -123,10 +141,11 @@ ended_history st j h e told text status d legal = record {
 }
 
 -- behind them memory ran out in a settle, and then it was closed
-pub unfinished_history : (st : Settings) (j k h : Log) → EndsFrom k h → (told : List Told) (text : List ℕ) (status : ℕ) (added : List LogEvent)
-    → status ≡ 5 → IsRecorded st j told text → k.settings ≡ j.settings → k.events ≡ j.events ++ added → IsUnfinished (owned added) → IsLegal h
-    → IsHistory st told status text h
-unfinished_history st j k h e told text status added five d same events unfinished legal =
+pub unfinished_history : (st : Settings) (j k h : Log) → EndsFrom k h → (told : List Told) (rest : List (Result Asked TextFault)) (text : List ℕ) (status : ℕ)
+    (added : List LogEvent) → status ≡ 5 → IsRecorded st j told text → k.settings ≡ j.settings → k.events ≡ j.events ++ added
+    → (unfinished : IsUnfinished (owned added)) → IsCut st (world_after st told fresh) unfinished.count rest → IsLegal h
+    → IsHistory st told rest status text h
+unfinished_history st j k h e told rest text status added five d same events unfinished cut legal =
     let none : moments_after j added ≡ [] =
     unspoken_among j.settings (book_in j) added (unfinished_quiet (owned added) unfinished) in
     let moments : moments_of h ≡ moments_of j = moments_ended k h e ∙ moments_behind j k added same events
@@ -138,15 +157,32 @@ unfinished_history st j k h e told text status added five d same events unfinish
       entries = unfinished_settle (owned j.events) (owned added) five
           (owned_ended k h e ∙ ap (λ (es : List LogEvent). es ++ Closes ∷ []) its_own
           ∙ append_assoc (owned j.events) (owned added) (Closes ∷ []))
-          (subst (λ (ms : List LogMoment). IsScript st told fresh (owned j.events) ms) (sym moments) d.script) unfinished;
+          (subst (λ (ms : List LogMoment). IsScript st told fresh (owned j.events) ms) (sym moments) d.script) unfinished cut;
       tells = ap (λ (ms : List LogMoment). lines st told fresh ms) moments ∙ lines_recorded st j told text d;
     }
 
--- nothing was touched
-pub nothing_history : (st : Settings) (h : Log) → h.events ≡ [] → IsHistory st [] 5 [] h
-nothing_history st h blank = record {
+-- there is no entry
+pub nothing_history : (st : Settings) (rest : List (Result Asked TextFault)) (h : Log) → h.events ≡ [] → IsHistory st [] rest 5 [] h
+nothing_history st rest h blank = record {
   has = inr (refl, blank);
   legal = subst (λ (es : List LogEvent). Legal kit valid h.settings es) (sym blank) (record { follows = tt; in_rooms = tt });
   entries = no_entries refl (ap (λ (es : List LogEvent). owned es) blank) refl;
   tells = refl;
 }
+
+-- what comes next still does where more commands come behind
+pub entries_further : (st : Settings) (told : List Told) (rest more next : List (Result Asked TextFault)) (status : ℕ) (own : List LogEvent)
+    (moments : List LogMoment) → next ≡ rest ++ more → HasEntries st told rest status own moments → HasEntries st told next status own moments
+entries_further st told rest more next status own moments is (all_entries entries all script) = all_entries entries all script
+entries_further st told rest more next status own moments is (unfinished_settle entries passes five all script unfinished cut) =
+    unfinished_settle entries passes five all script unfinished
+    (record {
+      line = cut.line;
+      passes = cut.passes;
+      later = cut.later ++ more;
+      settles = is ∙ ap (λ (r : List (Result Asked TextFault)). r ++ more) cut.settles;
+      behind = cut.behind;
+      accepted = cut.accepted;
+      few = cut.few;
+    })
+entries_further st told rest more next status own moments is (no_entries five none nothing) = no_entries five none nothing

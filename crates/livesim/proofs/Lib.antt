@@ -10,6 +10,7 @@ pub mod Turns
 pub mod Displays
 pub mod Endings
 pub mod Over
+pub mod Made
 pub mod Outputs
 pub mod Working
 pub mod Lendings

@@ -1,5 +1,5 @@
 -- What a turn does, by what is read.
-use Rattle.std.proofs.Common.{◌≡◌, ◌⊎◌, inl, inr, ℕ, ◌<◌, Bool, true, false, List, [], ◌∷◌, ◌++◌, Option, Some, None, Result, Ok, Err, refl, sym, ap, subst, append-nil}
+use Rattle.std.proofs.Common.{◌≡◌, ◌⊎◌, inl, inr, ℕ, ◌<◌, Bool, true, false, List, [], ◌∷◌, ◌++◌, Option, Some, None, Result, Ok, Err, refl, sym, ap, subst, append-nil, arith}
 use Rattle.std.specs.Prelude.{IfOk, OnErr}
 use Rattle.ls_text.specs.Readings.{TextFault}
 use Rattle.ls_port.specs.Causes.{Rose}
@@ -17,6 +17,8 @@ use Rattle.live_session.specs.Loads.{AddsAnswers, LosesAnswers}
 use Rattle.live_session.specs.Logs.{Log}
 use Rattle.live_session.specs.Sessions.{world, limits_of}
 use Rattle.live_session.specs.Steps.{StepsTo, Stops, cut_short, lost, undone}
+use Rattle.live_session.specs.Worlds.{World}
+use Rattle.live_session.specs.declared.limits.Limits.{Limits}
 use Rattle.live_session.specs.declared.reply.Reply.{Reply}
 use Rattle.live_session.specs.declared.session.Session.{Session}
 use Rattle.livesim.specs.Turns.{Sources, Shelves, Reads, RunsOut, in_nothing, in_command, Ends, IsTurn, turn_of}
@@ -45,7 +47,7 @@ module _ (from to : Sources) (shelf shelved : Shelves) (old new : Reader) (sessi
       → IfOk r (λ x. StepsTo alone (Ok asked) shelf.answers shelved.answers shelf.faults shelved.faults read_in behind was is x.lines x.refused)
       → IfOk r (λ x. x.quit ≡ is_quit (Ok asked))
       → OnErr r (Stops alone (Ok asked) shelf.answers shelved.answers shelf.faults shelved.faults read_in behind was is)
-      → OnErr r (LosesAnswers asked shelf.answers shelved.answers)
+      → OnErr r (LosesAnswers read_in asked shelf.answers shelved.answers)
       → OnErr r ((shelved.faults ≡ shelf.faults) ⊎ Rose shelf.faults shelved.faults)
       → IsTurn from to shelf shelved old new session behind was is t
   command_turn asked (Ok x) t same_turn reads going falls same limits steps quits stops losing cause =
@@ -63,6 +65,8 @@ module _ (from to : Sources) (shelf shelved : Shelves) (old new : Reader) (sessi
         first = losing.first;
         cause = cause;
         over = in_command alone (Ok asked) refl going read_in same limits stops;
+        full = λ grid room. losing.reached grid
+            (omega (arith, room, ap (λ (l : Limits). l.rooms.session) limits, ap (λ (w : World). w.charge) (same grid)));
       })
 
 -- a line that is refused, which looks at nothing outside
@@ -98,6 +102,7 @@ refused_turn from to shelf old new session read_in j fault (Err e) t is reads go
       first = tt;
       cause = inl refl;
       over = in_nothing (inl going) refl;
+      full = λ grid room. refl;
     })
 
 -- memory ran out in the reader
@@ -111,6 +116,7 @@ stopped_turn from to shelf old new session behind j reads stops = record {
   first = tt;
   cause = inl refl;
   over = in_nothing (inr stops) refl;
+  full = λ grid room. refl;
 }
 
 -- a turn keeps the settings of the book

@@ -1,5 +1,5 @@
 -- Two runs that took the same bytes and were given the same answers have written the same.
-use Rattle.std.proofs.Common.{◌≡◌, ◌≢◌, ◌⊎◌, inl, inr, ℕ, Bool, true, List, [], ◌∷◌, ◌++◌, map, None, refl, sym, ap, ◌∙◌, subst, append-nil}
+use Rattle.std.proofs.Common.{◌≡◌, ◌≢◌, ◌⊎◌, inl, inr, ℕ, Bool, true, List, [], ◌∷◌, ◌++◌, map, None, Result, refl, sym, ap, ◌∙◌, subst, append-nil}
 use Rattle.std.specs.Prelude.{⊤}
 use Rattle.std.proofs.lemmas.List.{append_cancel_left}
 use Rattle.book_history.specs.Book.{Closes, Event, Settings as BookSettings}
@@ -8,6 +8,8 @@ use Rattle.book_history.specs.Moments.{moments_from}
 use Rattle.book_history.specs.Owned.{AllOwned, owned}
 use Rattle.book_history.proofs.Places.{moments-append}
 use Rattle.book_history.proofs.Prefixes.{follows_first}
+use Rattle.ls_text.specs.Readings.{TextFault}
+use Rattle.command_read.specs.Asking.{Asked}
 use Rattle.ls_port.specs.declared.shelf_answer.ShelfAnswer.{ShelfAnswer}
 use Rattle.live_session.specs.Entries.{bare}
 use Rattle.live_session.specs.Logs.{Log, LogEvent, LogMoment, kit, moments_of, valid}
@@ -34,9 +36,9 @@ pub record HasScript (st : Settings) (told : List Told) (bs : BookSettings) (all
   pub moments : ms ≡ moments_from kit bs None entries
 
 -- they are all but the close, which is no moment
-pub has_script : (st : Settings) (told : List Told) (status : ℕ) (h : Log) → status ≢ 5 → IsLegal h
-    → HasEntries st told status (owned h.events) (moments_of h) → AllOwned true h.events → HasScript st told h.settings h.events (moments_of h)
-has_script st told status h enough legal (all_entries entries is script) alone =
+pub has_script : (st : Settings) (told : List Told) (rest : List (Result Asked TextFault)) (status : ℕ) (h : Log) → status ≢ 5 → IsLegal h
+    → HasEntries st told rest status (owned h.events) (moments_of h) → AllOwned true h.events → HasScript st told h.settings h.events (moments_of h)
+has_script st told rest status h enough legal (all_entries entries is script) alone =
     let all : h.events ≡ entries ++ Closes ∷ [] = sym (owned_alone h.events alone) ∙ is in
     let moments : moments_of h ≡ moments_from kit h.settings None entries = ap (λ (es : List LogEvent). moments_from kit h.settings None es) all
     ∙ moments-append kit h.settings None entries (Closes ∷ []) ∙ append-nil (moments_from kit h.settings None entries) in
@@ -49,8 +51,8 @@ has_script st told status h enough legal (all_entries entries is script) alone =
       script = subst (λ (ms : List LogMoment). IsScript st told fresh entries ms) moments script;
       moments = moments;
     }
-has_script st told status h enough legal (unfinished_settle entries passes five is script unfinished) alone = absurd (enough five)
-has_script st told status h enough legal (no_entries five none nothing) alone = absurd (enough five)
+has_script st told rest status h enough legal (unfinished_settle entries passes five is script unfinished cut) alone = absurd (enough five)
+has_script st told rest status h enough legal (no_entries five none nothing) alone = absurd (enough five)
 
 -- ---- the settings of a book
 
@@ -132,33 +134,33 @@ module _ (one_output : HaveOneOutput) (one_script : HaveOneScript) (all_outputs 
 
   module _ (st : Settings) (bytes : List ℕ) (ended : Bool) (given : List ShelfAnswer) (out other : List ℕ) (j k : Log)
       (p : WritesAll st bytes ended given out j) (q : WritesAll st bytes ended given other k) where
-    answered : given ≡ answers_of p.lived.told ++ p.lived.lost
-    answered = append_cancel_left p.answers _ _ p.lived.answered
+    answered : given ≡ answers_of p.ran.told ++ p.ran.lost
+    answered = append_cancel_left p.answers _ _ p.ran.answered
 
-    also_answered : given ≡ answers_of q.lived.told ++ q.lived.lost
-    also_answered = append_cancel_left q.answers _ _ q.lived.answered
+    also_answered : given ≡ answers_of q.ran.told ++ q.ran.lost
+    also_answered = append_cancel_left q.answers _ _ q.ran.answered
 
     alike : j.settings ≡ k.settings
     alike =
-        settings_alike st j k (has_settings st j p.status p.enough_memory p.lived.settings) (has_settings st k q.status q.enough_memory q.lived.settings)
+        settings_alike st j k (has_settings st j p.status p.enough_memory p.ran.settings) (has_settings st k q.status q.enough_memory q.ran.settings)
 
-    asked : asked_of p.lived.told ≡ asked_of q.lived.told
-    asked = p.lived.all p.no_sink_fault p.enough_memory ∙ sym (q.lived.all q.no_sink_fault q.enough_memory)
+    asked : asked_of p.ran.told ≡ asked_of q.ran.told
+    asked = p.ran.all p.no_sink_fault p.enough_memory ∙ sym (q.ran.all q.no_sink_fault q.enough_memory)
 
-    first : HasScript st p.lived.told j.settings j.events (moments_of j)
-    first = has_script st p.lived.told p.status j p.enough_memory p.lived.legal p.lived.entries p.alone
+    first : HasScript st p.ran.told j.settings j.events (moments_of j)
+    first = has_script st p.ran.told p.ran.begins.0 p.status j p.enough_memory p.ran.legal p.ran.entries p.alone
 
-    second : HasScript st q.lived.told k.settings k.events (moments_of k)
-    second = has_script st q.lived.told q.status k q.enough_memory q.lived.legal q.lived.entries q.alone
+    second : HasScript st q.ran.told k.settings k.events (moments_of k)
+    second = has_script st q.ran.told q.ran.begins.0 q.status k q.enough_memory q.ran.legal q.ran.entries q.alone
 
     pub outputs_alike : out ≡ other
     outputs_alike =
-        append_cancel_left p.written _ _ (p.lived.written p.no_sink_fault p.enough_memory)
-        ∙ lines_alike st j.settings k.settings p.lived.told q.lived.told p.lived.lost q.lived.lost j.events k.events (moments_of j) (moments_of k) alike
-        p.lived.right q.lived.right asked (sym answered ∙ also_answered) first second
-        ∙ sym (append_cancel_left q.written _ _ (q.lived.written q.no_sink_fault q.enough_memory))
+        append_cancel_left p.written _ _ (p.ran.written p.no_sink_fault p.enough_memory)
+        ∙ lines_alike st j.settings k.settings p.ran.told q.ran.told p.ran.lost q.ran.lost j.events k.events (moments_of j) (moments_of k) alike
+        p.ran.right q.ran.right asked (sym answered ∙ also_answered) first second
+        ∙ sym (append_cancel_left q.written _ _ (q.ran.written q.no_sink_fault q.enough_memory))
 
     pub histories_alike : map bare j.events ≡ map bare k.events
     histories_alike =
-        entries_alike st j.settings k.settings p.lived.told q.lived.told p.lived.lost q.lived.lost j.events k.events (moments_of j) (moments_of k) alike
-        p.lived.right q.lived.right asked (sym answered ∙ also_answered) first second
+        entries_alike st j.settings k.settings p.ran.told q.ran.told p.ran.lost q.ran.lost j.events k.events (moments_of j) (moments_of k) alike
+        p.ran.right q.ran.right asked (sym answered ∙ also_answered) first second

@@ -1,11 +1,10 @@
 -- How a run ends, and what is right then.
-use Rattle.std.proofs.Common.{◌≡◌, ◌≢◌, ◌⊎◌, ⊎_elim, inl, inr, ℕ, ◌<◌, ◌≤◌, Bool, true, false, ◌||◌, List, [], ◌∷◌, ◌++◌, length, take, Option, Some, None, Result, refl, sym, ap, ◌∙◌, subst, append-nil, append_assoc, length-append, true≢false, arith}
+use Rattle.std.proofs.Common.{◌≡◌, ◌≢◌, ◌⊎◌, ⊎_elim, inl, inr, ℕ, ◌<◌, ◌≤◌, Bool, true, false, ◌||◌, List, [], ◌∷◌, ◌++◌, length, take, Option, Some, None, Result, Ok, if◌then◌else◌, min, refl, sym, ap, ◌∙◌, subst, append-nil, append_assoc, length-append, true≢false, arith}
 use Rattle.std.proofs.Math.Seq.{take-append_seam}
 use Rattle.std.proofs.lemmas.List.{length-map}
 use Rattle.std.proofs.KnownBytes.{Appends-nil, Appends-trans, Consumes-nil}
 use Rattle.std.specs.Io.KnownBytes.{Appends}
 use Rattle.book_history.specs.Book.{Closes, Settings as BookSettings}
-use Rattle.book_settle.specs.Passes.{IsUnfinished, no_pass, no_ticket}
 use Rattle.command_read.specs.Readers.{has_ended, count_taken, stopped, asked_of as still_asked, AreKept}
 use Rattle.ls_text.specs.Readings.{TextFault}
 use Rattle.command_read.specs.Asking.{Asked}
@@ -15,17 +14,20 @@ use Rattle.command_read.specs.declared.reader.Reader.{Reader}
 use Rattle.command_read.specs.declared.stop.Stop.{Stop}
 use Rattle.command_read.specs.declared.stop.Stop.TheVariants as stop
 use Rattle.live_options.specs.Words.{OptionsOf}
-use Rattle.live_session.specs.Logs.{Log, LogEvent, LogMoment, moments_after, moments_of}
+use Rattle.live_session.specs.Beside.{settings_in, world_in}
+use Rattle.live_session.specs.Judging.{world_after}
+use Rattle.live_session.specs.Logs.{Log, LogMoment, marks_of, moments_after, moments_of}
 use Rattle.live_session.specs.Replies.{lines, asked_of}
+use Rattle.live_session.specs.CutShort.{IsCutShort}
 use Rattle.live_session.specs.Steps.{Stops, cut_short, lost as lost_lines, undone}
 use Rattle.live_session.specs.Sessions.{limits_of, world}
 use Rattle.live_session.specs.Settings.{Settings}
-use Rattle.live_session.specs.Verdicts.{Told}
-use Rattle.live_session.specs.Worlds.{fresh}
+use Rattle.live_session.specs.Verdicts.{Told, passes_of, settle_verdict}
+use Rattle.live_session.specs.Worlds.{World, fresh}
 use Rattle.live_session.specs.declared.session.Session.{Session}
 use Rattle.livesim.specs.Endings.{status_of}
 use Rattle.livesim.specs.Histories.{EndsFrom, IsLegal}
-use Rattle.livesim.specs.Runs.{HasSettings, Lived, AreSoon, RisesBy, WritesAtLeast, count_broken, end_with_quit}
+use Rattle.livesim.specs.Runs.{HasSettings, IsCut, Lived, AreSoon, RisesBy, WritesAtLeast, count_broken, end_with_quit}
 use Rattle.livesim.specs.Settings.{settings}
 use Rattle.livesim.specs.Turns.{Sources, Shelves, Reads, Carries, RunsOut, in_nothing, in_command, Ends, HasLimits, HasStopped}
 use Rattle.livesim.specs.Writing.{Writes}
@@ -33,11 +35,11 @@ use Rattle.livesim.specs.declared.ending.Ending.{Ending}
 use Rattle.livesim.specs.declared.ending.Ending.TheVariants.{Whole, Failed, TooMuch, NoMemory}
 use Rattle.livesim.proofs.Counts.{rises_perhaps}
 use Rattle.livesim.proofs.Endings.{Finished, IsStatus, AreCut, lived, lived_all, few_taken, many_taken, most_taken, finished_now, finished_then, taken_then}
-use Rattle.livesim.proofs.Histories.{IsHistory, IsRecorded, ended_history, lines_with, moments_behind, moments_ended, nothing_history, unfinished_history}
+use Rattle.livesim.proofs.Histories.{IsHistory, IsRecorded, ended_history, lines_with, moments_behind, moments_ended, nothing_history, stayed_recorded, unfinished_history}
 use Rattle.livesim.proofs.OneTurn.{adds_none}
 use Rattle.livesim.proofs.Quits.{ends_with, few_front, most_front, never_quits}
 use Rattle.livesim.proofs.Soon.{soon_of}
-use Rattle.livesim.proofs.Turns.{Done, turn_told, step, more_done}
+use Rattle.livesim.proofs.Turns.{Done, turn_told, run_with, step, more_done}
 use Rattle.livesim.proofs.Written.{writes_front}
 
 -- a run that took so many bytes
@@ -69,6 +71,26 @@ same_front : (xs ys : List Told) (x y : Told) → xs ++ x ∷ [] ≡ ys ++ y ∷
 same_front xs ys x y is =
     let count : length xs ≡ length ys = omega (arith, ap length is, length-append xs (x ∷ []), length-append ys (y ∷ [])) in
     sym (take-append_seam xs (x ∷ [])) ∙ ap (take (length xs)) is ∙ ap (λ n. take n (ys ++ y ∷ [])) count ∙ take-append_seam ys (y ∷ [])
+
+-- a settle that was cut short is the command that comes next
+settle_cut : (st other : Settings) (w old new : World) (alone : Bool) (command : Asked) (was is : Log) (short : IsCutShort alone other command old new was is)
+    (asked later : List (Result Asked TextFault)) → other ≡ st → old ≡ w → asked ≡ Ok command ∷ later → IsCut st w short.unfinished.count asked
+settle_cut st other w old new alone command was is short asked later same goes next = record {
+  line = short.line;
+  passes = short.passes;
+  later = later;
+  settles = next ∙ ap (λ (c : Asked). Ok c ∷ later) short.settles;
+  behind = new;
+  accepted = subst (λ (x : World). settle_verdict st x short.line short.passes x.design ≡ Ok new) goes
+      (subst (λ (s : Settings). settle_verdict s old short.line short.passes old.design ≡ Ok new) same short.accepted);
+  few = subst (λ (x : World). short.unfinished.count < min (passes_of x short.passes) (length x.grid)) goes short.few;
+}
+
+comes_next : (told still : List (Result Asked TextFault)) (command : Asked) → told ≡ Ok command ∷ [] → is_quit (Ok command) ≡ false
+    → up_to_quit (told ++ still) ≡ Ok command ∷ up_to_quit still
+comes_next told still command is goes =
+    ap (λ (ts : List (Result Asked TextFault)). up_to_quit (ts ++ still)) is
+    ∙ ap (λ (q : Bool). Ok command ∷ (if q then [] else up_to_quit still)) goes
 
 -- a front of a command's lines was written
 module _ (o : OptionsOf) (from mid to : Sources) (shelf mid_shelf shelved : Shelves) (session behind : Session) (old new : Reader) (was now h : Log) (ends : EndsFrom now h) (refused : Bool)
@@ -118,7 +140,7 @@ module _ (o : OptionsOf) (from mid to : Sources) (shelf mid_shelf shelved : Shel
         has_ended new,
         sym done.count,
         lived (settings o) from to shelf shelved written_old written_new done.bytes (has_ended new) (refused || also) all _ [] status (text ++ more) h f s
-            (ended_history (settings o) now h ends all (text ++ more) status done.recorded legal) (inl done.failed)
+            (ended_history (settings o) now h ends all _ (text ++ more) status done.recorded legal) (inl done.failed)
             (λ four five. absurd (never four five))
             (writes_front written_old written_mid written_new text more written w)
             at_least
@@ -129,9 +151,15 @@ module _ (o : OptionsOf) (from mid to : Sources) (shelf mid_shelf shelved : Shel
     (was now h : Log) (ends : EndsFrom now h) (refused : Bool) (told : List Told) (text : List ℕ) (limits : HasLimits session) (written : Appends written_old written_new text)
     (d : Done (settings o) from mid shelf mid_shelf session old was refused false told text) (legal : IsLegal h) where
   -- a book that is as it was
-  as_before : (status : ℕ) → now ≡ was → IsHistory (settings o) told status text h
-  as_before status same =
-      ended_history (settings o) now h ends told text status (subst (λ (j : Log). IsRecorded (settings o) j told text) (sym same) d.recorded) legal
+  as_before : (rest : List (Result Asked TextFault)) (status : ℕ) → now ≡ was → IsHistory (settings o) told rest status text h
+  as_before rest status same =
+      ended_history (settings o) now h ends told rest text status (subst (λ (j : Log). IsRecorded (settings o) j told text) (sym same) d.recorded) legal
+
+  -- no load is reached where the session's room is full
+  none_reached : (ending : Ending) (e : Ends mid to mid_shelf shelved old new session behind was now ending)
+      → (settings o).room ≤ (world_after (settings o) told fresh).charge → e.lost ≡ []
+  none_reached ending e room =
+      e.full (marks_of was) (omega (arith, room, ap (λ (s : Settings). s.room) (limits o), ap (λ (w : World). w.charge) d.goes))
 
   -- all that came is kept, and no byte is above the limit
   all_kept : (came kept : List ℕ) → came ≡ kept → length (d.bytes ++ came) ≡ count_taken new → is_too_much (stopped new) ≡ false
@@ -173,8 +201,8 @@ module _ (o : OptionsOf) (from mid to : Sources) (shelf mid_shelf shelved : Shel
         has_ended new,
         taken,
         lived_all (settings o) from to shelf shelved written_old written_new bytes (has_ended new) refused told rest e.lost status text h
-            (finished_then (settings o) from mid to shelf mid_shelf shelved session behind old new was now refused told text Whole d e []
-            (all_kept e.reads.came e.reads.kept (e.reads.takes.whole ended) taken going)) s (as_before status halt.same)
+            (finished_then (settings o) from mid to shelf mid_shelf shelved session behind old new was now refused told text Whole d e (none_reached Whole e) []
+            (all_kept e.reads.came e.reads.kept (e.reads.takes.whole ended) taken going)) s (as_before rest status halt.same)
             (inl (subst (RisesBy (count_broken told) shelf.faults) (sym halt.unfailed) d.failed)) written
             (not_soon bytes status (λ z. omega (arith, z, below))),
       )
@@ -203,8 +231,8 @@ module _ (o : OptionsOf) (from mid to : Sources) (shelf mid_shelf shelved : Shel
         has_ended new,
         taken,
         lived_all (settings o) from to shelf shelved written_old written_new bytes (has_ended new) refused told rest e.lost status text h
-            (finished_then (settings o) from mid to shelf mid_shelf shelved session behind old new was now refused told text Failed d e [] (all_kept e.reads.came e.reads.kept same taken going)) s
-            (as_before status halt.same)
+            (finished_then (settings o) from mid to shelf mid_shelf shelved session behind old new was now refused told text Failed d e (none_reached Failed e) [] (all_kept e.reads.came e.reads.kept same taken going)) s
+            (as_before rest status halt.same)
             (inl (subst (RisesBy (count_broken told) shelf.faults) (sym halt.unfailed) d.failed)) written
             (not_soon bytes status (λ z. omega (arith, z, is))),
       )
@@ -239,14 +267,15 @@ module _ (o : OptionsOf) (from mid to : Sources) (shelf mid_shelf shelved : Shel
         has_ended new,
         taken,
         lived_all (settings o) from to shelf shelved written_old written_new bytes (has_ended new) refused told rest e.lost status text h
-            (finished_then (settings o) from mid to shelf mid_shelf shelved session behind old new was now refused told text TooMuch d e [] cut) s (as_before status halt.same)
+            (finished_then (settings o) from mid to shelf mid_shelf shelved session behind old new was now refused told text TooMuch d e (none_reached TooMuch e) [] cut) s (as_before rest status halt.same)
             (inl (subst (RisesBy (count_broken told) shelf.faults) (sym halt.unfailed) d.failed)) written
             (not_soon bytes status (λ z. omega (arith, z, is))),
       )
 
   -- memory ran out, with these bytes behind those that are kept, and this history
   over_want : (e : Ends mid to mid_shelf shelved old new session behind was now NoMemory) (status : ℕ) → status ≡ 5 → is_too_much (stopped new) ≡ false → (lost : List ℕ)
-      → e.reads.came ≡ e.reads.kept ++ lost → IsHistory (settings o) told status text h
+      → e.reads.came ≡ e.reads.kept ++ lost
+      → IsHistory (settings o) told (up_to_quit (e.told ++ still_asked new lost (has_ended new))) status text h
       → IsLived (settings o) from to shelf shelved written_old written_new (count_taken new) status h
   over_want e status is going lost came so =
       let taken = taken_then (settings o) from mid to shelf mid_shelf shelved session behind old new was now refused told text NoMemory d e in
@@ -270,7 +299,7 @@ module _ (o : OptionsOf) (from mid to : Sources) (shelf mid_shelf shelved : Shel
         has_ended new,
         taken,
         lived_all (settings o) from to shelf shelved written_old written_new bytes (has_ended new) refused told rest e.lost status text h
-            (finished_then (settings o) from mid to shelf mid_shelf shelved session behind old new was now refused told text NoMemory d e lost cut) s so
+            (finished_then (settings o) from mid to shelf mid_shelf shelved session behind old new was now refused told text NoMemory d e (none_reached NoMemory e) lost cut) s so
             (rises_perhaps (count_broken told) shelf.faults mid_shelf.faults shelved.faults status is d.failed e.cause) written
             (not_soon bytes status (λ z. omega (arith, z, is))),
       )
@@ -293,11 +322,16 @@ module _ (o : OptionsOf) (from mid to : Sources) (shelf mid_shelf shelved : Shel
           → IsLived (settings o) from to shelf shelved written_old written_new (count_taken new) status h
       in_a_command alone asked at going read_in same limited (undone stayed world_is) =
           over_want e status is (ap is_too_much going) [] (holds_by None going ∙ sym (append-nil e.reads.kept))
-          (unfinished_history (settings o) was now h ends told text status stayed.added is d.recorded stayed.settings stayed.events
-          (subst IsUnfinished (sym stayed.none_own) (record { passes = []; count = 0; last = []; split = refl; are = no_pass; gave_up = no_ticket })) legal)
+          (ended_history (settings o) now h ends told _ text status
+          (stayed_recorded (settings o) was now told text stayed.added stayed.settings stayed.events stayed.none_own d.recorded) legal)
       in_a_command alone asked at going read_in same limited (cut_short command is_command short) =
           over_want e status is (ap is_too_much going) [] (holds_by None going ∙ sym (append-nil e.reads.kept))
-          (unfinished_history (settings o) was now h ends told text status short.added is d.recorded short.settings short.events short.unfinished legal)
+          (unfinished_history (settings o) was now h ends told _ text status short.added is d.recorded short.settings short.events short.unfinished
+          (settle_cut (settings o) (settings_in read_in was) (world_after (settings o) told fresh) (world_in read_in was) (world_in behind now) alone command
+          was now short _ (up_to_quit (still_asked new [] (has_ended new))) (run_with o session read_in was limits limited d.recorded.has)
+          (same (marks_of was) ∙ d.goes) (comes_next e.told (still_asked new [] (has_ended new)) command (at ∙ ap (λ (x : Result Asked TextFault). x ∷ []) is_command)
+          (ap (λ (c : Asked). is_quit (Ok c)) short.settles)))
+          legal)
       in_a_command alone asked at going read_in same limited (lost_lines more also steps) =
           let reads : Reads mid to old new (asked ∷ []) = subst (λ (ts : List (Result Asked TextFault)). Reads mid to old new ts) at e.reads in
           let a : Carries mid to mid_shelf shelved old new session behind was now more also
@@ -307,10 +341,10 @@ module _ (o : OptionsOf) (from mid to : Sources) (shelf mid_shelf shelved : Shel
 
       by : RunsOut mid_shelf shelved new session behind was now e.told → IsLived (settings o) from to shelf shelved written_old written_new (count_taken new) status h
       by (in_nothing (inl going) same) =
-          over_want e status is (ap is_too_much going) [] (holds_by None going ∙ sym (append-nil e.reads.kept)) (as_before status same)
+          over_want e status is (ap is_too_much going) [] (holds_by None going ∙ sym (append-nil e.reads.kept)) (as_before _ status same)
       by (in_nothing (inr stops) same) =
           let kept = holds_by (Some stop.NoMemory) stops in
-          over_want e status is (ap is_too_much stops) kept.0 kept.1 (as_before status same)
+          over_want e status is (ap is_too_much stops) kept.0 kept.1 (as_before _ status same)
       by (in_command alone asked at going read_in same limited stops) = in_a_command alone asked at going read_in same limited stops
 
 -- the script quit
@@ -335,7 +369,7 @@ quit_lived st from to shelf shelved old new session r j refused true told text w
       has_ended r,
       sym d.count,
       lived_all st from to shelf shelved old new d.bytes (has_ended r) refused told [] [] status text h f s
-          (ended_history st j h ends told text status d.recorded legal) (inl d.failed) written
+          (ended_history st j h ends told [] text status d.recorded legal) (inl d.failed) written
           (λ which. soon_of told d.bytes d.soon (omega (arith, sym (length-map told (λ (t : Told). t.asked)), ap length d.ends.2, length-append d.ends.0 (d.ends.1 ∷ [])))),
     )
 
@@ -352,6 +386,7 @@ nothing_lived st from shelf old h blank =
       answered = adds_none shelf.answers;
       first = tt;
       judged = refl;
+      full = λ room. refl;
     } in
     let s : IsStatus [] false false (commands [] false) [] 5 = record {
       none_left = λ four five. absurd (five refl);
@@ -365,7 +400,7 @@ nothing_lived st from shelf old h blank =
       [],
       false,
       refl,
-      lived_all st from from shelf shelf old old [] false false [] (commands [] false) [] 5 [] h f s (nothing_history st h blank) (inl refl) (Appends-nil old)
+      lived_all st from from shelf shelf old old [] false false [] (commands [] false) [] 5 [] h f s (nothing_history st _ h blank) (inl refl) (Appends-nil old)
           (λ which. absurd (⊎_elim (λ z. omega (arith, z)) (λ z. true≢false (sym z)) which)),
     )
 

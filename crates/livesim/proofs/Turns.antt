@@ -79,7 +79,7 @@ adds_more (Some xs) (Some ys) None front more first second = absurd second
 adds_more (Some xs) (Some ys) (Some zs) front more first second = second ∙ ap (λ y. y ++ more) first ∙ append_assoc xs front more
 
 -- what a session is run with beside a book of these options
-run_with : (o : OptionsOf) (session read_in : Session) (j : Log) → HasLimits session → limits_of read_in ≡ limits_of session → HasSettings (settings o) j
+pub run_with : (o : OptionsOf) (session read_in : Session) (j : Log) → HasLimits session → limits_of read_in ≡ limits_of session → HasSettings (settings o) j
     → settings_in read_in j ≡ settings o
 run_with o session read_in j limits same has =
     ap (λ (n : ℕ). settings_of n j.settings.lookback (limits_of read_in)) has.0 ∙ ap (λ (n : ℕ). settings_of o.interval n (limits_of read_in)) has.1

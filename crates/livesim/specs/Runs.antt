@@ -7,7 +7,7 @@ use Rattle.std.specs.Io.KnownBytes.{Consumes, Appends, IsAtEnd}
 use Rattle.ls_text.specs.Readings.{TextFault}
 use Rattle.ls_port.specs.declared.shelf_answer.ShelfAnswer.{ShelfAnswer}
 use Rattle.wave_report.specs.Replies.{show_text}
-use Rattle.command_read.specs.Asking.{Asked, Shows, LoadedFile}
+use Rattle.command_read.specs.Asking.{Asked, Settles, Shows, LoadedFile}
 use Rattle.command_read.specs.Runs.{Continues}
 use Rattle.command_read.specs.Scripts.{asks, commands, is_quit}
 use Rattle.live_session.specs.Judging.{after, world_after, any_refused}
@@ -23,7 +23,7 @@ use Rattle.live_session.specs.Shown.{answer_of}
 use Rattle.live_session.specs.Tables.{table_lines, true_registers}
 use Rattle.live_session.specs.Settings.{Settings}
 use Rattle.live_session.specs.Spelled.{Spelled}
-use Rattle.live_session.specs.Verdicts.{Told}
+use Rattle.live_session.specs.Verdicts.{Told, passes_of, settle_verdict}
 use Rattle.live_session.specs.Worlds.{World, fresh, cycle}
 use Rattle.livesim.specs.Histories.{IsLegal}
 use Rattle.livesim.specs.Writing.{Writes}
@@ -80,22 +80,31 @@ abbrev pub HasSettings : Settings → Log → Type 0
 HasSettings st j =
     (j.settings.interval ≡ st.interval) × (j.settings.lookback ≡ st.lookback) × (j.settings.rooms.session ≡ st.room) × (j.settings.rooms.workers ≡ 3145728)
 
--- The session's own entries are those of these commands, with the book at each, and then the close. Where memory ran out, the first passes of a settle
--- may stand before it, which didn't come to its show; or there is no entry, and then nothing was told.
-pub data HasEntries (st : Settings) (told : List Told) (status : ℕ) (own : List LogEvent) (moments : List LogMoment) : Type 0 where
-  all_entries : (entries : List LogEvent) → own ≡ entries ++ Closes ∷ [] → IsScript st told fresh entries moments
-      → HasEntries st told status own moments
-  unfinished_settle : (entries passes : List LogEvent) → status ≡ 5 → own ≡ entries ++ (passes ++ Closes ∷ [])
-      → IsScript st told fresh entries moments → IsUnfinished passes → HasEntries st told status own moments
-  no_entries : status ≡ 5 → own ≡ [] → told ≡ [] → HasEntries st told status own moments
+-- The next of these commands is a settle, which is accepted in that world; and it has more passes to make than so many.
+pub record IsCut (st : Settings) (w : World) (made : ℕ) (asked : List (Result Asked TextFault)) : Type 0 where
+  pub line : ℕ
+  pub passes : Option ℕ
+  pub later : List (Result Asked TextFault)
+  pub settles : asked ≡ Ok (Settles line passes) ∷ later
+  pub behind : World
+  pub accepted : settle_verdict st w line passes w.design ≡ Ok behind
+  pub few : made < min (passes_of w passes) (length w.grid)
 
--- These bytes were taken, and the input ended with them or not. The lines of their commands were written, but at 4 and 5 perhaps only a front
--- of these; and this is the history of the book.
-pub record Lived (st : Settings) (left_old left_new written_old written_new : Option (List ℕ)) (answers_old answers_new : Option (List ShelfAnswer))
+-- The session's own entries are those of these commands, with the book at each, and then the close. Where memory ran out in a settle behind them, the
+-- first passes of this may stand before the close, without its show; or there is no entry, and then nothing was told.
+pub data HasEntries (st : Settings) (told : List Told) (rest : List (Result Asked TextFault)) (status : ℕ) (own : List LogEvent)
+    (moments : List LogMoment) : Type 0 where
+  all_entries : (entries : List LogEvent) → own ≡ entries ++ Closes ∷ [] → IsScript st told fresh entries moments
+      → HasEntries st told rest status own moments
+  unfinished_settle : (entries passes : List LogEvent) → status ≡ 5 → own ≡ entries ++ (passes ++ Closes ∷ [])
+      → IsScript st told fresh entries moments → (unfinished : IsUnfinished passes) → IsCut st (world_after st told fresh) unfinished.count rest
+      → HasEntries st told rest status own moments
+  no_entries : status ≡ 5 → own ≡ [] → told ≡ [] → HasEntries st told rest status own moments
+
+-- The script of these bytes was carried out, and the input ends with them or not. The lines of its commands were written, but at 4 and 5 perhaps only a
+-- front of these; and this is the history of the book.
+pub record HasRun (st : Settings) (written_old written_new : Option (List ℕ)) (answers_old answers_new : Option (List ShelfAnswer))
     (faults_old faults_new : ℕ) (bytes : List ℕ) (ended : Bool) (status : ℕ) (history : Log) : Type 0 where
-  -- what the source had left is the bytes taken, and then what it has left now
-  pub consumed : Consumes left_old left_new bytes
-  pub at_end : ended ≡ true → IsAtEnd left_new
   -- commands from the first on, each with what the shelf answered and its files come to
   pub told : List Told
   pub right : AreRight st fresh told
@@ -109,11 +118,13 @@ pub record Lived (st : Settings) (left_old left_new written_old written_new : Op
   pub judged : (status ≡ 0) ⊎ (status ≡ 1) → status ≡ (if any_refused st told fresh then 1 else 0)
   -- at 3 and 6 it wasn't
   pub cut : (status ≡ 3) ⊎ (status ≡ 6) → ended ≡ false
-  -- what the shelf answered: to each load that is reached, in their order; where memory ran out also to the first loads of the next command
+  -- what the shelf answered: to each load that is reached, in their order; where memory ran out also to the first loads of the next command, but to none
+  -- where the session's room is full, since none is reached then
   pub lost : List ShelfAnswer
   pub answered : AddsAnswers answers_old answers_new (answers_of told ++ lost)
   pub none_lost : status ≢ 5 → lost ≡ []
   pub lost_first : AreToFirst (loads_first begins.0) lost
+  pub none_reached : st.room ≤ (world_after st told fresh).charge → lost ≡ []
   -- its count has risen by as many as there are commands at which it failed; where memory ran out perhaps by one more
   pub failed : RisesBy (count_broken told) faults_old faults_new ⊎ ((status ≡ 5) × RisesBy (count_broken told + 1) faults_old faults_new)
   -- what was written: the lines of these commands at their places in the history; at 4 and 5 a front of them, with at least those of all but the last command
@@ -127,7 +138,7 @@ pub record Lived (st : Settings) (left_old left_new written_old written_new : Op
   -- settled
   pub legal : IsLegal history
   -- at the place of each command's own entry the book has the version, the design, the record and the marks of the world
-  pub entries : HasEntries st told status (owned history.events) (moments_of history)
+  pub entries : HasEntries st told begins.0 status (owned history.events) (moments_of history)
   -- a display whose entry says that all is settled tells the truth of the world's design on its record
   pub settled : (before rest : List Told) (line : ℕ) (prefix : List ℕ) (t : Told) (design : Spelled) (m : LogMoment) (ms : List LogMoment)
       → before ++ t ∷ rest ≡ told → t.asked ≡ Ok (Shows line prefix) → (world_after st before fresh).design ≡ Some design
@@ -138,8 +149,16 @@ pub record Lived (st : Settings) (left_old left_new written_old written_new : Op
   -- 6 comes exactly where too much was taken
   pub too_much : status ≡ 6 → 67108864 < length bytes
   pub not_too_much : 67108864 < length bytes → status ≡ 6
+
+-- These bytes were taken, and the input ended with them or not; and their script was carried out.
+pub record Lived (st : Settings) (left_old left_new written_old written_new : Option (List ℕ)) (answers_old answers_new : Option (List ShelfAnswer))
+    (faults_old faults_new : ℕ) (bytes : List ℕ) (ended : Bool) (status : ℕ) (history : Log) : Type 0 where
+  -- what the source had left is the bytes taken, and then what it has left now
+  pub consumed : Consumes left_old left_new bytes
+  pub at_end : ended ≡ true → IsAtEnd left_new
+  pub ran : HasRun st written_old written_new answers_old answers_new faults_old faults_new bytes ended status history
   -- at 4, and where the script quit: once the last command that is told was complete, nothing more was read
-  pub soon : (status ≡ 4) ⊎ (end_with_quit (asked_of told) ≡ true) → AreSoon (length told) bytes
+  pub soon : (status ≡ 4) ⊎ (end_with_quit (asked_of ran.told) ≡ true) → AreSoon (length ran.told) bytes
 
 -- at status 0, 1 or 5, where nothing outside failed and the script isn't too long
 abbrev pub IsComplete : ℕ → Type 0

@@ -1,5 +1,5 @@
 -- What one turn of a run does: it reads a command and carries it out, or the run ends.
-use Rattle.std.specs.Prelude.{◌≡◌, ◌⊎◌, ◌<◌, ℕ, Bool, true, List, [], ◌∷◌, Result, Ok, Err}
+use Rattle.std.specs.Prelude.{◌≡◌, ◌⊎◌, ◌<◌, ◌≤◌, ℕ, Bool, true, List, [], ◌∷◌, Result, Ok, Err}
 use Rattle.std.specs.declared.option.Option.{Option}
 use Rattle.std.specs.declared.option.Option.TheVariants.{Some, None}
 use Rattle.ls_text.specs.Readings.{TextFault}
@@ -109,6 +109,8 @@ pub record Ends (from to : Sources) (shelf shelved : Shelves) (old new : Reader)
   pub first : AreToFirst (loads_first told) lost
   pub cause : (shelved.faults ≡ shelf.faults) ⊎ Rose shelf.faults shelved.faults
   pub over : IsOver ending shelf shelved session behind was is new told lost
+  -- by none where the session's room is full
+  pub full : (grid : List ℕ) → (limits_of session).rooms.session ≤ (world session grid).charge → lost ≡ []
 
 -- a reply, or the end for want of memory
 abbrev pub turn_of : {E : Type 0} → Result Reply E → Turn

@@ -8,9 +8,10 @@ ghost use Rattle.livesim.specs.Outputs.{WritesAll};
 
 use live_session::{commands_have_one_output, histories_have_one_output};
 
-/// Two runs without a worker's entry, under the same options, that took the same bytes, ended or not, and were given the same answers by their shelves have written the same,
-/// where neither the sink nor want of memory stopped them: estimates and the answers to settles too. And their histories have the same entries, without
-/// the designs, the rows and the operations of these, which hold numbers of names; the commands fix those by their texts.
+/// Two runs without a worker's entry, under the same options, over the script of the same bytes, which were taken or made, ended or not, that were given the
+/// same answers by their shelves have written the same, where neither the sink nor want of memory stopped them: estimates and the answers to settles too.
+/// And their histories have the same entries, without the designs, the rows and the operations of these, which hold numbers of names; the commands fix
+/// those by their texts.
 #[tactic(none)]
 pub fn runs_have_one_output()
     ensures outputs { (st : Settings) (bytes : List ℕ) (ended : Bool) (given : List ShelfAnswer) (out other : List ℕ) (j k : Log)

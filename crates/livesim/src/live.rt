@@ -7,9 +7,10 @@ ghost use Rattle.book_turn.specs.Passes.{IsOf, known};
 ghost use Rattle.book_turn.specs.Rule.{Learned};
 ghost use Rattle.book_turn.specs.Turns.{GoesOn};
 ghost use Rattle.segment_verify.specs.Workers.{IsFree};
+ghost use Rattle.load_maker.specs.Scripts.{script_of};
 ghost use Rattle.livesim.specs.Histories.{IsLegal};
 ghost use Rattle.livesim.specs.Lent.{IsAtWork};
-ghost use Rattle.livesim.specs.Runs.{IsComplete, Lived};
+ghost use Rattle.livesim.specs.Runs.{HasRun, IsComplete, Lived};
 ghost use Rattle.livesim.specs.Settings.{settings};
 ghost use Rattle.livesim.specs.Turns.{shelf_at, source_at};
 ghost use Rattle.livesim.specs.Working.{IsReadyAt, Works, sink_at};
@@ -26,7 +27,8 @@ use cycle_eval::Design;
 use live_options::laws::options_are_within;
 use live_options::{Options, read_options};
 use live_session::{Limits, Session};
-use ls_port::{Gate, Shelf, Sink, Source};
+use load_maker::make;
+use ls_port::{Gate, Shelf, Sink, SolidSource, Source};
 use ls_text::NoMemory;
 use std::alloc::Global;
 use std::sync::Wait;
@@ -161,12 +163,46 @@ fn run<R: Threads + Wait + Sync, S: Source, K: Sink, F: Shelf, G: Gate>(
     }
 }
 
+// What such words ask for, over the script of so many stages, which is made and read in place of a source.
+fn run_made<R: Threads + Wait + Sync, K: Sink, F: Shelf, G: Gate>(
+    rt: &R,
+    alloc: Global,
+    options: Options,
+    stages: u32,
+    sink: &mut K,
+    shelf: &mut F,
+    gate: &G,
+) -> Outcome
+    requires interval { 1 ≤ options.interval }
+    requires some { 1 ≤ stages }
+    requires few { stages ≤ 4096 }
+    ensures made { HasRun (settings (options_of options)) (K.written sink.old) (K.written sink.new) (F.answers shelf.old) (F.answers shelf.new)
+        (F.faults shelf.old) (F.faults shelf.new) (script_of stages) true result.status result.history }
+    ensures taken { result.taken ≡ 0 }
+    ensures alone { options.workers ≡ 0 → AllOwned true result.history.events }
+    ensures write_fault { result.status ≡ 4 → Rose (K.faults sink.old) (K.faults sink.new) }
+    ensures known { result.status ≤ 6 }
+    ensures words { result.status ≢ 2 }
+    ensures no_read_fault { result.status ≢ 3 }
+    ensures short { result.status ≢ 6 }
+    ensures sink_once { (K.faults sink.new ≡ K.faults sink.old) ⊎ Rose (K.faults sink.old) (K.faults sink.new) }
+    ensures sink_kept { result.status ≢ 4 → K.faults sink.new ≡ K.faults sink.old }
+{
+    let Ok(script) = make(alloc, stages) else {
+        return stopped(alloc, 5, options.interval, options.lookback);
+    };
+    let mut source = SolidSource::new(script);
+    let mut ran = run(rt, alloc, options, &mut source, sink, shelf, gate);
+    ran.taken = 0;
+    ran
+}
+
 /// Reads a script, carries out its commands and writes their lines, while workers verify older stretches of the book; the gate is asked before each
 /// verification and each install. The book is closed and the workers are joined at the end, whatever ended the run, and the history is handed back.
 ///
 /// The words are those of the command line, the program's name first. A command is carried out and its lines are written as soon as its last line is
 /// read, before more is read. It ends at the end of the input, at `quit`, at a fault of the source or the sink, for want of memory, or one byte
-/// above 67,108,864.
+/// above 67,108,864. Where the words ask for a load, the script of so many stages is made and carried out in place of the source, which isn't read.
 pub fn live_run<R: Threads + Wait + Sync, S: Source, K: Sink, F: Shelf, G: Gate>(
     rt: &R,
     alloc: Global,
@@ -184,11 +220,17 @@ pub fn live_run<R: Threads + Wait + Sync, S: Source, K: Sink, F: Shelf, G: Gate>
         → (result.taken ≡ 0) × (source.new ≡ source.old) × (sink.new ≡ sink.old) × (shelf.new ≡ shelf.old)
         × (result.history.events ≡ []) }
 
-    // Where they ask for options: the bytes taken, what was asked of the shelf, the lines written, and what the status says of them.
-    ensures lived { (o : OptionsOf) → options (map string_bytes words.now) ≡ Some o
+    // Where they ask for options and no load: the bytes taken, what was asked of the shelf, the lines written, and what the status says of them.
+    ensures lived { (o : OptionsOf) → options (map string_bytes words.now) ≡ Some o → o.load ≡ None
         → (bytes : List ℕ) × (ended : Bool) × (length bytes ≡ result.taken)
         × Lived (settings o) (S.left source.old) (S.left source.new) (K.written sink.old) (K.written sink.new)
         (F.answers shelf.old) (F.answers shelf.new) (F.faults shelf.old) (F.faults shelf.new) bytes ended result.status result.history }
+
+    // Where they ask for a load: the same of the whole script of so many stages. The source is as it was, and nothing was taken.
+    ensures made { (o : OptionsOf) (stages : ℕ) → options (map string_bytes words.now) ≡ Some o → o.load ≡ Some stages
+        → (result.taken ≡ 0) × (source.new ≡ source.old)
+        × HasRun (settings o) (K.written sink.old) (K.written sink.new) (F.answers shelf.old) (F.answers shelf.new)
+        (F.faults shelf.old) (F.faults shelf.new) (script_of stages) true result.status result.history }
 
     // Without workers no entry is a worker's.
     ensures alone { (o : OptionsOf) → options (map string_bytes words.now) ≡ Some o → o.workers ≡ 0 → AllOwned true result.history.events }
@@ -215,6 +257,9 @@ pub fn live_run<R: Threads + Wait + Sync, S: Source, K: Sink, F: Shelf, G: Gate>
     match read_options(alloc, words) {
         Err(NoMemory) => stopped(alloc, 5, INTERVAL, LOOKBACK),
         Ok(None) => stopped(alloc, 2, INTERVAL, LOOKBACK),
-        Ok(Some(options)) => run(rt, alloc, options, source, sink, shelf, gate),
+        Ok(Some(options)) => match options.load {
+            None => run(rt, alloc, options, source, sink, shelf, gate),
+            Some(stages) => run_made(rt, alloc, options, stages, sink, shelf, gate),
+        },
     }
 }

@@ -10,20 +10,21 @@ use machine::row_runs::RowRuns;
 use machine::steps::Steps;
 use no_memory::NoMemory;
 use row_tables::push_hex;
+use state_layout::SlotState;
 use std::alloc::Global;
 use std::marker::Brand;
 use std::sync::Arc;
 use std::sync::ledger::{Blank, Ledger};
 use stimulus::Row;
-use typed_ir::{RegState, RegisterId};
+use typed_ir::RegisterId;
 
 /// The values of a state, in hexadecimal, with spaces between them.
-pub fn push_state(out: &mut Vec<u8>, state: &RegState) -> Result<(), NoMemory> {
+pub fn push_state(out: &mut Vec<u8>, state: &SlotState) -> Result<(), NoMemory> {
     for i in 0..state.len() {
         if i > 0 {
             out.push(b' ')?;
         }
-        push_hex(out, state.get(RegisterId(i)).value(), 0)?;
+        push_hex(out, state.read(RegisterId(i)).value(), 0)?;
     }
     Ok(())
 }
@@ -47,7 +48,7 @@ fn state_after<L: Ledger>(
     design: &Design,
     cycles: u64,
     blank: Blank,
-) -> Result<RegState, NoMemory>
+) -> Result<SlotState, NoMemory>
     requires name { blank.name ≡ L.name }
     requires parts { blank.parts ≡ L.parts }
     requires some { 0 < blank.parts }
@@ -59,7 +60,7 @@ fn state_after<L: Ledger>(
 }
 
 // The same with a counter of its own.
-fn after(alloc: Global, design: &Design, cycles: u64) -> Result<RegState, NoMemory> {
+fn after(alloc: Global, design: &Design, cycles: u64) -> Result<SlotState, NoMemory> {
     state_after::<Brand>(alloc, design, cycles, Blank::new(1))
 }
 

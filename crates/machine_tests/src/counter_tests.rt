@@ -10,14 +10,15 @@ use machine::Machine;
 use machine::steps::Steps;
 use no_memory::NoMemory;
 use reg_ops::RegOps;
+use state_layout::SlotState;
 use std::alloc::Global;
 use std::marker::Brand;
 use std::sync::ledger::{Blank, Ledger};
 use std::test::Fail;
 use stimulus::Row;
 use typed_ir::{
-    ArithmeticOperator, BinaryOperator, Flat, InstanceId, InstanceTable, Lane, Linked, RegState,
-    RegisterId, Signal, SignalId, Span, Stmt, Target, Typed,
+    ArithmeticOperator, BinaryOperator, Flat, InstanceId, InstanceTable, Lane, Linked, RegisterId,
+    Signal, SignalId, Span, Stmt, Target, Typed,
 };
 
 // reg [3:0] q = 14; always @(posedge clk) q <= q + 4'd3;
@@ -67,11 +68,11 @@ fn counter(alloc: Global) -> Result<Linked, NoMemory> {
     })
 }
 
-fn first(state: &RegState) -> u128 {
+fn first(state: &SlotState) -> u128 {
     if state.is_empty() {
         return 99;
     }
-    state.get(RegisterId(0)).value
+    state.read(RegisterId(0)).value
 }
 
 // After three rows; the beginning carried into the same design; and whether two resets are the same.

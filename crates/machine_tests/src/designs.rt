@@ -16,14 +16,15 @@ use machine::row_run::RowRun;
 use machine::row_runs::RowRuns;
 use machine::steps::Steps;
 use no_memory::NoMemory;
+use state_layout::SlotState;
 use std::alloc::Global;
 use std::process::Abort;
 use std::sync::Arc;
 use std::sync::ledger::Ledger;
 use stimulus::Row;
 use typed_ir::{
-    ArithmeticOperator, BinaryOperator, InstanceId, InstanceTable, Lane, Node, RegState,
-    RegisterId, Signal, SignalId, Span, Stmt, Target, TargetForm, Typed,
+    ArithmeticOperator, BinaryOperator, InstanceId, InstanceTable, Lane, Node, RegisterId, Signal,
+    SignalId, Span, Stmt, Target, TargetForm, Typed,
 };
 
 // The table of one instance.
@@ -78,10 +79,10 @@ pub fn design_with(rt: &impl Abort, alloc: Global, parts: Parts) -> Result<Desig
 }
 
 // The numbers of a state.
-pub fn values_of(alloc: Global, state: &RegState) -> Result<Vec<u128>, NoMemory> {
+pub fn values_of(alloc: Global, state: &SlotState) -> Result<Vec<u128>, NoMemory> {
     let mut values = Vec::new(alloc);
     for i in 0..state.len() {
-        values.push(state.get(RegisterId(i)).value())?;
+        values.push(state.read(RegisterId(i)).value())?;
     }
     Ok(values)
 }
@@ -105,7 +106,7 @@ pub fn state_after<L: Ledger>(
     design: &Design,
     cycles: u64,
     steps: &mut Steps<L>,
-) -> Result<RegState, NoMemory>
+) -> Result<SlotState, NoMemory>
     ensures { IfOk result (λ _. steps.new ≡ steps.old + cycles * work_of design.now) }
 {
     let rows = rows(alloc, cycles)?;

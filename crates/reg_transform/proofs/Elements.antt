@@ -1,5 +1,5 @@
 -- Registers one by one, and what their signals have.
-use Rattle.std.proofs.Common.{◌≡◌, ℕ, zero, suc, ◌+◌, ◌<◌, nat_lt, List, [], ◌∷◌, length, map, get_or, drop, IsTrue, sym, ◌∙◌, ap, subst, arith}
+use Rattle.std.proofs.Common.{◌≡◌, ℕ, zero, suc, ◌+◌, ◌<◌, nat_lt, List, [], ◌∷◌, length, map, get_or, drop, IsTrue, refl, sym, ◌∙◌, ap, ap₂, subst, arith}
 use Rattle.std.specs.Prelude.{slice_get, slice_index, Some}
 use Rattle.std.proofs.lemmas.Bool.{ltb-true}
 use Rattle.std.proofs.lemmas.Option.{same_Some, none-some}
@@ -7,8 +7,9 @@ use Rattle.typed_ir.specs.declared.signal.Signal.{Signal}
 use Rattle.typed_ir.specs.Flats.{are_below, are_within}
 use Rattle.typed_ir.specs.Orders.{at_or}
 use Rattle.typed_ir.proofs.Cases.{and_left, and_right}
+use Rattle.state_layout.specs.Words.{width_in}
 use Rattle.reg_transform.specs.Regs.{register_of, register_at}
-use Rattle.reg_transform.specs.Registers.{Register}
+use Rattle.reg_transform.specs.Registers.{Register, widths_of}
 use Rattle.reg_transform.specs.Numbers.{number_at}
 
 -- each register is there
@@ -38,6 +39,16 @@ pub register_read : {T : Type 0} (f : Signal → T) (d : T) (signals : List Sign
 register_read f d signals [] i r x h e there is = absurd (omega (arith, h))
 register_read f d signals (q ∷ qs) zero r x h e there is = ap Some (ap (at_or f d signals) (sym e) ∙ signal_read f d signals r x there is)
 register_read f d signals (q ∷ qs) (suc i) r x h e there is = register_read f d signals qs i r x (omega (arith, h)) e there is
+
+-- the width of a register's signal is that of the register
+one_width : (paths : List (List ℕ)) (signals : List Signal) (r : ℕ) → width_in signals r ≡ (register_at paths signals r).width
+one_width paths [] r = refl
+one_width paths (x ∷ xs) zero = refl
+one_width paths (x ∷ xs) (suc r) = one_width paths xs r
+
+pub widths_are : (paths : List (List ℕ)) (signals : List Signal) (rs : List ℕ) → map (width_in signals) rs ≡ widths_of (map (register_at paths signals) rs)
+widths_are paths signals [] = refl
+widths_are paths signals (r ∷ rs) = ap₂ (λ (w : ℕ) (ws : List ℕ). w ∷ ws) (one_width paths signals r) (widths_are paths signals rs)
 
 -- what is so of each signal is so of the one of a number
 pub at_signal : (P : ℕ → Register → Type 0) (numbers : List ℕ) (paths : List (List ℕ)) (signals : List Signal) (s count : ℕ)

@@ -1,10 +1,10 @@
 -- Old values by keys, and what new registers take of them.
-use Rattle.std.proofs.Common.{◌≡◌, ℕ, ◌+◌, ◌%◌, ◌^◌, ◌<◌, nat_lt, Bool, ◌&&◌, ◌==◌, cond, List, [], ◌∷◌, ◌++◌, length, map, drop, IsTrue, append_assoc, refl, sym, ◌∙◌, ap, ap₂}
+use Rattle.std.proofs.Common.{◌≡◌, ℕ, ◌+◌, ◌%◌, ◌^◌, ◌<◌, ◌≤◌, zero, suc, nat_lt, Bool, ◌&&◌, ◌==◌, cond, List, [], ◌∷◌, ◌++◌, length, map, get_or, take, drop, IsTrue, append_assoc, refl, sym, ◌∙◌, ap, ap₂, subst, arith}
 use Rattle.std.specs.Prelude.{slice_get, slice_index, Option, Some}
 use Rattle.std.proofs.Math.Path.{fun_ext}
 use Rattle.std.proofs.lemmas.Bool.{ltb-true}
-use Rattle.std.proofs.lemmas.List.{map_push}
-use Rattle.std.proofs.lemmas.Option.{slice_get-map}
+use Rattle.std.proofs.lemmas.List.{length-map}
+use Rattle.std.proofs.lemmas.Option.{slice_get-map, same_Some, none-some}
 use Rattle.std.specs.Option.{option_map}
 use Rattle.bits.specs.declared.Bits.{Bits}
 use Rattle.reg_ops.specs.declared.reg_op.RegOp.{RegOp}
@@ -13,12 +13,14 @@ use Rattle.typed_ir.specs.declared.signal.Signal.{Signal}
 use Rattle.typed_ir.specs.Flats.{are_below, are_within}
 use Rattle.typed_ir.specs.Paths.{paths_of}
 use Rattle.typed_ir.specs.States.{sized_value}
+use Rattle.typed_ir.specs.Views.{widths}
 use Rattle.typed_ir.proofs.Cases.{and_left, and_right}
+use Rattle.state_layout.specs.Slots.{state_widths}
 use Rattle.reg_transform.specs.Carrying.{created, renamed, first_given, taken, value_of, carried_each}
 use Rattle.reg_transform.specs.Found.{Key}
 use Rattle.reg_transform.specs.Numbers.{number_at, value_by, carried_by}
 use Rattle.reg_transform.specs.PathNumbers.{NumberPaths}
-use Rattle.reg_transform.specs.Registers.{RegisterName, Register, called, is_same, same_path}
+use Rattle.reg_transform.specs.Registers.{RegisterName, Register, called, is_same, same_path, widths_of}
 use Rattle.reg_transform.specs.Regs.{register_of, register_at}
 use Rattle.reg_transform.specs.States.{state_values}
 use Rattle.reg_transform.proofs.Elements.{dropped, at_signal}
@@ -53,19 +55,51 @@ taken_is ops old creates renames m n name r i number is created_is renamed_is =
     ∙ ap₂ (λ (c d : Option ℕ). first_given c d (λ z. old (record { number = n; called = z })) (called r) i) (created_is (called r)) (renamed_is (called r))
 
 -- one more register written
-pub carried_step : (ops : List RegOp) (old : Key → Option ℕ) (ns : List ℕ) (rs : List Register) (is : List ℕ) (j n : ℕ) (r : Register) (i : ℕ) (was now : List Bits) (b : Bits)
-    → slice_get ns j ≡ Some n → slice_get rs j ≡ Some r → slice_get is j ≡ Some i → sized_value b ≡ (r.width, taken_by ops old n r i % 2 ^ r.width) → now ≡ was ++ b ∷ []
-    → map sized_value now ++ carried_by ops old (drop (j + 1) ns) (drop (j + 1) rs) (drop (j + 1) is)
-    ≡ map sized_value was ++ carried_by ops old (drop j ns) (drop j rs) (drop j is)
-carried_step ops old ns rs is j n r i was now b at_n at_r at_i here e =
+pub carried_step : (ops : List RegOp) (old : Key → Option ℕ) (ns : List ℕ) (rs : List Register) (is : List ℕ) (j n : ℕ) (r : Register) (i : ℕ) (was now : List (ℕ × ℕ))
+    → slice_get ns j ≡ Some n → slice_get rs j ≡ Some r → slice_get is j ≡ Some i → now ≡ was ++ (r.width, taken_by ops old n r i % 2 ^ r.width) ∷ []
+    → now ++ carried_by ops old (drop (j + 1) ns) (drop (j + 1) rs) (drop (j + 1) is) ≡ was ++ carried_by ops old (drop j ns) (drop j rs) (drop j is)
+carried_step ops old ns rs is j n r i was now at_n at_r at_i e =
     let rest = carried_by ops old (drop (j + 1) ns) (drop (j + 1) rs) (drop (j + 1) is) in
-    ap (λ zs. map sized_value zs ++ rest) e
-    ∙ ap (λ zs. zs ++ rest) (map_push sized_value was b)
-    ∙ append_assoc (map sized_value was) (sized_value b ∷ []) rest
-    ∙ ap (λ z. map sized_value was ++ z ∷ rest) here
-    ∙ sym (ap (λ zs. map sized_value was ++ zs)
+    ap (λ zs. zs ++ rest) e
+    ∙ append_assoc was ((r.width, taken_by ops old n r i % 2 ^ r.width) ∷ []) rest
+    ∙ sym (ap (λ zs. was ++ zs)
     (ap₂ (λ (ks : List ℕ) (bs : List Register). carried_by ops old ks bs (drop j is)) (dropped ns j n at_n) (dropped rs j r at_r)
     ∙ ap (λ cs. carried_by ops old (n ∷ drop (j + 1) ns) (r ∷ drop (j + 1) rs) cs) (dropped is j i at_i)))
+
+-- ---- widths
+
+-- the width of a register among those of all
+pub width_got : (rs : List Register) (i : ℕ) (r : Register) → slice_get rs i ≡ Some r → get_or (widths_of rs) i 0 ≡ r.width
+width_got [] i r e = absurd (none-some r e)
+width_got (q ∷ qs) zero r e = ap (λ (x : Register). x.width) (same_Some q r e)
+width_got (q ∷ qs) (suc i) r e = width_got qs i r e
+
+-- a state has as many registers as it has widths
+state_long : (s : List (ℕ × ℕ)) (paths : List (List ℕ)) (signals : List Signal) (ids : List ℕ)
+    → state_widths s ≡ widths_of (map (register_at paths signals) ids) → length s ≡ length ids
+state_long s paths signals ids e =
+    sym (length-map s (λ (p : ℕ × ℕ). p.0)) ∙ ap length e ∙ length-map (map (register_at paths signals) ids) (λ (r : Register). r.width)
+    ∙ length-map ids (register_at paths signals)
+
+pub place_there : (s : List (ℕ × ℕ)) (paths : List (List ℕ)) (signals : List Signal) (ids : List ℕ) (i : ℕ)
+    → state_widths s ≡ widths_of (map (register_at paths signals) ids) → i < length ids → i < length s
+place_there s paths signals ids i e h = subst (λ n. i < n) (sym (state_long s paths signals ids e)) h
+
+pub place_past : (s : List (ℕ × ℕ)) (paths : List (List ℕ)) (signals : List Signal) (ids : List ℕ) (i : ℕ)
+    → state_widths s ≡ widths_of (map (register_at paths signals) ids) → length ids ≤ i → length s ≤ i
+place_past s paths signals ids i e h = subst (λ n. n ≤ i) (sym (state_long s paths signals ids e)) h
+
+-- the widths of values are those of their state
+pub widths_same : (items : List Bits) → widths items ≡ state_widths (map sized_value items)
+widths_same [] = refl
+widths_same (b ∷ bs) = ap (λ ws. b.width ∷ ws) (widths_same bs)
+
+-- all of a list is what stands before its end
+pub all_taken : {A : Type 0} (s : List A) (i : ℕ) → length s ≤ i → take i s ≡ s
+all_taken [] zero h = refl
+all_taken [] (suc i) h = refl
+all_taken (p ∷ s) zero h = absurd (omega (arith, h))
+all_taken (p ∷ s) (suc i) h = ap (λ zs. p ∷ zs) (all_taken s i (omega (arith, h)))
 
 -- ---- by keys and by paths
 

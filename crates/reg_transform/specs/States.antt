@@ -7,9 +7,6 @@ paired [] xs = []
 paired (w ∷ ws) [] = []
 paired (w ∷ ws) (x ∷ xs) = (w, x) ∷ paired ws xs
 
-abbrev pub state_widths : List (ℕ × ℕ) → List ℕ
-state_widths s = map (λ (p : ℕ × ℕ). p.0) s
-
 abbrev pub state_values : List (ℕ × ℕ) → List ℕ
 state_values s = map (λ (p : ℕ × ℕ). p.1) s
 

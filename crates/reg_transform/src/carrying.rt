@@ -6,7 +6,8 @@ ghost use Rattle.reg_transform.specs.Found.{created_in, key_of, name_of, renamed
 ghost use Rattle.reg_transform.specs.Numbers.{carried_by, numbers_in};
 ghost use Rattle.reg_transform.specs.Registers.{widths_of};
 ghost use Rattle.reg_transform.specs.Regs.{registers_in};
-ghost use Rattle.reg_transform.specs.States.{state_values, state_widths};
+ghost use Rattle.reg_transform.specs.States.{state_values};
+ghost use Rattle.state_layout.specs.Slots.{state_widths};
 
 use crate::changes::{Changes, changes_of};
 use crate::numbering::path_numbers;
@@ -18,8 +19,9 @@ use crate::regs::Regs;
 use bits::Bits;
 use no_memory::NoMemory;
 use reg_ops::RegOp;
+use state_layout::SlotState;
 use std::alloc::Global;
-use typed_ir::{RegState, RegisterId};
+use typed_ir::RegisterId;
 
 // The old value of the register that goes on as the one of this key, else that of the key itself.
 fn kept(values: &OldValues, changes: &Changes, key: RegisterKey) -> Option<u128>
@@ -53,43 +55,43 @@ fn value_at(values: &OldValues, changes: &Changes, key: RegisterKey, initial: u1
     }
 }
 
-// What these registers take, where these are the numbers of the instances' paths.
+// What these registers take, where these are the numbers of the instances' paths: each is written into a share of `reset`.
 fn carried_into(
     alloc: Global,
     new: &Regs<'_>,
     numbers: &[usize],
-    reset: &RegState,
+    reset: &SlotState,
     values: &OldValues,
     ops: &[RegOp],
-) -> Result<RegState, NoMemory>
+) -> Result<SlotState, NoMemory>
     requires numbered { length numbers.now ≡ length new.now.instances.now.rows.items }
-    requires one { length reset.now ≡ length new.now.registers.now }
+    requires reset { state_widths reset.now ≡ widths_of (registers_in new.now) }
     ensures { IfOk result (λ s. s ≡ carried_by ops.now (value_in values.now) (numbers_in numbers.now new.now) (registers_in new.now) (state_values reset.now)) }
 {
     let changes = changes_of(alloc, ops)?;
-    let mut carried = Vec::new(alloc);
+    let mut carried = reset.share()?;
     for place in 0..new.registers.len() {
         let signal = signal_at(new, place);
         let key = key_at(numbers, signal);
-        let initial = reset.get(RegisterId(place)).value;
+        let initial = reset.read(RegisterId(place)).value;
         let value = value_at(values, &changes, key, initial);
-        carried.push(Bits::new(signal.width, value))?;
+        carried.write(RegisterId(place), Bits::new(signal.width, value))?;
     }
-    RegState::new(carried)
+    Ok(carried)
 }
 
 /// The state that the registers of the new design take: each the value that an operation creates it with, else the old value of the register
 /// that is renamed to it, else the old value of its own name, both at the same path, else its value in `reset`. A value is cut, or filled with
-/// zeros, to its width. Registers are found by hash, in time in proportion to instances, registers and operations. It fails at want of
-/// memory alone.
+/// zeros, to its width. Registers are found by hash, in time in proportion to instances, registers and operations. Pages in which nothing
+/// differs from `reset` are shared with it. It fails at want of memory alone.
 pub fn carry_state(
     alloc: Global,
     old: &Regs<'_>,
     new: &Regs<'_>,
     ops: &[RegOp],
-    reset: &RegState,
-    state: &RegState,
-) -> Result<RegState, NoMemory>
+    reset: &SlotState,
+    state: &SlotState,
+) -> Result<SlotState, NoMemory>
     requires reset { state_widths reset.now ≡ widths_of (registers_in new.now) }
     requires state { state_widths state.now ≡ widths_of (registers_in old.now) }
     ensures { IfOk result (λ s. s ≡ carried ops.now (registers_in old.now) (registers_in new.now) reset.now state.now) }

@@ -10,8 +10,9 @@ use crate::register_key::RegisterKey;
 use crate::regs::Regs;
 use indexmap::IndexMap;
 use no_memory::NoMemory;
+use state_layout::SlotState;
 use std::alloc::Global;
-use typed_ir::{RegState, RegisterId};
+use typed_ir::RegisterId;
 
 /// The value of the first register of each key. A key is found by its hash.
 #[derive(Drop)]
@@ -44,7 +45,7 @@ pub fn old_values(
     alloc: Global,
     regs: &Regs<'_>,
     numbers: &[usize],
-    state: &RegState,
+    state: &SlotState,
 ) -> Result<OldValues, NoMemory>
     requires numbered { length numbers.now ≡ length regs.now.instances.now.rows.items }
     requires one { length state.now ≡ length regs.now.registers.now }
@@ -59,7 +60,7 @@ pub fn old_values(
         left -= 1;
         let signal = signal_at(regs, left);
         let key = key_at(numbers, signal);
-        let value = state.get(RegisterId(left)).value;
+        let value = state.read(RegisterId(left)).value;
         values.put(key, value)?;
     }
     Ok(values)

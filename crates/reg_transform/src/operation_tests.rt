@@ -3,18 +3,20 @@ ghost use Rattle.std.specs.Prelude.{◌≡◌, ◌<◌, IfOk, length};
 ghost use Rattle.typed_ir.specs.Flats.{are_below, are_within};
 ghost use Rattle.reg_transform.specs.Registers.{widths_of};
 ghost use Rattle.reg_transform.specs.Regs.{registers_in};
-ghost use Rattle.reg_transform.specs.States.{state_widths};
+ghost use Rattle.state_layout.specs.Slots.{state_widths};
 
 use crate::reading::signal_at;
 use crate::{OpRefusal, Regs, carry_state, check};
 use bits::Bits;
-use ls_text::NameId;
+use ls_text::{NameId, Refusal};
 use no_memory::NoMemory;
 use reg_ops::RegOp;
+use state_layout::{SlotState, laid_out};
 use std::alloc::Global;
 use std::process::Abort;
+use std::sync::Arc;
 use std::test::Fail;
-use typed_ir::{InstanceId, InstanceName, InstanceTable, RegState, RegisterId, Signal, SignalId};
+use typed_ir::{InstanceId, InstanceName, InstanceTable, RegisterId, Signal, SignalId};
 
 // Instances by what they stand in and their names.
 fn instances(
@@ -133,7 +135,7 @@ fn operations(alloc: Global, list: &[(u8, u64, u64, u64)]) -> Result<Vec<RegOp>,
 }
 
 // The state in which registers have these values.
-fn state_of(alloc: Global, regs: &Regs<'_>, values: &[u128]) -> Result<RegState, NoMemory>
+fn state_of(alloc: Global, regs: &Regs<'_>, values: &[u128]) -> Result<SlotState, Refusal>
     ensures { IfOk result (λ s. state_widths s ≡ widths_of (registers_in regs.now)) }
 {
     let mut state = Vec::new(alloc);
@@ -145,14 +147,15 @@ fn state_of(alloc: Global, regs: &Regs<'_>, values: &[u128]) -> Result<RegState,
         };
         state.push(Bits::new(signal.width, value))?;
     }
-    RegState::new(state)
+    let layout = Arc::new(alloc, laid_out(alloc, regs.signals, regs.registers)?)?;
+    Ok(SlotState::filled(alloc, &layout, &state)?)
 }
 
 // The numbers of a state.
-fn values_of(alloc: Global, state: &RegState) -> Result<Vec<u128>, NoMemory> {
+fn values_of(alloc: Global, state: &SlotState) -> Result<Vec<u128>, NoMemory> {
     let mut values = Vec::new(alloc);
     for i in 0..state.len() {
-        values.push(state.get(RegisterId(i)).value())?;
+        values.push(state.read(RegisterId(i)).value())?;
     }
     Ok(values)
 }

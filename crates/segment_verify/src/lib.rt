@@ -1,10 +1,11 @@
 // The verification of a stretch between two marks: its ticket's own machine runs over the ticket's rows. And the worker
-// that claims such stretches from a shared book, verifies and installs them.
+// that claims such stretches from a shared book, verifies and installs them (`worker`), and sleeps in between (`idling`).
 #![tactic(auto)]
 
 ghost use Rattle.std.specs.Prelude.{◌≡◌, ◌+◌, ◌-◌, ◌*◌, ◌≤◌};
 ghost use Rattle.segment_verify.specs.Outcome.{IsTicketOf, IsDone};
 
+mod idling;
 pub mod verification;
 pub mod worker;
 

@@ -7,6 +7,7 @@ ghost use Rattle.segment_verify.specs.Outcome.{IsTicketOf};
 ghost use Rattle.segment_verify.specs.Entries.{HasHandedIn, HasTurned, HasAsked};
 ghost use Rattle.segment_verify.specs.Workers.{IsFree, HasEnded, HasTicket, HasDrawn, TellsClosed, drawn_in};
 
+use crate::idling::Idling;
 use crate::verification::Verification;
 use crate::verify;
 use book_history::who::Who;
@@ -15,7 +16,6 @@ use checkpoint_book::book::Book;
 use checkpoint_book::claimed::Claimed;
 use checkpoint_book::ticket::Ticket;
 use checkpoint_book::verified::Verified;
-use crossbeam_utils::Backoff;
 use ls_port::{Gate, GateStep};
 use machine::Machine;
 use machine::steps::Steps;
@@ -30,7 +30,8 @@ use std::sync::ledger::{Blank, Ledger};
 /// `number`.
 ///
 /// The gate is asked before each verification, and before each install or release, while others may have the book. A ticket
-/// whose verification wants memory is given up. Where no link is open, or a claim wants memory, it backs off and tries again.
+/// whose verification wants memory is given up. Where no link is open, or a claim wants memory, it tries again: at once, then whenever it gets a processor,
+/// and after a while every 5 ms.
 #[tactic(auto, using(crate::proofs::Turns::turned_none, crate::proofs::Turns::turned_same))]
 pub fn worker_loop<M: Machine, G: Gate, R: Wait>(
     rt: &R,
@@ -46,16 +47,16 @@ pub fn worker_loop<M: Machine, G: Gate, R: Wait>(
     ensures ended { HasEnded (known result) }
     ensures entries { HasTurned (Worker number) (known pass) (known result) }
 {
-    let backoff = Backoff::new();
+    let idling = Idling::new();
     for _ in rt.forever() {
         match claim(rt, alloc, turn, &mut pass, number) {
             Ok(Claimed::Ticket(ticket)) => {
                 work_on(rt, alloc, turn, &mut pass, number, gate, ticket);
-                backoff.reset();
+                idling.reset();
             }
             Ok(Claimed::Nothing { closed: true, .. }) => return pass,
-            Ok(Claimed::Nothing { closed: false, .. }) => backoff.snooze(),
-            Err(NoMemory) => backoff.snooze(),
+            Ok(Claimed::Nothing { closed: false, .. }) => idling.rest(rt),
+            Err(NoMemory) => idling.rest(rt),
         }
     }
     unreachable!()

@@ -9,8 +9,13 @@ use ls_text::Refusal;
 use std::alloc::Global;
 use typed_ir::{Linked, Signal, SignalId};
 
-// The layout of these registers.
-fn laid_out(alloc: Global, signals: &[Signal], registers: &[SignalId]) -> Result<Layout, Refusal>
+/// The layout of these registers, in their order, where their numbers are places among the signals. Refused with 40 only where they take more than
+/// 65,536 words of 64 bits, and always there; else it fails at want of memory alone.
+pub fn laid_out(
+    alloc: Global,
+    signals: &[Signal],
+    registers: &[SignalId],
+) -> Result<Layout, Refusal>
     requires { IsTrue (are_below registers.now (length signals.now)) }
     ensures made { IfOk result (λ l. l ≡ map (width_in signals.now) registers.now) }
     ensures few { IfOk result (λ l. words_of l ≤ 65536) }
@@ -25,8 +30,7 @@ fn laid_out(alloc: Global, signals: &[Signal], registers: &[SignalId]) -> Result
     Ok(layout)
 }
 
-/// The layout of a design's registers, in their order. Refused with 40 only where they take more than 65,536 words of 64 bits, and always there;
-/// else it fails at want of memory alone.
+/// The layout of a design's registers, as `laid_out` gives it.
 pub fn layout_of(alloc: Global, linked: &Linked) -> Result<Layout, Refusal>
     ensures made { IfOk result (λ l. l ≡ register_widths (flat linked.now.design)) }
     ensures few { IfOk result (λ _. words_of (register_widths (flat linked.now.design)) ≤ 65536) }

@@ -14,7 +14,7 @@ mod slot_state;
 mod tests;
 
 pub use laws::{slots_stand_apart, words_give_states};
-pub use laying_out::layout_of;
+pub use laying_out::{laid_out, layout_of};
 pub use layout::Layout;
 pub use slot::Slot;
 pub use slot_state::SlotState;

@@ -16,7 +16,7 @@ use std::sync::Arc;
 use typed_ir::RegisterId;
 
 /// What the registers of a design have, in words of shared pages by a shared layout; bits that no register has are 0. Contracts see it
-/// as a list of pairs, the width and the value of each register, as they see `RegState`.
+/// as a list of pairs, the width and the value of each register.
 #[derive(Drop)]
 pub struct SlotState {
     layout: Arc<Layout, Global>,

@@ -10,8 +10,7 @@ use Rattle.unit_ir.specs.declared.instance.Instance.{Instance}
 use Rattle.module_registry.specs.declared.build_job.BuildJob.{BuildJob}
 use Rattle.unit_laws.specs.Copies.{Copies}
 use Rattle.unit_laws.specs.Flat.{flat}
-use Rattle.cycle_eval.specs.Kits.{register_widths}
-use Rattle.cycle_eval.specs.Words.{words_of}
+use Rattle.state_layout.specs.Words.{register_widths, words_of}
 use Rattle.version_swap.specs.Founds.{AreFound}
 use Rattle.version_swap.specs.OnePlan.{file_text as text, IsSameName, IsSameTop, IsSamePlan}
 use Rattle.version_swap.specs.Plans as plans

@@ -32,7 +32,7 @@ use Rattle.unit_laws.specs.Copies.{Copies}
 use Rattle.unit_laws.specs.Flat.{flat}
 use Rattle.unit_laws.specs.Held.{AreHeldUnder, AreUnder, HaveUnits, IsKeyUnder}
 use Rattle.unit_laws.specs.JobsUnder.{IsJobUnder}
-use Rattle.cycle_eval.specs.Words.{IsTooMany}
+use Rattle.state_layout.specs.Words.{IsTooMany}
 use Rattle.version_swap.specs.DesignFaults.{CanRun, IsDesignFault, not_linked, too_wide, IsDesignOfUnits, IsRefusedOfUnits}
 use Rattle.version_swap.specs.FirstKeys.{first_jobs, first_keys, key_of}
 use Rattle.version_swap.specs.FoundUnder.{HasModuleIn, IsFoundUnder}

@@ -42,7 +42,7 @@ use Rattle.unit_laws.specs.FlatRenaming.{flat_as}
 use Rattle.unit_laws.specs.JobsUnder.{IsJobUnder}
 use Rattle.link.specs.Faults.{IsLinkFault, HasNoLinkFault}
 use Rattle.link.specs.Names.{node_text}
-use Rattle.cycle_eval.specs.Kits.{register_widths}
+use Rattle.state_layout.specs.Words.{register_widths}
 use Rattle.version_swap.specs.FirstKeys.{first_jobs}
 use Rattle.version_swap.specs.Founds.{AreModules, IsReadFault, at_text, at_grammar, IsTop, HasModules, AreFound}
 use Rattle.version_swap.specs.OnePlan.{file_text as text, IsSameName, IsSameTop, IsSameDesign, nameless, path_texts, own_text, module_text}

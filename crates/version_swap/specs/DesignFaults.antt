@@ -13,8 +13,7 @@ use Rattle.module_registry.specs.Keys.{KeyData}
 use Rattle.unit_laws.specs.Held.{AreUnder}
 use Rattle.link.specs.Listings.{IsTreeOf, all_parts}
 use Rattle.link.specs.Faults.{IsLinkFault, HasNoLinkFault}
-use Rattle.cycle_eval.specs.Kits.{register_widths}
-use Rattle.cycle_eval.specs.Words.{words_of, IsTooMany}
+use Rattle.state_layout.specs.Words.{register_widths, words_of, IsTooMany}
 
 pub record CanRun (design : Flat) : Type 0 where
   pub linked : HasNoLinkFault 1048576 design

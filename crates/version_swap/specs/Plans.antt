@@ -24,8 +24,7 @@ use Rattle.unit_laws.specs.DesignCopies.{AreCopiesIn}
 use Rattle.unit_laws.specs.Flat.{flat}
 use Rattle.unit_laws.specs.TreeJobs.{one_table}
 use Rattle.link.specs.Faults.{IsLinkFault, HasNoLinkFault}
-use Rattle.cycle_eval.specs.Kits.{register_widths}
-use Rattle.cycle_eval.specs.Words.{words_of}
+use Rattle.state_layout.specs.Words.{register_widths, words_of}
 use Rattle.version_swap.specs.FirstKeys.{first_jobs}
 use Rattle.version_swap.specs.Founds.{IsReadFault, HasModules, AreFound}
 

@@ -10,8 +10,9 @@ use crate::naming::push_path;
 use cycle_eval::Design;
 use ls_text::Names;
 use no_memory::NoMemory;
+use state_layout::SlotState;
 use std::alloc::Global;
-use typed_ir::{RegState, RegisterId};
+use typed_ir::RegisterId;
 
 // Adds the line of a register, where its path begins with the prefix.
 fn push_line(
@@ -40,7 +41,7 @@ pub fn table(
     alloc: Global,
     names: &Names,
     design: &Design,
-    state: &RegState,
+    state: &SlotState,
     prefix: &[u8],
 ) -> Result<Vec<u8>, NoMemory>
     requires { Fits (design_flat design.now) state.now }
@@ -56,7 +57,7 @@ pub fn table(
         let signal = &signals[place];
         path.clear();
         push_path(&mut path, names, rows, signal)?;
-        let value = state.get(RegisterId(number)).value;
+        let value = state.read(RegisterId(number)).value;
         push_line(&mut text, prefix, &path, signal.width, value)?;
     }
     Ok(text)

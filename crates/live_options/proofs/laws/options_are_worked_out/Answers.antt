@@ -1,4 +1,4 @@
-use Rattle.live_options.proofs.Worked.{defaults_worked, given_worked, no_word_worked, no_value_worked, repeated_worked, unknown_worked, stray_worked, too_many_worked, too_few_worked, too_far_worked, too_long_worked, signed_worked, empty_worked}
+use Rattle.live_options.proofs.Worked.{defaults_worked, given_worked, made_worked, no_word_worked, no_value_worked, repeated_worked, unknown_worked, stray_worked, too_many_worked, too_few_worked, too_far_worked, no_stage_worked, too_many_stages_worked, too_long_worked, signed_worked, empty_worked}
 use Rattle.live_options.proofs.laws.options_are_worked_out.Goals as goal
 
 pub returns-clause-defaults : goal.returns-clause-defaults
@@ -6,6 +6,9 @@ returns-clause-defaults c = defaults_worked
 
 pub returns-clause-given : goal.returns-clause-given
 returns-clause-given c = given_worked
+
+pub returns-clause-made : goal.returns-clause-made
+returns-clause-made c = made_worked
 
 pub returns-clause-no_word : goal.returns-clause-no_word
 returns-clause-no_word c = no_word_worked
@@ -30,6 +33,12 @@ returns-clause-too_few c = too_few_worked
 
 pub returns-clause-too_far : goal.returns-clause-too_far
 returns-clause-too_far c = too_far_worked
+
+pub returns-clause-no_stage : goal.returns-clause-no_stage
+returns-clause-no_stage c = no_stage_worked
+
+pub returns-clause-too_many_stages : goal.returns-clause-too_many_stages
+returns-clause-too_many_stages c = too_many_stages_worked
 
 pub returns-clause-too_long : goal.returns-clause-too_long
 returns-clause-too_long c = too_long_worked

@@ -1,4 +1,4 @@
-use Rattle.std.proofs.Common.{◌∙◌, length, map, sym, subst, ap}
+use Rattle.std.proofs.Common.{◌∙◌, List, length, map, sym, subst, ap}
 use Rattle.std.specs.Prelude.{Some, IfOk}
 use Rattle.std.specs.Option.{option_or, unwrap_or}
 use Rattle.ls_text.specs.declared.fault.Fault.{Fault}
@@ -6,6 +6,7 @@ use Rattle.ls_text.specs.Readings.{fault_view}
 use Rattle.module_registry.specs.Views.{entries_of}
 use Rattle.book_history.specs.declared.version.Version.{Version}
 use Rattle.cycle_eval.specs.declared.design.Design.{Design}
+use Rattle.command_read.specs.declared.op_line.OpLine.{OpLine}
 use Rattle.unit_laws.proofs.HeldUnits.{grown_held}
 use Rattle.version_swap.specs.Files as numbered
 use Rattle.version_swap.specs.Operations.{AreValidBetween, IsEditFault, IsEditRefusal, ops_of}
@@ -33,6 +34,13 @@ pub plan-planned-requires-clause-clock : goal.plan-planned-requires-clause-clock
 plan-planned-requires-clause-clock g c =
     let r = c.args.running.now in
     asks_clock (length c.args.names.now) c.args.edit.now.clock r.texts.clock c.requires.edit.clocks c.requires.kept.named.clock
+
+pub accepted-requires-clause-valid : goal.accepted-requires-clause-valid
+accepted-requires-clause-valid g c =
+    let p = c.in-Ok.planned in
+    subst (λ (lines : List OpLine). AreValidBetween (Some c.args.running.now.version.value.machine.value) p.design lines) (sym c.as_slice.ensures)
+    (subst (λ (m : Design). AreValidBetween (Some m) p.design c.args.edit.now.ops)
+    (c.deref-old.ensures ∙ ap (λ (v : Version Design). v.machine.value) c.deref.ensures) c.in-Ok.ensures.valid)
 
 pub refused-requires-clause-files : goal.refused-requires-clause-files
 refused-requires-clause-files g c =

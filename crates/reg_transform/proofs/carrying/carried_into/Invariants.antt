@@ -1,5 +1,5 @@
-use Rattle.std.proofs.Common.{◌≡◌, ◌++◌, map, drop}
-use Rattle.typed_ir.specs.States.{sized_value}
+use Rattle.std.proofs.Common.{◌≡◌, ◌++◌, take, drop}
+use Rattle.state_layout.specs.Slots.{state_widths}
 use Rattle.reg_transform.specs.Found.{value_in}
 use Rattle.reg_transform.specs.Numbers.{numbers_in, carried_by}
 use Rattle.reg_transform.specs.Regs.{registers_in}
@@ -7,7 +7,9 @@ use Rattle.reg_transform.specs.States.{state_values}
 use Rattle.reg_transform.proofs.carrying.carried_into.Given as goal
 
 abbrev pub invariant-loop-place : goal.invariant-loop-place
-invariant-loop-place l =
-    map sized_value l.carried.items
-    ++ carried_by l.ops (value_in l.values) (drop l.place (numbers_in l.numbers l.new)) (drop l.place (registers_in l.new)) (drop l.place (state_values l.reset))
-    ≡ carried_by l.ops (value_in l.values) (numbers_in l.numbers l.new) (registers_in l.new) (state_values l.reset)
+invariant-loop-place l = record {
+  kept : state_widths l.carried ≡ state_widths l.reset;
+  written : take l.place l.carried
+      ++ carried_by l.ops (value_in l.values) (drop l.place (numbers_in l.numbers l.new)) (drop l.place (registers_in l.new)) (drop l.place (state_values l.reset))
+      ≡ carried_by l.ops (value_in l.values) (numbers_in l.numbers l.new) (registers_in l.new) (state_values l.reset);
+}

@@ -22,7 +22,7 @@ loop-left-preserved c =
     let ns = numbers_in numbers regs in
     let rs = registers_in regs in
     let xs = state_values c.args.state.now in
-    let v = c.get-value.result.value in
+    let v = c.read-value.result.value in
     record {
       within = omega arith;
       held = λ key.
@@ -32,5 +32,5 @@ loop-left-preserved c =
           ∙ ap (cond ((n == key.number) && is_same (called r) key.called) (Some v))
           (c.loop-left.invariant.held key ∙ sym (ap (λ k. value_by (drop k ns) (drop k rs) (drop k xs) key) more))
           ∙ sym (value_step ns rs xs i n r v key (c.signal_at-signal.ensures.number numbers) c.signal_at-signal.ensures.register
-          (got_value c.args.state.now i c.get-value.result.width v c.get-value.ensures));
+          (got_value c.args.state.now i c.read-value.result.width v c.read-value.ensures));
     }

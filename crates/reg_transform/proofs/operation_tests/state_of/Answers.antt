@@ -1,15 +1,17 @@
-use Rattle.std.proofs.Common.{◌≡◌, ◌≤◌, ◌+◌, ◌++◌, ◌∙◌, ℕ, List, [], ◌∷◌, append_assoc, length, map, drop, sym, ap, arith}
+use Rattle.std.proofs.Common.{rules, ◌≡◌, ◌≤◌, ◌+◌, ◌++◌, ◌∙◌, ℕ, List, [], ◌∷◌, append_assoc, length, map, drop, sym, ap, arith}
+use Rattle.std.specs.Arc.{arc_value}
 use Rattle.std.specs.Prelude.{slice_get, Some}
 use Rattle.std.proofs.Math.ListN.{drop_of_length-le}
 use Rattle.std.proofs.lemmas.List.{append-nil, length-map, map_push}
 use Rattle.bits.specs.declared.Bits.{Bits}
-use Rattle.typed_ir.proofs.Listed.{if_ok}
 use Rattle.typed_ir.specs.Paths.{paths_of}
 use Rattle.typed_ir.specs.States.{sized_value}
+use Rattle.typed_ir.specs.Views.{widths}
 use Rattle.reg_transform.specs.Registers.{Register, widths_of}
 use Rattle.reg_transform.specs.Regs.{register_at, registers_in}
-use Rattle.reg_transform.specs.States.{state_widths}
-use Rattle.reg_transform.proofs.Elements.{dropped}
+use Rattle.state_layout.specs.Slots.{state_widths}
+use Rattle.reg_transform.proofs.Elements.{dropped, widths_are}
+use Rattle.reg_transform.proofs.Values.{widths_same}
 use Rattle.reg_transform.proofs.operation_tests.state_of.Goals as goal
 
 -- one more width
@@ -31,16 +33,33 @@ loop-place-preserved c =
     c.new.ensures.width c.in_ok-push.ensures.items
     ∙ c.loop-place.invariant
 
+-- the widths of all
+all_widths : (rs : List Register) (items : List Bits) (i : ℕ) → length rs ≤ i → state_widths (map sized_value items) ++ widths_of (drop i rs) ≡ widths_of rs
+    → state_widths (map sized_value items) ≡ widths_of rs
+all_widths rs items i past is =
+    let before = state_widths (map sized_value items) in
+    sym (append-nil before) ∙ sym (ap (λ (zs : List Register). before ++ widths_of zs) (drop_of_length-le rs past)) ∙ is
+
+pub filled-requires : goal.filled-requires
+filled-requires c =
+    let regs = c.args.regs.now in
+    let rs = registers_in regs in
+    let paths = paths_of regs.instances.now.rows.items in
+    let past : length rs ≤ c.loop-place.place = omega (arith, length-map regs.registers.now (register_at paths regs.signals.now), c.loop-place-test.false) in
+    let held : arc_value c.in_ok-layout.layout ≡ c.in_ok-laid_out.field-0 = search rules in
+    ap widths c.deref.ensures.value
+    ∙ widths_same c.loop-place.state.items
+    ∙ all_widths rs c.loop-place.state.items c.loop-place.place past c.loop-place.invariant
+    ∙ sym (widths_are paths regs.signals.now regs.registers.now)
+    ∙ sym c.in_ok-laid_out.ensures.made
+    ∙ sym held
+
 pub returns : goal.returns
 returns c =
     let regs = c.args.regs.now in
     let rs = registers_in regs in
     let items = c.loop-place.state.items in
-    let before = state_widths (map sized_value items) in
-    let long : length rs ≡ length regs.registers.now = length-map regs.registers.now (register_at (paths_of regs.instances.now.rows.items) regs.signals.now) in
-    let past : length rs ≤ c.loop-place.place = omega (arith, long, c.loop-place-test.false) in
-    let whole : before ≡ widths_of rs =
-    sym (append-nil before)
-    ∙ sym (ap (λ (zs : List Register). before ++ widths_of zs) (drop_of_length-le rs past))
-    ∙ c.loop-place.invariant in
-    if_ok c.new-2.result (λ s. s ≡ map sized_value items) (λ s. state_widths s ≡ widths_of rs) (λ s e. ap state_widths e ∙ whole) c.new-2.ensures
+    let paths = paths_of regs.instances.now.rows.items in
+    let past : length rs ≤ c.loop-place.place = omega (arith, length-map regs.registers.now (register_at paths regs.signals.now), c.loop-place-test.false) in
+    ap state_widths c.in_ok-filled.ensures ∙ ap (λ xs. state_widths (map sized_value xs)) c.deref.ensures.value
+    ∙ all_widths rs items c.loop-place.place past c.loop-place.invariant

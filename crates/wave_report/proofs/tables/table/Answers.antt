@@ -39,7 +39,7 @@ loop-number-preserved c =
     let r = c.index-registers-number.result in
     let at = c.index-place.result in
     let x = c.index-signals-place.result in
-    let v = c.get-value.result.value in
+    let v = c.read-value.result.value in
     let old = c.loop-number.text.items in
     let count = length (signals_of c.args.design.now) in
     let many : length signals ≡ count = ap (λ (zs : List Signal). length zs) c.signals-signals.ensures in
@@ -55,7 +55,7 @@ loop-number-preserved c =
     line_step names prefix (map (signal_of rows) signals) rs xs i r v old c.push_line.new.out.items
     (signal_lines names prefix (map (signal_of rows) signals) rs xs)
     c.loop-number-test.true c.index-registers-number.is
-    (values_from c.args.state.now i (c.get-value.result.width, v) c.get-value.ensures)
+    (values_from c.args.state.now i (c.read-value.result.width, v) c.read-value.ensures)
     (c.in_ok-push_line.ensures ∙ ap (λ zs. old ++ zs) line)
     c.loop-number.invariant
 

@@ -1,33 +1,61 @@
-use Rattle.std.proofs.Common.{◌≡◌, ◌++◌, ◌∙◌, ℕ, List, [], map, length, take, drop, sym, ap, ap₂, arith}
-use Rattle.std.specs.Prelude.{slice_index}
-use Rattle.typed_ir.specs.Cycles.{fill}
-use Rattle.typed_ir.specs.Flats.{signal_widths}
-use Rattle.typed_ir.specs.Views.{widths, env_of}
-use Rattle.typed_ir.specs.Valuations.{Valuation}
-use Rattle.cycle_eval.specs.Designs.{design_flat}
-use Rattle.reg_transform.specs.States.{state_values}
-use Rattle.cycle_eval.proofs.Passes.{flat_widths}
+use Rattle.std.proofs.Common.{◌≡◌, ◌++◌, ◌∙◌, ℕ, [], map, length, take, drop, sym, ap, subst, arith}
+use Rattle.std.proofs.Math.Logic.{∥∥₁_elim}
+use Rattle.std.proofs.Props.{props}
+use Rattle.std.proofs.lemmas.List.{length-map}
+use Rattle.typed_ir.specs.Cycles.{fill, width_at}
+use Rattle.typed_ir.specs.Valuations.{look}
 use Rattle.typed_ir.proofs.Lists.{written_back}
-use Rattle.cycle_eval.proofs.Loads.{no_inputs}
+use Rattle.design_steps.specs.Programs.{IsAt, values_in}
+use Rattle.reg_transform.specs.States.{state_values}
+use Rattle.cycle_eval.specs.Designs.{design_flat}
+use Rattle.cycle_eval.proofs.Laws.{fill_back}
+use Rattle.cycle_eval.proofs.Loads.{fill_look, fill_none}
 use Rattle.cycle_eval.proofs.design.Design.loaded.Goals as goal
 
-pub load-requires-clause-fits : goal.load-requires-clause-fits
-load-requires-clause-fits c =
-    let self = c.args.self.now in
-    c.requires
-    ∙ ap (λ (ws : List ℕ). map (λ (s : ℕ). slice_index ws s) self.linked.design.registers.items)
-    (flat_widths self.linked ∙ ap signal_widths (sym c.deref.ensures.value) ∙ sym c.in_ok-env.ensures.widths ∙ ap widths (sym c.deref_mut.ensures.value))
-    ∙ ap (λ (rs : List ℕ). map (λ (s : ℕ). slice_index (widths c.deref_mut.result.now) s) rs) (sym c.deref-2.ensures.value)
+pub load-requires-clause-long : goal.load-requires-clause-long
+load-requires-clause-long c = ap length c.deref_mut.ensures.value ∙ c.in_ok-words.ensures.long
 
-pub returns-clause-value : goal.returns-clause-value
-returns-clause-value c =
+pub returns-clause-long : goal.returns-clause-long
+returns-clause-long c =
+    let words = c.in_ok-words.words in
+    ap length (written_back words.len c.load.new.words words.items (omega (arith, c.load.auto.words, ap length c.deref_mut.ensures.value))
+    (omega (arith, c.load.auto.words, c.deref_mut.ensures.len)))
+    ∙ c.load.auto.words ∙ ap length c.deref_mut.ensures.value ∙ c.in_ok-words.ensures.long
+
+pub returns-clause-ready : goal.returns-clause-ready
+returns-clause-ready c =
     let self = c.args.self.now in
-    let env = c.in_ok-env.env in
+    let p = self.program in
+    let l = self.linked in
     let flat = design_flat self in
+    let rs = l.design.registers.items in
     let xs = state_values c.args.from.now in
-    let whole : take env.len (c.load.new.env ++ drop (length c.load.new.env) env.items) ≡ c.load.new.env =
-    written_back env.len c.load.new.env env.items (omega (arith, c.load.auto.env, ap length c.deref_mut.ensures.value)) (omega (arith, c.load.auto.env, c.deref_mut.ensures.len)) in
-    let zero : env_of c.deref_mut.result.now ≡ fill flat.inputs [] (λ s. 0) =
-    ap env_of c.deref_mut.ensures.value ∙ no_inputs flat.inputs (env_of env.items) c.in_ok-env.ensures.value in
-    ap env_of whole ∙ c.load.ensures.value
-    ∙ ap₂ (λ (rs : List ℕ) (v : Valuation). fill rs xs v) c.deref-2.ensures.value zero
+    let words = c.in_ok-words.words in
+    let first = c.deref_mut.result.now in
+    let begins : IsAt p l [] [] first = subst (IsAt p l [] []) (sym c.deref_mut.ensures.value) c.in_ok-words.ensures.ready in
+    let none = fill flat.inputs [] (λ (s : ℕ). 0) in
+    let whole : take words.len (c.load.new.words ++ drop (length c.load.new.words) words.items) ≡ c.load.new.words =
+    written_back words.len c.load.new.words words.items (omega (arith, c.load.auto.words, ap length c.deref_mut.ensures.value))
+    (omega (arith, c.load.auto.words, c.deref_mut.ensures.len)) in
+    subst (IsAt p l xs []) (sym whole) (record {
+      ready = c.load.ensures.held begins.ready;
+      based = λ s i free. ap (λ v. look v s i) c.load.ensures.value
+          ∙ fill_look rs xs (values_in p first) none s i (begins.based s i free ∙ ap (λ v. look v s i) (fill_none rs none));
+    })
+
+pub returns-clause-registers : goal.returns-clause-registers
+returns-clause-registers c =
+    let self = c.args.self.now in
+    let p = self.program in
+    let rs = self.linked.design.registers.items in
+    let from = c.args.from.now in
+    let xs = state_values from in
+    let words = c.in_ok-words.words in
+    let first = c.deref_mut.result.now in
+    let whole : take words.len (c.load.new.words ++ drop (length c.load.new.words) words.items) ≡ c.load.new.words =
+    written_back words.len c.load.new.words words.items (omega (arith, c.load.auto.words, ap length c.deref_mut.ensures.value))
+    (omega (arith, c.load.auto.words, c.deref_mut.ensures.len)) in
+    let count : length xs ≡ length rs =
+    length-map from (λ (q : ℕ × ℕ). q.1) ∙ sym (length-map from (λ (q : ℕ × ℕ). q.0)) ∙ ap length c.requires ∙ length-map rs (width_at (design_flat self)) in
+    ap (λ ws. map (values_in p ws) rs) whole ∙ ap (λ v. map v rs) c.load.ensures.value
+    ∙ ∥∥₁_elim self.linked.design.sound (hlevel props) (λ f. fill_back rs xs (values_in p first) f.registers_once count)

@@ -1,8 +1,8 @@
 use Rattle.std.proofs.Common.{◌≡◌, ◌≤◌, ◌+◌, ◌-◌, ◌*◌, ◌∙◌, map, sym, ap, subst, refl, inl, inr, eq-or-lt_of_le, arith}
 use Rattle.std.proofs.Math.Nat.{add-mul}
 use Rattle.machine.specs.Rows.{between}
-use Rattle.typed_ir.specs.Cycles.{seg, input, IsReady}
-use Rattle.typed_ir.specs.Views.{env_of}
+use Rattle.typed_ir.specs.Cycles.{seg, input}
+use Rattle.design_steps.specs.Programs.{IsAt, values_in}
 use Rattle.cycle_eval.specs.Designs.{design_flat, work_of}
 use Rattle.cycle_eval.specs.Inputs.{row_values}
 use Rattle.cycle_eval.specs.Kits.{driven}
@@ -13,10 +13,8 @@ pub loop-at-init : goal.loop-at-init
 loop-at-init g c = record {
   from = omega arith;
   within = c.requires.covers.rises;
-  kept = refl;
-  ready = λ state inputs ready start. (inputs, subst (λ s. IsReady (design_flat c.args.self.now) s inputs (env_of c.args.env.now)) (sym start) ready);
+  ready = λ state inputs ready start. (inputs, subst (λ s. IsAt c.args.self.now.program c.args.self.now.linked s inputs c.args.words.now) (sym start) ready);
   value = λ state inputs ready start. ap (driven (design_flat c.args.self.now) (between c.args.rows.now c.args.a c.args.b)) start;
-  room = refl;
   taken = let none : c.args.a - c.args.a ≡ 0 = omega arith in omega (arith, ap (λ k. k * work_of c.args.self.now) none);
 }
 
@@ -31,7 +29,7 @@ loop-at-preserved g c =
     let b = c.args.b in
     let n = end - at in
     let h = c.loop-at.invariant in
-    let now = map (env_of c.loop-at.env) rs in
+    let now = map (values_in self.program c.loop-at.words) rs in
     let upto : at ≤ end =
     elim (eq-or-lt_of_le c.earlier-end.ensures.second) [
       | inl same ↦ omega (arith, same, h.within)
@@ -44,11 +42,10 @@ loop-at-preserved g c =
     record {
       from = omega (arith, upto, h.from);
       within = c.earlier-end.ensures.second;
-      kept = c.run_under.ensures.widths ∙ h.kept;
       ready = λ state inputs ready start.
           let held = h.ready state inputs ready start in (
             input flat (row_values flat row),
-            subst (λ s. IsReady flat s (input flat (row_values flat row)) (env_of c.run_under.new.env)) (sym (c.run_under.ensures.value now held.0 held.1 refl))
+            subst (λ s. IsAt self.program self.linked s (input flat (row_values flat row)) c.run_under.new.words) (sym (c.run_under.ensures.value now held.0 held.1 refl))
                 (c.run_under.ensures.ready now held.0 held.1 refl),
           );
       value = λ state inputs ready start.
@@ -59,13 +56,16 @@ loop-at-preserved g c =
           (λ t from before. c.stretch_at-stretch.ensures.rows t b from (omega (arith, before, c.earlier-end.ensures.first)) (omega (arith, before, c.earlier-end.ensures.second)))
           (omega (arith, count))
           ∙ h.value state inputs ready start;
-      room = c.run_under.ensures.capacity ∙ h.room;
       taken = c.run_under.ensures.taken ∙ omega (arith, steps, h.taken);
     }
 
 pub returns-clause-value : goal.returns-clause-value
 returns-clause-value g c = λ state inputs ready start.
-    let flat = design_flat c.args.self.now in
-    let rs = c.args.self.now.linked.design.registers.items in
-    ap (λ xs. driven flat xs (map (env_of c.loop-at.env) rs)) (sym (nothing_between c.args.rows.now c.loop-at.at c.args.b (omega (arith, c.loop-at-test.false))))
+    let self = c.args.self.now in
+    let flat = design_flat self in
+    let rs = self.linked.design.registers.items in
+    ap (λ xs. driven flat xs (map (values_in self.program c.loop-at.words) rs)) (sym (nothing_between c.args.rows.now c.loop-at.at c.args.b (omega (arith, c.loop-at-test.false))))
     ∙ c.loop-at.invariant.value state inputs ready start
+
+pub returns-clause-held : goal.returns-clause-held
+returns-clause-held g c = λ state inputs ready start. (c.loop-at.invariant.ready state inputs ready start).1.ready

@@ -34,7 +34,7 @@ pub returns-in-Edit-clause-lost : goal.returns-in-Edit-clause-lost
 returns-in-Edit-clause-lost g c =
     let s = c.args.self.now in
     loses_as (Edits (edited s.names c.in-Edit.edit)) (spoken s.names c.args.command) (ap (spoken s.names) c.in-Edit.is)
-    (g.F.Shelf.answers c.args.shelf.now) (g.F.Shelf.answers c.edit.new.shelf) c.edit.result c.edit.ensures.lost
+    (g.F.Shelf.answers c.args.shelf.now) (g.F.Shelf.answers c.edit.new.shelf) c.edit.result s c.edit.ensures.lost
 
 pub returns-in-Set-clause-steps : goal.returns-in-Set-clause-steps
 returns-in-Set-clause-steps g c =
@@ -62,7 +62,7 @@ returns-in-Set-clause-quits g c =
     refl c.set.result c.set.ensures.goes_on
 
 pub returns-in-Set-clause-lost : goal.returns-in-Set-clause-lost
-returns-in-Set-clause-lost g c = none_lost (spoken c.args.self.now.names c.args.command) (g.F.Shelf.answers c.args.shelf.now) c.set.result
+returns-in-Set-clause-lost g c = none_lost c.args.self.now (spoken c.args.self.now.names c.args.command) (g.F.Shelf.answers c.args.shelf.now) c.set.result
 
 pub returns-in-Set-clause-cause : goal.returns-in-Set-clause-cause
 returns-in-Set-clause-cause g c = always c.set.result (inl refl)
@@ -90,7 +90,7 @@ returns-in-Run-clause-quits g c =
     c.run.ensures.goes_on
 
 pub returns-in-Run-clause-lost : goal.returns-in-Run-clause-lost
-returns-in-Run-clause-lost g c = none_lost (spoken c.args.self.now.names c.args.command) (g.F.Shelf.answers c.args.shelf.now) c.run.result
+returns-in-Run-clause-lost g c = none_lost c.args.self.now (spoken c.args.self.now.names c.args.command) (g.F.Shelf.answers c.args.shelf.now) c.run.result
 
 pub returns-in-Run-clause-cause : goal.returns-in-Run-clause-cause
 returns-in-Run-clause-cause g c = always c.run.result (inl refl)
@@ -121,7 +121,7 @@ returns-in-Show-clause-quits g c =
     c.show.ensures.goes_on
 
 pub returns-in-Show-clause-lost : goal.returns-in-Show-clause-lost
-returns-in-Show-clause-lost g c = none_lost (spoken c.args.self.now.names c.args.command) (g.F.Shelf.answers c.args.shelf.now) c.show.result
+returns-in-Show-clause-lost g c = none_lost c.args.self.now (spoken c.args.self.now.names c.args.command) (g.F.Shelf.answers c.args.shelf.now) c.show.result
 
 pub returns-in-Show-clause-cause : goal.returns-in-Show-clause-cause
 returns-in-Show-clause-cause g c = always c.show.result (inl refl)
@@ -150,7 +150,7 @@ returns-in-Status-clause-quits g c =
     c.status.ensures.goes_on
 
 pub returns-in-Status-clause-lost : goal.returns-in-Status-clause-lost
-returns-in-Status-clause-lost g c = none_lost (spoken c.args.self.now.names c.args.command) (g.F.Shelf.answers c.args.shelf.now) c.status.result
+returns-in-Status-clause-lost g c = none_lost c.args.self.now (spoken c.args.self.now.names c.args.command) (g.F.Shelf.answers c.args.shelf.now) c.status.result
 
 pub returns-in-Status-clause-cause : goal.returns-in-Status-clause-cause
 returns-in-Status-clause-cause g c = always c.status.result (inl refl)
@@ -177,7 +177,7 @@ returns-clause-quits g c =
     quits_as (Quits c.in-Quit.line) (spoken s.names c.args.command) (ap (spoken s.names) c.in-Quit.is) true refl c.quit.result c.quit.ensures.quits
 
 pub returns-clause-lost : goal.returns-clause-lost
-returns-clause-lost g c = none_lost (spoken c.args.self.now.names c.args.command) (g.F.Shelf.answers c.args.shelf.now) c.quit.result
+returns-clause-lost g c = none_lost c.args.self.now (spoken c.args.self.now.names c.args.command) (g.F.Shelf.answers c.args.shelf.now) c.quit.result
 
 pub returns-clause-cause : goal.returns-clause-cause
 returns-clause-cause g c = always c.quit.result (inl refl)

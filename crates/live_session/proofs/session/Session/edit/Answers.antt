@@ -1,4 +1,4 @@
-use Rattle.std.proofs.Common.{◌<◌, List, length, inl, refl, subst, arith}
+use Rattle.std.proofs.Common.{◌<◌, ℕ, List, length, inl, refl, subst, arith}
 use Rattle.std.specs.List.{list_any}
 use Rattle.command_read.specs.Spoken.{edited}
 use Rattle.command_read.specs.declared.load_line.LoadLine.{LoadLine}
@@ -6,6 +6,7 @@ use Rattle.live_session.specs.Beside.{world_in}
 use Rattle.live_session.specs.Loaded.{AreUsable, ComesTo}
 use Rattle.live_session.specs.Loads.{is_broken}
 use Rattle.live_session.specs.Logs.{marks_of}
+use Rattle.live_session.specs.Sessions.{world}
 use Rattle.command_read.specs.Asking.{Edits}
 use Rattle.live_session.proofs.SessionCalls.{always, block_stops, loses_loads}
 use Rattle.live_session.proofs.SessionSteps.{all_lost, all_steps, all_stops, failed_or, full_steps, none_lost, stops_before}
@@ -26,7 +27,7 @@ returns-then-charge-self-clause-stops g c =
 
 pub returns-then-charge-self-clause-lost : goal.returns-then-charge-self-clause-lost
 returns-then-charge-self-clause-lost g c =
-    none_lost (Edits (edited c.args.self.now.names c.args.edit.now)) (g.F.Shelf.answers c.args.shelf.now) c.refused_line.result
+    none_lost c.args.self.now (Edits (edited c.args.self.now.names c.args.edit.now)) (g.F.Shelf.answers c.args.shelf.now) c.refused_line.result
 
 pub returns-then-charge-self-clause-cause : goal.returns-then-charge-self-clause-cause
 returns-then-charge-self-clause-cause g c = always c.refused_line.result (inl refl)
@@ -48,9 +49,11 @@ returns-in_err-loads-clause-stops g c =
 
 pub returns-in_err-loads-clause-lost : goal.returns-in_err-loads-clause-lost
 returns-in_err-loads-clause-lost g c =
-    always _ (loses_loads c.args.self.now.names c.args.edit.now c.as_slice.result.now (g.F.Shelf.answers c.args.shelf.now)
+    let s = c.args.self.now in
+    let room : (grid : List ℕ) → (world s grid).charge < s.limits.rooms.session = λ grid. omega (arith, c.if-charge-self.false, c.charge.ensures grid) in
+    always _ (loses_loads s s.names c.args.edit.now c.as_slice.result.now (g.F.Shelf.answers c.args.shelf.now)
     (g.F.Shelf.answers c.loaded.new.shelf)
-    c.as_slice.ensures c.in_err-loads.ensures.lost)
+    room c.as_slice.ensures c.in_err-loads.ensures.lost)
 
 pub returns-clause-steps : goal.returns-clause-steps
 returns-clause-steps g c =
@@ -83,7 +86,8 @@ returns-clause-lost g c =
     (g.F.Shelf.faults c.args.shelf.now) (g.F.Shelf.faults c.loaded.new.shelf) c.in_ok-loads.loads) c.as_slice.ensures c.in_ok-loads.ensures.comes in
     all_lost s.names c.args.edit.now s c.take.new.self c.args.book.now c.take.new.book (g.F.Shelf.answers c.args.shelf.now)
     (g.F.Shelf.answers c.loaded.new.shelf)
-    (g.F.Shelf.faults c.args.shelf.now) (g.F.Shelf.faults c.loaded.new.shelf) c.in_ok-loads.loads c.take.result comes
+    (g.F.Shelf.faults c.args.shelf.now) (g.F.Shelf.faults c.loaded.new.shelf) c.in_ok-loads.loads c.take.result
+    (λ grid. omega (arith, c.if-charge-self.false, c.charge.ensures grid)) comes
 
 pub returns-clause-cause : goal.returns-clause-cause
 returns-clause-cause g c =

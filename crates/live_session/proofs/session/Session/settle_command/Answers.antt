@@ -10,6 +10,7 @@ use Rattle.live_session.specs.Sessions.{world_of}
 use Rattle.live_session.specs.SettleAnswers.{settled_up_to}
 use Rattle.live_session.specs.Shown.{settle_text}
 use Rattle.live_session.proofs.DesignsShared.{design_send, design_sync}
+use Rattle.live_session.proofs.KeptRuns.{charged_kept}
 use Rattle.live_session.proofs.RefusedShows.{stopped}
 use Rattle.live_session.proofs.SessionCalls.{kept_there, stands_there}
 use Rattle.live_session.proofs.SettleCommands.{cut_stops, settled_steps, settled_stops}
@@ -23,6 +24,13 @@ links-links-requires-send-M g c κs within = search (design_send, sendable, cros
 
 pub links-links-requires-sync-M : goal.links-links-requires-sync-M
 links-links-requires-sync-M g c κs within = search (design_sync, sendable, crosses) depth 40 fits 20000
+
+pub invariant_of-self-clause-kept : goal.invariant_of-self-clause-kept
+invariant_of-self-clause-kept g c =
+    let s = c.args.self.now in
+    let r = c.in-Some.running in
+    charged_kept s.names s.limits c.links-links.result c.args.passes r c.charge_settle-charged.new.self c.charge_settle-charged.result
+    (kept_there s.names s.limits s.running r c.in-Some.is s.kept) c.charge_settle-charged.ensures
 
 pub returns-in-None-clause-steps : goal.returns-in-None-clause-steps
 returns-in-None-clause-steps g c =

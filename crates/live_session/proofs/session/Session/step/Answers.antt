@@ -7,6 +7,7 @@ use Rattle.command_read.specs.Asking.{Asked, Settles}
 use Rattle.command_read.specs.Spoken.{spoken}
 use Rattle.live_session.specs.AtTurn.{log_of}
 use Rattle.live_session.specs.Steps.{Stops}
+use Rattle.live_session.proofs.SessionSteps.{none_lost}
 use Rattle.live_session.proofs.SettleLooks.{stop_there}
 use Rattle.live_session.proofs.session.Session.step.Goals as goal
 
@@ -21,3 +22,7 @@ returns-in-Settle-clause-stops g c =
     (stop_there c.settle_command.result
     (λ (answers : Option (List ShelfAnswer)) (count : ℕ). Stops v.alone (Ok (Settles c.in-Settle.line c.in-Settle.passes)) answers answers count count s
     c.settle_command.new.self (log_of v) (log_of (known c.settle_command.new.pass))) c.settle_command.ensures.stops before faults)
+
+pub returns-in-Settle-clause-lost : goal.returns-in-Settle-clause-lost
+returns-in-Settle-clause-lost g c =
+    none_lost c.args.self.now (spoken c.args.self.now.names c.args.command) (g.F.Shelf.answers c.args.shelf.now) c.settle_command.result

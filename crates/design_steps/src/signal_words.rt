@@ -1,0 +1,74 @@
+// The words of a program, and the values of signals among them.
+ghost use Rattle.std.specs.Prelude.{◌≡◌, ◌<◌, ◌^◌, [], length, slice_index, IfOk};
+ghost use Rattle.typed_ir.specs.Flats.{signal_widths};
+ghost use Rattle.typed_ir.specs.Valuations.{put};
+ghost use Rattle.word_steps.specs.Walks.{env_of};
+ghost use Rattle.design_steps.specs.Programs.{IsProgramOf, AreHeld, IsAt, values_in};
+
+use crate::program::Program;
+use no_memory::NoMemory;
+use std::alloc::Global;
+use typed_ir::{Linked, SignalId};
+
+// The same words once more.
+fn copied(alloc: Global, words: &[u128]) -> Result<Vec<u128>, NoMemory>
+    ensures { IfOk result (λ copy. copy.items ≡ words.now) }
+{
+    let mut copy = Vec::with_capacity(alloc, words.len())?;
+    copy.extend_from_slice(words)?;
+    Ok(copy)
+}
+
+// The word at a place.
+fn word_at(words: &[u128], place: u32) -> u128
+    requires { place < length words.now }
+    ensures { result ≡ env_of words.now place }
+{
+    words[place as usize]
+}
+
+// Writes a word.
+#[tactic(auto, using(word_steps::proofs::Words::word_set))]
+fn put_word(words: &mut [u128], place: u32, value: u128)
+    requires { place < length words.old }
+    ensures { env_of words.new ≡ put (env_of words.old) place value }
+{
+    words[place as usize] = value;
+}
+
+impl Program {
+    /// The words that a run begins with: constants at their places, and all else 0.
+    pub fn begin(&self, alloc: Global, linked: &Linked) -> Result<Vec<u128>, NoMemory>
+        requires { ∥ IsProgramOf self.now linked.now ∥₁ }
+        ensures long { IfOk result (λ words. length words.items ≡ length self.now.beginning.items) }
+        ensures ready { IfOk result (λ words. IsAt self.now linked.now [] [] words.items) }
+    {
+        let _linked = linked;
+        copied(alloc, &self.beginning)
+    }
+
+    /// The value that a signal has among the words. It fits the signal's width where all values do.
+    pub fn value(&self, linked: &Linked, signal: SignalId, words: &[u128]) -> u128
+        requires program { ∥ IsProgramOf self.now linked.now ∥₁ }
+        requires long { length words.now ≡ length self.now.beginning.items }
+        ensures value { result ≡ values_in self.now words.now signal }
+        ensures fits { AreHeld self.now linked.now words.now → signal < length linked.now.design.signals.items
+            → result < 2 ^ slice_index (signal_widths linked.now.design.signals.items) signal }
+    {
+        let _linked = linked;
+        word_at(words, self.layout.slot(signal))
+    }
+
+    /// Gives a signal a value that fits its width, and leaves all others.
+    pub fn put(&self, linked: &Linked, signal: SignalId, value: u128, words: &mut [u128])
+        requires program { ∥ IsProgramOf self.now linked.now ∥₁ }
+        requires long { length words.old ≡ length self.now.beginning.items }
+        requires there { signal < length linked.now.design.signals.items }
+        requires fits { value < 2 ^ slice_index (signal_widths linked.now.design.signals.items) signal }
+        ensures value { values_in self.now words.new ≡ put (values_in self.now words.old) signal value }
+        ensures held { AreHeld self.now linked.now words.old → AreHeld self.now linked.now words.new }
+    {
+        let _linked = linked;
+        put_word(words, self.layout.slot(signal), value);
+    }
+}

@@ -1,0 +1,36 @@
+// Runs of the program.
+use livesim::{Outcome, live_run};
+use ls_port::{OpenGate, Shelf, Sink, Source};
+use no_memory::NoMemory;
+use std::alloc::Global;
+use std::sync::Wait;
+use std::thread::Threads;
+
+/// The words of a command line without workers, with an interval of 2 and a lookback of 1.
+fn words_of(alloc: Global) -> Result<Vec<String>, NoMemory> {
+    let mut words = Vec::new(alloc);
+    for word in [
+        "livesim",
+        "--interval",
+        "2",
+        "--lookback",
+        "1",
+        "--workers",
+        "0",
+    ] {
+        words.push(String::from_str(alloc, word)?)?;
+    }
+    Ok(words)
+}
+
+/// A run without workers.
+pub fn ran<R: Threads + Wait + Sync, S: Source, K: Sink, F: Shelf>(
+    rt: &R,
+    alloc: Global,
+    source: &mut S,
+    sink: &mut K,
+    shelf: &mut F,
+) -> Result<Outcome, NoMemory> {
+    let words = words_of(alloc)?;
+    Ok(live_run(rt, alloc, &words, source, sink, shelf, &OpenGate))
+}
