@@ -1,4 +1,7 @@
 // Runs of the program.
+use book_history::entry::Entry;
+use book_history::history::History;
+use cycle_eval::Design;
 use livesim::{Outcome, live_run};
 use ls_port::{OpenGate, Shelf, Sink, Source};
 use no_memory::NoMemory;
@@ -33,4 +36,9 @@ pub fn ran<R: Threads + Wait + Sync, S: Source, K: Sink, F: Shelf>(
 ) -> Result<Outcome, NoMemory> {
     let words = words_of(alloc)?;
     Ok(live_run(rt, alloc, &words, source, sink, shelf, &OpenGate))
+}
+
+/// The entries of a history, in order.
+pub fn recorded(alloc: Global, history: &History<Design>) -> Result<Vec<Entry>, NoMemory> {
+    Ok(Vec::from_slice(alloc, history.entries())?)
 }
