@@ -17,7 +17,7 @@ use Rattle.step_layout.specs.declared.layout.Layout.{Layout}
 use Rattle.step_layout.specs.Plans.{IsReady, signals, width_at}
 use Rattle.step_layout.specs.Pools.{or_end, spot}
 use Rattle.step_layout.specs.Views.{plan_of}
-use Rattle.design_steps.specs.Layings.{LaysOut, signals_of}
+use Rattle.design_steps.specs.Layings.{LaysOut, own_plan, signals_of}
 use Rattle.design_steps.proofs.Apart.{stand, below_all}
 
 zero_at : (n : ℕ) (ys : List ℕ) (k : ℕ) → k < n → slice_index (replicate n 0 ++ ys) k ≡ 0
@@ -84,30 +84,30 @@ module _ (l : Layout) (design : Flat) (lays : LaysOut l design) (rest : ℕ) whe
       ∙ behind l.constants.first (keys ++ replicate rest 0) (spot keys v)
       ∙ inside keys (replicate rest 0) (spot keys v) f.within ∙ f.is
 
-  slot_zero : (s : ℕ) → env_of ((replicate l.constants.first 0 ++ l.constants.values.keys) ++ replicate rest 0) ((plan_of l).slot s) ≡ 0
+  slot_zero : (s : ℕ) → env_of ((replicate l.constants.first 0 ++ l.constants.values.keys) ++ replicate rest 0) ((own_plan l).slot s) ≡ 0
   slot_zero s =
       let n = length design.signals.items in
       let t = stand l design lays in
       let f = lays.first in
-      none_yet ((plan_of l).slot s)
+      none_yet ((own_plan l).slot s)
       (by_cases (nat_lt s n)
       (λ yes. let less : s < n = ltb-true s n yes in let e = t.here s less in omega (arith, f, e, less))
       (λ no. let e = t.none s (ltb-false s n no) in omega (arith, f, e)))
 
-  pub begins : IsReady (plan_of l) (signals_of design) (env_of ((replicate l.constants.first 0 ++ l.constants.values.keys) ++ replicate rest 0))
+  pub begins : IsReady (own_plan l) (signals_of design) (env_of ((replicate l.constants.first 0 ++ l.constants.values.keys) ++ replicate rest 0))
   begins =
       let n = length design.signals.items in
       let t = stand l design lays in
       let f = lays.first in
       record {
-        fits = λ s h. subst (λ x. x < 2 ^ width_at (plan_of l) s) (sym (slot_zero s)) (pow_pos (width_at (plan_of l) s));
+        fits = λ s h. subst (λ x. x < 2 ^ width_at (own_plan l) s) (sym (slot_zero s)) (pow_pos (width_at (own_plan l) s));
         next_fits = λ s m. let less = below_all n s m in let e = t.next s less in
-            subst (λ x. x < 2 ^ width_at (plan_of l) s) (sym (none_yet ((plan_of l).next s) (omega (arith, f, e, less)))) (pow_pos (width_at (plan_of l) s));
+            subst (λ x. x < 2 ^ width_at (own_plan l) s) (sym (none_yet ((plan_of l).next s) (omega (arith, f, e, less)))) (pow_pos (width_at (own_plan l) s));
         holds = constant_at;
       }
 
   pub begins_based : (linked : Linked) → linked.design ≡ design
-      → IsBased (flat linked.design) [] [] (signals (plan_of l) (env_of ((replicate l.constants.first 0 ++ l.constants.values.keys) ++ replicate rest 0)))
+      → IsBased (flat linked.design) [] [] (signals (own_plan l) (env_of ((replicate l.constants.first 0 ++ l.constants.values.keys) ++ replicate rest 0)))
   begins_based linked same = λ s i free.
       ap (λ x. look (λ t. x) s i) (slot_zero s)
       ∙ sym (ap (λ e. look e s i) (fill_none (flat linked.design).registers (fill (flat linked.design).inputs [] (λ t. 0)) ∙ fill_none (flat linked.design).inputs (λ t. 0)))

@@ -1,4 +1,6 @@
 pub mod Holding
+pub mod Counting
+pub mod Shared
 pub mod Apart
 pub mod Placing
 pub mod Copied

@@ -1,28 +1,26 @@
 -- What is made of a linked design is its program.
 use Rattle.std.proofs.Common.{true, ◌≡◌, ℕ, ◌+◌, ◌-◌, ◌<◌, ◌≤◌, [], ◌++◌, map, length, replicate, refl, sym, ap, ◌∙◌, subst, arith}
 use Rattle.typed_ir.specs.declared.linked.Linked.{Linked}
-use Rattle.typed_ir.specs.FlatNodes.{node_of}
 use Rattle.typed_ir.specs.Statements.{stmt_of, sequence_of}
 use Rattle.typed_ir.specs.Cycles.{IsReady as IsBased}
 use Rattle.typed_ir.specs.Linkeds.{flat}
 use Rattle.word_steps.specs.Walks.{env_of}
 use Rattle.step_layout.specs.Plans.{IsReady, signals}
-use Rattle.step_layout.specs.Right.{IsLaidNode}
 use Rattle.step_layout.specs.Statements.{stmt_code}
-use Rattle.step_layout.specs.Nodes.{nodes_code, in_order}
+use Rattle.step_layout.specs.Nodes.{nodes_code}
 use Rattle.step_layout.specs.Sizes.{are_sized}
 use Rattle.step_layout.specs.Views.{plan_of}
 use Rattle.step_layout.proofs.Sizing.{nodes_sized, stmt_sized}
 use Rattle.design_steps.specs.declared.program.Program.{Program}
-use Rattle.design_steps.specs.Layings.{LaysOut, mark_of, signals_of}
+use Rattle.design_steps.specs.Layings.{LaysOut, own_plan, mark_of, signals_of}
 use Rattle.design_steps.specs.Places.{are_placed}
-use Rattle.design_steps.specs.Programs.{IsProgramOf}
-use Rattle.design_steps.proofs.Apart.{apart, nodes_laid, blocks_laid, each_in_order}
+use Rattle.design_steps.specs.Programs.{IsProgramOf, kept_nodes}
+use Rattle.design_steps.proofs.Apart.{apart, nodes_laid, blocks_laid}
 use Rattle.design_steps.proofs.Beginning.{begins, begins_based, all_long}
 use Rattle.design_steps.proofs.Placing.{sound_from}
 
 pub made : (p : Program) (l : Linked) (mark last : ℕ) → LaysOut p.layout l.design → mark ≡ mark_of p.layout
-    → p.settling.items ≡ nodes_code (plan_of p.layout) (in_order (map node_of l.design.nodes.items) l.order.items) mark
+    → p.settling.items ≡ nodes_code (plan_of p.layout) (kept_nodes p.layout l) mark
     → p.clocking.items ≡ stmt_code (plan_of p.layout) (sequence_of (map stmt_of l.design.clocked.items)) mark
     → ((n : ℕ) → last < n → are_placed n p.settling.items ≡ true) → ((n : ℕ) → last < n → are_placed n p.clocking.items ≡ true) → mark ≤ last
     → p.beginning.items ≡ (replicate p.layout.constants.first 0 ++ p.layout.constants.values.keys)
@@ -34,26 +32,26 @@ made p l mark last lays at nodes blocks placed_nodes placed_blocks few words =
     let first = p.layout.constants.first in
     let keys = p.layout.constants.values.keys in
     let rest = last + 1 - first - length keys in
-    let all = map node_of l.design.nodes.items in
+    let left = kept_nodes p.layout l in
     let st = sequence_of (map stmt_of l.design.clocked.items) in
     let free = apart p.layout l.design lays in
     let m : mark_of p.layout ≡ first + length keys + 1 = refl in
     let long : length p.beginning.items ≡ last + 1 = (let a = ap length words ∙ all_long first rest keys in omega (arith, a, at, m, few)) in
     let more : last < length p.beginning.items = omega (arith, long) in
-    let settles = nodes ∙ ap (nodes_code pl (in_order all l.order.items)) at in
+    let settles = nodes ∙ ap (nodes_code pl left) at in
     let clocks = blocks ∙ ap (stmt_code pl st) at in
-    let laid = each_in_order (IsLaidNode pl rs) all l.order.items (nodes_laid p.layout l.design lays) in
+    let laid = nodes_laid p.layout l.design lays l.order.items in
     record {
       lays = lays;
       settles = settles;
       clocks = clocks;
       sound_nodes = sound_from (length p.beginning.items) p.settling.items (placed_nodes (length p.beginning.items) more)
-          (ap are_sized settles ∙ nodes_sized pl free.few rs (in_order all l.order.items) (mark_of p.layout) laid);
+          (ap are_sized settles ∙ nodes_sized pl free.few rs left (mark_of p.layout) laid);
       sound_blocks = sound_from (length p.beginning.items) p.clocking.items (placed_blocks (length p.beginning.items) more)
           (ap are_sized clocks ∙ stmt_sized pl free.few st (mark_of p.layout) (blocks_laid p.layout l.design lays).legal);
       room = omega (arith, long, at, few);
       begins = record {
-        ready = subst (λ ws. IsReady pl rs (env_of ws)) (sym words) (begins p.layout l.design lays rest);
-        based = subst (λ ws. IsBased (flat l.design) [] [] (signals pl (env_of ws))) (sym words) (begins_based p.layout l.design lays rest l refl);
+        ready = subst (λ ws. IsReady (own_plan p.layout) rs (env_of ws)) (sym words) (begins p.layout l.design lays rest);
+        based = subst (λ ws. IsBased (flat l.design) [] [] (signals (own_plan p.layout) (env_of ws))) (sym words) (begins_based p.layout l.design lays rest l refl);
       };
     }

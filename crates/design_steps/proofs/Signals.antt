@@ -10,12 +10,11 @@ use Rattle.typed_ir.specs.Flats.{signal_widths}
 use Rattle.typed_ir.proofs.Cases.{by_cases}
 use Rattle.word_steps.proofs.Words.{put-same, put-other}
 use Rattle.step_layout.specs.Plans.{IsReady, signals, width_at}
-use Rattle.step_layout.specs.Views.{plan_of}
 use Rattle.design_steps.specs.declared.program.Program.{Program}
-use Rattle.design_steps.specs.Layings.{mark_of, signals_of}
+use Rattle.design_steps.specs.Layings.{own_plan, mark_of, signals_of}
 use Rattle.design_steps.specs.Programs.{IsAt, IsProgramOf}
 use Rattle.design_steps.proofs.Apart.{stand, below_all}
-use Rattle.design_steps.proofs.Turning.{slot_low, place_high, wide}
+use Rattle.design_steps.proofs.Turning.{own_low, place_high, wide}
 
 -- the words that it begins with
 pub begun : (p : Program) (l : Linked) → ∥ IsProgramOf p l ∥₁ → IsAt p l [] [] p.beginning.items
@@ -29,9 +28,9 @@ begun p l known = record {
 }
 
 module _ (p : Program) (l : Linked) (is : IsProgramOf p l) where
-  pub slot_within : (s : ℕ) → (plan_of p.layout).slot s < length p.beginning.items
+  pub slot_within : (s : ℕ) → (own_plan p.layout).slot s < length p.beginning.items
   slot_within s =
-      let low = slot_low p l is s in
+      let low = own_low p l is s in
       let first = is.lays.first in
       let m : mark_of p.layout ≡ p.layout.constants.first + length p.layout.constants.values.keys + 1 = refl in
       omega (arith, low, first, m, is.room)
@@ -43,8 +42,8 @@ module _ (p : Program) (l : Linked) (is : IsProgramOf p l) where
       let m : mark_of p.layout ≡ p.layout.constants.first + length p.layout.constants.values.keys + 1 = refl in
       omega (arith, first, m, is.room)
 
-  -- no other signal stands where one stands
-  other_slot : (s t : ℕ) → s < length l.design.signals.items → (t ≡ s → ⊥) → (plan_of p.layout).slot t ≡ (plan_of p.layout).slot s → ⊥
+  -- no other signal has its own place
+  other_slot : (s t : ℕ) → s < length l.design.signals.items → (t ≡ s → ⊥) → (own_plan p.layout).slot t ≡ (own_plan p.layout).slot s → ⊥
   other_slot s t less other same =
       let n = length l.design.signals.items in
       let st = stand p.layout l.design is.lays in
@@ -54,19 +53,19 @@ module _ (p : Program) (l : Linked) (is : IsProgramOf p l) where
       (λ no. let none = st.none t (ltb-false t n no) in omega (arith, here, none, same))
 
   -- a value fits its signal's width
-  pub value_fits : (w : Valuation) (s : ℕ) → IsReady (plan_of p.layout) (signals_of l.design) w → s < length l.design.signals.items
-      → w ((plan_of p.layout).slot s) < 2 ^ slice_index (signal_widths l.design.signals.items) s
+  pub value_fits : (w : Valuation) (s : ℕ) → IsReady (own_plan p.layout) (signals_of l.design) w → s < length l.design.signals.items
+      → w ((own_plan p.layout).slot s) < 2 ^ slice_index (signal_widths l.design.signals.items) s
   value_fits w s ready less =
-      let pl = plan_of p.layout in
+      let pl = own_plan p.layout in
       subst (λ ws. w (pl.slot s) < 2 ^ slice_index ws s) is.lays.widths (ready.fits s (wide p l is s less))
 
   pub put_value : (w : Valuation) (s x : ℕ) → s < length l.design.signals.items
-      → signals (plan_of p.layout) (put w ((plan_of p.layout).slot s) x) ≡ put (signals (plan_of p.layout) w) s x
+      → signals (own_plan p.layout) (put w ((own_plan p.layout).slot s) x) ≡ put (signals (own_plan p.layout) w) s x
   put_value w s x less = λ j t. at t j
     where
-      at : (t : ℕ) → put w ((plan_of p.layout).slot s) x ((plan_of p.layout).slot t) ≡ put (signals (plan_of p.layout) w) s x t
+      at : (t : ℕ) → put w ((own_plan p.layout).slot s) x ((own_plan p.layout).slot t) ≡ put (signals (own_plan p.layout) w) s x t
       at t =
-          let pl = plan_of p.layout in
+          let pl = own_plan p.layout in
           by_cases (t == s)
           (λ yes. let e = eqb-true t s yes in
           ap (λ k. put w (pl.slot s) x (pl.slot k)) e ∙ put-same w (pl.slot s) x ∙ sym (put-same (signals pl w) s x) ∙ ap (put (signals pl w) s x) (sym e))
@@ -74,9 +73,9 @@ module _ (p : Program) (l : Linked) (is : IsProgramOf p l) where
           put-other w (pl.slot s) x (pl.slot t) (other_slot s t less other) ∙ sym (put-other (signals pl w) s x t other))
 
   pub put_held : (w : Valuation) (s x : ℕ) → s < length l.design.signals.items → x < 2 ^ slice_index (signal_widths l.design.signals.items) s
-      → IsReady (plan_of p.layout) (signals_of l.design) w → IsReady (plan_of p.layout) (signals_of l.design) (put w ((plan_of p.layout).slot s) x)
+      → IsReady (own_plan p.layout) (signals_of l.design) w → IsReady (own_plan p.layout) (signals_of l.design) (put w ((own_plan p.layout).slot s) x)
   put_held w s x less small ready =
-      let pl = plan_of p.layout in
+      let pl = own_plan p.layout in
       let n = length l.design.signals.items in
       let st = stand p.layout l.design is.lays in
       let here = st.here s less in

@@ -1,12 +1,14 @@
 -- What a cycle of a program gives.
-use Rattle.std.proofs.Common.{◌≡◌, ℕ, zero, suc, ◌+◌, ◌*◌, ◌<◌, ◌≤◌, ◌^◌, ◌&&◌, ◌==◌, nat_lt, ◌⊎◌, inl, inr, List, [], ◌∷◌, ◌++◌, map, length, refl, sym, ap, ◌∙◌, subst, arith, IsTrue}
+use Rattle.std.proofs.Common.{true≢false, ◌≡◌, ℕ, zero, suc, ◌+◌, ◌*◌, ◌<◌, ◌≤◌, ◌^◌, ◌&&◌, ◌==◌, nat_lt, ◌⊎◌, inl, inr, List, [], ◌∷◌, ◌++◌, map, length, refl, sym, ap, ap₂, ◌∙◌, subst, arith, IsTrue}
 use Rattle.std.proofs.Math.Logic.{∥∥₁_elim}
 use Rattle.std.proofs.Props.{props}
-use Rattle.std.proofs.lemmas.List.{length-map}
-use Rattle.std.proofs.lemmas.Bool.{ltb-true, ltb-false, eqb-true, cond-true, cond-false}
+use Rattle.std.proofs.lemmas.Bool.{ltb-true, ltb-false, eqb-true, eqb-false, cond-true, cond-false}
+use Rattle.std.specs.Int.{bit_at}
+use Rattle.std.specs.Prelude.{slice_index}
 use Rattle.bits.specs.Runs.{replaced}
+use Rattle.bits.proofs.Runs.{bit_at-mod_out}
+use Rattle.bits.proofs.Modulo.{small}
 use Rattle.typed_ir.specs.declared.linked.Linked.{Linked}
-use Rattle.typed_ir.specs.declared.signal.Signal.{Signal}
 use Rattle.typed_ir.specs.declared.stmt.Stmt.{Stmt}
 use Rattle.typed_ir.specs.declared.update.Update.{Update}
 use Rattle.typed_ir.specs.Valuations.{Valuation, placed, look}
@@ -17,25 +19,27 @@ use Rattle.typed_ir.specs.Statements.{stmt_of, sequence_of}
 use Rattle.typed_ir.specs.FlatNodes.{node_of}
 use Rattle.typed_ir.specs.Linkeds.{flat}
 use Rattle.typed_ir.specs.Flats.{are_clocked, signal_widths}
-use Rattle.typed_ir.specs.Cycles.{wires, step, base, all_pending, Satisfies, IsReady as IsBased}
+use Rattle.typed_ir.specs.Cycles.{wires, step, base, fill, all_pending, Satisfies, IsReady as IsBased}
 use Rattle.typed_ir.proofs.Cases.{by_cases, and_left, and_right}
 use Rattle.typed_ir.proofs.Locals.{node_laws}
 use Rattle.typed_ir.proofs.Numbered.{pass_from, wires_satisfy}
 use Rattle.typed_ir.proofs.Pending.{clocked_still}
-use Rattle.typed_ir.proofs.Ready.{member_or, applied_others, all_signals, next_ready}
+use Rattle.typed_ir.proofs.Ready.{member_or, fill-other, applied_others, all_signals, next_ready}
 use Rattle.typed_ir.proofs.Settled.{round-outside}
 use Rattle.word_steps.specs.Walks.{At, walk, at}
 use Rattle.step_layout.specs.Plans.{IsReady, signals, width_at}
 use Rattle.step_layout.specs.Nodes.{nodes_code, node_at, in_order, all_later}
 use Rattle.step_layout.specs.Views.{plan_of}
-use Rattle.step_layout.specs.Right.{IsLaidNode}
 use Rattle.step_layout.proofs.Doing.{does, now_is}
 use Rattle.step_layout.proofs.Passing.{does_nodes}
-use Rattle.design_steps.specs.Layings.{mark_of, signals_of}
+use Rattle.design_steps.specs.declared.naming.Naming.{Naming}
+use Rattle.design_steps.specs.Namings.{kept, Held, IsAlias}
+use Rattle.design_steps.specs.Layings.{own_plan, mark_of, signals_of}
 use Rattle.design_steps.specs.Carries.{carried}
 use Rattle.design_steps.specs.Programs.{IsProgramOf}
 use Rattle.design_steps.specs.declared.program.Program.{Program}
-use Rattle.design_steps.proofs.Apart.{stand, apart, nodes_laid, blocks_laid, each_in_order, below_all, in_all}
+use Rattle.design_steps.proofs.Apart.{widths_many, stand, stands, slot_few, apart, keeps, any_driver, nodes_laid, blocks_laid, below_all, in_all}
+use Rattle.design_steps.proofs.Shared.{names_known, names_drive, pass_kept}
 use Rattle.design_steps.proofs.Copied.{below_member, carried_kept, carried_at}
 
 -- ---- plain facts
@@ -78,12 +82,28 @@ applied_at (u ∷ us) v w s e = applied_at us (placed u.span u.value v) (placed 
     ∙ sym (cond-true (s == u.span.signal) (replaced (w u.span.signal) u.span.low u.span.width u.value) (w s) yes))
     (λ no. cond-false (s == u.span.signal) _ (v s) no ∙ e ∙ sym (cond-false (s == u.span.signal) _ (w s) no)))
 
--- the signals after a cycle, over settled wires
-pub record Turns (p : Program) (l : Linked) (w v : Valuation) : Type 0 where
-  pub now : signals (plan_of p.layout) w ≡ all_applied (all_pending (flat l.design).clocked v) v
-  pub ready : IsReady (plan_of p.layout) (signals_of l.design) w
+-- the signals after a cycle, over settled wires: those at their own places are as the updates make them, and the own places of others hold
+-- what they held
+pub record Turns (p : Program) (l : Linked) (old w v : Valuation) : Type 0 where
+  pub now : (s : ℕ) → (plan_of p.layout).slot s ≡ (own_plan p.layout).slot s → w ((own_plan p.layout).slot s) ≡ all_applied (all_pending (flat l.design).clocked v) v s
+  pub kept : (s : ℕ) → ((plan_of p.layout).slot s ≡ (own_plan p.layout).slot s → ⊥) → w ((own_plan p.layout).slot s) ≡ old ((own_plan p.layout).slot s)
+  pub ready : IsReady (own_plan p.layout) (signals_of l.design) w
+
+-- the same of settled wires
+pub record Settles (p : Program) (l : Linked) (old w v : Valuation) : Type 0 where
+  pub now : signals (plan_of p.layout) w ≡ v
+  pub kept : (s : ℕ) → ((plan_of p.layout).slot s ≡ (own_plan p.layout).slot s → ⊥) → w ((own_plan p.layout).slot s) ≡ old ((own_plan p.layout).slot s)
+  pub ready : IsReady (own_plan p.layout) (signals_of l.design) w
+
+map_same : (f g : ℕ → ℕ) (ts : List ℕ) → ((t : ℕ) → Member t ts → f t ≡ g t) → map f ts ≡ map g ts
+map_same f g [] h = refl
+map_same f g (t ∷ ts) h = ap₂ (λ (z : ℕ) (zs : List ℕ). z ∷ zs) (h t (inl refl)) (map_same f g ts (λ u m. h u (inr m)))
 
 -- ---- the wires
+
+-- a bit that a number doesn't have
+high_bit : (x width i : ℕ) → x < 2 ^ width → width ≤ i → bit_at x i ≡ 0
+high_bit x width i fits high = ap (λ y. bit_at y i) (sym (small x width fits)) ∙ bit_at-mod_out x width i high
 
 module _ (p : Program) (l : Linked) (is : IsProgramOf p l) where
   satisfied : (state inputs : List ℕ) → Satisfies (flat l.design) state inputs (wires (flat l.design) state inputs)
@@ -91,43 +111,144 @@ module _ (p : Program) (l : Linked) (is : IsProgramOf p l) where
       ∥∥₁_elim l.design.sound (hlevel props) (λ f. ∥∥₁_elim l.in_order (hlevel props) (λ o.
       wires_satisfy (flat l.design) l.order.items state inputs f.sound o))
 
-  -- the steps of the nodes
-  pub settles : (w : Valuation) (state inputs : List ℕ) → IsReady (plan_of p.layout) (signals_of l.design) w
+  few : (s : ℕ) → s < length p.layout.widths.items → s < length l.design.signals.items
+  few s less = let e = widths_many p.layout l.design is.lays in omega (arith, e, less)
+
+  pub wide : (s : ℕ) → s < length l.design.signals.items → s < length p.layout.widths.items
+  wide s less = let e = widths_many p.layout l.design is.lays in omega (arith, e, less)
+
+  -- what signals have where they stand, from what they have at their own places
+  shared_ready : (w : Valuation) → IsReady (own_plan p.layout) (signals_of l.design) w → IsReady (plan_of p.layout) (signals_of l.design) w
+  shared_ready w ready = record {
+    fits = λ s h. let r = stands p.layout l.design is.lays s (few s h) in
+        subst (λ k. w k < 2 ^ slice_index p.layout.widths.items s) ((stand p.layout l.design is.lays).here r.root r.there ∙ sym r.at)
+        (subst (λ n. w ((own_plan p.layout).slot r.root) < 2 ^ n) (sym r.wide) (ready.fits r.root (wide r.root r.there)));
+    next_fits = ready.next_fits;
+    holds = ready.holds;
+  }
+
+  -- a signal's own place is nobody's where the signal stands at another one
+  own_place : (s t : ℕ) → ((plan_of p.layout).slot s ≡ (own_plan p.layout).slot s → ⊥) → (own_plan p.layout).slot s ≡ (plan_of p.layout).slot t → ⊥
+  own_place s t other e =
+      let n = length l.design.signals.items in
+      let st = stand p.layout l.design is.lays in
+      by_cases (nat_lt s n)
+      (λ yes. let less : s < n = ltb-true s n yes in
+      let here = st.here s less in
+      by_cases (nat_lt t n)
+      (λ there. let r = stands p.layout l.design is.lays t (ltb-true t n there) in
+      let same : r.root ≡ s = (let a = r.at in omega (arith, a, here, e)) in
+      other (subst (λ u. (plan_of p.layout).slot u ≡ 1 + u) same r.own ∙ sym here))
+      (λ no. let none = st.shared t (ltb-false t n no) in omega (arith, here, none, e)))
+      (λ no. let more : n ≤ s = ltb-false s n no in other (st.shared s more ∙ sym (st.none s more)))
+
+  -- an own place is no next value's, and lies below the mark
+  pub own_low : (s : ℕ) → (own_plan p.layout).slot s ≤ length l.design.signals.items
+  own_low s =
+      let n = length l.design.signals.items in
+      let t = stand p.layout l.design is.lays in
+      by_cases (nat_lt s n)
+      (λ yes. let less : s < n = ltb-true s n yes in let e = t.here s less in omega (arith, e, less))
+      (λ no. let e = t.none s (ltb-false s n no) in omega (arith, e))
+
+  own_next : (s t : ℕ) → Member t (signals_of l.design) → (own_plan p.layout).slot s ≡ (plan_of p.layout).next t → ⊥
+  own_next s t m e =
+      let less = below_all (length l.design.signals.items) t m in
+      let a = own_low s in
+      let b = (stand p.layout l.design is.lays).next t less in
+      omega (arith, a, b, e)
+
+  own_mark : (s : ℕ) → (own_plan p.layout).slot s < mark_of p.layout
+  own_mark s = let a = own_low s in let b = (stand p.layout l.design is.lays).mark in omega (arith, a, b)
+
+  -- what is ready where signals stand is so at their own places, where those of others hold what fitted
+  own_ready : (w w' : Valuation) → IsReady (own_plan p.layout) (signals_of l.design) w → IsReady (plan_of p.layout) (signals_of l.design) w'
+      → ((s : ℕ) → ((plan_of p.layout).slot s ≡ (own_plan p.layout).slot s → ⊥) → w' ((own_plan p.layout).slot s) ≡ w ((own_plan p.layout).slot s))
+      → IsReady (own_plan p.layout) (signals_of l.design) w'
+  own_ready w w' old new kept = record {
+    fits = λ s h. by_cases ((plan_of p.layout).slot s == (own_plan p.layout).slot s)
+        (λ yes. subst (λ k. w' k < 2 ^ slice_index p.layout.widths.items s) (eqb-true ((plan_of p.layout).slot s) ((own_plan p.layout).slot s) yes) (new.fits s h))
+        (λ no. subst (λ x. x < 2 ^ slice_index p.layout.widths.items s) (sym (kept s (eqb-false ((plan_of p.layout).slot s) ((own_plan p.layout).slot s) no))) (old.fits s h));
+    next_fits = new.next_fits;
+    holds = new.holds;
+  }
+
+  alias_of : (s : ℕ) → ((plan_of p.layout).slot s ≡ (own_plan p.layout).slot s → ⊥) → IsAlias l.design p.layout.slots.items s
+  alias_of s other =
+      let n = length l.design.signals.items in
+      let st = stand p.layout l.design is.lays in
+      by_cases (nat_lt s n)
+      (λ yes. let less = ltb-true s n yes in of (st.here s less) (is.lays.slots.each s less))
+      (λ no. let more = ltb-false s n no in absurd (other (st.shared s more ∙ sym (st.none s more))))
+    where
+      of : (own_plan p.layout).slot s ≡ 1 + s → (slice_index p.layout.slots.items s ≡ s + 1) ⊎ IsAlias l.design p.layout.slots.items s → IsAlias l.design p.layout.slots.items s
+      of here (inl e) = absurd (other (e ∙ (let f : s + 1 ≡ 1 + s = omega arith in f) ∙ sym here))
+      of here (inr a) = a
+
+  -- what is no register and no input begins with 0
+  base_free : (state inputs : List ℕ) (s : ℕ) → (Held l.design s → ⊥) → base (flat l.design) state inputs s ≡ 0
+  base_free state inputs s none =
+      fill-other l.design.registers.items state (fill l.design.inputs.items inputs (λ t. 0)) s (λ m. none (inl m))
+      ∙ fill-other l.design.inputs.items inputs (λ t. 0) s (λ m. none (inr m))
+
+  -- the bits that no node drives are as they are to be where signals stand, too: all bits of a wire that stands elsewhere are driven
+  seen_based : (w : Valuation) (state inputs : List ℕ) → IsReady (own_plan p.layout) (signals_of l.design) w → IsBased (flat l.design) state inputs (signals (own_plan p.layout) w)
       → IsBased (flat l.design) state inputs (signals (plan_of p.layout) w)
-      → signals (plan_of p.layout) (walk p.settling.items (at 0 w)).words ≡ wires (flat l.design) state inputs
+  seen_based w state inputs ready based s i free = by_cases ((plan_of p.layout).slot s == (own_plan p.layout).slot s)
+      (λ yes. ap (λ k. bit_at (w k) i) (eqb-true ((plan_of p.layout).slot s) ((own_plan p.layout).slot s) yes) ∙ based s i free)
+      (λ no. of (alias_of s (eqb-false ((plan_of p.layout).slot s) ((own_plan p.layout).slot s) no)))
+    where
+      of : IsAlias l.design p.layout.slots.items s → look (signals (plan_of p.layout) w) s i ≡ look (base (flat l.design) state inputs) s i
+      of a =
+          let all = map node_of l.design.nodes.items in
+          let ws = signal_widths l.design.signals.items in
+          let n : Naming = record { wire = s; signal = a.source } in
+          let known = names_known all a.node ws n a.names in
+          let there : s < length p.layout.widths.items = subst (λ vs. s < length vs) (sym is.lays.widths) known.wire_there in
+          let fits = (shared_ready w ready).fits s there in
+          by_cases (nat_lt i (slice_index ws s))
+          (λ yes. absurd (true≢false (sym (any_driver all a.node s i (names_drive all a.node ws n i a.names (ltb-true i (slice_index ws s) yes))) ∙ free)))
+          (λ no. high_bit (w ((plan_of p.layout).slot s)) (slice_index ws s) i (subst (λ vs. w ((plan_of p.layout).slot s) < 2 ^ slice_index vs s) is.lays.widths fits) (ltb-false i (slice_index ws s) no)
+          ∙ sym (ap (λ x. bit_at x i) (base_free state inputs s a.free) ∙ high_bit 0 0 i (omega arith) (omega arith)))
+
+  -- the steps of the nodes
+  pub settles : (w : Valuation) (state inputs : List ℕ) → IsReady (own_plan p.layout) (signals_of l.design) w
+      → IsBased (flat l.design) state inputs (signals (own_plan p.layout) w)
+      → Settles p l w (walk p.settling.items (at 0 w)).words (wires (flat l.design) state inputs)
   settles w state inputs ready based =
       let pl = plan_of p.layout in
       let rs = signals_of l.design in
       let mark = mark_of p.layout in
       let all = map node_of l.design.nodes.items in
-      let nodes = in_order all l.order.items in
+      let order = kept p.layout.widths.items p.layout.slots.items all l.order.items in
+      let nodes = in_order all order in
       let free = apart p.layout l.design is.lays in
-      let laid = each_in_order (IsLaidNode pl rs) all l.order.items (nodes_laid p.layout l.design is.lays) in
-      let d = does_nodes pl rs mark free nodes mark w (omega arith) laid ready in
-      ap (λ steps. signals pl (walk steps (at 0 w)).words) is.settles
-      ∙ ap (λ (a : At). signals pl a.words) d.ends
-      ∙ now_is pl rs mark free (nodes_code pl nodes mark) w mark (pass drive nodes (signals pl w)) (all_later nodes (signals pl w)) d
-      ∙ pass_order all l.order.items (signals pl w)
-      ∙ ∥∥₁_elim l.design.sound (hlevel props) (λ f. ∥∥₁_elim l.in_order (hlevel props) (λ o.
-      pass_from (flat l.design) l.order.items state inputs f.sound o (signals pl w) based))
-
-  pub settled_ready : (w : Valuation) → IsReady (plan_of p.layout) (signals_of l.design) w
-      → IsReady (plan_of p.layout) (signals_of l.design) (walk p.settling.items (at 0 w)).words
-  settled_ready w ready =
-      let pl = plan_of p.layout in
-      let rs = signals_of l.design in
-      let mark = mark_of p.layout in
-      let all = map node_of l.design.nodes.items in
-      let laid = each_in_order (IsLaidNode pl rs) all l.order.items (nodes_laid p.layout l.design is.lays) in
-      let d = does_nodes pl rs mark (apart p.layout l.design is.lays) (in_order all l.order.items) mark w (omega arith) laid ready in
-      subst (λ (a : At). IsReady pl rs a.words) (sym (ap (λ steps. walk steps (at 0 w)) is.settles ∙ d.ends)) d.ready
+      let laid = nodes_laid p.layout l.design is.lays l.order.items in
+      let d = does_nodes pl rs mark free nodes mark w (omega arith) laid (shared_ready w ready) in
+      let env = signals pl w in
+      let ends : (walk p.settling.items (at 0 w)).words ≡ d.after = ap (λ steps. (walk steps (at 0 w)).words) is.settles ∙ ap (λ (a : At). a.words) d.ends in
+      let kept_words : (s : ℕ) → (pl.slot s ≡ (own_plan p.layout).slot s → ⊥) → d.after ((own_plan p.layout).slot s) ≡ w ((own_plan p.layout).slot s) = λ s other.
+      d.kept ((own_plan p.layout).slot s) (own_mark s) (λ t. own_place s t other) (λ t m. own_next s t m) in
+      subst (λ z. Settles p l w z (wires (flat l.design) state inputs)) (sym ends)
+      (record {
+        now = now_is pl rs mark free (nodes_code pl nodes mark) w mark (pass drive nodes env) (all_later nodes env) d
+            ∙ pass_order all order env
+            ∙ pass_kept all p.layout.widths.items p.layout.slots.items (keeps p.layout l.design is.lays) l.order.items env (λ s t e. ap w e)
+            ∙ ∥∥₁_elim l.design.sound (hlevel props) (λ f. ∥∥₁_elim l.in_order (hlevel props) (λ o.
+            pass_from (flat l.design) l.order.items state inputs f.sound o env (seen_based w state inputs ready based)));
+        kept = kept_words;
+        ready = own_ready w d.after ready d.ready kept_words;
+      })
 
   -- settled wires are as the registers and inputs say
-  pub settled_based : (w : Valuation) (state inputs : List ℕ) → signals (plan_of p.layout) w ≡ wires (flat l.design) state inputs
-      → IsBased (flat l.design) state inputs (signals (plan_of p.layout) w)
-  settled_based w state inputs e = λ s i free.
-      ap (λ v. look v s i) (e ∙ sym (satisfied state inputs))
-      ∙ round-outside node_laws (flat l.design).nodes (wires (flat l.design) state inputs) (base (flat l.design) state inputs) s i free
+  pub settled_based : (w w' : Valuation) (state inputs : List ℕ) → IsBased (flat l.design) state inputs (signals (own_plan p.layout) w)
+      → Settles p l w w' (wires (flat l.design) state inputs) → IsBased (flat l.design) state inputs (signals (own_plan p.layout) w')
+  settled_based w w' state inputs old new s i free = by_cases ((plan_of p.layout).slot s == (own_plan p.layout).slot s)
+      (λ yes.
+      ap (λ k. bit_at (w' k) i) (sym (eqb-true ((plan_of p.layout).slot s) ((own_plan p.layout).slot s) yes))
+      ∙ ap (λ v. look v s i) (new.now ∙ sym (satisfied state inputs))
+      ∙ round-outside node_laws (flat l.design).nodes (wires (flat l.design) state inputs) (base (flat l.design) state inputs) s i free)
+      (λ no. ap (λ x. bit_at x i) (new.kept s (eqb-false ((plan_of p.layout).slot s) ((own_plan p.layout).slot s) no)) ∙ old s i free)
 
   -- ---- the registers
 
@@ -144,7 +265,7 @@ module _ (p : Program) (l : Linked) (is : IsProgramOf p l) where
       out n r less e (inr h) = omega (arith, less, e, h)
 
   up_next : (w : Valuation) (s : ℕ) → Member s l.design.registers.items → carried l.design.registers.items 1 (length l.design.signals.items + 1) w ((plan_of p.layout).next s)
-      ≡ w ((plan_of p.layout).slot s)
+      ≡ w ((own_plan p.layout).slot s)
   up_next w s m =
       let n = length l.design.signals.items in
       let regs = l.design.registers.items in
@@ -166,22 +287,8 @@ module _ (p : Program) (l : Linked) (is : IsProgramOf p l) where
       same : (n s r : ℕ) {x : ℕ} → x ≡ n + 1 + s → x ≡ n + 1 + r → r ≡ s
       same n s r e f = omega (arith, e, f)
 
-  pub slot_low : (s : ℕ) → (plan_of p.layout).slot s ≤ length l.design.signals.items
-  slot_low s =
-      let n = length l.design.signals.items in
-      let t = stand p.layout l.design is.lays in
-      by_cases (nat_lt s n)
-      (λ yes. let less : s < n = ltb-true s n yes in let e = t.here s less in omega (arith, e, less))
-      (λ no. let e = t.none s (ltb-false s n no) in omega (arith, e))
-
   pub place_high : (v : ℕ) → 2 * length l.design.signals.items + 1 ≤ (plan_of p.layout).place v
   place_high v = let t = stand p.layout l.design is.lays in let e = t.low v in omega (arith, e)
-
-  few : (s : ℕ) → s < length (plan_of p.layout).widths → s < length l.design.signals.items
-  few s less = let e = ap length is.lays.widths ∙ length-map l.design.signals.items (λ (x : Signal). x.width) in omega (arith, e, less)
-
-  pub wide : (s : ℕ) → s < length l.design.signals.items → s < length (plan_of p.layout).widths
-  wide s less = let e = ap length is.lays.widths ∙ length-map l.design.signals.items (λ (x : Signal). x.width) in omega (arith, e, less)
 
   listed : (s : ℕ) → Member s l.design.registers.items → Member s (signals_of l.design)
   listed s m =
@@ -189,27 +296,27 @@ module _ (p : Program) (l : Linked) (is : IsProgramOf p l) where
       in_all (length l.design.signals.items) s less
 
   up_signals : (w : Valuation) → signals (plan_of p.layout) (carried l.design.registers.items 1 (length l.design.signals.items + 1) w) ≡ signals (plan_of p.layout) w
-  up_signals w = λ j s. up_kept w ((plan_of p.layout).slot s) (inl (slot_low s)) j
+  up_signals w = λ j s. up_kept w ((plan_of p.layout).slot s) (inl (slot_few p.layout l.design is.lays s)) j
 
-  up_ready : (w : Valuation) → IsReady (plan_of p.layout) (signals_of l.design) w
-      → IsReady (plan_of p.layout) (signals_of l.design) (carried l.design.registers.items 1 (length l.design.signals.items + 1) w)
+  up_ready : (w : Valuation) → IsReady (own_plan p.layout) (signals_of l.design) w
+      → IsReady (own_plan p.layout) (signals_of l.design) (carried l.design.registers.items 1 (length l.design.signals.items + 1) w)
   up_ready w ready =
-      let pl = plan_of p.layout in
+      let ow = own_plan p.layout in
       let n = length l.design.signals.items in
       let regs = l.design.registers.items in
       let after = carried regs 1 (n + 1) w in
       record {
-        fits = λ s h. subst (λ x. x < 2 ^ width_at pl s) (sym (up_kept w (pl.slot s) (inl (slot_low s)))) (ready.fits s h);
+        fits = λ s h. subst (λ x. x < 2 ^ width_at ow s) (sym (up_kept w (ow.slot s) (inl (own_low s)))) (ready.fits s h);
         next_fits = λ s m. let less = below_all n s m in
-            elim (member_or s regs) as (λ _. after (pl.next s) < 2 ^ width_at pl s) [
-              | inl r ↦ subst (λ x. x < 2 ^ width_at pl s) (sym (up_next w s r)) (ready.fits s (wide s less))
-              | inr none ↦ subst (λ x. x < 2 ^ width_at pl s) (sym (up_other w s none less)) (ready.next_fits s m)
+            elim (member_or s regs) as (λ _. after (ow.next s) < 2 ^ width_at ow s) [
+              | inl r ↦ subst (λ x. x < 2 ^ width_at ow s) (sym (up_next w s r)) (ready.fits s (wide s less))
+              | inr none ↦ subst (λ x. x < 2 ^ width_at ow s) (sym (up_other w s none less)) (ready.next_fits s m)
             ];
-        holds = λ v m. up_kept w (pl.place v) (inr (place_high v)) ∙ ready.holds v m;
+        holds = λ v m. up_kept w (ow.place v) (inr (place_high v)) ∙ ready.holds v m;
       }
 
   -- the next values copied back
-  down_at : (w : Valuation) (s : ℕ) → Member s l.design.registers.items → carried l.design.registers.items (length l.design.signals.items + 1) 1 w ((plan_of p.layout).slot s)
+  down_at : (w : Valuation) (s : ℕ) → Member s l.design.registers.items → carried l.design.registers.items (length l.design.signals.items + 1) 1 w ((own_plan p.layout).slot s)
       ≡ w ((plan_of p.layout).next s)
   down_at w s m =
       let n = length l.design.signals.items in
@@ -221,12 +328,12 @@ module _ (p : Program) (l : Linked) (is : IsProgramOf p l) where
       ∙ ap w (sym (t.next s less))
 
   down_other : (w : Valuation) (s : ℕ) → (Member s l.design.registers.items → ⊥)
-      → carried l.design.registers.items (length l.design.signals.items + 1) 1 w ((plan_of p.layout).slot s) ≡ w ((plan_of p.layout).slot s)
+      → carried l.design.registers.items (length l.design.signals.items + 1) 1 w ((own_plan p.layout).slot s) ≡ w ((own_plan p.layout).slot s)
   down_other w s none =
       let n = length l.design.signals.items in
       let regs = l.design.registers.items in
       let t = stand p.layout l.design is.lays in
-      carried_kept regs (n + 1) 1 w ((plan_of p.layout).slot s) (λ r m e.
+      carried_kept regs (n + 1) 1 w ((own_plan p.layout).slot s) (λ r m e.
       by_cases (nat_lt s n)
       (λ yes. none (subst (λ z. Member z regs) (let here = t.here s (ltb-true s n yes) in same s r here e) m))
       (λ no. let none_ = t.none s (ltb-false s n no) in zero_ r none_ e))
@@ -243,13 +350,20 @@ module _ (p : Program) (l : Linked) (is : IsProgramOf p l) where
       let regs = l.design.registers.items in
       carried_kept regs (n + 1) 1 w k (λ r m e. let less = below_member regs n r l.design.registers_there m in omega (arith, less, e, high))
 
+  -- a register stands at its own place
+  register_own : (s : ℕ) → Member s l.design.registers.items → (plan_of p.layout).slot s ≡ (own_plan p.layout).slot s
+  register_own s m = by_cases ((plan_of p.layout).slot s == (own_plan p.layout).slot s)
+      (λ yes. eqb-true ((plan_of p.layout).slot s) ((own_plan p.layout).slot s) yes)
+      (λ no. absurd ((alias_of s (eqb-false ((plan_of p.layout).slot s) ((own_plan p.layout).slot s) no)).free (inl m)))
+
   -- the words after the blocks and after the copies, where `v` are the settled wires
-  module _ (w : Valuation) (state inputs : List ℕ) (ready : IsReady (plan_of p.layout) (signals_of l.design) w)
+  module _ (w : Valuation) (state inputs : List ℕ) (ready : IsReady (own_plan p.layout) (signals_of l.design) w)
       (settled : signals (plan_of p.layout) w ≡ wires (flat l.design) state inputs) where
-    pub turned : Turns p l (carried l.design.registers.items (length l.design.signals.items + 1) 1
+    pub turned : Turns p l w (carried l.design.registers.items (length l.design.signals.items + 1) 1
         (walk p.clocking.items (at 0 (carried l.design.registers.items 1 (length l.design.signals.items + 1) w))).words) (wires (flat l.design) state inputs)
     turned =
         let pl = plan_of p.layout in
+        let ow = own_plan p.layout in
         let rs = signals_of l.design in
         let n = length l.design.signals.items in
         let regs = l.design.registers.items in
@@ -260,47 +374,61 @@ module _ (p : Program) (l : Linked) (is : IsProgramOf p l) where
         let v = wires (flat l.design) state inputs in
         let us = all_pending (map stmt_of sts) v in
         let up = carried regs 1 (n + 1) w in
-        let d = does pl rs mark (apart p.layout l.design is.lays) st mark up (omega arith) (blocks_laid p.layout l.design is.lays) (up_ready w ready) in
+        let d = does pl rs mark (apart p.layout l.design is.lays) st mark up (omega arith) (blocks_laid p.layout l.design is.lays) (shared_ready up (up_ready w ready)) in
         let after = carried regs (n + 1) 1 d.after in
         let seen : signals pl up ≡ v = up_signals w ∙ settled in
         let noted : pending st (signals pl up) ≡ us = ap (pending st) seen ∙ blocks_pending sts ws v l.design.blocks in
         let still : (s : ℕ) → d.after (pl.slot s) ≡ v s = λ s. d.now s ∙ ap (λ e. exec st e s) seen ∙ ap (λ e. e s) (blocks_still sts ws v l.design.blocks) in
         let others : (s : ℕ) → (Member s regs → ⊥) → all_applied us v s ≡ v s = λ s none.
         ∥∥₁_elim l.design.sound (hlevel props) (λ f. applied_others regs us v s (all_signals regs (map stmt_of sts) v f.registers_only) none) in
-        let now : (s : ℕ) → after (pl.slot s) ≡ all_applied us v s = λ s.
-        elim (member_or s regs) as (λ _. after (pl.slot s) ≡ all_applied us v s) [
+        let now : (s : ℕ) → pl.slot s ≡ ow.slot s → after (ow.slot s) ≡ all_applied us v s = λ s own.
+        elim (member_or s regs) as (λ _. after (ow.slot s) ≡ all_applied us v s) [
           | inl r ↦ down_at d.after s r ∙ d.later s (listed s r)
               ∙ ap (λ (zs : List Update). all_applied zs (λ t. up (pl.next t)) s) noted
-              ∙ applied_at us (λ t. up (pl.next t)) v s (up_next w s r ∙ ap (λ e. e s) settled)
-          | inr none ↦ down_other d.after s none ∙ still s ∙ sym (others s none)
+              ∙ applied_at us (λ t. up (pl.next t)) v s (up_next w s r ∙ ap w (sym own) ∙ ap (λ e. e s) settled)
+          | inr none ↦ down_other d.after s none ∙ ap d.after (sym own) ∙ still s ∙ sym (others s none)
         ] in
+        let kept_words : (s : ℕ) → (pl.slot s ≡ ow.slot s → ⊥) → after (ow.slot s) ≡ w (ow.slot s) = λ s other.
+        down_other d.after s (λ m. (alias_of s other).free (inl m))
+        ∙ d.kept (ow.slot s) (own_mark s) (λ t. own_place s t other) (λ t m. own_next s t m)
+        ∙ up_kept w (ow.slot s) (inl (own_low s)) in
         let ends : (walk p.clocking.items (at 0 up)).words ≡ d.after = ap (λ steps. (walk steps (at 0 up)).words) is.clocks ∙ ap (λ (a : At). a.words) d.ends in
         let t = stand p.layout l.design is.lays in
-        subst (λ z. Turns p l (carried regs (n + 1) 1 z) v) (sym ends)
+        subst (λ z. Turns p l w (carried regs (n + 1) 1 z) v) (sym ends)
         (record {
-          now = λ j s. now s j;
+          now = now;
+          kept = kept_words;
           ready = record {
-            fits = λ s h. elim (member_or s regs) as (λ _. after (pl.slot s) < 2 ^ width_at pl s) [
-              | inl r ↦ subst (λ x. x < 2 ^ width_at pl s) (sym (down_at d.after s r)) (d.ready.next_fits s (listed s r))
-              | inr none ↦ subst (λ x. x < 2 ^ width_at pl s) (sym (down_other d.after s none)) (d.ready.fits s h)
+            fits = λ s h. elim (member_or s regs) as (λ _. after (ow.slot s) < 2 ^ width_at ow s) [
+              | inl r ↦ subst (λ x. x < 2 ^ width_at ow s) (sym (down_at d.after s r)) (d.ready.next_fits s (listed s r))
+              | inr none ↦ by_cases (pl.slot s == ow.slot s)
+                  (λ yes. subst (λ x. x < 2 ^ width_at ow s) (sym (down_other d.after s none ∙ ap d.after (sym (eqb-true (pl.slot s) (ow.slot s) yes)))) (d.ready.fits s h))
+                  (λ no. subst (λ x. x < 2 ^ width_at ow s) (sym (kept_words s (eqb-false (pl.slot s) (ow.slot s) no))) (ready.fits s h))
             ];
-            next_fits = λ s m. subst (λ x. x < 2 ^ width_at pl s)
-                (sym (down_kept d.after (pl.next s) (let e = t.next s (below_all n s m) in omega (arith, e)))) (d.ready.next_fits s m);
-            holds = λ u m. down_kept d.after (pl.place u) (let e = place_high u in omega (arith, e)) ∙ d.ready.holds u m;
+            next_fits = λ s m. subst (λ x. x < 2 ^ width_at ow s)
+                (sym (down_kept d.after (ow.next s) (let e = t.next s (below_all n s m) in omega (arith, e)))) (d.ready.next_fits s m);
+            holds = λ u m. down_kept d.after (ow.place u) (let e = place_high u in omega (arith, e)) ∙ d.ready.holds u m;
           };
         })
 
   -- the registers are those of the next state, and it is ready for the next cycle under the same inputs
-  pub next_state : (w v : Valuation) (state inputs : List ℕ) → v ≡ wires (flat l.design) state inputs → Turns p l w v
-      → map (signals (plan_of p.layout) w) l.design.registers.items ≡ step (flat l.design) state inputs
+  pub next_state : (old w v : Valuation) (state inputs : List ℕ) → v ≡ wires (flat l.design) state inputs → Turns p l old w v
+      → map (signals (own_plan p.layout) w) l.design.registers.items ≡ step (flat l.design) state inputs
   unfolding step
-  next_state w v state inputs e t =
-      ap (λ f. map f l.design.registers.items) t.now
+  next_state old w v state inputs e t =
+      map_same (signals (own_plan p.layout) w) (all_applied (all_pending (flat l.design).clocked v) v) l.design.registers.items (λ s m. t.now s (register_own s m))
       ∙ ap (λ u. map (all_applied (all_pending (flat l.design).clocked u) u) l.design.registers.items) e
 
-  pub next_based : (w v : Valuation) (state inputs : List ℕ) → v ≡ wires (flat l.design) state inputs → Turns p l w v
-      → IsBased (flat l.design) (step (flat l.design) state inputs) inputs (signals (plan_of p.layout) w)
-  next_based w v state inputs e t = λ s i free.
-      ap (λ f. look f s i) (t.now ∙ ap (λ u. all_applied (all_pending (flat l.design).clocked u) u) e)
+  pub next_based : (old w v : Valuation) (state inputs : List ℕ) → v ≡ wires (flat l.design) state inputs → IsBased (flat l.design) state inputs (signals (own_plan p.layout) old)
+      → Turns p l old w v → IsBased (flat l.design) (step (flat l.design) state inputs) inputs (signals (own_plan p.layout) w)
+  next_based old w v state inputs e based t s i free = by_cases ((plan_of p.layout).slot s == (own_plan p.layout).slot s)
+      (λ yes.
+      ap (λ x. bit_at x i) (t.now s (eqb-true ((plan_of p.layout).slot s) ((own_plan p.layout).slot s) yes))
+      ∙ ap (λ u. look (all_applied (all_pending (flat l.design).clocked u) u) s i) e
       ∙ ∥∥₁_elim l.design.sound (hlevel props) (λ f.
-      next_ready (flat l.design) state inputs f.registers_only (satisfied state inputs) s i free)
+      next_ready (flat l.design) state inputs f.registers_only (satisfied state inputs) s i free))
+      (λ no.
+      let other = eqb-false ((plan_of p.layout).slot s) ((own_plan p.layout).slot s) no in
+      let a = alias_of s other in
+      ap (λ x. bit_at x i) (t.kept s other) ∙ based s i free
+      ∙ ap (λ x. bit_at x i) (base_free state inputs s a.free ∙ sym (base_free (step (flat l.design) state inputs) inputs s a.free)))

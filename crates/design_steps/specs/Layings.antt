@@ -1,5 +1,5 @@
 -- The layout of a design.
-use Rattle.std.specs.Prelude.{◌≡◌, ℕ, zero, suc, ◌+◌, ◌*◌, List, [], ◌∷◌, map, length}
+use Rattle.std.specs.Prelude.{◌≡◌, ℕ, zero, suc, ◌+◌, ◌*◌, List, [], ◌∷◌, map, length, slice_index}
 use Rattle.typed_ir.specs.declared.flat.Flat.{Flat}
 use Rattle.typed_ir.specs.Orders.{Member, Each}
 use Rattle.typed_ir.specs.Flats.{signal_widths}
@@ -7,7 +7,10 @@ use Rattle.typed_ir.specs.FlatNodes.{node_of}
 use Rattle.typed_ir.specs.Statements.{stmt_of, sequence_of}
 use Rattle.step_layout.specs.declared.layout.Layout.{Layout}
 use Rattle.step_layout.specs.Statements.{stmt_constants}
+use Rattle.step_layout.specs.Plans.{Plan}
+use Rattle.step_layout.specs.Views.{plan_of}
 use Rattle.design_steps.specs.Pooled.{nodes_constants}
+use Rattle.design_steps.specs.Namings.{AreShared}
 
 -- so many numbers from one on
 abbrev pub run_from : ℕ → ℕ → List ℕ
@@ -22,10 +25,24 @@ signals_of design = run_from 0 (length design.signals.items)
 abbrev pub mark_of : Layout → ℕ
 mark_of l = l.constants.first + length l.constants.values.keys + 1
 
--- signals stand from the place 1 on, their next values as many places above as there are signals, and constants behind these; each
--- constant of the design is among them
+-- a signal's own place, one above its number; 0 for one that isn't there
+abbrev pub own : ℕ → ℕ → ℕ
+own count s = slice_index (run_from 1 count) s
+
+-- the layout with each signal at its own place
+abbrev pub own_plan : Layout → Plan
+own_plan l = record {
+  slot = own (length l.widths.items);
+  next = (plan_of l).next;
+  place = (plan_of l).place;
+  widths = (plan_of l).widths;
+  constants = (plan_of l).constants;
+}
+
+-- signals stand at their own places, or where a register or an input does of which they are another name; next values stand as many places
+-- above the own ones as there are signals, and constants behind these; each constant of the design is among them
 pub record LaysOut (l : Layout) (design : Flat) : Type 0 where
-  pub slots : l.slots.items ≡ run_from 1 (length design.signals.items)
+  pub slots : AreShared design l.slots.items
   pub nexts : l.nexts.items ≡ run_from (length design.signals.items + 1) (length design.signals.items)
   pub widths : l.widths.items ≡ signal_widths design.signals.items
   pub first : l.constants.first ≡ 2 * length design.signals.items + 1

@@ -1,4 +1,5 @@
 pub mod Pooled
+pub mod Namings
 pub mod Layings
 pub mod Places
 pub mod Carries

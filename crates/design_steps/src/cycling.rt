@@ -5,7 +5,7 @@ ghost use Rattle.typed_ir.specs.Linkeds.{flat};
 ghost use Rattle.word_steps.specs.Sound.{are_sound};
 ghost use Rattle.word_steps.specs.Walks.{env_of, walk, at};
 ghost use Rattle.design_steps.specs.Carries.{carried};
-ghost use Rattle.design_steps.specs.Programs.{IsProgramOf, IsAt, values_in};
+ghost use Rattle.design_steps.specs.Programs.{IsProgramOf, IsAt, values_in, seen_in};
 
 use crate::carrying::carry;
 use crate::program::Program;
@@ -13,12 +13,12 @@ use typed_ir::Linked;
 use word_steps::walk;
 
 impl Program {
-    /// Settles the wires, whatever they hold. It takes no memory.
+    /// Settles the wires, whatever they hold: each has its value where it stands. It takes no memory.
     pub fn settle(&self, linked: &Linked, words: &mut [u128])
         requires program { ∥ IsProgramOf self.now linked.now ∥₁ }
         requires long { length words.old ≡ length self.now.beginning.items }
         ensures value { (state inputs : List ℕ) → IsAt self.now linked.now state inputs words.old
-            → values_in self.now words.new ≡ wires (flat linked.now.design) state inputs }
+            → seen_in self.now words.new ≡ wires (flat linked.now.design) state inputs }
         ensures ready { (state inputs : List ℕ) → IsAt self.now linked.now state inputs words.old → IsAt self.now linked.now state inputs words.new }
     {
         let _linked = linked;

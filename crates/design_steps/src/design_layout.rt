@@ -8,14 +8,15 @@ ghost use Rattle.design_steps.specs.Pooled.{Holds, nodes_constants};
 ghost use Rattle.design_steps.specs.Layings.{run_from, LaysOut, mark_of};
 
 use crate::constant_walk::{pool_all, pool_nodes};
+use crate::sharing::slots_of;
 use indexmap::IndexSet;
 use no_memory::NoMemory;
 use std::alloc::Global;
 use step_layout::{Constants, Layout};
-use typed_ir::{Flat, Node, Signal, Stmt};
+use typed_ir::{Linked, Node, Signal, Stmt};
 
 // So many numbers from one on.
-#[tactic(auto, using(crate::proofs::Apart::run_push))]
+#[tactic(auto, using(crate::proofs::Counting::run_push))]
 fn counted(alloc: Global, from: u32, count: u32) -> Result<Vec<u32>, NoMemory>
     requires { from + count ≤ 2 ^ 32 - 1 }
     ensures { IfOk result (λ xs. xs.items ≡ run_from from count) }
@@ -49,18 +50,19 @@ fn pool_of(nodes: &[Node], blocks: &[Stmt], pool: &mut IndexSet<u128>) -> Result
     pool_all(blocks, pool)
 }
 
-/// The layout of a design: signals stand from the place 1 on, their next values behind all signals, and the constants behind these. Want
-/// of memory, and a place above the largest number, is `NoMemory`.
-pub fn layout_of(alloc: Global, design: &Flat) -> Result<Layout, NoMemory>
-    ensures { IfOk result (λ l. LaysOut l design.now) }
+/// The layout of a design: signals stand from the place 1 on, wires where a register or an input does of which they are only another name,
+/// next values behind all signals, and the constants behind these. Want of memory, and a place above the largest number, is `NoMemory`.
+pub fn layout_of(alloc: Global, linked: &Linked) -> Result<Layout, NoMemory>
+    ensures { IfOk result (λ l. LaysOut l linked.now.design) }
 {
+    let design = &linked.design;
     if design.signals.len() > 0x7fff_fffe {
         return Err(NoMemory);
     }
     let count = design.signals.len() as u32;
-    let slots = counted(alloc, 1, count)?;
-    let nexts = counted(alloc, count + 1, count)?;
     let widths = widths_of(alloc, &design.signals)?;
+    let slots = slots_of(alloc, linked, counted(alloc, 1, count)?, &widths)?;
+    let nexts = counted(alloc, count + 1, count)?;
     let mut values = IndexSet::new(alloc);
     pool_of(&design.nodes, &design.clocked, &mut values)?;
     Ok(Layout {

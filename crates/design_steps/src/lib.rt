@@ -12,8 +12,10 @@ mod cycling;
 mod design_layout;
 mod laws;
 mod making;
+mod naming;
 mod pooling;
 mod program;
+mod sharing;
 mod signal_words;
 mod words;
 

@@ -1,14 +1,14 @@
 // How a program is made of a linked design.
 ghost use Rattle.std.specs.Prelude.{◌≡◌, [], map, IfOk};
-ghost use Rattle.typed_ir.specs.FlatNodes.{node_of};
 ghost use Rattle.typed_ir.specs.Statements.{stmt_of, sequence_of};
 ghost use Rattle.step_layout.specs.Statements.{stmt_code};
-ghost use Rattle.step_layout.specs.Nodes.{nodes_code, in_order};
+ghost use Rattle.step_layout.specs.Nodes.{nodes_code};
 ghost use Rattle.step_layout.specs.Views.{plan_of};
-ghost use Rattle.design_steps.specs.Programs.{IsProgramOf};
+ghost use Rattle.design_steps.specs.Programs.{IsProgramOf, kept_nodes};
 
 use crate::design_layout::{free_from, layout_of};
 use crate::program::Program;
+use crate::sharing::kept_of;
 use crate::words::{beginning_of, greatest_of};
 use no_memory::NoMemory;
 use std::alloc::Global;
@@ -29,21 +29,21 @@ fn listed(alloc: Global, steps: VecDeque<Step>) -> Result<Vec<Step>, NoMemory>
     Ok(list)
 }
 
-// The steps of the nodes, in their order.
+// The steps of the nodes that leave something to do, in their order.
 fn settling_of(
     alloc: Global,
     linked: &Linked,
     layout: &Layout,
     mark: u32,
 ) -> Result<Vec<Step>, NoMemory>
-    ensures { IfOk result (λ list. list.items ≡ nodes_code (plan_of layout.now)
-        (in_order (map node_of linked.now.design.nodes.items) linked.now.order.items) mark) }
+    ensures { IfOk result (λ list. list.items ≡ nodes_code (plan_of layout.now) (kept_nodes layout.now linked.now) mark) }
 {
+    let order = kept_of(alloc, linked, &layout.widths, &layout.slots)?;
     let mut first = Vec::new(alloc);
     let mut steps = VecDeque::new(alloc);
     lay_nodes(
         &linked.design.nodes,
-        &linked.order,
+        &order,
         layout,
         mark,
         &mut first,
@@ -71,7 +71,7 @@ fn clocking_of(
 pub fn program_of(alloc: Global, linked: &Linked) -> Result<Program, NoMemory>
     ensures { IfOk result (λ p. IsProgramOf p linked.now) }
 {
-    let layout = layout_of(alloc, &linked.design)?;
+    let layout = layout_of(alloc, linked)?;
     let mark = free_from(&layout)?;
     let settling = settling_of(alloc, linked, &layout, mark)?;
     let clocking = clocking_of(alloc, linked, &layout, mark)?;

@@ -3,11 +3,13 @@ ghost use Rattle.std.specs.Prelude.{◌≡◌, ◌<◌, ◌^◌, [], length, sli
 ghost use Rattle.typed_ir.specs.Flats.{signal_widths};
 ghost use Rattle.typed_ir.specs.Valuations.{put};
 ghost use Rattle.word_steps.specs.Walks.{env_of};
+ghost use Rattle.design_steps.specs.Layings.{own_plan};
 ghost use Rattle.design_steps.specs.Programs.{IsProgramOf, AreHeld, IsAt, values_in};
 
 use crate::program::Program;
 use no_memory::NoMemory;
 use std::alloc::Global;
+use step_layout::Layout;
 use typed_ir::{Linked, SignalId};
 
 // The same words once more.
@@ -19,21 +21,32 @@ fn copied(alloc: Global, words: &[u128]) -> Result<Vec<u128>, NoMemory>
     Ok(copy)
 }
 
+// A signal's own place among the words: one above its number, and 0 for one that isn't there.
+fn own_place(layout: &Layout, signal: SignalId) -> usize
+    ensures { result ≡ (own_plan layout.now).slot signal }
+{
+    let number = signal.index();
+    match layout.widths.get(number) {
+        Some(_) => number + 1,
+        None => 0,
+    }
+}
+
 // The word at a place.
-fn word_at(words: &[u128], place: u32) -> u128
+fn word_at(words: &[u128], place: usize) -> u128
     requires { place < length words.now }
     ensures { result ≡ env_of words.now place }
 {
-    words[place as usize]
+    words[place]
 }
 
 // Writes a word.
 #[tactic(auto, using(word_steps::proofs::Words::word_set))]
-fn put_word(words: &mut [u128], place: u32, value: u128)
+fn put_word(words: &mut [u128], place: usize, value: u128)
     requires { place < length words.old }
     ensures { env_of words.new ≡ put (env_of words.old) place value }
 {
-    words[place as usize] = value;
+    words[place] = value;
 }
 
 impl Program {
@@ -56,7 +69,8 @@ impl Program {
             → result < 2 ^ slice_index (signal_widths linked.now.design.signals.items) signal }
     {
         let _linked = linked;
-        word_at(words, self.layout.slot(signal))
+        let place = own_place(&self.layout, signal);
+        word_at(words, place)
     }
 
     /// Gives a signal a value that fits its width, and leaves all others.
@@ -69,6 +83,7 @@ impl Program {
         ensures held { AreHeld self.now linked.now words.old → AreHeld self.now linked.now words.new }
     {
         let _linked = linked;
-        put_word(words, self.layout.slot(signal), value);
+        let place = own_place(&self.layout, signal);
+        put_word(words, place, value);
     }
 }

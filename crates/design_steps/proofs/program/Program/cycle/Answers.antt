@@ -26,11 +26,12 @@ returns-clause-value c = λ state inputs h.
     let p = c.args.self.now in
     let l = c.args.linked.now in
     let v = wires (flat l.design) state inputs in
+    let w = env_of c.settle.new.words in
     let settled = c.settle.ensures.ready state inputs h in
     ∥∥₁_elim c.requires.program (hlevel props) (λ is.
-    next_state p l is (env_of c.clock.new.words) v state inputs refl
-    (subst (λ w. Turns p l w v) (sym c.clock.ensures)
-    (turned p l is (env_of c.settle.new.words) state inputs settled.ready (c.settle.ensures.value state inputs h))))
+    next_state p l is w (env_of c.clock.new.words) v state inputs refl
+    (subst (λ x. Turns p l w x v) (sym c.clock.ensures)
+    (turned p l is w state inputs settled.ready (c.settle.ensures.value state inputs h))))
 
 pub returns-clause-ready : goal.returns-clause-ready
 returns-clause-ready c = λ state inputs h.
@@ -44,13 +45,13 @@ returns-clause-ready c = λ state inputs h.
     record {
       ready = record {
         fits = λ t k. ∥∥₁_elim c.requires.program (hlevel props) (λ is.
-            (subst (λ x. Turns p l x v) (sym c.clock.ensures) (turned p l is w state inputs settled.ready value)).ready.fits t k);
+            (subst (λ x. Turns p l w x v) (sym c.clock.ensures) (turned p l is w state inputs settled.ready value)).ready.fits t k);
         next_fits = λ t m. ∥∥₁_elim c.requires.program (hlevel props) (λ is.
-            (subst (λ x. Turns p l x v) (sym c.clock.ensures) (turned p l is w state inputs settled.ready value)).ready.next_fits t m);
+            (subst (λ x. Turns p l w x v) (sym c.clock.ensures) (turned p l is w state inputs settled.ready value)).ready.next_fits t m);
         holds = λ u m. ∥∥₁_elim c.requires.program (hlevel props) (λ is.
-            (subst (λ x. Turns p l x v) (sym c.clock.ensures) (turned p l is w state inputs settled.ready value)).ready.holds u m);
+            (subst (λ x. Turns p l w x v) (sym c.clock.ensures) (turned p l is w state inputs settled.ready value)).ready.holds u m);
       };
       based = λ s i free. ∥∥₁_elim c.requires.program (hlevel props) (λ is.
-          next_based p l is after v state inputs refl
-          (subst (λ x. Turns p l x v) (sym c.clock.ensures) (turned p l is w state inputs settled.ready value)) s i free);
+          next_based p l is w after v state inputs refl settled.based
+          (subst (λ x. Turns p l w x v) (sym c.clock.ensures) (turned p l is w state inputs settled.ready value)) s i free);
     }

@@ -11,17 +11,17 @@ pub word_at-requires : goal.word_at-requires
 word_at-requires c =
     let p = c.args.self.now in
     let s = c.args.signal in
-    subst (λ n. c.slot.result < n) (sym c.requires.long)
-    (subst (λ k. k < length p.beginning.items) (sym c.slot.ensures)
+    subst (λ n. c.own_place-place.result < n) (sym c.requires.long)
+    (subst (λ k. k < length p.beginning.items) (sym c.own_place-place.ensures)
     (∥∥₁_elim c.requires.program (hlevel props) (λ is. slot_within p c.args.linked.now is s)))
 
 pub returns-clause-value : goal.returns-clause-value
-returns-clause-value c = c.word_at.ensures ∙ ap (env_of c.args.words.now) c.slot.ensures
+returns-clause-value c = c.word_at.ensures ∙ ap (env_of c.args.words.now) c.own_place-place.ensures
 
 pub returns-clause-fits : goal.returns-clause-fits
 returns-clause-fits c = λ ready less.
     let p = c.args.self.now in
     let l = c.args.linked.now in
     let s = c.args.signal in
-    subst (λ x. x < 2 ^ slice_index (signal_widths l.design.signals.items) s) (sym (c.word_at.ensures ∙ ap (env_of c.args.words.now) c.slot.ensures))
+    subst (λ x. x < 2 ^ slice_index (signal_widths l.design.signals.items) s) (sym (c.word_at.ensures ∙ ap (env_of c.args.words.now) c.own_place-place.ensures))
     (∥∥₁_elim c.requires.program (hlevel props) (λ is. value_fits p l is (env_of c.args.words.now) s ready less))
