@@ -3,7 +3,7 @@ use std::sync::atomic::{AtomicBool, AtomicU64, Ordering};
 use std::thread::yield_now;
 
 /// How many turns of others somebody waits at most.
-pub const PATIENCE: u64 = 20_000_000;
+pub const PATIENCE: u64 = 1_000_000_000;
 
 /// Lets others run so many times.
 pub fn rest(turns: u64) {
@@ -12,7 +12,7 @@ pub fn rest(turns: u64) {
     }
 }
 
-/// Whether a flag is raised within 20,000,000 turns.
+/// Whether a flag is raised within 1,000,000,000 turns.
 pub fn sees(flag: &AtomicBool) -> bool {
     for _ in 0..PATIENCE {
         if flag.load(Ordering::SeqCst) {
@@ -23,7 +23,7 @@ pub fn sees(flag: &AtomicBool) -> bool {
     false
 }
 
-/// Whether a count comes to this number within 20,000,000 turns.
+/// Whether a count comes to this number within 1,000,000,000 turns.
 pub fn counts(count: &AtomicU64, number: u64) -> bool {
     for _ in 0..PATIENCE {
         if count.load(Ordering::SeqCst) >= number {
