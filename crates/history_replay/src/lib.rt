@@ -18,6 +18,8 @@ mod replaying;
 mod running;
 mod settings;
 mod states;
+#[cfg(test)]
+mod tests;
 mod truth;
 
 pub use replaying::is_right;
