@@ -13,8 +13,6 @@ use Rattle.typed_ir.specs.contracts.node.Node as NodeRow
 use Rattle.typed_ir.specs.contracts.linked.Linked as LinkedRow
 use Rattle.word_steps.specs.contracts.op.Op as OpRow
 use Rattle.word_steps.specs.contracts.step.Step as StepRow
-use Rattle.step_layout.specs.contracts.constants.Constants as ConstantsRow
-use Rattle.step_layout.specs.contracts.layout.Layout as PlacesRow
 use Rattle.design_steps.specs.contracts.program.Program as ProgramRow
 use Rattle.state_layout.specs.contracts.layout.Layout as LayoutRow
 use Rattle.cycle_eval.specs.contracts.design.Design as DesignRow
@@ -73,23 +71,11 @@ node_send = search (lane_send, typed_field_send, stmt_field_send, sendable, cros
 node_sync : IsSync NodeRow.the_row
 node_sync = search (lane_sync, typed_field_sync, stmt_field_sync, sendable, crosses) depth 40 fits 20000
 
-linked_send : IsSend LinkedRow.the_row
-linked_send = search (node_send, stmt_send, sendable, crosses) depth 40 fits 20000
-
-linked_sync : IsSync LinkedRow.the_row
-linked_sync = search (node_sync, stmt_sync, sendable, crosses) depth 40 fits 20000
-
-op_send : IsSend OpRow.the_row
-op_send = search (sendable, crosses) depth 300 fits 200000
-
-op_sync : IsSync OpRow.the_row
-op_sync = search (sendable, crosses) depth 300 fits 200000
-
 op_field_send : IsSend (OpRow.the_field).row
-op_field_send = search (op_send, sendable, crosses) depth 300 fits 200000
+op_field_send = search (sendable, crosses) depth 300 fits 200000
 
 op_field_sync : IsSync (OpRow.the_field).row
-op_field_sync = search (op_sync, sendable, crosses) depth 300 fits 200000
+op_field_sync = search (sendable, crosses) depth 300 fits 200000
 
 step_send : IsSend StepRow.the_row
 step_send = search (op_field_send, sendable, crosses) depth 100 fits 100000
@@ -97,35 +83,17 @@ step_send = search (op_field_send, sendable, crosses) depth 100 fits 100000
 step_sync : IsSync StepRow.the_row
 step_sync = search (op_field_sync, sendable, crosses) depth 100 fits 100000
 
-constants_send : IsSend ConstantsRow.the_row
-constants_send = search (sendable, crosses) depth 40 fits 20000
-
-constants_sync : IsSync ConstantsRow.the_row
-constants_sync = search (sendable, crosses) depth 40 fits 20000
-
-places_send : IsSend PlacesRow.the_row
-places_send = search (constants_send, sendable, crosses) depth 40 fits 20000
-
-places_sync : IsSync PlacesRow.the_row
-places_sync = search (constants_sync, sendable, crosses) depth 40 fits 20000
-
-program_send : IsSend ProgramRow.the_row
-program_send = search (step_send, places_send, sendable, crosses) depth 40 fits 20000
-
-program_sync : IsSync ProgramRow.the_row
-program_sync = search (step_sync, places_sync, sendable, crosses) depth 40 fits 20000
-
 program_field_send : IsSend (ProgramRow.the_field).row
-program_field_send = search (program_send, step_send, places_send, sendable, crosses) depth 100 fits 100000
+program_field_send = search (step_send, sendable, crosses) depth 100 fits 100000
 
 program_field_sync : IsSync (ProgramRow.the_field).row
-program_field_sync = search (program_sync, step_sync, places_sync, sendable, crosses) depth 100 fits 100000
+program_field_sync = search (step_sync, sendable, crosses) depth 100 fits 100000
 
 linked_field_send : IsSend (LinkedRow.the_field).row
-linked_field_send = search (linked_send, node_send, stmt_send, sendable, crosses) depth 100 fits 100000
+linked_field_send = search (node_send, stmt_send, sendable, crosses) depth 100 fits 100000
 
 linked_field_sync : IsSync (LinkedRow.the_field).row
-linked_field_sync = search (linked_sync, node_sync, stmt_sync, sendable, crosses) depth 100 fits 100000
+linked_field_sync = search (node_sync, stmt_sync, sendable, crosses) depth 100 fits 100000
 
 layout_send : IsSend LayoutRow.the_row
 layout_send = search (sendable, crosses) depth 40 fits 20000
