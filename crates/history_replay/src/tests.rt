@@ -1,10 +1,13 @@
 // Histories of designs with a register of 8 bits, to which each cycle adds what the version adds, worked out by hand; and wrong ones.
+ghost use Rattle.std.specs.Prelude.{◌≡◌, length, IfOk};
+
 use crate::is_right;
 use crate::replaying::are_right;
 use crate::settings::Settings;
 use bits::Bits;
 use book_history::entry::Entry;
 use book_history::history::History;
+use book_history::history_writer::HistoryWriter;
 use book_history::load::Load;
 use book_history::rooms::Rooms;
 use book_history::version::Version;
@@ -99,7 +102,10 @@ fn load(
 }
 
 // So many rows from cycle 0 on, which set nothing.
-fn rows(alloc: Global, cycles: u64) -> Result<RowRuns<Row>, NoMemory> {
+fn rows(alloc: Global, cycles: u64) -> Result<RowRuns<Row>, NoMemory>
+    ensures start { IfOk result (λ r. r.0 ≡ 0) }
+    ensures count { IfOk result (λ r. length r.1 ≡ cycles) }
+{
     let mut runs = Vec::new(alloc);
     runs.push(RowRun {
         start: 0,
@@ -224,6 +230,18 @@ fn thinned(alloc: Global) -> Result<Vec<Entry>, NoMemory> {
     ]?)
 }
 
+// The history of an open, a run of five cycles and a close, as the book writes it.
+fn ran(rt: &impl Abort, alloc: Global) -> Result<History<Design>, NoMemory> {
+    let machine = Arc::new(alloc, design(rt, alloc, parts(alloc, 3)?)?)?;
+    let version = Arc::new(alloc, Version { number: 1, machine })?;
+    let five = rows(alloc, 5)?;
+    let mut writer = HistoryWriter::new(alloc, 2, 1, ROOMS)?;
+    writer.push_open(version)?;
+    writer.push_run(alloc, &five)?;
+    writer.push(Entry::Close);
+    Ok(writer.into_history())
+}
+
 // Whether the history without an entry is right.
 fn no_entry(alloc: Global) -> Result<bool, NoMemory> {
     is_right(alloc, &History::empty(alloc, 2, 1, ROOMS))
@@ -236,6 +254,7 @@ fn right_histories(rt: HostRuntime) -> Result<(), Fail> {
     assert!(rt; right(&rt, alloc, 2, &[3, 4, 5], &[], 5, &stale(alloc)?)?);
     assert!(rt; right(&rt, alloc, 1, &[3, 4], &[], 1024, &thinned(alloc)?)?);
     assert!(rt; no_entry(alloc)?);
+    assert!(rt; is_right(alloc, &ran(&rt, alloc)?)?);
     Ok(())
 }
 
