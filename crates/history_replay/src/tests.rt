@@ -230,6 +230,19 @@ fn thinned(alloc: Global) -> Result<Vec<Entry>, NoMemory> {
     ]?)
 }
 
+// Marks at each cycle up to 1,024, of which every other one is taken out, and then up to 1,100: all links stay joined.
+fn long(alloc: Global) -> Result<Vec<Entry>, NoMemory> {
+    Ok(vec![in alloc;
+        Entry::Open { version: 1 },
+        Entry::Run { n: 1100 },
+        show(None),
+        reload(2, 1099),
+        claim(1, 0, 2, SESSION),
+        install(1, true, SESSION),
+        show(Some(2)),
+    ]?)
+}
+
 // The history of an open, a run of five cycles and a close, as the book writes it.
 fn ran(rt: &impl Abort, alloc: Global) -> Result<History<Design>, NoMemory> {
     let machine = Arc::new(alloc, design(rt, alloc, parts(alloc, 3)?)?)?;
@@ -253,6 +266,7 @@ fn right_histories(rt: HostRuntime) -> Result<(), Fail> {
     assert!(rt; right(&rt, alloc, 2, &[3, 4], &[], 5, &settled(alloc)?)?);
     assert!(rt; right(&rt, alloc, 2, &[3, 4, 5], &[], 5, &stale(alloc)?)?);
     assert!(rt; right(&rt, alloc, 1, &[3, 4], &[], 1024, &thinned(alloc)?)?);
+    assert!(rt; right(&rt, alloc, 1, &[3, 4], &[], 1100, &long(alloc)?)?);
     assert!(rt; no_entry(alloc)?);
     assert!(rt; is_right(alloc, &ran(&rt, alloc)?)?);
     Ok(())
@@ -299,6 +313,8 @@ fn wrong_answers(rt: HostRuntime) -> Result<(), Fail> {
     assert!(rt; !right(&rt, alloc, 1, &[3, 4], &[], 1024, &entries)?);
     let entries = with(alloc, &thinned(alloc)?, 7, install(1, true, WORKER))?;
     assert!(rt; !right(&rt, alloc, 1, &[3, 4], &[], 1024, &entries)?);
+    let entries = with(alloc, &long(alloc)?, 2, show(Some(0)))?;
+    assert!(rt; !right(&rt, alloc, 1, &[3, 4], &[], 1100, &entries)?);
     let delete = RegOp::Delete {
         in_module: NameId(0),
         reg: NameId(99),
