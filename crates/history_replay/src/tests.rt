@@ -214,7 +214,8 @@ fn stale(alloc: Global) -> Result<Vec<Entry>, NoMemory> {
     ]?)
 }
 
-// 1,024 marks, and one more: half of them are taken out, with the link of the first ticket.
+// 1,024 marks, and one more: every other one is taken out, and with it the link of the first ticket. Later the session takes the link that a worker has, and both
+// results join.
 fn thinned(alloc: Global) -> Result<Vec<Entry>, NoMemory> {
     Ok(vec![in alloc;
         Entry::Open { version: 1 },
@@ -227,6 +228,14 @@ fn thinned(alloc: Global) -> Result<Vec<Entry>, NoMemory> {
         install(1, false, WORKER),
         install(2, true, WORKER),
         show(Some(2)),
+        claim(3, 2, 4, WORKER),
+        show(Some(2)),
+        claim(4, 2, 4, SESSION),
+        claim(5, 4, 6, WORKER),
+        install(3, true, WORKER),
+        install(4, true, SESSION),
+        install(5, false, WORKER),
+        show(Some(4)),
     ]?)
 }
 
