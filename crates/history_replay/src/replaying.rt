@@ -29,7 +29,9 @@ pub(crate) fn are_right(
 }
 
 /// Whether each entry of a history stands right where it stands, with each answer that it tells, and each joined link is true behind every entry. The
-/// time is that of three runs of the record for each of its versions at most, and a walk over the marks, of which there are at most 1,024, for each entry.
+/// error is want of memory. The cycles of a run, those that a reload simulates and those of an install that joins are run twice, and joined links once more
+/// where marks are thinned; a reload looks at the registers of both designs for each mark that it carries over, and each entry walks over the marks, of
+/// which there are at most 1,024.
 pub fn is_right(alloc: Global, history: &History<Design>) -> Result<bool, NoMemory> {
     let rows = share_between(alloc, 0, history.runs(), 0, history.cycle())?;
     let settings = Settings {
