@@ -17,3 +17,4 @@ pub mod Outlines
 pub mod Others
 pub mod Leading
 pub mod Writings
+pub mod Readings

@@ -1,12 +1,14 @@
 // The history of a book: its settings, its entries and all that belongs to them.
-ghost use Rattle.std.specs.Prelude.{◌≡◌, [], map};
-ghost use Rattle.machine.specs.Rows.{expanded};
+ghost use Rattle.std.specs.Prelude.{◌≡◌, [], map, length};
+ghost use Rattle.machine.specs.Rows.{expanded, IsGapless};
 ghost use Rattle.book_history.specs.Entries.{entry_of};
 ghost use Rattle.book_history.specs.Law.{record_of};
 ghost use Rattle.book_history.specs.Legal.{Legal};
+ghost use Rattle.book_history.specs.Weave.{weave, AreHeld};
 
 use crate::entry::Entry;
 use crate::historied::Historied;
+use crate::load::Load;
 use crate::rooms::Rooms;
 use crate::written::Written;
 use machine::Machine;
@@ -57,6 +59,34 @@ impl<M: Machine> History<M> {
         let _ = &self.written;
     }
 
+    /// The cycles between two marks of a run.
+    pub fn interval(&self) -> u64
+        ensures { result ≡ self.now.settings.interval }
+    {
+        self.written.interval
+    }
+
+    /// How far before the current cycle a reload begins, in cycles.
+    pub fn lookback(&self) -> u64
+        ensures { result ≡ self.now.settings.lookback }
+    {
+        self.written.lookback
+    }
+
+    /// How many entries there is room for.
+    pub fn rooms(&self) -> Rooms
+        ensures { result ≡ self.now.settings.rooms }
+    {
+        self.written.rooms
+    }
+
+    /// How many cycles were run.
+    pub fn cycle(&self) -> u64
+        ensures { result ≡ length (record_of self.now.events) }
+    {
+        self.written.cycle
+    }
+
     /// The entries, in order.
     pub fn entries(&self) -> &[Entry]
         ensures { result.now ≡ map entry_of self.now.events }
@@ -64,9 +94,19 @@ impl<M: Machine> History<M> {
         &self.written.entries
     }
 
-    /// The rows of all cycles, as they are kept: runs of equal rows, in order.
+    /// The versions that came, each with its operations where it is a reload's: one for each open and each reload, in the order of
+    /// the entries. The history is its entries, each with the next of these where it needs one, and with the rows of the record.
+    pub fn loads(&self) -> &[Load<M, M::Ops>]
+        ensures held { AreHeld (map entry_of self.now.events) result.now (record_of self.now.events) }
+        ensures events { self.now.events ≡ weave (map entry_of self.now.events) result.now (record_of self.now.events) }
+    {
+        &self.written.loads
+    }
+
+    /// The rows of all cycles, as they are kept: runs of equal rows, in order, without a gap from cycle 0 on.
     pub fn runs(&self) -> &[RowRun<M::Row>]
-        ensures { expanded result.now ≡ record_of self.now.events }
+        ensures rows { expanded result.now ≡ record_of self.now.events }
+        ensures gapless { IsGapless 0 result.now (length (record_of self.now.events)) }
     {
         &self.written.runs
     }

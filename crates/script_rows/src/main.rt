@@ -17,8 +17,10 @@ mod tests;
 use crate::fresh::last_settled;
 use crate::page::{example_of, has, row_of};
 use crate::row::{Row, are_of_every_schedule};
-use livesim::live_run;
+use history_replay::is_right;
+use livesim::{Outcome, live_run};
 use ls_port::{FileShelf, OpenGate, Shelf, SolidSink, SolidSource};
+use no_memory::NoMemory;
 use std::alloc::Global;
 use std::sync::Wait;
 use std::thread::Threads;
@@ -44,6 +46,15 @@ fn name_and_words(row: &str) -> (&str, &str) {
     }
 }
 
+// What is told of a run whose history isn't right, as a plain replay finds it.
+fn told(alloc: Global, outcome: &Outcome) -> io::Result<Option<String>> {
+    match is_right(alloc, &outcome.history) {
+        Ok(true) => Ok(None),
+        Ok(false) => Ok(Some(String::from_str(alloc, "its history isn't right")?)),
+        Err(NoMemory) => Ok(Some(String::from_str(alloc, "its history is too long for the memory")?)),
+    }
+}
+
 // How a row ends beside so many workers and the first line of it that is another one, where it doesn't end with its status and write its lines.
 fn difference<R: Threads + Wait + Sync, F: Shelf>(
     rt: &R,
@@ -58,7 +69,7 @@ fn difference<R: Threads + Wait + Sync, F: Shelf>(
     let outcome = live_run(rt, alloc, &words, &mut source, &mut sink, shelf, &OpenGate);
     let ended = format!(in alloc; "{}", outcome.status)?;
     if ended.as_str() == row.status && sink.bytes() == row.lines.as_bytes() {
-        return Ok(None);
+        return told(alloc, &outcome);
     }
     let line = match str::from_utf8(sink.bytes()) {
         Ok(written) => first_other(written, row.lines),

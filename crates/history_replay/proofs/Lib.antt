@@ -1,0 +1,2 @@
+pub mod DesignsShared
+pub mod Owning

@@ -1,0 +1,43 @@
+// Whether the entries of a history are right, one by one.
+use crate::replay::Replay;
+use crate::settings::Settings;
+use book_history::entry::Entry;
+use book_history::history::History;
+use book_history::load::Load;
+use cycle_eval::Design;
+use machine::row_runs::{RowRuns, share_between};
+use no_memory::NoMemory;
+use reg_ops::RegOps;
+use std::alloc::Global;
+use stimulus::Row;
+
+/// Whether these entries are right with these versions and rows, each where it stands, and nothing is left of them.
+pub(crate) fn are_right(
+    alloc: Global,
+    settings: Settings,
+    entries: &[Entry],
+    loads: &[Load<Design, RegOps>],
+    rows: &RowRuns<Row>,
+) -> Result<bool, NoMemory> {
+    let mut replay = Replay::new(alloc, settings);
+    for entry in entries {
+        if !replay.take(alloc, *entry, loads, rows)? {
+            return Ok(false);
+        }
+    }
+    Ok(replay.is_whole(loads, rows))
+}
+
+/// Whether each entry of a history stands right where it stands, with each answer that it tells, and each joined link is true behind every entry. The
+/// error is want of memory. The cycles of a run, those that a reload simulates and those of an install that joins are run twice, and joined links once more
+/// where marks are thinned; a reload looks at the registers of both designs for each mark that it carries over, and each entry walks over the marks, of
+/// which there are at most 1,024.
+pub fn is_right(alloc: Global, history: &History<Design>) -> Result<bool, NoMemory> {
+    let rows = share_between(alloc, 0, history.runs(), 0, history.cycle())?;
+    let settings = Settings {
+        interval: history.interval(),
+        lookback: history.lookback(),
+        rooms: history.rooms(),
+    };
+    are_right(alloc, settings, history.entries(), history.loads(), &rows)
+}

@@ -1,0 +1,38 @@
+// Whether joined links are true: the design leads from the one mark to the other.
+use crate::mark::Mark;
+use crate::states::{advanced, same};
+use book_history::link::Link;
+use machine::row_runs::RowRuns;
+use no_memory::NoMemory;
+use std::alloc::Global;
+use stimulus::Row;
+
+// Whether the link to this mark is true, where it is joined. One that was found true and hasn't changed since isn't run again.
+fn is_true_at(
+    alloc: Global,
+    marks: &mut [Mark],
+    at: usize,
+    rows: &RowRuns<Row>,
+) -> Result<bool, NoMemory> {
+    if at == 0 || at >= marks.len() || marks[at].is_checked || marks[at].link != Link::Joined {
+        return Ok(true);
+    }
+    let begin = &marks[at - 1];
+    let end = &marks[at];
+    let Some(own) = advanced(alloc, rows, &begin.own, begin.cycle, end.cycle)? else {
+        return Ok(false);
+    };
+    let is_true = same(&own, &end.own);
+    marks[at].is_checked = is_true;
+    Ok(is_true)
+}
+
+/// Whether each joined link is true.
+pub fn are_true(alloc: Global, marks: &mut [Mark], rows: &RowRuns<Row>) -> Result<bool, NoMemory> {
+    for at in 1..marks.len() {
+        if !is_true_at(alloc, marks, at, rows)? {
+            return Ok(false);
+        }
+    }
+    Ok(true)
+}
