@@ -1,4 +1,5 @@
-// Runs the scripts of its folder of data in memory, and compares what they write with what they have to write.
+// Runs the scripts of its folder of data in memory, compares what they write with what they have to write, and takes the history of each run entry by
+// entry (`told`).
 //
 // `rows.txt` has a line `STATUS NAME WORDS` for each row: NAME.live is the script, NAME.out are the lines, STATUS is how the run
 // ends, and WORDS are those of the command line, where there are any, but for the workers (`row`): each row runs without one, and those that print no
@@ -51,7 +52,10 @@ fn told(alloc: Global, outcome: &Outcome) -> io::Result<Option<String>> {
     match is_right(alloc, &outcome.history) {
         Ok(true) => Ok(None),
         Ok(false) => Ok(Some(String::from_str(alloc, "its history isn't right")?)),
-        Err(NoMemory) => Ok(Some(String::from_str(alloc, "its history is too long for the memory")?)),
+        Err(NoMemory) => Ok(Some(String::from_str(
+            alloc,
+            "its history is too long for the memory",
+        )?)),
     }
 }
 
