@@ -2,11 +2,13 @@
 use book_history::entry::Entry;
 use book_history::history::History;
 use cycle_eval::Design;
+use history_replay::is_right;
 use livesim::{Outcome, live_run};
 use ls_port::{OpenGate, Shelf, Sink, Source};
 use no_memory::NoMemory;
 use std::alloc::Global;
 use std::sync::Wait;
+use std::test::Fail;
 use std::thread::Threads;
 
 /// The words of a command line without workers, with an interval of 2 and a lookback of 1.
@@ -26,16 +28,20 @@ fn words_of(alloc: Global) -> Result<Vec<String>, NoMemory> {
     Ok(words)
 }
 
-/// A run without workers.
+/// A run without workers, whose history is right.
 pub fn ran<R: Threads + Wait + Sync, S: Source, K: Sink, F: Shelf>(
     rt: &R,
     alloc: Global,
     source: &mut S,
     sink: &mut K,
     shelf: &mut F,
-) -> Result<Outcome, NoMemory> {
+) -> Result<Outcome, Fail> {
     let words = words_of(alloc)?;
-    Ok(live_run(rt, alloc, &words, source, sink, shelf, &OpenGate))
+    let outcome = live_run(rt, alloc, &words, source, sink, shelf, &OpenGate);
+    if !is_right(alloc, &outcome.history)? {
+        return Err("the history isn't right")?;
+    }
+    Ok(outcome)
 }
 
 /// The entries of a history, in order.

@@ -62,7 +62,7 @@ fn run_over<R: Threads + Wait + Sync, F: Shelf>(
     rt: &R,
     alloc: Global,
     shelf: &mut F,
-) -> Result<(Outcome, Vec<u8>), NoMemory> {
+) -> Result<(Outcome, Vec<u8>), Fail> {
     let mut script = Vec::new(alloc);
     for _ in 0..BLOCKS {
         script.extend_from_slice(BLOCK)?;

@@ -1,27 +1,29 @@
 // Runs the scripts of its folder of data in memory, compares what they write with what they have to write, and takes the history of each run entry by
-// entry (`told`).
+// entry (`histories`).
 //
 // `rows.txt` has a line `STATUS NAME WORDS` for each row: NAME.live is the script, NAME.out are the lines, STATUS is how the run
-// ends, and WORDS are those of the command line, where there are any, but for the workers (`row`): each row runs without one, and those that print no
-// estimate with two as well. `FAULTS.md` is the page of faults (`page`): each of its examples is a row, and shows the fault by the line that the page
+// ends, and WORDS are those of the command line, where there are any, but for the workers (`row`): each row runs without one and with two, where the
+// lines of those that print an estimate aren't compared. `FAULTS.md` is the page of faults (`page`): each of its examples is a row, and shows the fault by the line that the page
 // tells; each fault that a row shows is on the page. `fresh.txt` has a line `NAME FRESH` for each row whose last display is settled: FRESH.live has its last design
 // alone, with the inputs and cycles that were recorded, and the registers are the same (`fresh`). What differs is named, with the first line that does. `tests`
 // has rows and pages that don't agree.
 #![tactic(auto)]
 
+mod counts;
 mod fresh;
+mod histories;
 mod page;
 mod row;
 #[cfg(test)]
 mod tests;
 
+use crate::counts::Counts;
 use crate::fresh::last_settled;
+use crate::histories::fault_of;
 use crate::page::{example_of, has, row_of};
 use crate::row::{Row, are_of_every_schedule};
-use history_replay::is_right;
-use livesim::{Outcome, live_run};
+use livesim::live_run;
 use ls_port::{FileShelf, OpenGate, Shelf, SolidSink, SolidSource};
-use no_memory::NoMemory;
 use std::alloc::Global;
 use std::sync::Wait;
 use std::thread::Threads;
@@ -47,39 +49,30 @@ fn name_and_words(row: &str) -> (&str, &str) {
     }
 }
 
-// What is told of a run whose history isn't right, as a plain replay finds it.
-fn told(alloc: Global, outcome: &Outcome) -> io::Result<Option<String>> {
-    match is_right(alloc, &outcome.history) {
-        Ok(true) => Ok(None),
-        Ok(false) => Ok(Some(String::from_str(alloc, "its history isn't right")?)),
-        Err(NoMemory) => Ok(Some(String::from_str(
-            alloc,
-            "its history is too long for the memory",
-        )?)),
-    }
-}
-
-// How a row ends beside so many workers and the first line of it that is another one, where it doesn't end with its status and write its lines.
+// How a row ends beside so many workers and the first line of it that is another one, where it doesn't end with its status and write its lines; what is
+// wrong with its history, where it does. The lines aren't compared where they depend on the schedule.
 fn difference<R: Threads + Wait + Sync, F: Shelf>(
     rt: &R,
     alloc: Global,
     shelf: &mut F,
     row: &Row<'_>,
     workers: &str,
+    are_the_same: bool,
 ) -> io::Result<Option<String>> {
     let words = words_of(alloc, row.words, workers)?;
     let mut source = SolidSource::new(Vec::from_slice(alloc, row.script.as_bytes())?);
     let mut sink = SolidSink::new(alloc);
     let outcome = live_run(rt, alloc, &words, &mut source, &mut sink, shelf, &OpenGate);
     let ended = format!(in alloc; "{}", outcome.status)?;
-    if ended.as_str() == row.status && sink.bytes() == row.lines.as_bytes() {
-        return told(alloc, &outcome);
+    let written = str::from_utf8(sink.bytes()).unwrap_or("");
+    if ended.as_str() != row.status || (are_the_same && written != row.lines) {
+        let line = first_other(written, row.lines);
+        return Ok(Some(format!(in alloc; "ended with {ended}; {line}")?));
     }
-    let line = match str::from_utf8(sink.bytes()) {
-        Ok(written) => first_other(written, row.lines),
-        Err(_) => "",
-    };
-    Ok(Some(format!(in alloc; "ended with {ended}; {line}")?))
+    match fault_of(alloc, &outcome.history, written)? {
+        Some(fault) => Ok(Some(String::from_str(alloc, fault)?)),
+        None => Ok(None),
+    }
 }
 
 // Whether a row agrees beside so many workers; what differs is named.
@@ -90,9 +83,10 @@ fn agrees<R: Threads + Wait + Sync>(
     name: &str,
     row: &Row<'_>,
     workers: &str,
+    are_the_same: bool,
 ) -> io::Result<bool> {
     let mut shelf = FileShelf::new(host);
-    match difference(rt, alloc, &mut shelf, row, workers)? {
+    match difference(rt, alloc, &mut shelf, row, workers, are_the_same)? {
         None => Ok(true),
         Some(found) => {
             println!(host; "{name} differs with {workers} workers: {found}")?;
@@ -156,10 +150,7 @@ fn examples_agree(
 }
 
 // Whether the last displays of these lines and of what was written are settled and have the same registers.
-fn end_alike(alloc: Global, lines: &str, written: &[u8]) -> io::Result<bool> {
-    let Ok(written) = str::from_utf8(written) else {
-        return Ok(false);
-    };
+fn end_alike(alloc: Global, lines: &str, written: &str) -> io::Result<bool> {
     let shown = last_settled(alloc, lines)?;
     let alone = last_settled(alloc, written)?;
     Ok(shown.is_some() && shown == alone)
@@ -177,10 +168,11 @@ fn is_of_a_fresh_run<R: Threads + Wait + Sync, F: Shelf>(
     let mut source = SolidSource::new(Vec::from_slice(alloc, script.as_bytes())?);
     let mut sink = SolidSink::new(alloc);
     let outcome = live_run(rt, alloc, &words, &mut source, &mut sink, shelf, &OpenGate);
-    if outcome.status != 0 {
+    let written = str::from_utf8(sink.bytes()).unwrap_or("");
+    if outcome.status != 0 || fault_of(alloc, &outcome.history, written)?.is_some() {
         return Ok(false);
     }
-    end_alike(alloc, lines, sink.bytes())
+    end_alike(alloc, lines, written)
 }
 
 // How many rows end with the registers of a run of their last design alone; the others are named.
@@ -214,9 +206,8 @@ fn rows_agree<R: Threads + Wait + Sync>(
     rt: &R,
     alloc: Global,
     rows: &str,
-) -> io::Result<(u32, u32)> {
-    let mut alone = 0u32;
-    let mut beside = 0u32;
+) -> io::Result<Counts> {
+    let mut counts = Counts::none();
     for row in rows.lines() {
         let Some((status, row)) = row.split_once(' ') else {
             continue;
@@ -231,14 +222,12 @@ fn rows_agree<R: Threads + Wait + Sync>(
             lines: lines.as_str(),
             status,
         };
-        if agrees(host, rt, alloc, name, &row, "0")? {
-            alone = alone.saturating_add(1);
-        }
-        if are_of_every_schedule(row.lines) && agrees(host, rt, alloc, name, &row, "2")? {
-            beside = beside.saturating_add(1);
-        }
+        let are_the_same = are_of_every_schedule(row.lines);
+        counts.count_alone(agrees(host, rt, alloc, name, &row, "0", true)?);
+        let beside = agrees(host, rt, alloc, name, &row, "2", are_the_same)?;
+        counts.count_beside(beside, are_the_same);
     }
-    Ok((alone, beside))
+    Ok(counts)
 }
 
 // Names each fault that a row shows and that isn't on the page.
@@ -262,10 +251,18 @@ fn main(rt: HostRuntime) -> io::Result<()> {
     let alloc = rt.alloc();
     let rows = fs::read_to_string(&rt, "rows.txt")?;
     let page = fs::read_to_string(&rt, "FAULTS.md")?;
-    let (alone, beside) = rows_agree(&rt, &rt, alloc, rows.as_str())?;
+    let counts = rows_agree(&rt, &rt, alloc, rows.as_str())?;
     name_the_unlisted(&rt, alloc, rows.as_str(), page.as_str())?;
+    let Counts {
+        alone,
+        beside,
+        unlike,
+    } = counts;
     println!(rt; "{alone} rows agree without workers")?;
     println!(rt; "{beside} rows agree with two workers")?;
+    println!(rt;
+        "{unlike} rows whose lines depend on the schedule have right histories with two workers"
+    )?;
     let mut count = 0u32;
     for line in page.lines() {
         if let Some(entry) = row_of(line) {
