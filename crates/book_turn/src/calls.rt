@@ -14,10 +14,10 @@ use crate::leaves::Leaves;
 use crate::one_book::OneBook;
 use crate::sight::Sight;
 use crate::turn::Turn;
+use crate::waiting::Waiting;
 use crate::workers::Workers;
 use book_history::historied::Historied;
 use crossbeam_queue::RuledArrayQueue;
-use crossbeam_utils::Backoff;
 use no_memory::NoMemory;
 use std::alloc::Global;
 use std::sync::Wait;
@@ -49,7 +49,7 @@ impl<B: Historied> Turn<B> {
         Ok(Holder { seat })
     }
 
-    /// Waits for the book.
+    /// Waits for the book: tries again at once, then whenever it gets a processor, and after a while every millisecond.
     #[tactic(auto, using(crate::proofs::Turns::goes_in))]
     pub fn enter<R: Wait, const SESSION: bool>(
         &self,
@@ -63,12 +63,12 @@ impl<B: Historied> Turn<B> {
         ensures learned { Learned (known pass.old) (B.history result.value) }
         ensures goes { GoesOn (known pass.old) (known pass.new) }
     {
-        let backoff = Backoff::new();
+        let mut waiting = Waiting::new();
         for _ in rt.forever() {
             if let Some(book) = self.queue.try_pop_as::<Enters>(&mut pass.seat) {
                 return book;
             }
-            backoff.snooze();
+            waiting.rest(rt);
         }
         unreachable!()
     }

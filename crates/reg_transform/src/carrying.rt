@@ -55,21 +55,35 @@ fn value_at(values: &OldValues, changes: &Changes, key: RegisterKey, initial: u1
     }
 }
 
-// What these registers take, where these are the numbers of the instances' paths: each is written into a share of `reset`.
+// The state into a share of which registers are written: the old one where it has the same widths, so that pages in which no register takes another value
+// stay shared with it; else `reset`.
+fn base_of<'a>(state: &'a SlotState, reset: &'a SlotState) -> &'a SlotState
+    ensures { state_widths result.now ≡ state_widths reset.now }
+{
+    if state.has_widths_of(reset) {
+        state
+    } else {
+        reset
+    }
+}
+
+// What these registers take, where these are the numbers of the instances' paths: each is written into a share of `base`.
 fn carried_into(
     alloc: Global,
     new: &Regs<'_>,
     numbers: &[usize],
+    base: &SlotState,
     reset: &SlotState,
     values: &OldValues,
     ops: &[RegOp],
 ) -> Result<SlotState, NoMemory>
     requires numbered { length numbers.now ≡ length new.now.instances.now.rows.items }
     requires reset { state_widths reset.now ≡ widths_of (registers_in new.now) }
+    requires base { state_widths base.now ≡ state_widths reset.now }
     ensures { IfOk result (λ s. s ≡ carried_by ops.now (value_in values.now) (numbers_in numbers.now new.now) (registers_in new.now) (state_values reset.now)) }
 {
     let changes = changes_of(alloc, ops)?;
-    let mut carried = reset.share()?;
+    let mut carried = base.share()?;
     for place in 0..new.registers.len() {
         let signal = signal_at(new, place);
         let key = key_at(numbers, signal);
@@ -82,8 +96,9 @@ fn carried_into(
 
 /// The state that the registers of the new design take: each the value that an operation creates it with, else the old value of the register
 /// that is renamed to it, else the old value of its own name, both at the same path, else its value in `reset`. A value is cut, or filled with
-/// zeros, to its width. Registers are found by hash, in time in proportion to instances, registers and operations. Pages in which nothing
-/// differs from `reset` are shared with it. It fails at want of memory alone.
+/// zeros, to its width. Registers are found by hash, in time in proportion to instances, registers and operations. Pages in which no
+/// register takes another value than it has in `state` are shared with that one where both designs have registers of the same widths in the same order, else
+/// those in which nothing differs from `reset` with `reset`. It fails at want of memory alone.
 pub fn carry_state(
     alloc: Global,
     old: &Regs<'_>,
@@ -98,5 +113,6 @@ pub fn carry_state(
 {
     let numbers = path_numbers(alloc, old.instances, new.instances)?;
     let values = old_values(alloc, old, &numbers.old, state)?;
-    carried_into(alloc, new, &numbers.new, reset, &values, ops)
+    let base = base_of(state, reset);
+    carried_into(alloc, new, &numbers.new, base, reset, &values, ops)
 }

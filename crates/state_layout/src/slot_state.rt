@@ -112,6 +112,14 @@ impl SlotState {
         })
     }
 
+    /// Whether both have registers of the same widths, in the same order.
+    pub fn has_widths_of(&self, other: &SlotState) -> bool
+        ensures same { result ≡ true → state_widths self.now ≡ state_widths other.now }
+        ensures all { state_widths self.now ≡ state_widths other.now → result ≡ true }
+    {
+        self.layout.same(&other.layout)
+    }
+
     /// Whether both have the same registers by their widths, with the same values, in the same order.
     pub fn same(&self, other: &SlotState) -> bool
         ensures same { result ≡ true → self.now ≡ other.now }

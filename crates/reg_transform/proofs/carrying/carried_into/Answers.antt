@@ -15,7 +15,7 @@ use Rattle.reg_transform.proofs.Values.{all_taken, carried_step, got_value, pair
 use Rattle.reg_transform.proofs.carrying.carried_into.Goals as goal
 
 pub loop-place-init : goal.loop-place-init
-loop-place-init c = record { kept = ap state_widths c.in_ok-carried.ensures; written = refl }
+loop-place-init c = record { kept = ap state_widths c.in_ok-carried.ensures ∙ c.requires.base; written = refl }
 
 pub read-initial-requires : goal.read-initial-requires
 read-initial-requires c = place_there c.args.reset.now (paths_of c.args.new.now.instances.now.rows.items) c.args.new.now.signals.now c.args.new.now.registers.now
