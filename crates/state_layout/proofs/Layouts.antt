@@ -1,5 +1,5 @@
 -- Slots in the code's list of them.
-use Rattle.std.proofs.Common.{◌≡◌, ℕ, zero, suc, ◌+◌, ◌<◌, ◌≤◌, List, [], ◌∷◌, ◌++◌, length, get_or, take, drop, map, refl, sym, ◌∙◌, ap, subst, arith, ltb-true}
+use Rattle.std.proofs.Common.{◌≡◌, ℕ, zero, suc, ◌+◌, ◌<◌, ◌≤◌, List, [], ◌∷◌, ◌++◌, length, get_or, take, map, refl, sym, ◌∙◌, ap, subst, arith, ltb-true}
 use Rattle.std.proofs.lemmas.List.{get_or-map, length-map, map_push, map_more, take-map}
 use Rattle.std.specs.Prelude.{IsTrue, nat_lt, slice_index, IfOk, IfErr, IsErrAnd}
 use Rattle.std.specs.declared.result.Result.{Result}

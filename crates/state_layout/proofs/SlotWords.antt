@@ -1,8 +1,7 @@
 -- Slots one behind the other, and the words of a state.
-use Rattle.std.proofs.Common.{◌≡◌, ℕ, zero, suc, ◌+◌, ◌-◌, ◌*◌, ◌/◌, ◌^◌, ◌<◌, ◌≤◌, List, [], ◌∷◌, ◌++◌, length, get_or, set, take, drop, replicate, map, refl, sym, ◌∙◌, ap, subst, arith, length-append}
-use Rattle.std.proofs.lemmas.List.{append_assoc, take_at, drop_at, drop-drop, replicate-append-replicate}
+use Rattle.std.proofs.Common.{◌≡◌, ℕ, zero, suc, ◌+◌, ◌^◌, ◌<◌, ◌≤◌, List, [], ◌∷◌, ◌++◌, length, get_or, drop, replicate, map, refl, sym, ◌∙◌, ap, subst, arith, length-append}
+use Rattle.std.proofs.lemmas.List.{take_at, drop_at, replicate-append-replicate}
 use Rattle.std.proofs.lemmas.Nat.{pow_pos}
-use Rattle.std.specs.List.{All}
 use Rattle.state_layout.specs.Words.{words_of}
 use Rattle.state_layout.specs.Slots.{slot_size, first_word, first_words, number_of, words_for, state_in, state_words, state_widths, Fit, IsClean}
 use Rattle.state_layout.proofs.Numbers.{value_back, words_for_length, zero_words}

@@ -1,5 +1,5 @@
 -- A list with a part of it replaced, and a state with a register written.
-use Rattle.std.proofs.Common.{◌≡◌, ℕ, zero, suc, ◌+◌, ◌-◌, ◌/◌, ◌%◌, ◌^◌, ◌<◌, ◌≤◌, List, [], ◌∷◌, ◌++◌, length, get_or, set, take, drop, refl, sym, ◌∙◌, ap, subst, arith}
+use Rattle.std.proofs.Common.{◌≡◌, ℕ, zero, suc, ◌+◌, ◌-◌, ◌/◌, ◌%◌, ◌^◌, ◌<◌, ◌≤◌, List, [], ◌∷◌, ◌++◌, length, get_or, set, take, drop, refl, sym, ◌∙◌, ap, arith}
 use Rattle.std.proofs.lemmas.List.{append_assoc, set_split, drop_at, drop-drop}
 use Rattle.state_layout.specs.Slots.{slot_size, first_word, words_for, state_words, state_widths, Fit}
 use Rattle.state_layout.proofs.Numbers.{words_for_length, one_word, two_words, one_is, two_are}

@@ -1,12 +1,11 @@
 -- What the calls on a state say of its view.
-use Rattle.std.proofs.Common.{◌≡◌, ℕ, zero, suc, ◌+◌, ◌^◌, ◌<◌, ◌≤◌, List, [], ◌∷◌, ◌++◌, length, get_or, set, take, drop, replicate, map, refl, sym, ◌∙◌, ap, subst, arith}
+use Rattle.std.proofs.Common.{◌≡◌, ℕ, zero, suc, ◌+◌, ◌^◌, ◌<◌, List, [], ◌∷◌, ◌++◌, length, get_or, set, take, drop, replicate, map, refl, sym, ◌∙◌, ap, subst, arith}
 use Rattle.std.proofs.lemmas.List.{take_more_set, map_more}
 use Rattle.std.specs.Prelude.{slice_get, Some, OnOk, OnErr}
 use Rattle.std.specs.declared.result.Result.{Result}
 use Rattle.std.specs.declared.result.Result.TheVariants.{Ok, Err}
 use Rattle.bits.specs.declared.Bits.{Bits}
 use Rattle.typed_ir.specs.States.{sized_value}
-use Rattle.typed_ir.specs.Views.{widths}
 use Rattle.state_layout.specs.Words.{words_of}
 use Rattle.state_layout.specs.Slots.{slot_size, first_word, number_of, words_for, state_in, state_words, state_widths, Fit, IsClean}
 use Rattle.state_layout.proofs.Registers.{register_is, register_fits}

@@ -1,4 +1,4 @@
-use Rattle.std.proofs.Common.{◌≡◌, ◌≤◌, ◌<◌, sym, ap, subst, arith, List}
+use Rattle.std.proofs.Common.{◌≡◌, ◌≤◌, ◌<◌, subst, List}
 use Rattle.std.specs.Prelude.{ℕ, IfOk, IfErr}
 use Rattle.state_layout.specs.Words.{words_of, IsTooManyWhere}
 use Rattle.state_layout.proofs.Layouts.{both_ok, design_widths}

@@ -1,4 +1,4 @@
-use Rattle.std.proofs.Common.{◌≡◌, ◌+◌, ◌/◌, ◌<◌, ◌++◌, ◌∷◌, [], refl, sym, ◌∙◌, ap, arith}
+use Rattle.std.proofs.Common.{◌+◌, ◌/◌, ◌<◌, ◌++◌, ◌∷◌, [], refl, ◌∙◌, ap, arith}
 use Rattle.state_layout.specs.Words.{words_of}
 use Rattle.state_layout.proofs.SlotWords.{words_push}
 use Rattle.state_layout.proofs.Layouts.{too_many_where, added_firsts, added_words}
