@@ -1,5 +1,5 @@
-// Nodes are placed one by one, each once all that comes before it is placed, and depth first: what is free stands on a stack, and what a
-// node sets free comes on top of it, the least number topmost.
+// Nodes are placed one by one, each once all that comes before it is placed, and depth first: free nodes stand on a stack, and those that
+// a node sets free come on top, the least number topmost.
 ghost use Rattle.std.specs.Prelude.{◌≡◌, ◌-◌, ◌≤◌, ◌<◌, ◌^◌, ◌++◌, ◌∷◌, [], ◌==◌, if◌then◌else◌, ℕ, length, slice_index, IfOk};
 ghost use Rattle.typed_ir.specs.Valuations.{put};
 ghost use Rattle.comb_order.specs.Graphs.{times, waiting, rows_of, lowered, released, count_of};
@@ -25,11 +25,7 @@ fn lower(t: NodeId, counts: &mut [u32], free: &mut Vec<NodeId>) -> Result<(), Al
 }
 
 /// The nodes of a row lose one predecessor each, from the last to the first; those that are free now go onto the stack.
-pub fn release(
-    row: &[NodeId],
-    counts: &mut [u32],
-    free: &mut Vec<NodeId>,
-) -> Result<(), AllocError>
+pub fn release(row: &[NodeId], counts: &mut [u32], free: &mut Vec<NodeId>) -> Result<(), AllocError>
     requires { (x : ℕ) → times x row.now ≤ slice_index counts.old x }
     ensures counts { IfOk result (λ _. count_of counts.new ≡ lowered row.now (count_of counts.old)) }
     ensures free { IfOk result (λ _. free.new.items ≡ free.old.items ++ released row.now (count_of counts.old)) }
