@@ -7,7 +7,7 @@ use Rattle.typed_ir.specs.Valuations.{put}
 use Rattle.typed_ir.proofs.Cases.{by_cases}
 use Rattle.typed_ir.proofs.Lists.{drop_read}
 use Rattle.comb_order.specs.Graphs.{times, row_at, rows_of, lowered, released, count_of}
-use Rattle.comb_order.proofs.Released.{times-same, put-same, put-other, enough_left}
+use Rattle.comb_order.proofs.Released.{times-same, put-same, put-other, lowered-is}
 
 pub times-here : (row : List ℕ) (j t : ℕ) → j < length row → t ≡ get_or row j t → 0 < times t (drop j row)
 times-here row j t h is =
@@ -38,27 +38,36 @@ pub length_rows : (graph : List (Vec ℕ Global)) → length (rows_of graph) ≡
 length_rows [] = refl
 length_rows (x ∷ xs) = ap suc (length_rows xs)
 
--- one node of the row is lowered
-pub lowered-drop : (row : List ℕ) (j t : ℕ) (c : ℕ → ℕ) → j < length row → t ≡ get_or row j t
-    → lowered (drop j row) c ≡ lowered (drop (j + 1) row) (put c t (c t - 1))
-lowered-drop row j t c h is = ap (λ r. lowered r c) (drop_read row j t h is)
+-- one node of the row is lowered, after those behind it
+pub lowered-drop : (row : List ℕ) (j t : ℕ) (c now next : ℕ → ℕ) → j < length row → t ≡ get_or row j t
+    → now ≡ lowered (drop (j + 1) row) c → next ≡ put now t (now t - 1) → next ≡ lowered (drop j row) c
+lowered-drop row j t c now next h is e en =
+    en ∙ ap (λ f. put f t (f t - 1)) e ∙ ap (λ r. lowered r c) (sym (drop_read row j t h is))
 
-pub released-drop : (row : List ℕ) (j t : ℕ) (c : ℕ → ℕ) → j < length row → t ≡ get_or row j t
-    → released (drop j row) c ≡ (if c t == 1 then t ∷ [] else []) ++ released (drop (j + 1) row) (put c t (c t - 1))
-released-drop row j t c h is = ap (λ r. released r c) (drop_read row j t h is)
+pub released-drop : (row : List ℕ) (j t : ℕ) (c now : ℕ → ℕ) (old free new : List ℕ) → j < length row → t ≡ get_or row j t
+    → now ≡ lowered (drop (j + 1) row) c → free ≡ old ++ released (drop (j + 1) row) c
+    → new ≡ free ++ (if now t == 1 then t ∷ [] else []) → new ≡ old ++ released (drop j row) c
+released-drop row j t c now old free new h is e ef en =
+    en ∙ ap₂ (λ xs f. xs ++ (if f t == 1 then t ∷ [] else [])) ef e
+    ∙ append_assoc old (released (drop (j + 1) row) c) (if lowered (drop (j + 1) row) c t == 1 then t ∷ [] else [])
+    ∙ ap (λ r. old ++ released r c) (sym (drop_read row j t h is))
 
-pub enough-drop : (row : List ℕ) (j t : ℕ) (c next : ℕ → ℕ) → j < length row → t ≡ get_or row j t → next ≡ put c t (c t - 1)
-    → ((x : ℕ) → times x (drop j row) ≤ c x) → (x : ℕ) → times x (drop (j + 1) row) ≤ next x
-enough-drop row j t c next h is e inv x =
-    let a : next x ≡ put c t (c t - 1) x = ap (λ f. f x) e in
-    let b : times x (drop (j + 1) row) ≤ put c t (c t - 1) x = enough_left t (drop (j + 1) row) c
-    (λ y. let i : times y (drop j row) ≤ c y = inv y in
-    let r : times y (drop j row) ≡ times y (t ∷ drop (j + 1) row) = ap (times y) (drop_read row j t h is) in omega (arith, i, r)) x in
-    omega (arith, a, b)
+times-drop : (row : List ℕ) (j x : ℕ) → times x (drop j row) ≤ times x row
+times-drop [] zero x = omega arith
+times-drop [] (suc j) x = omega arith
+times-drop (y ∷ ys) zero x = omega arith
+times-drop (y ∷ ys) (suc j) x = let i : times x (drop j ys) ≤ times x ys = times-drop ys j x in omega (arith, i)
 
-pub free-drop : (row : List ℕ) (j t : ℕ) (c next : ℕ → ℕ) (old new total : List ℕ) → j < length row → t ≡ get_or row j t → next ≡ put c t (c t - 1)
-    → new ≡ old ++ (if c t == 1 then t ∷ [] else []) → old ++ released (drop j row) c ≡ total → new ++ released (drop (j + 1) row) next ≡ total
-free-drop row j t c next old new total h is e en inv =
-    ap₂ (λ o n. o ++ released (drop (j + 1) row) n) en e
-    ∙ append_assoc old (if c t == 1 then t ∷ [] else []) (released (drop (j + 1) row) (put c t (c t - 1)))
-    ∙ ap (λ r. old ++ r) (sym (released-drop row j t c h is)) ∙ inv
+-- it has a predecessor left
+pub some-left : (row : List ℕ) (j t : ℕ) (c now : ℕ → ℕ) → j < length row → t ≡ get_or row j t → ((x : ℕ) → times x row ≤ c x)
+    → now ≡ lowered (drop (j + 1) row) c → 0 < now t
+some-left row j t c now h is enough e =
+    let rest = drop (j + 1) row in
+    let many : times t (drop j row) ≤ times t row = times-drop row j t in
+    let here : times t (drop j row) ≡ times t (t ∷ rest) = ap (times t) (drop_read row j t h is) in
+    let one : times t (t ∷ rest) ≡ 1 + times t rest = times-same t t rest (eq-eqb t t refl) in
+    let low : lowered rest c t + times t rest ≡ c t = lowered-is rest c (λ x.
+    let a : times x rest ≤ times x row = times-drop row (j + 1) x in let b : times x row ≤ c x = enough x in omega (arith, a, b)) t in
+    let now_is : now t ≡ lowered rest c t = ap (λ f. f t) e in
+    let k : times t row ≤ c t = enough t in
+    omega (arith, many, here, one, low, now_is, k)

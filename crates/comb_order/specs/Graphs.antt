@@ -24,12 +24,12 @@ HasEdge rows a b = 0 < times b (row_at rows a)
 -- the counts after the nodes of a row have lost one predecessor each
 abbrev pub lowered : List ℕ → (ℕ → ℕ) → ℕ → ℕ
 lowered [] c = c
-lowered (t ∷ ts) c = lowered ts (put c t (c t - 1))
+lowered (t ∷ ts) c = put (lowered ts c) t (lowered ts c t - 1)
 
--- the nodes of the row that have none left then
+-- the nodes of the row that have none left then, the last one first
 abbrev pub released : List ℕ → (ℕ → ℕ) → List ℕ
 released [] c = []
-released (t ∷ ts) c = (if c t == 1 then t ∷ [] else []) ++ released ts (put c t (c t - 1))
+released (t ∷ ts) c = released ts c ++ (if lowered ts c t == 1 then t ∷ [] else [])
 
 abbrev pub flag_at : List Bool → ℕ → Bool
 flag_at [] k = false
@@ -50,7 +50,7 @@ unplaced (f ∷ fs) = (if f then 0 else 1) + unplaced fs
 abbrev pub count_of : List ℕ → ℕ → ℕ
 count_of counts = λ x. slice_index counts x
 
--- the places from `a` on at which a count is 0
+-- the places from `a` on at which a count is 0, the last one first
 abbrev pub zeros : ℕ → List ℕ → List ℕ
 zeros a [] = []
-zeros a (c ∷ cs) = (if c == 0 then a ∷ [] else []) ++ zeros (a + 1) cs
+zeros a (c ∷ cs) = zeros (a + 1) cs ++ (if c == 0 then a ∷ [] else [])

@@ -1,4 +1,5 @@
-// Nodes are placed one by one, each once all that comes before it is placed.
+// Nodes are placed one by one, each once all that comes before it is placed, and depth first: free nodes stand on a stack, and those that
+// a node sets free come on top, the least number topmost.
 ghost use Rattle.std.specs.Prelude.{◌≡◌, ◌-◌, ◌≤◌, ◌<◌, ◌^◌, ◌++◌, ◌∷◌, [], ◌==◌, if◌then◌else◌, ℕ, length, slice_index, IfOk};
 ghost use Rattle.typed_ir.specs.Valuations.{put};
 ghost use Rattle.comb_order.specs.Graphs.{times, waiting, rows_of, lowered, released, count_of};
@@ -9,32 +10,30 @@ use std::alloc::{AllocError, Global};
 use typed_ir::NodeId;
 
 // A node loses one predecessor, and is free where that was its last.
-fn lower(t: NodeId, counts: &mut [u32], order: &mut Vec<NodeId>) -> Result<(), AllocError>
+fn lower(t: NodeId, counts: &mut [u32], free: &mut Vec<NodeId>) -> Result<(), AllocError>
     requires { 0 < slice_index counts.old t }
     ensures counts { count_of counts.new ≡ put (count_of counts.old) t (slice_index counts.old t - 1) }
-    ensures order { IfOk result (λ _. order.new.items ≡ order.old.items ++ (if slice_index counts.old t == 1 then t ∷ [] else [])) }
+    ensures free { IfOk result (λ _. free.new.items ≡ free.old.items ++ (if slice_index counts.old t == 1 then t ∷ [] else [])) }
 {
     let place = t.index();
     let count = counts[place];
     counts[place] = count - 1;
     if count == 1 {
-        order.push(t)?;
+        free.push(t)?;
     }
     Ok(())
 }
 
-/// The nodes of a row lose one predecessor each; those that are free now join the order.
-pub fn release(
-    row: &[NodeId],
-    counts: &mut [u32],
-    order: &mut Vec<NodeId>,
-) -> Result<(), AllocError>
+/// The nodes of a row lose one predecessor each, from the last to the first; those that are free now go onto the stack.
+pub fn release(row: &[NodeId], counts: &mut [u32], free: &mut Vec<NodeId>) -> Result<(), AllocError>
     requires { (x : ℕ) → times x row.now ≤ slice_index counts.old x }
     ensures counts { IfOk result (λ _. count_of counts.new ≡ lowered row.now (count_of counts.old)) }
-    ensures order { IfOk result (λ _. order.new.items ≡ order.old.items ++ released row.now (count_of counts.old)) }
+    ensures free { IfOk result (λ _. free.new.items ≡ free.old.items ++ released row.now (count_of counts.old)) }
 {
-    for t in row {
-        lower(*t, counts, order)?;
+    let mut left = row.len();
+    while 0 < left {
+        left -= 1;
+        lower(row[left], counts, free)?;
     }
     Ok(())
 }
@@ -44,19 +43,18 @@ fn place_free(
     graph: &[Vec<NodeId>],
     counts: &mut [u32],
     placed: &mut [bool],
+    free: &mut Vec<NodeId>,
     order: &mut Vec<NodeId>,
 ) -> Result<(), AllocError>
     requires closed { IsClosed (rows_of graph.now) }
-    requires start { IsPlacing (rows_of graph.now) placed.old (count_of counts.old) [] order.old.items }
+    requires start { IsPlacing (rows_of graph.now) placed.old (count_of counts.old) order.old.items free.old.items }
     ensures { IfOk result (λ _. IsPlacing (rows_of graph.now) placed.new (count_of counts.new) order.new.items []) }
 {
-    let mut head: usize = 0;
-    while head < order.len() {
-        let node = order[head];
+    'placing: while let Some(node) = free.pop() {
         let k = node.index();
         placed[k] = true;
-        release(&graph[k], counts, order)?;
-        head += 1;
+        order.push(node)?;
+        release(&graph[k], counts, free)?;
     }
     Ok(())
 }
@@ -77,7 +75,8 @@ pub fn place_nodes(alloc: Global, graph: &[Vec<NodeId>]) -> Result<Placing, Allo
 {
     let mut counts = in_degrees(alloc, graph)?;
     let mut placed = vec![in alloc; false; graph.len()]?;
-    let mut order = free_nodes(alloc, &counts)?;
-    place_free(graph, &mut counts, &mut placed, &mut order)?;
+    let mut free = free_nodes(alloc, &counts)?;
+    let mut order = Vec::new(alloc);
+    place_free(graph, &mut counts, &mut placed, &mut free, &mut order)?;
     Ok(Placing { order, placed })
 }

@@ -106,7 +106,7 @@ fn answer(
     }
 }
 
-// That this is the only order.
+// That this is the order; it is depth first, the least number first.
 fn expect_order(
     rt: &impl Abort,
     alloc: Global,
@@ -138,6 +138,31 @@ fn expect_loop(
 fn a_chain_written_backwards(rt: HostRuntime) -> Result<(), Fail> {
     let nodes = copies(rt.alloc(), &[(3, 2), (2, 1), (1, 0)])?;
     expect_order(&rt, rt.alloc(), &[1; 4], nodes, &[2, 1, 0])?;
+    Ok(())
+}
+
+// Chains stand one behind the other; and of two nodes that one sets free the second stands behind what the first sets free.
+#[test]
+fn depth_first(rt: HostRuntime) -> Result<(), Fail> {
+    // what each node drives and what it reads; and the order
+    let table = [
+        (
+            [(1, 0), (2, 1), (3, 2), (5, 4), (6, 5), (7, 6)],
+            [0, 1, 2, 3, 4, 5],
+        ),
+        (
+            [(3, 2), (2, 1), (1, 0), (7, 6), (6, 5), (5, 4)],
+            [2, 1, 0, 5, 4, 3],
+        ),
+        (
+            [(1, 0), (2, 1), (3, 1), (4, 2), (5, 3), (7, 6)],
+            [0, 1, 3, 2, 4, 5],
+        ),
+    ];
+    for (pairs, wanted) in table {
+        let nodes = copies(rt.alloc(), &pairs)?;
+        expect_order(&rt, rt.alloc(), &[1; 8], nodes, &wanted)?;
+    }
     Ok(())
 }
 
