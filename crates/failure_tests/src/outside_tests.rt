@@ -40,7 +40,8 @@ fn ending(read: usize, write: usize) -> (u8, usize) {
     (0, 9)
 }
 
-/// The run with these faults ends so, and what it wrote are the replies to so many commands.
+/// The run with these faults ends so, what it wrote are the replies to so many commands, and its history has the entries of those that were carried out: at
+/// a fault of the sink one more.
 fn fails_at<R: Threads + Wait + Sync + Abort>(
     rt: &R,
     alloc: Global,
@@ -61,6 +62,12 @@ fn fails_at<R: Threads + Wait + Sync + Abort>(
     } else {
         read
     };
+    let carried_out = if status == 4 {
+        answered.saturating_add(1)
+    } else {
+        answered
+    };
+    assert!(rt; recorded(alloc, &outcome.history)? == entries_of(alloc, carried_out)?);
     assert_eq!(rt;
         outcome.taken as usize,
         bytes.len().min(reads.saturating_mul(READ))
