@@ -91,7 +91,7 @@ pub record IsCut (st : Settings) (w : World) (made : ℕ) (asked : List (Result 
   pub few : made < min (passes_of w passes) (length w.grid)
 
 -- The session's own entries are those of these commands, with the book at each, and then the close. Where memory ran out in a settle behind them, the
--- first passes of this may stand before the close, without its show; or there is no entry, and then nothing was told.
+-- first passes of this may stand before the close, the last perhaps given up, without its show; or there is no entry, and then nothing was told.
 pub data HasEntries (st : Settings) (told : List Told) (rest : List (Result Asked TextFault)) (status : ℕ) (own : List LogEvent)
     (moments : List LogMoment) : Type 0 where
   all_entries : (entries : List LogEvent) → own ≡ entries ++ Closes ∷ [] → IsScript st told fresh entries moments
