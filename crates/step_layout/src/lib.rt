@@ -5,6 +5,7 @@
 // nodes, all from the last one to the first, by steps that are put in front of others (`fronting`). `laws` says what the steps do.
 #![tactic(auto)]
 
+mod conditions;
 mod constants;
 mod drives;
 mod expressions;
