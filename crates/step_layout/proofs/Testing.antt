@@ -23,6 +23,7 @@ abbrev pub Asks : (Sized → Type 0) → Test → Type 0
 Asks P (Truth c) = P c
 Asks P (Pair op a b) = IsSkip op × P a × P b
 
+-- what holds of a condition, and of the operands of each comparison of which it holds
 pub asks : (P : Sized → Type 0) → ((op : Comparison) (a b : Sized) → P (Binary (Compare op) a b) → P a × P b) → (c : Sized) → P c → Asks P (test_of c)
 asks P parts (Constant width value) h = h
 asks P parts (Name signal width) h = h
@@ -45,7 +46,7 @@ asks P parts (Concat width a b) h = h
 asks P parts (Repeat width count a) h = h
 asks P parts (Resized a width signed) h = h
 
--- how many steps are passed over
+-- how many of so many steps are passed over
 abbrev pub passed : Test → ℕ → Valuation → ℕ
 passed (Truth c) past env = skips SkipIfZero past (value_of c env) 0
 passed (Pair op a b) past env = skips op past (value_of a env) (value_of b env)
@@ -62,6 +63,7 @@ fails : (b : Bool) (past : ℕ) → (if b then past else 0) ≡ (if not (truth_v
 fails true past = refl
 fails false past = refl
 
+-- all of them where the condition's value is 0, and else none
 pub passed_right : (c : Sized) (past : ℕ) (env : Valuation) → passed (test_of c) past env ≡ (if not (value_of c env == 0) then 0 else past)
 passed_right (Constant width value) past env = nonzero (value == 0) past
 passed_right (Name signal width) past env = nonzero (env signal == 0) past

@@ -74,12 +74,12 @@ pass_over n = if n == 0 then [] else step Skip 1 0 true 0 0 0 n ∷ []
 abbrev pub branch : (ℕ → List Step) → List Step → List Step → List Step
 branch test xs ys = test (length (xs ++ pass_over (length ys))) ++ ((xs ++ pass_over (length ys)) ++ ys)
 
--- what a condition asks: whether a value isn't 0, or of two values what a step finds that compares them and passes over others
+-- what a condition asks: whether a value isn't 0, or what a step finds that compares two values and passes over others by it
 pub data Test : Type 0 where
   Truth : (c : Sized) → Test
   Pair : (op : Op) (a b : Sized) → Test
 
--- a > b is b < a
+-- equality, and the order of unsigned values, of which a > b is b < a, are found by a step that compares
 abbrev pub test_of : Sized → Test
 test_of (Binary (Compare Equal) a b) = Pair SkipUnlessEqual a b
 test_of (Binary (Compare Unequal) a b) = Pair SkipIfEqual a b
@@ -87,13 +87,14 @@ test_of (Binary (Compare (Less Unsigned)) a b) = Pair SkipUnlessLess a b
 test_of (Binary (Compare (Greater Unsigned)) a b) = Pair SkipUnlessLess b a
 test_of c = Truth c
 
--- passes over so many steps where it doesn't hold
+-- the steps that pass over so many others where it doesn't hold
 abbrev pub test_code : Plan → Test → ℕ → ℕ → List Step
 test_code l (Truth c) mark past = before l c mark (code l c mark mark) ++ step SkipIfZero 1 0 true 0 (operand l c mark) 0 past ∷ []
 test_code l (Pair op a b) mark past =
     (before l a mark (code l a mark mark) ++ before l b (mark + 1) (code l b (mark + 1) (mark + 1)))
     ++ step op 1 0 true 0 (operand l a mark) (operand l b (mark + 1)) past ∷ []
 
+-- whether an expression holds
 abbrev pub condition : Plan → Sized → ℕ → ℕ → List Step
 condition l c mark past = test_code l (test_of c) mark past
 
