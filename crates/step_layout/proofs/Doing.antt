@@ -9,21 +9,24 @@ use Rattle.typed_ir.specs.declared.span.Span.{Span}
 use Rattle.typed_ir.specs.declared.update.Update.{Update}
 use Rattle.typed_ir.specs.Valuations.{Valuation, put}
 use Rattle.typed_ir.specs.Orders.{Each, Member}
-use Rattle.typed_ir.specs.Sized.{Sized, value_of, width_of, agrees, fits_signals, is_width, is_signal, is_span}
+use Rattle.typed_ir.specs.declared.comparison.Comparison.{Comparison}
+use Rattle.typed_ir.specs.declared.binary_operator.BinaryOperator.TheVariants.{Compare}
+use Rattle.typed_ir.specs.Sized.{Sized, Binary, value_of, width_of, agrees, fits_signals, is_width, is_signal, is_span}
 use Rattle.typed_ir.specs.Stmts.{SizedTarget, Fixed, Moving, SizedItem, SizedStmt, SizedArms, Skip as Nothing, Assign, Later, Then, If, Case, Arm, Default, is_target, are_targets, is_sized, are_items, is_legal, are_legal_arms, update_of, updates_of, all_applied, applied, written, matches_item, matches_any, exec, exec_arms, pending, pending_arms, span_of, targets, arm_targets, later_targets, later_arm_targets}
 use Rattle.typed_ir.proofs.Cases.{by_cases, and_left, and_right}
 use Rattle.word_steps.specs.declared.step.Step.{Step}
 use Rattle.word_steps.specs.declared.op.Op.TheVariants.{Or, SkipIfZero, SkipIfEqual, SkipUnlessEqual, Skip}
-use Rattle.word_steps.specs.Walks.{at, walk}
+use Rattle.word_steps.specs.Walks.{at, walk, skips}
 use Rattle.word_steps.proofs.Words.{put-same, put-other}
-use Rattle.word_steps.proofs.Steps.{walk-append, walk-past}
+use Rattle.word_steps.proofs.Steps.{walk-append, walk-past, act_still}
 use Rattle.step_layout.specs.Plans.{Plan, IsApart, IsReady, IsKnown, IsAlone, signals, width_at}
 use Rattle.step_layout.specs.Expressions.{step, operand, before, code, constants_of}
-use Rattle.step_layout.specs.Statements.{signal_of, is_whole, is_direct, part_code, parts_code, one_code, assign_code, pass_over, branch, condition, subject_at, item_at, item_code, tests, stmt_code, arms_code, part_constants, target_constants, item_constants, stmt_constants, arm_constants}
+use Rattle.step_layout.specs.Statements.{signal_of, is_whole, is_direct, part_code, parts_code, one_code, assign_code, pass_over, branch, Test, Truth, Pair, test_of, test_code, condition, subject_at, item_at, item_code, tests, stmt_code, arms_code, part_constants, target_constants, item_constants, stmt_constants, arm_constants}
 use Rattle.step_layout.specs.Right.{IsLaid}
-use Rattle.step_layout.proofs.Fits.{value_fits, signal_is}
+use Rattle.step_layout.proofs.Fits.{value_fits, signal_is, agree_both}
 use Rattle.step_layout.proofs.Ready.{each_left, each_right, same_signals, still_ready}
 use Rattle.step_layout.proofs.Layouts.{Runs, Stands, Gives, Fine, stands_runs, gives_runs, stands, gives}
+use Rattle.step_layout.proofs.Testing.{Asks, asks, passed, passed_right}
 use Rattle.step_layout.proofs.PartValues.{part_value, applied_part, part_right, part_fits, span_lies, whole_right, gives_by}
 
 -- ---- updates of one signal depend on that signal alone
@@ -82,10 +85,6 @@ branch_ends test xs ys w v u t ends goes =
     both true h =
         walk-append zs ys (at 0 v) ∙ ap (walk ys) (walk-append xs (pass_over (length ys)) (at 0 v) ∙ ap (walk (pass_over (length ys))) h) ∙ last (length ys == 0) refl
     both false h = walk-append zs ys (at (length zs) v) ∙ ap (walk ys) (past_all zs v) ∙ h
-
-turned_if : (b : Bool) (x y : ℕ) → (if b then x else y) ≡ (if not b then y else x)
-turned_if true x y = refl
-turned_if false x y = refl
 
 chosen : {A : Type 0} (b : Bool) (x y : A) → (if not b then x else y) ≡ (if b then y else x)
 chosen true x y = refl
@@ -212,20 +211,67 @@ module _ (l : Plan) (rs : List ℕ) (n : ℕ) (apart : IsApart l rs n) where
 
   -- ---- conditions and items
 
-  condition_right : (c : Sized) (mark : ℕ) (w : Valuation) → n ≤ mark → Fine l rs n apart c → IsReady l rs w
-      → Tests (condition l c mark) w mark (not (value_of c (signals l w) == 0))
-  condition_right c mark w few f r =
+  -- a test of a condition passes over steps by what is asked
+  record Finds (t : Test) (w : Valuation) (mark : ℕ) : Type 0 where
+    after : Valuation
+    ends : (past : ℕ) → walk (test_code l t mark past) (at 0 w) ≡ at (passed t past (signals l w)) after
+    kept : (k : ℕ) → k < mark → after k ≡ w k
+
+  test_right : (t : Test) (mark : ℕ) (w : Valuation) → n ≤ mark → Asks (Fine l rs n apart) t → IsReady l rs w → Finds t w mark
+  test_right (Truth c) mark w few f r =
       let ps = before l c mark (code l c mark mark) in
       let C = operand l c mark in
-      let x = value_of c (signals l w) in
       let s = stands l rs n apart c mark w few f r (gives l rs n apart c mark mark w few f r) in
       record {
         after = s.after;
         ends = λ past. walk-append ps (step SkipIfZero 1 0 true 0 C 0 past ∷ []) (at 0 w)
             ∙ ap (walk (step SkipIfZero 1 0 true 0 C 0 past ∷ [])) s.ends
-            ∙ ap (λ y. at (if y == 0 then past else 0) s.after) s.value
-            ∙ ap (λ k. at k s.after) (turned_if (x == 0) past 0);
+            ∙ ap (λ y. at (if y == 0 then past else 0) s.after) s.value;
         kept = s.kept;
+      }
+  test_right (Pair op a b) mark w few f r =
+      let pa = before l a mark (code l a mark mark) in
+      let pb = before l b (mark + 1) (code l b (mark + 1) (mark + 1)) in
+      let A = operand l a mark in
+      let B = operand l b (mark + 1) in
+      let sa = stands l rs n apart a mark w few f.1 r (gives l rs n apart a mark mark w few f.1 r) in
+      let same : (k : ℕ) → k < n → sa.after k ≡ w k = λ k h. sa.kept k (omega (arith, h, few)) in
+      let r1 = still_ready l rs n apart sa.after w same r in
+      let sb = stands l rs n apart b (mark + 1) sa.after (omega (arith, few)) f.2 r1 (gives l rs n apart b (mark + 1) (mark + 1) sa.after (omega (arith, few)) f.2 r1) in
+      let first : sb.after A ≡ value_of a (signals l w) = sb.kept A (let p = sa.near in omega (arith, p)) ∙ sa.value in
+      let second : sb.after B ≡ value_of b (signals l w) = sb.value ∙ ap (value_of b) (same_signals l rs n apart sa.after w same) in
+      record {
+        after = sb.after;
+        ends = λ past.
+            let skip = step op 1 0 true 0 A B past in
+            walk-append (pa ++ pb) (skip ∷ []) (at 0 w) ∙ ap (walk (skip ∷ [])) (walk-append pa pb (at 0 w) ∙ ap (walk pb) sa.ends ∙ sb.ends)
+            ∙ ap₂ at (ap₂ (skips op past) first second) (act_still skip sb.after f.0.still);
+        kept = λ k h. sb.kept k (omega (arith, h)) ∙ sa.kept k h;
+      }
+
+  fine_both : (op : Comparison) (a b : Sized) → Fine l rs n apart (Binary (Compare op) a b) → Fine l rs n apart a × Fine l rs n apart b
+  fine_both op a b f =
+      let p = agree_both (width_of a == width_of b) (agrees a) (agrees b) f.agree in
+      let fa : Fine l rs n apart a = record {
+        agree = p.1;
+        fit = and_left (fits_signals a l.widths) (fits_signals b l.widths) f.fit;
+        known = each_left (IsKnown l) (constants_of a) (constants_of b) f.known;
+      } in
+      let fb : Fine l rs n apart b = record {
+        agree = p.2;
+        fit = and_right (fits_signals a l.widths) (fits_signals b l.widths) f.fit;
+        known = each_right (IsKnown l) (constants_of a) (constants_of b) f.known;
+      } in
+      (fa, fb)
+
+  condition_right : (c : Sized) (mark : ℕ) (w : Valuation) → n ≤ mark → Fine l rs n apart c → IsReady l rs w
+      → Tests (condition l c mark) w mark (not (value_of c (signals l w) == 0))
+  condition_right c mark w few f r =
+      let t = test_right (test_of c) mark w few (asks (Fine l rs n apart) fine_both c f) r in
+      record {
+        after = t.after;
+        ends = λ past. t.ends past ∙ ap (λ k. at k t.after) (passed_right c past (signals l w));
+        kept = t.kept;
       }
 
   -- two values that are to be compared

@@ -5,6 +5,7 @@ pub mod CopiesOfOne
 pub mod Ready
 pub mod Layouts
 pub mod PartValues
+pub mod Testing
 pub mod Doing
 pub mod Passing
 pub mod Assigning

@@ -23,11 +23,12 @@ use Rattle.word_steps.specs.declared.op.Op.{Op}
 use Rattle.word_steps.specs.declared.op.Op.TheVariants.{Copy, Select, Extend, Join, Product as Product', Choose, Place, PlaceAt, Or, SkipIfZero, SkipIfEqual, SkipUnlessEqual, Skip, Locate, SignedLocate, Pick as Pick'}
 use Rattle.step_layout.specs.Plans.{Plan, width_at}
 use Rattle.step_layout.specs.Expressions.{step, is_wide, unary_op, binary_op, locate_op, is_filled, resize_op, resize_low, is_plain, operand, before, code, swaps}
-use Rattle.step_layout.specs.Statements.{signal_of, is_whole, shifted, shift_code, part_code, parts_code, is_direct, one_code, assign_code, pass_over, branch, condition, subject_at, item_at, item_code, tests, stmt_code, arms_code}
+use Rattle.step_layout.specs.Statements.{signal_of, is_whole, shifted, shift_code, part_code, parts_code, is_direct, one_code, assign_code, pass_over, branch, Test, Truth, Pair, test_of, test_code, condition, subject_at, item_at, item_code, tests, stmt_code, arms_code}
 use Rattle.step_layout.specs.Nodes.{as_statement, nodes_code}
 use Rattle.step_layout.specs.Right.{IsLaidNode}
 use Rattle.step_layout.specs.Sizes.{are_sized}
 use Rattle.step_layout.proofs.Fits.{a_width, agree_both, agree_three, widths_right}
+use Rattle.step_layout.proofs.Testing.{Asks, asks}
 use Rattle.step_layout.proofs.Passing.{node_legal}
 
 -- ---- one step
@@ -316,10 +317,22 @@ module _ (l : Plan) (bits : (s : ℕ) → width_at l s ≤ 128) where
       sized_append (test (length (xs ++ past))) ((xs ++ past) ++ ys) (t (length (xs ++ past)))
       (sized_append (xs ++ past) ys (sized_append xs past h (pass_sized (length ys))) k)
 
-  condition_sized : (c : Sized) (mark past : ℕ) → agrees c ≡ true → are_sized (condition l c mark past) ≡ true
-  condition_sized c mark past h =
+  test_sized : (t : Test) (mark past : ℕ) → Asks (λ e. agrees e ≡ true) t → are_sized (test_code l t mark past) ≡ true
+  test_sized (Truth c) mark past h =
       sized_append (before l c mark (code l c mark mark)) (step SkipIfZero 1 0 true 0 (operand l c mark) 0 past ∷ [])
       (before_sized l c mark (code l c mark mark) h (code_sized l c mark mark h)) refl
+  test_sized (Pair op a b) mark past h =
+      let first = before l a mark (code l a mark mark) in
+      let second = before l b (mark + 1) (code l b (mark + 1) (mark + 1)) in
+      sized_append (first ++ second) (step op 1 0 true 0 (operand l a mark) (operand l b (mark + 1)) past ∷ [])
+      (sized_append first second (before_sized l a mark (code l a mark mark) h.1 (code_sized l a mark mark h.1))
+      (before_sized l b (mark + 1) (code l b (mark + 1) (mark + 1)) h.2 (code_sized l b (mark + 1) (mark + 1) h.2)))
+      (sized_one (step op 1 0 true 0 (operand l a mark) (operand l b (mark + 1)) past) h.0.fits)
+
+  condition_sized : (c : Sized) (mark past : ℕ) → agrees c ≡ true → are_sized (condition l c mark past) ≡ true
+  condition_sized c mark past h =
+      test_sized (test_of c) mark past (asks (λ e. agrees e ≡ true)
+      (λ op a b k. let p = agree_both (width_of a == width_of b) (agrees a) (agrees b) k in (p.1, p.2)) c h)
 
   item_sized : (i : SizedItem) (here mark : ℕ) → agrees i.item ≡ true → are_sized (item_code l i here mark) ≡ true
   item_sized i here mark h =

@@ -10,35 +10,18 @@ ghost use Rattle.step_layout.specs.Homes.{home_of};
 ghost use Rattle.step_layout.specs.Statements.{condition, branch, tests, assign_code, stmt_code, arms_code};
 ghost use Rattle.step_layout.specs.Views.{plan_of};
 
+use crate::conditions::lay_condition;
 use crate::expressions::stand;
-use crate::fronting::{added, prepend, skip, skip_others};
+use crate::fronting::{added, prepend, skip_others};
 use crate::home::Home;
 use crate::layout::Layout;
 use crate::matching::lay_tests;
 use crate::parts::lay_assignment;
-use crate::putting::{next, put};
+use crate::putting::next;
 use no_memory::NoMemory;
 use std::collections::VecDeque;
 use typed_ir::{Arm, Stmt, Target, Typed};
-use word_steps::{Op, Step};
-
-// Passes over steps unless the value of an expression isn't 0.
-fn lay_condition(
-    c: &Typed,
-    past: u32,
-    layout: &Layout,
-    mark: u32,
-    first: &mut Vec<Step>,
-    steps: &mut VecDeque<Step>,
-) -> Result<(), NoMemory>
-    requires { first.old.items ≡ [] }
-    ensures none { OnOk result (first.new.items ≡ []) }
-    ensures steps { OnOk result (steps.new.items ≡ condition (plan_of layout.now) (sized c.now.form) mark past ++ steps.old.items) }
-{
-    let x = stand(&c.form, layout, mark, first)?;
-    put(first, skip(Op::SkipIfZero, x.place, 0, past))?;
-    prepend(first, steps)
-}
+use word_steps::Step;
 
 /// Statements one after another, the last one first, in front of other steps; `first` has none before and after. Want of memory, and a place
 /// or a number of steps above the largest number, is `NoMemory`.
