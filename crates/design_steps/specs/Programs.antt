@@ -22,7 +22,7 @@ use Rattle.design_steps.specs.declared.program.Program.{Program}
 abbrev pub values_in : Program → List ℕ → Valuation
 values_in p words = signals (own_plan p.layout) (env_of words)
 
--- what they have where they stand: a wire that is another name of a register or an input has what that one has
+-- what they have where they stand: a wire that is another name of a signal has what that one has
 abbrev pub seen_in : Program → List ℕ → Valuation
 seen_in p words = signals (plan_of p.layout) (env_of words)
 
