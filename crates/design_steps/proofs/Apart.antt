@@ -1,5 +1,5 @@
 -- Where a layout's things stand, and that they stand apart.
-use Rattle.std.proofs.Common.{Bool, true, false, true≢false, ◌≡◌, ◌⊎◌, ◌||◌, ℕ, zero, suc, ◌+◌, ◌-◌, ◌*◌, ◌<◌, ◌≤◌, ◌&&◌, nat_le, nat_lt, Some, None, List, [], ◌∷◌, map, length, refl, sym, ap, ◌∙◌, subst, arith, inl, inr, IsTrue}
+use Rattle.std.proofs.Common.{Bool, true, false, true≢false, ◌≡◌, ◌⊎◌, ◌||◌, ℕ, zero, suc, ◌+◌, ◌-◌, ◌*◌, ◌<◌, ◌≤◌, ◌^◌, ◌&&◌, nat_le, nat_lt, Some, None, List, [], ◌∷◌, map, length, refl, sym, ap, ◌∙◌, subst, arith, inl, inr, IsTrue}
 use Rattle.std.specs.Prelude.{slice_index, position, ◌==◌, cond, if◌then◌else◌}
 use Rattle.std.proofs.Math.Logic.{∥∥₁_elim}
 use Rattle.std.proofs.Props.{props}
@@ -24,7 +24,7 @@ use Rattle.typed_ir.proofs.Cases.{by_cases, and_left, and_right, only_right}
 use Rattle.typed_ir.proofs.Numbered.{at_outside}
 use Rattle.typed_ir.proofs.Settled.{same_valuation}
 use Rattle.step_layout.specs.declared.layout.Layout.{Layout}
-use Rattle.step_layout.specs.Plans.{IsApart, IsAlone, IsKnown}
+use Rattle.step_layout.specs.Plans.{IsApart, IsReady, IsAlone, IsKnown}
 use Rattle.step_layout.specs.Pools.{or_end, spot}
 use Rattle.step_layout.specs.Views.{plan_of}
 use Rattle.step_layout.specs.Statements.{stmt_constants}
@@ -151,7 +151,7 @@ own_few l design h s =
     (λ yes. let less : s < n = ltb-true s n yes in let e = t.here s less in omega (arith, e, less))
     (λ no. let e = t.none s (ltb-false s n no) in omega (arith, e))
 
-either : (P : ℕ → Type 0) (b : Bool) (x y : ℕ) → P x → P y → P (if b then x else y)
+pub either : (P : ℕ → Type 0) (b : Bool) (x y : ℕ) → P x → P y → P (if b then x else y)
 either P true x y p q = p
 either P false x y p q = q
 
@@ -183,3 +183,68 @@ view_alone l design h k s less at written u e =
     let own : (plan_of l).slot u ≡ 1 + s = sym (cond-false (writes k ((plan_of l).slot u - 1)) ((own_plan l).slot u) ((plan_of l).slot u) no) ∙ there in
     let is : (plan_of l).slot u - 1 ≡ s = omega (arith, own) in
     absurd (true≢false (sym written ∙ ap (writes k) (sym is) ∙ no)))
+
+-- ---- own places
+
+module _ (l : Layout) (design : Flat) (h : LaysOut l design) where
+  -- a signal's own place is nobody's where the signal stands at another one
+  pub own_place : (s t : ℕ) → ((plan_of l).slot s ≡ (own_plan l).slot s → ⊥) → (own_plan l).slot s ≡ (plan_of l).slot t → ⊥
+  own_place s t other e =
+      let n = length design.signals.items in
+      let st = stand l design h in
+      by_cases (nat_lt s n)
+      (λ yes. let less : s < n = ltb-true s n yes in
+      let here = st.here s less in
+      by_cases (nat_lt t n)
+      (λ there. let r = stands l design h t (ltb-true t n there) in
+      let same : r.root ≡ s = (let a = r.at in omega (arith, a, here, e)) in
+      other (subst (λ u. (plan_of l).slot u ≡ 1 + u) same r.own ∙ sym here))
+      (λ no. let none = st.shared t (ltb-false t n no) in omega (arith, here, none, e)))
+      (λ no. let more : n ≤ s = ltb-false s n no in other (st.shared s more ∙ sym (st.none s more)))
+
+  -- it is no next value's, and lies below the mark
+  pub own_next : (s t : ℕ) → Member t (signals_of design) → (own_plan l).slot s ≡ (plan_of l).next t → ⊥
+  own_next s t m e =
+      let less = below_all (length design.signals.items) t m in
+      let a = own_few l design h s in
+      let b = (stand l design h).next t less in
+      omega (arith, a, b, e)
+
+  pub own_mark : (s : ℕ) → (own_plan l).slot s < mark_of l
+  own_mark s = let a = own_few l design h s in let b = (stand l design h).mark in omega (arith, a, b)
+
+  pub alias_at : (s : ℕ) → ((plan_of l).slot s ≡ (own_plan l).slot s → ⊥) → IsAlias design l.slots.items s
+  alias_at s other =
+      let n = length design.signals.items in
+      let st = stand l design h in
+      by_cases (nat_lt s n)
+      (λ yes. let less = ltb-true s n yes in of (st.here s less) (h.slots.each s less))
+      (λ no. let more = ltb-false s n no in absurd (other (st.shared s more ∙ sym (st.none s more))))
+    where
+      of : (own_plan l).slot s ≡ 1 + s → (slice_index l.slots.items s ≡ s + 1) ⊎ IsAlias design l.slots.items s → IsAlias design l.slots.items s
+      of here (inl e) = absurd (other (e ∙ (let f : s + 1 ≡ 1 + s = omega arith in f) ∙ sym here))
+      of here (inr a) = a
+
+  -- what signals have where they stand, from what they have at their own places
+  pub shared_ready : (w : Valuation) → IsReady (own_plan l) (signals_of design) w → IsReady (plan_of l) (signals_of design) w
+  shared_ready w ready = record {
+    fits = λ s less. let r = stands l design h s (few s less) in
+        subst (λ k. w k < 2 ^ slice_index l.widths.items s) ((stand l design h).here r.root r.there ∙ sym r.at)
+        (subst (λ n. w ((own_plan l).slot r.root) < 2 ^ n) (sym r.wide) (ready.fits r.root (wide r.root r.there)));
+    next_fits = ready.next_fits;
+    holds = ready.holds;
+  }
+    where
+      few : (s : ℕ) → s < length l.widths.items → s < length design.signals.items
+      few s less = let e = widths_many l design h in omega (arith, e, less)
+
+      wide : (s : ℕ) → s < length design.signals.items → s < length l.widths.items
+      wide s less = let e = widths_many l design h in omega (arith, e, less)
+
+  pub view_ready : (k : FlatNode) (w : Valuation) → IsReady (own_plan l) (signals_of design) w → IsReady (view_of l k) (signals_of design) w
+  view_ready k w ready = record {
+    fits = λ s less. either (λ x. w x < 2 ^ slice_index l.widths.items s) (writes k ((plan_of l).slot s - 1)) ((own_plan l).slot s) ((plan_of l).slot s)
+        (ready.fits s less) ((shared_ready w ready).fits s less);
+    next_fits = ready.next_fits;
+    holds = ready.holds;
+  }
