@@ -37,7 +37,7 @@ use Rattle.design_steps.specs.Layings.{own, with_slots, own_plan, view_of, write
 use Rattle.step_layout.proofs.Ready.{each_left, each_right}
 use Rattle.design_steps.proofs.Holding.{each_both}
 use Rattle.step_layout.proofs.Passing.{node_legal}
-pub use Rattle.design_steps.proofs.Counting.{run_in, run_out, run_push, in_all, below_all}
+use Rattle.design_steps.proofs.Counting.{run_in, run_out, below_all}
 
 -- ---- the plan
 
