@@ -10,7 +10,7 @@ use Rattle.typed_ir.specs.declared.span.Span.{Span}
 use Rattle.typed_ir.specs.Orders.{Member, Each, at_or, Precedes, EachAfter, Distinct, IsOrderOf}
 use Rattle.typed_ir.specs.Valuations.{Valuation}
 use Rattle.typed_ir.specs.Stmts.{targets, is_legal}
-use Rattle.typed_ir.specs.Nodes.{FlatNode, drive, node_drives, node_reads, drive_at, drives_at, reads_at, is_legal_node, are_legal}
+use Rattle.typed_ir.specs.Nodes.{FlatNode, drive, node_drives, node_reads, drive_at, drives_at, reads_at, IsOrder, is_legal_node, are_legal}
 use Rattle.typed_ir.specs.Touches.{mentions}
 use Rattle.typed_ir.specs.Flats.{signal_widths}
 use Rattle.typed_ir.specs.FlatNodes.{node_of}
@@ -26,7 +26,7 @@ use Rattle.step_layout.proofs.Passing.{node_legal}
 use Rattle.design_steps.specs.declared.naming.Naming.{Naming}
 use Rattle.design_steps.specs.Pooled.{nodes_constants}
 use Rattle.design_steps.specs.Namings.{is_shared, kept, Names, LeadsTo, Itself, Over, IsAlias}
-use Rattle.design_steps.specs.Layings.{own_plan, view_of, writes, LaysOut}
+use Rattle.design_steps.specs.Layings.{left_of, own_plan, view_of, writes, LaysOut}
 use Rattle.design_steps.proofs.Holding.{each_both, each_map}
 use Rattle.design_steps.proofs.Shared.{names_drive, names_read, names_some}
 use Rattle.design_steps.proofs.Written.{written_drives, read_mentioned}
@@ -206,3 +206,6 @@ module _ (l : Layout) (design : Flat) (h : LaysOut l design) (mark : ℕ) where
           each_both IsAlike (node_at (map node_of design.nodes.items) k)
           (in_order (map node_of design.nodes.items) (kept l.widths.items l.slots.items (map node_of design.nodes.items) ks))
           (alike_at done k (rest_front (Before design) done k ks r) (there k (inl refl)) e) rest
+
+  pub nodes_alike : (order : List ℕ) → IsOrder (map node_of design.nodes.items) order → Each IsAlike (left_of l design order)
+  nodes_alike order o = alike_rest [] order (rest_first (Before design) (length (map node_of design.nodes.items)) order o) o.in_range

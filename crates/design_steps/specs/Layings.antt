@@ -12,9 +12,9 @@ use Rattle.step_layout.specs.declared.layout.Layout.{Layout}
 use Rattle.step_layout.specs.Statements.{stmt_constants}
 use Rattle.step_layout.specs.Plans.{Plan}
 use Rattle.step_layout.specs.Views.{plan_of}
-use Rattle.step_layout.specs.Nodes.{as_statement}
+use Rattle.step_layout.specs.Nodes.{as_statement, in_order}
 use Rattle.design_steps.specs.Pooled.{nodes_constants}
-use Rattle.design_steps.specs.Namings.{is_among, AreShared}
+use Rattle.design_steps.specs.Namings.{kept, is_among, AreShared}
 
 -- so many numbers from one on
 abbrev pub run_from : ℕ → ℕ → List ℕ
@@ -64,3 +64,7 @@ pub record LaysOut (l : Layout) (design : Flat) : Type 0 where
   pub first : l.constants.first ≡ 2 * length design.signals.items + 1
   pub nodes : Each (λ v. Member v l.constants.values.keys) (nodes_constants (map node_of design.nodes.items))
   pub blocks : Each (λ v. Member v l.constants.values.keys) (stmt_constants (sequence_of (map stmt_of design.clocked.items)))
+
+-- the nodes of an order that leave something to do
+abbrev pub left_of : Layout → Flat → List ℕ → List FlatNode
+left_of l design order = in_order (map node_of design.nodes.items) (kept l.widths.items l.slots.items (map node_of design.nodes.items) order)
