@@ -1,7 +1,7 @@
 -- Wires that stand where the signal does of which they are another name, and the nodes that are left then.
-use Rattle.std.proofs.Common.{Bool, true, false, true≢false, ◌≡◌, ℕ, zero, suc, ◌+◌, ◌-◌, ◌<◌, ◌≤◌, ◌&&◌, ◌||◌, ◌==◌, nat_le, nat_lt, ◌/◌, ◌^◌, ◌⊎◌, inl, inr, Option, Some, None, List, [], ◌∷◌, ◌++◌, length, map, drop, get_or, set, append_assoc, refl, sym, ap, ap₂, ◌∙◌, subst, arith}
+use Rattle.std.proofs.Common.{Bool, true, false, not, true≢false, ◌≡◌, ℕ, zero, suc, ◌+◌, ◌-◌, ◌<◌, ◌≤◌, ◌&&◌, ◌||◌, ◌==◌, nat_le, nat_lt, ◌/◌, ◌^◌, ◌⊎◌, inl, inr, Option, Some, None, List, [], ◌∷◌, ◌++◌, length, map, drop, get_or, set, append_assoc, refl, sym, ap, ap₂, ◌∙◌, subst, arith}
 use Rattle.std.specs.Prelude.{slice_index, if◌then◌else◌}
-use Rattle.std.proofs.lemmas.Bool.{ltb-true, ltb-false, lt-ltb, le-leb, eqb-true, eqb-false, eq-eqb, and_from}
+use Rattle.std.proofs.lemmas.Bool.{ltb-true, ltb-false, lt-ltb, le-leb, eqb-true, eqb-false, eq-eqb, and_from, not-true}
 use Rattle.std.proofs.lemmas.List.{length-map, length-set, append-nil, drop_all}
 use Rattle.std.proofs.lemmas.Option.{none-some, cond_some}
 use Rattle.typed_ir.specs.declared.flat.Flat.{Flat}
@@ -22,7 +22,7 @@ use Rattle.std.specs.Int.{bit_at}
 use Rattle.word_steps.proofs.Words.{word_set, put-same, put-other}
 use Rattle.design_steps.specs.declared.naming.Naming.{Naming}
 use Rattle.design_steps.specs.Layings.{run_from}
-use Rattle.design_steps.specs.Namings.{has_width, is_whole, named, name_given, stand_alike, is_shared, kept, mark_at, is_among, Held, LeadsTo, Itself, Over, IsAlias, AreShared, AreMarked}
+use Rattle.design_steps.specs.Namings.{has_width, is_whole, named, name_given, stand_alike, is_shared, kept, mark_at, is_among, Held, Names, LeadsTo, Itself, Over, IsAlias, AreShared, AreMarked}
 use Rattle.design_steps.proofs.Counting.{run_in, run_out}
 
 -- ---- marks
@@ -234,18 +234,43 @@ first_marks design slots held e long marks = record {
       (λ no. let own = ap (λ xs. slice_index xs s) e ∙ run_out 1 (length design.signals.items) s (ltb-false s (length design.signals.items) no) in absurd (omega (arith, at, own)));
 }
 
+-- a node by its number
+pub node_index : {A : Type 0} (f : FlatNode → A) (d : A) (ns : List Node) (k : ℕ) (x : Node) → k < length ns → x ≡ get_or ns k x → at_or f d (map node_of ns) k ≡ f (node_of x)
+node_index f d [] k x h is = absurd (omega (arith, h))
+node_index f d (y ∷ ys) zero x h is = ap (λ z. f (node_of z)) (sym is)
+node_index f d (y ∷ ys) (suc k) x h is = node_index f d ys k x (omega (arith, h)) is
+
+-- a wire that a node makes another name of a signal, and which needn't stay at its own place
+pub record MayMove (design : Flat) (slots : List ℕ) (stays : List Bool) (k : ℕ) (n : Naming) : Type 0 where
+  pub names : Names design k n.wire n.signal
+  pub known : Named (signal_widths design.signals.items) n
+  pub own : slice_index slots n.wire ≡ n.wire + 1
+  pub unmarked : mark_at stays n.wire ≡ false
+
+pub may_move : (design : Flat) (slots : List ℕ) (stays : List Bool) (k : ℕ) (n : Naming) (x : Node) (wire : ℕ) → k < length design.nodes.items → x ≡ get_or design.nodes.items k x
+    → name_given (node_of x) (signal_widths design.signals.items) ≡ Some n → wire ≡ n.wire
+    → ((slice_index slots wire == wire + 1) && not (mark_at stays wire)) ≡ true → MayMove design slots stays k n
+may_move design slots stays k n x wire less is gives_ same test =
+    let ws = signal_widths design.signals.items in
+    let own = and_left (slice_index slots wire == wire + 1) (not (mark_at stays wire)) test in
+    let free = and_right (slice_index slots wire == wire + 1) (not (mark_at stays wire)) test in
+    record {
+      names = node_index (λ m. name_given m ws) None design.nodes.items k x less is ∙ gives_;
+      known = named_by (node_of x) ws n (gives (node_of x) ws n gives_);
+      own = subst (λ t. slice_index slots t ≡ t + 1) same (eqb-true (slice_index slots wire) (wire + 1) own);
+      unmarked = subst (λ t. mark_at stays t ≡ false) same (not-true (mark_at stays wire) free);
+    }
+
 module _ (design : Flat) (slots : List ℕ) (stays : List Bool) (k : ℕ) (n : Naming) (old : AreShared design slots) (marks : AreMarked design slots stays)
-    (names : at_or (λ m. name_given m (signal_widths design.signals.items)) None (map node_of design.nodes.items) k ≡ Some n)
-    (known : Named (signal_widths design.signals.items) n)
-    (own : slice_index slots n.wire ≡ n.wire + 1) (unmarked : mark_at stays n.wire ≡ false) where
+    (may : MayMove design slots stays k n) where
   wire_there : n.wire < length design.signals.items
-  wire_there = let e = widths_long design.signals.items in let h = known.wire_there in omega (arith, e, h)
+  wire_there = let e = widths_long design.signals.items in let h = may.known.wire_there in omega (arith, e, h)
 
   signal_there : n.signal < length design.signals.items
-  signal_there = let e = widths_long design.signals.items in let h = known.signal_there in omega (arith, e, h)
+  signal_there = let e = widths_long design.signals.items in let h = may.known.signal_there in omega (arith, e, h)
 
   free : Held design n.wire → ⊥
-  free h = true≢false (sym (marks.held n.wire wire_there h) ∙ unmarked)
+  free h = true≢false (sym (marks.held n.wire wire_there h) ∙ may.unmarked)
 
   abbrev pub new_slots : List ℕ
   new_slots = set slots n.wire (slice_index slots n.signal)
@@ -261,14 +286,14 @@ module _ (design : Flat) (slots : List ℕ) (stays : List Bool) (k : ℕ) (n : N
 
   -- where it stands, nothing else does
   only_wire : (s : ℕ) → slice_index slots s ≡ n.wire + 1 → s ≡ n.wire
-  only_wire s at = marks.roots s n.wire at unmarked
+  only_wire s at = marks.roots s n.wire at may.unmarked
 
   -- so what stands at a place of another one isn't the wire
   not_wire : (s r : ℕ) → (r ≡ n.wire → ⊥) → slice_index slots s ≡ r + 1 → s ≡ n.wire → ⊥
   not_wire s r other e same = other r_is
     where
       r_is : r ≡ n.wire
-      r_is = let a = ap (slice_index slots) same in let b = own in omega (arith, a, b, e)
+      r_is = let a = ap (slice_index slots) same in let b = may.own in omega (arith, a, b, e)
 
   not_root : (s r : ℕ) → (s ≡ n.wire → ⊥) → slice_index slots s ≡ r + 1 → r ≡ n.wire → ⊥
   not_root s r other e same = other (only_wire s (e ∙ ap (λ x. x + 1) same))
@@ -302,10 +327,10 @@ module _ (design : Flat) (slots : List ℕ) (stays : List Bool) (k : ℕ) (n : N
           there = less;
           stands = wire_at ∙ at;
           own = same_at r root ∙ stands;
-          wide = known.alike ∙ wide;
+          wide = may.known.alike ∙ wide;
           node = k;
           source = n.signal;
-          names = names;
+          names = may.names;
           alike = same_at n.signal elsewhere ∙ at;
           leads = leads;
         }
@@ -364,11 +389,6 @@ module _ (design : Flat) (slots : List ℕ) (stays : List Bool) (k : ℕ) (n : N
   }
 
 -- ---- nodes that are left
-
-pub node_index : {A : Type 0} (f : FlatNode → A) (d : A) (ns : List Node) (k : ℕ) (x : Node) → k < length ns → x ≡ get_or ns k x → at_or f d (map node_of ns) k ≡ f (node_of x)
-node_index f d [] k x h is = absurd (omega (arith, h))
-node_index f d (y ∷ ys) zero x h is = ap (λ z. f (node_of z)) (sym is)
-node_index f d (y ∷ ys) (suc k) x h is = node_index f d ys k x (omega (arith, h)) is
 
 -- one more number of the order
 pub kept_more : (ws slots : List ℕ) (ns : List FlatNode) (ks : List ℕ) (i k : ℕ) (b : Bool) (old new : List ℕ) → i < length ks → k ≡ get_or ks i 0
