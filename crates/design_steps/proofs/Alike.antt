@@ -1,20 +1,19 @@
 -- Steps depend on where those signals stand alone that what they are laid out of mentions.
-use Rattle.std.proofs.Common.{Bool, true, false, ◌≡◌, ℕ, ◌+◌, ◌<◌, ◌≤◌, ◌&&◌, ◌||◌, ◌==◌, List, [], ◌∷◌, ◌++◌, max, map, length, refl, sym, ap, ap₂, ◌∙◌, arith}
+use Rattle.std.proofs.Common.{Bool, true, false, ◌≡◌, ℕ, ◌+◌, ◌<◌, ◌&&◌, ◌||◌, ◌==◌, List, [], ◌∷◌, ◌++◌, max, map, length, refl, ap, ap₂, ◌∙◌, arith}
 use Rattle.std.specs.Prelude.{if◌then◌else◌}
 use Rattle.std.proofs.lemmas.Bool.{eq-eqb}
 use Rattle.typed_ir.specs.declared.span.Span.{Span}
-use Rattle.typed_ir.specs.declared.lane.Lane.{Lane}
 use Rattle.typed_ir.specs.Orders.{Each}
 use Rattle.typed_ir.specs.Valuations.{Places}
-use Rattle.typed_ir.specs.Sized.{Sized, Constant, Name, Part, Pick, Unary, Binary, Choice, Concat, Repeat, Resized, width_of, copies, reads, agrees, fits_signals, is_width, is_signal}
+use Rattle.typed_ir.specs.Sized.{Sized, Constant, Name, Part, Pick, Unary, Binary, Choice, Concat, Repeat, Resized, width_of, copies, reads, agrees, fits_signals, is_signal}
 use Rattle.typed_ir.specs.Stmts.{SizedTarget, Fixed, Moving, SizedItem, SizedStmt, SizedArms, Skip as Nothing, Assign, Later, Then, If, Case, Arm, Default, span_of, targets, arm_targets, index_reads, item_reads, is_sized, is_target, are_targets, are_items, is_legal, are_legal_arms}
 use Rattle.typed_ir.specs.Touches.{all_reads, all_arm_reads}
 use Rattle.typed_ir.proofs.Cases.{left_or, right_or, and_left, and_right}
 use Rattle.word_steps.specs.declared.step.Step.{Step}
-use Rattle.word_steps.specs.declared.op.Op.TheVariants.{Copy, Select, Choose, Join, Product, Pick as PickStep, PlaceAt, Or, SkipIfZero, SkipIfEqual, SkipUnlessEqual}
+use Rattle.word_steps.specs.declared.op.Op.TheVariants.{Copy, Select, Choose, Join, Product, Pick as PickStep, Or, SkipIfZero, SkipIfEqual, SkipUnlessEqual}
 use Rattle.step_layout.specs.Plans.{Plan, width_at}
 use Rattle.step_layout.specs.Expressions.{step, is_wide, unary_op, binary_op, swaps, locate_op, resize_op, resize_low, is_plain, operand, before, code}
-use Rattle.step_layout.specs.Statements.{signal_of, is_direct, shifted, shift_code, part_code, parts_code, one_code, assign_code, pass_over, branch, condition, subject_at, item_at, item_code, tests, stmt_code, arms_code}
+use Rattle.step_layout.specs.Statements.{signal_of, is_direct, part_code, parts_code, one_code, assign_code, pass_over, branch, condition, subject_at, item_at, item_code, tests, stmt_code, arms_code}
 use Rattle.step_layout.proofs.Ready.{each_left, each_right}
 use Rattle.design_steps.proofs.Written.{span_there, within_own}
 
@@ -86,7 +85,7 @@ module _ (l : Plan) (f : ℕ → ℕ) where
         ap₂ (λ (us vs : List Step). if is_plain (width_of a) width signed then us else vs)
         (before_same a mark (code (moved l f) a mark mark) (code l a mark mark) t h (code_same a mark mark t h)) same
 
-    pub code_same : (e : Sized) (to mark : ℕ) → fits_signals e l.widths ≡ true → Fixes (reads e) → code (moved l f) e to mark ≡ code l e to mark
+    code_same : (e : Sized) (to mark : ℕ) → fits_signals e l.widths ≡ true → Fixes (reads e) → code (moved l f) e to mark ≡ code l e to mark
     code_same (Constant width value) to mark t h = refl
     code_same (Name signal width) to mark t h =
         ap (λ k. step Copy 1 0 (is_wide Copy width) to k 0 0 ∷ []) (h signal 0 (eq-eqb signal signal refl) (λ some. some))

@@ -1,42 +1,22 @@
 -- Where a layout's things stand, and that they stand apart.
-use Rattle.std.proofs.Common.{Bool, true, false, true≢false, ◌≡◌, ◌⊎◌, ◌||◌, ℕ, zero, suc, ◌+◌, ◌-◌, ◌*◌, ◌<◌, ◌≤◌, ◌^◌, ◌&&◌, nat_le, nat_lt, Some, None, List, [], ◌∷◌, map, length, refl, sym, ap, ◌∙◌, subst, arith, inl, inr, IsTrue}
+use Rattle.std.proofs.Common.{Bool, true, false, true≢false, ◌≡◌, ◌⊎◌, ℕ, zero, suc, ◌+◌, ◌-◌, ◌*◌, ◌<◌, ◌≤◌, ◌^◌, nat_lt, Some, None, List, [], ◌∷◌, length, refl, sym, ap, ◌∙◌, subst, arith, inl, inr}
 use Rattle.std.specs.Prelude.{slice_index, position, ◌==◌, cond, if◌then◌else◌}
-use Rattle.std.proofs.Math.Logic.{∥∥₁_elim}
-use Rattle.std.proofs.Props.{props}
 use Rattle.std.specs.List.{position_or_len}
-use Rattle.std.proofs.lemmas.Bool.{ltb-true, ltb-false, lt-ltb, leb-true, le-leb, eqb-true, eq-eqb, and_from, cond-true, cond-false}
+use Rattle.std.proofs.lemmas.Bool.{ltb-true, ltb-false, cond-true, cond-false}
 use Rattle.std.proofs.lemmas.List.{length-map}
 use Rattle.typed_ir.specs.declared.flat.Flat.{Flat}
 use Rattle.typed_ir.specs.declared.signal.Signal.{Signal}
-use Rattle.typed_ir.specs.declared.span.Span.{Span}
-use Rattle.typed_ir.specs.declared.lane.Lane.{Lane}
-use Rattle.typed_ir.specs.Orders.{Member, Each, any_drives, at_or}
-use Rattle.typed_ir.specs.Valuations.{Valuation, look, within, any_within}
-use Rattle.typed_ir.specs.Sized.{is_span, is_signal, is_width}
-use Rattle.typed_ir.specs.Stmts.{SizedTarget, Fixed, Moving, SizedStmt, SizedArms, Skip, Assign, Later, Then, If, Case, Arm, Default, span_of, is_clocked, are_clocked_arms, targets, arm_targets, later_targets, later_arm_targets, is_target, are_targets, are_items, is_sized, is_legal, are_legal_arms}
-use Rattle.typed_ir.specs.Nodes.{FlatNode, Drive, Block, lane_spans, node_drives, drive_at, drives_at, OneDriver, is_legal_node, are_legal}
-use Rattle.typed_ir.specs.Flats.{signal_widths, are_clocked}
-use Rattle.typed_ir.specs.FlatNodes.{node_of}
-use Rattle.typed_ir.specs.Statements.{stmt_of, sequence_of}
-use Rattle.typed_ir.specs.declared.stmt.Stmt.{Stmt}
-use Rattle.std.specs.Int.{bit_at}
-use Rattle.typed_ir.proofs.Cases.{by_cases, and_left, and_right, only_right}
-use Rattle.typed_ir.proofs.Numbered.{at_outside}
-use Rattle.typed_ir.proofs.Settled.{same_valuation}
+use Rattle.typed_ir.specs.Orders.{Member}
+use Rattle.typed_ir.specs.Valuations.{Valuation}
+use Rattle.typed_ir.specs.Nodes.{FlatNode}
+use Rattle.typed_ir.specs.Flats.{signal_widths}
+use Rattle.typed_ir.proofs.Cases.{by_cases}
 use Rattle.step_layout.specs.declared.layout.Layout.{Layout}
-use Rattle.step_layout.specs.Plans.{IsApart, IsReady, IsAlone, IsKnown}
+use Rattle.step_layout.specs.Plans.{IsApart, IsReady, IsAlone}
 use Rattle.step_layout.specs.Pools.{or_end, spot}
 use Rattle.step_layout.specs.Views.{plan_of}
-use Rattle.step_layout.specs.Statements.{stmt_constants}
-use Rattle.step_layout.specs.Nodes.{parts_of, as_statement, node_at, in_order}
-use Rattle.design_steps.specs.Pooled.{nodes_constants}
-use Rattle.step_layout.specs.Right.{IsLaid, IsLaidNode}
-use Rattle.design_steps.specs.declared.naming.Naming.{Naming}
-use Rattle.design_steps.specs.Namings.{is_shared, kept, Held, IsAlias}
+use Rattle.design_steps.specs.Namings.{IsAlias}
 use Rattle.design_steps.specs.Layings.{own, with_slots, own_plan, view_of, writes, signals_of, mark_of, LaysOut}
-use Rattle.step_layout.proofs.Ready.{each_left, each_right}
-use Rattle.design_steps.proofs.Holding.{each_both}
-use Rattle.step_layout.proofs.Passing.{node_legal}
 use Rattle.design_steps.proofs.Counting.{run_in, run_out, below_all}
 
 -- ---- the plan
@@ -121,7 +101,7 @@ slot_few l design h s =
     (λ no. let e = t.shared s (ltb-false s n no) in omega (arith, e))
 
 -- signals may stand wherever no next value and no constant does
-pub apart_at : (l : Layout) (design : Flat) → LaysOut l design → (slot : ℕ → ℕ) → ((s : ℕ) → slot s ≤ length design.signals.items)
+apart_at : (l : Layout) (design : Flat) → LaysOut l design → (slot : ℕ → ℕ) → ((s : ℕ) → slot s ≤ length design.signals.items)
     → IsApart (with_slots l slot) (signals_of design) (mark_of l)
 apart_at l design h slot high =
     let n = length design.signals.items in

@@ -1,11 +1,8 @@
 -- What stands before a node in an order; and so each node that is left has the same steps by its own plan.
-use Rattle.std.proofs.Common.{Bool, true, false, ◌≡◌, ◌⊎◌, ℕ, zero, suc, ◌+◌, ◌-◌, ◌<◌, ◌≤◌, ◌&&◌, nat_lt, List, [], ◌∷◌, map, length, refl, sym, ap, ◌∙◌, subst, arith, inl, inr}
+use Rattle.std.proofs.Common.{Bool, true, false, ◌≡◌, ◌⊎◌, ℕ, zero, suc, ◌+◌, ◌-◌, ◌<◌, ◌≤◌, nat_lt, List, [], ◌∷◌, map, length, refl, sym, ap, ◌∙◌, subst, arith, inl, inr}
 use Rattle.std.specs.Prelude.{slice_index, if◌then◌else◌}
-use Rattle.std.proofs.Math.Logic.{∥∥₁_elim}
-use Rattle.std.proofs.Props.{props}
-use Rattle.std.proofs.lemmas.Bool.{ltb-true, ltb-false, cond-true, cond-false}
+use Rattle.std.proofs.lemmas.Bool.{ltb-true, ltb-false, cond-false}
 use Rattle.typed_ir.specs.declared.flat.Flat.{Flat}
-use Rattle.typed_ir.specs.declared.linked.Linked.{Linked}
 use Rattle.typed_ir.specs.declared.span.Span.{Span}
 use Rattle.typed_ir.specs.Orders.{Member, Each, at_or, Precedes, EachAfter, Distinct, IsOrderOf}
 use Rattle.typed_ir.specs.Valuations.{Valuation}
@@ -79,14 +76,17 @@ pub record IsNode (ns : List FlatNode) (ws : List ℕ) (Known : ℕ → Type 0) 
 pub the_node : (ns : List FlatNode) (ws : List ℕ) (Known : ℕ → Type 0) (k : ℕ) → k < length ns → are_legal ns ws ≡ true → Each Known (nodes_constants ns)
     → (n : FlatNode) × IsNode ns ws Known k n
 the_node [] ws Known k less legal known = absurd (omega (arith, less))
-the_node (m ∷ ns) ws Known zero less legal known = (m, record {
-  at = refl;
-  legal = and_left (is_legal_node m ws) (are_legal ns ws) legal;
-  known = each_left Known (stmt_constants (as_statement m)) (nodes_constants ns) known;
-  drives = λ s i. refl;
-  reads = λ s i. refl;
-  gives = λ v env s. refl;
-})
+the_node (m ∷ ns) ws Known zero less legal known = (
+  m,
+  record {
+    at = refl;
+    legal = and_left (is_legal_node m ws) (are_legal ns ws) legal;
+    known = each_left Known (stmt_constants (as_statement m)) (nodes_constants ns) known;
+    drives = λ s i. refl;
+    reads = λ s i. refl;
+    gives = λ v env s. refl;
+  },
+)
 the_node (m ∷ ns) ws Known (suc k) less legal known =
     let rest : (n : FlatNode) × IsNode ns ws Known k n =
     the_node ns ws Known k (omega (arith, less)) (and_right (is_legal_node m ws) (are_legal ns ws) legal)
@@ -124,7 +124,7 @@ module _ (l : Layout) (design : Flat) (h : LaysOut l design) where
   own_at s less at = let here = (stand l design h).here s less in omega (arith, here, at)
 
   -- what isn't there stands nowhere
-  pub own_none : (s : ℕ) → length design.signals.items ≤ s → (plan_of l).slot s ≡ (own_plan l).slot s
+  own_none : (s : ℕ) → length design.signals.items ≤ s → (plan_of l).slot s ≡ (own_plan l).slot s
   own_none s more = let t = stand l design h in t.shared s more ∙ sym (t.none s more)
 
   module _ (k : ℕ) (left : at_or (is_shared l.widths.items l.slots.items) true (map node_of design.nodes.items) k ≡ false) (n : FlatNode)

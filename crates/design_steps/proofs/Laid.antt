@@ -1,40 +1,31 @@
 -- A design's nodes are laid out, each by a plan of its own, and its blocks by the layout.
-use Rattle.std.proofs.Common.{Bool, true, false, true≢false, ◌≡◌, ◌⊎◌, ◌||◌, ℕ, zero, suc, ◌+◌, ◌*◌, ◌<◌, ◌≤◌, ◌&&◌, nat_le, nat_lt, Some, None, List, [], ◌∷◌, map, length, refl, sym, ap, ◌∙◌, subst, arith, inl, inr, IsTrue}
-use Rattle.std.specs.Prelude.{slice_index, position, ◌==◌, cond, if◌then◌else◌}
+use Rattle.std.proofs.Common.{Bool, true, false, true≢false, ◌≡◌, ◌⊎◌, ℕ, ◌+◌, ◌<◌, ◌≤◌, ◌&&◌, List, [], ◌∷◌, map, length, refl, sym, ap, ◌∙◌, subst, arith, inl, inr, IsTrue}
+use Rattle.std.specs.Prelude.{slice_index, if◌then◌else◌}
 use Rattle.std.proofs.Math.Logic.{∥∥₁_elim}
 use Rattle.std.proofs.Props.{props}
-use Rattle.std.specs.List.{position_or_len}
-use Rattle.std.proofs.lemmas.Bool.{ltb-true, ltb-false, lt-ltb, leb-true, le-leb, eqb-true, eq-eqb, and_from}
+use Rattle.std.proofs.lemmas.Bool.{and_from}
 use Rattle.std.proofs.lemmas.List.{length-map}
 use Rattle.typed_ir.specs.declared.flat.Flat.{Flat}
 use Rattle.typed_ir.specs.declared.signal.Signal.{Signal}
 use Rattle.typed_ir.specs.declared.span.Span.{Span}
-use Rattle.typed_ir.specs.declared.lane.Lane.{Lane}
-use Rattle.typed_ir.specs.Orders.{Member, Each, any_drives, at_or}
-use Rattle.typed_ir.specs.Valuations.{Valuation, look, within, any_within}
-use Rattle.typed_ir.specs.Sized.{is_span, is_signal, is_width}
-use Rattle.typed_ir.specs.Stmts.{SizedTarget, Fixed, Moving, SizedStmt, SizedArms, Skip, Assign, Later, Then, If, Case, Arm, Default, span_of, is_clocked, are_clocked_arms, targets, arm_targets, later_targets, later_arm_targets, is_target, are_targets, are_items, is_sized, is_legal, are_legal_arms}
-use Rattle.typed_ir.specs.Nodes.{FlatNode, Drive, Block, lane_spans, node_drives, drive_at, drives_at, OneDriver, is_legal_node, are_legal}
+use Rattle.typed_ir.specs.Orders.{Member, Each, at_or}
+use Rattle.typed_ir.specs.Valuations.{any_within}
+use Rattle.typed_ir.specs.Stmts.{SizedStmt, is_clocked, targets, is_legal}
+use Rattle.typed_ir.specs.Nodes.{FlatNode, node_drives, drives_at, OneDriver, is_legal_node}
 use Rattle.typed_ir.specs.Flats.{signal_widths, are_clocked}
 use Rattle.typed_ir.specs.FlatNodes.{node_of}
 use Rattle.typed_ir.specs.Statements.{stmt_of, sequence_of}
 use Rattle.typed_ir.specs.declared.stmt.Stmt.{Stmt}
-use Rattle.std.specs.Int.{bit_at}
-use Rattle.typed_ir.proofs.Cases.{by_cases, and_left, and_right, only_right}
-use Rattle.typed_ir.proofs.Numbered.{at_outside}
-use Rattle.typed_ir.proofs.Settled.{same_valuation}
+use Rattle.typed_ir.proofs.Cases.{and_left, and_right}
 use Rattle.step_layout.specs.declared.layout.Layout.{Layout}
-use Rattle.step_layout.specs.Plans.{IsApart, IsAlone, IsKnown}
-use Rattle.step_layout.specs.Pools.{or_end, spot}
+use Rattle.step_layout.specs.Plans.{IsAlone, IsKnown}
 use Rattle.step_layout.specs.Views.{plan_of}
 use Rattle.step_layout.specs.Statements.{stmt_constants}
-use Rattle.step_layout.specs.Nodes.{parts_of, as_statement, node_at, in_order}
-use Rattle.design_steps.specs.Pooled.{nodes_constants}
+use Rattle.step_layout.specs.Nodes.{as_statement, node_at, in_order}
 use Rattle.step_layout.specs.Right.{IsLaid, IsLaidNode}
 use Rattle.design_steps.specs.declared.naming.Naming.{Naming}
-use Rattle.design_steps.specs.Namings.{is_shared, kept, Held, IsAlias}
+use Rattle.design_steps.specs.Namings.{is_shared, kept, IsAlias}
 use Rattle.design_steps.specs.Layings.{with_slots, view_of, writes, signals_of, LaysOut}
-use Rattle.step_layout.proofs.Ready.{each_left, each_right}
 use Rattle.design_steps.proofs.Holding.{each_both}
 use Rattle.step_layout.proofs.Passing.{node_legal}
 use Rattle.design_steps.proofs.Counting.{in_all}
@@ -78,7 +69,7 @@ module _ (l : Layout) (design : Flat) (h : LaysOut l design) where
           (names_shared all a.node ws l.slots.items n a.names (omega (arith, known.wire_there, many, long)) (omega (arith, known.signal_there, many, long)) (a.stands ∙ sym a.alike)))
 
   -- so what it drives stands at its own place
-  pub kept_own : (k : ℕ) → at_or (is_shared l.widths.items l.slots.items) true (map node_of design.nodes.items) k ≡ false → (t i : ℕ)
+  kept_own : (k : ℕ) → at_or (is_shared l.widths.items l.slots.items) true (map node_of design.nodes.items) k ≡ false → (t i : ℕ)
       → drives_at (map node_of design.nodes.items) k t i ≡ true → slice_index l.slots.items t ≡ t + 1
   kept_own k left t i drives = of (h.slots.each t (driven_there k t i drives).0)
     where

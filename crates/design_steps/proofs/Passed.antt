@@ -26,7 +26,7 @@ use Rattle.word_steps.proofs.Steps.{walk-append}
 use Rattle.step_layout.specs.declared.layout.Layout.{Layout}
 use Rattle.step_layout.specs.Plans.{IsReady, IsKnown, signals}
 use Rattle.step_layout.specs.Statements.{stmt_code}
-use Rattle.step_layout.specs.Nodes.{as_statement, nodes_code, node_at, in_order, all_later}
+use Rattle.step_layout.specs.Nodes.{as_statement, nodes_code, in_order, all_later}
 use Rattle.step_layout.specs.Views.{plan_of}
 use Rattle.step_layout.proofs.Doing.{Does}
 use Rattle.step_layout.proofs.Passing.{does_nodes}
@@ -34,12 +34,12 @@ use Rattle.design_steps.specs.declared.naming.Naming.{Naming}
 use Rattle.design_steps.specs.Namings.{is_shared, kept, Names, LeadsTo, Itself, Over, IsAlias}
 use Rattle.design_steps.specs.Layings.{own_plan, view_of, writes, mark_of, signals_of, LaysOut}
 use Rattle.design_steps.proofs.Shared.{names_drive, names_known, names_some, names_read, names_alone, names_give, Passes, passes}
-use Rattle.design_steps.proofs.Apart.{widths_many, stand, own_few, view_apart, view_own, own_place, own_next, own_mark, alias_at, view_ready}
+use Rattle.design_steps.proofs.Apart.{widths_many, stand, view_apart, view_own, own_place, own_next, own_mark, alias_at, view_ready}
 use Rattle.design_steps.proofs.Laid.{driven_there, not_alias, one_laid}
 use Rattle.design_steps.proofs.Fronts.{IsFront, IsRest, rest_first, rest_front, rest_next, IsNode, the_node, Before, root_done, own_at, read_done, mention_stands, view_same}
 
 -- a bit that a number doesn't have
-pub high_bit : (x width i : ℕ) → x < 2 ^ width → width ≤ i → bit_at x i ≡ 0
+high_bit : (x width i : ℕ) → x < 2 ^ width → width ≤ i → bit_at x i ≡ 0
 high_bit x width i fits high = ap (λ y. bit_at y i) (sym (small x width fits)) ∙ bit_at-mod_out x width i high
 
 drives_number : (ns : List FlatNode) (k s i : ℕ) → drives_at ns k s i ≡ true → k < length ns
@@ -230,7 +230,7 @@ module _ (lay : Layout) (l : Linked) (lays : LaysOut lay l.design) (f : IsFlat (
           (λ no. at_outside all k view view s i no ∙ ap (λ x. bit_at (w x) i) (view_own lay n s own) ∙ r.value s i own (before_one all k done s i no drivers));
     }
 
-    pub one_ends : Ends lay l first settled (stmt_code (plan_of lay) (as_statement n) (mark_of lay)) w (λ a. Member a (k ∷ done))
+    one_ends : Ends lay l first settled (stmt_code (plan_of lay) (as_statement n) (mark_of lay)) w (λ a. Member a (k ∷ done))
     one_ends = record {
       after = does_it.after;
       ends = ap (λ steps. walk steps (at 0 w))

@@ -110,7 +110,7 @@ gives (Drive form (lane ∷ []) e) ws n h =
 gives (Drive form (lane ∷ other ∷ lanes) e) ws n h = absurd (none-some n h)
 gives (Block shown body) ws n h = absurd (none-some n h)
 
-pub named_by : (k : FlatNode) (ws : List ℕ) (n : Naming) → Gives k ws n → Named ws n
+named_by : (k : FlatNode) (ws : List ℕ) (n : Naming) → Gives k ws n → Named ws n
 named_by k ws n g =
     let w = has_width_is g.lane.span.signal g.width ws (whole_width g.lane g.width ws g.whole) in
     let s = has_width_is n.signal g.width ws g.there in

@@ -1,39 +1,32 @@
 -- What a cycle of a program gives.
-use Rattle.std.proofs.Common.{true≢false, ◌≡◌, ℕ, zero, suc, ◌+◌, ◌*◌, ◌<◌, ◌≤◌, ◌^◌, ◌&&◌, ◌==◌, nat_lt, ◌⊎◌, inl, inr, List, [], ◌∷◌, ◌++◌, map, length, refl, sym, ap, ap₂, ◌∙◌, subst, arith, IsTrue}
+use Rattle.std.proofs.Common.{◌≡◌, ℕ, ◌+◌, ◌*◌, ◌<◌, ◌≤◌, ◌^◌, ◌&&◌, ◌==◌, nat_lt, ◌⊎◌, inl, inr, List, [], ◌∷◌, ◌++◌, map, length, refl, sym, ap, ap₂, ◌∙◌, subst, arith, IsTrue}
 use Rattle.std.proofs.Math.Logic.{∥∥₁_elim}
 use Rattle.std.proofs.Props.{props}
 use Rattle.std.proofs.lemmas.Bool.{ltb-true, ltb-false, eqb-true, eqb-false, cond-true, cond-false}
 use Rattle.std.specs.Int.{bit_at}
-use Rattle.std.specs.Prelude.{slice_index}
 use Rattle.bits.specs.Runs.{replaced}
-use Rattle.bits.proofs.Runs.{bit_at-mod_out}
-use Rattle.bits.proofs.Modulo.{small}
 use Rattle.typed_ir.specs.declared.linked.Linked.{Linked}
 use Rattle.typed_ir.specs.declared.stmt.Stmt.{Stmt}
 use Rattle.typed_ir.specs.declared.update.Update.{Update}
 use Rattle.typed_ir.specs.Valuations.{Valuation, placed, look}
-use Rattle.typed_ir.specs.Orders.{Member, pass, at_or}
-use Rattle.typed_ir.specs.Nodes.{FlatNode, IsOrder}
+use Rattle.typed_ir.specs.Orders.{Member}
+use Rattle.typed_ir.specs.Nodes.{IsOrder}
 use Rattle.typed_ir.specs.Stmts.{exec, pending, all_applied, is_legal, is_clocked}
 use Rattle.typed_ir.specs.Statements.{stmt_of, sequence_of}
-use Rattle.typed_ir.specs.FlatNodes.{node_of}
 use Rattle.typed_ir.specs.Linkeds.{flat}
 use Rattle.typed_ir.specs.Flats.{IsFlat, are_clocked, signal_widths}
 use Rattle.typed_ir.specs.Cycles.{wires, step, base, fill, all_pending, Satisfies, IsReady as IsBased}
 use Rattle.typed_ir.proofs.Cases.{by_cases, and_left, and_right}
 use Rattle.typed_ir.proofs.Locals.{node_laws}
-use Rattle.typed_ir.proofs.Numbered.{pass_from, wires_satisfy}
+use Rattle.typed_ir.proofs.Numbered.{wires_satisfy}
 use Rattle.typed_ir.proofs.Pending.{clocked_still}
 use Rattle.typed_ir.proofs.Ready.{member_or, fill-other, applied_others, all_signals, next_ready}
 use Rattle.typed_ir.proofs.Settled.{round-outside}
 use Rattle.word_steps.specs.Walks.{At, walk, at}
 use Rattle.step_layout.specs.Plans.{IsReady, signals, width_at}
-use Rattle.step_layout.specs.Nodes.{nodes_code, node_at, in_order, all_later}
 use Rattle.step_layout.specs.Views.{plan_of}
-use Rattle.step_layout.proofs.Doing.{does, now_is}
-use Rattle.step_layout.proofs.Passing.{does_nodes}
-use Rattle.design_steps.specs.declared.naming.Naming.{Naming}
-use Rattle.design_steps.specs.Namings.{kept, Held, IsAlias}
+use Rattle.step_layout.proofs.Doing.{does}
+use Rattle.design_steps.specs.Namings.{Held, IsAlias}
 use Rattle.design_steps.specs.Layings.{own_plan, mark_of, signals_of}
 use Rattle.design_steps.specs.Carries.{carried}
 use Rattle.design_steps.specs.Programs.{IsProgramOf}

@@ -1,38 +1,19 @@
 -- What is legal writes signals that are there; and the bits that a node writes in place.
-use Rattle.std.proofs.Common.{Bool, true, false, true≢false, ◌≡◌, ◌⊎◌, ◌||◌, ℕ, zero, suc, ◌+◌, ◌*◌, ◌<◌, ◌≤◌, ◌&&◌, nat_le, nat_lt, Some, None, List, [], ◌∷◌, map, length, refl, sym, ap, ◌∙◌, subst, arith, inl, inr, IsTrue}
-use Rattle.std.specs.Prelude.{slice_index, position, ◌==◌, cond, if◌then◌else◌}
-use Rattle.std.proofs.Math.Logic.{∥∥₁_elim}
-use Rattle.std.proofs.Props.{props}
-use Rattle.std.specs.List.{position_or_len}
-use Rattle.std.proofs.lemmas.Bool.{ltb-true, ltb-false, lt-ltb, leb-true, le-leb, eqb-true, eq-eqb, and_from}
-use Rattle.std.proofs.lemmas.List.{length-map}
-use Rattle.typed_ir.specs.declared.flat.Flat.{Flat}
-use Rattle.typed_ir.specs.declared.signal.Signal.{Signal}
+use Rattle.std.proofs.Common.{Bool, true, false, true≢false, ◌≡◌, ◌||◌, ℕ, zero, suc, ◌+◌, ◌<◌, ◌≤◌, ◌&&◌, nat_le, nat_lt, List, [], ◌∷◌, map, length, refl, sym, ap, ◌∙◌, subst, arith}
+use Rattle.std.specs.Prelude.{slice_index, ◌==◌}
+use Rattle.std.proofs.lemmas.Bool.{ltb-true, lt-ltb, leb-true, le-leb, eqb-true, eq-eqb, and_from}
 use Rattle.typed_ir.specs.declared.span.Span.{Span}
 use Rattle.typed_ir.specs.declared.lane.Lane.{Lane}
-use Rattle.typed_ir.specs.Orders.{Member, Each, any_drives, at_or}
-use Rattle.typed_ir.specs.Valuations.{Valuation, look, within, any_within}
+use Rattle.typed_ir.specs.Orders.{Each}
+use Rattle.typed_ir.specs.Valuations.{within, any_within}
 use Rattle.typed_ir.specs.Sized.{reads, is_span, is_signal, is_width}
 use Rattle.typed_ir.specs.Stmts.{index_reads, SizedTarget, Fixed, Moving, SizedStmt, SizedArms, Skip, Assign, Later, Then, If, Case, Arm, Default, span_of, is_clocked, are_clocked_arms, targets, arm_targets, later_targets, later_arm_targets, is_target, are_targets, are_items, is_sized, is_legal, are_legal_arms}
-use Rattle.typed_ir.specs.Nodes.{FlatNode, Drive, Block, lane_spans, node_drives, drive_at, drives_at, OneDriver, is_legal_node, are_legal}
-use Rattle.typed_ir.specs.Flats.{signal_widths, are_clocked}
-use Rattle.typed_ir.specs.FlatNodes.{node_of}
-use Rattle.typed_ir.specs.Statements.{stmt_of, sequence_of}
-use Rattle.typed_ir.specs.declared.stmt.Stmt.{Stmt}
-use Rattle.std.specs.Int.{bit_at}
+use Rattle.typed_ir.specs.Nodes.{FlatNode, Drive, Block, lane_spans, node_drives, drives_at, is_legal_node, are_legal}
 use Rattle.typed_ir.specs.Touches.{all_reads, mentions}
 use Rattle.typed_ir.proofs.Cases.{by_cases, and_left, and_right, only_right, left_or, right_or}
-use Rattle.typed_ir.proofs.Numbered.{at_outside}
-use Rattle.typed_ir.proofs.Settled.{same_valuation}
-use Rattle.step_layout.specs.declared.layout.Layout.{Layout}
-use Rattle.step_layout.specs.Plans.{IsApart, IsAlone, IsKnown}
-use Rattle.step_layout.specs.Pools.{or_end, spot}
-use Rattle.step_layout.specs.Views.{plan_of}
 use Rattle.step_layout.specs.Statements.{stmt_constants}
-use Rattle.step_layout.specs.Nodes.{parts_of, as_statement, node_at, in_order}
+use Rattle.step_layout.specs.Nodes.{parts_of, as_statement, node_at}
 use Rattle.design_steps.specs.Pooled.{nodes_constants}
-use Rattle.step_layout.specs.Right.{IsLaid, IsLaidNode}
-use Rattle.design_steps.specs.declared.naming.Naming.{Naming}
 use Rattle.design_steps.specs.Namings.{is_among}
 use Rattle.design_steps.specs.Layings.{writes}
 use Rattle.step_layout.proofs.Ready.{each_left, each_right}
@@ -159,7 +140,7 @@ any_own all (p ∷ ps) more h = (
     or_second true b h = refl
     or_second false b h = h
 
-pub parts_spans : (lanes : List Lane) → map span_of (parts_of lanes) ≡ lane_spans lanes
+parts_spans : (lanes : List Lane) → map span_of (parts_of lanes) ≡ lane_spans lanes
 parts_spans [] = refl
 parts_spans (lane ∷ lanes) = ap (λ ps. lane.span ∷ ps) (parts_spans lanes)
 
@@ -221,15 +202,6 @@ each_node P Known (m ∷ ns) zero ws legal known f = (
 each_node P Known (m ∷ ns) (suc k) ws legal known f =
     each_node P Known ns k ws (and_right (is_legal_node m ws) (are_legal ns ws) legal) (each_right Known (stmt_constants (as_statement m)) (nodes_constants ns) known) f
 
-pub any_driver : (ns : List FlatNode) (k s i : ℕ) → drives_at ns k s i ≡ true → any_drives node_drives ns s i ≡ true
-any_driver [] k s i h = h
-any_driver (m ∷ ns) zero s i h = ap (λ b. b || any_drives node_drives ns s i) h
-any_driver (m ∷ ns) (suc k) s i h = or_second (node_drives m s i) (any_drives node_drives ns s i) (any_driver ns k s i h)
-  where
-    or_second : (a b : Bool) → b ≡ true → (a || b) ≡ true
-    or_second true b h = refl
-    or_second false b h = h
-
 -- the bits that a node drives lie in its signals
 spans_within : (ps : List Span) (s i : ℕ) (ws : List ℕ) → Each (IsThere ws) ps → any_within ps s i ≡ true → (s < length ws) × (i < slice_index ws s)
 spans_within [] s i ws h d = absurd (true≢false (sym d))
@@ -255,4 +227,3 @@ pub drives_within : (ns : List FlatNode) (k s i : ℕ) (ws : List ℕ) → are_l
 drives_within [] k s i ws legal d = absurd (true≢false (sym d))
 drives_within (m ∷ ns) zero s i ws legal d = node_within m s i ws (node_legal m ws (and_left (is_legal_node m ws) (are_legal ns ws) legal)) d
 drives_within (m ∷ ns) (suc k) s i ws legal d = drives_within ns k s i ws (and_right (is_legal_node m ws) (are_legal ns ws) legal) d
-

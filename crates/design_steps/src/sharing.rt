@@ -97,13 +97,7 @@ pub fn slots_of(
     let mut slots = own;
     let mut stays = held_of(alloc, &linked.design)?;
     for k in &linked.order {
-        share(
-            &linked.design,
-            k.index(),
-            widths,
-            &mut stays,
-            &mut slots,
-        );
+        share(&linked.design, k.index(), widths, &mut stays, &mut slots);
     }
     Ok(slots)
 }
