@@ -59,7 +59,7 @@ pub data LeadsTo (design : Flat) (root : ℕ) : ℕ → Type 0 where
   Itself : LeadsTo design root root
   Over : (s node source : ℕ) → Names design node s source → LeadsTo design root source → LeadsTo design root s
 
--- a wire that is another name of a signal, and stands there; `source` is the signal that its node names
+-- a wire that is another name of a signal, and stands where that one does, at its own place; `source` is the signal that its node names
 pub record IsAlias (design : Flat) (slots : List ℕ) (s : ℕ) : Type 0 where
   pub root : ℕ
   pub free : Held design s → ⊥
