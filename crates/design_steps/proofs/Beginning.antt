@@ -18,7 +18,8 @@ use Rattle.step_layout.specs.Plans.{IsReady, signals, width_at}
 use Rattle.step_layout.specs.Pools.{or_end, spot}
 use Rattle.step_layout.specs.Views.{plan_of}
 use Rattle.design_steps.specs.Layings.{LaysOut, own_plan, signals_of}
-use Rattle.design_steps.proofs.Apart.{stand, below_all}
+use Rattle.design_steps.proofs.Counting.{below_all}
+use Rattle.design_steps.proofs.Apart.{stand}
 
 zero_at : (n : ℕ) (ys : List ℕ) (k : ℕ) → k < n → slice_index (replicate n 0 ++ ys) k ≡ 0
 zero_at zero ys k h = absurd (omega (arith, h))

@@ -1,7 +1,12 @@
 pub mod Holding
 pub mod Counting
 pub mod Shared
+pub mod Written
+pub mod Alike
 pub mod Apart
+pub mod Laid
+pub mod Fronts
+pub mod Passed
 pub mod Placing
 pub mod Copied
 pub mod Beginning

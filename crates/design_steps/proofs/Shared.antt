@@ -1,38 +1,31 @@
--- Wires that stand where a register or an input does, and the nodes that are left then.
-use Rattle.std.proofs.Common.{Bool, true, false, true≢false, ◌≡◌, ℕ, zero, suc, ◌+◌, ◌-◌, ◌<◌, ◌≤◌, ◌&&◌, ◌||◌, ◌==◌, nat_le, nat_lt, ◌/◌, ◌^◌, ◌⊎◌, inl, inr, Option, Some, None, List, [], ◌∷◌, ◌++◌, length, map, drop, get_or, set, append_assoc, refl, sym, ap, ap₂, ◌∙◌, subst, arith}
+-- Wires that stand where the signal does of which they are another name, and the nodes that are left then.
+use Rattle.std.proofs.Common.{Bool, true, false, not, true≢false, ◌≡◌, ℕ, zero, suc, ◌+◌, ◌-◌, ◌<◌, ◌≤◌, ◌&&◌, ◌||◌, ◌==◌, nat_le, nat_lt, ◌/◌, ◌^◌, ◌⊎◌, inl, inr, Option, Some, None, List, [], ◌∷◌, ◌++◌, length, map, drop, get_or, set, append_assoc, refl, sym, ap, ap₂, ◌∙◌, subst, arith}
 use Rattle.std.specs.Prelude.{slice_index, if◌then◌else◌}
-use Rattle.std.proofs.lemmas.Bool.{ltb-true, lt-ltb, le-leb, eqb-true, eqb-false, eq-eqb, and_from}
+use Rattle.std.proofs.lemmas.Bool.{ltb-true, ltb-false, lt-ltb, le-leb, eqb-true, eqb-false, eq-eqb, and_from, not-true}
 use Rattle.std.proofs.lemmas.List.{length-map, length-set, append-nil, drop_all}
 use Rattle.std.proofs.lemmas.Option.{none-some, cond_some}
 use Rattle.typed_ir.specs.declared.flat.Flat.{Flat}
 use Rattle.typed_ir.specs.declared.node.Node.{Node}
 use Rattle.typed_ir.specs.declared.signal.Signal.{Signal}
-use Rattle.typed_ir.specs.Orders.{Member, at_or, pass}
+use Rattle.typed_ir.specs.Orders.{Member, at_or}
 use Rattle.typed_ir.specs.Flats.{signal_widths}
 use Rattle.typed_ir.specs.FlatNodes.{node_of}
-use Rattle.typed_ir.specs.Nodes.{FlatNode, Drive, Block, lane_spans, spread, drive, drive_at, node_drives, drives_at}
-use Rattle.typed_ir.specs.Sized.{Sized, value_of, Constant, Name, Part, Pick, Unary, Binary, Choice, Concat, Repeat, Resized}
+use Rattle.typed_ir.specs.Nodes.{FlatNode, Drive, Block, lane_spans, spread, drive, drive_at, node_drives, drives_at, node_reads, reads_at}
+use Rattle.typed_ir.specs.Sized.{Sized, value_of, reads, Constant, Name, Part, Pick, Unary, Binary, Choice, Concat, Repeat, Resized}
 use Rattle.typed_ir.specs.declared.lane.Lane.{Lane}
-use Rattle.typed_ir.specs.Valuations.{Valuation, put, placed, within, any_within}
-use Rattle.typed_ir.proofs.Cases.{by_cases, and_left, and_right}
+use Rattle.typed_ir.specs.Valuations.{Valuation, put, look, within, any_within}
+use Rattle.typed_ir.proofs.Cases.{by_cases, and_left, and_right, left_or, right_or, or_left, or_right}
 use Rattle.typed_ir.proofs.Lists.{drop_split}
-use Rattle.typed_ir.proofs.Settled.{same_valuation}
-use Rattle.typed_ir.proofs.BitRuns.{placed-inside, placed-outside}
+use Rattle.typed_ir.proofs.BitRuns.{placed-inside}
 use Rattle.bits.proofs.Runs.{bit_at-shr}
 use Rattle.std.specs.Int.{bit_at}
 use Rattle.word_steps.proofs.Words.{word_set, put-same, put-other}
 use Rattle.design_steps.specs.declared.naming.Naming.{Naming}
 use Rattle.design_steps.specs.Layings.{run_from}
-use Rattle.design_steps.specs.Namings.{has_width, is_whole, named, name_given, stand_alike, is_shared, kept, mark_at, is_among, Held, IsAlias, AreShared}
-use Rattle.design_steps.proofs.Counting.{run_in}
+use Rattle.design_steps.specs.Namings.{has_width, is_whole, named, name_given, stand_alike, is_shared, kept, mark_at, is_among, Held, Names, LeadsTo, Itself, Over, IsAlias, AreShared, AreMarked}
+use Rattle.design_steps.proofs.Counting.{run_in, run_out}
 
 -- ---- marks
-
-among_member : (s : ℕ) (xs : List ℕ) → is_among s xs ≡ true → Member s xs
-among_member s [] h = absurd (true≢false (sym h))
-among_member s (x ∷ xs) h = by_cases (s == x)
-    (λ yes. inl (eqb-true s x yes))
-    (λ no. inr (among_member s xs (subst (λ b. (b || is_among s xs) ≡ true) no h)))
 
 member_among : (s : ℕ) (xs : List ℕ) → Member s xs → is_among s xs ≡ true
 member_among s [] m = absurd m
@@ -46,27 +39,13 @@ abbrev pub Marks : Flat → List Bool → Type 0
 Marks design held = (s : ℕ) → mark_at held s
     ≡ ((nat_lt s (length design.signals.items) && is_among s design.registers.items) || (nat_lt s (length design.signals.items) && is_among s design.inputs.items))
 
-held_from : (design : Flat) (held : List Bool) (s : ℕ) → Marks design held → mark_at held s ≡ true → Held design s
-held_from design held s marks h = first (nat_lt s (length design.signals.items)) (is_among s design.registers.items) (is_among s design.inputs.items)
-    (sym (marks s) ∙ h) (among_member s design.registers.items) (among_member s design.inputs.items)
-  where
-    first : (a b c : Bool) → ((a && b) || (a && c)) ≡ true → (b ≡ true → Member s design.registers.items) → (c ≡ true → Member s design.inputs.items) → Held design s
-    first true true c h f g = inl (f refl)
-    first true false c h f g = inr (g h)
-    first false b c h f g = absurd (true≢false (sym h))
-
-free_from_mark : (design : Flat) (held : List Bool) (s : ℕ) → Marks design held → s < length design.signals.items → mark_at held s ≡ false → Held design s → ⊥
-free_from_mark design held s marks less h own = true≢false (sym (marked own) ∙ h)
-  where
-    marked : Held design s → mark_at held s ≡ true
-    marked (inl m) = marks s ∙ ap (λ b. (b && is_among s design.registers.items) || (b && is_among s design.inputs.items)) (lt-ltb s (length design.signals.items) less)
-        ∙ ap (λ b. b || is_among s design.inputs.items) (member_among s design.registers.items m)
-    marked (inr m) = marks s ∙ ap (λ b. (b && is_among s design.registers.items) || (b && is_among s design.inputs.items)) (lt-ltb s (length design.signals.items) less)
-        ∙ ap (λ b. is_among s design.registers.items || b) (member_among s design.inputs.items m) ∙ or_true (is_among s design.registers.items)
-      where
-        or_true : (b : Bool) → (b || true) ≡ true
-        or_true true = refl
-        or_true false = refl
+held_marked : (design : Flat) (held : List Bool) (s : ℕ) → Marks design held → s < length design.signals.items → Held design s → mark_at held s ≡ true
+held_marked design held s marks less (inl m) =
+    marks s ∙ ap (λ b. (b && is_among s design.registers.items) || (b && is_among s design.inputs.items)) (lt-ltb s (length design.signals.items) less)
+    ∙ ap (λ b. b || is_among s design.inputs.items) (member_among s design.registers.items m)
+held_marked design held s marks less (inr m) =
+    marks s ∙ ap (λ b. (b && is_among s design.registers.items) || (b && is_among s design.inputs.items)) (lt-ltb s (length design.signals.items) less)
+    ∙ right_or (is_among s design.registers.items) (is_among s design.inputs.items) (member_among s design.inputs.items m)
 
 -- ---- what a name is
 
@@ -131,7 +110,7 @@ gives (Drive form (lane ∷ []) e) ws n h =
 gives (Drive form (lane ∷ other ∷ lanes) e) ws n h = absurd (none-some n h)
 gives (Block shown body) ws n h = absurd (none-some n h)
 
-pub named_by : (k : FlatNode) (ws : List ℕ) (n : Naming) → Gives k ws n → Named ws n
+named_by : (k : FlatNode) (ws : List ℕ) (n : Naming) → Gives k ws n → Named ws n
 named_by k ws n g =
     let w = has_width_is g.lane.span.signal g.width ws (whole_width g.lane g.width ws g.whole) in
     let s = has_width_is n.signal g.width ws g.there in
@@ -166,7 +145,46 @@ gives_drive (Drive form lanes e) ws n i g within =
     long = ap (slice_index ws) (sym g.wire) ∙ (has_width_is g.lane.span.signal g.width ws (whole_width g.lane g.width ws g.whole)).1
 gives_drive (Block shown body) ws n i g within = absurd g.is
 
+-- and only that wire; it reads each bit of the signal; and the wire has a bit
+gives_alone : (k : FlatNode) (ws : List ℕ) (n : Naming) (s i : ℕ) → Gives k ws n → node_drives k s i ≡ true → s ≡ n.wire
+unfolding node_drives
+gives_alone (Drive form lanes e) ws n s i g d =
+    let one : (within g.lane.span s i || false) ≡ true = ap (λ ls. any_within (lane_spans ls) s i) (sym g.is.0) ∙ d in
+    eqb-true s g.lane.span.signal (and_left (s == g.lane.span.signal) (nat_le g.lane.span.low i && nat_lt i (g.lane.span.low + g.lane.span.width)) (only (within g.lane.span s i) one)) ∙ g.wire
+  where
+    only : (b : Bool) → (b || false) ≡ true → b ≡ true
+    only true h = refl
+    only false h = h
+gives_alone (Block shown body) ws n s i g d = absurd g.is
+
+gives_read : (k : FlatNode) (ws : List ℕ) (n : Naming) (i : ℕ) → Gives k ws n → node_reads k n.signal i ≡ true
+unfolding node_reads
+gives_read (Drive form lanes e) ws n i g = ap (λ x. reads x n.signal i) g.is.1 ∙ eq-eqb n.signal n.signal refl
+gives_read (Block shown body) ws n i g = absurd g.is
+
+gives_some : (k : FlatNode) (ws : List ℕ) (n : Naming) → Gives k ws n → 0 < slice_index ws n.wire
+gives_some k ws n g =
+    let is = and_right (nat_lt g.lane.span.signal (length ws)) ((slice_index ws g.lane.span.signal == g.width) && nat_lt 0 g.width) (whole_width g.lane g.width ws g.whole) in
+    let width : slice_index ws g.lane.span.signal ≡ g.width = eqb-true (slice_index ws g.lane.span.signal) g.width (and_left (slice_index ws g.lane.span.signal == g.width) (nat_lt 0 g.width) is) in
+    let some : 0 < g.width = ltb-true 0 g.width (and_right (slice_index ws g.lane.span.signal == g.width) (nat_lt 0 g.width) is) in
+    subst (λ t. 0 < slice_index ws t) g.wire (subst (λ w. 0 < w) (sym width) some)
+
 -- the same by the node's number
+pub names_alone : (ns : List FlatNode) (k : ℕ) (ws : List ℕ) (n : Naming) (s i : ℕ) → at_or (λ m. name_given m ws) None ns k ≡ Some n → drives_at ns k s i ≡ true → s ≡ n.wire
+names_alone [] k ws n s i h d = absurd (none-some n h)
+names_alone (m ∷ ns) zero ws n s i h d = gives_alone m ws n s i (gives m ws n h) d
+names_alone (m ∷ ns) (suc k) ws n s i h d = names_alone ns k ws n s i h d
+
+pub names_read : (ns : List FlatNode) (k : ℕ) (ws : List ℕ) (n : Naming) (i : ℕ) → at_or (λ m. name_given m ws) None ns k ≡ Some n → reads_at ns k n.signal i ≡ true
+names_read [] k ws n i h = absurd (none-some n h)
+names_read (m ∷ ns) zero ws n i h = gives_read m ws n i (gives m ws n h)
+names_read (m ∷ ns) (suc k) ws n i h = names_read ns k ws n i h
+
+pub names_some : (ns : List FlatNode) (k : ℕ) (ws : List ℕ) (n : Naming) → at_or (λ m. name_given m ws) None ns k ≡ Some n → 0 < slice_index ws n.wire
+names_some [] k ws n h = absurd (none-some n h)
+names_some (m ∷ ns) zero ws n h = gives_some m ws n (gives m ws n h)
+names_some (m ∷ ns) (suc k) ws n h = names_some ns k ws n h
+
 pub names_drive : (ns : List FlatNode) (k : ℕ) (ws : List ℕ) (n : Naming) (i : ℕ) → at_or (λ m. name_given m ws) None ns k ≡ Some n → i < slice_index ws n.wire
     → drives_at ns k n.wire i ≡ true
 names_drive [] k ws n i h within = absurd (none-some n h)
@@ -205,18 +223,54 @@ all_own design slots e = record {
     run_long a zero = refl
     run_long a (suc n) = ap suc (run_long (a + 1) n)
 
-module _ (design : Flat) (slots : List ℕ) (held : List Bool) (k : ℕ) (n : Naming) (old : AreShared design slots) (marks : Marks design held)
-    (names : at_or (λ m. name_given m (signal_widths design.signals.items)) None (map node_of design.nodes.items) k ≡ Some n)
-    (known : Named (signal_widths design.signals.items) n)
-    (own : slice_index slots n.wire ≡ n.wire + 1) (unmarked : mark_at held n.wire ≡ false) (marked : mark_at held (slice_index slots n.signal - 1) ≡ true) where
+-- and what stays there
+pub first_marks : (design : Flat) (slots : List ℕ) (held : List Bool) → slots ≡ run_from 1 (length design.signals.items) → length held ≡ length design.signals.items
+    → Marks design held → AreMarked design slots held
+first_marks design slots held e long marks = record {
+  long = long;
+  held = λ s less h. held_marked design held s marks less h;
+  roots = λ s r at free. by_cases (nat_lt s (length design.signals.items))
+      (λ yes. let own = ap (λ xs. slice_index xs s) e ∙ run_in 1 (length design.signals.items) s (ltb-true s (length design.signals.items) yes) in omega (arith, at, own))
+      (λ no. let own = ap (λ xs. slice_index xs s) e ∙ run_out 1 (length design.signals.items) s (ltb-false s (length design.signals.items) no) in absurd (omega (arith, at, own)));
+}
+
+-- a node by its number
+pub node_index : {A : Type 0} (f : FlatNode → A) (d : A) (ns : List Node) (k : ℕ) (x : Node) → k < length ns → x ≡ get_or ns k x → at_or f d (map node_of ns) k ≡ f (node_of x)
+node_index f d [] k x h is = absurd (omega (arith, h))
+node_index f d (y ∷ ys) zero x h is = ap (λ z. f (node_of z)) (sym is)
+node_index f d (y ∷ ys) (suc k) x h is = node_index f d ys k x (omega (arith, h)) is
+
+-- a wire that a node makes another name of a signal, and which needn't stay at its own place
+pub record MayMove (design : Flat) (slots : List ℕ) (stays : List Bool) (k : ℕ) (n : Naming) : Type 0 where
+  pub names : Names design k n.wire n.signal
+  pub known : Named (signal_widths design.signals.items) n
+  pub own : slice_index slots n.wire ≡ n.wire + 1
+  pub unmarked : mark_at stays n.wire ≡ false
+
+pub may_move : (design : Flat) (slots : List ℕ) (stays : List Bool) (k : ℕ) (n : Naming) (x : Node) (wire : ℕ) → k < length design.nodes.items → x ≡ get_or design.nodes.items k x
+    → name_given (node_of x) (signal_widths design.signals.items) ≡ Some n → wire ≡ n.wire
+    → ((slice_index slots wire == wire + 1) && not (mark_at stays wire)) ≡ true → MayMove design slots stays k n
+may_move design slots stays k n x wire less is gives_ same test =
+    let ws = signal_widths design.signals.items in
+    let own = and_left (slice_index slots wire == wire + 1) (not (mark_at stays wire)) test in
+    let free = and_right (slice_index slots wire == wire + 1) (not (mark_at stays wire)) test in
+    record {
+      names = node_index (λ m. name_given m ws) None design.nodes.items k x less is ∙ gives_;
+      known = named_by (node_of x) ws n (gives (node_of x) ws n gives_);
+      own = subst (λ t. slice_index slots t ≡ t + 1) same (eqb-true (slice_index slots wire) (wire + 1) own);
+      unmarked = subst (λ t. mark_at stays t ≡ false) same (not-true (mark_at stays wire) free);
+    }
+
+module _ (design : Flat) (slots : List ℕ) (stays : List Bool) (k : ℕ) (n : Naming) (old : AreShared design slots) (marks : AreMarked design slots stays)
+    (may : MayMove design slots stays k n) where
   wire_there : n.wire < length design.signals.items
-  wire_there = let e = widths_long design.signals.items in let h = known.wire_there in omega (arith, e, h)
+  wire_there = let e = widths_long design.signals.items in let h = may.known.wire_there in omega (arith, e, h)
 
   signal_there : n.signal < length design.signals.items
-  signal_there = let e = widths_long design.signals.items in let h = known.signal_there in omega (arith, e, h)
+  signal_there = let e = widths_long design.signals.items in let h = may.known.signal_there in omega (arith, e, h)
 
   free : Held design n.wire → ⊥
-  free = free_from_mark design held n.wire marks wire_there unmarked
+  free h = true≢false (sym (marks.held n.wire wire_there h) ∙ may.unmarked)
 
   abbrev pub new_slots : List ℕ
   new_slots = set slots n.wire (slice_index slots n.signal)
@@ -230,70 +284,111 @@ module _ (design : Flat) (slots : List ℕ) (held : List Bool) (k : ℕ) (n : Na
   wire_at : slice_index new_slots n.wire ≡ slice_index slots n.signal
   wire_at = new_at n.wire ∙ put-same (λ t. slice_index slots t) n.wire (slice_index slots n.signal)
 
-  -- a signal that stands at a held one's place isn't the wire
-  not_wire : (s r : ℕ) → Held design r → slice_index slots s ≡ r + 1 → s ≡ n.wire → ⊥
-  not_wire s r h e same = free (subst (Held design) r_is h)
+  -- where it stands, nothing else does
+  only_wire : (s : ℕ) → slice_index slots s ≡ n.wire + 1 → s ≡ n.wire
+  only_wire s at = marks.roots s n.wire at may.unmarked
+
+  -- so what stands at a place of another one isn't the wire
+  not_wire : (s r : ℕ) → (r ≡ n.wire → ⊥) → slice_index slots s ≡ r + 1 → s ≡ n.wire → ⊥
+  not_wire s r other e same = other r_is
     where
       r_is : r ≡ n.wire
-      r_is = let a = ap (slice_index slots) same in let b = own in omega (arith, a, b, e)
+      r_is = let a = ap (slice_index slots) same in let b = may.own in omega (arith, a, b, e)
+
+  not_root : (s r : ℕ) → (s ≡ n.wire → ⊥) → slice_index slots s ≡ r + 1 → r ≡ n.wire → ⊥
+  not_root s r other e same = other (only_wire s (e ∙ ap (λ x. x + 1) same))
 
   kept_alias : (s : ℕ) → (s ≡ n.wire → ⊥) → IsAlias design slots s → IsAlias design new_slots s
-  kept_alias s other a = record {
+  kept_alias s other a =
+      let root = not_root s a.root other a.stands in
+      record {
+        root = a.root;
+        free = a.free;
+        there = a.there;
+        stands = same_at s other ∙ a.stands;
+        own = same_at a.root root ∙ a.own;
+        wide = a.wide;
+        node = a.node;
+        source = a.source;
+        names = a.names;
+        alike = same_at a.source (not_wire a.source a.root root a.alike) ∙ a.alike;
+        leads = a.leads;
+      }
+
+  -- the wire stands where the signal does, which isn't at the wire's own place
+  module _ (elsewhere : n.signal ≡ n.wire → ⊥) where
+    new_alias : (r : ℕ) → slice_index slots n.signal ≡ r + 1 → r < length design.signals.items → slice_index slots r ≡ r + 1
+        → slice_index (signal_widths design.signals.items) n.signal ≡ slice_index (signal_widths design.signals.items) r → LeadsTo design r n.signal → IsAlias design new_slots n.wire
+    new_alias r at less stands wide leads =
+        let root = not_root n.signal r elsewhere at in
+        record {
+          root = r;
+          free = free;
+          there = less;
+          stands = wire_at ∙ at;
+          own = same_at r root ∙ stands;
+          wide = may.known.alike ∙ wide;
+          node = k;
+          source = n.signal;
+          names = may.names;
+          alike = same_at n.signal elsewhere ∙ at;
+          leads = leads;
+        }
+
+    of_signal : (slice_index slots n.signal ≡ n.signal + 1) ⊎ IsAlias design slots n.signal → IsAlias design new_slots n.wire
+    of_signal (inl e) = new_alias n.signal e signal_there e refl Itself
+    of_signal (inr a) = new_alias a.root a.stands a.there a.own a.wide (Over n.signal a.node a.source a.names a.leads)
+
+  -- a wire that names itself stays where it is
+  itself : n.signal ≡ n.wire → (s : ℕ) → slice_index new_slots s ≡ slice_index slots s
+  itself same s = by_cases (s == n.wire)
+      (λ yes. ap (slice_index new_slots) (eqb-true s n.wire yes) ∙ wire_at ∙ ap (slice_index slots) (same ∙ sym (eqb-true s n.wire yes)))
+      (λ no. same_at s (eqb-false s n.wire no))
+
+  moved_alias : (s : ℕ) → ((t : ℕ) → slice_index new_slots t ≡ slice_index slots t) → IsAlias design slots s → IsAlias design new_slots s
+  moved_alias s same a = record {
     root = a.root;
-    held = a.held;
     free = a.free;
     there = a.there;
-    stands = same_at s other ∙ a.stands;
-    own = same_at a.root (not_wire a.root a.root a.held a.own) ∙ a.own;
+    stands = same s ∙ a.stands;
+    own = same a.root ∙ a.own;
     wide = a.wide;
     node = a.node;
     source = a.source;
     names = a.names;
-    alike = same_at a.source (not_wire a.source a.root a.held a.alike) ∙ a.alike;
-  }
-
-  new_alias : (r : ℕ) → slice_index slots n.signal ≡ r + 1 → Held design r → r < length design.signals.items → slice_index slots r ≡ r + 1
-      → slice_index (signal_widths design.signals.items) n.signal ≡ slice_index (signal_widths design.signals.items) r → IsAlias design new_slots n.wire
-  new_alias r at h less stands wide = record {
-    root = r;
-    held = h;
-    free = free;
-    there = less;
-    stands = wire_at ∙ at;
-    own = same_at r (not_wire r r h stands) ∙ stands;
-    wide = known.alike ∙ wide;
-    node = k;
-    source = n.signal;
-    names = names;
-    alike = same_at n.signal (not_wire n.signal r h at) ∙ at;
+    alike = same a.source ∙ a.alike;
+    leads = a.leads;
   }
 
   pub shared_next : AreShared design new_slots
   shared_next = record {
-    long = set_long slots n.wire (slice_index slots n.signal) ∙ old.long;
-    each = λ s less. by_cases (s == n.wire)
-        (λ yes. inr (subst (IsAlias design new_slots) (sym (eqb-true s n.wire yes)) (of_signal (old.each n.signal signal_there))))
-        (λ no. let other = eqb-false s n.wire no in of_other s other (old.each s less));
+    long = length-set slots n.wire (slice_index slots n.signal) ∙ old.long;
+    each = λ s less. by_cases (n.signal == n.wire)
+        (λ yes. let same = itself (eqb-true n.signal n.wire yes) in of_same s (same s) (λ a. moved_alias s same a) (old.each s less))
+        (λ no. by_cases (s == n.wire)
+        (λ wire. inr (subst (IsAlias design new_slots) (sym (eqb-true s n.wire wire)) (of_signal (eqb-false n.signal n.wire no) (old.each n.signal signal_there))))
+        (λ other. of_same s (same_at s (eqb-false s n.wire other)) (λ a. kept_alias s (eqb-false s n.wire other) a) (old.each s less)));
   }
     where
-      of_signal : (slice_index slots n.signal ≡ n.signal + 1) ⊎ IsAlias design slots n.signal → IsAlias design new_slots n.wire
-      of_signal (inl e) = let is : slice_index slots n.signal - 1 ≡ n.signal = omega (arith, e) in
-          new_alias n.signal e (held_from design held n.signal marks (subst (λ t. mark_at held t ≡ true) is marked)) signal_there e refl
-      of_signal (inr a) = new_alias a.root a.stands a.held a.there a.own a.wide
+      of_same : (s : ℕ) → slice_index new_slots s ≡ slice_index slots s → (IsAlias design slots s → IsAlias design new_slots s)
+          → (slice_index slots s ≡ s + 1) ⊎ IsAlias design slots s → (slice_index new_slots s ≡ s + 1) ⊎ IsAlias design new_slots s
+      of_same s same f (inl e) = inl (same ∙ e)
+      of_same s same f (inr a) = inr (f a)
 
-      of_other : (s : ℕ) → (s ≡ n.wire → ⊥) → (slice_index slots s ≡ s + 1) ⊎ IsAlias design slots s → (slice_index new_slots s ≡ s + 1) ⊎ IsAlias design new_slots s
-      of_other s other (inl e) = inl (same_at s other ∙ e)
-      of_other s other (inr a) = inr (kept_alias s other a)
-
-      set_long : (xs : List ℕ) (i x : ℕ) → length (set xs i x) ≡ length xs
-      set_long xs i x = length-set xs i x
+  pub marked_next : (new : List Bool) → length new ≡ length stays → ((s : ℕ) → mark_at new s ≡ (mark_at stays s || (s == slice_index slots n.signal - 1))) → AreMarked design new_slots new
+  marked_next new long marked = record {
+    long = long ∙ marks.long;
+    held = λ s less h. marked s ∙ left_or (mark_at stays s) (s == slice_index slots n.signal - 1) (marks.held s less h);
+    roots = λ s r at none.
+        let both = sym (marked r) ∙ none in
+        let unmarked_ = or_left (mark_at stays r) (r == slice_index slots n.signal - 1) both in
+        let other = eqb-false r (slice_index slots n.signal - 1) (or_right (mark_at stays r) (r == slice_index slots n.signal - 1) both) in
+        by_cases (s == n.wire)
+        (λ yes. absurd (let e = sym wire_at ∙ ap (slice_index new_slots) (sym (eqb-true s n.wire yes)) ∙ at in other (omega (arith, e))))
+        (λ no. marks.roots s r (sym (same_at s (eqb-false s n.wire no)) ∙ at) unmarked_);
+  }
 
 -- ---- nodes that are left
-
-pub node_index : {A : Type 0} (f : FlatNode → A) (d : A) (ns : List Node) (k : ℕ) (x : Node) → k < length ns → x ≡ get_or ns k x → at_or f d (map node_of ns) k ≡ f (node_of x)
-node_index f d [] k x h is = absurd (omega (arith, h))
-node_index f d (y ∷ ys) zero x h is = ap (λ z. f (node_of z)) (sym is)
-node_index f d (y ∷ ys) (suc k) x h is = node_index f d ys k x (omega (arith, h)) is
 
 -- one more number of the order
 pub kept_more : (ws slots : List ℕ) (ns : List FlatNode) (ks : List ℕ) (i k : ℕ) (b : Bool) (old new : List ℕ) → i < length ks → k ≡ get_or ks i 0
@@ -330,19 +425,17 @@ kept_all ws slots ns ks i done h e = sym (append-nil done) ∙ ap (λ zs. done +
 
 -- ---- nodes that leave nothing to do
 
--- signals that stand at one place have one value
-abbrev pub Agrees : List ℕ → Valuation → Type 0
-Agrees slots env = (s t : ℕ) → slice_index slots s ≡ slice_index slots t → env s ≡ env t
-
-record Passes (m : FlatNode) (ws slots : List ℕ) : Type 0 where
+-- the name that such a node gives
+pub record Passes (m : ℕ) (ns : List FlatNode) (ws slots : List ℕ) : Type 0 where
   pub n : Naming
-  pub is : name_given m ws ≡ Some n
+  pub is : at_or (λ k. name_given k ws) None ns m ≡ Some n
   pub same : slice_index slots n.wire ≡ slice_index slots n.signal
 
-passes : (m : FlatNode) (ws slots : List ℕ) → is_shared ws slots m ≡ true → Passes m ws slots
-passes m ws slots h = of (name_given m ws) refl h
+pub passes : (ns : List FlatNode) (k : ℕ) (ws slots : List ℕ) (s i : ℕ) → at_or (is_shared ws slots) true ns k ≡ true → drives_at ns k s i ≡ true → Passes k ns ws slots
+passes [] k ws slots s i h d = absurd (true≢false (sym d))
+passes (m ∷ ns) zero ws slots s i h d = of (name_given m ws) refl h
   where
-    of : (o : Option Naming) → name_given m ws ≡ o → stand_alike slots o ≡ true → Passes m ws slots
+    of : (o : Option Naming) → name_given m ws ≡ o → stand_alike slots o ≡ true → Passes zero (m ∷ ns) ws slots
     of None e h = absurd (true≢false (sym h))
     of (Some n) e h = record {
       n = n;
@@ -350,56 +443,44 @@ passes m ws slots h = of (name_given m ws) refl h
       same = eqb-true (slice_index slots n.wire) (slice_index slots n.signal)
           (and_right (nat_lt n.wire (length slots) && nat_lt n.signal (length slots)) (slice_index slots n.wire == slice_index slots n.signal) h);
     }
+passes (m ∷ ns) (suc k) ws slots s i h d = let p = passes ns k ws slots s i h d in record { n = p.n; is = p.is; same = p.same }
 
--- a whole signal that is given what it has
-given_again : (lane : Lane) (x : ℕ) (env : Valuation) → lane.shift ≡ 0 → lane.span.low ≡ 0 → env lane.span.signal ≡ x → placed lane.span (x / 2 ^ lane.shift) env ≡ env
-given_again lane x env shift low same = same_valuation (placed lane.span (x / 2 ^ lane.shift) env) env (λ s i. by_cases (within lane.span s i)
-    (λ yes.
-    let own : s ≡ lane.span.signal = eqb-true s lane.span.signal
-    (and_left (s == lane.span.signal) (nat_le lane.span.low i && nat_lt i (lane.span.low + lane.span.width)) yes) in
-    placed-inside lane.span (x / 2 ^ lane.shift) env s i yes
-    ∙ bit_at-shr x lane.shift (i - lane.span.low)
-    ∙ ap (bit_at x) (let a = shift in let b = low in whole i lane.shift lane.span.low a b)
-    ∙ ap (λ y. bit_at y i) (sym same ∙ ap env (sym own)))
-    (λ no. placed-outside lane.span (x / 2 ^ lane.shift) env s i no))
-  where
-    whole : (i a b : ℕ) → a ≡ 0 → b ≡ 0 → a + (i - b) ≡ i
-    whole i a b e f = omega (arith, e, f)
-
-is_unshifted : (lane : Lane) (width : ℕ) (ws : List ℕ) → is_whole lane width ws ≡ true → lane.shift ≡ 0
-is_unshifted lane width ws h =
-    eqb-true lane.shift 0 (and_left (lane.shift == 0) ((lane.span.low == 0) && ((lane.span.width == width) && has_width lane.span.signal width ws)) h)
-
-is_lowest : (lane : Lane) (width : ℕ) (ws : List ℕ) → is_whole lane width ws ≡ true → lane.span.low ≡ 0
-is_lowest lane width ws h =
-    eqb-true lane.span.low 0 (and_left (lane.span.low == 0) ((lane.span.width == width) && has_width lane.span.signal width ws)
-    (and_right (lane.shift == 0) ((lane.span.low == 0) && ((lane.span.width == width) && has_width lane.span.signal width ws)) h))
-
-name_again : (k : FlatNode) (ws : List ℕ) (n : Naming) (env : Valuation) → Gives k ws n → env n.wire ≡ env n.signal → drive k env env ≡ env
+-- the wire has each bit of the signal
+name_gives : (k : FlatNode) (ws : List ℕ) (n : Naming) (v env : Valuation) (i : ℕ) → Gives k ws n → i < slice_index ws n.wire → look (drive k v env) n.wire i ≡ look v n.signal i
 unfolding drive
-name_again (Drive form lanes e) ws n env g same =
-    ap₂ (λ ls x. spread ls (value_of x env) env) g.is.0 g.is.1
-    ∙ given_again g.lane (env n.signal) env (is_unshifted g.lane g.width ws g.whole) (is_lowest g.lane g.width ws g.whole) (ap env g.wire ∙ same)
-name_again (Block shown body) ws n env g same = absurd g.is
-
-shared_still : (m : FlatNode) (ws slots : List ℕ) (env : Valuation) → is_shared ws slots m ≡ true → Agrees slots env → drive m env env ≡ env
-shared_still m ws slots env h agrees =
-    let p = passes m ws slots h in
-    name_again m ws p.n env (gives m ws p.n p.is) (agrees p.n.wire p.n.signal p.same)
-
-shared_at_still : (ns : List FlatNode) (k : ℕ) (ws slots : List ℕ) (env : Valuation) → at_or (is_shared ws slots) true ns k ≡ true → Agrees slots env
-    → drive_at ns k env env ≡ env
-shared_at_still [] k ws slots env h agrees = refl
-shared_at_still (m ∷ ns) zero ws slots env h agrees = shared_still m ws slots env h agrees
-shared_at_still (m ∷ ns) (suc k) ws slots env h agrees = shared_at_still ns k ws slots env h agrees
-
--- the nodes that are left do what all of them do
-pub pass_kept : (ns : List FlatNode) (ws slots : List ℕ) → ((k : ℕ) → at_or (is_shared ws slots) true ns k ≡ false → (env : Valuation) → Agrees slots env → Agrees slots (drive_at ns k env env))
-    → (ks : List ℕ) (env : Valuation) → Agrees slots env → pass (drive_at ns) (kept ws slots ns ks) env ≡ pass (drive_at ns) ks env
-pass_kept ns ws slots keeps [] env agrees = refl
-pass_kept ns ws slots keeps (k ∷ ks) env agrees = of (pass_kept ns ws slots keeps ks) (at_or (is_shared ws slots) true ns k) refl
+name_gives (Drive form lanes e) ws n v env i g less =
+    ap₂ (λ ls x. look (spread ls (value_of x v) env) n.wire i) g.is.0 g.is.1
+    ∙ placed-inside g.lane.span (v n.signal / 2 ^ g.lane.shift) env n.wire i inside
+    ∙ bit_at-shr (v n.signal) g.lane.shift (i - g.lane.span.low)
+    ∙ ap (bit_at (v n.signal)) (let a = unshifted in let b = low in at_once i g.lane.shift g.lane.span.low a b)
   where
-    of : ((e : Valuation) → Agrees slots e → pass (drive_at ns) (kept ws slots ns ks) e ≡ pass (drive_at ns) ks e) → (b : Bool) → at_or (is_shared ws slots) true ns k ≡ b
-        → pass (drive_at ns) (if b then kept ws slots ns ks else (k ∷ kept ws slots ns ks)) env ≡ pass (drive_at ns) ks (drive_at ns k env env)
-    of rest true e = rest env agrees ∙ ap (pass (drive_at ns) ks) (sym (shared_at_still ns k ws slots env e agrees))
-    of rest false e = rest (drive_at ns k env env) (keeps k e env agrees)
+    whole : ((g.lane.span.low == 0) && ((g.lane.span.width == g.width) && has_width g.lane.span.signal g.width ws)) ≡ true
+    whole = and_right (g.lane.shift == 0) ((g.lane.span.low == 0) && ((g.lane.span.width == g.width) && has_width g.lane.span.signal g.width ws)) g.whole
+
+    unshifted : g.lane.shift ≡ 0
+    unshifted = eqb-true g.lane.shift 0 (and_left (g.lane.shift == 0) ((g.lane.span.low == 0) && ((g.lane.span.width == g.width) && has_width g.lane.span.signal g.width ws)) g.whole)
+
+    low : g.lane.span.low ≡ 0
+    low = eqb-true g.lane.span.low 0 (and_left (g.lane.span.low == 0) ((g.lane.span.width == g.width) && has_width g.lane.span.signal g.width ws) whole)
+
+    wide : g.lane.span.width ≡ g.width
+    wide = eqb-true g.lane.span.width g.width (and_left (g.lane.span.width == g.width) (has_width g.lane.span.signal g.width ws)
+        (and_right (g.lane.span.low == 0) ((g.lane.span.width == g.width) && has_width g.lane.span.signal g.width ws) whole))
+
+    long : slice_index ws n.wire ≡ g.width
+    long = ap (slice_index ws) (sym g.wire) ∙ (has_width_is g.lane.span.signal g.width ws (whole_width g.lane g.width ws g.whole)).1
+
+    inside : within g.lane.span n.wire i ≡ true
+    inside = and_from (n.wire == g.lane.span.signal) (nat_le g.lane.span.low i && nat_lt i (g.lane.span.low + g.lane.span.width)) (eq-eqb n.wire g.lane.span.signal (sym g.wire))
+        (and_from (nat_le g.lane.span.low i) (nat_lt i (g.lane.span.low + g.lane.span.width)) (le-leb g.lane.span.low i (omega (arith, low)))
+        (lt-ltb i (g.lane.span.low + g.lane.span.width) (omega (arith, low, wide, less, long))))
+
+    at_once : (i a b : ℕ) → a ≡ 0 → b ≡ 0 → a + (i - b) ≡ i
+    at_once i a b e f = omega (arith, e, f)
+name_gives (Block shown body) ws n v env i g less = absurd g.is
+
+pub names_give : (ns : List FlatNode) (k : ℕ) (ws : List ℕ) (n : Naming) (v env : Valuation) (i : ℕ) → at_or (λ m. name_given m ws) None ns k ≡ Some n → i < slice_index ws n.wire
+    → look (drive_at ns k v env) n.wire i ≡ look v n.signal i
+names_give [] k ws n v env i h less = absurd (none-some n h)
+names_give (m ∷ ns) zero ws n v env i h less = name_gives m ws n v env i (gives m ws n h) less
+names_give (m ∷ ns) (suc k) ws n v env i h less = names_give ns k ws n v env i h less

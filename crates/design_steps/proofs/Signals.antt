@@ -13,7 +13,8 @@ use Rattle.step_layout.specs.Plans.{IsReady, signals, width_at}
 use Rattle.design_steps.specs.declared.program.Program.{Program}
 use Rattle.design_steps.specs.Layings.{own_plan, mark_of, signals_of}
 use Rattle.design_steps.specs.Programs.{IsAt, IsProgramOf}
-use Rattle.design_steps.proofs.Apart.{stand, below_all}
+use Rattle.design_steps.proofs.Counting.{below_all}
+use Rattle.design_steps.proofs.Apart.{stand}
 use Rattle.design_steps.proofs.Turning.{own_low, place_high, wide}
 
 -- the words that it begins with

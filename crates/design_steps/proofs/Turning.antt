@@ -1,58 +1,43 @@
 -- What a cycle of a program gives.
-use Rattle.std.proofs.Common.{true≢false, ◌≡◌, ℕ, zero, suc, ◌+◌, ◌*◌, ◌<◌, ◌≤◌, ◌^◌, ◌&&◌, ◌==◌, nat_lt, ◌⊎◌, inl, inr, List, [], ◌∷◌, ◌++◌, map, length, refl, sym, ap, ap₂, ◌∙◌, subst, arith, IsTrue}
+use Rattle.std.proofs.Common.{◌≡◌, ℕ, ◌+◌, ◌*◌, ◌<◌, ◌≤◌, ◌^◌, ◌&&◌, ◌==◌, nat_lt, ◌⊎◌, inl, inr, List, [], ◌∷◌, ◌++◌, map, length, refl, sym, ap, ap₂, ◌∙◌, subst, arith, IsTrue}
 use Rattle.std.proofs.Math.Logic.{∥∥₁_elim}
 use Rattle.std.proofs.Props.{props}
 use Rattle.std.proofs.lemmas.Bool.{ltb-true, ltb-false, eqb-true, eqb-false, cond-true, cond-false}
 use Rattle.std.specs.Int.{bit_at}
-use Rattle.std.specs.Prelude.{slice_index}
 use Rattle.bits.specs.Runs.{replaced}
-use Rattle.bits.proofs.Runs.{bit_at-mod_out}
-use Rattle.bits.proofs.Modulo.{small}
 use Rattle.typed_ir.specs.declared.linked.Linked.{Linked}
 use Rattle.typed_ir.specs.declared.stmt.Stmt.{Stmt}
 use Rattle.typed_ir.specs.declared.update.Update.{Update}
 use Rattle.typed_ir.specs.Valuations.{Valuation, placed, look}
-use Rattle.typed_ir.specs.Orders.{Member, pass, at_or}
-use Rattle.typed_ir.specs.Nodes.{FlatNode, drive, drive_at}
+use Rattle.typed_ir.specs.Orders.{Member}
+use Rattle.typed_ir.specs.Nodes.{IsOrder}
 use Rattle.typed_ir.specs.Stmts.{exec, pending, all_applied, is_legal, is_clocked}
 use Rattle.typed_ir.specs.Statements.{stmt_of, sequence_of}
-use Rattle.typed_ir.specs.FlatNodes.{node_of}
 use Rattle.typed_ir.specs.Linkeds.{flat}
-use Rattle.typed_ir.specs.Flats.{are_clocked, signal_widths}
+use Rattle.typed_ir.specs.Flats.{IsFlat, are_clocked, signal_widths}
 use Rattle.typed_ir.specs.Cycles.{wires, step, base, fill, all_pending, Satisfies, IsReady as IsBased}
 use Rattle.typed_ir.proofs.Cases.{by_cases, and_left, and_right}
 use Rattle.typed_ir.proofs.Locals.{node_laws}
-use Rattle.typed_ir.proofs.Numbered.{pass_from, wires_satisfy}
+use Rattle.typed_ir.proofs.Numbered.{wires_satisfy}
 use Rattle.typed_ir.proofs.Pending.{clocked_still}
 use Rattle.typed_ir.proofs.Ready.{member_or, fill-other, applied_others, all_signals, next_ready}
 use Rattle.typed_ir.proofs.Settled.{round-outside}
 use Rattle.word_steps.specs.Walks.{At, walk, at}
 use Rattle.step_layout.specs.Plans.{IsReady, signals, width_at}
-use Rattle.step_layout.specs.Nodes.{nodes_code, node_at, in_order, all_later}
 use Rattle.step_layout.specs.Views.{plan_of}
-use Rattle.step_layout.proofs.Doing.{does, now_is}
-use Rattle.step_layout.proofs.Passing.{does_nodes}
-use Rattle.design_steps.specs.declared.naming.Naming.{Naming}
-use Rattle.design_steps.specs.Namings.{kept, Held, IsAlias}
+use Rattle.step_layout.proofs.Doing.{does}
+use Rattle.design_steps.specs.Namings.{Held, IsAlias}
 use Rattle.design_steps.specs.Layings.{own_plan, mark_of, signals_of}
 use Rattle.design_steps.specs.Carries.{carried}
 use Rattle.design_steps.specs.Programs.{IsProgramOf}
 use Rattle.design_steps.specs.declared.program.Program.{Program}
-use Rattle.design_steps.proofs.Apart.{widths_many, stand, stands, slot_few, apart, keeps, any_driver, nodes_laid, blocks_laid, below_all, in_all}
-use Rattle.design_steps.proofs.Shared.{names_known, names_drive, pass_kept}
+use Rattle.design_steps.proofs.Counting.{below_all, in_all}
+use Rattle.design_steps.proofs.Apart.{widths_many, stand, slot_few, apart, own_few, own_place, own_next, own_mark, alias_at, shared_ready}
+use Rattle.design_steps.proofs.Laid.{blocks_laid}
+use Rattle.design_steps.proofs.Passed.{all_ends, all_settled}
 use Rattle.design_steps.proofs.Copied.{below_member, carried_kept, carried_at}
 
 -- ---- plain facts
-
--- the nodes of an order, one after another
-pub pass_order : (ns : List FlatNode) (order : List ℕ) (env : Valuation) → pass drive (in_order ns order) env ≡ pass (drive_at ns) order env
-pass_order ns [] env = refl
-pass_order ns (k ∷ ks) env = one ns k ∙ pass_order ns ks (at_or drive (λ v w. w) ns k env env)
-  where
-    one : (ms : List FlatNode) (j : ℕ) → pass drive (node_at ms j ++ in_order ns ks) env ≡ pass drive (in_order ns ks) (at_or drive (λ v w. w) ms j env env)
-    one [] j = refl
-    one (m ∷ ms) zero = refl
-    one (m ∷ ms) (suc j) = one ms j
 
 -- clocked blocks one after another
 pub blocks_still : (sts : List Stmt) (ws : List ℕ) (env : Valuation) → IsTrue (are_clocked sts ws) → exec (sequence_of (map stmt_of sts)) env ≡ env
@@ -101,89 +86,21 @@ map_same f g (t ∷ ts) h = ap₂ (λ (z : ℕ) (zs : List ℕ). z ∷ zs) (h t 
 
 -- ---- the wires
 
--- a bit that a number doesn't have
-high_bit : (x width i : ℕ) → x < 2 ^ width → width ≤ i → bit_at x i ≡ 0
-high_bit x width i fits high = ap (λ y. bit_at y i) (sym (small x width fits)) ∙ bit_at-mod_out x width i high
-
 module _ (p : Program) (l : Linked) (is : IsProgramOf p l) where
   satisfied : (state inputs : List ℕ) → Satisfies (flat l.design) state inputs (wires (flat l.design) state inputs)
   satisfied state inputs =
       ∥∥₁_elim l.design.sound (hlevel props) (λ f. ∥∥₁_elim l.in_order (hlevel props) (λ o.
       wires_satisfy (flat l.design) l.order.items state inputs f.sound o))
 
-  few : (s : ℕ) → s < length p.layout.widths.items → s < length l.design.signals.items
-  few s less = let e = widths_many p.layout l.design is.lays in omega (arith, e, less)
-
   pub wide : (s : ℕ) → s < length l.design.signals.items → s < length p.layout.widths.items
   wide s less = let e = widths_many p.layout l.design is.lays in omega (arith, e, less)
 
-  -- what signals have where they stand, from what they have at their own places
-  shared_ready : (w : Valuation) → IsReady (own_plan p.layout) (signals_of l.design) w → IsReady (plan_of p.layout) (signals_of l.design) w
-  shared_ready w ready = record {
-    fits = λ s h. let r = stands p.layout l.design is.lays s (few s h) in
-        subst (λ k. w k < 2 ^ slice_index p.layout.widths.items s) ((stand p.layout l.design is.lays).here r.root r.there ∙ sym r.at)
-        (subst (λ n. w ((own_plan p.layout).slot r.root) < 2 ^ n) (sym r.wide) (ready.fits r.root (wide r.root r.there)));
-    next_fits = ready.next_fits;
-    holds = ready.holds;
-  }
-
-  -- a signal's own place is nobody's where the signal stands at another one
-  own_place : (s t : ℕ) → ((plan_of p.layout).slot s ≡ (own_plan p.layout).slot s → ⊥) → (own_plan p.layout).slot s ≡ (plan_of p.layout).slot t → ⊥
-  own_place s t other e =
-      let n = length l.design.signals.items in
-      let st = stand p.layout l.design is.lays in
-      by_cases (nat_lt s n)
-      (λ yes. let less : s < n = ltb-true s n yes in
-      let here = st.here s less in
-      by_cases (nat_lt t n)
-      (λ there. let r = stands p.layout l.design is.lays t (ltb-true t n there) in
-      let same : r.root ≡ s = (let a = r.at in omega (arith, a, here, e)) in
-      other (subst (λ u. (plan_of p.layout).slot u ≡ 1 + u) same r.own ∙ sym here))
-      (λ no. let none = st.shared t (ltb-false t n no) in omega (arith, here, none, e)))
-      (λ no. let more : n ≤ s = ltb-false s n no in other (st.shared s more ∙ sym (st.none s more)))
-
-  -- an own place is no next value's, and lies below the mark
+  -- an own place lies below all next values
   pub own_low : (s : ℕ) → (own_plan p.layout).slot s ≤ length l.design.signals.items
-  own_low s =
-      let n = length l.design.signals.items in
-      let t = stand p.layout l.design is.lays in
-      by_cases (nat_lt s n)
-      (λ yes. let less : s < n = ltb-true s n yes in let e = t.here s less in omega (arith, e, less))
-      (λ no. let e = t.none s (ltb-false s n no) in omega (arith, e))
-
-  own_next : (s t : ℕ) → Member t (signals_of l.design) → (own_plan p.layout).slot s ≡ (plan_of p.layout).next t → ⊥
-  own_next s t m e =
-      let less = below_all (length l.design.signals.items) t m in
-      let a = own_low s in
-      let b = (stand p.layout l.design is.lays).next t less in
-      omega (arith, a, b, e)
-
-  own_mark : (s : ℕ) → (own_plan p.layout).slot s < mark_of p.layout
-  own_mark s = let a = own_low s in let b = (stand p.layout l.design is.lays).mark in omega (arith, a, b)
-
-  -- what is ready where signals stand is so at their own places, where those of others hold what fitted
-  own_ready : (w w' : Valuation) → IsReady (own_plan p.layout) (signals_of l.design) w → IsReady (plan_of p.layout) (signals_of l.design) w'
-      → ((s : ℕ) → ((plan_of p.layout).slot s ≡ (own_plan p.layout).slot s → ⊥) → w' ((own_plan p.layout).slot s) ≡ w ((own_plan p.layout).slot s))
-      → IsReady (own_plan p.layout) (signals_of l.design) w'
-  own_ready w w' old new kept = record {
-    fits = λ s h. by_cases ((plan_of p.layout).slot s == (own_plan p.layout).slot s)
-        (λ yes. subst (λ k. w' k < 2 ^ slice_index p.layout.widths.items s) (eqb-true ((plan_of p.layout).slot s) ((own_plan p.layout).slot s) yes) (new.fits s h))
-        (λ no. subst (λ x. x < 2 ^ slice_index p.layout.widths.items s) (sym (kept s (eqb-false ((plan_of p.layout).slot s) ((own_plan p.layout).slot s) no))) (old.fits s h));
-    next_fits = new.next_fits;
-    holds = new.holds;
-  }
+  own_low s = own_few p.layout l.design is.lays s
 
   alias_of : (s : ℕ) → ((plan_of p.layout).slot s ≡ (own_plan p.layout).slot s → ⊥) → IsAlias l.design p.layout.slots.items s
-  alias_of s other =
-      let n = length l.design.signals.items in
-      let st = stand p.layout l.design is.lays in
-      by_cases (nat_lt s n)
-      (λ yes. let less = ltb-true s n yes in of (st.here s less) (is.lays.slots.each s less))
-      (λ no. let more = ltb-false s n no in absurd (other (st.shared s more ∙ sym (st.none s more))))
-    where
-      of : (own_plan p.layout).slot s ≡ 1 + s → (slice_index p.layout.slots.items s ≡ s + 1) ⊎ IsAlias l.design p.layout.slots.items s → IsAlias l.design p.layout.slots.items s
-      of here (inl e) = absurd (other (e ∙ (let f : s + 1 ≡ 1 + s = omega arith in f) ∙ sym here))
-      of here (inr a) = a
+  alias_of s other = alias_at p.layout l.design is.lays s other
 
   -- what is no register and no input begins with 0
   base_free : (state inputs : List ℕ) (s : ℕ) → (Held l.design s → ⊥) → base (flat l.design) state inputs s ≡ 0
@@ -191,54 +108,26 @@ module _ (p : Program) (l : Linked) (is : IsProgramOf p l) where
       fill-other l.design.registers.items state (fill l.design.inputs.items inputs (λ t. 0)) s (λ m. none (inl m))
       ∙ fill-other l.design.inputs.items inputs (λ t. 0) s (λ m. none (inr m))
 
-  -- the bits that no node drives are as they are to be where signals stand, too: all bits of a wire that stands elsewhere are driven
-  seen_based : (w : Valuation) (state inputs : List ℕ) → IsReady (own_plan p.layout) (signals_of l.design) w → IsBased (flat l.design) state inputs (signals (own_plan p.layout) w)
-      → IsBased (flat l.design) state inputs (signals (plan_of p.layout) w)
-  seen_based w state inputs ready based s i free = by_cases ((plan_of p.layout).slot s == (own_plan p.layout).slot s)
-      (λ yes. ap (λ k. bit_at (w k) i) (eqb-true ((plan_of p.layout).slot s) ((own_plan p.layout).slot s) yes) ∙ based s i free)
-      (λ no. of (alias_of s (eqb-false ((plan_of p.layout).slot s) ((own_plan p.layout).slot s) no)))
-    where
-      of : IsAlias l.design p.layout.slots.items s → look (signals (plan_of p.layout) w) s i ≡ look (base (flat l.design) state inputs) s i
-      of a =
-          let all = map node_of l.design.nodes.items in
-          let ws = signal_widths l.design.signals.items in
-          let n : Naming = record { wire = s; signal = a.source } in
-          let known = names_known all a.node ws n a.names in
-          let there : s < length p.layout.widths.items = subst (λ vs. s < length vs) (sym is.lays.widths) known.wire_there in
-          let fits = (shared_ready w ready).fits s there in
-          by_cases (nat_lt i (slice_index ws s))
-          (λ yes. absurd (true≢false (sym (any_driver all a.node s i (names_drive all a.node ws n i a.names (ltb-true i (slice_index ws s) yes))) ∙ free)))
-          (λ no. high_bit (w ((plan_of p.layout).slot s)) (slice_index ws s) i (subst (λ vs. w ((plan_of p.layout).slot s) < 2 ^ slice_index vs s) is.lays.widths fits) (ltb-false i (slice_index ws s) no)
-          ∙ sym (ap (λ x. bit_at x i) (base_free state inputs s a.free) ∙ high_bit 0 0 i (omega arith) (omega arith)))
-
   -- the steps of the nodes
   pub settles : (w : Valuation) (state inputs : List ℕ) → IsReady (own_plan p.layout) (signals_of l.design) w
       → IsBased (flat l.design) state inputs (signals (own_plan p.layout) w)
       → Settles p l w (walk p.settling.items (at 0 w)).words (wires (flat l.design) state inputs)
-  settles w state inputs ready based =
-      let pl = plan_of p.layout in
-      let rs = signals_of l.design in
-      let mark = mark_of p.layout in
-      let all = map node_of l.design.nodes.items in
-      let order = kept p.layout.widths.items p.layout.slots.items all l.order.items in
-      let nodes = in_order all order in
-      let free = apart p.layout l.design is.lays in
-      let laid = nodes_laid p.layout l.design is.lays l.order.items in
-      let d = does_nodes pl rs mark free nodes mark w (omega arith) laid (shared_ready w ready) in
-      let env = signals pl w in
-      let ends : (walk p.settling.items (at 0 w)).words ≡ d.after = ap (λ steps. (walk steps (at 0 w)).words) is.settles ∙ ap (λ (a : At). a.words) d.ends in
-      let kept_words : (s : ℕ) → (pl.slot s ≡ (own_plan p.layout).slot s → ⊥) → d.after ((own_plan p.layout).slot s) ≡ w ((own_plan p.layout).slot s) = λ s other.
-      d.kept ((own_plan p.layout).slot s) (own_mark s) (λ t. own_place s t other) (λ t m. own_next s t m) in
-      subst (λ z. Settles p l w z (wires (flat l.design) state inputs)) (sym ends)
-      (record {
-        now = now_is pl rs mark free (nodes_code pl nodes mark) w mark (pass drive nodes env) (all_later nodes env) d
-            ∙ pass_order all order env
-            ∙ pass_kept all p.layout.widths.items p.layout.slots.items (keeps p.layout l.design is.lays) l.order.items env (λ s t e. ap w e)
-            ∙ ∥∥₁_elim l.design.sound (hlevel props) (λ f. ∥∥₁_elim l.in_order (hlevel props) (λ o.
-            pass_from (flat l.design) l.order.items state inputs f.sound o env (seen_based w state inputs ready based)));
-        kept = kept_words;
-        ready = own_ready w d.after ready d.ready kept_words;
-      })
+  settles w state inputs ready based = record {
+    now = ∥∥₁_elim l.design.sound (hlevel props) (λ f. ∥∥₁_elim l.in_order (hlevel props) (λ o. (by f o).now));
+    kept = λ s other. ∥∥₁_elim l.design.sound (hlevel props) (λ f. ∥∥₁_elim l.in_order (hlevel props) (λ o. (by f o).kept s other));
+    ready = record {
+      fits = λ s h. ∥∥₁_elim l.design.sound (hlevel props) (λ f. ∥∥₁_elim l.in_order (hlevel props) (λ o. (by f o).ready.fits s h));
+      next_fits = λ s m. ∥∥₁_elim l.design.sound (hlevel props) (λ f. ∥∥₁_elim l.in_order (hlevel props) (λ o. (by f o).ready.next_fits s m));
+      holds = λ v m. ∥∥₁_elim l.design.sound (hlevel props) (λ f. ∥∥₁_elim l.in_order (hlevel props) (λ o. (by f o).ready.holds v m));
+    };
+  }
+    where
+      by : IsFlat (flat l.design) → IsOrder (flat l.design).nodes l.order.items → Settles p l w (walk p.settling.items (at 0 w)).words (wires (flat l.design) state inputs)
+      by f o =
+          let e = all_ends p.layout l is.lays f o state inputs w ready based in
+          let ends : (walk p.settling.items (at 0 w)).words ≡ e.after = ap (λ steps. (walk steps (at 0 w)).words) is.settles ∙ ap (λ (a : At). a.words) e.ends in
+          subst (λ z. Settles p l w z (wires (flat l.design) state inputs)) (sym ends)
+          (record { now = all_settled p.layout l is.lays f o state inputs w ready based; kept = e.reached.kept; ready = e.reached.ready })
 
   -- settled wires are as the registers and inputs say
   pub settled_based : (w w' : Valuation) (state inputs : List ℕ) → IsBased (flat l.design) state inputs (signals (own_plan p.layout) w)
@@ -374,7 +263,7 @@ module _ (p : Program) (l : Linked) (is : IsProgramOf p l) where
         let v = wires (flat l.design) state inputs in
         let us = all_pending (map stmt_of sts) v in
         let up = carried regs 1 (n + 1) w in
-        let d = does pl rs mark (apart p.layout l.design is.lays) st mark up (omega arith) (blocks_laid p.layout l.design is.lays) (shared_ready up (up_ready w ready)) in
+        let d = does pl rs mark (apart p.layout l.design is.lays) st mark up (omega arith) (blocks_laid p.layout l.design is.lays) (shared_ready p.layout l.design is.lays up (up_ready w ready)) in
         let after = carried regs (n + 1) 1 d.after in
         let seen : signals pl up ≡ v = up_signals w ∙ settled in
         let noted : pending st (signals pl up) ≡ us = ap (pending st) seen ∙ blocks_pending sts ws v l.design.blocks in
@@ -390,7 +279,7 @@ module _ (p : Program) (l : Linked) (is : IsProgramOf p l) where
         ] in
         let kept_words : (s : ℕ) → (pl.slot s ≡ ow.slot s → ⊥) → after (ow.slot s) ≡ w (ow.slot s) = λ s other.
         down_other d.after s (λ m. (alias_of s other).free (inl m))
-        ∙ d.kept (ow.slot s) (own_mark s) (λ t. own_place s t other) (λ t m. own_next s t m)
+        ∙ d.kept (ow.slot s) (own_mark p.layout l.design is.lays s) (λ t. own_place p.layout l.design is.lays s t other) (λ t m. own_next p.layout l.design is.lays s t m)
         ∙ up_kept w (ow.slot s) (inl (own_low s)) in
         let ends : (walk p.clocking.items (at 0 up)).words ≡ d.after = ap (λ steps. (walk steps (at 0 up)).words) is.clocks ∙ ap (λ (a : At). a.words) d.ends in
         let t = stand p.layout l.design is.lays in

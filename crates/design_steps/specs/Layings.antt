@@ -1,16 +1,20 @@
 -- The layout of a design.
-use Rattle.std.specs.Prelude.{◌≡◌, ℕ, zero, suc, ◌+◌, ◌*◌, List, [], ◌∷◌, map, length, slice_index}
+use Rattle.std.specs.Prelude.{◌≡◌, ℕ, zero, suc, ◌+◌, ◌-◌, ◌*◌, Bool, List, [], ◌∷◌, map, length, slice_index, if◌then◌else◌}
 use Rattle.typed_ir.specs.declared.flat.Flat.{Flat}
+use Rattle.typed_ir.specs.declared.span.Span.{Span}
 use Rattle.typed_ir.specs.Orders.{Member, Each}
 use Rattle.typed_ir.specs.Flats.{signal_widths}
 use Rattle.typed_ir.specs.FlatNodes.{node_of}
+use Rattle.typed_ir.specs.Nodes.{FlatNode}
+use Rattle.typed_ir.specs.Stmts.{targets}
 use Rattle.typed_ir.specs.Statements.{stmt_of, sequence_of}
 use Rattle.step_layout.specs.declared.layout.Layout.{Layout}
 use Rattle.step_layout.specs.Statements.{stmt_constants}
 use Rattle.step_layout.specs.Plans.{Plan}
 use Rattle.step_layout.specs.Views.{plan_of}
+use Rattle.step_layout.specs.Nodes.{as_statement, in_order}
 use Rattle.design_steps.specs.Pooled.{nodes_constants}
-use Rattle.design_steps.specs.Namings.{AreShared}
+use Rattle.design_steps.specs.Namings.{kept, is_among, AreShared}
 
 -- so many numbers from one on
 abbrev pub run_from : ℕ → ℕ → List ℕ
@@ -29,17 +33,29 @@ mark_of l = l.constants.first + length l.constants.values.keys + 1
 abbrev pub own : ℕ → ℕ → ℕ
 own count s = slice_index (run_from 1 count) s
 
--- the layout with each signal at its own place
-abbrev pub own_plan : Layout → Plan
-own_plan l = record {
-  slot = own (length l.widths.items);
+-- the layout with signals at these places
+abbrev pub with_slots : Layout → (ℕ → ℕ) → Plan
+with_slots l slot = record {
+  slot = slot;
   next = (plan_of l).next;
   place = (plan_of l).place;
   widths = (plan_of l).widths;
   constants = (plan_of l).constants;
 }
 
--- signals stand at their own places, or where a register or an input does of which they are another name; next values stand as many places
+-- with each signal at its own place
+abbrev pub own_plan : Layout → Plan
+own_plan l = with_slots l (own (length l.widths.items))
+
+-- whether a node writes some bits of a signal in place
+abbrev pub writes : FlatNode → ℕ → Bool
+writes k s = is_among s (map (λ (p : Span). p.signal) (targets (as_statement k)))
+
+-- for one node: what stands where a signal does that the node writes has its own place instead
+abbrev pub view_of : Layout → FlatNode → Plan
+view_of l k = with_slots l (λ s. if writes k ((plan_of l).slot s - 1) then (own_plan l).slot s else (plan_of l).slot s)
+
+-- signals stand at their own places, or where the one does of which they are another name; next values stand as many places
 -- above the own ones as there are signals, and constants behind these; each constant of the design is among them
 pub record LaysOut (l : Layout) (design : Flat) : Type 0 where
   pub slots : AreShared design l.slots.items
@@ -48,3 +64,7 @@ pub record LaysOut (l : Layout) (design : Flat) : Type 0 where
   pub first : l.constants.first ≡ 2 * length design.signals.items + 1
   pub nodes : Each (λ v. Member v l.constants.values.keys) (nodes_constants (map node_of design.nodes.items))
   pub blocks : Each (λ v. Member v l.constants.values.keys) (stmt_constants (sequence_of (map stmt_of design.clocked.items)))
+
+-- the nodes of an order that leave something to do
+abbrev pub left_of : Layout → Flat → List ℕ → List FlatNode
+left_of l design order = in_order (map node_of design.nodes.items) (kept l.widths.items l.slots.items (map node_of design.nodes.items) order)

@@ -49,10 +49,19 @@ is_among s (x ∷ xs) = (s == x) || is_among s xs
 abbrev pub Held : Flat → ℕ → Type 0
 Held design s = Member s design.registers.items ⊎ Member s design.inputs.items
 
--- a wire that is another name of a register or of an input, and stands there; `source` is the signal that its node names
+-- the node of this number gives the wire the signal as another name
+abbrev pub Names : Flat → ℕ → ℕ → ℕ → Type 0
+Names design node wire signal =
+    at_or (λ k. name_given k (signal_widths design.signals.items)) None (map node_of design.nodes.items) node ≡ Some (record { wire = wire; signal = signal })
+
+-- the root itself, or a wire that a node makes a name of such a one
+pub data LeadsTo (design : Flat) (root : ℕ) : ℕ → Type 0 where
+  Itself : LeadsTo design root root
+  Over : (s node source : ℕ) → Names design node s source → LeadsTo design root source → LeadsTo design root s
+
+-- a wire that is another name of a signal, and stands where that one does, at its own place; `source` is the signal that its node names
 pub record IsAlias (design : Flat) (slots : List ℕ) (s : ℕ) : Type 0 where
   pub root : ℕ
-  pub held : Held design root
   pub free : Held design s → ⊥
   pub there : root < length design.signals.items
   pub stands : slice_index slots s ≡ root + 1
@@ -60,10 +69,17 @@ pub record IsAlias (design : Flat) (slots : List ℕ) (s : ℕ) : Type 0 where
   pub wide : slice_index (signal_widths design.signals.items) s ≡ slice_index (signal_widths design.signals.items) root
   pub node : ℕ
   pub source : ℕ
-  pub names : at_or (λ k. name_given k (signal_widths design.signals.items)) None (map node_of design.nodes.items) node ≡ Some (record { wire = s; signal = source })
+  pub names : Names design node s source
   pub alike : slice_index slots source ≡ root + 1
+  pub leads : LeadsTo design root source
 
 -- each signal stands at a place of its own, one above its number, or is an alias
 pub record AreShared (design : Flat) (slots : List ℕ) : Type 0 where
   pub long : length slots ≡ length design.signals.items
   pub each : (s : ℕ) → s < length design.signals.items → (slice_index slots s ≡ s + 1) ⊎ IsAlias design slots s
+
+-- marks of the signals that stay at their own places: of registers, of inputs, and of those where another signal stands
+pub record AreMarked (design : Flat) (slots : List ℕ) (marks : List Bool) : Type 0 where
+  pub long : length marks ≡ length design.signals.items
+  pub held : (s : ℕ) → s < length design.signals.items → Held design s → mark_at marks s ≡ true
+  pub roots : (s r : ℕ) → slice_index slots s ≡ r + 1 → mark_at marks r ≡ false → s ≡ r

@@ -2,7 +2,6 @@
 use Rattle.std.specs.Prelude.{◌≡◌, ◌<◌, ℕ, List, [], length, map, IsTrue}
 use Rattle.typed_ir.specs.declared.linked.Linked.{Linked}
 use Rattle.typed_ir.specs.Cycles.{IsReady as IsBased}
-use Rattle.typed_ir.specs.FlatNodes.{node_of}
 use Rattle.typed_ir.specs.Nodes.{FlatNode}
 use Rattle.typed_ir.specs.Linkeds.{flat}
 use Rattle.typed_ir.specs.Statements.{stmt_of, sequence_of}
@@ -12,17 +11,16 @@ use Rattle.word_steps.specs.Walks.{env_of}
 use Rattle.step_layout.specs.declared.layout.Layout.{Layout}
 use Rattle.step_layout.specs.Plans.{IsReady, signals}
 use Rattle.step_layout.specs.Statements.{stmt_code}
-use Rattle.step_layout.specs.Nodes.{nodes_code, in_order}
+use Rattle.step_layout.specs.Nodes.{nodes_code}
 use Rattle.step_layout.specs.Views.{plan_of}
-use Rattle.design_steps.specs.Layings.{LaysOut, own_plan, mark_of, signals_of}
-use Rattle.design_steps.specs.Namings.{kept}
+use Rattle.design_steps.specs.Layings.{LaysOut, left_of, own_plan, mark_of, signals_of}
 use Rattle.design_steps.specs.declared.program.Program.{Program}
 
 -- what the signals have at their own places
 abbrev pub values_in : Program → List ℕ → Valuation
 values_in p words = signals (own_plan p.layout) (env_of words)
 
--- what they have where they stand: a wire that is another name of a register or an input has what that one has
+-- what they have where they stand: a wire that is another name of a signal has what that one has
 abbrev pub seen_in : Program → List ℕ → Valuation
 seen_in p words = signals (plan_of p.layout) (env_of words)
 
@@ -32,8 +30,7 @@ AreHeld p l words = IsReady (own_plan p.layout) (signals_of l.design) (env_of wo
 
 -- the nodes that leave something to do, in their order
 abbrev pub kept_nodes : Layout → Linked → List FlatNode
-kept_nodes layout l =
-    in_order (map node_of l.design.nodes.items) (kept layout.widths.items layout.slots.items (map node_of l.design.nodes.items) l.order.items)
+kept_nodes layout l = left_of layout l.design l.order.items
 
 -- values fit and constants are there; and the registers, the inputs and the bits that no node drives are as they are to be
 pub record IsAt (p : Program) (l : Linked) (state inputs words : List ℕ) : Type 0 where

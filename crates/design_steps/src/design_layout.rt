@@ -50,8 +50,8 @@ fn pool_of(nodes: &[Node], blocks: &[Stmt], pool: &mut IndexSet<u128>) -> Result
     pool_all(blocks, pool)
 }
 
-/// The layout of a design: signals stand from the place 1 on, wires where a register or an input does of which they are only another name,
-/// next values behind all signals, and the constants behind these. Want of memory, and a place above the largest number, is `NoMemory`.
+/// The layout of a design: signals stand from the place 1 on, wires where the signal does of which they are only another name, next values
+/// behind all signals, and the constants behind these. Want of memory, and a place above the largest number, is `NoMemory`.
 pub fn layout_of(alloc: Global, linked: &Linked) -> Result<Layout, NoMemory>
     ensures { IfOk result (λ l. LaysOut l linked.now.design) }
 {

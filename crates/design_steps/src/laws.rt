@@ -1,23 +1,28 @@
 // What a design's layout is.
-ghost use Rattle.std.specs.Prelude.{ℕ, List, map};
+ghost use Rattle.std.specs.Prelude.{◌≡◌, ℕ, List, map};
 ghost use Rattle.typed_ir.specs.declared.flat.Flat.{Flat};
 ghost use Rattle.typed_ir.specs.FlatNodes.{node_of};
+ghost use Rattle.typed_ir.specs.Nodes.{FlatNode, IsOrder};
 ghost use Rattle.typed_ir.specs.Orders.{Each};
 ghost use Rattle.typed_ir.specs.Statements.{stmt_of, sequence_of};
 ghost use Rattle.step_layout.specs.declared.layout.Layout.{Layout};
 ghost use Rattle.step_layout.specs.Plans.{IsApart};
 ghost use Rattle.step_layout.specs.Right.{IsLaid, IsLaidNode};
 ghost use Rattle.step_layout.specs.Views.{plan_of};
-ghost use Rattle.step_layout.specs.Nodes.{in_order};
-ghost use Rattle.design_steps.specs.Namings.{kept};
-ghost use Rattle.design_steps.specs.Layings.{LaysOut, mark_of, signals_of};
+ghost use Rattle.step_layout.specs.Nodes.{as_statement};
+ghost use Rattle.step_layout.specs.Statements.{stmt_code};
+ghost use Rattle.design_steps.specs.Layings.{LaysOut, left_of, mark_of, signals_of, view_of};
 
-/// The layout of a design is apart, and the design's nodes that leave something to do, and its clocked blocks, may be laid out by it: their widths are those of its signals,
-/// and their constants stand somewhere.
+/// The layout of a design is apart, and the design's clocked blocks may be laid out by it: their widths are those of its signals, and their
+/// constants stand somewhere. So may each node that leaves something to do, by the plan in which what it writes stands alone; and where the
+/// nodes are in an order, its steps by that plan are those by the layout.
 pub fn layouts_are_right()
     ensures apart { (l : Layout) (design : Flat) → LaysOut l design → IsApart (plan_of l) (signals_of design) (mark_of l) }
-    ensures nodes { (l : Layout) (design : Flat) (order : List ℕ) → LaysOut l design → Each (IsLaidNode (plan_of l) (signals_of design))
-        (in_order (map node_of design.nodes.items) (kept l.widths.items l.slots.items (map node_of design.nodes.items) order)) }
     ensures blocks { (l : Layout) (design : Flat) → LaysOut l design
         → IsLaid (plan_of l) (signals_of design) (sequence_of (map stmt_of design.clocked.items)) }
+    ensures views { (l : Layout) (design : Flat) (k : FlatNode) → LaysOut l design → IsApart (view_of l k) (signals_of design) (mark_of l) }
+    ensures nodes { (l : Layout) (design : Flat) (order : List ℕ) → LaysOut l design
+        → Each (λ k. IsLaidNode (view_of l k) (signals_of design) k) (left_of l design order) }
+    ensures code { (l : Layout) (design : Flat) (order : List ℕ) (mark : ℕ) → LaysOut l design → IsOrder (map node_of design.nodes.items) order
+        → Each (λ k. stmt_code (plan_of l) (as_statement k) mark ≡ stmt_code (view_of l k) (as_statement k) mark) (left_of l design order) }
 {}

@@ -1,7 +1,7 @@
 // A linked design as a flat list of steps over words.
 //
 // `design_layout` says where a design's signals, their next values and its constants stand; `naming` finds the wires that are only names of
-// registers and inputs, and `sharing` lets them stand where these do, so that their nodes take no step; `pooling` and `constant_walk` gather
+// other signals, and `sharing` lets them stand where these do, so that their nodes take no step; `pooling` and `constant_walk` gather
 // the constants, and `laws` says that nodes and blocks are laid out by it. `making` makes a `Program` of a linked design, with the words that it
 // begins with (`words`), and `cycling` runs it cycle by cycle: the wires settle, the clocked blocks write next values, and these are copied
 // over (`carrying`). `signal_words` reads and puts the values of signals.

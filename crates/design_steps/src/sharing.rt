@@ -1,9 +1,9 @@
-// Wires that stand where the register or the input does of which they are another name.
+// Wires that stand where the signal does of which they are another name.
 ghost use Rattle.std.specs.Prelude.{◌≡◌, ◌<◌, ◌≤◌, ◌+◌, ◌-◌, ◌&&◌, ◌||◌, ◌==◌, not, ℕ, All, nat_lt, length, map, slice_index, ◌++◌, [], ◌∷◌, if◌then◌else◌, IfOk, OnOk};
 ghost use Rattle.typed_ir.specs.Flats.{signal_widths};
 ghost use Rattle.typed_ir.specs.FlatNodes.{node_of};
 ghost use Rattle.design_steps.specs.Layings.{run_from};
-ghost use Rattle.design_steps.specs.Namings.{AreShared, is_shared, kept, mark_at, is_among};
+ghost use Rattle.design_steps.specs.Namings.{AreShared, AreMarked, is_shared, kept, mark_at, is_among};
 
 use crate::naming::{is_shared, name_given};
 use no_memory::NoMemory;
@@ -43,40 +43,47 @@ fn held_of(alloc: Global, design: &Flat) -> Result<Vec<bool>, NoMemory>
     Ok(held)
 }
 
-// Whether a wire that stands at its own place may stand at another one: it is no register and no input, and the signal that stands there is one.
-fn may_share(wire: usize, slot: u32, held: &[bool], slots: &[u32]) -> bool
+// Whether a wire may stand at another place: it stands at its own one, where it needn't stay.
+fn may_share(wire: usize, stays: &[bool], slots: &[u32]) -> bool
     requires wire { wire < length slots.now }
-    requires held { length held.now ≡ length slots.now }
-    requires slot { 1 ≤ slot }
-    requires there { slot ≤ length slots.now }
-    ensures { result ≡ ((slice_index slots.now wire == wire + 1) && (not (mark_at held.now wire) && mark_at held.now (slot - 1))) }
+    requires long { length stays.now ≡ length slots.now }
+    ensures { result ≡ ((slice_index slots.now wire == wire + 1) && not (mark_at stays.now wire)) }
 {
-    slots[wire] as usize == wire + 1 && !held[wire] && held[slot as usize - 1]
+    slots[wire] as usize == wire + 1 && !stays[wire]
 }
 
-// Lets the wire of a node stand where a register or an input does, where the node only names that one.
-fn share(design: &Flat, place: usize, widths: &[u8], held: &[bool], slots: &mut [u32])
+// Marks the signal whose own place this is.
+fn stay(slot: u32, stays: &mut [bool])
+    requires some { 1 ≤ slot }
+    requires there { slot ≤ length stays.old }
+    ensures long { length stays.new ≡ length stays.old }
+    ensures marks { (s : ℕ) → mark_at stays.new s ≡ (mark_at stays.old s || (s == slot - 1)) }
+{
+    stays[slot as usize - 1] = true;
+}
+
+// Lets the wire of a node stand where a signal does, where the node only names that one, which stays there from then on.
+fn share(design: &Flat, place: usize, widths: &[u8], stays: &mut [bool], slots: &mut [u32])
     requires there { place < length design.now.nodes.items }
     requires widths { widths.now ≡ signal_widths design.now.signals.items }
-    requires long { length held.now ≡ length design.now.signals.items }
-    requires held { (s : ℕ) → mark_at held.now s
-        ≡ ((nat_lt s (length design.now.signals.items) && is_among s design.now.registers.items)
-        || (nat_lt s (length design.now.signals.items) && is_among s design.now.inputs.items)) }
+    requires marked { AreMarked design.now slots.old stays.old }
     requires shared { AreShared design.now slots.old }
-    ensures { AreShared design.now slots.new }
+    ensures marked { AreMarked design.now slots.new stays.new }
+    ensures shared { AreShared design.now slots.new }
 {
     let Some(named) = name_given(&design.nodes[place], widths) else {
         return;
     };
     let wire = named.wire.index();
     let slot = slots[named.signal.index()];
-    if may_share(wire, slot, held, slots) {
+    if may_share(wire, stays, slots) {
         slots[wire] = slot;
+        stay(slot, stays);
     }
 }
 
-/// Where each signal stands: at a place of its own, one above its number, or where a register or an input does of which it is only another
-/// name. Want of memory is `NoMemory`.
+/// Where each signal stands: at a place of its own, one above its number, or where the one does of which it is only another name. Want of
+/// memory is `NoMemory`.
 pub fn slots_of(
     alloc: Global,
     linked: &Linked,
@@ -88,9 +95,9 @@ pub fn slots_of(
     ensures { IfOk result (λ slots. AreShared linked.now.design slots.items) }
 {
     let mut slots = own;
-    let held = held_of(alloc, &linked.design)?;
+    let mut stays = held_of(alloc, &linked.design)?;
     for k in &linked.order {
-        share(&linked.design, k.index(), widths, &held, &mut slots);
+        share(&linked.design, k.index(), widths, &mut stays, &mut slots);
     }
     Ok(slots)
 }
