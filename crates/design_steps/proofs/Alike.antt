@@ -11,9 +11,12 @@ use Rattle.typed_ir.specs.Touches.{all_reads, all_arm_reads}
 use Rattle.typed_ir.proofs.Cases.{left_or, right_or, and_left, and_right}
 use Rattle.word_steps.specs.declared.step.Step.{Step}
 use Rattle.word_steps.specs.declared.op.Op.TheVariants.{Copy, Select, Choose, Join, Product, Pick as PickStep, Or, SkipIfZero, SkipIfEqual, SkipUnlessEqual}
+use Rattle.step_layout.proofs.Testing.{Asks, asks}
+use Rattle.typed_ir.specs.declared.comparison.Comparison.{Comparison}
+use Rattle.typed_ir.specs.declared.binary_operator.BinaryOperator.TheVariants.{Compare}
 use Rattle.step_layout.specs.Plans.{Plan, width_at}
 use Rattle.step_layout.specs.Expressions.{step, is_wide, unary_op, binary_op, swaps, locate_op, resize_op, resize_low, is_plain, operand, before, code}
-use Rattle.step_layout.specs.Statements.{signal_of, is_direct, part_code, parts_code, one_code, assign_code, pass_over, branch, condition, subject_at, item_at, item_code, tests, stmt_code, arms_code}
+use Rattle.step_layout.specs.Statements.{signal_of, is_direct, part_code, parts_code, one_code, assign_code, pass_over, branch, Test, Truth, Pair, test_of, test_code, condition, subject_at, item_at, item_code, tests, stmt_code, arms_code}
 use Rattle.step_layout.proofs.Ready.{each_left, each_right}
 use Rattle.design_steps.proofs.Written.{span_there, within_own}
 
@@ -150,11 +153,13 @@ module _ (l : Plan) (f : ℕ → ℕ) where
         to k 0 0 ∷ []) (operand_same a mark h))
 
   -- the steps that put it at the mark, where it isn't anywhere yet
+  stands_same : (e : Sized) (mark : ℕ) → fits_signals e l.widths ≡ true → Fixes (reads e)
+      → before (moved l f) e mark (code (moved l f) e mark mark) ≡ before l e mark (code l e mark mark)
+  stands_same e mark fits h = before_same e mark (code (moved l f) e mark mark) (code l e mark mark) fits h (code_same e mark mark fits h)
+
   put_same : (e : Sized) (mark : ℕ) → is_sized e l.widths ≡ true → Fixes (reads e)
       → before (moved l f) e mark (code (moved l f) e mark mark) ≡ before l e mark (code l e mark mark)
-  put_same e mark t h =
-      let fits = and_right (agrees e) (fits_signals e l.widths) t in
-      before_same e mark (code (moved l f) e mark mark) (code l e mark mark) fits h (code_same e mark mark fits h)
+  put_same e mark t h = stands_same e mark (and_right (agrees e) (fits_signals e l.widths) t) h
 
   -- ---- assignments
 
@@ -214,9 +219,27 @@ module _ (l : Plan) (f : ℕ → ℕ) where
 
   -- ---- statements
 
+  -- what an expression reads is there, and stands where it stood
+  record IsFixed (e : Sized) : Type 0 where
+    fits : fits_signals e l.widths ≡ true
+    fixed : Fixes (reads e)
+
+  operands_fixed : (op : Comparison) (a b : Sized) → IsFixed (Binary (Compare op) a b) → IsFixed a × IsFixed b
+  operands_fixed op a b h = (
+    record { fits = and_left (fits_signals a l.widths) (fits_signals b l.widths) h.fits; fixed = first (reads a) (reads b) h.fixed },
+    record { fits = and_right (fits_signals a l.widths) (fits_signals b l.widths) h.fits; fixed = second (reads a) (reads b) h.fixed },
+  )
+
+  test_same : (t : Test) (mark past : ℕ) → Asks IsFixed t → test_code (moved l f) t mark past ≡ test_code l t mark past
+  test_same (Truth c) mark past h =
+      two_same (stands_same c mark h.fits h.fixed) (ap (λ k. step SkipIfZero 1 0 true 0 k 0 past ∷ []) (operand_same c mark h.fixed))
+  test_same (Pair op a b) mark past h =
+      three_same (stands_same a mark h.1.fits h.1.fixed) (stands_same b (mark + 1) h.2.fits h.2.fixed)
+      (ap₂ (λ (x y : ℕ). step op 1 0 true 0 x y past ∷ []) (operand_same a mark h.1.fixed) (operand_same b (mark + 1) h.2.fixed))
+
   condition_same : (c : Sized) (mark past : ℕ) → is_sized c l.widths ≡ true → Fixes (reads c) → condition (moved l f) c mark past ≡ condition l c mark past
   condition_same c mark past sized h =
-      two_same (put_same c mark sized h) (ap (λ k. step SkipIfZero 1 0 true 0 k 0 past ∷ []) (operand_same c mark h))
+      test_same (test_of c) mark past (asks IsFixed operands_fixed c (record { fits = and_right (agrees c) (fits_signals c l.widths) sized; fixed = h }))
 
   item_same : (x : SizedItem) (here mark : ℕ) → is_sized x.item l.widths ≡ true → Fixes (reads x.item) → item_code (moved l f) x here mark ≡ item_code l x here mark
   item_same x here mark sized h =
