@@ -7,19 +7,43 @@
 // `counts` are the entries against the rooms of the history (`settings`), `states` what a design makes of states.
 #![tactic(auto)]
 
+#[cfg(test)]
+mod adders;
+#[cfg(test)]
+mod carry_tests;
+#[cfg(test)]
+mod coming;
 mod counts;
 mod drawn;
+mod ending;
+#[cfg(test)]
+mod ending_tests;
+#[cfg(test)]
+mod given;
+#[cfg(test)]
+mod histories;
 mod links;
+#[cfg(test)]
+mod load_tests;
 mod mark;
+#[cfg(test)]
+mod mark_tests;
 mod own_state;
 mod reloading;
 mod replay;
 mod replaying;
+#[cfg(test)]
+mod room_tests;
 mod running;
 mod settings;
 mod states;
 #[cfg(test)]
 mod tests;
+#[cfg(test)]
+mod ticket_tests;
 mod truth;
+#[cfg(test)]
+mod truth_tests;
 
+pub use ending::is_over;
 pub use replaying::is_right;
