@@ -3,8 +3,8 @@ use crate::adders::Adder;
 use crate::coming::Coming;
 use crate::given::{Given, marks, right};
 use crate::histories::{
-    D, FIVE, Q, SESSION, WORKER, claim, first, given, install, open, opened, reload, run, show,
-    with,
+    D, FIVE, OTHER_D, Q, SESSION, WORKER, claim, first, given, install, open, opened, reload, run,
+    show, with,
 };
 use book_history::entry::Entry;
 use book_history::link::Link;
@@ -19,9 +19,7 @@ const OPEN: Link = Link::Open;
 
 const JOINED: Link = Link::Joined;
 
-// The number of the name of another input, and of another register.
-const OTHER_INPUT: u64 = 13;
-
+// The number of the name of another register.
 const OTHER_REGISTER: u64 = 11;
 
 // The second version, which adds 3 as the first one does, with these names.
@@ -62,17 +60,17 @@ fn changed_under_a_ticket(alloc: Global) -> Result<Vec<Entry>, NoMemory> {
 #[test]
 fn rows_that_set_inputs(rt: HostRuntime) -> Result<(), Fail> {
     let alloc = rt.alloc();
-    let loads = &[opened(3), second(Q, OTHER_INPUT)];
-    let table: &[(&[(u64, &[(u64, u128)])], bool)] = &[
-        (&[(2, &[(OTHER_INPUT, 1)]), (3, &[])], true),
-        (&[(1, &[]), (1, &[(OTHER_INPUT, 1)]), (3, &[])], true),
-        (&[(2, &[(D, 1)]), (3, &[])], true),
-        (&[(2, &[(D, 1), (OTHER_INPUT, 1)]), (3, &[])], false),
-        (&[(2, &[]), (2, &[(OTHER_INPUT, 1)]), (1, &[])], false),
+    let loads = &[opened(3), second(Q, OTHER_D)];
+    let table: &[(&[(u64, u128, u128)], bool)] = &[
+        (&[(2, 0, 1), (3, 0, 0)], true),
+        (&[(1, 0, 0), (1, 0, 1), (3, 0, 0)], true),
+        (&[(2, 1, 0), (3, 0, 0)], true),
+        (&[(2, 1, 1), (3, 0, 0)], false),
+        (&[(2, 0, 0), (2, 0, 1), (1, 0, 0)], false),
         (FIVE, false),
     ];
     for (rows, wanted) in table {
-        let given = given(2, loads, rows);
+        let given = given(alloc, 2, loads, rows)?;
         let entries = changed_under_a_ticket(alloc)?;
         assert_eq!(rt; right(&rt, alloc, &given, &entries)?, *wanted);
     }
@@ -83,9 +81,9 @@ fn rows_that_set_inputs(rt: HostRuntime) -> Result<(), Fail> {
 #[test]
 fn marks_under_inputs(rt: HostRuntime) -> Result<(), Fail> {
     let alloc = rt.alloc();
-    let loads = &[opened(3), second(Q, OTHER_INPUT)];
-    let rows: &[(u64, &[(u64, u128)])] = &[(2, &[(OTHER_INPUT, 1)]), (3, &[])];
-    let given = given(2, loads, rows);
+    let loads = &[opened(3), second(Q, OTHER_D)];
+    let rows: &[(u64, u128, u128)] = &[(2, 0, 1), (3, 0, 0)];
+    let given = given(alloc, 2, loads, rows)?;
     let table: &[(
         usize,
         (u64, Link, u128),
@@ -110,9 +108,9 @@ fn marks_under_inputs(rt: HostRuntime) -> Result<(), Fail> {
 #[test]
 fn wrong_under_inputs(rt: HostRuntime) -> Result<(), Fail> {
     let alloc = rt.alloc();
-    let loads = &[opened(3), second(Q, OTHER_INPUT)];
-    let rows: &[(u64, &[(u64, u128)])] = &[(2, &[(OTHER_INPUT, 1)]), (3, &[])];
-    let given = given(2, loads, rows);
+    let loads = &[opened(3), second(Q, OTHER_D)];
+    let rows: &[(u64, u128, u128)] = &[(2, 0, 1), (3, 0, 0)];
+    let given = given(alloc, 2, loads, rows)?;
     let table: &[(usize, Entry)] = &[
         (3, claim(1, 0, 4, SESSION)),
         (4, claim(2, 2, 5, WORKER)),
@@ -150,7 +148,7 @@ fn operated(alloc: Global, joined: bool, settled: Option<u64>) -> Result<Vec<Ent
 fn answers(
     rt: &impl Abort,
     alloc: Global,
-    given: &Given<'_>,
+    given: &Given,
     joined: bool,
     settled: Option<u64>,
 ) -> Result<bool, Fail> {
@@ -199,8 +197,8 @@ fn operations_that_take_effect(rt: HostRuntime) -> Result<(), Fail> {
         (&[], (0, 0, 3), false, Some(2)),
     ];
     for (ops, registers, joined, settled) in table {
-        let mut given = given(2, loads, FIVE);
-        given.ops = ops;
+        let mut given = given(alloc, 2, loads, FIVE)?;
+        given.ops = Vec::from_slice(alloc, ops)?;
         let made = marks(&rt, alloc, &given, &[open(), run(5), reload(2, 4)])?;
         let wanted = &[
             (0, JOINED, 0),

@@ -1,5 +1,6 @@
 // What histories of tests have beside their entries, and what the entries make of it.
 use crate::coming::{Coming, load};
+use crate::histories::{D, OTHER_D};
 use crate::mark::Mark;
 use crate::replaying::{are_right, replayed};
 use crate::settings::Settings;
@@ -18,46 +19,40 @@ use std::test::Fail;
 use stimulus::{Record, RecordRefusal, Row};
 use typed_ir::RegisterId;
 
-/// The settings, the versions, with the operations of each reload, and the rows: what is set, for so many cycles.
-#[derive(Clone, Copy)]
-pub struct Given<'a> {
+/// The settings, the versions, with the operations of each reload, and the rows: for so many cycles, the values of two inputs.
+#[derive(Drop)]
+pub struct Given {
     pub settings: Settings,
-    pub loads: &'a [Coming],
-    pub ops: &'a [RegOp],
-    pub rows: &'a [(u64, &'a [(u64, u128)])],
+    pub loads: Vec<Coming>,
+    pub ops: Vec<RegOp>,
+    pub rows: Vec<(u64, u128, u128)>,
 }
 
 fn loads_of(
     rt: &impl Abort,
     alloc: Global,
-    given: &Given<'_>,
+    given: &Given,
 ) -> Result<Vec<Load<Design, RegOps>>, NoMemory> {
     let mut loads = Vec::new(alloc);
-    for coming in given.loads {
-        loads.push(load(rt, alloc, *coming, given.ops)?)?;
+    for coming in &given.loads {
+        loads.push(load(rt, alloc, *coming, &given.ops)?)?;
     }
     Ok(loads)
-}
-
-// The row that sets these names to these values.
-fn row_of(alloc: Global, list: &[(u64, u128)]) -> Result<Row, NoMemory> {
-    let mut row = Row::new(alloc);
-    for (name, value) in list {
-        row.put(NameId(*name), *value)?;
-    }
-    Ok(row)
 }
 
 fn record_of(
     rt: &impl Abort,
     alloc: Global,
-    list: &[(u64, &[(u64, u128)])],
+    list: &[(u64, u128, u128)],
 ) -> Result<Record, RecordRefusal> {
     let mut record = Record::new(alloc, 1000);
-    for (cycles, values) in list {
+    for (cycles, value, other) in list {
         assert!(rt; 1 <= *cycles && *cycles <= 2000);
         assert!(rt; record.len() <= 2000);
-        record.append(Arc::new(alloc, row_of(alloc, values)?)?, *cycles)?;
+        let mut row = Row::new(alloc);
+        row.put(NameId(D), *value)?;
+        row.put(NameId(OTHER_D), *other)?;
+        record.append(Arc::new(alloc, row)?, *cycles)?;
     }
     Ok(record)
 }
@@ -66,7 +61,7 @@ fn record_of(
 pub fn rows_of(
     rt: &impl Abort,
     alloc: Global,
-    list: &[(u64, &[(u64, u128)])],
+    list: &[(u64, u128, u128)],
 ) -> Result<RowRuns<Row>, Fail> {
     let record = record_of(rt, alloc, list)?;
     let end = record.len();
@@ -77,11 +72,11 @@ pub fn rows_of(
 pub fn right(
     rt: &impl Abort,
     alloc: Global,
-    given: &Given<'_>,
+    given: &Given,
     entries: &[Entry],
 ) -> Result<bool, Fail> {
     let loads = loads_of(rt, alloc, given)?;
-    let rows = rows_of(rt, alloc, given.rows)?;
+    let rows = rows_of(rt, alloc, &given.rows)?;
     Ok(are_right(alloc, given.settings, entries, &loads, &rows)?)
 }
 
@@ -98,11 +93,11 @@ pub fn seen(mark: &Mark) -> (u64, Link, u128) {
 pub fn marks(
     rt: &impl Abort,
     alloc: Global,
-    given: &Given<'_>,
+    given: &Given,
     entries: &[Entry],
 ) -> Result<Vec<(u64, Link, u128)>, Fail> {
     let loads = loads_of(rt, alloc, given)?;
-    let rows = rows_of(rt, alloc, given.rows)?;
+    let rows = rows_of(rt, alloc, &given.rows)?;
     let mut list = Vec::new(alloc);
     if let Some(replay) = replayed(alloc, given.settings, entries, &loads, &rows)? {
         for mark in &replay.marks {

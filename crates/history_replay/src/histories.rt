@@ -20,13 +20,16 @@ pub const WORKER: Who = Who::Worker(1);
 
 pub const OTHER: Who = Who::Worker(2);
 
-/// The numbers of the names of the register and the input.
+/// The number of the register's name.
 pub const Q: u64 = 10;
 
+/// Those of the input's name, and of the name of another input.
 pub const D: u64 = 12;
 
-/// Rows of 5 cycles, which set nothing.
-pub const FIVE: &[(u64, &[(u64, u128)])] = &[(5, &[])];
+pub const OTHER_D: u64 = 13;
+
+/// Rows of five cycles, in which both inputs are 0.
+pub const FIVE: &[(u64, u128, u128)] = &[(5, 0, 0)];
 
 /// The first version, with an open.
 pub fn opened(add: u128) -> Coming {
@@ -55,21 +58,22 @@ pub fn reloaded(number: u64, add: u128) -> Coming {
 }
 
 /// These versions without operations, and these rows, with marks at each multiple of the interval and a lookback of 1.
-pub fn given<'a>(
+pub fn given(
+    alloc: Global,
     interval: u64,
-    loads: &'a [Coming],
-    rows: &'a [(u64, &'a [(u64, u128)])],
-) -> Given<'a> {
-    Given {
+    loads: &[Coming],
+    rows: &[(u64, u128, u128)],
+) -> Result<Given, NoMemory> {
+    Ok(Given {
         settings: Settings {
             interval,
             lookback: 1,
             rooms: ROOMS,
         },
-        loads,
-        ops: &[],
-        rows,
-    }
+        loads: Vec::from_slice(alloc, loads)?,
+        ops: Vec::new(alloc),
+        rows: Vec::from_slice(alloc, rows)?,
+    })
 }
 
 /// The entries, with another one at this place.

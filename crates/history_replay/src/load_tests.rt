@@ -31,7 +31,7 @@ fn opens(rt: HostRuntime) -> Result<(), Fail> {
         (&[reloaded(1, 3)], &[reload(1, 0)], false),
     ];
     for (loads, entries, wanted) in table {
-        let given = given(2, loads, &[]);
+        let given = given(alloc, 2, loads, &[])?;
         assert_eq!(rt; right(&rt, alloc, &given, entries)?, *wanted);
     }
     Ok(())
@@ -72,7 +72,7 @@ fn reloads(rt: HostRuntime) -> Result<(), Fail> {
         ),
     ];
     for (loads, entries, wanted) in table {
-        let given = given(2, loads, FIVE);
+        let given = given(alloc, 2, loads, FIVE)?;
         assert_eq!(rt; right(&rt, alloc, &given, entries)?, *wanted);
     }
     Ok(())
@@ -87,9 +87,9 @@ fn reloads_at_the_beginning(rt: HostRuntime) -> Result<(), Fail> {
         in_module: NameId(0),
         reg: NameId(99),
     }];
-    let mut given = given(2, loads, &[]);
+    let mut given = given(alloc, 2, loads, &[])?;
     assert!(rt; right(&rt, alloc, &given, &[open(), reload(2, 0)])?);
-    given.ops = delete;
+    given.ops = Vec::from_slice(alloc, delete)?;
     assert!(rt; !right(&rt, alloc, &given, &[open(), reload(2, 0)])?);
     Ok(())
 }
@@ -100,9 +100,9 @@ fn rows_and_loads_left(rt: HostRuntime) -> Result<(), Fail> {
     let alloc = rt.alloc();
     let one = opened(3);
     let two = reloaded(2, 4);
-    let none: &[(u64, &[(u64, u128)])] = &[];
-    let six: &[(u64, &[(u64, u128)])] = &[(6, &[])];
-    let table: &[(&[Coming], &[(u64, &[(u64, u128)])], &[Entry], bool)] = &[
+    let none: &[(u64, u128, u128)] = &[];
+    let six: &[(u64, u128, u128)] = &[(6, 0, 0)];
+    let table: &[(&[Coming], &[(u64, u128, u128)], &[Entry], bool)] = &[
         (&[one], FIVE, &[open(), run(5)], true),
         (&[one], FIVE, &[open(), run(3), run(2)], true),
         (&[one], six, &[open(), run(5)], false),
@@ -120,7 +120,7 @@ fn rows_and_loads_left(rt: HostRuntime) -> Result<(), Fail> {
         (&[], FIVE, &[], false),
     ];
     for (loads, rows, entries, wanted) in table {
-        let given = given(2, loads, rows);
+        let given = given(alloc, 2, loads, rows)?;
         assert_eq!(rt; right(&rt, alloc, &given, entries)?, *wanted);
     }
     Ok(())

@@ -19,7 +19,7 @@ const JOINED: Link = Link::Joined;
 fn make(
     rt: &impl Abort,
     alloc: Global,
-    given: &Given<'_>,
+    given: &Given,
     entries: &[Entry],
     wanted: &[(u64, Link, u128)],
 ) -> Result<bool, Fail> {
@@ -50,7 +50,7 @@ fn marks_of_installs(rt: HostRuntime) -> Result<(), Fail> {
     ];
     for (count, wanted) in table {
         let entries = first(alloc, &settled(alloc)?, *count)?;
-        assert!(rt; make(&rt, alloc, &given(2, loads, FIVE), &entries, wanted)?);
+        assert!(rt; make(&rt, alloc, &given(alloc, 2, loads, FIVE)?, &entries, wanted)?);
     }
     Ok(())
 }
@@ -80,7 +80,7 @@ fn marks_of_stale_results(rt: HostRuntime) -> Result<(), Fail> {
     ];
     for (count, wanted) in table {
         let entries = first(alloc, &stale(alloc)?, *count)?;
-        assert!(rt; make(&rt, alloc, &given(2, loads, FIVE), &entries, wanted)?);
+        assert!(rt; make(&rt, alloc, &given(alloc, 2, loads, FIVE)?, &entries, wanted)?);
     }
     Ok(())
 }
@@ -99,7 +99,7 @@ fn marks_of_reloads(rt: HostRuntime) -> Result<(), Fail> {
         (9, 0, &[(2, JOINED, 8), (4, JOINED, 16), (5, JOINED, 20)]),
     ];
     for (lookback, from, wanted) in table {
-        let mut given = given(2, loads, FIVE);
+        let mut given = given(alloc, 2, loads, FIVE)?;
         given.settings.lookback = *lookback;
         assert!(rt;
             make(
@@ -142,7 +142,7 @@ fn marks_of_runs(rt: HostRuntime) -> Result<(), Fail> {
         (9, &[(5, JOINED, 15), (8, JOINED, 24)]),
     ];
     for (interval, wanted) in table {
-        let given = given(*interval, loads, &[(8, &[])]);
+        let given = given(alloc, *interval, loads, &[(8, 0, 0)])?;
         assert!(rt; make(&rt, alloc, &given, &[open(), run(5), run(3)], wanted)?);
     }
     Ok(())
@@ -169,7 +169,7 @@ fn half_joined(alloc: Global) -> Result<Vec<Entry>, NoMemory> {
 fn marks_thinned(rt: HostRuntime) -> Result<(), Fail> {
     let alloc = rt.alloc();
     let loads = &[opened(3), reloaded(2, 4)];
-    let mut given = given(1, loads, &[(1024, &[])]);
+    let mut given = given(alloc, 1, loads, &[(1024, 0, 0)])?;
     given.settings.lookback = 2;
     assert!(rt; right(&rt, alloc, &given, &half_joined(alloc)?)?);
     let table: &[(usize, usize, usize, (u64, Link, u128))] = &[
@@ -209,7 +209,7 @@ fn links_thinned_away(rt: HostRuntime) -> Result<(), Fail> {
         install(2, false, WORKER),
         install(1, false, WORKER),
     ];
-    let given = given(1, loads, &[(1024, &[])]);
+    let given = given(alloc, 1, loads, &[(1024, 0, 0)])?;
     assert!(rt; right(&rt, alloc, &given, entries)?);
     for (at, ticket) in [(6, 2), (7, 1)] {
         let other = with(alloc, entries, at, install(ticket, true, WORKER))?;

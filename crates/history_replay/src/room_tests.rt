@@ -1,6 +1,6 @@
 // Entries in rooms that they just fit, and in rooms with one place less.
 use crate::coming::Coming;
-use crate::given::{Given, right};
+use crate::given::right;
 use crate::histories::{
     FIVE, SESSION, claim, first, given, open, opened, release, reload, reloaded, run, settled,
     stale,
@@ -20,7 +20,7 @@ fn fit(
     session: u32,
     workers: u32,
 ) -> Result<bool, Fail> {
-    let mut given: Given<'_> = given(2, loads, FIVE);
+    let mut given = given(alloc, 2, loads, FIVE)?;
     given.settings.rooms = Rooms { session, workers };
     right(rt, alloc, &given, entries)
 }

@@ -65,10 +65,24 @@ fn right_histories(rt: HostRuntime) -> Result<(), Fail> {
     let alloc = rt.alloc();
     let loads = &[opened(3), reloaded(2, 4), reloaded(3, 5)];
     let two = &[opened(3), reloaded(2, 4)];
-    assert!(rt; right(&rt, alloc, &given(2, two, FIVE), &settled(alloc)?)?);
-    assert!(rt; right(&rt, alloc, &given(2, loads, FIVE), &stale(alloc)?)?);
-    assert!(rt; right(&rt, alloc, &given(1, two, &[(1024, &[])]), &thinned(alloc)?)?);
-    assert!(rt; right(&rt, alloc, &given(1, two, &[(1100, &[])]), &long(alloc)?)?);
+    assert!(rt; right(&rt, alloc, &given(alloc, 2, two, FIVE)?, &settled(alloc)?)?);
+    assert!(rt; right(&rt, alloc, &given(alloc, 2, loads, FIVE)?, &stale(alloc)?)?);
+    assert!(rt;
+        right(
+            &rt,
+            alloc,
+            &given(alloc, 1, two, &[(1024, 0, 0)])?,
+            &thinned(alloc)?
+        )?
+    );
+    assert!(rt;
+        right(
+            &rt,
+            alloc,
+            &given(alloc, 1, two, &[(1100, 0, 0)])?,
+            &long(alloc)?
+        )?
+    );
     Ok(())
 }
 
@@ -109,7 +123,7 @@ fn wrong_entries(rt: HostRuntime) -> Result<(), Fail> {
     ];
     for (at, entry) in table {
         let entries = with(alloc, &settled(alloc)?, *at, *entry)?;
-        assert!(rt; !right(&rt, alloc, &given(2, loads, FIVE), &entries)?);
+        assert!(rt; !right(&rt, alloc, &given(alloc, 2, loads, FIVE)?, &entries)?);
     }
     Ok(())
 }
@@ -123,20 +137,41 @@ fn wrong_answers(rt: HostRuntime) -> Result<(), Fail> {
     for at in [5, 9] {
         let ticket = if at == 5 { 1 } else { 3 };
         let entries = with(alloc, &stale(alloc)?, at, install(ticket, true, WORKER))?;
-        assert!(rt; !right(&rt, alloc, &given(2, loads, FIVE), &entries)?);
+        assert!(rt; !right(&rt, alloc, &given(alloc, 2, loads, FIVE)?, &entries)?);
     }
     let entries = with(alloc, &thinned(alloc)?, 6, claim(2, 0, 1, WORKER))?;
-    assert!(rt; !right(&rt, alloc, &given(1, two, &[(1024, &[])]), &entries)?);
+    assert!(rt;
+        !right(
+            &rt,
+            alloc,
+            &given(alloc, 1, two, &[(1024, 0, 0)])?,
+            &entries
+        )?
+    );
     let entries = with(alloc, &thinned(alloc)?, 7, install(1, true, WORKER))?;
-    assert!(rt; !right(&rt, alloc, &given(1, two, &[(1024, &[])]), &entries)?);
+    assert!(rt;
+        !right(
+            &rt,
+            alloc,
+            &given(alloc, 1, two, &[(1024, 0, 0)])?,
+            &entries
+        )?
+    );
     let entries = with(alloc, &long(alloc)?, 2, show(Some(0)))?;
-    assert!(rt; !right(&rt, alloc, &given(1, two, &[(1100, &[])]), &entries)?);
+    assert!(rt;
+        !right(
+            &rt,
+            alloc,
+            &given(alloc, 1, two, &[(1100, 0, 0)])?,
+            &entries
+        )?
+    );
     let delete = &[RegOp::Delete {
         in_module: NameId(0),
         reg: NameId(99),
     }];
-    let mut without = given(2, two, FIVE);
-    without.ops = delete;
+    let mut without = given(alloc, 2, two, FIVE)?;
+    without.ops = Vec::from_slice(alloc, delete)?;
     assert!(rt; !right(&rt, alloc, &without, &settled(alloc)?)?);
     Ok(())
 }

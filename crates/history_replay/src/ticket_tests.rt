@@ -16,7 +16,7 @@ fn right_behind(rt: &impl Abort, alloc: Global, entries: &[Entry]) -> Result<boo
     let loads = &[opened(3), reloaded(2, 4)];
     let mut all = vec![in alloc; open(), run(5), reload(2, 4)]?;
     all.extend_from_slice(entries)?;
-    right(rt, alloc, &given(2, loads, FIVE), &all)
+    right(rt, alloc, &given(alloc, 2, loads, FIVE)?, &all)
 }
 
 // The claims of the two open links.
