@@ -55,8 +55,8 @@ fn changed_under_a_ticket(alloc: Global) -> Result<Vec<Entry>, NoMemory> {
     ]?)
 }
 
-// The second version reads another input. Where rows set what one version alone reads in the first two cycles, all entries are right; where they don't, the first
-// result is that of the mark, and the second ticket is current.
+// The second version reads another input. Where rows set what one version alone reads in the first two cycles, all entries are right; where they don't,
+// the first result is that of the mark, and the second ticket is current.
 #[test]
 fn rows_that_set_inputs(rt: HostRuntime) -> Result<(), Fail> {
     let alloc = rt.alloc();
@@ -174,8 +174,8 @@ fn answers(
     right(rt, alloc, given, &entries)
 }
 
-// The second version has a register of another name in place of the first one's. It goes on from it, begins at 6, or begins at 0: the marks at 2 and 4 behind the
-// reload and the one at 5, of 3 more. The results are 6 and 12: the first one leaves the mark as it is where that has 6.
+// The second version has a register of another name in place of the first one's. It goes on from it, begins at 6, or begins at 0: the marks at 2 and 4
+// behind the reload and the one at 5, of 3 more. The results are 6 and 12: the first one leaves the mark as it is where that has 6.
 #[test]
 fn operations_that_take_effect(rt: HostRuntime) -> Result<(), Fail> {
     let alloc = rt.alloc();

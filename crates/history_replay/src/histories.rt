@@ -169,8 +169,8 @@ pub fn stale(alloc: Global) -> Result<Vec<Entry>, NoMemory> {
     ]?)
 }
 
-/// 1,024 marks, and one more: every other one is taken out, and with it the link of the first ticket. Later the session takes the link that a worker has, and both
-/// results join.
+/// 1,024 marks, and one more: every other one is taken out, and with it the link of the first ticket. Later the session takes the link that a worker
+/// has, and both results join.
 pub fn thinned(alloc: Global) -> Result<Vec<Entry>, NoMemory> {
     Ok(vec![in alloc;
         open(),

@@ -128,7 +128,7 @@ fn wrong_entries(rt: HostRuntime) -> Result<(), Fail> {
     Ok(())
 }
 
-// Installs that are told as joined and aren't, a link that thinning took out, and operations that don't hold.
+// Installs that are told as joined and aren't, and a link that thinning took out.
 #[test]
 fn wrong_answers(rt: HostRuntime) -> Result<(), Fail> {
     let alloc = rt.alloc();
@@ -166,11 +166,19 @@ fn wrong_answers(rt: HostRuntime) -> Result<(), Fail> {
             &entries
         )?
     );
+    Ok(())
+}
+
+// Operations of which one drops a register that isn't there.
+#[test]
+fn wrong_operations(rt: HostRuntime) -> Result<(), Fail> {
+    let alloc = rt.alloc();
+    let loads = &[opened(3), reloaded(2, 4)];
     let delete = &[RegOp::Delete {
         in_module: NameId(0),
         reg: NameId(99),
     }];
-    let mut without = given(alloc, 2, two, FIVE)?;
+    let mut without = given(alloc, 2, loads, FIVE)?;
     without.ops = Vec::from_slice(alloc, delete)?;
     assert!(rt; !right(&rt, alloc, &without, &settled(alloc)?)?);
     Ok(())

@@ -83,40 +83,27 @@ fn ends(rt: HostRuntime) -> Result<(), Fail> {
 #[test]
 fn claims(rt: HostRuntime) -> Result<(), Fail> {
     let alloc = rt.alloc();
+    let own = low(1, SESSION);
+    let one = low(1, WORKER);
+    let two = high(2, OTHER);
+    let one_freed = release(1, WORKER);
+    let two_freed = release(2, OTHER);
     let table: &[(&[Entry], bool)] = &[
-        (&[low(1, SESSION), low(2, WORKER)], false),
-        (&[low(1, SESSION), high(2, WORKER)], true),
-        (&[low(1, SESSION), low(2, SESSION)], true),
-        (&[low(1, SESSION), high(2, SESSION)], false),
-        (&[low(1, WORKER), low(2, OTHER)], false),
-        (&[low(1, WORKER), high(2, OTHER)], true),
-        (&[low(1, WORKER), low(2, SESSION)], true),
-        (&[low(1, WORKER), high(2, WORKER), low(3, OTHER)], false),
-        (
-            &[low(1, WORKER), high(2, WORKER), claim(3, 4, 5, OTHER)],
-            false,
-        ),
-        (&[low(1, WORKER), high(2, WORKER), low(3, SESSION)], true),
-        (&[low(1, WORKER), release(1, WORKER), low(2, OTHER)], true),
-        (&[low(1, WORKER), release(1, WORKER), high(2, OTHER)], false),
-        (
-            &[
-                low(1, WORKER),
-                high(2, OTHER),
-                release(2, OTHER),
-                high(3, WORKER),
-            ],
-            true,
-        ),
-        (
-            &[
-                low(1, WORKER),
-                high(2, OTHER),
-                release(2, OTHER),
-                low(3, WORKER),
-            ],
-            false,
-        ),
+        (&[own, low(2, WORKER)], false),
+        (&[own, high(2, WORKER)], true),
+        (&[own, low(2, SESSION)], true),
+        (&[own, high(2, SESSION)], false),
+        (&[one, low(2, OTHER)], false),
+        (&[one, two], true),
+        (&[one, low(2, SESSION)], true),
+        (&[one, high(2, SESSION)], false),
+        (&[one, two, low(3, OTHER)], false),
+        (&[one, two, claim(3, 4, 5, OTHER)], false),
+        (&[one, two, low(3, SESSION)], true),
+        (&[one, one_freed, low(2, OTHER)], true),
+        (&[one, one_freed, high(2, OTHER)], false),
+        (&[one, two, two_freed, high(3, WORKER)], true),
+        (&[one, two, two_freed, low(3, WORKER)], false),
     ];
     for (entries, wanted) in table {
         assert_eq!(rt; right_behind(&rt, alloc, entries)?, *wanted);
