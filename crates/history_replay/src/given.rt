@@ -80,7 +80,7 @@ pub fn right(
     Ok(are_right(alloc, given.settings, entries, &loads, &rows)?)
 }
 
-/// The cycle of a mark, the link that leads to it, and the register.
+/// The cycle of a mark, the link that leads to it, and the register, 256 where there is none.
 pub fn seen(mark: &Mark) -> (u64, Link, u128) {
     if mark.own.state.is_empty() {
         return (mark.cycle, mark.link, 256);
@@ -89,7 +89,7 @@ pub fn seen(mark: &Mark) -> (u64, Link, u128) {
     (mark.cycle, mark.link, register.value())
 }
 
-/// The marks that these entries make of what is given; none where one isn't right where it stands.
+/// The marks that these entries make of what is given; no mark where one of them isn't right where it stands.
 pub fn marks(
     rt: &impl Abort,
     alloc: Global,
