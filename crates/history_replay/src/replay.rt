@@ -26,7 +26,7 @@ pub struct Replay {
     counts: Counts,
     version: u64,
     cycle: u64,
-    marks: Vec<Mark>,
+    pub marks: Vec<Mark>,
     tickets: Vec<Drawn>,
     loaded: usize,
 }

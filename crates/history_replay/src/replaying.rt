@@ -11,6 +11,23 @@ use reg_ops::RegOps;
 use std::alloc::Global;
 use stimulus::Row;
 
+/// What these entries make of a book, with these versions and rows; none where one of them isn't right where it stands.
+pub(crate) fn replayed(
+    alloc: Global,
+    settings: Settings,
+    entries: &[Entry],
+    loads: &[Load<Design, RegOps>],
+    rows: &RowRuns<Row>,
+) -> Result<Option<Replay>, NoMemory> {
+    let mut replay = Replay::new(alloc, settings);
+    for entry in entries {
+        if !replay.take(alloc, *entry, loads, rows)? {
+            return Ok(None);
+        }
+    }
+    Ok(Some(replay))
+}
+
 /// Whether these entries are right with these versions and rows, each where it stands, and nothing is left of them.
 pub(crate) fn are_right(
     alloc: Global,
@@ -19,13 +36,10 @@ pub(crate) fn are_right(
     loads: &[Load<Design, RegOps>],
     rows: &RowRuns<Row>,
 ) -> Result<bool, NoMemory> {
-    let mut replay = Replay::new(alloc, settings);
-    for entry in entries {
-        if !replay.take(alloc, *entry, loads, rows)? {
-            return Ok(false);
-        }
+    match replayed(alloc, settings, entries, loads, rows)? {
+        Some(replay) => Ok(replay.is_whole(loads, rows)),
+        None => Ok(false),
     }
-    Ok(replay.is_whole(loads, rows))
 }
 
 /// Whether each entry of a history stands right where it stands, with each answer that it tells, and each joined link is true behind every entry. The

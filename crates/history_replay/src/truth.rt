@@ -1,4 +1,5 @@
-// Whether joined links are true: the design leads from the one mark to the other.
+// Whether joined links are true: the design leads from the one mark to the other. It is a check of the replay itself, which right entries can't fail:
+// they join a link only by the state that the design leads to, and open it where the mark before it changes.
 use crate::mark::Mark;
 use crate::states::{advanced, same};
 use book_history::link::Link;
@@ -27,7 +28,7 @@ fn is_true_at(
     Ok(is_true)
 }
 
-/// Whether each joined link is true.
+/// Whether each joined link leads from the one mark to the other.
 pub fn are_true(alloc: Global, marks: &mut [Mark], rows: &RowRuns<Row>) -> Result<bool, NoMemory> {
     for at in 1..marks.len() {
         if !is_true_at(alloc, marks, at, rows)? {
