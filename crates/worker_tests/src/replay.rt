@@ -117,10 +117,7 @@ impl Replay {
                 };
                 let number = self.tickets.len() as u64 + 1;
                 let room = self.tickets.push(drawn).is_ok();
-                return room
-                    && ticket == number
-                    && a == link as u64
-                    && b == link as u64 + 1;
+                return room && ticket == number && a == link as u64 && b == link as u64 + 1;
             }
         }
         false
