@@ -1,12 +1,11 @@
 // Edits beside workers. The assertions are the same whatever the schedule.
 use crate::counting::{claims, tickets};
-use crate::first_gate::FirstGate;
 use crate::held::Held;
 use crate::install_gate::InstallGate;
 use crate::outcome::right;
 use crate::ran::Ran;
 use crate::replay::Replay;
-use crate::running::{ran, ran_before, replayed};
+use crate::running::{ran, ran_before, ran_held, replayed};
 use crate::scripts::{
     AGAIN, AGAIN_LINES, EDIT, EDIT_LINES, OPEN, OPEN_LINES, RUN, RUN_LINES, joined, many_added,
     many_edits,
@@ -66,19 +65,15 @@ fn sixty_four_workers_beside_three_hundred_edits(rt: HostRuntime) -> Result<(), 
     let more = joined(alloc, &[&others, b"settle\nshow\n"])?;
     let whole = joined(alloc, &[&begin, &more])?;
     let alone = ran(&rt, alloc, "--workers 0", whole, &OpenGate)?;
-    let holding = HoldingGate::new(2);
-    let gate = FirstGate {
-        holding: &holding,
-        most: 3,
-    };
+    let gate = HoldingGate::new(2);
     let then = Held {
         script: more.as_slice(),
         at: b"ok edit v=151 ",
         read: NEVER,
         write: NEVER,
     };
-    let beside = ran_before(&rt, alloc, "--workers 64", begin, &then, &holding, &gate)?;
-    assert!(rt; holding.has_let_go());
+    let beside = ran_held(&rt, alloc, "--workers 64", begin, &then, &gate)?;
+    assert!(rt; gate.has_let_go());
     ends_right(&rt, alloc, &alone)?;
     let replay = ends_right(&rt, alloc, &beside)?;
     assert!(rt; alone.lines.as_slice() == beside.lines.as_slice());

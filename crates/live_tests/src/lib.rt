@@ -2,7 +2,7 @@
 //
 // `scripts` are what is run, `running` runs it and `ran` is what comes of it, of which `outcome` asks what each test asks, and `counting` tells who did
 // what. `asking_source` and `watched_sink` ask until a display is settled; `held_source` and `held_sink` go on as a gate holds workers, by `held`,
-// `passing_gate` has one ticket let others go, `install_gate` holds them later, and `first_gate` lets those behind go on at once.
+// `passing_gate` has one ticket let others go, and `install_gate` holds them later.
 // `replay`, `mark` and `drawn` take the history that is left, entry by entry.
 #![tactic(auto)]
 
@@ -16,8 +16,6 @@ mod drawn;
 mod edit_tests;
 #[cfg(test)]
 mod ending_tests;
-#[cfg(test)]
-mod first_gate;
 #[cfg(test)]
 mod held;
 #[cfg(test)]
