@@ -1,12 +1,16 @@
 // Edits beside workers. The assertions are the same whatever the schedule.
+use crate::counting::{claims, tickets};
 use crate::held::Held;
 use crate::install_gate::InstallGate;
 use crate::outcome::right;
-use crate::running::{ran, ran_before, replayed};
+use crate::ran::Ran;
+use crate::replay::Replay;
+use crate::running::{ran, ran_before, ran_held, replayed};
 use crate::scripts::{
     AGAIN, AGAIN_LINES, EDIT, EDIT_LINES, OPEN, OPEN_LINES, RUN, RUN_LINES, joined, many_added,
     many_edits,
 };
+use book_history::who::Who;
 use ls_port::{Gate, OpenGate};
 use std::alloc::Global;
 use std::process::Abort;
@@ -18,6 +22,9 @@ use test_gates::HoldingGate;
 /// How many edits the longest script has.
 const EDITS: u32 = 300;
 
+/// The number of a read or a write that no run comes to.
+const NEVER: u64 = 1000000;
+
 /// A digit of a register.
 fn digit(value: u8) -> u8 {
     let digit = value % 16;
@@ -28,34 +35,51 @@ fn digit(value: u8) -> u8 {
     }
 }
 
-/// The longest script under these words ends with the settled display of the register that the plain replay has.
-fn edit_often<R: Threads + Wait + Sync + Abort>(
-    rt: &R,
-    alloc: Global,
-    given: &str,
-) -> Result<u8, Fail> {
-    let ran = ran(rt, alloc, given, many_edits(alloc, EDITS)?, &OpenGate)?;
-    let Some(replay) = replayed(alloc, &ran, many_added(alloc, EDITS)?)? else {
+/// A run of the longest script ends with the settled display of the register that the plain replay has.
+fn ends_right<R: Abort>(rt: &R, alloc: Global, ran: &Ran) -> Result<Replay, Fail> {
+    let Some(replay) = replayed(alloc, ran, many_added(alloc, EDITS)?)? else {
         return Err("the history isn't right")?;
     };
     let acc = replay.acc();
     let register = [digit(acc / 16), digit(acc), b'\n'];
     let display = joined(
         alloc,
-        &[b"show cycle=65 settled v=301\ntop.acc ", &register],
+        &[
+            b"settled cycle=65 v=301\nshow cycle=65 settled v=301\ntop.acc ",
+            &register,
+        ],
     )?;
     assert_eq!(rt; ran.status, 0);
     assert!(rt; ran.lines.ends_with(&display));
     assert_eq!(rt; (replay.settled_to(), replay.is_over()), (None, true));
-    Ok(acc)
+    Ok(replay)
 }
 
+// Two workers hold tickets 1 and 2, of version 2, until half of the edits are answered, by when another has drawn ticket 3. No line depends on them.
 #[test]
 fn sixty_four_workers_beside_three_hundred_edits(rt: HostRuntime) -> Result<(), Fail> {
     let alloc = rt.alloc();
-    let alone = edit_often(&rt, alloc, "--workers 0")?;
-    let beside = edit_often(&rt, alloc, "--workers 64")?;
-    assert_eq!(rt; alone, beside);
+    let first = many_edits(alloc, 0, 1)?;
+    let others = many_edits(alloc, 1, EDITS)?;
+    let begin = joined(alloc, &[OPEN, RUN, &first])?;
+    let more = joined(alloc, &[&others, b"settle\nshow\n"])?;
+    let whole = joined(alloc, &[&begin, &more])?;
+    let alone = ran(&rt, alloc, "--workers 0", whole, &OpenGate)?;
+    let gate = HoldingGate::new(2);
+    let then = Held {
+        script: more.as_slice(),
+        at: b"ok edit v=151 ",
+        read: NEVER,
+        write: NEVER,
+    };
+    let beside = ran_held(&rt, alloc, "--workers 64", begin, &then, &gate)?;
+    assert!(rt; gate.has_let_go());
+    ends_right(&rt, alloc, &alone)?;
+    let replay = ends_right(&rt, alloc, &beside)?;
+    assert!(rt; alone.lines.as_slice() == beside.lines.as_slice());
+    assert!(rt; replay.older() >= 2);
+    let of_session = claims(&beside.entries, Who::Session);
+    assert!(rt; tickets(&beside.entries) >= of_session.saturating_add(3));
     Ok(())
 }
 

@@ -53,10 +53,10 @@ fn added(n: u32) -> u8
     (n % 7) as u8
 }
 
-/// A run, then so many edits, with another input and a cycle more behind each fifth one, and then a settled display.
-pub fn many_edits(alloc: Global, edits: u32) -> Result<Vec<u8>, NoMemory> {
-    let mut script = joined(alloc, &[OPEN, RUN])?;
-    for n in 0..edits {
+/// The many edits from this number to before that one, with another input and a cycle more behind each fifth one.
+pub fn many_edits(alloc: Global, from: u32, to: u32) -> Result<Vec<u8>, NoMemory> {
+    let mut script = Vec::new(alloc);
+    for n in from..to {
         script.extend_from_slice(
             b"edit\nfile a.v\nmodule top(input clk, input [7:0] d, output [7:0] q);\nreg [7:0] acc;\nalways @(posedge clk) acc <= acc + d + 8'd",
         )?;
@@ -68,11 +68,10 @@ pub fn many_edits(alloc: Global, edits: u32) -> Result<Vec<u8>, NoMemory> {
             script.extend_from_slice(b"\nrun 1\n")?;
         }
     }
-    script.extend_from_slice(b"settle\nshow\n")?;
     Ok(script)
 }
 
-/// What each version of that script adds beside the input.
+/// What each version adds beside the input, up to behind so many of these edits.
 pub fn many_added(alloc: Global, edits: u32) -> Result<Vec<u8>, NoMemory> {
     let mut adds = vec![in alloc; 0u8]?;
     for n in 0..edits {

@@ -1,7 +1,7 @@
 // Tests of workers in threads beside a session, in a crate of their own, since a crate with tests is proved twice.
 //
-// `asking` and `reloading` are work of a session; `watched` sees where workers are, beside the gates of `test_gates`; `replay` and
-// `drawn` take the history that is left, entry by entry.
+// `asking`, `reloading` and `settling` are work of a session; `watched` sees where threads are, by `watch`, beside the gates of
+// `test_gates`; `replay` and `drawn` take the history that is left, entry by entry.
 #![tactic(auto)]
 
 #[cfg(test)]
@@ -13,6 +13,10 @@ mod reloading;
 #[cfg(test)]
 mod replay;
 #[cfg(test)]
+mod settling;
+#[cfg(test)]
 mod tests;
+#[cfg(test)]
+mod watch;
 #[cfg(test)]
 mod watched;

@@ -102,10 +102,11 @@ impl Replay {
         right
     }
 
-    /// The first open link is out with a new ticket of a worker.
+    /// The first link that this one takes is out with a new ticket: a worker takes an open one, the session one that isn't joined.
     fn claim(&mut self, ticket: u64, a: u64, b: u64, by: Who) -> bool {
         for link in 0..8 {
-            if self.links[link] == Link::Open {
+            let now = self.links[link];
+            if now == Link::Open || (by == Who::Session && now != Link::Joined) {
                 self.links[link] = Link::Out(ticket);
                 let drawn = Drawn {
                     version: self.version,
@@ -116,11 +117,7 @@ impl Replay {
                 };
                 let number = self.tickets.len() as u64 + 1;
                 let room = self.tickets.push(drawn).is_ok();
-                return room
-                    && by != Who::Session
-                    && ticket == number
-                    && a == link as u64
-                    && b == link as u64 + 1;
+                return room && ticket == number && a == link as u64 && b == link as u64 + 1;
             }
         }
         false

@@ -7,13 +7,17 @@ ghost use Rattle.checkpoint_book.specs.Views.{counts_of};
 use crate::asking::Asking;
 use crate::reloading::{Reloading, numbered, reload_next};
 use crate::replay::Replay;
+use crate::settling::Settling;
+use crate::watch::Watch;
 use crate::watched::WatchedMachine;
 use book_history::entry::Entry;
 use book_history::history::History;
 use book_history::rooms::Rooms;
 use book_history::version::Version;
+use book_history::who::Who;
 use book_turn::Turn;
 use checkpoint_book::book::Book;
+use checkpoint_book::shown::Shown;
 use ls_port::{Gate, GateStep, OpenGate};
 use machine::Machine;
 use machine::row_run::RowRun;
@@ -28,7 +32,7 @@ use std::sync::ledger::{Blank, Ledger};
 use std::sync::{Arc, Wait};
 use std::test::Fail;
 use std::thread::Threads;
-use test_gates::{Meeting, MeetingGate, NotingGate};
+use test_gates::{HoldingGate, Meeting, MeetingGate, NotingGate};
 use worker_scope::{SessionWork, Worked, with_workers};
 
 /// How often a session asks at most.
@@ -263,15 +267,11 @@ fn a_ticket_waits_at_verify_for_that_of_another_worker(rt: HostRuntime) -> Resul
 fn watched(
     alloc: Global,
     number: u64,
-    refuses: bool,
-    meeting: Option<Arc<Meeting, Global>>,
+    watch: Watch,
 ) -> Result<Arc<Version<WatchedMachine>, Global>, NoMemory>
     ensures { IfOk result (λ v. v.value.number ≡ number) }
 {
-    let machine = Arc::new(
-        alloc,
-        WatchedMachine::new(number.wrapping_add(2), refuses, meeting),
-    )?;
+    let machine = Arc::new(alloc, WatchedMachine::new(number.wrapping_add(2), watch))?;
     Ok(Arc::new(alloc, Version { number, machine })?)
 }
 
@@ -279,8 +279,7 @@ fn watched(
 fn watch_next<L: Ledger>(
     book: &mut Book<WatchedMachine>,
     alloc: Global,
-    refuses: bool,
-    meeting: Option<Arc<Meeting, Global>>,
+    watch: Watch,
     steps: &mut Steps<L>,
 ) -> Result<(), Fail>
     requires { (counts_of book.old).closed ≡ false }
@@ -289,15 +288,14 @@ fn watch_next<L: Ledger>(
     if book.version() != 1 || book.session_room() == 0 {
         return Err("no reload")?;
     }
-    book.reload(watched(alloc, 2, refuses, meeting)?, (), steps)?;
+    book.reload(watched(alloc, 2, watch)?, (), steps)?;
     Ok(())
 }
 
 /// Eight cycles under a machine that adds 3, and a reload with one that adds 4 and is watched so.
 fn edited_and_watched<L: Ledger>(
     alloc: Global,
-    refuses: bool,
-    meeting: Option<Arc<Meeting, Global>>,
+    watch: Watch,
     blank: Blank,
 ) -> Result<Box<Book<WatchedMachine>>, Fail>
     requires name { blank.name ≡ L.name }
@@ -308,9 +306,9 @@ fn edited_and_watched<L: Ledger>(
     let mut steps = Steps::<L>::start(blank);
     let mut boxed = Book::<WatchedMachine>::new(alloc, 1, 1, ROOMS)?;
     let book: &mut Book<WatchedMachine> = &mut boxed;
-    begin(book, watched(alloc, 1, false, None)?)?;
+    begin(book, watched(alloc, 1, Watch::Nothing)?)?;
     run_eight(book, alloc, 0, &mut steps)?;
-    watch_next(book, alloc, refuses, meeting, &mut steps)?;
+    watch_next(book, alloc, watch, &mut steps)?;
     Ok(boxed)
 }
 
@@ -321,8 +319,8 @@ fn verify_together<R: Threads + Wait + Sync + Abort>(
     workers: u16,
 ) -> Result<(), Fail> {
     let meeting = Arc::new(alloc, Meeting::new())?;
-    let watch = Some(Arc::try_clone(&meeting)?);
-    let book = edited_and_watched::<Brand>(alloc, false, watch, Blank::new(1))?;
+    let watch = Watch::Meets(Arc::try_clone(&meeting)?);
+    let book = edited_and_watched::<Brand>(alloc, watch, Blank::new(1))?;
     let (book, settled) = beside(rt, alloc, book, workers, &OpenGate, Asking { times: TIMES })?;
     assert!(rt; settled);
     assert_eq!(rt; *last(&book)?, 32);
@@ -354,7 +352,7 @@ fn releases<M: Machine>(history: &History<M>) -> usize {
 #[test]
 fn a_worker_gives_a_ticket_up_at_want_of_memory(rt: HostRuntime) -> Result<(), Fail> {
     let alloc = rt.alloc();
-    let book = edited_and_watched::<Brand>(alloc, true, None, Blank::new(1))?;
+    let book = edited_and_watched::<Brand>(alloc, Watch::refuses_once(), Blank::new(1))?;
     let gate = NotingGate::new();
     let (book, settled) = beside(&rt, alloc, book, 2, &gate, Asking { times: TIMES })?;
     assert!(rt; settled);
@@ -365,5 +363,38 @@ fn a_worker_gives_a_ticket_up_at_want_of_memory(rt: HostRuntime) -> Result<(), F
     assert_eq!(rt; (releases(&history), installs(&history, 1)), (1, 0));
     // Its release was asked for at the gate as an install is.
     assert!(rt; gate.noted(1) && !gate.mixed_up());
+    Ok(())
+}
+
+/// Whether this ticket was drawn by that one.
+fn drew<M: Machine>(history: &History<M>, number: u64, who: Who) -> bool {
+    history.entries().iter().any(
+        |entry| matches!(entry, Entry::Claim { ticket, by, .. } if *ticket == number && *by == who),
+    )
+}
+
+// The worker holds ticket 1 until the machine runs for ticket 2, the session's, and that run waits until the worker has handed in the one
+// and drawn ticket 3: so the session hasn't the book as it verifies.
+#[test]
+fn others_have_the_book_as_the_session_verifies(rt: HostRuntime) -> Result<(), Fail> {
+    let alloc = rt.alloc();
+    let holding = Arc::new(alloc, HoldingGate::new(1))?;
+    let watch = Watch::LetsGo(Arc::try_clone(&holding)?);
+    let book = edited_and_watched::<Brand>(alloc, watch, Blank::new(1))?;
+    let session = Settling {
+        alloc,
+        passes: 8,
+        holding: Arc::try_clone(&holding)?,
+    };
+    let gate: &HoldingGate = &*holding;
+    let (book, shown) = beside(&rt, alloc, book, 1, gate, session)?;
+    assert_eq!(rt; shown, Some(Shown::Settled));
+    assert_eq!(rt; *last(&book)?, 32);
+    let history = Book::into_history(book);
+    assert!(rt; is_right(alloc, &history));
+    assert!(rt; holding.has_let_go());
+    assert!(rt; drew(&history, 1, Who::Worker(0)));
+    assert!(rt; drew(&history, 2, Who::Session));
+    assert!(rt; drew(&history, 3, Who::Worker(0)));
     Ok(())
 }

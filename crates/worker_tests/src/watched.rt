@@ -3,43 +3,28 @@ ghost use Rattle.std.specs.Prelude.{◌≡◌, ℕ, List, [], ◌++◌, Bool, tr
 ghost use Rattle.machine.specs.Tally.{tally_after};
 ghost use Rattle.machine.specs.TallyLaws.{tally_more, eqb_is};
 
+use crate::watch::Watch;
 use machine::Machine;
 use machine::row_runs::RowRuns;
 use machine::steps::Steps;
 use machine::tally::TallyMachine;
 use no_memory::NoMemory;
 use std::alloc::Global;
-use std::sync::Arc;
-use std::sync::atomic::{AtomicBool, Ordering};
 use std::sync::ledger::Ledger;
-use test_gates::Meeting;
 
-/// The machine that adds. Where `refuses` is set, it answers want of memory once, at a run from cycle 0. Where there is a
-/// meeting, a run from one of the cycles 0 to 6 reaches it.
+/// The machine that adds, whose runs are watched so.
 #[derive(Drop)]
 pub struct WatchedMachine {
     adds: TallyMachine,
-    refuses: AtomicBool,
-    meeting: Option<Arc<Meeting, Global>>,
+    watch: Watch,
 }
 
 impl WatchedMachine {
     /// The machine that adds so much.
-    pub fn new(add: u64, refuses: bool, meeting: Option<Arc<Meeting, Global>>) -> WatchedMachine {
+    pub fn new(add: u64, watch: Watch) -> WatchedMachine {
         WatchedMachine {
             adds: TallyMachine { add },
-            refuses: AtomicBool::new(refuses),
-            meeting,
-        }
-    }
-
-    /// Where a run begins.
-    fn begin(&self, cycle: u64) {
-        if cycle > 6 {
-            return;
-        }
-        if let Some(meeting) = &self.meeting {
-            meeting.reach(cycle + 1);
+            watch,
         }
     }
 }
@@ -72,10 +57,9 @@ impl Machine for WatchedMachine {
         b: u64,
         steps: &mut Steps<L>,
     ) -> Result<u64, NoMemory> {
-        if a == 0 && self.refuses.swap(false, Ordering::SeqCst) {
+        if !self.watch.begin(a) {
             return Err(NoMemory);
         }
-        self.begin(a);
         self.adds.advance(alloc, rows, from, a, b, steps)
     }
 
