@@ -55,9 +55,8 @@ fn told_by_entries(alloc: Global, entries: &[Entry]) -> Result<Vec<Told>, NoMemo
     Ok(all)
 }
 
-/// What is wrong with the history that comes back of a run that wrote these lines; none where a plain replay finds it right, it is over, and it tells of each
-/// display and each settle what the line tells. The error is want of memory.
-pub fn fault_of(
+// What is wrong with the history of a run that wrote these lines.
+fn found(
     alloc: Global,
     history: &History<Design>,
     lines: &str,
@@ -72,4 +71,13 @@ pub fn fault_of(
         return Ok(Some("its history tells of other displays"));
     }
     Ok(None)
+}
+
+/// What is wrong with the history that comes back of a run that wrote these lines; none where a plain replay finds it right, it is over, and it tells of each
+/// display and each settle what the line tells.
+pub fn fault_of(alloc: Global, history: &History<Design>, lines: &str) -> Option<&'static str> {
+    match found(alloc, history, lines) {
+        Ok(fault) => fault,
+        Err(NoMemory) => Some("its history takes too much memory"),
+    }
 }

@@ -69,7 +69,7 @@ fn difference<R: Threads + Wait + Sync, F: Shelf>(
         let line = first_other(written, row.lines);
         return Ok(Some(format!(in alloc; "ended with {ended}; {line}")?));
     }
-    match fault_of(alloc, &outcome.history, written)? {
+    match fault_of(alloc, &outcome.history, written) {
         Some(fault) => Ok(Some(String::from_str(alloc, fault)?)),
         None => Ok(None),
     }
@@ -169,7 +169,7 @@ fn is_of_a_fresh_run<R: Threads + Wait + Sync, F: Shelf>(
     let mut sink = SolidSink::new(alloc);
     let outcome = live_run(rt, alloc, &words, &mut source, &mut sink, shelf, &OpenGate);
     let written = str::from_utf8(sink.bytes()).unwrap_or("");
-    if outcome.status != 0 || fault_of(alloc, &outcome.history, written)?.is_some() {
+    if outcome.status != 0 || fault_of(alloc, &outcome.history, written).is_some() {
         return Ok(false);
     }
     end_alike(alloc, lines, written)
