@@ -20,7 +20,7 @@ fn up_to(line: &str) -> Option<Told> {
 }
 
 // What a line of replies tells, where it is the first one of a display or the reply to a settle.
-fn told(line: &str) -> Option<Told> {
+fn told_by(line: &str) -> Option<Told> {
     let word = if line.starts_with("show ") { 2 } else { 0 };
     match line.split_whitespace().nth(word) {
         Some("settled") => Some(Told::Settled),
@@ -34,7 +34,7 @@ fn told(line: &str) -> Option<Told> {
 fn told_by_lines(alloc: Global, lines: &str) -> Result<Vec<Told>, NoMemory> {
     let mut all = Vec::new(alloc);
     for line in lines.lines() {
-        if let Some(told) = told(line) {
+        if let Some(told) = told_by(line) {
             all.push(told)?;
         }
     }
