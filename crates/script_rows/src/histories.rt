@@ -41,7 +41,7 @@ fn told_by_lines(alloc: Global, lines: &str) -> Result<Vec<Told>, NoMemory> {
     Ok(all)
 }
 
-// What the shows of a history tell, in order.
+// What the shows among these entries tell, in order.
 fn told_by_entries(alloc: Global, entries: &[Entry]) -> Result<Vec<Told>, NoMemory> {
     let mut all = Vec::new(alloc);
     for entry in entries {
@@ -53,6 +53,11 @@ fn told_by_entries(alloc: Global, entries: &[Entry]) -> Result<Vec<Told>, NoMemo
         }
     }
     Ok(all)
+}
+
+// What the shows of a history tell, in order.
+fn told_by_history(alloc: Global, history: &History<Design>) -> Result<Vec<Told>, NoMemory> {
+    told_by_entries(alloc, history.entries())
 }
 
 // What is wrong with the history of a run that wrote these lines.
@@ -67,7 +72,7 @@ fn found(
     if !is_over(history) {
         return Ok(Some("its history isn't over"));
     }
-    if told_by_entries(alloc, history.entries())? != told_by_lines(alloc, lines)? {
+    if told_by_history(alloc, history)? != told_by_lines(alloc, lines)? {
         return Ok(Some("its history tells of other displays"));
     }
     Ok(None)
