@@ -115,9 +115,8 @@ pub fn walked_over(
         return Ok(None);
     }
     walk(&steps, &mut words);
-    let places = match home {
-        Home::Now => &layout.slots,
-        Home::Later => &layout.nexts,
-    };
-    values_at(alloc, values, places, &words)
+    match home {
+        Home::Now => values_at(alloc, values, &layout.slots, &words),
+        Home::Later => values_at(alloc, values, &layout.nexts, &words),
+    }
 }
