@@ -1,16 +1,15 @@
 // Orders and loops of small designs, worked out by hand, and of a long chain.
 ghost use Rattle.std.specs.Prelude.{◌≡◌};
 
-use bits::Bits;
-use comb_order::{OrderRefusal, Parts, checked_flat, is_legal, no_block, order};
+use comb_order::{OrderRefusal, Parts, checked_flat, no_block, order};
 use ls_text::NameId;
 use no_memory::NoMemory;
 use std::alloc::Global;
 use std::process::Abort;
 use std::test::Fail;
 use typed_ir::{
-    ArithmeticOperator, BinaryOperator, InstanceId, InstanceTable, Lane, Node, NodeId, Reach,
-    Signal, SignalId, Span, Stmt, Target, TargetForm, Typed,
+    ArithmeticOperator, BinaryOperator, InstanceId, InstanceTable, Lane, Node, NodeId, Signal,
+    SignalId, Span, TargetForm, Typed,
 };
 
 fn bit(number: u32, low: u8) -> Span
@@ -237,41 +236,6 @@ fn three_in_a_circle(rt: HostRuntime) -> Result<(), Fail> {
         let nodes = copies(rt.alloc(), &pairs)?;
         expect_loop(&rt, rt.alloc(), &[1; 5], nodes, &wanted)?;
     }
-    Ok(())
-}
-
-// reg [1:0] i; reg [3:0] a; {i, a[i]} = 5; the index is read after i was written. 5 is 10 1 in binary.
-#[test]
-fn an_index_is_read_after_the_part_left_of_it(rt: HostRuntime) -> Result<(), Fail> {
-    let alloc = rt.alloc();
-    let whole = Span {
-        signal: SignalId(0),
-        low: 0,
-        width: 2,
-    };
-    let first = Lane {
-        shift: 1,
-        span: whole,
-    };
-    let reach = Reach {
-        shift: 0,
-        signal: SignalId(1),
-        total: 4,
-        width: 1,
-        below: 0,
-        signed: false,
-    };
-    let index = Typed::name(SignalId(0), 2);
-    let assignment = Stmt::Assign {
-        targets: vec![in alloc; Target::Fixed(first), Target::Moving { reach, index }]?,
-        value: Typed::constant(Bits::new(3, 5)),
-    };
-    let mut env = vec![in alloc; Bits::new(2, 0), Bits::new(4, 0)]?;
-    assert!(rt; is_legal(&assignment, &env));
-    assignment.run(&mut env);
-    assert!(rt; env.len() == 2);
-    assert_eq!(rt; env[0].value(), 2);
-    assert_eq!(rt; env[1].value(), 4);
     Ok(())
 }
 

@@ -1,13 +1,14 @@
 // Sizes the blocks and continuous assignments of its folder of data, and compares what variables have afterwards, and first faults,
 // with what they have to be.
 //
-// A reader (`reader`) takes one row, a module: `blocks` sizes and executes its items, each with an `outcome`, and shows the values of
-// what they write, the `variables`.
+// A reader (`reader`) takes one row, a module: `blocks` sizes its items, `stepping` lays each out as steps and walks over these, with an
+// `outcome`, and the values of what they write, the `variables`, are shown.
 #![tactic(auto)]
 
 mod blocks;
 mod outcome;
 mod reader;
+mod stepping;
 mod variables;
 
 use crate::reader::StatementReader;
