@@ -2,7 +2,7 @@
 use book_history::entry::Entry;
 use book_history::history::History;
 use cycle_eval::Design;
-use history_replay::is_right;
+use history_replay::{is_over, is_right};
 use livesim::{Outcome, live_run};
 use ls_port::{OpenGate, Shelf, Sink, Source};
 use no_memory::NoMemory;
@@ -28,7 +28,7 @@ fn words_of(alloc: Global) -> Result<Vec<String>, NoMemory> {
     Ok(words)
 }
 
-/// A run without workers, whose history is right.
+/// A run without workers, whose history is right and over.
 pub fn ran<R: Threads + Wait + Sync, S: Source, K: Sink, F: Shelf>(
     rt: &R,
     alloc: Global,
@@ -38,8 +38,8 @@ pub fn ran<R: Threads + Wait + Sync, S: Source, K: Sink, F: Shelf>(
 ) -> Result<Outcome, Fail> {
     let words = words_of(alloc)?;
     let outcome = live_run(rt, alloc, &words, source, sink, shelf, &OpenGate);
-    if !is_right(alloc, &outcome.history)? {
-        return Err("the history isn't right")?;
+    if !is_right(alloc, &outcome.history)? || !is_over(&outcome.history) {
+        return Err("the history isn't right, or isn't over")?;
     }
     Ok(outcome)
 }

@@ -1,6 +1,6 @@
 // What no script can reach: reads and writes that fail, scripts that are cut, and limits; and the reading of displays.
 use crate::fresh::last_settled;
-use history_replay::is_right;
+use history_replay::{is_over, is_right};
 use livesim::{Outcome, live_run};
 use ls_port::{MemShelf, MemSink, MemSource, NamedText, OpenGate, Shelf, SolidShelf};
 use ls_text::TextBytes;
@@ -26,7 +26,7 @@ fn words_of(alloc: Global, given: &[&str]) -> Result<Vec<String>, NoMemory> {
     Ok(words)
 }
 
-// A script over a shelf beside so many workers, with the calls that fail: how it ended, with a history that is right, and what was written.
+// A script over a shelf beside so many workers, with the calls that fail: how it ended, with a history that is right and over, and what was written.
 fn shelved<R: Threads + Wait + Sync, F: Shelf>(
     rt: &R,
     alloc: Global,
@@ -40,8 +40,8 @@ fn shelved<R: Threads + Wait + Sync, F: Shelf>(
     let mut source = MemSource::new(script, reads);
     let mut sink = MemSink::new(alloc, writes);
     let outcome = live_run(rt, alloc, &words, &mut source, &mut sink, shelf, &OpenGate);
-    if !is_right(alloc, &outcome.history)? {
-        return Err("the history isn't right")?;
+    if !is_right(alloc, &outcome.history)? || !is_over(&outcome.history) {
+        return Err("the history isn't right, or isn't over")?;
     }
     Ok((outcome, Vec::from_slice(alloc, sink.bytes())?))
 }
