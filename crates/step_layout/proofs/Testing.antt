@@ -35,10 +35,12 @@ asks P parts (Binary (Compare Equal) a b) h = let p = parts Equal a b h in (reco
 asks P parts (Binary (Compare Unequal) a b) h = let p = parts Unequal a b h in (record { still = refl; fits = refl }, p.0, p.1)
 asks P parts (Binary (Compare (Less Signed)) a b) h = h
 asks P parts (Binary (Compare (Less Unsigned)) a b) h = let p = parts (Less Unsigned) a b h in (record { still = refl; fits = refl }, p.0, p.1)
-asks P parts (Binary (Compare (AtMost s)) a b) h = h
+asks P parts (Binary (Compare (AtMost Signed)) a b) h = h
+asks P parts (Binary (Compare (AtMost Unsigned)) a b) h = let p = parts (AtMost Unsigned) a b h in (record { still = refl; fits = refl }, p.1, p.0)
 asks P parts (Binary (Compare (Greater Signed)) a b) h = h
 asks P parts (Binary (Compare (Greater Unsigned)) a b) h = let p = parts (Greater Unsigned) a b h in (record { still = refl; fits = refl }, p.1, p.0)
-asks P parts (Binary (Compare (AtLeast s)) a b) h = h
+asks P parts (Binary (Compare (AtLeast Signed)) a b) h = h
+asks P parts (Binary (Compare (AtLeast Unsigned)) a b) h = let p = parts (AtLeast Unsigned) a b h in (record { still = refl; fits = refl }, p.0, p.1)
 asks P parts (Binary (Logical op) a b) h = h
 asks P parts (Binary (Shift op) a b) h = h
 asks P parts (Choice c a b) h = h
@@ -75,10 +77,12 @@ passed_right (Binary (Compare Equal) a b) past env = holds (value_of a env == va
 passed_right (Binary (Compare Unequal) a b) past env = fails (value_of a env == value_of b env) past
 passed_right (Binary (Compare (Less Signed)) a b) past env = nonzero (value_of (Binary (Compare (Less Signed)) a b) env == 0) past
 passed_right (Binary (Compare (Less Unsigned)) a b) past env = holds (nat_lt (value_of a env) (value_of b env)) past
-passed_right (Binary (Compare (AtMost s)) a b) past env = nonzero (value_of (Binary (Compare (AtMost s)) a b) env == 0) past
+passed_right (Binary (Compare (AtMost Signed)) a b) past env = nonzero (value_of (Binary (Compare (AtMost Signed)) a b) env == 0) past
+passed_right (Binary (Compare (AtMost Unsigned)) a b) past env = fails (nat_lt (value_of b env) (value_of a env)) past
 passed_right (Binary (Compare (Greater Signed)) a b) past env = nonzero (value_of (Binary (Compare (Greater Signed)) a b) env == 0) past
 passed_right (Binary (Compare (Greater Unsigned)) a b) past env = holds (nat_lt (value_of b env) (value_of a env)) past
-passed_right (Binary (Compare (AtLeast s)) a b) past env = nonzero (value_of (Binary (Compare (AtLeast s)) a b) env == 0) past
+passed_right (Binary (Compare (AtLeast Signed)) a b) past env = nonzero (value_of (Binary (Compare (AtLeast Signed)) a b) env == 0) past
+passed_right (Binary (Compare (AtLeast Unsigned)) a b) past env = fails (nat_lt (value_of a env) (value_of b env)) past
 passed_right (Binary (Logical op) a b) past env = nonzero (value_of (Binary (Logical op) a b) env == 0) past
 passed_right (Binary (Shift op) a b) past env = nonzero (value_of (Binary (Shift op) a b) env == 0) past
 passed_right (Choice c a b) past env = nonzero (value_of (Choice c a b) env == 0) past

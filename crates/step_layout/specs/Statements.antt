@@ -1,14 +1,14 @@
 -- How statements are laid out as steps: blocking assignments write signals in place, nonblocking ones next values.
 use Rattle.std.specs.Prelude.{max, ℕ, ◌+◌, Bool, true, false, ◌&&◌, ◌==◌, nat_le, List, [], ◌∷◌, ◌++◌, length, if◌then◌else◌}
 use Rattle.typed_ir.specs.declared.span.Span.{Span}
-use Rattle.typed_ir.specs.declared.comparison.Comparison.TheVariants.{Equal, Unequal, Less, Greater}
+use Rattle.typed_ir.specs.declared.comparison.Comparison.TheVariants.{Equal, Unequal, Less, AtMost, Greater, AtLeast}
 use Rattle.typed_ir.specs.declared.binary_operator.BinaryOperator.TheVariants.{Compare}
 use Rattle.typed_ir.specs.declared.signedness.Signedness.TheVariants.{Unsigned}
 use Rattle.typed_ir.specs.Sized.{Sized, Binary, width_of}
 use Rattle.typed_ir.specs.Stmts.{SizedTarget, Fixed, Moving, SizedItem, SizedStmt, SizedArms, Skip as Nothing, Assign, Later, Then, If, Case, Arm, Default, span_of}
 use Rattle.word_steps.specs.declared.step.Step.{Step}
 use Rattle.word_steps.specs.declared.op.Op.{Op}
-use Rattle.word_steps.specs.declared.op.Op.TheVariants.{Select, Place, PlaceAt, Or, SkipIfZero, SkipIfEqual, SkipUnlessEqual, SkipUnlessLess, Skip}
+use Rattle.word_steps.specs.declared.op.Op.TheVariants.{Select, Place, PlaceAt, Or, SkipIfZero, SkipIfEqual, SkipUnlessEqual, SkipUnlessLess, SkipIfLess, Skip}
 use Rattle.step_layout.specs.Plans.{Plan, width_at}
 use Rattle.step_layout.specs.Expressions.{step, is_wide, locate_op, operand, before, code, constants_of}
 
@@ -79,12 +79,15 @@ pub data Test : Type 0 where
   Truth : (c : Sized) → Test
   Pair : (op : Op) (a b : Sized) → Test
 
--- equality, and the order of unsigned values, of which a > b is b < a, are found by a step that compares
+-- equality, and the order of unsigned values, are found by a step that compares: a > b is b < a, and a <= b and a >= b hold where those don't
+-- that are turned round
 abbrev pub test_of : Sized → Test
 test_of (Binary (Compare Equal) a b) = Pair SkipUnlessEqual a b
 test_of (Binary (Compare Unequal) a b) = Pair SkipIfEqual a b
 test_of (Binary (Compare (Less Unsigned)) a b) = Pair SkipUnlessLess a b
+test_of (Binary (Compare (AtMost Unsigned)) a b) = Pair SkipIfLess b a
 test_of (Binary (Compare (Greater Unsigned)) a b) = Pair SkipUnlessLess b a
+test_of (Binary (Compare (AtLeast Unsigned)) a b) = Pair SkipIfLess a b
 test_of c = Truth c
 
 -- the steps that pass over so many others where it doesn't hold

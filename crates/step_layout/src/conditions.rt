@@ -71,8 +71,14 @@ fn lay_comparison(
         Comparison::Less(Signedness::Unsigned) => {
             lay_pair(Op::SkipUnlessLess, a, b, past, layout, mark, first)
         }
+        Comparison::AtMost(Signedness::Unsigned) => {
+            lay_pair(Op::SkipIfLess, b, a, past, layout, mark, first)
+        }
         Comparison::Greater(Signedness::Unsigned) => {
             lay_pair(Op::SkipUnlessLess, b, a, past, layout, mark, first)
+        }
+        Comparison::AtLeast(Signedness::Unsigned) => {
+            lay_pair(Op::SkipIfLess, a, b, past, layout, mark, first)
         }
         _ => lay_truth(c, past, layout, mark, first),
     }

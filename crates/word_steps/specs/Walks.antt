@@ -12,7 +12,7 @@ use Rattle.typed_ir.specs.Valuations.{Valuation, put}
 use Rattle.typed_ir.specs.Sized.{truth_value, apply_unary, apply_arithmetic, apply_comparison, apply_logical, apply_shift, place_of}
 use Rattle.word_steps.specs.declared.step.Step.{Step}
 use Rattle.word_steps.specs.declared.op.Op.{Op}
-use Rattle.word_steps.specs.declared.op.Op.TheVariants.{Copy, Inverse, Negative, AllOnes, AnyOne, NoOne, OddOnes, Sum, Difference, Product, And, Or, Xor, Xnor, Quotient, Remainder, SignedQuotient, SignedRemainder, Equal, Unequal, Less, AtMost, SignedLess, SignedAtMost, Both, Either, Left, Right, Arithmetic, Choose, Select, Join, Extend, Place, Locate, SignedLocate, Pick, PlaceAt, SkipIfZero, SkipIfEqual, SkipUnlessEqual, SkipUnlessLess, Skip}
+use Rattle.word_steps.specs.declared.op.Op.TheVariants.{Copy, Inverse, Negative, AllOnes, AnyOne, NoOne, OddOnes, Sum, Difference, Product, And, Or, Xor, Xnor, Quotient, Remainder, SignedQuotient, SignedRemainder, Equal, Unequal, Less, AtMost, SignedLess, SignedAtMost, Both, Either, Left, Right, Arithmetic, Choose, Select, Join, Extend, Place, Locate, SignedLocate, Pick, PlaceAt, SkipIfZero, SkipIfEqual, SkipUnlessEqual, SkipUnlessLess, SkipIfLess, Skip}
 
 abbrev pub env_of : List ℕ → Valuation
 env_of words = λ s. slice_index words s
@@ -74,6 +74,7 @@ apply SkipIfZero width low x y z = 0
 apply SkipIfEqual width low x y z = 0
 apply SkipUnlessEqual width low x y z = 0
 apply SkipUnlessLess width low x y z = 0
+apply SkipIfLess width low x y z = 0
 apply Skip width low x y z = 0
 
 -- how many of the steps behind it a step passes over
@@ -82,6 +83,7 @@ skips SkipIfZero n x y = if x == 0 then n else 0
 skips SkipIfEqual n x y = if x == y then n else 0
 skips SkipUnlessEqual n x y = if x == y then 0 else n
 skips SkipUnlessLess n x y = if nat_lt x y then 0 else n
+skips SkipIfLess n x y = if nat_lt x y then n else 0
 skips Skip n x y = n
 skips op n x y = 0
 
@@ -91,6 +93,7 @@ writes SkipIfZero = false
 writes SkipIfEqual = false
 writes SkipUnlessEqual = false
 writes SkipUnlessLess = false
+writes SkipIfLess = false
 writes Skip = false
 writes op = true
 

@@ -89,6 +89,8 @@ pub enum Op {
     SkipUnlessEqual,
     /// Passes over `c` steps unless `a < b`.
     SkipUnlessLess,
+    /// Passes over `c` steps where `a < b`.
+    SkipIfLess,
     /// Passes over `c` steps.
     Skip,
 }

@@ -18,6 +18,7 @@ fn skips(op: Op, count: u32, x: u128, y: u128) -> usize
         Op::SkipIfEqual => if x == y { count as usize } else { 0 },
         Op::SkipUnlessEqual => if x == y { 0 } else { count as usize },
         Op::SkipUnlessLess => if x < y { 0 } else { count as usize },
+        Op::SkipIfLess => if x < y { count as usize } else { 0 },
         Op::Skip => count as usize,
         _ => 0,
     }
