@@ -4,8 +4,8 @@ use Rattle.std.proofs.Crossing.{crosses}
 use Rattle.book_history.specs.Book.{Settings as BookSettings}
 use Rattle.book_turn.specs.Passes.{known}
 use Rattle.live_session.proofs.DesignsShared.{design_send, design_sync, inputs_send, inputs_sync, ops_send, ops_sync, state_send}
-use Rattle.livesim.proofs.Working.{made_at}
-use Rattle.livesim.proofs.limit_tests.played.Goals as goal
+use Rattle.session_tests.proofs.Standing.{made_at, split_stands}
+use Rattle.session_tests.proofs.scripted.played.Goals as goal
 
 pub new-requires-3-send-M : goal.new-requires-3-send-M
 new-requires-3-send-M g c κs = search (design_send, sendable, crosses) depth 40 fits 20000
@@ -15,10 +15,3 @@ new-requires-3-sync-M g c κs = search (design_sync, sendable, crosses) depth 40
 
 pub make-requires-send-B : goal.make-requires-send-B
 make-requires-send-B g c κs within = search (design_send, design_sync, state_send, inputs_send, inputs_sync, ops_send, ops_sync, sendable, crosses) depth 60 fits 100000
-
-pub play_on-requires-clause-at : goal.play_on-requires-clause-at
-play_on-requires-clause-at g c κs within =
-    let book = c.in_ok-book.book.value in
-    let blank = c.in_ok-book.ensures.events in
-    made_at c.in_ok-session.session (known c.in_ok-book_turn.pass) book c.in_ok-book_turn.ensures.1 blank
-    (c.in_ok-session.ensures.beside book blank (ap (λ (s : BookSettings). s.rooms) c.in_ok-book.ensures.settings))

@@ -1,23 +1,20 @@
-// Limits that no script reaches in a test's time: sessions with small ones, turn by turn; and files that a shelf holds.
-ghost use Rattle.std.specs.Prelude.{◌≡◌, ◌≤◌, ◌^◌, true, None, []};
-ghost use Rattle.command_read.specs.Readers.{stopped};
-ghost use Rattle.book_turn.specs.Passes.{IsOf, known};
-ghost use Rattle.live_session.specs.AtTurn.{StandsAt};
+// Limits that no script reaches in a test's time: sessions with small ones, turn by turn; and files that a shelf holds. The lines are the same for every
+// schedule, where two workers stand beside.
+ghost use Rattle.std.specs.Prelude.{◌≡◌};
 
-use crate::turn::Turn;
-use crate::turning::turn;
+use crate::held_source::HeldSource;
+use crate::played::Played;
+use crate::scripted::played;
 use book_history::rooms::Rooms;
-use book_turn::{SessionPass, Turn as BookTurn};
-use checkpoint_book::book::Book;
-use command_read::Reader;
-use cycle_eval::Design;
-use live_session::{Limits, Session};
+use live_session::Limits;
 use ls_port::{MemShelf, NamedText, OpenGate, SolidSource};
-use ls_text::{NoMemory, TextBytes};
+use ls_text::TextBytes;
+use no_memory::NoMemory;
 use std::alloc::Global;
 use std::sync::Wait;
 use std::test::Fail;
 use std::thread::Threads;
+use test_gates::HoldingGate;
 
 // A block with an accumulator of an input, eleven lines long.
 const BLOCK: &[u8] =
@@ -32,91 +29,35 @@ const TEXT: &[u8] =
 
 const ACCEPTED: &[u8] = b"ok edit v=1 built=1 kept=0 from=0\n";
 
-fn limits(cycles: u64, stimulus: u64, session: u32) -> Limits
+// How many entries the workers may make.
+const WORKERS_ROOM: u32 = 100;
+
+// How many workers there are.
+const WORKERS: [u16; 2] = [0, 2];
+
+fn limits(cycles: u64, stimulus: u64, session: u32, workers: u32) -> Limits
     ensures { result.cycles ≡ cycles }
 {
     Limits {
         cycles,
         stimulus,
-        rooms: Rooms {
-            session,
-            workers: 0,
-        },
+        rooms: Rooms { session, workers },
     }
 }
 
-// Takes so many turns at most, and adds the lines of each.
-fn play_on<R: Threads + Wait + Sync>(
+// What comes of a script without files in a session of at most ten cycles with these limits.
+fn bare<R: Threads + Wait + Sync>(
     rt: &R,
     alloc: Global,
-    session: &mut Session,
-    reader: &mut Reader,
-    book_turn: &BookTurn<Book<Design>>,
-    pass: &mut SessionPass<Book<Design>>,
-    source: &mut SolidSource,
-    shelf: &mut MemShelf,
-    lines: &mut Vec<u8>,
-    turns: u32,
-) -> Result<(), NoMemory>
-    requires going { stopped reader.old ≡ None }
-    requires turn { IsOf book_turn.now pass.old true }
-    requires at { StandsAt session.old (known pass.old) }
-{
-    if turns == 0 {
-        return Ok(());
-    }
-    match turn(
-        rt, alloc, session, reader, book_turn, pass, source, shelf, &OpenGate,
-    ) {
-        Turn::Answered(reply) => {
-            lines.extend_from_slice(reply.lines.bytes())?;
-            play_on(
-                rt,
-                alloc,
-                session,
-                reader,
-                book_turn,
-                pass,
-                source,
-                shelf,
-                lines,
-                turns - 1,
-            )
-        }
-        Turn::Over(_) => Ok(()),
-    }
-}
-
-// The lines that answer a script of at most 64 commands in a session with these limits, over this shelf. Its book has a mark at each fourth cycle,
-// and an edit is simulated from the last one that is a cycle back.
-fn played<R: Threads + Wait + Sync>(
-    rt: &R,
-    alloc: Global,
-    limits: Limits,
-    shelf: &mut MemShelf,
+    stimulus: u64,
+    rooms: Rooms,
+    workers: u16,
     script: &[u8],
-) -> Result<Vec<u8>, NoMemory>
-    requires { limits.cycles ≤ 2 ^ 40 }
-{
-    let mut session = Session::new(alloc, limits)?;
-    let mut reader = Reader::new(alloc)?;
-    let book = Book::new(alloc, 4, 1, limits.rooms)?;
-    let (book_turn, mut pass) = BookTurn::make(rt, alloc, book)?;
-    let mut source = SolidSource::new(Vec::from_slice(alloc, script)?);
-    let mut lines = Vec::new(alloc);
-    play_on(
-        rt,
-        alloc,
-        &mut session,
-        &mut reader,
-        &book_turn,
-        &mut pass,
-        &mut source,
-        shelf,
-        &mut lines,
-        64,
-    )?;
-    Ok(lines)
+) -> Result<Played, Fail> {
+    let shelf = MemShelf::new(alloc, Vec::new(alloc), Vec::new(alloc));
+    let source = SolidSource::new(Vec::from_slice(alloc, script)?);
+    let limits = limits(10, stimulus, rooms.session, rooms.workers);
+    played(rt, alloc, limits, workers, &OpenGate, source, shelf)
 }
 
 fn joined(alloc: Global, parts: &[&[u8]]) -> Result<Vec<u8>, NoMemory> {
@@ -200,27 +141,25 @@ fn limits_of_a_session(rt: HostRuntime) -> Result<(), Fail> {
         ),
     ];
     for (stimulus, session, script, lines) in rows {
-        let mut shelf = MemShelf::new(alloc, Vec::new(alloc), Vec::new(alloc));
         let script = joined(alloc, &[BLOCK, script])?;
-        let written = played(
-            &rt,
-            alloc,
-            limits(10, stimulus, session),
-            &mut shelf,
-            &script,
-        )?;
         let wanted = joined(alloc, &[ACCEPTED, lines])?;
-        assert!(rt; written.as_slice() == wanted.as_slice());
+        for workers in WORKERS {
+            let rooms = Rooms {
+                session,
+                workers: WORKERS_ROOM,
+            };
+            let played = bare(&rt, alloc, stimulus, rooms, workers, &script)?;
+            assert!(rt; played.lines.as_slice() == wanted.as_slice());
+        }
     }
     Ok(())
 }
 
 // An edit behind six cycles is simulated from the mark at cycle 4, where the old design had 4: twice more makes 8. A pass runs the new design from reset
-// to that mark, and another one from there on.
+// to that mark, and another one from there on. Beside workers the estimate may be settled, and one pass may be enough, so this is without them.
 #[test]
 fn passes_in_a_room(rt: HostRuntime) -> Result<(), Fail> {
     let alloc = rt.alloc();
-    let mut shelf = MemShelf::new(alloc, Vec::new(alloc), Vec::new(alloc));
     let script = joined(
         alloc,
         &[
@@ -231,10 +170,66 @@ fn passes_in_a_room(rt: HostRuntime) -> Result<(), Fail> {
         ],
     )?;
     // Edits, a run and displays are charged 1 each, the settles 3 and 5.
-    let written = played(&rt, alloc, limits(10, 100, 13), &mut shelf, &script)?;
+    let rooms = Rooms {
+        session: 13,
+        workers: 0,
+    };
+    let played = bare(&rt, alloc, 100, rooms, 0, &script)?;
     let wanted: &[u8] =
         b"ok edit v=1 built=1 kept=0 from=0\nok set\nok run cycle=6\nok edit v=2 built=1 kept=0 from=4\nshow cycle=6 estimate v=2 settled_to=0\ntop.acc 08\nunsettled settled_to=4\nsettled cycle=6 v=2\nshow cycle=6 settled v=2\ntop.acc 0c\nrefused 68 HistoryFull @27 -\n";
-    assert!(rt; written.as_slice() == wanted);
+    assert!(rt; played.lines.as_slice() == wanted);
+    Ok(())
+}
+
+// The same edit, settled at once: the settle is charged 5, whatever workers have done and however much room they have. A ticket takes two entries of it.
+#[test]
+fn passes_beside_workers(rt: HostRuntime) -> Result<(), Fail> {
+    let alloc = rt.alloc();
+    let script = joined(
+        alloc,
+        &[
+            BLOCK,
+            b"set d=1\nrun 6\n",
+            NEXT_BLOCK,
+            b"settle\nshow\nshow\n",
+        ],
+    )?;
+    let wanted: &[u8] =
+        b"ok edit v=1 built=1 kept=0 from=0\nok set\nok run cycle=6\nok edit v=2 built=1 kept=0 from=4\nsettled cycle=6 v=2\nshow cycle=6 settled v=2\ntop.acc 0c\nrefused 68 HistoryFull @25 -\n";
+    for room in 0..6 {
+        for workers in WORKERS {
+            let rooms = Rooms {
+                session: 9,
+                workers: room,
+            };
+            let played = bare(&rt, alloc, 100, rooms, workers, &script)?;
+            assert!(rt; played.lines.as_slice() == wanted);
+        }
+    }
+    Ok(())
+}
+
+// A worker holds its ticket as the session's room is full: what has an entry is refused, and what has none isn't.
+#[test]
+fn a_full_room_beside_a_ticket(rt: HostRuntime) -> Result<(), Fail> {
+    let alloc = rt.alloc();
+    let gate = HoldingGate::new(1);
+    let script = joined(alloc, &[BLOCK, b"set d=1\nrun 6\n", NEXT_BLOCK])?;
+    let source = HeldSource {
+        script: SolidSource::new(script),
+        gate: &gate,
+        then: SolidSource::new(Vec::from_slice(
+            alloc,
+            b"show\nrun 1\nsettle\nset d=2\nedit\nfile a.v\n.\nend\n",
+        )?),
+    };
+    let shelf = MemShelf::new(alloc, Vec::new(alloc), Vec::new(alloc));
+    let limits = limits(10, 100, 3, WORKERS_ROOM);
+    let played = played(&rt, alloc, limits, 2, &gate, source, shelf)?;
+    let wanted: &[u8] =
+        b"ok edit v=1 built=1 kept=0 from=0\nok set\nok run cycle=6\nok edit v=2 built=1 kept=0 from=4\nrefused 68 HistoryFull @23 -\nrefused 68 HistoryFull @24 -\nrefused 68 HistoryFull @25 -\nok set\nrefused 68 HistoryFull @27 -\n";
+    assert!(rt; played.lines.as_slice() == wanted);
+    assert!(rt; gate.has_let_go());
     Ok(())
 }
 
@@ -242,23 +237,21 @@ fn passes_in_a_room(rt: HostRuntime) -> Result<(), Fail> {
 #[test]
 fn a_full_room_loads_nothing(rt: HostRuntime) -> Result<(), Fail> {
     let alloc = rt.alloc();
-    let mut shelf = MemShelf::new(alloc, Vec::new(alloc), Vec::new(alloc));
-    let written = played(
-        &rt,
-        alloc,
-        limits(10, 100, 0),
-        &mut shelf,
-        b"edit\ntop top\nload a.v\nend\n",
-    )?;
-    assert!(rt; written.as_slice() == b"refused 68 HistoryFull @1 -\n".as_slice());
-    assert!(rt; shelf.answers().is_empty());
+    for workers in WORKERS {
+        let rooms = Rooms {
+            session: 0,
+            workers: WORKERS_ROOM,
+        };
+        let script: &[u8] = b"edit\ntop top\nload a.v\nend\n";
+        let played = bare(&rt, alloc, 100, rooms, workers, script)?;
+        assert!(rt; played.lines.as_slice() == b"refused 68 HistoryFull @1 -\n".as_slice());
+        assert_eq!(rt; played.answers, 0);
+    }
     Ok(())
 }
 
-// A shelf that fails once, a name that it doesn't hold, and texts at the limit of their length.
-#[test]
-fn files_of_a_shelf(rt: HostRuntime) -> Result<(), Fail> {
-    let alloc = rt.alloc();
+// The block's file, and the same with spaces up to the longest text that is taken, and with one more.
+fn texts(alloc: Global) -> Result<Vec<NamedText>, NoMemory> {
     let mut longest = Vec::from_slice(alloc, TEXT)?;
     for _ in TEXT.len()..4_194_304 {
         longest.push(b' ')?;
@@ -269,17 +262,24 @@ fn files_of_a_shelf(rt: HostRuntime) -> Result<(), Fail> {
     texts.push(held(alloc, b"a.v", Vec::from_slice(alloc, TEXT)?)?)?;
     texts.push(held(alloc, b"longest.v", longest)?)?;
     texts.push(held(alloc, b"longer.v", longer)?)?;
-    let mut shelf = MemShelf::new(alloc, texts, vec![in alloc; 0]?);
-    let written = played(
-        &rt,
-        alloc,
-        limits(10, 100, 100),
-        &mut shelf,
-        b"edit\ntop top\nload a.v\nload longer.v\nend\nedit\ntop top\nload b.v\nend\nedit\ntop top\nload longer.v\nload b.v\nend\nedit\ntop top\nload longest.v\nend\nshow\n",
-    )?;
+    Ok(texts)
+}
+
+// A shelf that fails once, a name that it doesn't hold, and texts at the limit of their length.
+#[test]
+fn files_of_a_shelf(rt: HostRuntime) -> Result<(), Fail> {
+    let alloc = rt.alloc();
+    let script: &[u8] =
+        b"edit\ntop top\nload a.v\nload longer.v\nend\nedit\ntop top\nload b.v\nend\nedit\ntop top\nload longer.v\nload b.v\nend\nedit\ntop top\nload longest.v\nend\nshow\n";
     let wanted: &[u8] =
         b"refused 67 ShelfFault @3 a.v\nrefused 67 ShelfFault @8 b.v\nrefused 10 TextTooLong @12 longer.v\nok edit v=1 built=1 kept=0 from=0\nshow cycle=0 settled v=1\ntop.acc 00\n";
-    assert!(rt; written.as_slice() == wanted);
-    assert_eq!(rt; shelf.answers().len(), 4);
+    for workers in WORKERS {
+        let shelf = MemShelf::new(alloc, texts(alloc)?, vec![in alloc; 0]?);
+        let source = SolidSource::new(Vec::from_slice(alloc, script)?);
+        let limits = limits(10, 100, 100, WORKERS_ROOM);
+        let played = played(&rt, alloc, limits, workers, &OpenGate, source, shelf)?;
+        assert!(rt; played.lines.as_slice() == wanted);
+        assert_eq!(rt; played.answers, 4);
+    }
     Ok(())
 }
