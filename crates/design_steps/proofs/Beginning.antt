@@ -17,9 +17,11 @@ use Rattle.step_layout.specs.declared.layout.Layout.{Layout}
 use Rattle.step_layout.specs.Plans.{IsReady, signals, width_at}
 use Rattle.step_layout.specs.Pools.{or_end, spot}
 use Rattle.step_layout.specs.Views.{plan_of}
-use Rattle.design_steps.specs.Layings.{LaysOut, own_plan, signals_of}
+use Rattle.design_steps.specs.Layings.{LaysOut, own_plan, clocking_plan, signals_of}
+use Rattle.design_steps.specs.Programs.{AreNext}
 use Rattle.design_steps.proofs.Counting.{below_all}
 use Rattle.design_steps.proofs.Apart.{stand}
+use Rattle.design_steps.proofs.Copied.{below_member}
 
 zero_at : (n : ℕ) (ys : List ℕ) (k : ℕ) → k < n → slice_index (replicate n 0 ++ ys) k ≡ 0
 zero_at zero ys k h = absurd (omega (arith, h))
@@ -105,6 +107,21 @@ module _ (l : Layout) (design : Flat) (lays : LaysOut l design) (rest : ℕ) whe
         next_fits = λ s m. let less = below_all n s m in let e = t.next s less in
             subst (λ x. x < 2 ^ width_at (own_plan l) s) (sym (none_yet ((plan_of l).next s) (omega (arith, f, e, less)))) (pow_pos (width_at (own_plan l) s));
         holds = constant_at;
+      }
+
+  -- a next value that clocked blocks put
+  next_zero : (s : ℕ) → s < length design.signals.items → env_of ((replicate l.constants.first 0 ++ l.constants.values.keys) ++ replicate rest 0) ((clocking_plan l).next s) ≡ 0
+  next_zero s less =
+      let e = (stand l design lays).later s less in
+      let f = lays.first in
+      none_yet ((clocking_plan l).next s) (omega (arith, f, e, less))
+
+  pub begins_next : AreNext l design (env_of ((replicate l.constants.first 0 ++ l.constants.values.keys) ++ replicate rest 0))
+  begins_next =
+      let n = length design.signals.items in
+      record {
+        fits = λ s m. subst (λ x. x < 2 ^ width_at (own_plan l) s) (sym (next_zero s (below_all n s m))) (pow_pos (width_at (own_plan l) s));
+        same = λ s m. next_zero s (below_member design.registers.items n s design.registers_there m) ∙ sym (slot_zero s);
       }
 
   pub begins_based : (linked : Linked) → linked.design ≡ design

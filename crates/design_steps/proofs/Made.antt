@@ -21,12 +21,12 @@ use Rattle.step_layout.specs.Views.{plan_of}
 use Rattle.step_layout.proofs.Sizing.{stmt_sized}
 use Rattle.step_layout.proofs.Passing.{node_legal}
 use Rattle.design_steps.specs.declared.program.Program.{Program}
-use Rattle.design_steps.specs.Layings.{LaysOut, own_plan, view_of, mark_of, signals_of}
+use Rattle.design_steps.specs.Layings.{LaysOut, own_plan, clocking_plan, view_of, mark_of, signals_of}
 use Rattle.design_steps.specs.Places.{are_placed}
-use Rattle.design_steps.specs.Programs.{IsProgramOf, kept_nodes}
+use Rattle.design_steps.specs.Programs.{IsProgramOf, AreNext, kept_nodes}
 use Rattle.design_steps.proofs.Apart.{apart}
 use Rattle.design_steps.proofs.Laid.{nodes_laid, blocks_laid}
-use Rattle.design_steps.proofs.Beginning.{begins, begins_based, all_long}
+use Rattle.design_steps.proofs.Beginning.{begins, begins_next, begins_based, all_long}
 use Rattle.design_steps.proofs.Placing.{sound_from}
 
 sized_both : (xs ys : List Step) → are_sized xs ≡ true → are_sized ys ≡ true → are_sized (xs ++ ys) ≡ true
@@ -45,7 +45,7 @@ nodes_sized l few rs (k ∷ ks) mark h =
 
 pub made : (p : Program) (l : Linked) (mark last : ℕ) → LaysOut p.layout l.design → mark ≡ mark_of p.layout
     → p.settling.items ≡ nodes_code (plan_of p.layout) (kept_nodes p.layout l) mark
-    → p.clocking.items ≡ stmt_code (plan_of p.layout) (sequence_of (map stmt_of l.design.clocked.items)) mark
+    → p.clocking.items ≡ stmt_code (clocking_plan p.layout) (sequence_of (map stmt_of l.design.clocked.items)) mark
     → ((n : ℕ) → last < n → are_placed n p.settling.items ≡ true) → ((n : ℕ) → last < n → are_placed n p.clocking.items ≡ true) → mark ≤ last
     → p.beginning.items ≡ (replicate p.layout.constants.first 0 ++ p.layout.constants.values.keys)
     ++ replicate (last + 1 - p.layout.constants.first - length p.layout.constants.values.keys) 0
@@ -63,7 +63,7 @@ made p l mark last lays at nodes blocks placed_nodes placed_blocks few words =
     let long : length p.beginning.items ≡ last + 1 = (let a = ap length words ∙ all_long first rest keys in omega (arith, a, at, m, few)) in
     let more : last < length p.beginning.items = omega (arith, long) in
     let settles = nodes ∙ ap (nodes_code pl left) at in
-    let clocks = blocks ∙ ap (stmt_code pl st) at in
+    let clocks = blocks ∙ ap (stmt_code (clocking_plan p.layout) st) at in
     record {
       lays = lays;
       settles = settles;
@@ -71,10 +71,13 @@ made p l mark last lays at nodes blocks placed_nodes placed_blocks few words =
       sound_nodes = sound_from (length p.beginning.items) p.settling.items (placed_nodes (length p.beginning.items) more)
           (ap are_sized settles ∙ nodes_sized p.layout free.few rs left (mark_of p.layout) (nodes_laid p.layout l.design lays l.order.items));
       sound_blocks = sound_from (length p.beginning.items) p.clocking.items (placed_blocks (length p.beginning.items) more)
-          (ap are_sized clocks ∙ stmt_sized pl free.few st (mark_of p.layout) (blocks_laid p.layout l.design lays).legal);
+          (ap are_sized clocks ∙ stmt_sized (clocking_plan p.layout) free.few st (mark_of p.layout) (blocks_laid p.layout l.design lays).legal);
       room = omega (arith, long, at, few);
       begins = record {
-        ready = subst (λ ws. IsReady (own_plan p.layout) rs (env_of ws)) (sym words) (begins p.layout l.design lays rest);
+        ready = record {
+          ready = subst (λ ws. IsReady (own_plan p.layout) rs (env_of ws)) (sym words) (begins p.layout l.design lays rest);
+          nexts = subst (λ ws. AreNext p.layout l.design (env_of ws)) (sym words) (begins_next p.layout l.design lays rest);
+        };
         based = subst (λ ws. IsBased (flat l.design) [] [] (signals (own_plan p.layout) (env_of ws))) (sym words) (begins_based p.layout l.design lays rest l refl);
       };
     }

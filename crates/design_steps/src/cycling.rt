@@ -25,17 +25,15 @@ impl Program {
         walk(&self.settling, words);
     }
 
-    // The clocked blocks over settled wires: all of them read what is there now, and then the registers go on to their next values. It
-    // takes no memory.
+    // The clocked blocks over settled wires: all of them read what is there now, and then the registers go on to their next values, which
+    // begin as what the registers have. It takes no memory.
     fn clock(&self, linked: &Linked, words: &mut [u128])
         requires sound { IsTrue (are_sound (length words.old) self.now.clocking.items) }
         requires room { 2 * length linked.now.design.signals.items + 1 < length words.old }
         ensures { env_of words.new ≡ carried linked.now.design.registers.items (length linked.now.design.signals.items + 1) 1
-            (walk self.now.clocking.items (at 0 (carried linked.now.design.registers.items 1 (length linked.now.design.signals.items + 1)
-            (env_of words.old)))).words }
+            (walk self.now.clocking.items (at 0 (env_of words.old))).words }
     {
         let count = linked.design.signals.len();
-        carry(&linked.design.registers, 1, count + 1, count, words);
         walk(&self.clocking, words);
         carry(&linked.design.registers, count + 1, 1, count, words);
     }

@@ -1,5 +1,5 @@
 // The words of a program, and the values of signals among them.
-ghost use Rattle.std.specs.Prelude.{◌≡◌, ◌<◌, ◌^◌, [], length, slice_index, IfOk};
+ghost use Rattle.std.specs.Prelude.{◌≡◌, ◌<◌, ◌+◌, ◌^◌, [], length, slice_index, IfOk};
 ghost use Rattle.typed_ir.specs.Flats.{signal_widths};
 ghost use Rattle.typed_ir.specs.Valuations.{put};
 ghost use Rattle.word_steps.specs.Walks.{env_of};
@@ -30,6 +30,14 @@ fn own_place(layout: &Layout, signal: SignalId) -> usize
         Some(_) => number + 1,
         None => 0,
     }
+}
+
+// The place that lies so many words above one.
+fn place_above(place: usize, count: usize, end: usize) -> usize
+    requires { place + count < end }
+    ensures { result ≡ place + count }
+{
+    place + count
 }
 
 // The word at a place.
@@ -73,7 +81,7 @@ impl Program {
         word_at(words, place)
     }
 
-    /// Gives a signal a value that fits its width, and leaves all others.
+    /// Gives a signal a value that fits its width, and leaves all others. It is the signal's next value too.
     pub fn put(&self, linked: &Linked, signal: SignalId, value: u128, words: &mut [u128])
         requires program { ∥ IsProgramOf self.now linked.now ∥₁ }
         requires long { length words.old ≡ length self.now.beginning.items }
@@ -84,6 +92,8 @@ impl Program {
     {
         let _linked = linked;
         let place = own_place(&self.layout, signal);
+        let next = place_above(place, self.layout.widths.len(), words.len());
         put_word(words, place, value);
+        put_word(words, next, value);
     }
 }

@@ -1,18 +1,29 @@
-use Rattle.std.proofs.Common.{subst, arith, true, ◌≡◌}
+use Rattle.std.proofs.Common.{subst, sym, ap, ◌∙◌, arith, true, ◌≡◌, map}
+use Rattle.typed_ir.specs.Statements.{stmt_of, sequence_of}
+use Rattle.step_layout.specs.Statements.{stmt_code}
+use Rattle.step_layout.specs.Nodes.{nodes_code}
+use Rattle.step_layout.specs.Views.{plan_of}
 use Rattle.design_steps.specs.declared.program.Program.{Program}
+use Rattle.design_steps.specs.Layings.{LaysOut, clocking_plan, mark_of}
 use Rattle.design_steps.specs.Places.{are_placed}
+use Rattle.design_steps.specs.Programs.{kept_nodes}
 use Rattle.design_steps.proofs.Made.{made}
 use Rattle.design_steps.proofs.making.program_of.Goals as goal
 
 pub returns : goal.returns
 returns c =
+    let l = c.args.linked.now in
     let p : Program = record {
-      layout = c.in_ok-layout.layout;
+      layout = c.clocking_of.new.layout;
       settling = c.in_ok-settling.settling;
       clocking = c.in_ok-clocking.clocking;
       beginning = c.in_ok-beginning.beginning;
     } in
-    made p c.args.linked.now c.in_ok-mark.mark c.greatest_of-last.result c.in_ok-layout.ensures c.in_ok-mark.ensures c.in_ok-settling.ensures c.in_ok-clocking.ensures
+    let mark = c.in_ok-mark.mark in
+    let same : c.in_ok-layout.layout ≡ c.clocking_of.new.layout = sym c.in_ok-clocking.ensures.layout in
+    made p l mark c.greatest_of-last.result (subst (λ x. LaysOut x l.design) same c.in_ok-layout.ensures) (c.in_ok-mark.ensures ∙ ap mark_of same)
+    (c.in_ok-settling.ensures ∙ ap (λ x. nodes_code (plan_of x) (kept_nodes x l) mark) same)
+    (c.in_ok-clocking.ensures.steps ∙ ap (λ x. stmt_code (clocking_plan x) (sequence_of (map stmt_of l.design.clocked.items)) mark) same)
     (λ n h. subst (λ steps. are_placed n steps ≡ true) c.deref-2.ensures.value
     (c.greatest_of.ensures.placed n (omega (arith, h, c.greatest_of-last.ensures.least))))
     (λ n h. subst (λ steps. are_placed n steps ≡ true) c.deref.ensures.value (c.greatest_of-last.ensures.placed n h))

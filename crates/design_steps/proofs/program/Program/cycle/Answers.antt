@@ -31,7 +31,7 @@ returns-clause-value c = λ state inputs h.
     ∥∥₁_elim c.requires.program (hlevel props) (λ is.
     next_state p l is w (env_of c.clock.new.words) v state inputs refl
     (subst (λ x. Turns p l w x v) (sym c.clock.ensures)
-    (turned p l is w state inputs settled.ready (c.settle.ensures.value state inputs h))))
+    (turned p l is w state inputs settled.ready.ready settled.ready.nexts (c.settle.ensures.value state inputs h))))
 
 pub returns-clause-ready : goal.returns-clause-ready
 returns-clause-ready c = λ state inputs h.
@@ -44,14 +44,22 @@ returns-clause-ready c = λ state inputs h.
     let value = c.settle.ensures.value state inputs h in
     record {
       ready = record {
-        fits = λ t k. ∥∥₁_elim c.requires.program (hlevel props) (λ is.
-            (subst (λ x. Turns p l w x v) (sym c.clock.ensures) (turned p l is w state inputs settled.ready value)).ready.fits t k);
-        next_fits = λ t m. ∥∥₁_elim c.requires.program (hlevel props) (λ is.
-            (subst (λ x. Turns p l w x v) (sym c.clock.ensures) (turned p l is w state inputs settled.ready value)).ready.next_fits t m);
-        holds = λ u m. ∥∥₁_elim c.requires.program (hlevel props) (λ is.
-            (subst (λ x. Turns p l w x v) (sym c.clock.ensures) (turned p l is w state inputs settled.ready value)).ready.holds u m);
+        ready = record {
+          fits = λ t k. ∥∥₁_elim c.requires.program (hlevel props) (λ is.
+              (subst (λ x. Turns p l w x v) (sym c.clock.ensures) (turned p l is w state inputs settled.ready.ready settled.ready.nexts value)).ready.fits t k);
+          next_fits = λ t m. ∥∥₁_elim c.requires.program (hlevel props) (λ is.
+              (subst (λ x. Turns p l w x v) (sym c.clock.ensures) (turned p l is w state inputs settled.ready.ready settled.ready.nexts value)).ready.next_fits t m);
+          holds = λ u m. ∥∥₁_elim c.requires.program (hlevel props) (λ is.
+              (subst (λ x. Turns p l w x v) (sym c.clock.ensures) (turned p l is w state inputs settled.ready.ready settled.ready.nexts value)).ready.holds u m);
+        };
+        nexts = record {
+          fits = λ t m. ∥∥₁_elim c.requires.program (hlevel props) (λ is.
+              (subst (λ x. Turns p l w x v) (sym c.clock.ensures) (turned p l is w state inputs settled.ready.ready settled.ready.nexts value)).nexts.fits t m);
+          same = λ t m. ∥∥₁_elim c.requires.program (hlevel props) (λ is.
+              (subst (λ x. Turns p l w x v) (sym c.clock.ensures) (turned p l is w state inputs settled.ready.ready settled.ready.nexts value)).nexts.same t m);
+        };
       };
       based = λ s i free. ∥∥₁_elim c.requires.program (hlevel props) (λ is.
           next_based p l is w after v state inputs refl settled.based
-          (subst (λ x. Turns p l w x v) (sym c.clock.ensures) (turned p l is w state inputs settled.ready value)) s i free);
+          (subst (λ x. Turns p l w x v) (sym c.clock.ensures) (turned p l is w state inputs settled.ready.ready settled.ready.nexts value)) s i free);
     }

@@ -24,4 +24,4 @@ returns-clause-fits c = λ ready less.
     let l = c.args.linked.now in
     let s = c.args.signal in
     subst (λ x. x < 2 ^ slice_index (signal_widths l.design.signals.items) s) (sym (c.word_at.ensures ∙ ap (env_of c.args.words.now) c.own_place-place.ensures))
-    (∥∥₁_elim c.requires.program (hlevel props) (λ is. value_fits p l is (env_of c.args.words.now) s ready less))
+    (∥∥₁_elim c.requires.program (hlevel props) (λ is. value_fits p l is (env_of c.args.words.now) s ready.ready less))
