@@ -38,7 +38,7 @@ pub record Stand (l : Layout) (design : Flat) : Type 0 where
   pub shared : (s : ℕ) → length design.signals.items ≤ s → (plan_of l).slot s ≡ 0
   pub next : (s : ℕ) → s < length design.signals.items → (plan_of l).next s ≡ 2 * length design.signals.items + 1 + s
   pub later : (s : ℕ) → s < length design.signals.items → (clocking_plan l).next s ≡ length design.signals.items + 1 + s
-  pub low : (v : ℕ) → 3 * length design.signals.items + 1 ≤ (plan_of l).place v
+  pub low : (v : ℕ) → 3 * length design.signals.items + 2 * length design.registers.items + 1 ≤ (plan_of l).place v
   pub high : (v : ℕ) → (plan_of l).place v < mark_of l
   pub mark : 3 * length design.signals.items + 1 < mark_of l
 

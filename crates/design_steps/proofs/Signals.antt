@@ -1,5 +1,5 @@
 -- The words of a program: those that it begins with, and a signal's word, read and written.
-use Rattle.std.proofs.Common.{◌≡◌, ℕ, ◌+◌, ◌*◌, ◌<◌, ◌^◌, ◌==◌, nat_lt, [], length, refl, sym, ap, ◌∙◌, subst, arith}
+use Rattle.std.proofs.Common.{◌≡◌, ℕ, ◌+◌, ◌*◌, ◌<◌, ◌≤◌, ◌^◌, ◌==◌, nat_lt, [], length, refl, sym, ap, ◌∙◌, subst, arith}
 use Rattle.std.specs.Prelude.{slice_index}
 use Rattle.std.proofs.Math.Logic.{∥∥₁_elim}
 use Rattle.std.proofs.Props.{props}
@@ -16,7 +16,9 @@ use Rattle.design_steps.specs.Programs.{IsAt, IsProgramOf, AreNext}
 use Rattle.design_steps.proofs.Counting.{in_all, below_all}
 use Rattle.design_steps.proofs.Apart.{widths_many, stand, own_later}
 use Rattle.design_steps.proofs.Copied.{below_member}
-use Rattle.design_steps.proofs.Turning.{own_low, place_high, wide}
+use Rattle.design_steps.specs.Moves.{moved}
+use Rattle.design_steps.proofs.Moved.{put_back}
+use Rattle.design_steps.proofs.Turning.{table, own_low, place_high, wide}
 
 -- the words that it begins with
 pub begun : (p : Program) (l : Linked) → ∥ IsProgramOf p l ∥₁ → IsAt p l [] [] p.beginning.items
@@ -36,15 +38,19 @@ begun p l known = record {
 }
 
 module _ (p : Program) (l : Linked) (is : IsProgramOf p l) where
-  pub slot_within : (s : ℕ) → (own_plan p.layout).slot s < length p.beginning.items
-  slot_within s =
-      let low = own_low p l is s in
+  -- where signals and next values are moved to, there are words
+  place_within : (k : ℕ) → k ≤ 2 * length l.design.signals.items → moved p.places.items k < length p.beginning.items
+  place_within k low =
+      let few = (table p l is).few k (omega (arith, low)) in
       let first = is.lays.first in
       let m : mark_of p.layout ≡ p.layout.constants.first + length p.layout.constants.values.keys + 1 = refl in
-      omega (arith, low, first, m, is.room)
+      omega (arith, few, first, m, is.room)
 
-  -- so that registers, their next values and the word of what isn't there have room
-  pub registers_within : 2 * length l.design.signals.items + 1 < length p.beginning.items
+  pub slot_within : (s : ℕ) → moved p.places.items ((own_plan p.layout).slot s) < length p.beginning.items
+  slot_within s = let low = own_low p l is s in place_within ((own_plan p.layout).slot s) (omega (arith, low))
+
+  -- so that registers and their next values have room
+  pub registers_within : 3 * length l.design.signals.items + 2 * length l.design.registers.items + 1 < length p.beginning.items
   registers_within =
       let first = is.lays.first in
       let m : mark_of p.layout ≡ p.layout.constants.first + length p.layout.constants.values.keys + 1 = refl in
@@ -76,8 +82,13 @@ module _ (p : Program) (l : Linked) (is : IsProgramOf p l) where
       let next = st.later s less in
       omega (arith, many, here, next)
 
-  pub next_within : (s : ℕ) → s < length l.design.signals.items → (clocking_plan p.layout).next s < length p.beginning.items
+  pub next_within : (s : ℕ) → s < length l.design.signals.items → moved p.places.items ((clocking_plan p.layout).next s) < length p.beginning.items
   next_within s less =
+      let next = (stand p.layout l.design is.lays).later s less in
+      place_within ((clocking_plan p.layout).next s) (omega (arith, next, less))
+
+  pub next_low : (s : ℕ) → s < length l.design.signals.items → (clocking_plan p.layout).next s < length p.beginning.items
+  next_low s less =
       let next = (stand p.layout l.design is.lays).later s less in
       omega (arith, next, less, registers_within)
 
@@ -168,3 +179,16 @@ module _ (p : Program) (l : Linked) (is : IsProgramOf p l) where
             (λ no. let other = eqb-false t s no in
             put-other (λ u. w (next u)) s x t other ∙ nexts.same t m ∙ sym (put-other w (pl.slot s) x (pl.slot t) (other_slot s t less other)) ∙ sym (both_own w s x t less));
       }
+
+  -- words that are written where the two places are moved to
+  pub both_back : (w w1 w2 : Valuation) (s x a b : ℕ) → a ≡ moved p.places.items ((own_plan p.layout).slot s) → b ≡ moved p.places.items ((clocking_plan p.layout).next s)
+      → w1 ≡ put w a x → w2 ≡ put w1 b x → (λ k. w2 (moved p.places.items k)) ≡ both (λ k. w (moved p.places.items k)) s x
+  both_back w w1 w2 s x a b ea eb e1 e2 =
+      let t = p.places.items in
+      let own = (own_plan p.layout).slot s in
+      let next = (clocking_plan p.layout).next s in
+      let once = (table p l is).once in
+      ap (λ v. (λ k. v (moved t k))) (e2 ∙ ap (λ c. put w1 c x) eb)
+      ∙ put_back t once w1 next x
+      ∙ ap (λ v. put (λ k. v (moved t k)) next x) (e1 ∙ ap (λ c. put w c x) ea)
+      ∙ ap (λ v. put v next x) (put_back t once w own x)

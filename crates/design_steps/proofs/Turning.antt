@@ -10,7 +10,7 @@ use Rattle.typed_ir.specs.declared.linked.Linked.{Linked}
 use Rattle.typed_ir.specs.declared.stmt.Stmt.{Stmt}
 use Rattle.typed_ir.specs.declared.update.Update.{Update}
 use Rattle.typed_ir.specs.Valuations.{Valuation, placed, look}
-use Rattle.typed_ir.specs.Orders.{Member}
+use Rattle.typed_ir.specs.Orders.{Member, Distinct}
 use Rattle.typed_ir.specs.Nodes.{IsOrder}
 use Rattle.typed_ir.specs.Stmts.{exec, pending, all_applied, is_legal, is_clocked}
 use Rattle.typed_ir.specs.Statements.{stmt_of, sequence_of}
@@ -23,20 +23,27 @@ use Rattle.typed_ir.proofs.Numbered.{wires_satisfy}
 use Rattle.typed_ir.proofs.Pending.{clocked_still}
 use Rattle.typed_ir.proofs.Ready.{member_or, fill-other, applied_others, all_signals, next_ready}
 use Rattle.typed_ir.proofs.Settled.{round-outside}
+use Rattle.word_steps.specs.declared.step.Step.{Step}
 use Rattle.word_steps.specs.Walks.{At, walk, at}
+use Rattle.step_layout.specs.Statements.{stmt_code}
+use Rattle.step_layout.specs.Nodes.{nodes_code}
 use Rattle.step_layout.specs.Plans.{IsReady, signals, width_at}
 use Rattle.step_layout.specs.Views.{plan_of}
 use Rattle.step_layout.proofs.Doing.{does}
 use Rattle.design_steps.specs.Namings.{Held, IsAlias}
 use Rattle.design_steps.specs.Layings.{own_plan, clocking_plan, mark_of, signals_of}
 use Rattle.design_steps.specs.Carries.{carried}
-use Rattle.design_steps.specs.Programs.{IsProgramOf, AreNext}
+use Rattle.design_steps.specs.Moves.{moved, block}
+use Rattle.design_steps.specs.Programs.{IsProgramOf, AreNext, kept_nodes}
 use Rattle.design_steps.specs.declared.program.Program.{Program}
 use Rattle.design_steps.proofs.Counting.{below_all, in_all}
 use Rattle.design_steps.proofs.Apart.{widths_many, stand, slot_few, clocking_apart, own_few, own_place, own_later, own_mark, alias_at, clocking_ready}
 use Rattle.design_steps.proofs.Laid.{blocks_laid}
 use Rattle.design_steps.proofs.Passed.{all_ends, all_settled}
 use Rattle.design_steps.proofs.Copied.{below_member, carried_kept, carried_at}
+use Rattle.design_steps.proofs.Moved.{walk_back}
+use Rattle.design_steps.proofs.Gathered.{IsTable, Gathers, all_table, all_gathered}
+use Rattle.design_steps.proofs.Blocks.{block_back}
 
 -- ---- plain facts
 
@@ -68,6 +75,13 @@ applied_at (u ∷ us) v w s e = applied_at us (placed u.span u.value v) (placed 
     ∙ sym (cond-true (s == u.span.signal) (replaced (w u.span.signal) u.span.low u.span.width u.value) (w s) yes))
     (λ no. cond-false (s == u.span.signal) _ (v s) no ∙ e ∙ sym (cond-false (s == u.span.signal) _ (w s) no)))
 
+-- the steps by places before they were moved
+abbrev pub settle_code : Program → Linked → List Step
+settle_code p l = nodes_code (plan_of p.layout) (kept_nodes p.layout l) (mark_of p.layout)
+
+abbrev pub clock_code : Program → Linked → List Step
+clock_code p l = stmt_code (clocking_plan p.layout) (sequence_of (map stmt_of l.design.clocked.items)) (mark_of p.layout)
+
 -- the signals after a cycle, over settled wires: those at their own places are as the updates make them, and the own places of others hold
 -- what they held
 pub record Turns (p : Program) (l : Linked) (old w v : Valuation) : Type 0 where
@@ -95,6 +109,33 @@ module _ (p : Program) (l : Linked) (is : IsProgramOf p l) where
       ∥∥₁_elim l.design.sound (hlevel props) (λ f. ∥∥₁_elim l.in_order (hlevel props) (λ o.
       wires_satisfy (flat l.design) l.order.items state inputs f.sound o))
 
+  -- words that are moved
+  pub table : IsTable p.places.items (3 * length l.design.signals.items + 2 * length l.design.registers.items + 1)
+  table =
+      subst (λ t. IsTable t (3 * length l.design.signals.items + 2 * length l.design.registers.items + 1)) (sym is.places)
+      (all_table (length l.design.signals.items) l.design.registers.items l.design.registers_there)
+
+  pub settled_back : (w : Valuation) → (λ k. (walk p.settling.items (at 0 w)).words (moved p.places.items k)) ≡ (walk (settle_code p l) (at 0 (λ k. w (moved p.places.items k)))).words
+  settled_back w =
+      ap (λ steps. (λ k. (walk steps (at 0 w)).words (moved p.places.items k))) is.settles
+      ∙ walk_back p.places.items table.once (settle_code p l) 0 w
+
+  -- and registers that are copied as one block
+  pub clocked_back : (w : Valuation)
+      → (λ k. block (3 * length l.design.signals.items + length l.design.registers.items + 1) (3 * length l.design.signals.items + 1) (length l.design.registers.items)
+      (walk p.clocking.items (at 0 w)).words (moved p.places.items k))
+      ≡ carried l.design.registers.items (length l.design.signals.items + 1) 1 (walk (clock_code p l) (at 0 (λ k. w (moved p.places.items k)))).words
+  clocked_back w =
+      let n = length l.design.signals.items in
+      let regs = l.design.registers.items in
+      let m = length regs in
+      let t = p.places.items in
+      let gathers : Distinct regs → Gathers t regs n (3 * n + 1) (3 * n + m + 1) = λ once.
+      subst (λ x. Gathers x regs n (3 * n + 1) (3 * n + m + 1)) (sym is.places) (all_gathered n regs l.design.registers_there once) in
+      ∥∥₁_elim l.design.sound (hlevel props) (λ f.
+      block_back t regs n (3 * n + 1) (3 * n + m + 1) table.once l.design.registers_there (gathers f.registers_once) (walk p.clocking.items (at 0 w)).words)
+      ∙ ap (carried regs (n + 1) 1) (ap (λ steps. (λ k. (walk steps (at 0 w)).words (moved t k))) is.clocks ∙ walk_back t table.once (clock_code p l) 0 w)
+
   pub wide : (s : ℕ) → s < length l.design.signals.items → s < length p.layout.widths.items
   wide s less = let e = widths_many p.layout l.design is.lays in omega (arith, e, less)
 
@@ -114,7 +155,7 @@ module _ (p : Program) (l : Linked) (is : IsProgramOf p l) where
   -- the steps of the nodes
   pub settles : (w : Valuation) (state inputs : List ℕ) → IsReady (own_plan p.layout) (signals_of l.design) w
       → IsBased (flat l.design) state inputs (signals (own_plan p.layout) w)
-      → Settles p l w (walk p.settling.items (at 0 w)).words (wires (flat l.design) state inputs)
+      → Settles p l w (walk (settle_code p l) (at 0 w)).words (wires (flat l.design) state inputs)
   settles w state inputs ready based = record {
     now = ∥∥₁_elim l.design.sound (hlevel props) (λ f. ∥∥₁_elim l.in_order (hlevel props) (λ o. (by f o).now));
     kept = λ s other. ∥∥₁_elim l.design.sound (hlevel props) (λ f. ∥∥₁_elim l.in_order (hlevel props) (λ o. (by f o).kept s other));
@@ -126,10 +167,10 @@ module _ (p : Program) (l : Linked) (is : IsProgramOf p l) where
     };
   }
     where
-      by : IsFlat (flat l.design) → IsOrder (flat l.design).nodes l.order.items → Settles p l w (walk p.settling.items (at 0 w)).words (wires (flat l.design) state inputs)
+      by : IsFlat (flat l.design) → IsOrder (flat l.design).nodes l.order.items → Settles p l w (walk (settle_code p l) (at 0 w)).words (wires (flat l.design) state inputs)
       by f o =
           let e = all_ends p.layout l is.lays f o state inputs w ready based in
-          let ends : (walk p.settling.items (at 0 w)).words ≡ e.after = ap (λ steps. (walk steps (at 0 w)).words) is.settles ∙ ap (λ (a : At). a.words) e.ends in
+          let ends : (walk (settle_code p l) (at 0 w)).words ≡ e.after = ap (λ (a : At). a.words) e.ends in
           subst (λ z. Settles p l w z (wires (flat l.design) state inputs)) (sym ends)
           (record { now = all_settled p.layout l is.lays f o state inputs w ready based; kept = e.reached.kept; still = e.reached.still; ready = e.reached.ready })
 
@@ -167,7 +208,7 @@ module _ (p : Program) (l : Linked) (is : IsProgramOf p l) where
   -- ---- the registers
 
   pub place_high : (v : ℕ) → 3 * length l.design.signals.items + 1 ≤ (plan_of p.layout).place v
-  place_high v = (stand p.layout l.design is.lays).low v
+  place_high v = let e = (stand p.layout l.design is.lays).low v in omega (arith, e)
 
   listed : (s : ℕ) → Member s l.design.registers.items → Member s (signals_of l.design)
   listed s m =
@@ -218,7 +259,7 @@ module _ (p : Program) (l : Linked) (is : IsProgramOf p l) where
   -- the words after the blocks and after the copy, where `v` are the settled wires
   module _ (w : Valuation) (state inputs : List ℕ) (ready : IsReady (own_plan p.layout) (signals_of l.design) w) (nexts : AreNext p.layout l.design w)
       (settled : signals (plan_of p.layout) w ≡ wires (flat l.design) state inputs) where
-    pub turned : Turns p l w (carried l.design.registers.items (length l.design.signals.items + 1) 1 (walk p.clocking.items (at 0 w)).words) (wires (flat l.design) state inputs)
+    pub turned : Turns p l w (carried l.design.registers.items (length l.design.signals.items + 1) 1 (walk (clock_code p l) (at 0 w)).words) (wires (flat l.design) state inputs)
     turned =
         let pl = clocking_plan p.layout in
         let ow = own_plan p.layout in
@@ -256,7 +297,7 @@ module _ (p : Program) (l : Linked) (is : IsProgramOf p l) where
         down_kept d.after (ow.next s) (omega (arith, here))
         ∙ d.kept (ow.next s) (let k = t.mark in omega (arith, here, less, k)) (λ u e. let few = slot_few p.layout l.design is.lays u in omega (arith, here, e, few))
         (λ u k e. let low = below_all n u k in let next = t.later u low in omega (arith, here, e, next, low)) in
-        let ends : (walk p.clocking.items (at 0 w)).words ≡ d.after = ap (λ steps. (walk steps (at 0 w)).words) is.clocks ∙ ap (λ (a : At). a.words) d.ends in
+        let ends : (walk (clock_code p l) (at 0 w)).words ≡ d.after = ap (λ (a : At). a.words) d.ends in
         subst (λ z. Turns p l w (carried regs (n + 1) 1 z) v) (sym ends)
         (record {
           now = now;

@@ -68,13 +68,13 @@ abbrev pub view_of : Layout → FlatNode → Plan
 view_of l k = with_slots l (λ s. if writes k ((plan_of l).slot s - 1) then (own_plan l).slot s else (plan_of l).slot s)
 
 -- signals stand at their own places, or where the one does of which they are another name; behind these are as many places for the next
--- values that clocked blocks put, then as many for those that nodes put, which nothing reads, and then the constants; each constant of
--- the design is among them
+-- values that clocked blocks put, then as many for those that nodes put, which nothing reads, then two for each register, to which words
+-- are moved, and then the constants; each constant of the design is among them
 pub record LaysOut (l : Layout) (design : Flat) : Type 0 where
   pub slots : AreShared design l.slots.items
   pub nexts : l.nexts.items ≡ run_from (2 * length design.signals.items + 1) (length design.signals.items)
   pub widths : l.widths.items ≡ signal_widths design.signals.items
-  pub first : l.constants.first ≡ 3 * length design.signals.items + 1
+  pub first : l.constants.first ≡ 3 * length design.signals.items + 2 * length design.registers.items + 1
   pub nodes : Each (λ v. Member v l.constants.values.keys) (nodes_constants (map node_of design.nodes.items))
   pub blocks : Each (λ v. Member v l.constants.values.keys) (stmt_constants (sequence_of (map stmt_of design.clocked.items)))
 

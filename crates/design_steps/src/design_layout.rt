@@ -17,7 +17,7 @@ use typed_ir::{Linked, Node, Signal, Stmt};
 
 // So many numbers from one on.
 #[tactic(auto, using(crate::proofs::Counting::run_push))]
-fn counted(alloc: Global, from: u32, count: u32) -> Result<Vec<u32>, NoMemory>
+pub(crate) fn counted(alloc: Global, from: u32, count: u32) -> Result<Vec<u32>, NoMemory>
     requires { from + count ≤ 2 ^ 32 - 1 }
     ensures { IfOk result (λ xs. xs.items ≡ run_from from count) }
 {
@@ -57,10 +57,11 @@ pub fn layout_of(alloc: Global, linked: &Linked) -> Result<Layout, NoMemory>
     ensures { IfOk result (λ l. LaysOut l linked.now.design) }
 {
     let design = &linked.design;
-    if design.signals.len() > 0x5555_5554 {
+    if design.signals.len() > 0x2fff_ffff || design.registers.len() > 0x2fff_ffff {
         return Err(NoMemory);
     }
     let count = design.signals.len() as u32;
+    let registers = design.registers.len() as u32;
     let widths = widths_of(alloc, &design.signals)?;
     let slots = slots_of(alloc, linked, counted(alloc, 1, count)?, &widths)?;
     let nexts = counted(alloc, 2 * count + 1, count)?;
@@ -71,7 +72,7 @@ pub fn layout_of(alloc: Global, linked: &Linked) -> Result<Layout, NoMemory>
         nexts,
         widths,
         constants: Constants {
-            first: 3 * count + 1,
+            first: 3 * count + 2 * registers + 1,
             values,
         },
     })

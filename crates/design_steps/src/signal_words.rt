@@ -4,6 +4,7 @@ ghost use Rattle.typed_ir.specs.Flats.{signal_widths};
 ghost use Rattle.typed_ir.specs.Valuations.{put};
 ghost use Rattle.word_steps.specs.Walks.{env_of};
 ghost use Rattle.design_steps.specs.Layings.{own_plan};
+ghost use Rattle.design_steps.specs.Moves.{moved};
 ghost use Rattle.design_steps.specs.Programs.{IsProgramOf, AreHeld, IsAt, values_in};
 
 use crate::program::Program;
@@ -32,12 +33,22 @@ fn own_place(layout: &Layout, signal: SignalId) -> usize
     }
 }
 
-// The place that lies so many words above one.
-fn place_above(place: usize, count: usize, end: usize) -> usize
+/// The place that lies so many words above one.
+pub(crate) fn place_above(place: usize, count: usize, end: usize) -> usize
     requires { place + count < end }
     ensures { result ≡ place + count }
 {
     place + count
+}
+
+// Where a place is moved to.
+fn placed(places: &[u32], place: usize) -> usize
+    ensures { result ≡ moved places.now place }
+{
+    match places.get(place) {
+        Some(to) => *to as usize,
+        None => place,
+    }
 }
 
 // The word at a place.
@@ -78,7 +89,7 @@ impl Program {
     {
         let _linked = linked;
         let place = own_place(&self.layout, signal);
-        word_at(words, place)
+        word_at(words, placed(&self.places, place))
     }
 
     /// Gives a signal a value that fits its width, and leaves all others. It is the signal's next value too.
@@ -93,7 +104,9 @@ impl Program {
         let _linked = linked;
         let place = own_place(&self.layout, signal);
         let next = place_above(place, self.layout.widths.len(), words.len());
-        put_word(words, place, value);
-        put_word(words, next, value);
+        let first = placed(&self.places, place);
+        let second = placed(&self.places, next);
+        put_word(words, first, value);
+        put_word(words, second, value);
     }
 }

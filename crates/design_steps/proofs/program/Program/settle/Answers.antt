@@ -9,7 +9,8 @@ use Rattle.step_layout.specs.Plans.{IsReady, signals}
 use Rattle.step_layout.specs.Views.{plan_of}
 use Rattle.design_steps.specs.Layings.{own_plan, signals_of}
 use Rattle.design_steps.specs.Programs.{AreNext}
-use Rattle.design_steps.proofs.Turning.{settles, settled_based, settled_next}
+use Rattle.design_steps.specs.Moves.{moved, env_by}
+use Rattle.design_steps.proofs.Turning.{settle_code, settled_back, settles, settled_based, settled_next}
 use Rattle.design_steps.proofs.program.Program.settle.Goals as goal
 
 pub walk-requires : goal.walk-requires
@@ -22,9 +23,10 @@ walk-requires c =
 pub returns-clause-value : goal.returns-clause-value
 returns-clause-value c = λ state inputs h.
     let p = c.args.self.now in
-    let w = env_of c.args.words.now in
-    let e : env_of c.walk.new.words ≡ (walk p.settling.items (at 0 w)).words =
-    c.walk.ensures ∙ ap (λ steps. (walk steps (at 0 w)).words) c.deref.ensures.value in
+    let w = env_by p.places.items c.args.words.now in
+    let e : env_by p.places.items c.walk.new.words ≡ (walk (settle_code p c.args.linked.now) (at 0 w)).words =
+    ap (λ v. (λ k. v (moved p.places.items k))) (c.walk.ensures ∙ ap (λ steps. (walk steps (at 0 (env_of c.args.words.now))).words) c.deref.ensures.value)
+    ∙ ∥∥₁_elim c.requires.program (hlevel props) (λ is. settled_back p c.args.linked.now is (env_of c.args.words.now)) in
     ap (signals (plan_of p.layout)) e
     ∙ ∥∥₁_elim c.requires.program (hlevel props) (λ is. (settles p c.args.linked.now is w state inputs h.ready.ready h.based).now)
 
@@ -32,9 +34,11 @@ pub returns-clause-ready : goal.returns-clause-ready
 returns-clause-ready c = λ state inputs h.
     let p = c.args.self.now in
     let l = c.args.linked.now in
-    let w = env_of c.args.words.now in
-    let after = (walk p.settling.items (at 0 w)).words in
-    let e : env_of c.walk.new.words ≡ after = c.walk.ensures ∙ ap (λ steps. (walk steps (at 0 w)).words) c.deref.ensures.value in
+    let w = env_by p.places.items c.args.words.now in
+    let after = (walk (settle_code p l) (at 0 w)).words in
+    let e : env_by p.places.items c.walk.new.words ≡ after =
+    ap (λ v. (λ k. v (moved p.places.items k))) (c.walk.ensures ∙ ap (λ steps. (walk steps (at 0 (env_of c.args.words.now))).words) c.deref.ensures.value)
+    ∙ ∥∥₁_elim c.requires.program (hlevel props) (λ is. settled_back p l is (env_of c.args.words.now)) in
     record {
       ready = record {
         ready = subst (IsReady (own_plan p.layout) (signals_of l.design)) (sym e) (record {
