@@ -1,6 +1,6 @@
 -- Steps over words that are moved do what they did.
-use Rattle.std.proofs.Common.{Bool, true, false, ◌≡◌, ℕ, zero, suc, ◌==◌, List, [], ◌∷◌, map, refl, sym, ap, ap₂, ◌∙◌, subst, true≢false}
-use Rattle.std.specs.Prelude.{◌&&◌, if◌then◌else◌}
+use Rattle.std.proofs.Common.{true, false, ◌≡◌, ℕ, zero, suc, ◌==◌, List, [], ◌∷◌, map, refl, sym, ap, ap₂, ◌∙◌, true≢false}
+use Rattle.std.specs.Prelude.{◌&&◌}
 use Rattle.std.proofs.lemmas.Bool.{eqb-true, eqb-false, cond-true, cond-false}
 use Rattle.typed_ir.specs.Valuations.{Valuation, put}
 use Rattle.typed_ir.proofs.Cases.{by_cases}
@@ -8,7 +8,7 @@ use Rattle.word_steps.specs.declared.step.Step.{Step}
 use Rattle.word_steps.specs.declared.op.Op.{Op}
 use Rattle.word_steps.specs.declared.op.Op.TheVariants.{SkipIfZero, SkipIfEqual, SkipUnlessEqual, SkipUnlessLess, Skip}
 use Rattle.word_steps.specs.Sound.{is_sized}
-use Rattle.word_steps.specs.Walks.{At, at, act, apply, go_at, skips, writes, walk, seen}
+use Rattle.word_steps.specs.Walks.{at, act, apply, skips, writes, walk, seen}
 use Rattle.word_steps.proofs.Words.{put-same, put-other}
 use Rattle.word_steps.proofs.Steps.{act-writes, act_still}
 use Rattle.step_layout.specs.Sizes.{are_sized}

@@ -1,5 +1,4 @@
 use Rattle.std.proofs.Common.{◌≡◌, ◌+◌, ◌*◌, ◌∙◌, length, ap, arith}
-use Rattle.design_steps.specs.Layings.{run_from}
 use Rattle.design_steps.proofs.Gathered.{run_long}
 use Rattle.design_steps.proofs.gathering.places_of.Goals as goal
 
