@@ -121,7 +121,7 @@ fn gives(op: Comparison, count: usize, values: [u128; 3]) -> Row {
     Row { op, count, values }
 }
 
-// One step compares and skips, for orders of signed values a step of its own compares; beside it there are the two assignments, and the step over the second one. As signed values 2 and 3 are
+// One step compares and skips; beside it there are the two assignments, and the step over the second one. As signed values 2 and 3 are
 // -2 and -1.
 #[test]
 fn conditions_by_hand(rt: HostRuntime) -> Result<(), Fail> {
@@ -132,8 +132,10 @@ fn conditions_by_hand(rt: HostRuntime) -> Result<(), Fail> {
         gives(Comparison::Greater(Signedness::Unsigned), 4, [9, 9, 7]),
         gives(Comparison::AtMost(Signedness::Unsigned), 4, [7, 7, 9]),
         gives(Comparison::AtLeast(Signedness::Unsigned), 4, [9, 7, 7]),
-        gives(Comparison::Less(Signedness::Signed), 5, [9, 9, 9]),
-        gives(Comparison::Greater(Signedness::Signed), 5, [7, 9, 7]),
+        gives(Comparison::Less(Signedness::Signed), 4, [9, 9, 9]),
+        gives(Comparison::Greater(Signedness::Signed), 4, [7, 9, 7]),
+        gives(Comparison::AtMost(Signedness::Signed), 4, [9, 7, 9]),
+        gives(Comparison::AtLeast(Signedness::Signed), 4, [7, 7, 7]),
     ] {
         let st = two_sides(row.op, rt.alloc())?;
         let steps = laid(&st, rt.alloc())?;

@@ -56,6 +56,8 @@ pub fn long_made(step: &Step, x: u128, y: u128, z: u128) -> u128
         | Op::SkipUnlessEqual
         | Op::SkipUnlessLess
         | Op::SkipIfLess
+        | Op::SkipUnlessSignedLess
+        | Op::SkipIfSignedLess
         | Op::Skip => 0,
     }
 }

@@ -91,6 +91,10 @@ pub enum Op {
     SkipUnlessLess,
     /// Passes over `c` steps where `a < b`.
     SkipIfLess,
+    /// Passes over `c` steps unless `a < b`, both signed values of the step's width.
+    SkipUnlessSignedLess,
+    /// Passes over `c` steps where `a < b`, both signed values of the step's width.
+    SkipIfSignedLess,
     /// Passes over `c` steps.
     Skip,
 }

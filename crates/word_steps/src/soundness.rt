@@ -16,6 +16,8 @@ pub fn writes(op: Op) -> bool
         | Op::SkipUnlessEqual
         | Op::SkipUnlessLess
         | Op::SkipIfLess
+        | Op::SkipUnlessSignedLess
+        | Op::SkipIfSignedLess
         | Op::Skip => false,
         _ => true,
     }
