@@ -91,9 +91,11 @@ module _ (ws : List ℕ) (env : Valuation) (fit : (s : ℕ) → s < length ws �
   both_fit : (op : Comparison) (a b : Sized) → agrees (Binary (Compare op) a b) ≡ true → fits_signals (Binary (Compare op) a b) ws ≡ true
       → (width_of b ≡ width_of a) × (value_of a env < 2 ^ width_of a) × (value_of b env < 2 ^ width_of a)
   both_fit op a b h f =
-      let p = agree_both (width_of a == width_of b) (agrees a) (agrees b) h in
-      (sym (eqb-true (width_of a) (width_of b) p.0), value_fits ws env fit a p.1 (and_left (fits_signals a ws) (fits_signals b ws) f),
-      at_width (width_of a) (width_of b) (value_of b env) p.0 (value_fits ws env fit b p.2 (and_right (fits_signals a ws) (fits_signals b ws) f)))
+      let p = agree_both (width_of a == width_of b) (agrees a) (agrees b) h in (
+        sym (eqb-true (width_of a) (width_of b) p.0),
+        value_fits ws env fit a p.1 (and_left (fits_signals a ws) (fits_signals b ws) f),
+        at_width (width_of a) (width_of b) (value_of b env) p.0 (value_fits ws env fit b p.2 (and_right (fits_signals a ws) (fits_signals b ws) f)),
+      )
 
   -- all of them where the condition's value is 0, and else none
   pub passed_right : (c : Sized) (past : ℕ) → agrees c ≡ true → fits_signals c ws ≡ true

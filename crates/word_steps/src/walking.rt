@@ -22,8 +22,16 @@ fn skips(op: Op, width: u8, count: u32, x: u128, y: u128) -> usize
         Op::SkipUnlessEqual => if x == y { 0 } else { count as usize },
         Op::SkipUnlessLess => if x < y { 0 } else { count as usize },
         Op::SkipIfLess => if x < y { count as usize } else { 0 },
-        Op::SkipUnlessSignedLess => if is_signed_less(x, y, width) { 0 } else { count as usize },
-        Op::SkipIfSignedLess => if is_signed_less(x, y, width) { count as usize } else { 0 },
+        Op::SkipUnlessSignedLess => if is_signed_less(x, y, width) {
+            0
+        } else {
+            count as usize
+        },
+        Op::SkipIfSignedLess => if is_signed_less(x, y, width) {
+            count as usize
+        } else {
+            0
+        },
         Op::Skip => count as usize,
         _ => 0,
     }
