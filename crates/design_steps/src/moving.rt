@@ -3,18 +3,7 @@ ghost use Rattle.std.specs.Prelude.{◌≡◌};
 ghost use Rattle.word_steps.specs.Walks.{writes};
 ghost use Rattle.design_steps.specs.Moves.{moved, moved_step};
 
-use word_steps::{Op, Step};
-
-// Whether a step writes a word; the others pass over steps.
-fn writes(op: Op) -> bool
-    ensures { result ≡ writes op }
-{
-    match op {
-        Op::SkipIfZero | Op::SkipIfEqual | Op::SkipUnlessEqual | Op::SkipUnlessLess | Op::Skip =>
-            false,
-        _ => true,
-    }
-}
+use word_steps::{Step, writes};
 
 /// Where a place is moved to.
 pub fn moved(places: &[u32], place: u32) -> u32
