@@ -6,7 +6,7 @@ use Rattle.typed_ir.specs.Valuations.{Valuation, put}
 use Rattle.typed_ir.proofs.Cases.{by_cases}
 use Rattle.word_steps.specs.declared.step.Step.{Step}
 use Rattle.word_steps.specs.declared.op.Op.{Op}
-use Rattle.word_steps.specs.declared.op.Op.TheVariants.{SkipIfZero, SkipIfEqual, SkipUnlessEqual, SkipUnlessLess, Skip}
+use Rattle.word_steps.specs.declared.op.Op.TheVariants.{SkipIfZero, SkipIfEqual, SkipUnlessEqual, SkipUnlessLess, SkipIfLess, SkipUnlessSignedLess, SkipIfSignedLess, Skip}
 use Rattle.word_steps.specs.Sound.{is_sized}
 use Rattle.word_steps.specs.Walks.{at, act, apply, skips, writes, walk, seen}
 use Rattle.word_steps.proofs.Words.{put-same, put-other}
@@ -20,13 +20,16 @@ moved_sized t [] = refl
 moved_sized t (s ∷ ss) = ap (λ b. is_sized s.wide s.op s.width s.low && b) (moved_sized t ss)
 
 -- a step that writes passes over none
-writes_skip : (op : Op) (n m x y : ℕ) → writes op ≡ true → skips op n x y ≡ skips op m x y
-writes_skip SkipIfZero n m x y h = absurd (true≢false (sym h))
-writes_skip SkipIfEqual n m x y h = absurd (true≢false (sym h))
-writes_skip SkipUnlessEqual n m x y h = absurd (true≢false (sym h))
-writes_skip SkipUnlessLess n m x y h = absurd (true≢false (sym h))
-writes_skip Skip n m x y h = absurd (true≢false (sym h))
-writes_skip op n m x y h = refl
+writes_skip : (op : Op) (width n m x y : ℕ) → writes op ≡ true → skips op width n x y ≡ skips op width m x y
+writes_skip SkipIfZero width n m x y h = absurd (true≢false (sym h))
+writes_skip SkipIfEqual width n m x y h = absurd (true≢false (sym h))
+writes_skip SkipUnlessEqual width n m x y h = absurd (true≢false (sym h))
+writes_skip SkipUnlessLess width n m x y h = absurd (true≢false (sym h))
+writes_skip SkipIfLess width n m x y h = absurd (true≢false (sym h))
+writes_skip SkipUnlessSignedLess width n m x y h = absurd (true≢false (sym h))
+writes_skip SkipIfSignedLess width n m x y h = absurd (true≢false (sym h))
+writes_skip Skip width n m x y h = absurd (true≢false (sym h))
+writes_skip op width n m x y h = refl
 
 module _ (t : List ℕ) (once : (a b : ℕ) → moved t a ≡ moved t b → a ≡ b) where
   abbrev back : Valuation → Valuation
@@ -55,14 +58,14 @@ module _ (t : List ℕ) (once : (a b : ℕ) → moved t a ≡ moved t b → a �
       ∙ sym (act-writes s (back w) yes))
       (λ no. ap back (act_still (moved_step t s) w no) ∙ sym (act_still s (back w) no))
 
-  skips_back : (s : Step) (x y : ℕ) → skips s.op (moved_step t s).c x y ≡ skips s.op s.c x y
+  skips_back : (s : Step) (x y : ℕ) → skips s.op s.width (moved_step t s).c x y ≡ skips s.op s.width s.c x y
   skips_back s x y = by_cases (writes s.op)
-      (λ yes. writes_skip s.op (moved_step t s).c s.c x y yes)
-      (λ no. ap (λ c. skips s.op c x y) (c_still s no))
+      (λ yes. writes_skip s.op s.width (moved_step t s).c s.c x y yes)
+      (λ no. ap (λ c. skips s.op s.width c x y) (c_still s no))
 
   pub walk_back : (steps : List Step) (skip : ℕ) (w : Valuation) → back (walk (map (moved_step t) steps) (at skip w)).words ≡ (walk steps (at skip (back w))).words
   walk_back [] skip w = refl
   walk_back (s ∷ ss) zero w =
-      walk_back ss (skips s.op (moved_step t s).c (w (moved t s.a)) (w (moved t s.b))) (act (moved_step t s) w)
+      walk_back ss (skips s.op s.width (moved_step t s).c (w (moved t s.a)) (w (moved t s.b))) (act (moved_step t s) w)
       ∙ ap₂ (λ k v. (walk ss (at k v)).words) (skips_back s (w (moved t s.a)) (w (moved t s.b))) (act_back s w)
   walk_back (s ∷ ss) (suc n) w = walk_back ss n w
