@@ -16,7 +16,8 @@ use std::alloc::Global;
 use std::sync::Wait;
 use std::thread::Threads;
 
-/// The lines that answer a command, or None where memory runs out as it is carried out, which is counted. The error is that it runs out before.
+/// The lines that answer a command, none where it isn't read as one, or None where memory runs out as it is carried out, which is counted. The error is that
+/// it runs out outside of that.
 #[tactic(auto, using(crate::proofs::Standing::stands_as))]
 fn ask<R: Threads + Wait + Sync, F: Shelf>(
     rt: &R,
@@ -46,11 +47,11 @@ fn ask<R: Threads + Wait + Sync, F: Shelf>(
             }
         }
         ReadEnd::Refused(fault) => Ok(Some(session.refusal(alloc, &fault)?.lines)),
-        _ => Err(NoMemory),
+        _ => Ok(Some(TextBytes::new(Vec::new(alloc)))),
     }
 }
 
-/// The lines that answer a command that changes nothing, asked so often at most.
+/// The lines that answer a command that changes nothing, asked so often at most: none where memory runs out in it each time.
 fn answered<R: Threads + Wait + Sync, F: Shelf>(
     rt: &R,
     alloc: Global,
@@ -68,7 +69,7 @@ fn answered<R: Threads + Wait + Sync, F: Shelf>(
     ensures at { StandsAt session.new (known pass.new) }
 {
     if tries == 0 {
-        return Err(NoMemory);
+        return Ok(TextBytes::new(Vec::new(alloc)));
     }
     match ask(rt, alloc, session, turn, pass, shelf, command, refusals)? {
         Some(lines) => Ok(lines),
@@ -129,7 +130,7 @@ pub fn carry<R: Threads + Wait + Sync, F: Shelf>(
     ensures at { StandsAt session.new (known pass.new) }
 {
     if tries == 0 {
-        return Err(NoMemory);
+        return Ok(false);
     }
     let told = ask(rt, alloc, session, turn, pass, shelf, row.command, refusals)?;
     let status = answered(

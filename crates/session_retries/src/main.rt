@@ -4,7 +4,7 @@
 // where it has no reply; `running` asks all, over a shelf that has no memory once (`dry_shelf`), and has the history looked at.
 //
 // A line is written for each load that wants memory, and one where none does: what isn't right is named. The status is 5 where memory runs out outside of a
-// command, 10 where it does in one by more than a load, and 0 elsewhere.
+// command, 10 where it does in one by more than a load, 11 where a load that wants memory wasn't told as that, and 0 elsewhere.
 #![tactic(auto)]
 
 mod asking;
@@ -41,6 +41,12 @@ fn main(rt: HostRuntime) -> ExitCode {
             Err(_) => return ExitCode::from(5),
         }
     }
-    let status: u8 = if refusals > LOADS { 10 } else { 0 };
+    let status: u8 = if refusals > LOADS {
+        10
+    } else if refusals < LOADS {
+        11
+    } else {
+        0
+    };
     ExitCode::from(status)
 }
