@@ -32,6 +32,26 @@ pub fn choose<S>(segs: &[Segment<S>], limit: u64) -> (usize, u64)
     (segs.len(), cycle)
 }
 
+// The state carried over into the new machine, which shares what it can with the last mark that was carried over.
+fn carry_near<M: Machine>(
+    alloc: Global,
+    old: &M,
+    new: &M,
+    ops: &M::Ops,
+    state: &M::State,
+    renewed: &[Segment<M::State>],
+) -> Result<M::State, NoMemory>
+    requires ops { M.valid old.now new.now ops.now }
+    requires fits { M.fits old.now state.now }
+    ensures { IfOk result (λ s. s ≡ M.kit.carried old.now new.now ops.now state.now) }
+{
+    let mut carried = new.carry(alloc, old, ops, state)?;
+    if let Some(near) = renewed.last() {
+        new.share_parts(&mut carried, &near.state);
+    }
+    Ok(carried)
+}
+
 /// The marks carried over into the new machine, with open links.
 pub fn carry_over<M: Machine>(
     alloc: Global,
@@ -48,7 +68,7 @@ pub fn carry_over<M: Machine>(
     ensures items { OnOk result (renewed.new.items ≡ renewed.old.items ++ carried_over M.kit old.now new.now ops.now segs.now) }
 {
     for seg in segs {
-        let state = new.carry(alloc, old, ops, &seg.state)?;
+        let state = carry_near(alloc, old, new, ops, &seg.state, renewed)?;
         renewed.push_reserved(Segment {
             link: Link::Open,
             to: seg.to,

@@ -75,6 +75,12 @@ impl Machine for Design {
         x.share()
     }
 
+    fn share_parts(&self, state: &mut SlotState, near: &SlotState)
+        ensures { state.new ≡ state.old }
+    {
+        state.share_with(near);
+    }
+
     fn same_row(one: &Row, other: &Row) -> bool
         ensures same { result ≡ true → one.now ≡ other.now }
         ensures all { one.now ≡ other.now → result ≡ true }

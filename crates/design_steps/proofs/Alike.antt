@@ -235,7 +235,7 @@ module _ (l : Plan) (f : ℕ → ℕ) where
       two_same (stands_same c mark h.fits h.fixed) (ap (λ k. step SkipIfZero 1 0 true 0 k 0 past ∷ []) (operand_same c mark h.fixed))
   test_same (Pair op a b) mark past h =
       three_same (stands_same a mark h.1.fits h.1.fixed) (stands_same b (mark + 1) h.2.fits h.2.fixed)
-      (ap₂ (λ (x y : ℕ). step op 1 0 true 0 x y past ∷ []) (operand_same a mark h.1.fixed) (operand_same b (mark + 1) h.2.fixed))
+      (ap₂ (λ (x y : ℕ). step op (width_of a) 0 true 0 x y past ∷ []) (operand_same a mark h.1.fixed) (operand_same b (mark + 1) h.2.fixed))
 
   condition_same : (c : Sized) (mark past : ℕ) → is_sized c l.widths ≡ true → Fixes (reads c) → condition (moved l f) c mark past ≡ condition l c mark past
   condition_same c mark past sized h =

@@ -12,11 +12,11 @@ use Rattle.typed_ir.specs.Nodes.{FlatNode}
 use Rattle.typed_ir.specs.Flats.{signal_widths}
 use Rattle.typed_ir.proofs.Cases.{by_cases}
 use Rattle.step_layout.specs.declared.layout.Layout.{Layout}
-use Rattle.step_layout.specs.Plans.{IsApart, IsReady, IsAlone}
+use Rattle.step_layout.specs.Plans.{IsApart, IsReady, IsAlone, width_at}
 use Rattle.step_layout.specs.Pools.{or_end, spot}
 use Rattle.step_layout.specs.Views.{plan_of}
 use Rattle.design_steps.specs.Namings.{IsAlias}
-use Rattle.design_steps.specs.Layings.{own, with_slots, own_plan, view_of, writes, signals_of, mark_of, LaysOut}
+use Rattle.design_steps.specs.Layings.{own, next_of, with_places, with_slots, clocking_plan, own_plan, view_of, writes, signals_of, mark_of, LaysOut}
 use Rattle.design_steps.proofs.Counting.{run_in, run_out, below_all}
 
 -- ---- the plan
@@ -36,10 +36,11 @@ pub record Stand (l : Layout) (design : Flat) : Type 0 where
   pub here : (s : ℕ) → s < length design.signals.items → (own_plan l).slot s ≡ 1 + s
   pub none : (s : ℕ) → length design.signals.items ≤ s → (own_plan l).slot s ≡ 0
   pub shared : (s : ℕ) → length design.signals.items ≤ s → (plan_of l).slot s ≡ 0
-  pub next : (s : ℕ) → s < length design.signals.items → (plan_of l).next s ≡ length design.signals.items + 1 + s
-  pub low : (v : ℕ) → length design.signals.items * 2 + 1 ≤ (plan_of l).place v
+  pub next : (s : ℕ) → s < length design.signals.items → (plan_of l).next s ≡ 2 * length design.signals.items + 1 + s
+  pub later : (s : ℕ) → s < length design.signals.items → (clocking_plan l).next s ≡ length design.signals.items + 1 + s
+  pub low : (v : ℕ) → 3 * length design.signals.items + 2 * length design.registers.items + 1 ≤ (plan_of l).place v
   pub high : (v : ℕ) → (plan_of l).place v < mark_of l
-  pub mark : length design.signals.items * 2 + 1 < mark_of l
+  pub mark : 3 * length design.signals.items + 1 < mark_of l
 
 beyond : (xs : List ℕ) (s : ℕ) → length xs ≤ s → slice_index xs s ≡ 0
 beyond [] s h = refl
@@ -54,7 +55,8 @@ stand l design h =
       here = λ s less. ap (λ m. own m s) many ∙ run_in 1 n s less;
       none = λ s more. ap (λ m. own m s) many ∙ run_out 1 n s more;
       shared = λ s more. beyond l.slots.items s (let e = h.slots.long in omega (arith, e, more));
-      next = λ s less. ap (λ xs. slice_index xs s) h.nexts ∙ run_in (n + 1) n s less;
+      next = λ s less. ap (λ xs. slice_index xs s) h.nexts ∙ run_in (2 * n + 1) n s less;
+      later = λ s less. ap (λ m. next_of m s) many ∙ run_in (n + 1) n s less;
       low = λ v. let f = h.first in let p : (plan_of l).place v ≡ l.constants.first + spot l.constants.values.keys v = refl in omega (arith, f, p);
       high = λ v. let e : spot l.constants.values.keys v ≤ length l.constants.values.keys = within_end (λ x. v == x) l.constants.values.keys in
           let p : (plan_of l).place v ≡ l.constants.first + spot l.constants.values.keys v = refl in
@@ -100,26 +102,38 @@ slot_few l design h s =
     (λ yes. let r = stands l design h s (ltb-true s n yes) in let e = r.at in let less = r.there in omega (arith, e, less))
     (λ no. let e = t.shared s (ltb-false s n no) in omega (arith, e))
 
--- signals may stand wherever no next value and no constant does
-apart_at : (l : Layout) (design : Flat) → LaysOut l design → (slot : ℕ → ℕ) → ((s : ℕ) → slot s ≤ length design.signals.items)
-    → IsApart (with_slots l slot) (signals_of design) (mark_of l)
-apart_at l design h slot high =
+-- signals may stand wherever no next value and no constant does, and next values behind them, one after another
+apart_at : (l : Layout) (design : Flat) → LaysOut l design → (slot next : ℕ → ℕ) (first : ℕ) → ((s : ℕ) → slot s ≤ length design.signals.items)
+    → ((s : ℕ) → s < length design.signals.items → next s ≡ first + s) → length design.signals.items < first → first ≤ 2 * length design.signals.items + 1
+    → IsApart (with_places l slot next) (signals_of design) (mark_of l)
+apart_at l design h slot next first high is above below =
     let n = length design.signals.items in
     let t = stand l design h in
     let within : (s : ℕ) → Member s (signals_of design) → s < n = λ s m. below_all n s m in
     record {
       few = λ s. subst (λ ws. slice_index ws s ≤ 128) (sym h.widths) (few_bits design.signals.items s);
       slots = λ s. let a = high s in let b = t.mark in omega (arith, a, b);
-      nexts = λ s m. let a = t.next s (within s m) in let b = t.mark in let c = within s m in omega (arith, a, b, c);
+      nexts = λ s m. let a = is s (within s m) in let b = t.mark in let c = within s m in omega (arith, a, b, c, below);
       places = t.high;
-      slot_next = λ s u m e. let a = t.next u (within u m) in let b = high s in omega (arith, a, b, e);
+      slot_next = λ s u m e. let a = is u (within u m) in let b = high s in omega (arith, a, b, e, above);
       slot_place = λ s v e. let a = high s in let b = t.low v in omega (arith, a, b, e);
-      next_place = λ s v m e. let a = t.next s (within s m) in let b = t.low v in let c = within s m in omega (arith, a, b, c, e);
-      next_next = λ s u m k e. let a = t.next s (within s m) in let b = t.next u (within u k) in omega (arith, a, b, e);
+      next_place = λ s v m e. let a = is s (within s m) in let b = t.low v in let c = within s m in omega (arith, a, b, c, e, below);
+      next_next = λ s u m k e. let a = is s (within s m) in let b = is u (within u k) in omega (arith, a, b, e);
     }
 
+slots_apart : (l : Layout) (design : Flat) → LaysOut l design → (slot : ℕ → ℕ) → ((s : ℕ) → slot s ≤ length design.signals.items)
+    → IsApart (with_slots l slot) (signals_of design) (mark_of l)
+slots_apart l design h slot high =
+    let n = length design.signals.items in
+    apart_at l design h slot (plan_of l).next (2 * n + 1) high (stand l design h).next (omega arith) (omega arith)
+
 pub apart : (l : Layout) (design : Flat) → LaysOut l design → IsApart (plan_of l) (signals_of design) (mark_of l)
-apart l design h = apart_at l design h (plan_of l).slot (slot_few l design h)
+apart l design h = slots_apart l design h (plan_of l).slot (slot_few l design h)
+
+pub clocking_apart : (l : Layout) (design : Flat) → LaysOut l design → IsApart (clocking_plan l) (signals_of design) (mark_of l)
+clocking_apart l design h =
+    let n = length design.signals.items in
+    apart_at l design h (plan_of l).slot (clocking_plan l).next (n + 1) (slot_few l design h) (stand l design h).later (omega arith) (omega arith)
 
 -- ---- a node's own plan
 
@@ -135,10 +149,13 @@ pub either : (P : ℕ → Type 0) (b : Bool) (x y : ℕ) → P x → P y → P (
 either P true x y p q = p
 either P false x y p q = q
 
+pub view_few : (l : Layout) (design : Flat) → LaysOut l design → (k : FlatNode) (s : ℕ) → (view_of l k).slot s ≤ length design.signals.items
+view_few l design h k s =
+    either (λ x. x ≤ length design.signals.items) (writes k ((plan_of l).slot s - 1)) ((own_plan l).slot s) ((plan_of l).slot s)
+    (own_few l design h s) (slot_few l design h s)
+
 pub view_apart : (l : Layout) (design : Flat) → LaysOut l design → (k : FlatNode) → IsApart (view_of l k) (signals_of design) (mark_of l)
-view_apart l design h k =
-    apart_at l design h (view_of l k).slot (λ s. either (λ x. x ≤ length design.signals.items) (writes k ((plan_of l).slot s - 1)) ((own_plan l).slot s) ((plan_of l).slot s)
-    (own_few l design h s) (slot_few l design h s))
+view_apart l design h k = slots_apart l design h (view_of l k).slot (view_few l design h k)
 
 -- in which a signal that has its own place stands there
 pub view_own : (l : Layout) (k : FlatNode) (s : ℕ) → (plan_of l).slot s ≡ (own_plan l).slot s → (view_of l k).slot s ≡ (own_plan l).slot s
@@ -190,6 +207,14 @@ module _ (l : Layout) (design : Flat) (h : LaysOut l design) where
       let b = (stand l design h).next t less in
       omega (arith, a, b, e)
 
+  -- nor one of those that the clocked blocks put
+  pub own_later : (s t : ℕ) → Member t (signals_of design) → (own_plan l).slot s ≡ (clocking_plan l).next t → ⊥
+  own_later s t m e =
+      let less = below_all (length design.signals.items) t m in
+      let a = own_few l design h s in
+      let b = (stand l design h).later t less in
+      omega (arith, a, b, e)
+
   pub own_mark : (s : ℕ) → (own_plan l).slot s < mark_of l
   own_mark s = let a = own_few l design h s in let b = (stand l design h).mark in omega (arith, a, b)
 
@@ -220,6 +245,11 @@ module _ (l : Layout) (design : Flat) (h : LaysOut l design) where
 
       wide : (s : ℕ) → s < length design.signals.items → s < length l.widths.items
       wide s less = let e = widths_many l design h in omega (arith, e, less)
+
+  -- the same for the clocked blocks
+  pub clocking_ready : (w : Valuation) → IsReady (own_plan l) (signals_of design) w
+      → ((s : ℕ) → Member s (signals_of design) → w ((clocking_plan l).next s) < 2 ^ width_at (own_plan l) s) → IsReady (clocking_plan l) (signals_of design) w
+  clocking_ready w ready fits = record { fits = (shared_ready w ready).fits; next_fits = fits; holds = ready.holds }
 
   pub view_ready : (k : FlatNode) (w : Valuation) → IsReady (own_plan l) (signals_of design) w → IsReady (view_of l k) (signals_of design) w
   view_ready k w ready = record {

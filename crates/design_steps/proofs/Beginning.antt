@@ -1,5 +1,5 @@
 -- The words that a design begins with: constants stand at their places, and all else is 0.
-use Rattle.std.proofs.Common.{Bool, true, false, not, cond, ◌≡◌, ℕ, zero, suc, ◌+◌, ◌^◌, ◌<◌, ◌==◌, nat_lt, inl, inr, Some, None, List, [], ◌∷◌, ◌++◌, length, replicate, append_assoc, refl, sym, ap, ◌∙◌, subst, arith}
+use Rattle.std.proofs.Common.{Bool, true, false, not, cond, ◌≡◌, ℕ, zero, suc, ◌+◌, ◌^◌, ◌<◌, ◌≤◌, ◌==◌, nat_lt, inl, inr, Some, None, List, [], ◌∷◌, ◌++◌, length, replicate, append_assoc, refl, sym, ap, ◌∙◌, subst, arith}
 use Rattle.std.specs.Prelude.{slice_index}
 use Rattle.std.specs.List.{position_or_len}
 use Rattle.std.proofs.lemmas.Bool.{eqb-true, eqb-false, lt-ltb, ltb-true, ltb-false}
@@ -17,9 +17,13 @@ use Rattle.step_layout.specs.declared.layout.Layout.{Layout}
 use Rattle.step_layout.specs.Plans.{IsReady, signals, width_at}
 use Rattle.step_layout.specs.Pools.{or_end, spot}
 use Rattle.step_layout.specs.Views.{plan_of}
-use Rattle.design_steps.specs.Layings.{LaysOut, own_plan, signals_of}
+use Rattle.design_steps.specs.Layings.{LaysOut, own_plan, clocking_plan, signals_of}
+use Rattle.design_steps.specs.Programs.{AreNext}
+use Rattle.design_steps.specs.Moves.{moved, env_by}
+use Rattle.design_steps.proofs.Gathered.{IsTable, rest_moved}
 use Rattle.design_steps.proofs.Counting.{below_all}
 use Rattle.design_steps.proofs.Apart.{stand}
+use Rattle.design_steps.proofs.Copied.{below_member}
 
 zero_at : (n : ℕ) (ys : List ℕ) (k : ℕ) → k < n → slice_index (replicate n 0 ++ ys) k ≡ 0
 zero_at zero ys k h = absurd (omega (arith, h))
@@ -70,45 +74,65 @@ fill_none : (rs : List ℕ) (env : Valuation) → fill rs [] env ≡ env
 fill_none [] env = refl
 fill_none (r ∷ rs) env = refl
 
-module _ (l : Layout) (design : Flat) (lays : LaysOut l design) (rest : ℕ) where
-  pub none_yet : (k : ℕ) → k < l.constants.first → env_of ((replicate l.constants.first 0 ++ l.constants.values.keys) ++ replicate rest 0) k ≡ 0
-  none_yet k h =
+module _ (l : Layout) (design : Flat) (lays : LaysOut l design) (rest : ℕ) (t : List ℕ) (is : IsTable t l.constants.first) where
+  none_at : (k : ℕ) → k < l.constants.first → env_of ((replicate l.constants.first 0 ++ l.constants.values.keys) ++ replicate rest 0) k ≡ 0
+  none_at k h =
       let keys = l.constants.values.keys in
       ap (λ xs. slice_index xs k) (append_assoc (replicate l.constants.first 0) keys (replicate rest 0)) ∙ zero_at l.constants.first (keys ++ replicate rest 0) k h
 
+  pub none_yet : (k : ℕ) → k < l.constants.first → env_by t ((replicate l.constants.first 0 ++ l.constants.values.keys) ++ replicate rest 0) k ≡ 0
+  none_yet k h = none_at (moved t k) (is.few k h)
+
   constant_at : (v : ℕ) → Member v l.constants.values.keys
-      → env_of ((replicate l.constants.first 0 ++ l.constants.values.keys) ++ replicate rest 0) ((plan_of l).place v) ≡ v
+      → env_by t ((replicate l.constants.first 0 ++ l.constants.values.keys) ++ replicate rest 0) ((plan_of l).place v) ≡ v
   constant_at v m =
       let keys = l.constants.values.keys in
       let f = spot_at v keys m in
-      ap (λ xs. slice_index xs ((plan_of l).place v)) (append_assoc (replicate l.constants.first 0) keys (replicate rest 0))
+      let low : l.constants.first ≤ (plan_of l).place v = (let p : (plan_of l).place v ≡ l.constants.first + spot keys v = refl in omega (arith, p)) in
+      ap (env_of ((replicate l.constants.first 0 ++ keys) ++ replicate rest 0)) (rest_moved t l.constants.first ((plan_of l).place v) is low)
+      ∙ ap (λ xs. slice_index xs ((plan_of l).place v)) (append_assoc (replicate l.constants.first 0) keys (replicate rest 0))
       ∙ behind l.constants.first (keys ++ replicate rest 0) (spot keys v)
       ∙ inside keys (replicate rest 0) (spot keys v) f.within ∙ f.is
 
-  slot_zero : (s : ℕ) → env_of ((replicate l.constants.first 0 ++ l.constants.values.keys) ++ replicate rest 0) ((own_plan l).slot s) ≡ 0
+  slot_zero : (s : ℕ) → env_by t ((replicate l.constants.first 0 ++ l.constants.values.keys) ++ replicate rest 0) ((own_plan l).slot s) ≡ 0
   slot_zero s =
       let n = length design.signals.items in
-      let t = stand l design lays in
+      let st = stand l design lays in
       let f = lays.first in
       none_yet ((own_plan l).slot s)
       (by_cases (nat_lt s n)
-      (λ yes. let less : s < n = ltb-true s n yes in let e = t.here s less in omega (arith, f, e, less))
-      (λ no. let e = t.none s (ltb-false s n no) in omega (arith, f, e)))
+      (λ yes. let less : s < n = ltb-true s n yes in let e = st.here s less in omega (arith, f, e, less))
+      (λ no. let e = st.none s (ltb-false s n no) in omega (arith, f, e)))
 
-  pub begins : IsReady (own_plan l) (signals_of design) (env_of ((replicate l.constants.first 0 ++ l.constants.values.keys) ++ replicate rest 0))
+  pub begins : IsReady (own_plan l) (signals_of design) (env_by t ((replicate l.constants.first 0 ++ l.constants.values.keys) ++ replicate rest 0))
   begins =
       let n = length design.signals.items in
-      let t = stand l design lays in
+      let st = stand l design lays in
       let f = lays.first in
       record {
         fits = λ s h. subst (λ x. x < 2 ^ width_at (own_plan l) s) (sym (slot_zero s)) (pow_pos (width_at (own_plan l) s));
-        next_fits = λ s m. let less = below_all n s m in let e = t.next s less in
+        next_fits = λ s m. let less = below_all n s m in let e = st.next s less in
             subst (λ x. x < 2 ^ width_at (own_plan l) s) (sym (none_yet ((plan_of l).next s) (omega (arith, f, e, less)))) (pow_pos (width_at (own_plan l) s));
         holds = constant_at;
       }
 
+  -- a next value that clocked blocks put
+  next_zero : (s : ℕ) → s < length design.signals.items → env_by t ((replicate l.constants.first 0 ++ l.constants.values.keys) ++ replicate rest 0) ((clocking_plan l).next s) ≡ 0
+  next_zero s less =
+      let e = (stand l design lays).later s less in
+      let f = lays.first in
+      none_yet ((clocking_plan l).next s) (omega (arith, f, e, less))
+
+  pub begins_next : AreNext l design (env_by t ((replicate l.constants.first 0 ++ l.constants.values.keys) ++ replicate rest 0))
+  begins_next =
+      let n = length design.signals.items in
+      record {
+        fits = λ s m. subst (λ x. x < 2 ^ width_at (own_plan l) s) (sym (next_zero s (below_all n s m))) (pow_pos (width_at (own_plan l) s));
+        same = λ s m. next_zero s (below_member design.registers.items n s design.registers_there m) ∙ sym (slot_zero s);
+      }
+
   pub begins_based : (linked : Linked) → linked.design ≡ design
-      → IsBased (flat linked.design) [] [] (signals (own_plan l) (env_of ((replicate l.constants.first 0 ++ l.constants.values.keys) ++ replicate rest 0)))
+      → IsBased (flat linked.design) [] [] (signals (own_plan l) (env_by t ((replicate l.constants.first 0 ++ l.constants.values.keys) ++ replicate rest 0)))
   begins_based linked same = λ s i free.
       ap (λ x. look (λ t. x) s i) (slot_zero s)
       ∙ sym (ap (λ e. look e s i) (fill_none (flat linked.design).registers (fill (flat linked.design).inputs [] (λ t. 0)) ∙ fill_none (flat linked.design).inputs (λ t. 0)))

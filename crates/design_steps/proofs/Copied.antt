@@ -1,14 +1,15 @@
 -- What words hold after those of registers are copied over.
-use Rattle.std.proofs.Common.{◌≡◌, ℕ, zero, suc, ◌+◌, ◌<◌, nat_lt, inl, inr, List, [], ◌∷◌, length, get_or, drop, refl, sym, ap, ◌∙◌, subst, arith, true}
-use Rattle.std.proofs.lemmas.Bool.{ltb-true}
+use Rattle.std.proofs.Common.{◌≡◌, ℕ, zero, suc, ◌+◌, ◌-◌, ◌<◌, ◌≤◌, ◌&&◌, nat_le, nat_lt, inl, inr, List, [], ◌∷◌, length, get_or, refl, sym, ap, ◌∙◌, subst, arith, true, true≢false}
+use Rattle.std.proofs.lemmas.Bool.{leb-true, le-leb, ltb-true, ltb-false, and_from, cond-true, cond-false}
 use Rattle.typed_ir.specs.Valuations.{Valuation, put}
 use Rattle.typed_ir.specs.Orders.{Member}
 use Rattle.typed_ir.specs.Flats.{are_below}
-use Rattle.typed_ir.proofs.Cases.{and_left, and_right}
-use Rattle.typed_ir.proofs.Lists.{drop_split}
+use Rattle.typed_ir.proofs.Cases.{by_cases, and_left, and_right}
 use Rattle.typed_ir.proofs.Ready.{member_or}
 use Rattle.word_steps.proofs.Words.{put-same, put-other}
+use Rattle.word_steps.specs.Walks.{env_of}
 use Rattle.design_steps.specs.Carries.{carried}
+use Rattle.design_steps.specs.Moves.{block}
 
 pub below_member : (rs : List ℕ) (n r : ℕ) → are_below rs n ≡ true → Member r rs → r < n
 below_member [] n r h m = absurd m
@@ -49,9 +50,19 @@ carried_at (s ∷ rs) from to n w r below other m =
     first (inl e) none = ap (λ z. put w (to + s) (w (from + s)) (to + z)) e ∙ put-same w (to + s) (w (from + s)) ∙ ap (λ z. w (from + z)) (sym e)
     first (inr k) none = absurd (none k)
 
--- one more register
-pub carried_more : (rs : List ℕ) (i from to : ℕ) (w w' : Valuation) (r : ℕ) → i < length rs → r ≡ get_or rs i 0 → w' ≡ put w (to + r) (w (from + r))
-    → carried (drop (i + 1) rs) from to w' ≡ carried (drop i rs) from to w
-carried_more rs i from to w w' r h is e =
-    ap (carried (drop (i + 1) rs) from to) (e ∙ ap (λ z. put w (to + z) (w (from + z))) is)
-    ∙ sym (ap (λ zs. carried zs from to w) (drop_split rs i 0 h))
+-- words of which a block was copied
+pub block_made : (from to count : ℕ) (old new : List ℕ)
+    → ((k d : ℕ) → to ≤ k → k < to + count → get_or new k d ≡ get_or old (from + (k - to)) d) → ((k d : ℕ) → k < to → get_or new k d ≡ get_or old k d)
+    → ((k d : ℕ) → to + count ≤ k → get_or new k d ≡ get_or old k d) → env_of new ≡ block from to count (env_of old)
+block_made from to count old new copied below above = λ j k. at_ k j
+  where
+    at_ : (k : ℕ) → env_of new k ≡ block from to count (env_of old) k
+    at_ k = by_cases (nat_le to k && nat_lt k (to + count))
+        (λ yes. copied k 0 (leb-true to k (and_left (nat_le to k) (nat_lt k (to + count)) yes)) (ltb-true k (to + count) (and_right (nat_le to k) (nat_lt k (to + count)) yes))
+        ∙ sym (cond-true (nat_le to k && nat_lt k (to + count)) (env_of old (from + (k - to))) (env_of old k) yes))
+        (λ no. by_cases (nat_lt k to)
+        (λ low. below k 0 (ltb-true k to low))
+        (λ high. above k 0 (by_cases (nat_lt k (to + count))
+        (λ in_. absurd (true≢false (sym (and_from (nat_le to k) (nat_lt k (to + count)) (le-leb to k (ltb-false k to high)) in_) ∙ no)))
+        (λ out. ltb-false k (to + count) out)))
+        ∙ sym (cond-false (nat_le to k && nat_lt k (to + count)) (env_of old (from + (k - to))) (env_of old k) no))

@@ -25,7 +25,7 @@ use Rattle.step_layout.specs.Nodes.{as_statement, node_at, in_order}
 use Rattle.step_layout.specs.Right.{IsLaid, IsLaidNode}
 use Rattle.design_steps.specs.declared.naming.Naming.{Naming}
 use Rattle.design_steps.specs.Namings.{is_shared, kept, IsAlias}
-use Rattle.design_steps.specs.Layings.{with_slots, view_of, writes, signals_of, LaysOut}
+use Rattle.design_steps.specs.Layings.{with_slots, clocking_plan, view_of, writes, signals_of, LaysOut}
 use Rattle.design_steps.proofs.Holding.{each_both}
 use Rattle.step_layout.proofs.Passing.{node_legal}
 use Rattle.design_steps.proofs.Counting.{in_all}
@@ -157,8 +157,9 @@ module _ (l : Layout) (design : Flat) (h : LaysOut l design) where
       and_from (is_clocked (stmt_of st)) (is_clocked (sequence_of (map stmt_of sts)))
       (and_right (is_legal (stmt_of st) ws) (is_clocked (stmt_of st)) (and_left one (are_clocked sts ws) c)) (blocks_clocked sts (and_right one (are_clocked sts ws) c))
 
-  pub blocks_laid : IsLaid (plan_of l) (signals_of design) (sequence_of (map stmt_of design.clocked.items))
+  pub blocks_laid : IsLaid (clocking_plan l) (signals_of design) (sequence_of (map stmt_of design.clocked.items))
   blocks_laid =
       let st = sequence_of (map stmt_of design.clocked.items) in
-      statement_laid (plan_of l).slot st (blocks_legal design.clocked.items design.blocks) h.blocks
-      (clocked_targets (λ (p : Span). IsAlone (plan_of l) p.signal) st (blocks_clocked design.clocked.items design.blocks))
+      let laid = statement_laid (plan_of l).slot st (blocks_legal design.clocked.items design.blocks) h.blocks
+      (clocked_targets (λ (p : Span). IsAlone (plan_of l) p.signal) st (blocks_clocked design.clocked.items design.blocks)) in
+      record { legal = laid.legal; alone = laid.alone; among = laid.among; known = laid.known }

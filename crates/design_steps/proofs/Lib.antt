@@ -9,6 +9,9 @@ pub mod Fronts
 pub mod Passed
 pub mod Placing
 pub mod Copied
+pub mod Moved
+pub mod Gathered
+pub mod Blocks
 pub mod Beginning
 pub mod Made
 pub mod Turning

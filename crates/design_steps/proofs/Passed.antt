@@ -1,5 +1,5 @@
 -- The steps of the nodes that are left settle all wires.
-use Rattle.std.proofs.Common.{Bool, true, false, true≢false, ◌≡◌, ◌⊎◌, ℕ, zero, suc, ◌+◌, ◌-◌, ◌<◌, ◌≤◌, ◌^◌, ◌==◌, nat_lt, List, [], ◌∷◌, ◌++◌, map, length, refl, sym, ap, ◌∙◌, subst, arith, inl, inr}
+use Rattle.std.proofs.Common.{Bool, true, false, true≢false, ◌≡◌, ◌⊎◌, ℕ, zero, suc, ◌+◌, ◌-◌, ◌*◌, ◌<◌, ◌≤◌, ◌^◌, ◌==◌, nat_lt, List, [], ◌∷◌, ◌++◌, map, length, refl, sym, ap, ◌∙◌, subst, arith, inl, inr}
 use Rattle.std.specs.Prelude.{slice_index, if◌then◌else◌}
 use Rattle.std.specs.Int.{bit_at}
 use Rattle.std.proofs.lemmas.Bool.{ltb-true, ltb-false, eqb-true, eqb-false, cond-true, cond-false}
@@ -34,7 +34,8 @@ use Rattle.design_steps.specs.declared.naming.Naming.{Naming}
 use Rattle.design_steps.specs.Namings.{is_shared, kept, Names, LeadsTo, Itself, Over, IsAlias}
 use Rattle.design_steps.specs.Layings.{own_plan, view_of, writes, mark_of, signals_of, LaysOut}
 use Rattle.design_steps.proofs.Shared.{names_drive, names_known, names_some, names_read, names_alone, names_give, Passes, passes}
-use Rattle.design_steps.proofs.Apart.{widths_many, stand, view_apart, view_own, own_place, own_next, own_mark, alias_at, view_ready}
+use Rattle.design_steps.proofs.Counting.{below_all}
+use Rattle.design_steps.proofs.Apart.{widths_many, stand, view_few, view_apart, view_own, own_place, own_next, own_mark, alias_at, view_ready}
 use Rattle.design_steps.proofs.Laid.{driven_there, not_alias, one_laid}
 use Rattle.design_steps.proofs.Fronts.{IsFront, IsRest, rest_first, rest_front, rest_next, IsNode, the_node, Before, root_done, own_at, read_done, mention_stands, view_same}
 
@@ -52,6 +53,8 @@ drives_number (n ∷ ns) (suc k) s i d = let rest = drives_number ns k s i d in 
 pub record Reaches (lay : Layout) (l : Linked) (first settled w : Valuation) (Done : ℕ → Type 0) : Type 0 where
   pub ready : IsReady (own_plan lay) (signals_of l.design) w
   pub kept : (s : ℕ) → ((plan_of lay).slot s ≡ (own_plan lay).slot s → ⊥) → w ((own_plan lay).slot s) ≡ first ((own_plan lay).slot s)
+  -- so do the places between those of signals and those where nodes put next values
+  pub still : (k : ℕ) → length l.design.signals.items < k → k < 2 * length l.design.signals.items + 1 → w k ≡ first k
   pub value : (s i : ℕ) → (plan_of lay).slot s ≡ (own_plan lay).slot s → ((a : ℕ) → drives_at (map node_of l.design.nodes.items) a s i ≡ true → Done a)
       → bit_at (w ((own_plan lay).slot s)) i ≡ bit_at (settled s) i
 
@@ -59,6 +62,7 @@ reaches_more : (lay : Layout) (l : Linked) (first settled w : Valuation) (P Q : 
 reaches_more lay l first settled w P Q more r = record {
   ready = r.ready;
   kept = r.kept;
+  still = r.still;
   value = λ s i own done. r.value s i own (λ a d. more a (done a d));
 }
 
@@ -223,6 +227,8 @@ module _ (lay : Layout) (l : Linked) (lays : LaysOut lay l.design) (f : IsFlat (
         holds = does_it.ready.holds;
       };
       kept = λ s other. alias_kept s other ∙ r.kept s other;
+      still = λ j low high. does_it.kept j (let m = (stand lay l.design lays).mark in omega (arith, high, m)) (λ t e. let few = view_few lay l.design lays n t in omega (arith, low, e, few))
+          (λ t m e. let next = (stand lay l.design lays).next t (below_all (length l.design.signals.items) t m) in omega (arith, high, e, next)) ∙ r.still j low high;
       value = λ s i own drivers.
           ap (λ x. bit_at x i) (ap does_it.after (sym (view_own lay n s own)) ∙ now_at s)
           ∙ by_cases (drives_at all k s i)
@@ -271,6 +277,7 @@ module _ (lay : Layout) (l : Linked) (lays : LaysOut lay l.design) (f : IsFlat (
   none_reached k done front shared w r = record {
     ready = r.ready;
     kept = r.kept;
+    still = r.still;
     value = λ s i own drivers. by_cases (drives_at all k s i)
         (λ yes. absurd (passes_none k done front shared s i own yes))
         (λ no. r.value s i own (before_one all k done s i no drivers));
@@ -330,6 +337,7 @@ module _ (lay : Layout) (l : Linked) (lays : LaysOut lay l.design) (f : IsFlat (
   begins = record {
     ready = ready;
     kept = λ s other. refl;
+    still = λ k low high. refl;
     value = λ s i own drivers. sym (settled_free s i (undriven s i drivers));
   }
 

@@ -33,15 +33,27 @@ mark_of l = l.constants.first + length l.constants.values.keys + 1
 abbrev pub own : ℕ → ℕ → ℕ
 own count s = slice_index (run_from 1 count) s
 
--- the layout with signals at these places
-abbrev pub with_slots : Layout → (ℕ → ℕ) → Plan
-with_slots l slot = record {
+-- where clocked blocks put a signal's next value: as many places above its own one as there are signals; 0 for one that isn't there
+abbrev pub next_of : ℕ → ℕ → ℕ
+next_of count s = slice_index (run_from (count + 1) count) s
+
+-- the layout with signals and next values at these places
+abbrev pub with_places : Layout → (ℕ → ℕ) → (ℕ → ℕ) → Plan
+with_places l slot next = record {
   slot = slot;
-  next = (plan_of l).next;
+  next = next;
   place = (plan_of l).place;
   widths = (plan_of l).widths;
   constants = (plan_of l).constants;
 }
+
+-- with signals at these places
+abbrev pub with_slots : Layout → (ℕ → ℕ) → Plan
+with_slots l slot = with_places l slot (plan_of l).next
+
+-- for the clocked blocks, which share no place of a next value with nodes
+abbrev pub clocking_plan : Layout → Plan
+clocking_plan l = with_places l (plan_of l).slot (next_of (length l.widths.items))
 
 -- with each signal at its own place
 abbrev pub own_plan : Layout → Plan
@@ -55,13 +67,14 @@ writes k s = is_among s (map (λ (p : Span). p.signal) (targets (as_statement k)
 abbrev pub view_of : Layout → FlatNode → Plan
 view_of l k = with_slots l (λ s. if writes k ((plan_of l).slot s - 1) then (own_plan l).slot s else (plan_of l).slot s)
 
--- signals stand at their own places, or where the one does of which they are another name; next values stand as many places
--- above the own ones as there are signals, and constants behind these; each constant of the design is among them
+-- signals stand at their own places, or where the one does of which they are another name; behind these are as many places for the next
+-- values that clocked blocks put, then as many for those that nodes put, which nothing reads, then two for each register, to which words
+-- are moved, and then the constants; each constant of the design is among them
 pub record LaysOut (l : Layout) (design : Flat) : Type 0 where
   pub slots : AreShared design l.slots.items
-  pub nexts : l.nexts.items ≡ run_from (length design.signals.items + 1) (length design.signals.items)
+  pub nexts : l.nexts.items ≡ run_from (2 * length design.signals.items + 1) (length design.signals.items)
   pub widths : l.widths.items ≡ signal_widths design.signals.items
-  pub first : l.constants.first ≡ 2 * length design.signals.items + 1
+  pub first : l.constants.first ≡ 3 * length design.signals.items + 2 * length design.registers.items + 1
   pub nodes : Each (λ v. Member v l.constants.values.keys) (nodes_constants (map node_of design.nodes.items))
   pub blocks : Each (λ v. Member v l.constants.values.keys) (stmt_constants (sequence_of (map stmt_of design.clocked.items)))
 

@@ -3,4 +3,5 @@ pub mod Namings
 pub mod Layings
 pub mod Places
 pub mod Carries
+pub mod Moves
 pub mod Programs

@@ -4,13 +4,22 @@ ghost use Rattle.typed_ir.specs.Cycles.{wires, step};
 ghost use Rattle.typed_ir.specs.Linkeds.{flat};
 ghost use Rattle.word_steps.specs.Sound.{are_sound};
 ghost use Rattle.word_steps.specs.Walks.{env_of, walk, at};
-ghost use Rattle.design_steps.specs.Carries.{carried};
+ghost use Rattle.design_steps.specs.Moves.{block};
 ghost use Rattle.design_steps.specs.Programs.{IsProgramOf, IsAt, values_in, seen_in};
 
 use crate::carrying::carry;
 use crate::program::Program;
+use crate::signal_words::place_above;
 use typed_ir::Linked;
 use word_steps::walk;
+
+// Where the first register stands.
+fn first_place(count: usize, end: usize) -> usize
+    requires { 3 * count + 1 < end }
+    ensures { result ≡ 3 * count + 1 }
+{
+    3 * count + 1
+}
 
 impl Program {
     /// Settles the wires, whatever they hold: each has its value where it stands. It takes no memory.
@@ -25,19 +34,20 @@ impl Program {
         walk(&self.settling, words);
     }
 
-    // The clocked blocks over settled wires: all of them read what is there now, and then the registers go on to their next values. It
-    // takes no memory.
+    // The clocked blocks over settled wires: all of them read what is there now, and then the registers go on to their next values, which
+    // begin as what the registers have. It takes no memory.
     fn clock(&self, linked: &Linked, words: &mut [u128])
         requires sound { IsTrue (are_sound (length words.old) self.now.clocking.items) }
-        requires room { 2 * length linked.now.design.signals.items + 1 < length words.old }
-        ensures { env_of words.new ≡ carried linked.now.design.registers.items (length linked.now.design.signals.items + 1) 1
-            (walk self.now.clocking.items (at 0 (carried linked.now.design.registers.items 1 (length linked.now.design.signals.items + 1)
-            (env_of words.old)))).words }
+        requires room { 3 * length linked.now.design.signals.items + 2 * length linked.now.design.registers.items + 1 < length words.old }
+        ensures { env_of words.new ≡ block (3 * length linked.now.design.signals.items + length linked.now.design.registers.items + 1)
+            (3 * length linked.now.design.signals.items + 1) (length linked.now.design.registers.items)
+            (walk self.now.clocking.items (at 0 (env_of words.old))).words }
     {
-        let count = linked.design.signals.len();
-        carry(&linked.design.registers, 1, count + 1, count, words);
+        let many = linked.design.registers.len();
+        let own = first_place(linked.design.signals.len(), words.len());
+        let next = place_above(own, many, words.len());
         walk(&self.clocking, words);
-        carry(&linked.design.registers, count + 1, 1, count, words);
+        carry(next, own, many, words);
     }
 
     /// One cycle: the wires settle, and the registers go on to their next values. Nothing is cleared before or after it, and it takes no

@@ -1,5 +1,5 @@
 // The layout of a design: where its signals, their next values and its constants stand.
-ghost use Rattle.std.specs.Prelude.{◌≡◌, ◌≤◌, ◌+◌, ◌-◌, ◌^◌, IfOk, OnOk, map};
+ghost use Rattle.std.specs.Prelude.{◌≡◌, ◌≤◌, ◌+◌, ◌-◌, ◌^◌, IfOk, OnOk, length, map};
 ghost use Rattle.typed_ir.specs.Flats.{signal_widths};
 ghost use Rattle.typed_ir.specs.FlatNodes.{node_of};
 ghost use Rattle.typed_ir.specs.Statements.{stmt_of, sequence_of};
@@ -17,7 +17,7 @@ use typed_ir::{Linked, Node, Signal, Stmt};
 
 // So many numbers from one on.
 #[tactic(auto, using(crate::proofs::Counting::run_push))]
-fn counted(alloc: Global, from: u32, count: u32) -> Result<Vec<u32>, NoMemory>
+pub(crate) fn counted(alloc: Global, from: u32, count: u32) -> Result<Vec<u32>, NoMemory>
     requires { from + count ≤ 2 ^ 32 - 1 }
     ensures { IfOk result (λ xs. xs.items ≡ run_from from count) }
 {
@@ -50,19 +50,21 @@ fn pool_of(nodes: &[Node], blocks: &[Stmt], pool: &mut IndexSet<u128>) -> Result
     pool_all(blocks, pool)
 }
 
-/// The layout of a design: signals stand from the place 1 on, wires where the signal does of which they are only another name, next values
-/// behind all signals, and the constants behind these. Want of memory, and a place above the largest number, is `NoMemory`.
+/// The layout of a design: signals stand from the place 1 on, wires where the signal does of which they are only another name. Behind them
+/// are as many places for the next values of clocked blocks, then as many for those that nodes put, and then the constants. Want of
+/// memory, and a place above the largest number, is `NoMemory`.
 pub fn layout_of(alloc: Global, linked: &Linked) -> Result<Layout, NoMemory>
     ensures { IfOk result (λ l. LaysOut l linked.now.design) }
 {
     let design = &linked.design;
-    if design.signals.len() > 0x7fff_fffe {
+    if design.signals.len() > 0x2fff_ffff || design.registers.len() > 0x2fff_ffff {
         return Err(NoMemory);
     }
     let count = design.signals.len() as u32;
+    let registers = design.registers.len() as u32;
     let widths = widths_of(alloc, &design.signals)?;
     let slots = slots_of(alloc, linked, counted(alloc, 1, count)?, &widths)?;
-    let nexts = counted(alloc, count + 1, count)?;
+    let nexts = counted(alloc, 2 * count + 1, count)?;
     let mut values = IndexSet::new(alloc);
     pool_of(&design.nodes, &design.clocked, &mut values)?;
     Ok(Layout {
@@ -70,10 +72,21 @@ pub fn layout_of(alloc: Global, linked: &Linked) -> Result<Layout, NoMemory>
         nexts,
         widths,
         constants: Constants {
-            first: 2 * count + 1,
+            first: 3 * count + 2 * registers + 1,
             values,
         },
     })
+}
+
+/// Where clocked blocks put next values: right behind all signals. Want of memory, and a place above the largest number, is `NoMemory`.
+pub fn nexts_of(alloc: Global, layout: &Layout) -> Result<Vec<u32>, NoMemory>
+    ensures { IfOk result (λ xs. xs.items ≡ run_from (length layout.now.widths.items + 1) (length layout.now.widths.items)) }
+{
+    if layout.widths.len() > 0x7fff_fffe {
+        return Err(NoMemory);
+    }
+    let count = layout.widths.len() as u32;
+    counted(alloc, count + 1, count)
 }
 
 /// The first place behind all that a layout has: places from there on are free. One above the largest number is `NoMemory`.

@@ -2,17 +2,19 @@
 //
 // `design_layout` says where a design's signals, their next values and its constants stand; `naming` finds the wires that are only names of
 // other signals, and `sharing` lets them stand where these do, so that their nodes take no step; `pooling` and `constant_walk` gather
-// the constants, and `laws` says that nodes and blocks are laid out by it. `making` makes a `Program` of a linked design, with the words that it
-// begins with (`words`), and `cycling` runs it cycle by cycle: the wires settle, the clocked blocks write next values, and these are copied
-// over (`carrying`). `signal_words` reads and puts the values of signals.
+// the constants, and `laws` says that nodes and blocks are laid out by it. `gathering` says where words are moved to, so that registers stand
+// side by side, and `moving` moves steps. `making` makes a `Program` of a linked design, with the words that it begins with (`words`), and
+// `cycling` runs it cycle by cycle: the wires settle, the clocked blocks write next values, and these are copied over (`carrying`). `signal_words` reads and puts the values of signals.
 #![tactic(auto)]
 
 mod carrying;
 mod constant_walk;
 mod cycling;
 mod design_layout;
+mod gathering;
 mod laws;
 mod making;
+mod moving;
 mod naming;
 mod pooling;
 mod program;
@@ -20,9 +22,9 @@ mod sharing;
 mod signal_words;
 mod words;
 
-pub use carrying::carry;
 pub use constant_walk::{pool_all, pool_nodes, pool_statement};
 pub use design_layout::{free_from, layout_of};
+pub use gathering::places_of;
 pub use laws::layouts_are_right;
 pub use making::program_of;
 pub use pooling::{pool_form, pool_value};

@@ -6,6 +6,8 @@ use word_steps::Step;
 #[derive(Drop)]
 pub struct Program {
     pub layout: Layout,
+    /// Where each place of the layout is moved to: registers stand side by side, and so do their next values.
+    pub places: Vec<u32>,
     /// The steps of the nodes, in their order: they settle the wires.
     pub settling: Vec<Step>,
     /// The steps of the clocked blocks: they write the next values.

@@ -1,9 +1,10 @@
 // The words of a program, and the values of signals among them.
-ghost use Rattle.std.specs.Prelude.{◌≡◌, ◌<◌, ◌^◌, [], length, slice_index, IfOk};
+ghost use Rattle.std.specs.Prelude.{◌≡◌, ◌<◌, ◌+◌, ◌^◌, [], length, slice_index, IfOk};
 ghost use Rattle.typed_ir.specs.Flats.{signal_widths};
 ghost use Rattle.typed_ir.specs.Valuations.{put};
 ghost use Rattle.word_steps.specs.Walks.{env_of};
 ghost use Rattle.design_steps.specs.Layings.{own_plan};
+ghost use Rattle.design_steps.specs.Moves.{moved};
 ghost use Rattle.design_steps.specs.Programs.{IsProgramOf, AreHeld, IsAt, values_in};
 
 use crate::program::Program;
@@ -29,6 +30,24 @@ fn own_place(layout: &Layout, signal: SignalId) -> usize
     match layout.widths.get(number) {
         Some(_) => number + 1,
         None => 0,
+    }
+}
+
+/// The place that lies so many words above one.
+pub(crate) fn place_above(place: usize, count: usize, end: usize) -> usize
+    requires { place + count < end }
+    ensures { result ≡ place + count }
+{
+    place + count
+}
+
+// Where a place is moved to.
+fn placed(places: &[u32], place: usize) -> usize
+    ensures { result ≡ moved places.now place }
+{
+    match places.get(place) {
+        Some(to) => *to as usize,
+        None => place,
     }
 }
 
@@ -70,10 +89,10 @@ impl Program {
     {
         let _linked = linked;
         let place = own_place(&self.layout, signal);
-        word_at(words, place)
+        word_at(words, placed(&self.places, place))
     }
 
-    /// Gives a signal a value that fits its width, and leaves all others.
+    /// Gives a signal a value that fits its width, and leaves all others. It is the signal's next value too.
     pub fn put(&self, linked: &Linked, signal: SignalId, value: u128, words: &mut [u128])
         requires program { ∥ IsProgramOf self.now linked.now ∥₁ }
         requires long { length words.old ≡ length self.now.beginning.items }
@@ -84,6 +103,10 @@ impl Program {
     {
         let _linked = linked;
         let place = own_place(&self.layout, signal);
-        put_word(words, place, value);
+        let next = place_above(place, self.layout.widths.len(), words.len());
+        let first = placed(&self.places, place);
+        let second = placed(&self.places, next);
+        put_word(words, first, value);
+        put_word(words, second, value);
     }
 }

@@ -165,22 +165,40 @@ fn depth_first(rt: HostRuntime) -> Result<(), Fail> {
     Ok(())
 }
 
+// assign TO = ONE & OTHER; all of one bit
+fn join(alloc: Global, to: u32, one: u32, other: u32) -> Result<Node, NoMemory> {
+    let both = BinaryOperator::Arithmetic(ArithmeticOperator::And);
+    let value = Typed::binary(
+        alloc,
+        both,
+        Typed::name(SignalId(one), 1),
+        Typed::name(SignalId(other), 1),
+    )?;
+    assign(alloc, bit(to, 0), value)
+}
+
 // assign s1 = s0, s2 = s0, s3 = s1 & s2;
 #[test]
 fn two_ways_that_join(rt: HostRuntime) -> Result<(), Fail> {
     let alloc = rt.alloc();
-    let both = BinaryOperator::Arithmetic(ArithmeticOperator::And);
-    let sum = Typed::binary(
-        alloc,
-        both,
-        Typed::name(SignalId(1), 1),
-        Typed::name(SignalId(2), 1),
-    )?;
     let mut nodes = copies(alloc, &[(1, 0), (2, 0)])?;
-    nodes.push(assign(alloc, bit(3, 0), sum)?)?;
+    nodes.push(join(alloc, 3, 1, 2)?)?;
     let (placed, list) = answer(&rt, alloc, &[1; 4], nodes)?;
     assert!(rt; placed && list.len() == 3);
     assert_eq!(rt; list[2], 2);
+    Ok(())
+}
+
+// assign s1 = s0, s2 = s1 & s5, s3 = s2; assign s4 = s0, s5 = s4; what waits for the other chain stands where that one is placed.
+#[test]
+fn one_that_waits_for_another_chain(rt: HostRuntime) -> Result<(), Fail> {
+    let alloc = rt.alloc();
+    let mut nodes = copies(alloc, &[(1, 0)])?;
+    nodes.push(join(alloc, 2, 1, 5)?)?;
+    for node in copies(alloc, &[(3, 2), (4, 0), (5, 4)])? {
+        nodes.push(node)?;
+    }
+    expect_order(&rt, alloc, &[1; 6], nodes, &[0, 3, 4, 1, 2])?;
     Ok(())
 }
 

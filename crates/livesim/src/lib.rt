@@ -11,8 +11,6 @@ mod ending;
 mod laws;
 mod lending;
 mod lent_work;
-#[cfg(test)]
-mod limit_tests;
 mod live;
 mod outcome;
 mod turn;

@@ -86,6 +86,11 @@ pub trait Machine: Drop + Send + Sync + Sized {
     fn share(&self, alloc: Global, x: &Self::State) -> Result<Self::State, NoMemory>
         ensures { IfOk result (λ s. s ≡ x.now) };
 
+    /// Lets a state share what it has in common with another one. What it says stays. A machine may do nothing.
+    fn share_parts(&self, _state: &mut Self::State, _near: &Self::State)
+        ensures { _state.new ≡ _state.old }
+    {}
+
     /// Whether two rows are the same, so that a record keeps them once. A machine may answer false of any two.
     fn same_row(_one: &Self::Row, _other: &Self::Row) -> bool
         ensures { result ≡ true → _one.now ≡ _other.now }

@@ -468,6 +468,8 @@ fn other_words_are_refused(rt: HostRuntime) -> Result<(), Fail> {
         assert_eq!(rt; outcome.status, 2);
         assert_eq!(rt; outcome.taken, 0);
         assert!(rt; sink.bytes().is_empty());
+        assert!(rt; is_right(alloc, &outcome.history)?);
+        assert!(rt; outcome.history.entries().is_empty());
     }
     Ok(())
 }
@@ -498,6 +500,8 @@ fn options_are_taken(rt: HostRuntime) -> Result<(), Fail> {
         assert_eq!(rt; outcome.status, 0);
         assert_eq!(rt; outcome.taken, 10);
         assert!(rt; sink.bytes() == b"ok quit\n".as_slice());
+        assert!(rt; is_right(alloc, &outcome.history)?);
+        assert!(rt; is_over(&outcome.history));
     }
     Ok(())
 }

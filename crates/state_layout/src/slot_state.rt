@@ -112,6 +112,14 @@ impl SlotState {
         })
     }
 
+    /// Shares each page that has the words of the other state's page at the same place with that state, whatever its layout. The values
+    /// stay. It takes no memory, and does nothing where this state was shared and not written since.
+    pub fn share_with(&mut self, other: &SlotState)
+        ensures { self.new ≡ self.old }
+    {
+        self.pages.share_with(&other.pages);
+    }
+
     /// Whether both have registers of the same widths, in the same order.
     pub fn has_widths_of(&self, other: &SlotState) -> bool
         ensures same { result ≡ true → state_widths self.now ≡ state_widths other.now }

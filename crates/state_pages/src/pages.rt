@@ -4,6 +4,7 @@ ghost use Rattle.state_pages.specs.Words.{page_words, words_in};
 
 use crate::own_pages::{put, put_two};
 use crate::page::Page;
+use crate::sharing::share_alike;
 use no_memory::NoMemory;
 use std::alloc::Global;
 use std::marker::Model;
@@ -129,6 +130,14 @@ impl Pages {
             count: self.count,
             pages: Arc::try_clone(&self.pages)?,
         })
+    }
+
+    /// Shares each page that has the words of the other list's page at the same place with that list. The words stay. Where the list of
+    /// pages has other owners nothing is done. It takes no memory.
+    pub fn share_with(&mut self, other: &Pages)
+        ensures { self.new ≡ self.old }
+    {
+        share_alike(&mut self.pages, &other.pages);
     }
 
     /// Whether both have the same words, in the same order.

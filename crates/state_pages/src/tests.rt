@@ -34,6 +34,23 @@ fn border(alloc: Global) -> Result<([u64; 3], u32), NoMemory> {
     ))
 }
 
+/// Two lists written apart, of which one then shares with the other what is equal: a word of each, in the page that is equal and in the one
+/// that isn't, after a write of the one and then of the other.
+fn shared_later(alloc: Global) -> Result<([u64; 3], [u64; 3]), NoMemory> {
+    let mut one = Pages::zero(alloc, 66)?;
+    let mut other = Pages::zero(alloc, 130)?;
+    one.replace_word(0, 3)?;
+    one.replace_word(64, 4)?;
+    other.replace_word(0, 3)?;
+    one.share_with(&other);
+    one.replace_word(1, 5)?;
+    other.replace_word(2, 6)?;
+    Ok((
+        [one.word(1), one.word(2), one.word(64)],
+        [other.word(1), other.word(2), other.word(64)],
+    ))
+}
+
 fn crossed<T: Send + Sync>(value: T) -> T {
     value
 }
@@ -43,6 +60,7 @@ fn words_by_hand(rt: HostRuntime) -> Result<(), Fail> {
     let alloc = rt.alloc();
     assert_eq!(rt; three_words(alloc)?, [7, 0, 9]);
     assert_eq!(rt; shared_words(alloc)?, (5, 0, [true, false, true]));
+    assert_eq!(rt; shared_later(alloc)?, ([5, 0, 4], [0, 6, 0]));
     assert_eq!(rt; border(alloc)?, ([0, 1, u64::MAX], 65));
     Ok(())
 }

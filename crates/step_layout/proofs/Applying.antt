@@ -28,13 +28,13 @@ use Rattle.word_steps.specs.Walks.{apply, skips, writes, lowest, located, place_
 use Rattle.step_layout.specs.Expressions.{unary_op, binary_op, swaps, locate_op, is_filled, resize_op, resize_low, is_plain}
 use Rattle.step_layout.proofs.Fits.{at_width}
 
-pub unary_none : (op : UnaryOperator) (n x y : ℕ) → skips (unary_op op) n x y ≡ 0
-unary_none Inverse n x y = refl
-unary_none Negative n x y = refl
-unary_none AllOnes n x y = refl
-unary_none AnyOne n x y = refl
-unary_none NoOne n x y = refl
-unary_none OddOnes n x y = refl
+pub unary_none : (op : UnaryOperator) (w n x y : ℕ) → skips (unary_op op) w n x y ≡ 0
+unary_none Inverse w n x y = refl
+unary_none Negative w n x y = refl
+unary_none AllOnes w n x y = refl
+unary_none AnyOne w n x y = refl
+unary_none NoOne w n x y = refl
+unary_none OddOnes w n x y = refl
 
 pub unary_writes : (op : UnaryOperator) → writes (unary_op op) ≡ true
 unary_writes Inverse = refl
@@ -52,33 +52,33 @@ unary_right AnyOne w x y z h = refl
 unary_right NoOne w x y z h = refl
 unary_right OddOnes w x y z h = refl
 
-pub binary_none : (op : BinaryOperator) (n x y : ℕ) → skips (binary_op op) n x y ≡ 0
-binary_none (Arithmetic Sum) n x y = refl
-binary_none (Arithmetic Difference) n x y = refl
-binary_none (Arithmetic Product) n x y = refl
-binary_none (Arithmetic (Quotient Signed)) n x y = refl
-binary_none (Arithmetic (Quotient Unsigned)) n x y = refl
-binary_none (Arithmetic (Remainder Signed)) n x y = refl
-binary_none (Arithmetic (Remainder Unsigned)) n x y = refl
-binary_none (Arithmetic And) n x y = refl
-binary_none (Arithmetic Or) n x y = refl
-binary_none (Arithmetic Xor) n x y = refl
-binary_none (Arithmetic Xnor) n x y = refl
-binary_none (Compare Equal) n x y = refl
-binary_none (Compare Unequal) n x y = refl
-binary_none (Compare (Less Signed)) n x y = refl
-binary_none (Compare (Less Unsigned)) n x y = refl
-binary_none (Compare (AtMost Signed)) n x y = refl
-binary_none (Compare (AtMost Unsigned)) n x y = refl
-binary_none (Compare (Greater Signed)) n x y = refl
-binary_none (Compare (Greater Unsigned)) n x y = refl
-binary_none (Compare (AtLeast Signed)) n x y = refl
-binary_none (Compare (AtLeast Unsigned)) n x y = refl
-binary_none (Logical Both) n x y = refl
-binary_none (Logical Either) n x y = refl
-binary_none (Shift Left) n x y = refl
-binary_none (Shift Right) n x y = refl
-binary_none (Shift ArithmeticRight) n x y = refl
+pub binary_none : (op : BinaryOperator) (w n x y : ℕ) → skips (binary_op op) w n x y ≡ 0
+binary_none (Arithmetic Sum) w n x y = refl
+binary_none (Arithmetic Difference) w n x y = refl
+binary_none (Arithmetic Product) w n x y = refl
+binary_none (Arithmetic (Quotient Signed)) w n x y = refl
+binary_none (Arithmetic (Quotient Unsigned)) w n x y = refl
+binary_none (Arithmetic (Remainder Signed)) w n x y = refl
+binary_none (Arithmetic (Remainder Unsigned)) w n x y = refl
+binary_none (Arithmetic And) w n x y = refl
+binary_none (Arithmetic Or) w n x y = refl
+binary_none (Arithmetic Xor) w n x y = refl
+binary_none (Arithmetic Xnor) w n x y = refl
+binary_none (Compare Equal) w n x y = refl
+binary_none (Compare Unequal) w n x y = refl
+binary_none (Compare (Less Signed)) w n x y = refl
+binary_none (Compare (Less Unsigned)) w n x y = refl
+binary_none (Compare (AtMost Signed)) w n x y = refl
+binary_none (Compare (AtMost Unsigned)) w n x y = refl
+binary_none (Compare (Greater Signed)) w n x y = refl
+binary_none (Compare (Greater Unsigned)) w n x y = refl
+binary_none (Compare (AtLeast Signed)) w n x y = refl
+binary_none (Compare (AtLeast Unsigned)) w n x y = refl
+binary_none (Logical Both) w n x y = refl
+binary_none (Logical Either) w n x y = refl
+binary_none (Shift Left) w n x y = refl
+binary_none (Shift Right) w n x y = refl
+binary_none (Shift ArithmeticRight) w n x y = refl
 
 pub binary_writes : (op : BinaryOperator) → writes (binary_op op) ≡ true
 binary_writes (Arithmetic Sum) = refl
@@ -153,10 +153,10 @@ repeat_right n w all x e h = ap (λ a. a % 2 ^ all) (copies_times n w x) ∙ sma
 
 -- ---- other widths
 
-pub resize_none : (from to : ℕ) (signed : Bool) (n x y : ℕ) → skips (resize_op from to signed) n x y ≡ 0
-resize_none from to signed n x y = by_test (is_filled from to signed)
+pub resize_none : (from to : ℕ) (signed : Bool) (w n x y : ℕ) → skips (resize_op from to signed) w n x y ≡ 0
+resize_none from to signed w n x y = by_test (is_filled from to signed)
   where
-    by_test : (b : Bool) → skips (if b then Extend else Select) n x y ≡ 0
+    by_test : (b : Bool) → skips (if b then Extend else Select) w n x y ≡ 0
     by_test true = refl
     by_test false = refl
 
@@ -240,9 +240,9 @@ put_right total n (negsuc b) w x few short = by_order b 127
     ∙ none_of n 0 (min (w - 128) total) (x / 2 ^ 128) (omega (arith, short))
     ∙ sym (none_of n 0 (min (w - suc b) total) (x / 2 ^ suc b) (omega (arith, h, short))))
 
-pub locate_none : (signed : Bool) (n x y : ℕ) → skips (locate_op signed) n x y ≡ 0
-locate_none true n x y = refl
-locate_none false n x y = refl
+pub locate_none : (signed : Bool) (w n x y : ℕ) → skips (locate_op signed) w n x y ≡ 0
+locate_none true w n x y = refl
+locate_none false w n x y = refl
 
 pub locate_writes : (signed : Bool) → writes (locate_op signed) ≡ true
 locate_writes true = refl

@@ -243,9 +243,9 @@ module _ (l : Plan) (rs : List ℕ) (n : ℕ) (apart : IsApart l rs n) where
       record {
         after = sb.after;
         ends = λ past.
-            let skip = step op 1 0 true 0 A B past in
+            let skip = step op (width_of a) 0 true 0 A B past in
             walk-append (pa ++ pb) (skip ∷ []) (at 0 w) ∙ ap (walk (skip ∷ [])) (walk-append pa pb (at 0 w) ∙ ap (walk pb) sa.ends ∙ sb.ends)
-            ∙ ap₂ at (ap₂ (skips op past) first second) (act_still skip sb.after f.0.still);
+            ∙ ap₂ at (ap₂ (skips op (width_of a) past) first second) (act_still skip sb.after f.0.still);
         kept = λ k h. sb.kept k (omega (arith, h)) ∙ sa.kept k h;
       }
 
@@ -270,7 +270,7 @@ module _ (l : Plan) (rs : List ℕ) (n : ℕ) (apart : IsApart l rs n) where
       let t = test_right (test_of c) mark w few (asks (Fine l rs n apart) fine_both c f) r in
       record {
         after = t.after;
-        ends = λ past. t.ends past ∙ ap (λ k. at k t.after) (passed_right c past (signals l w));
+        ends = λ past. t.ends past ∙ ap (λ k. at k t.after) (passed_right l.widths (signals l w) r.fits c past f.agree f.fit);
         kept = t.kept;
       }
 

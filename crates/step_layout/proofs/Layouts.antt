@@ -58,14 +58,14 @@ unfoldable pub stands_runs : (ps : List Step) (w : Valuation) (here mark x : ℕ
 stands_runs ps w here mark x s = record { after = s.after; ends = s.ends; kept = s.kept }
 
 -- the last step of an expression
-unfoldable pub finish : (ps : List Step) (s : Step) (w : Valuation) (mark x : ℕ) (r : Runs ps w mark) → ((n y z : ℕ) → skips s.op n y z ≡ 0) → writes s.op ≡ true
+unfoldable pub finish : (ps : List Step) (s : Step) (w : Valuation) (mark x : ℕ) (r : Runs ps w mark) → ((v n y z : ℕ) → skips s.op v n y z ≡ 0) → writes s.op ≡ true
     → apply s.op s.width s.low (seen s.wide (r.after s.a)) (seen s.wide (r.after s.b)) (seen s.wide (r.after s.c)) ≡ x → Gives (ps ++ s ∷ []) w s.to mark x
 finish ps s w mark x r none writing e =
     let y = apply s.op s.width s.low (seen s.wide (r.after s.a)) (seen s.wide (r.after s.b)) (seen s.wide (r.after s.c)) in
     record {
       after = put r.after s.to y;
       ends = walk-append ps (s ∷ []) (at 0 w) ∙ ap (walk (s ∷ [])) r.ends
-          ∙ ap₂ at (none s.c (r.after s.a) (r.after s.b)) (act-writes s r.after writing);
+          ∙ ap₂ at (none s.width s.c (r.after s.a) (r.after s.b)) (act-writes s r.after writing);
       value = put-same r.after s.to y ∙ e;
       kept = λ k h other. put-other r.after s.to y k other ∙ r.kept k h;
     }
@@ -138,15 +138,15 @@ module _ (l : Plan) (rs : List ℕ) (n : ℕ) (apart : IsApart l rs n) where
     -- the value stands at the place, and nothing else below the mark has changed
     pub gives : (e : Sized) (to mark : ℕ) (w : Valuation) → n ≤ mark → Fine e → IsReady l rs w → Gives (code l e to mark) w to mark (value_of e (signals l w))
     gives (Constant width value) to mark w few f r =
-        finish [] (step Copy 1 0 (is_wide Copy width) to (l.place value) 0 0) w mark value (runs_none w mark) (λ n y z. refl) refl
+        finish [] (step Copy 1 0 (is_wide Copy width) to (l.place value) 0 0) w mark value (runs_none w mark) (λ v n y z. refl) refl
         (ap (seen (is_wide Copy width)) (r.holds value f.known.0)
         ∙ seen_whole false value width width (fits_now (Constant width value) w f r) (omega arith))
     gives (Name signal width) to mark w few f r =
-        finish [] (step Copy 1 0 (is_wide Copy width) to (l.slot signal) 0 0) w mark (w (l.slot signal)) (runs_none w mark) (λ n y z. refl) refl
+        finish [] (step Copy 1 0 (is_wide Copy width) to (l.slot signal) 0 0) w mark (w (l.slot signal)) (runs_none w mark) (λ v n y z. refl) refl
         (seen_whole false (w (l.slot signal)) width width (fits_now (Name signal width) w f r) (omega arith))
     gives (Part span) to mark w few f r =
         finish [] (step Select span.width span.low (is_wide Select (span.low + span.width)) to (l.slot span.signal) 0 0) w mark
-        (w (l.slot span.signal) / 2 ^ span.low % 2 ^ span.width) (runs_none w mark) (λ n y z. refl) refl
+        (w (l.slot span.signal) / 2 ^ span.low % 2 ^ span.width) (runs_none w mark) (λ v n y z. refl) refl
         (seen_part (w (l.slot span.signal)) span.low span.width)
     gives (Pick' signal width below signed index) to mark w few f r =
         let W = width_of index in
@@ -170,7 +170,7 @@ module _ (l : Plan) (rs : List ℕ) (n : ℕ) (apart : IsApart l rs n) where
         let kept : run.after (l.slot signal) ≡ w (l.slot signal) = (let p = apart.slots signal in run.kept (l.slot signal) (omega (arith, p, few))) in
         let inside : signal < length l.widths = ltb-true signal (length l.widths) (and_left (nat_lt signal (length l.widths)) (fits_signals index l.widths) f.fit) in
         let most = (a_width width (and_left (is_width width) (agrees index) f.agree)).1 in
-        finish (pi ++ find ∷ []) (step Pick width 0 true to (l.slot signal) mark 0) w mark (selected (w (l.slot signal)) place width) run (λ n y z. refl) refl
+        finish (pi ++ find ∷ []) (step Pick width 0 true to (l.slot signal) mark 0) w mark (selected (w (l.slot signal)) place width) run (λ v n y z. refl) refl
         (ap₂ (λ u v. selected u (place_at v) width) kept g.value
         ∙ pick_right (w (l.slot signal)) place width (fits_wider (w (l.slot signal)) (width_at l signal) 128 (r.fits signal inside) (apart.few signal)) most)
     gives (Unary op a) to mark w few f r =
@@ -247,7 +247,7 @@ module _ (l : Plan) (rs : List ℕ) (n : ℕ) (apart : IsApart l rs n) where
         ∙ seen_whole false x (width_of a) most (fits_now a w fa r) (omega arith) in
         let second : seen wide (sb.after B) ≡ y = ap (seen wide) (sb.value ∙ ap (value_of b) (same_signals l rs n apart sa.after w same2))
         ∙ seen_whole false y (width_of b) most (fits_now b w fb r) (omega arith) in
-        finish ((pc ++ pa) ++ pb) (step Choose 1 0 wide to C A B) w mark (value_of (Choice c a b) (signals l w)) run2 (λ n y z. refl) refl
+        finish ((pc ++ pa) ++ pb) (step Choose 1 0 wide to C A B) w mark (value_of (Choice c a b) (signals l w)) run2 (λ v n y z. refl) refl
         (ap₂ (λ u v. if u == 0 then seen wide (sb.after B) else v) zeroth first ∙ ap (λ v. if t == 0 then v else x) second)
     gives (Concat width a b) to mark w few f r =
         let W = width_of a in
@@ -270,7 +270,7 @@ module _ (l : Plan) (rs : List ℕ) (n : ℕ) (apart : IsApart l rs n) where
         let run = join pa pb w mark B (mark + 1) (value_of b (signals l sa.after)) (stands_runs pa w A mark x sa) sb (omega arith) in
         let first : seen wide (sb.after A) ≡ x = ap (seen wide) (sb.kept A (omega (arith, sa.near)) ∙ sa.value) ∙ seen_whole false x W width (fits_now a w fa r) (omega (arith, sum)) in
         let second : seen wide (sb.after B) ≡ y = ap (seen wide) (sb.value ∙ ap (value_of b) (same_signals l rs n apart sa.after w same)) ∙ seen_whole false y V width (fits_now b w fb r) (omega (arith, sum)) in
-        finish (pa ++ pb) (step Join width V wide to A B 0) w mark (value_of (Concat width a b) (signals l w)) run (λ n y z. refl) refl
+        finish (pa ++ pb) (step Join width V wide to A B 0) w mark (value_of (Concat width a b) (signals l w)) run (λ v n y z. refl) refl
         (ap₂ (λ u v. bit_or (u * 2 ^ V % 2 ^ width) v) first second
         ∙ join_right x y W V width (fits_now a w fa r) (fits_now b w fb r) (omega (arith, sum)))
     gives (Repeat width count a) to mark w few f r =
@@ -291,7 +291,7 @@ module _ (l : Plan) (rs : List ℕ) (n : ℕ) (apart : IsApart l rs n) where
         let first : seen wide (sa.after A) ≡ x = ap (seen wide) sa.value ∙ seen_whole false x W width (fits_now a w fa r) (omega (arith, product, enough)) in
         let small_one : one < 2 ^ width = subst (λ k. one < 2 ^ k) (sym product) (copies_fit count W 1 (one_fits W some)) in
         let second : seen wide (sa.after (l.place one)) ≡ one = ap (seen wide) one_is ∙ seen_whole false one width width small_one (omega arith) in
-        finish pa (step Product width 0 wide to A (l.place one) 0) w mark (copies count W x) (stands_runs pa w A mark x sa) (λ n y z. refl) refl
+        finish pa (step Product width 0 wide to A (l.place one) 0) w mark (copies count W x) (stands_runs pa w A mark x sa) (λ v n y z. refl) refl
         (ap₂ (λ u v. (u * v) % 2 ^ width) first second ∙ repeat_right count W width x product (fits_now a w fa r))
     gives (Resized a width signed) to mark w few f r =
         let W = width_of a in

@@ -127,7 +127,7 @@ shifted_stands shift width from here mark x w near is fits = by_test (shift == 0
     by_test true = record { after = w; ends = refl; near = omega (arith, near); value = is; kept = λ k h. refl }
     by_test false =
         at_mark (step Select width shift wide mark here 0 0 ∷ []) mark (x / 2 ^ shift % 2 ^ width) w
-        (finish [] (step Select width shift wide mark here 0 0) w mark (x / 2 ^ shift % 2 ^ width) (runs_none w mark) (λ n y z. refl) refl
+        (finish [] (step Select width shift wide mark here 0 0) w mark (x / 2 ^ shift % 2 ^ width) (runs_none w mark) (λ v n y z. refl) refl
         (ap (λ u. u / 2 ^ shift % 2 ^ width) (ap (seen wide) is ∙ seen_whole false x from (max from (shift + width)) fits (omega arith))))
 
 shifted_same : (shift width x : ℕ) → shifted_value shift width x % 2 ^ width ≡ x / 2 ^ shift % 2 ^ width
@@ -182,12 +182,12 @@ module _ (l : Plan) (rs : List ℕ) (n : ℕ) (apart : IsApart l rs n) where
       (λ whole.
       let bottom : span.low ≡ 0 = eqb-true span.low 0 (and_left (span.low == 0) (width == total) whole) in
       let all : width ≡ total = eqb-true width total (and_right (span.low == 0) (width == total) whole) in
-      finish [] (step Select width shift wide to here 0 0) w mark (replaced (w to) span.low width y) (runs_none w mark) (λ n y z. refl) refl
+      finish [] (step Select width shift wide to here 0 0) w mark (replaced (w to) span.low width y) (runs_none w mark) (λ v n y z. refl) refl
       (ap (λ u. u / 2 ^ shift % 2 ^ width) (ap (seen wide) is ∙ seen_whole false x from (max from (shift + width)) fits (omega arith))
       ∙ sym (whole_right (w to) width y (subst (λ k. w to < 2 ^ k) (sym all) small_to))
       ∙ ap (λ k. replaced (w to) k width y) (sym bottom)))
       (λ part.
-      finish ps (step Place width span.low (is_wide Place most) to S to 0) w mark (replaced (w to) span.low width y) (stands_runs ps w S mark v s) (λ n y z. refl) refl
+      finish ps (step Place width span.low (is_wide Place most) to S to 0) w mark (replaced (w to) span.low width y) (stands_runs ps w S mark v s) (λ v n y z. refl) refl
       (ap₂ (λ p q. replaced q span.low width p)
       (ap (seen (is_wide Place most)) s.value ∙ seen_whole false v (max from width) most (shifted_fits shift width from x fits) (omega (arith, lies)))
       (ap (seen (is_wide Place most)) (s.kept to below) ∙ seen_whole false (w to) total most small_to (omega arith))
@@ -222,7 +222,7 @@ module _ (l : Plan) (rs : List ℕ) (n : ℕ) (apart : IsApart l rs n) where
       let to_is : s.after to ≡ w to = s.kept to (omega (arith, below)) ∙ run.kept to below in
       let place_is : s.after mark ≡ located place = s.kept mark (omega arith) ∙ g.value in
       let fits_to : w to < 2 ^ total = subst (λ k. w to < 2 ^ k) same small_to in
-      finish (ps ++ qs) (step PlaceAt width total true to S mark to) w mark (replaced_within total (w to) place width y) run2 (λ n y z. refl) refl
+      finish (ps ++ qs) (step PlaceAt width total true to S mark to) w mark (replaced_within total (w to) place width y) run2 (λ v n y z. refl) refl
       (ap (λ u. replaced_within total (lowest total u) (place_at (s.after mark)) width (lowest width (s.after S))) to_is
       ∙ ap (λ u. replaced_within total (lowest total (w to)) (place_at u) width (lowest width (s.after S))) place_is
       ∙ ap (λ u. replaced_within total (lowest total (w to)) (place_at (located place)) width (lowest width u)) s.value

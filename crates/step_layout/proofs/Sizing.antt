@@ -324,10 +324,12 @@ module _ (l : Plan) (bits : (s : ℕ) → width_at l s ≤ 128) where
   test_sized (Pair op a b) mark past h =
       let first = before l a mark (code l a mark mark) in
       let second = before l b (mark + 1) (code l b (mark + 1) (mark + 1)) in
-      sized_append (first ++ second) (step op 1 0 true 0 (operand l a mark) (operand l b (mark + 1)) past ∷ [])
+      let last = step op (width_of a) 0 true 0 (operand l a mark) (operand l b (mark + 1)) past in
+      let w = widths_right a h.1 in
+      sized_append (first ++ second) (last ∷ [])
       (sized_append first second (before_sized l a mark (code l a mark mark) h.1 (code_sized l a mark mark h.1))
       (before_sized l b (mark + 1) (code l b (mark + 1) (mark + 1)) h.2 (code_sized l b (mark + 1) (mark + 1) h.2)))
-      (sized_one (step op 1 0 true 0 (operand l a mark) (operand l b (mark + 1)) past) h.0.fits)
+      (sized_one last (roomy 128 op (width_of a) 0 w.0 w.1 (h.0.lies (width_of a))))
 
   condition_sized : (c : Sized) (mark past : ℕ) → agrees c ≡ true → are_sized (condition l c mark past) ≡ true
   condition_sized c mark past h =

@@ -1,14 +1,15 @@
 -- How statements are laid out as steps: blocking assignments write signals in place, nonblocking ones next values.
 use Rattle.std.specs.Prelude.{max, ℕ, ◌+◌, Bool, true, false, ◌&&◌, ◌==◌, nat_le, List, [], ◌∷◌, ◌++◌, length, if◌then◌else◌}
 use Rattle.typed_ir.specs.declared.span.Span.{Span}
-use Rattle.typed_ir.specs.declared.comparison.Comparison.TheVariants.{Equal, Unequal, Less, Greater}
+use Rattle.typed_ir.specs.declared.comparison.Comparison.TheVariants.{Equal, Unequal, Less, AtMost, Greater, AtLeast}
 use Rattle.typed_ir.specs.declared.binary_operator.BinaryOperator.TheVariants.{Compare}
-use Rattle.typed_ir.specs.declared.signedness.Signedness.TheVariants.{Unsigned}
+use Rattle.typed_ir.specs.declared.signedness.Signedness.{Signedness}
+use Rattle.typed_ir.specs.declared.signedness.Signedness.TheVariants.{Signed, Unsigned}
 use Rattle.typed_ir.specs.Sized.{Sized, Binary, width_of}
 use Rattle.typed_ir.specs.Stmts.{SizedTarget, Fixed, Moving, SizedItem, SizedStmt, SizedArms, Skip as Nothing, Assign, Later, Then, If, Case, Arm, Default, span_of}
 use Rattle.word_steps.specs.declared.step.Step.{Step}
 use Rattle.word_steps.specs.declared.op.Op.{Op}
-use Rattle.word_steps.specs.declared.op.Op.TheVariants.{Select, Place, PlaceAt, Or, SkipIfZero, SkipIfEqual, SkipUnlessEqual, SkipUnlessLess, Skip}
+use Rattle.word_steps.specs.declared.op.Op.TheVariants.{Select, Place, PlaceAt, Or, SkipIfZero, SkipIfEqual, SkipUnlessEqual, SkipUnlessLess, SkipIfLess, SkipUnlessSignedLess, SkipIfSignedLess, Skip}
 use Rattle.step_layout.specs.Plans.{Plan, width_at}
 use Rattle.step_layout.specs.Expressions.{step, is_wide, locate_op, operand, before, code, constants_of}
 
@@ -79,12 +80,23 @@ pub data Test : Type 0 where
   Truth : (c : Sized) → Test
   Pair : (op : Op) (a b : Sized) → Test
 
--- equality, and the order of unsigned values, of which a > b is b < a, are found by a step that compares
+-- the steps that pass over others unless one value is less than another, and where it is
+abbrev pub unless_less : Signedness → Op
+unless_less Signed = SkipUnlessSignedLess
+unless_less Unsigned = SkipUnlessLess
+
+abbrev pub if_less : Signedness → Op
+if_less Signed = SkipIfSignedLess
+if_less Unsigned = SkipIfLess
+
+-- a comparison is found by a step that compares: a > b is b < a, and a <= b and a >= b hold where b < a and a < b don't
 abbrev pub test_of : Sized → Test
 test_of (Binary (Compare Equal) a b) = Pair SkipUnlessEqual a b
 test_of (Binary (Compare Unequal) a b) = Pair SkipIfEqual a b
-test_of (Binary (Compare (Less Unsigned)) a b) = Pair SkipUnlessLess a b
-test_of (Binary (Compare (Greater Unsigned)) a b) = Pair SkipUnlessLess b a
+test_of (Binary (Compare (Less s)) a b) = Pair (unless_less s) a b
+test_of (Binary (Compare (AtMost s)) a b) = Pair (if_less s) b a
+test_of (Binary (Compare (Greater s)) a b) = Pair (unless_less s) b a
+test_of (Binary (Compare (AtLeast s)) a b) = Pair (if_less s) a b
 test_of c = Truth c
 
 -- the steps that pass over so many others where it doesn't hold
@@ -92,7 +104,7 @@ abbrev pub test_code : Plan → Test → ℕ → ℕ → List Step
 test_code l (Truth c) mark past = before l c mark (code l c mark mark) ++ step SkipIfZero 1 0 true 0 (operand l c mark) 0 past ∷ []
 test_code l (Pair op a b) mark past =
     (before l a mark (code l a mark mark) ++ before l b (mark + 1) (code l b (mark + 1) (mark + 1)))
-    ++ step op 1 0 true 0 (operand l a mark) (operand l b (mark + 1)) past ∷ []
+    ++ step op (width_of a) 0 true 0 (operand l a mark) (operand l b (mark + 1)) past ∷ []
 
 -- whether an expression holds
 abbrev pub condition : Plan → Sized → ℕ → ℕ → List Step

@@ -3,11 +3,11 @@ ghost use Rattle.std.specs.Prelude.{◌≡◌, ◌++◌, [], IsTrue, OnOk};
 ghost use Rattle.typed_ir.specs.Sized.{agrees, Binary};
 ghost use Rattle.typed_ir.specs.Forms.{sized};
 ghost use Rattle.typed_ir.specs.declared.binary_operator.BinaryOperator.TheVariants.{Compare};
-ghost use Rattle.step_layout.specs.Statements.{Truth, Pair, test_of, test_code, condition};
+ghost use Rattle.step_layout.specs.Statements.{Truth, Pair, unless_less, if_less, test_of, test_code, condition};
 ghost use Rattle.step_layout.specs.Views.{plan_of};
 
 use crate::expressions::stand;
-use crate::fronting::{prepend, skip};
+use crate::fronting::{compare, prepend, skip};
 use crate::layout::Layout;
 use crate::putting::{next, put};
 use no_memory::NoMemory;
@@ -46,35 +46,50 @@ fn lay_pair(
 {
     let x = stand(a, layout, mark, first)?;
     let y = stand(b, layout, next(mark)?, first)?;
-    put(first, skip(op, x.place, y.place, past))
+    put(first, compare(op, x.width, x.place, y.place, past))
 }
 
-// Passes over steps unless a comparison holds; `c` is all of it.
+// The step that passes over others unless one value is less than another.
+fn unless_less(s: Signedness) -> Op
+    ensures { result ≡ unless_less s }
+{
+    match s {
+        Signedness::Signed => Op::SkipUnlessSignedLess,
+        Signedness::Unsigned => Op::SkipUnlessLess,
+    }
+}
+
+// The step that passes over others where one value is less than another.
+fn if_less(s: Signedness) -> Op
+    ensures { result ≡ if_less s }
+{
+    match s {
+        Signedness::Signed => Op::SkipIfSignedLess,
+        Signedness::Unsigned => Op::SkipIfLess,
+    }
+}
+
+// Passes over steps unless a comparison holds.
 fn lay_comparison(
     op: Comparison,
     a: &Form,
     b: &Form,
-    c: &Form,
     past: u32,
     layout: &Layout,
     mark: u32,
     first: &mut Vec<Step>,
 ) -> Result<(), NoMemory>
-    requires agrees { IsTrue (agrees (Binary (Compare op) (sized a.now) (sized b.now))) }
-    requires all { sized c.now ≡ Binary (Compare op) (sized a.now) (sized b.now) }
+    requires { IsTrue (agrees (Binary (Compare op) (sized a.now) (sized b.now))) }
     ensures { OnOk result (first.new.items
         ≡ first.old.items ++ test_code (plan_of layout.now) (test_of (Binary (Compare op) (sized a.now) (sized b.now))) mark past) }
 {
     match op {
         Comparison::Equal => lay_pair(Op::SkipUnlessEqual, a, b, past, layout, mark, first),
         Comparison::Unequal => lay_pair(Op::SkipIfEqual, a, b, past, layout, mark, first),
-        Comparison::Less(Signedness::Unsigned) => {
-            lay_pair(Op::SkipUnlessLess, a, b, past, layout, mark, first)
-        }
-        Comparison::Greater(Signedness::Unsigned) => {
-            lay_pair(Op::SkipUnlessLess, b, a, past, layout, mark, first)
-        }
-        _ => lay_truth(c, past, layout, mark, first),
+        Comparison::Less(s) => lay_pair(unless_less(s), a, b, past, layout, mark, first),
+        Comparison::AtMost(s) => lay_pair(if_less(s), b, a, past, layout, mark, first),
+        Comparison::Greater(s) => lay_pair(unless_less(s), b, a, past, layout, mark, first),
+        Comparison::AtLeast(s) => lay_pair(if_less(s), a, b, past, layout, mark, first),
     }
 }
 
@@ -94,7 +109,7 @@ fn lay_test(
             operator: BinaryOperator::Compare(op),
             left,
             right,
-        } => lay_comparison(*op, left, right, c, past, layout, mark, first),
+        } => lay_comparison(*op, left, right, past, layout, mark, first),
         _ => lay_truth(c, past, layout, mark, first),
     }
 }

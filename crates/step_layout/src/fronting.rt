@@ -29,13 +29,13 @@ pub fn added(steps: &VecDeque<Step>, before: usize) -> Result<u32, NoMemory>
     Ok((all - before) as u32)
 }
 
-/// A step that passes over others.
-pub fn skip(op: Op, a: u32, b: u32, count: u32) -> Step
-    ensures { result ≡ step op 1 0 true 0 a b count }
+/// A step that passes over others by what it finds of two values of a width.
+pub fn compare(op: Op, width: u8, a: u32, b: u32, count: u32) -> Step
+    ensures { result ≡ step op width 0 true 0 a b count }
 {
     Step {
         op,
-        width: 1,
+        width,
         low: 0,
         wide: true,
         to: 0,
@@ -43,6 +43,13 @@ pub fn skip(op: Op, a: u32, b: u32, count: u32) -> Step
         b,
         c: count,
     }
+}
+
+/// A step that passes over others, and needs no width.
+pub fn skip(op: Op, a: u32, b: u32, count: u32) -> Step
+    ensures { result ≡ step op 1 0 true 0 a b count }
+{
+    compare(op, 1, a, b, count)
 }
 
 /// Passes over what is done where a test fails.

@@ -130,10 +130,12 @@ fn conditions_by_hand(rt: HostRuntime) -> Result<(), Fail> {
         gives(Comparison::Unequal, 4, [7, 9, 7]),
         gives(Comparison::Less(Signedness::Unsigned), 4, [7, 9, 9]),
         gives(Comparison::Greater(Signedness::Unsigned), 4, [9, 9, 7]),
-        gives(Comparison::AtMost(Signedness::Unsigned), 5, [7, 7, 9]),
-        gives(Comparison::AtLeast(Signedness::Unsigned), 5, [9, 7, 7]),
-        gives(Comparison::Less(Signedness::Signed), 5, [9, 9, 9]),
-        gives(Comparison::Greater(Signedness::Signed), 5, [7, 9, 7]),
+        gives(Comparison::AtMost(Signedness::Unsigned), 4, [7, 7, 9]),
+        gives(Comparison::AtLeast(Signedness::Unsigned), 4, [9, 7, 7]),
+        gives(Comparison::Less(Signedness::Signed), 4, [9, 9, 9]),
+        gives(Comparison::Greater(Signedness::Signed), 4, [7, 9, 7]),
+        gives(Comparison::AtMost(Signedness::Signed), 4, [9, 7, 9]),
+        gives(Comparison::AtLeast(Signedness::Signed), 4, [7, 7, 7]),
     ] {
         let st = two_sides(row.op, rt.alloc())?;
         let steps = laid(&st, rt.alloc())?;

@@ -8,7 +8,6 @@ pub mod Numbered
 pub mod Views
 pub mod Lists
 pub mod Members
-pub mod Steps
 pub mod Ready
 pub mod Masks
 pub mod Mentions

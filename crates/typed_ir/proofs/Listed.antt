@@ -1,5 +1,5 @@
 -- Statements and arms of lists, taken one by one.
-use Rattle.std.proofs.Common.{◌≡◌, ℕ, ◌+◌, ◌<◌, ◌≤◌, true, ◌||◌, List, [], ◌∷◌, ◌++◌, map, length, get_or, drop, Result, Ok, Err, Box, Global, IfOk, sym, ◌∙◌, ap, append_assoc}
+use Rattle.std.proofs.Common.{◌≡◌, ℕ, ◌+◌, ◌<◌, ◌≤◌, ◌||◌, List, [], ◌++◌, map, length, get_or, drop, Result, Ok, Err, Box, Global, IfOk, sym, ◌∙◌, ap, append_assoc}
 use Rattle.std.proofs.Math.Bool.{or_assoc}
 use Rattle.std.proofs.lemmas.List.{at_drop_all}
 use Rattle.typed_ir.specs.declared.arm.Arm.{Arm as Arm'}
@@ -10,16 +10,13 @@ use Rattle.typed_ir.specs.declared.stmt.Stmt.TheVariants.{If as If', rolls-If}
 use Rattle.typed_ir.specs.declared.typed.Typed.{Typed}
 use Rattle.typed_ir.specs.declared.span.Span.{Span}
 use Rattle.typed_ir.specs.declared.touch.Touch.{Touch}
-use Rattle.typed_ir.specs.declared.update.Update.{Update}
-use Rattle.typed_ir.specs.Valuations.{Valuation, Places, any_within}
-use Rattle.typed_ir.specs.Stmts.{SizedStmt, SizedArms, If, Arm, pending, is_legal, is_clocked, most_updates, targets, arm_targets, later_targets, later_arm_targets}
+use Rattle.typed_ir.specs.Valuations.{Places, any_within}
+use Rattle.typed_ir.specs.Stmts.{SizedStmt, SizedArms, If, Arm, targets, arm_targets, later_targets, later_arm_targets}
 use Rattle.typed_ir.specs.Statements.{stmt_step, arm_step, stmt_of, arm_of, item_of, sequence_of, arms_before}
 use Rattle.typed_ir.specs.Forms.{sized}
 use Rattle.typed_ir.specs.Touches.{touched, Adds}
-use Rattle.typed_ir.proofs.Cases.{and_left, and_right}
 use Rattle.typed_ir.proofs.Lists.{drop_read}
 use Rattle.typed_ir.proofs.Locals.{any_within-append}
-use Rattle.typed_ir.proofs.Pending.{pending_then}
 
 -- what holds where a call succeeds
 pub if_ok : {A E : Type 0} (r : Result A E) (P Q : A → Type 0) → ((x : A) → P x → Q x) → IfOk r P → IfOk r Q
@@ -44,37 +41,6 @@ if_is c a b = ap stmt_of (sym (rolls-If c a b)) ∙ fold-roll-Stmt SizedStmt (Si
 -- one arm before the others
 pub arm_is : (arm : Arm') (rest : SizedArms) → arm_of arm rest ≡ Arm (map item_of arm.items.items) (stmt_of arm.body) rest
 arm_is arm rest = ap (λ f. f rest) (fold_out-Arm SizedStmt (SizedArms → SizedArms) stmt_step arm_step arm)
-
--- one more statement of a list
-pub rest_legal : (list : List Stmt) (k : ℕ) (x : Stmt) (ws : List ℕ) → k < length list → x ≡ get_or list k x
-    → is_legal (sequence_of (map stmt_of (drop k list))) ws ≡ true → is_legal (sequence_of (map stmt_of (drop (k + 1) list))) ws ≡ true
-rest_legal list k x ws h is legal =
-    and_right (is_legal (stmt_of x) ws) (is_legal (sequence_of (map stmt_of (drop (k + 1) list))) ws)
-    (sym (ap (λ zs. is_legal (sequence_of (map stmt_of zs)) ws) (drop_read list k x h is)) ∙ legal)
-
-pub rest_clocked : (list : List Stmt) (k : ℕ) (x : Stmt) → k < length list → x ≡ get_or list k x
-    → is_clocked (sequence_of (map stmt_of (drop k list))) ≡ true → is_clocked (sequence_of (map stmt_of (drop (k + 1) list))) ≡ true
-rest_clocked list k x h is clocked =
-    and_right (is_clocked (stmt_of x)) (is_clocked (sequence_of (map stmt_of (drop (k + 1) list))))
-    (sym (ap (λ zs. is_clocked (sequence_of (map stmt_of zs))) (drop_read list k x h is)) ∙ clocked)
-
-pub most_next : (list : List Stmt) (k : ℕ) (x : Stmt) → k < length list → x ≡ get_or list k x
-    → most_updates (sequence_of (map stmt_of (drop k list))) ≡ most_updates (stmt_of x) + most_updates (sequence_of (map stmt_of (drop (k + 1) list)))
-most_next list k x h is = ap (λ zs. most_updates (sequence_of (map stmt_of zs))) (drop_read list k x h is)
-
-pub noted_next : (list : List Stmt) (k : ℕ) (x : Stmt) (env : Valuation) (old mid new : List Update) → k < length list → x ≡ get_or list k x
-    → is_clocked (sequence_of (map stmt_of (drop k list))) ≡ true
-    → new ≡ mid ++ pending (stmt_of x) env
-    → mid ++ pending (sequence_of (map stmt_of (drop k list))) env ≡ old
-    → new ++ pending (sequence_of (map stmt_of (drop (k + 1) list))) env ≡ old
-noted_next list k x env old mid new h is clocked noted left =
-    let rest = sequence_of (map stmt_of (drop (k + 1) list)) in
-    let one : drop k list ≡ x ∷ drop (k + 1) list = drop_read list k x h is in
-    ap (λ us. us ++ pending rest env) noted
-    ∙ pending_then (stmt_of x) rest env mid
-    (and_left (is_clocked (stmt_of x)) (is_clocked rest) (sym (ap (λ zs. is_clocked (sequence_of (map stmt_of zs))) one) ∙ clocked))
-    ∙ ap (λ zs. mid ++ pending (sequence_of (map stmt_of zs)) env) (sym one)
-    ∙ left
 
 pub targets_next : (list : List Stmt) (k : ℕ) (x : Stmt) (mid new : List Touch) (s i : ℕ) → k < length list → x ≡ get_or list k x → i < 128
     → Adds mid new (any_within (targets (stmt_of x)))

@@ -1,5 +1,5 @@
 -- Statements: what they do, which bits they write, and which they read before they wrote them (IEEE Std 1364-2005, 9.2, 9.4, 9.5).
-use Rattle.std.specs.Prelude.{◌≡◌, ℕ, suc, ◌+◌, ◌-◌, ◌/◌, ◌^◌, min, Bool, true, false, not, ◌&&◌, ◌||◌, ◌==◌, nat_lt, if◌then◌else◌, List, [], ◌∷◌, ◌++◌, map, length, bit_or, ℤ, pos, negsuc}
+use Rattle.std.specs.Prelude.{◌≡◌, ℕ, suc, ◌+◌, ◌-◌, ◌/◌, ◌^◌, min, Bool, true, false, not, ◌&&◌, ◌||◌, ◌==◌, nat_lt, if◌then◌else◌, List, [], ◌∷◌, ◌++◌, map, bit_or, ℤ, pos, negsuc}
 use Rattle.typed_ir.specs.declared.span.Span.{Span}
 use Rattle.typed_ir.specs.declared.lane.Lane.{Lane}
 use Rattle.typed_ir.specs.declared.reach.Reach.{Reach}
@@ -111,20 +111,6 @@ abbrev mutual
   pub pending_arms : SizedArms → ℕ → Valuation → List Update
   pending_arms (Arm items body rest) subject env = if matches_any subject items env then pending body env else pending_arms rest subject env
   pending_arms (Default otherwise) subject env = pending otherwise env
-
-abbrev mutual
-  -- how many parts its nonblocking assignments have: no execution notes more updates
-  pub most_updates : SizedStmt → ℕ
-  most_updates Skip = 0
-  most_updates (Assign parts e) = 0
-  most_updates (Later parts e) = length parts
-  most_updates (Then a b) = most_updates a + most_updates b
-  most_updates (If c a b) = most_updates a + most_updates b
-  most_updates (Case e arms) = most_arm_updates arms
-
-  pub most_arm_updates : SizedArms → ℕ
-  most_arm_updates (Arm items body rest) = most_updates body + most_arm_updates rest
-  most_arm_updates (Default otherwise) = most_updates otherwise
 
 -- ---- bits that are written and read, by the text
 
@@ -265,7 +251,3 @@ abbrev mutual
   pub are_legal_arms : SizedArms → List ℕ → Bool
   are_legal_arms (Arm items body rest) widths = are_items items widths && (is_legal body widths && are_legal_arms rest widths)
   are_legal_arms (Default otherwise) widths = is_legal otherwise widths
-
-abbrev pub are_spans : List Update → List ℕ → Bool
-are_spans [] widths = true
-are_spans (u ∷ us) widths = is_span u.span widths && are_spans us widths

@@ -129,8 +129,8 @@ fn near(at: i128) -> Option<i16>
     }
 }
 
-/// Where a select at run time begins; `None` where that is 128 bits or more from the lowest bit.
-pub fn place(index: Bits, signed: bool, below: u32) -> Option<i16>
+// Where a select at run time begins; `None` where that is 128 bits or more from the lowest bit.
+fn place(index: Bits, signed: bool, below: u32) -> Option<i16>
     ensures { MatchOption result (128 ≤ unsigned_abs (place_of below signed index.width index.value))
         (λ at. at ≡ place_of below signed index.width index.value) }
 {

@@ -1,10 +1,10 @@
 // Flat designs: sized expressions, statements and nodes, and what they do to a valuation of the signals.
 //
-// Expressions: `typed` builds sized ones, whose widths agree, of the layers of `form`, which evaluates them by `apply`. Statements: `stmt`
-// runs one in place and notes the updates of its nonblocking assignments (`target`, `writing`, `item` for the items of a case), and `placing`
-// applies updates. Nodes: `node` settles one in place, by `placing` or by its block. Bits: `touching` lists those that a node drives and
-// reads. Whole designs: `rooting` makes a table of instances, `flat` keeps what a design's parts have to be, `linked` an order of its nodes
-// too, and `reg_state` the values of its registers. `laws` says of such a design that the order settles its wires.
+// Expressions: `typed` builds sized ones, whose widths agree, of the layers of `form`, which evaluates them by `apply`. Statements (`stmt`,
+// `target`, `item`) and nodes (`node`) are data: `specs/` says what they do, and the steps that other crates lay them out as do it. Bits:
+// `writing` lists those that a clocked block may write, `touching` those that a node drives and reads. Whole designs: `rooting` makes a table
+// of instances, `flat` keeps what a design's parts have to be, and `linked` an order of its nodes too. `laws` says of such a design that the
+// order settles its wires.
 #![tactic(auto)]
 
 mod apply;
@@ -28,9 +28,7 @@ mod logical_operator;
 mod node;
 mod node_id;
 mod node_list;
-mod placing;
 mod reach;
-mod reg_state;
 mod register_id;
 mod rooting;
 mod shift_operator;
@@ -69,9 +67,7 @@ pub use logical_operator::LogicalOperator;
 pub use node::Node;
 pub use node_id::NodeId;
 pub use node_list::NodeList;
-pub use placing::apply_all;
 pub use reach::Reach;
-pub use reg_state::RegState;
 pub use register_id::RegisterId;
 pub use shift_operator::ShiftOperator;
 pub use shown_target::ShownTarget;

@@ -1,4 +1,4 @@
-// Writes that take effect later.
+// Writes, of which contracts alone speak: what an assignment writes, and what takes effect later.
 use crate::span::Span;
 
 /// Bits that are to be written, with a value whose lowest bits they take.

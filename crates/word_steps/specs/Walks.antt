@@ -12,7 +12,7 @@ use Rattle.typed_ir.specs.Valuations.{Valuation, put}
 use Rattle.typed_ir.specs.Sized.{truth_value, apply_unary, apply_arithmetic, apply_comparison, apply_logical, apply_shift, place_of}
 use Rattle.word_steps.specs.declared.step.Step.{Step}
 use Rattle.word_steps.specs.declared.op.Op.{Op}
-use Rattle.word_steps.specs.declared.op.Op.TheVariants.{Copy, Inverse, Negative, AllOnes, AnyOne, NoOne, OddOnes, Sum, Difference, Product, And, Or, Xor, Xnor, Quotient, Remainder, SignedQuotient, SignedRemainder, Equal, Unequal, Less, AtMost, SignedLess, SignedAtMost, Both, Either, Left, Right, Arithmetic, Choose, Select, Join, Extend, Place, Locate, SignedLocate, Pick, PlaceAt, SkipIfZero, SkipIfEqual, SkipUnlessEqual, SkipUnlessLess, Skip}
+use Rattle.word_steps.specs.declared.op.Op.TheVariants.{Copy, Inverse, Negative, AllOnes, AnyOne, NoOne, OddOnes, Sum, Difference, Product, And, Or, Xor, Xnor, Quotient, Remainder, SignedQuotient, SignedRemainder, Equal, Unequal, Less, AtMost, SignedLess, SignedAtMost, Both, Either, Left, Right, Arithmetic, Choose, Select, Join, Extend, Place, Locate, SignedLocate, Pick, PlaceAt, SkipIfZero, SkipIfEqual, SkipUnlessEqual, SkipUnlessLess, SkipIfLess, SkipUnlessSignedLess, SkipIfSignedLess, Skip}
 
 abbrev pub env_of : List ℕ → Valuation
 env_of words = λ s. slice_index words s
@@ -74,16 +74,22 @@ apply SkipIfZero width low x y z = 0
 apply SkipIfEqual width low x y z = 0
 apply SkipUnlessEqual width low x y z = 0
 apply SkipUnlessLess width low x y z = 0
+apply SkipIfLess width low x y z = 0
+apply SkipUnlessSignedLess width low x y z = 0
+apply SkipIfSignedLess width low x y z = 0
 apply Skip width low x y z = 0
 
 -- how many of the steps behind it a step passes over
-abbrev pub skips : Op → ℕ → ℕ → ℕ → ℕ
-skips SkipIfZero n x y = if x == 0 then n else 0
-skips SkipIfEqual n x y = if x == y then n else 0
-skips SkipUnlessEqual n x y = if x == y then 0 else n
-skips SkipUnlessLess n x y = if nat_lt x y then 0 else n
-skips Skip n x y = n
-skips op n x y = 0
+abbrev pub skips : Op → ℕ → ℕ → ℕ → ℕ → ℕ
+skips SkipIfZero width n x y = if x == 0 then n else 0
+skips SkipIfEqual width n x y = if x == y then n else 0
+skips SkipUnlessEqual width n x y = if x == y then 0 else n
+skips SkipUnlessLess width n x y = if nat_lt x y then 0 else n
+skips SkipIfLess width n x y = if nat_lt x y then n else 0
+skips SkipUnlessSignedLess width n x y = if apply_comparison (Less' Signed) width (lowest width x) (lowest width y) then 0 else n
+skips SkipIfSignedLess width n x y = if apply_comparison (Less' Signed) width (lowest width x) (lowest width y) then n else 0
+skips Skip width n x y = n
+skips op width n x y = 0
 
 -- whether a step writes a word; the others pass over steps
 abbrev pub writes : Op → Bool
@@ -91,6 +97,9 @@ writes SkipIfZero = false
 writes SkipIfEqual = false
 writes SkipUnlessEqual = false
 writes SkipUnlessLess = false
+writes SkipIfLess = false
+writes SkipUnlessSignedLess = false
+writes SkipIfSignedLess = false
 writes Skip = false
 writes op = true
 
@@ -111,7 +120,7 @@ abbrev pub at : ℕ → Valuation → At
 at skip words = record { skip = skip; words = words }
 
 abbrev pub go_at : Step → ℕ → Valuation → At
-go_at s zero w = at (skips s.op s.c (w s.a) (w s.b)) (act s w)
+go_at s zero w = at (skips s.op s.width s.c (w s.a) (w s.b)) (act s w)
 go_at s (suc n) w = at n w
 
 -- all steps, from the first one on

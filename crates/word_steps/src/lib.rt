@@ -15,6 +15,6 @@ mod walking;
 mod wide;
 
 pub use op::Op;
-pub use soundness::{are_sound, is_long};
+pub use soundness::{are_sound, is_long, writes};
 pub use step::Step;
 pub use walking::walk;

@@ -51,7 +51,14 @@ pub fn long_made(step: &Step, x: u128, y: u128, z: u128) -> u128
         Op::SignedLocate => wide::signed_locate(x, y, step.width),
         Op::Pick => wide::pick(x, y, step.width),
         Op::PlaceAt => wide::put_at(x, y, z, step.width, step.low),
-        Op::SkipIfZero | Op::SkipIfEqual | Op::SkipUnlessEqual | Op::SkipUnlessLess | Op::Skip => 0,
+        Op::SkipIfZero
+        | Op::SkipIfEqual
+        | Op::SkipUnlessEqual
+        | Op::SkipUnlessLess
+        | Op::SkipIfLess
+        | Op::SkipUnlessSignedLess
+        | Op::SkipIfSignedLess
+        | Op::Skip => 0,
     }
 }
 

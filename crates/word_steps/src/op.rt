@@ -89,6 +89,12 @@ pub enum Op {
     SkipUnlessEqual,
     /// Passes over `c` steps unless `a < b`.
     SkipUnlessLess,
+    /// Passes over `c` steps where `a < b`.
+    SkipIfLess,
+    /// Passes over `c` steps unless `a < b`, both signed values of the step's width.
+    SkipUnlessSignedLess,
+    /// Passes over `c` steps where `a < b`, both signed values of the step's width.
+    SkipIfSignedLess,
     /// Passes over `c` steps.
     Skip,
 }

@@ -11,8 +11,14 @@ pub fn writes(op: Op) -> bool
     ensures { result ≡ writes op }
 {
     match op {
-        Op::SkipIfZero | Op::SkipIfEqual | Op::SkipUnlessEqual | Op::SkipUnlessLess | Op::Skip =>
-            false,
+        Op::SkipIfZero
+        | Op::SkipIfEqual
+        | Op::SkipUnlessEqual
+        | Op::SkipUnlessLess
+        | Op::SkipIfLess
+        | Op::SkipUnlessSignedLess
+        | Op::SkipIfSignedLess
+        | Op::Skip => false,
         _ => true,
     }
 }

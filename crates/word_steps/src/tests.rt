@@ -126,6 +126,36 @@ fn steps_by_hand(rt: HostRuntime) -> Result<(), Fail> {
             [200, 100, 1, 9],
             44,
         ),
+        gives(
+            long(Op::SkipIfLess, 1, 0, 0, 0, 1, 1),
+            sum,
+            [99, 100, 0, 9],
+            9,
+        ),
+        gives(
+            long(Op::SkipIfLess, 1, 0, 0, 0, 1, 1),
+            sum,
+            [100, 100, 0, 9],
+            200,
+        ),
+        gives(
+            long(Op::SkipIfSignedLess, 8, 0, 0, 0, 1, 1),
+            sum,
+            [200, 100, 0, 9],
+            9,
+        ),
+        gives(
+            long(Op::SkipUnlessSignedLess, 9, 0, 0, 0, 1, 1),
+            sum,
+            [200, 100, 0, 9],
+            9,
+        ),
+        gives(
+            long(Op::SkipUnlessSignedLess, 8, 0, 0, 0, 1, 1),
+            sum,
+            [200, 100, 0, 9],
+            44,
+        ),
         gives(locate, pick, [7, 3, 0xabc, 0], 0xb),
         gives(signed_locate, pick, [255, 0, 0xabc, 0], 8),
         gives(

@@ -1,5 +1,5 @@
 // The walk over steps, in place.
-ghost use Rattle.std.specs.Prelude.{◌≡◌, ◌<◌, false, IsTrue, length};
+ghost use Rattle.std.specs.Prelude.{◌≡◌, ◌≤◌, ◌<◌, false, IsTrue, length};
 ghost use Rattle.word_steps.specs.Walks.{act, walk, at, skips, writes, env_of};
 ghost use Rattle.word_steps.specs.Sound.{is_sound, are_sound};
 
@@ -7,10 +7,13 @@ use crate::making::{long_made, short_made};
 use crate::op::Op;
 use crate::soundness::writes;
 use crate::step::Step;
+use crate::wide::is_signed_less;
 
 // How many steps a step passes over.
-fn skips(op: Op, count: u32, x: u128, y: u128) -> usize
-    ensures skip { result ≡ skips op count x y }
+fn skips(op: Op, width: u8, count: u32, x: u128, y: u128) -> usize
+    requires at_least_one { 1 ≤ width }
+    requires at_most_128 { width ≤ 128 }
+    ensures skip { result ≡ skips op width count x y }
     ensures few { result < 4294967296 }
 {
     match op {
@@ -18,6 +21,17 @@ fn skips(op: Op, count: u32, x: u128, y: u128) -> usize
         Op::SkipIfEqual => if x == y { count as usize } else { 0 },
         Op::SkipUnlessEqual => if x == y { 0 } else { count as usize },
         Op::SkipUnlessLess => if x < y { 0 } else { count as usize },
+        Op::SkipIfLess => if x < y { count as usize } else { 0 },
+        Op::SkipUnlessSignedLess => if is_signed_less(x, y, width) {
+            0
+        } else {
+            count as usize
+        },
+        Op::SkipIfSignedLess => if is_signed_less(x, y, width) {
+            count as usize
+        } else {
+            0
+        },
         Op::Skip => count as usize,
         _ => 0,
     }
@@ -48,16 +62,17 @@ fn quick(step: &Step, words: &mut [u128])
 }
 
 // Takes one step, and says how many of those behind it are passed over.
-#[tactic(auto, using(crate::proofs::Steps::act_still))]
+#[tactic(auto, using(crate::proofs::Steps::act_still, crate::proofs::Steps::sound_some, crate::proofs::Steps::sound_few))]
 fn taken(step: &Step, words: &mut [u128]) -> usize
     requires { IsTrue (is_sound (length words.old) step.now) }
-    ensures skip { result ≡ skips step.now.op step.now.c (env_of words.old step.now.a) (env_of words.old step.now.b) }
+    ensures skip { result ≡ skips step.now.op step.now.width step.now.c (env_of words.old step.now.a) (env_of words.old step.now.b) }
     ensures words { env_of words.new ≡ act step.now (env_of words.old) }
     ensures few { result < 4294967296 }
 {
     if !writes(step.op) {
         return skips(
             step.op,
+            step.width,
             step.c,
             words[step.a as usize],
             words[step.b as usize],

@@ -105,12 +105,21 @@ pub fn remainder(x: u128, y: u128, width: u8, signed: bool) -> u128
 }
 
 /// Whether one signed value is less than another.
+pub fn is_signed_less(x: u128, y: u128, width: u8) -> bool
+    requires at_least_one { 1 ≤ width }
+    requires at_most_128 { width ≤ 128 }
+    ensures { result ≡ apply_comparison (Less Signed) width (lowest width x) (lowest width y) }
+{
+    Bits::new(width, x).lt(Bits::new(width, y), true)
+}
+
+/// 1 where one signed value is less than another.
 pub fn signed_less(x: u128, y: u128, width: u8) -> u128
     requires at_least_one { 1 ≤ width }
     requires at_most_128 { width ≤ 128 }
     ensures { result ≡ truth_value (apply_comparison (Less Signed) width (lowest width x) (lowest width y)) }
 {
-    Bits::new(width, x).lt(Bits::new(width, y), true) as u128
+    is_signed_less(x, y, width) as u128
 }
 
 /// Whether one signed value isn't greater than another.

@@ -1,4 +1,0 @@
-use Rattle.livesim.proofs.limit_tests.+play_on.Given as goal
-
-abbrev pub decreases-play_on : goal.decreases-play_on
-decreases-play_on g l = l.turns

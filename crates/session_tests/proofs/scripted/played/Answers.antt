@@ -1,0 +1,17 @@
+use Rattle.std.proofs.Common.{ap}
+use denote.Param.Send.{sendable}
+use Rattle.std.proofs.Crossing.{crosses}
+use Rattle.book_history.specs.Book.{Settings as BookSettings}
+use Rattle.book_turn.specs.Passes.{known}
+use Rattle.live_session.proofs.DesignsShared.{design_send, design_sync, inputs_send, inputs_sync, ops_send, ops_sync, state_send}
+use Rattle.session_tests.proofs.Standing.{made_at, split_stands}
+use Rattle.session_tests.proofs.scripted.played.Goals as goal
+
+pub new-requires-3-send-M : goal.new-requires-3-send-M
+new-requires-3-send-M g c κs = search (design_send, sendable, crosses) depth 40 fits 20000
+
+pub new-requires-3-sync-M : goal.new-requires-3-sync-M
+new-requires-3-sync-M g c κs = search (design_sync, sendable, crosses) depth 40 fits 20000
+
+pub make-requires-send-B : goal.make-requires-send-B
+make-requires-send-B g c κs within = search (design_send, design_sync, state_send, inputs_send, inputs_sync, ops_send, ops_sync, sendable, crosses) depth 60 fits 100000
