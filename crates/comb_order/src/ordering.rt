@@ -9,6 +9,7 @@ ghost use Rattle.comb_order.specs.Refusals.{NodeBefore, IsRefusal, is_loop};
 
 use crate::drivers::drivers_of;
 use crate::edges::edges_of;
+use crate::ranking::ranks_of;
 use crate::refusing::{OrderRefusal, ordered};
 use no_memory::NoMemory;
 use std::alloc::Global;
@@ -39,7 +40,11 @@ pub fn order(alloc: Global, design: &Flat) -> Result<Vec<NodeId>, OrderRefusal>
         Ok(graph) => graph,
         Err(_) => return Err(OrderRefusal::NoMemory),
     };
-    ordered(alloc, &graph)
+    let ranks = match ranks_of(alloc, design, &graph) {
+        Ok(ranks) => ranks,
+        Err(_) => return Err(OrderRefusal::NoMemory),
+    };
+    ordered(alloc, &graph, &ranks)
 }
 
 /// The design with an order of its nodes, just where there is no loop; else the loop, as `order` says.

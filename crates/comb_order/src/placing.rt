@@ -1,12 +1,14 @@
-// Nodes are placed one by one, each once all that comes before it is placed, and depth first: free nodes stand on a stack, and those that
-// a node sets free come on top, the least number topmost.
+// Nodes are placed one by one, each once all that comes before it is placed: next comes the one of the least rank, and of these
+// the one of the least number.
 ghost use Rattle.std.specs.Prelude.{◌≡◌, ◌-◌, ◌≤◌, ◌<◌, ◌^◌, ◌++◌, ◌∷◌, [], ◌==◌, if◌then◌else◌, ℕ, length, slice_index, IfOk};
 ghost use Rattle.typed_ir.specs.Valuations.{put};
 ghost use Rattle.comb_order.specs.Graphs.{times, waiting, rows_of, lowered, released, count_of};
 ghost use Rattle.comb_order.specs.Kahn.{IsClosed, IsPlacing};
 
 use crate::counting::{free_nodes, in_degrees};
+use crate::ready::{make_ready, next_ready};
 use std::alloc::{AllocError, Global};
+use std::collections::BinaryHeap;
 use typed_ir::NodeId;
 
 // A node loses one predecessor, and is free where that was its last.
@@ -40,7 +42,9 @@ pub fn release(row: &[NodeId], counts: &mut [u32], free: &mut Vec<NodeId>) -> Re
 
 // Places the free nodes, and those that become free, until none is left.
 fn place_free(
+    alloc: Global,
     graph: &[Vec<NodeId>],
+    ranks: &[u32],
     counts: &mut [u32],
     placed: &mut [bool],
     free: &mut Vec<NodeId>,
@@ -50,11 +54,14 @@ fn place_free(
     requires start { IsPlacing (rows_of graph.now) placed.old (count_of counts.old) order.old.items free.old.items }
     ensures { IfOk result (λ _. IsPlacing (rows_of graph.now) placed.new (count_of counts.new) order.new.items []) }
 {
-    'placing: while let Some(node) = free.pop() {
+    let mut ready = BinaryHeap::new(alloc);
+    make_ready(free, ranks, &mut ready)?;
+    'placing: while let Some(node) = next_ready(&mut ready) {
         let k = node.index();
         placed[k] = true;
         order.push(node)?;
         release(&graph[k], counts, free)?;
+        make_ready(free, ranks, &mut ready)?;
     }
     Ok(())
 }
@@ -66,8 +73,12 @@ pub struct Placing {
     pub placed: Vec<bool>,
 }
 
-/// Places all that can be placed.
-pub fn place_nodes(alloc: Global, graph: &[Vec<NodeId>]) -> Result<Placing, AllocError>
+/// Places all that can be placed, the nodes of the least rank first. `ranks` has one for each node.
+pub fn place_nodes(
+    alloc: Global,
+    graph: &[Vec<NodeId>],
+    ranks: &[u32],
+) -> Result<Placing, AllocError>
     requires closed { IsClosed (rows_of graph.now) }
     requires few { (t : ℕ) → waiting (rows_of graph.now) [] t < 2 ^ 32 }
     requires nodes { length graph.now < 2 ^ 32 }
@@ -77,6 +88,14 @@ pub fn place_nodes(alloc: Global, graph: &[Vec<NodeId>]) -> Result<Placing, Allo
     let mut placed = vec![in alloc; false; graph.len()]?;
     let mut free = free_nodes(alloc, &counts)?;
     let mut order = Vec::new(alloc);
-    place_free(graph, &mut counts, &mut placed, &mut free, &mut order)?;
+    place_free(
+        alloc,
+        graph,
+        ranks,
+        &mut counts,
+        &mut placed,
+        &mut free,
+        &mut order,
+    )?;
     Ok(Placing { order, placed })
 }

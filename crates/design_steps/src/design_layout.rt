@@ -51,8 +51,9 @@ fn pool_of(nodes: &[Node], blocks: &[Stmt], pool: &mut IndexSet<u128>) -> Result
 }
 
 /// The layout of a design: signals stand from the place 1 on, wires where the signal does of which they are only another name. Behind them
-/// are as many places for the next values of clocked blocks, then as many for those that nodes put, and then the constants. Want of
-/// memory, and a place above the largest number, is `NoMemory`.
+/// are as many places for the next values of clocked blocks, then as many for those that nodes put, then two words for each register, to
+/// which `places_of` moves it and its next value, and then the constants. Want of memory, and a place above the largest number, is
+/// `NoMemory`.
 pub fn layout_of(alloc: Global, linked: &Linked) -> Result<Layout, NoMemory>
     ensures { IfOk result (λ l. LaysOut l linked.now.design) }
 {

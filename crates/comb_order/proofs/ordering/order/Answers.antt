@@ -13,14 +13,14 @@ use Rattle.comb_order.proofs.ordering.order.Goals as goal
 
 pub ordered-requires-clause-closed : goal.ordered-requires-clause-closed
 ordered-requires-clause-closed c =
-    subst (λ g. IsClosed (rows_of g)) (sym c.deref.ensures.value)
+    subst (λ g. IsClosed (rows_of g)) (sym c.deref-2.ensures.value)
     (graph_closed (flat c.args.design.now).nodes (rows_of c.in-Ok.graph.items) c.in-Ok.ensures.graph)
 
 pub ordered-requires-clause-few : goal.ordered-requires-clause-few
 ordered-requires-clause-few c =
     let design = c.args.design.now in
     let nodes = (flat design).nodes in
-    subst (λ g. (t : ℕ) → waiting (rows_of g) [] t < 2 ^ 32) (sym c.deref.ensures.value)
+    subst (λ g. (t : ℕ) → waiting (rows_of g) [] t < 2 ^ 32) (sym c.deref-2.ensures.value)
     (graph_few nodes (rows_of c.in-Ok.graph.items) (length nodes) c.in-Ok.ensures.rows c.in-Ok.ensures.graph
     (omega (arith, length-map design.nodes.items node_of, design.few)))
 
@@ -29,7 +29,7 @@ ordered-requires-clause-nodes c =
     let design = c.args.design.now in
     let rows = c.in-Ok.graph.items in
     let size : length (rows_of rows) ≡ length (map node_of design.nodes.items) = c.in-Ok.ensures.graph.size in
-    omega (arith, ap length c.deref.ensures.value, length_rows rows, size, length-map design.nodes.items node_of, design.few)
+    omega (arith, ap length c.deref-2.ensures.value, length_rows rows, size, length-map design.nodes.items node_of, design.few)
 
 pub returns-clause-order : goal.returns-clause-order
 returns-clause-order c =
@@ -37,7 +37,7 @@ returns-clause-order c =
     IfOk-weaker c.ordered.result _ _
     (λ order o. order_of (flat c.args.design.now).nodes (rows_of rows) order.items c.in-Ok.ensures.graph
     (subst (λ n. IsOrderOf (HasEdge (rows_of rows)) n order.items) (sym (length_rows rows)) o))
-    (subst (λ g. IfOk c.ordered.result (λ order. IsOrderOf (HasEdge (rows_of g)) (length g) order.items)) c.deref.ensures.value c.ordered.ensures.order)
+    (subst (λ g. IfOk c.ordered.result (λ order. IsOrderOf (HasEdge (rows_of g)) (length g) order.items)) c.deref-2.ensures.value c.ordered.ensures.order)
 
 pub returns-clause-exactly : goal.returns-clause-exactly
 returns-clause-exactly c =
@@ -45,12 +45,12 @@ returns-clause-exactly c =
     let nodes = (flat c.args.design.now).nodes in
     exactly nodes (rows_of rows) c.ordered.result c.in-Ok.ensures.graph
     (IfOk-weaker c.ordered.result _ _ (λ order o. subst (λ n. IsOrderOf (HasEdge (rows_of rows)) n order.items) (sym (length_rows rows)) o)
-    (subst (λ g. IfOk c.ordered.result (λ order. IsOrderOf (HasEdge (rows_of g)) (length g) order.items)) c.deref.ensures.value c.ordered.ensures.order))
-    (subst (λ g. IfErr c.ordered.result (λ r. IsRefusal (HasEdge (rows_of g)) (length (rows_of g)) r)) c.deref.ensures.value c.ordered.ensures.refusal)
+    (subst (λ g. IfOk c.ordered.result (λ order. IsOrderOf (HasEdge (rows_of g)) (length g) order.items)) c.deref-2.ensures.value c.ordered.ensures.order))
+    (subst (λ g. IfErr c.ordered.result (λ r. IsRefusal (HasEdge (rows_of g)) (length (rows_of g)) r)) c.deref-2.ensures.value c.ordered.ensures.refusal)
 
 pub returns-clause-none : goal.returns-clause-none
 returns-clause-none c =
     let rows = c.in-Ok.graph.items in
     IfErr-weaker c.ordered.result _ _
     (λ r h is order o. no_order (flat c.args.design.now).nodes (rows_of rows) r order c.in-Ok.ensures.graph h is o)
-    (subst (λ g. IfErr c.ordered.result (λ r. IsRefusal (HasEdge (rows_of g)) (length (rows_of g)) r)) c.deref.ensures.value c.ordered.ensures.refusal)
+    (subst (λ g. IfErr c.ordered.result (λ r. IsRefusal (HasEdge (rows_of g)) (length (rows_of g)) r)) c.deref-2.ensures.value c.ordered.ensures.refusal)
