@@ -8,11 +8,11 @@ use std::alloc::Global;
 use std::process::Abort;
 use std::test::Fail;
 use typed_ir::{
-    ArithmeticOperator, BinaryOperator, InstanceId, InstanceTable, Lane, Node, NodeId, Signal,
-    SignalId, Span, TargetForm, Typed,
+    ArithmeticOperator, BinaryOperator, Flat, InstanceId, InstanceTable, Lane, Node, NodeId,
+    Signal, SignalId, Span, TargetForm, Typed,
 };
 
-fn bit(number: u32, low: u8) -> Span
+pub fn bit(number: u32, low: u8) -> Span
     ensures width { result.width ≡ 1 }
     ensures low { result.low ≡ low }
 {
@@ -35,7 +35,7 @@ fn assign(alloc: Global, span: Span, e: Typed) -> Result<Node, NoMemory> {
 }
 
 // assign TO = FROM; both of one bit, for each pair
-fn copies(alloc: Global, pairs: &[(u32, u32)]) -> Result<Vec<Node>, NoMemory> {
+pub fn copies(alloc: Global, pairs: &[(u32, u32)]) -> Result<Vec<Node>, NoMemory> {
     let mut nodes = Vec::new(alloc);
     for (to, from) in pairs {
         nodes.push(assign(alloc, bit(*to, 0), Typed::name(SignalId(*from), 1))?)?;
@@ -66,8 +66,52 @@ fn numbers(alloc: Global, nodes: &[NodeId]) -> Result<Vec<u32>, NoMemory> {
     Ok(all)
 }
 
-// What the order of a design with signals of these widths and these nodes is: true and an order, or false and the loop.
+// A signal of so many bits in an instance.
+pub fn signal(rt: &impl Abort, instance: u32, number: usize, width: u8) -> Signal {
+    assert!(rt; 1 <= width && width <= 128);
+    Signal {
+        in_module: NameId(0),
+        instance: InstanceId(instance),
+        name: NameId(number as u64),
+        lsb: 0,
+        signed: false,
+        width,
+        initial: 0,
+    }
+}
+
+// The design of these parts.
 #[tactic(auto, using(comb_order::proofs::Flatten::complete_of, comb_order::proofs::Flatten::first_of))]
+pub fn design_of(rt: &impl Abort, alloc: Global, parts: Parts) -> Result<Flat, NoMemory> {
+    assert!(rt; no_block(&parts.nodes));
+    assert!(rt; parts.nodes.len() < 1_000_000);
+    Ok(checked_flat(alloc, parts)?.expect(rt, "a design"))
+}
+
+// What the order of a design with these instances, signals and nodes is: true and an order, or false and the loop.
+pub fn order_within(
+    rt: &impl Abort,
+    alloc: Global,
+    instances: InstanceTable,
+    signals: Vec<Signal>,
+    nodes: Vec<Node>,
+) -> Result<(bool, Vec<u32>), NoMemory> {
+    let parts = Parts {
+        instances,
+        signals,
+        registers: Vec::new(alloc),
+        inputs: Vec::new(alloc),
+        nodes,
+        clocked: Vec::new(alloc),
+    };
+    match order(alloc, &design_of(rt, alloc, parts)?) {
+        Ok(order) => Ok((true, numbers(alloc, &order)?)),
+        Err(OrderRefusal::Loop(circle)) => Ok((false, numbers(alloc, circle.nodes())?)),
+        Err(OrderRefusal::NoMemory) => Err(NoMemory),
+    }
+}
+
+// The same of one instance with signals of these widths.
 fn answer(
     rt: &impl Abort,
     alloc: Global,
@@ -76,36 +120,13 @@ fn answer(
 ) -> Result<(bool, Vec<u32>), NoMemory> {
     let mut signals = Vec::new(alloc);
     for width in widths {
-        assert!(rt; 1 <= *width && *width <= 128);
-        signals.push(Signal {
-            in_module: NameId(0),
-            instance: InstanceId(0),
-            name: NameId(signals.len() as u64),
-            lsb: 0,
-            signed: false,
-            width: *width,
-            initial: 0,
-        })?;
+        signals.push(signal(rt, 0, signals.len(), *width))?;
     }
-    assert!(rt; no_block(&nodes));
-    assert!(rt; nodes.len() < 1_000_000);
-    let parts = Parts {
-        instances: InstanceTable::of_top(alloc, NameId(0))?,
-        signals,
-        registers: Vec::new(alloc),
-        inputs: Vec::new(alloc),
-        nodes,
-        clocked: Vec::new(alloc),
-    };
-    let design = checked_flat(alloc, parts)?.expect(rt, "a design");
-    match order(alloc, &design) {
-        Ok(order) => Ok((true, numbers(alloc, &order)?)),
-        Err(OrderRefusal::Loop(circle)) => Ok((false, numbers(alloc, circle.nodes())?)),
-        Err(OrderRefusal::NoMemory) => Err(NoMemory),
-    }
+    let top = InstanceTable::of_top(alloc, NameId(0))?;
+    order_within(rt, alloc, top, signals, nodes)
 }
 
-// That this is the order; it is depth first, the least number first.
+// That this is the order: of the nodes that can be next, the least number is.
 fn expect_order(
     rt: &impl Abort,
     alloc: Global,
@@ -140,9 +161,9 @@ fn a_chain_written_backwards(rt: HostRuntime) -> Result<(), Fail> {
     Ok(())
 }
 
-// Chains stand one behind the other; and of two nodes that one sets free the second stands behind what the first sets free.
+// Chains stand one behind the other, as they are written or backwards; and of nodes that can be next the least number is.
 #[test]
-fn depth_first(rt: HostRuntime) -> Result<(), Fail> {
+fn least_number_first(rt: HostRuntime) -> Result<(), Fail> {
     // what each node drives and what it reads; and the order
     let table = [
         (
@@ -155,7 +176,7 @@ fn depth_first(rt: HostRuntime) -> Result<(), Fail> {
         ),
         (
             [(1, 0), (2, 1), (3, 1), (4, 2), (5, 3), (7, 6)],
-            [0, 1, 3, 2, 4, 5],
+            [0, 1, 2, 3, 4, 5],
         ),
     ];
     for (pairs, wanted) in table {
@@ -166,7 +187,7 @@ fn depth_first(rt: HostRuntime) -> Result<(), Fail> {
 }
 
 // assign TO = ONE & OTHER; all of one bit
-fn join(alloc: Global, to: u32, one: u32, other: u32) -> Result<Node, NoMemory> {
+pub fn join(alloc: Global, to: u32, one: u32, other: u32) -> Result<Node, NoMemory> {
     let both = BinaryOperator::Arithmetic(ArithmeticOperator::And);
     let value = Typed::binary(
         alloc,
@@ -189,7 +210,7 @@ fn two_ways_that_join(rt: HostRuntime) -> Result<(), Fail> {
     Ok(())
 }
 
-// assign s1 = s0, s2 = s1 & s5, s3 = s2; assign s4 = s0, s5 = s4; what waits for the other chain stands where that one is placed.
+// assign s1 = s0, s2 = s1 & s5, s3 = s2; assign s4 = s0, s5 = s4; what waits for the other chain stands behind it.
 #[test]
 fn one_that_waits_for_another_chain(rt: HostRuntime) -> Result<(), Fail> {
     let alloc = rt.alloc();

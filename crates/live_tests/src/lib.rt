@@ -31,6 +31,8 @@ mod number_tests;
 #[cfg(test)]
 mod outcome;
 #[cfg(test)]
+mod own_ticket_tests;
+#[cfg(test)]
 mod passing_gate;
 #[cfg(test)]
 mod ran;
@@ -40,8 +42,6 @@ mod replay;
 mod running;
 #[cfg(test)]
 mod scripts;
-#[cfg(test)]
-mod session_tests;
 #[cfg(test)]
 mod settling_tests;
 #[cfg(test)]

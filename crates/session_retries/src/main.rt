@@ -3,7 +3,7 @@
 // `rows` are the commands (`row`), each with its reply and what `status` and `show` answer behind it. `asking` asks one, and looks where the session stands
 // where it has no reply; `running` asks all, over a shelf that has no memory once (`dry_shelf`), and has the history looked at.
 //
-// A line is written for each load that wants memory, and one where none does: what isn't right is named. The status is 5 where memory runs out outside of a
+// A line is written for each run: by its number that load wants memory, and none in the last one. What isn't right is named. The status is 5 where memory runs out outside of a
 // command, 10 where it does in one by more than a load, 11 where a load that wants memory wasn't told as that, and 0 elsewhere.
 #![tactic(auto)]
 
@@ -17,13 +17,13 @@ use crate::rows::LOADS;
 use crate::running::run;
 use std::process::ExitCode;
 
-// Writes what isn't right where the load of this number wants memory: whether it could be written.
-fn tell(rt: &HostRuntime, load: u64, wrong: Option<&'static [u8]>) -> bool {
+// Writes what isn't right in the run of this number: whether it could be written.
+fn tell(rt: &HostRuntime, number: u64, wrong: Option<&'static [u8]>) -> bool {
     let told = match wrong {
-        None => println!(rt; "load {load} wants memory: all is right"),
+        None => println!(rt; "run {number}: all is right"),
         Some(command) => {
             let text = str::from_utf8(command).unwrap_or("");
-            println!(rt; "load {load} wants memory: not right is {text}")
+            println!(rt; "run {number}: not right is {text}")
         }
     };
     told.is_ok()

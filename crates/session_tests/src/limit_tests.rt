@@ -79,7 +79,7 @@ fn held(alloc: Global, name: &[u8], text: Vec<u8>) -> Result<NamedText, NoMemory
 fn limits_of_a_session(rt: HostRuntime) -> Result<(), Fail> {
     let alloc = rt.alloc();
     // Of a session of at most ten cycles: the most names set and entries, what follows the block, and the lines behind the first.
-    let rows: [(u64, u32, &[u8], &[u8]); 9] = [
+    let rows: [(u64, u32, &[u8], &[u8]); 10] = [
         (
             100,
             100,
@@ -125,6 +125,13 @@ fn limits_of_a_session(rt: HostRuntime) -> Result<(), Fail> {
             2,
             b"show\nshow\n",
             b"show cycle=0 settled v=1\ntop.acc 00\nrefused 68 HistoryFull @13 -\n",
+        ),
+        // 65 comes before 69 and 68.
+        (
+            1,
+            2,
+            b"set d=1\nrun 10\nset d=2\nrun 1\n",
+            b"ok set\nok run cycle=10\nok set\nrefused 65 CycleLimit @15 -\n",
         ),
         // 69 comes before 68, and a refusal is charged nothing.
         (

@@ -1,4 +1,4 @@
-// The session reloads in turns, and then asks until all links are joined.
+// The session reloads in turns, while workers verify, and then asks until all links are joined.
 ghost use Rattle.std.specs.Prelude.{◌≡◌, ◌<◌, true, false, IfOk};
 ghost use Rattle.book_turn.specs.Passes.{IsOf, known};
 ghost use Rattle.book_turn.specs.Turns.{GoesOn};
@@ -17,14 +17,17 @@ use std::marker::Brand;
 use std::sync::ledger::{Blank, Ledger};
 use std::sync::{Arc, Wait};
 use std::thread::Threads;
+use test_gates::HoldingGate;
 use worker_scope::SessionWork;
 
-/// Makes so many reloads, and then asks so often at most. The answer is how many reloads were made, and whether all links are joined.
+/// Once the gate holds its tickets, makes so many reloads, has the gate let them go, which ends as another ticket comes, and makes as many more. Then it
+/// asks so often at most. The answer is how many reloads were made, and whether all links are joined.
 #[derive(Drop)]
 pub struct Reloading {
     pub alloc: Global,
     pub reloads: u32,
     pub times: u32,
+    pub holding: Arc<HoldingGate, Global>,
 }
 
 impl SessionWork<TallyMachine> for Reloading {
@@ -60,7 +63,12 @@ fn reload_and_ask<R: Wait>(
     ensures open { is_closed (known pass.new).own ≡ false }
     ensures goes { GoesOn (known pass.old) (known pass.new) }
 {
-    let made = reload_uncounted(rt, reloading.alloc, turn, pass, reloading.reloads);
+    let alloc = reloading.alloc;
+    reloading.holding.await_all();
+    let before = reload_uncounted(rt, alloc, turn, pass, reloading.reloads);
+    reloading.holding.let_go();
+    let behind = reload_uncounted(rt, alloc, turn, pass, reloading.reloads);
+    let made = before.saturating_add(behind);
     (made, ask_often(rt, turn, pass, reloading.times))
 }
 

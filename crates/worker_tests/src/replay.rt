@@ -13,6 +13,7 @@ pub struct Replay {
     marks: [u64; 9],
     links: [Link; 8],
     tickets: Vec<Drawn>,
+    closed: bool,
 }
 
 impl Replay {
@@ -23,6 +24,7 @@ impl Replay {
             marks: [0; 9],
             links: [Link::Open; 8],
             tickets: Vec::new(alloc),
+            closed: false,
         }
     }
 
@@ -36,7 +38,7 @@ impl Replay {
             Entry::Install { ticket, joined, by } => self.install(ticket, joined, by),
             Entry::Release { ticket, by } => self.release(ticket, by),
             Entry::Show { settled_to } => settled_to == self.settled_to(),
-            Entry::Close => true,
+            Entry::Close => self.close(),
         };
         right && self.is_true()
     }
@@ -44,6 +46,23 @@ impl Replay {
     /// Whether all links are joined.
     pub fn is_settled(&self) -> bool {
         self.settled_to().is_none()
+    }
+
+    /// Whether the book is closed and no ticket is out.
+    pub fn is_over(&self) -> bool {
+        for at in 0..self.tickets.len() {
+            if self.tickets[at].out {
+                return false;
+            }
+        }
+        self.closed
+    }
+
+    /// The book is closed, once; nobody claims behind it.
+    fn close(&mut self) -> bool {
+        let first = !self.closed;
+        self.closed = true;
+        first
     }
 
     /// What one cycle adds.
@@ -104,6 +123,9 @@ impl Replay {
 
     /// The first link that this one takes is out with a new ticket: a worker takes an open one, the session one that isn't joined.
     fn claim(&mut self, ticket: u64, a: u64, b: u64, by: Who) -> bool {
+        if self.closed {
+            return false;
+        }
         for link in 0..8 {
             let now = self.links[link];
             if now == Link::Open || (by == Who::Session && now != Link::Joined) {

@@ -140,7 +140,7 @@ fn last<M: Machine>(book: &Book<M>) -> Result<&M::State, Fail> {
     Ok(book.current())
 }
 
-/// Whether the plain replay takes each entry, and ends with all links joined.
+/// Whether the plain replay takes each entry, and ends with all links joined, the book closed and no ticket out.
 fn is_right<M: Machine>(alloc: Global, history: &History<M>) -> bool {
     let mut replay = Replay::new(alloc);
     for entry in history.entries() {
@@ -148,7 +148,7 @@ fn is_right<M: Machine>(alloc: Global, history: &History<M>) -> bool {
             return false;
         }
     }
-    replay.is_settled()
+    replay.is_settled() && replay.is_over()
 }
 
 /// How often this ticket was installed.
@@ -157,6 +157,15 @@ fn installs<M: Machine>(history: &History<M>, number: u64) -> usize {
         .entries()
         .iter()
         .filter(|entry| matches!(entry, Entry::Install { ticket, .. } if *ticket == number))
+        .count()
+}
+
+/// How many results of an older version or start were handed in.
+fn older<M: Machine>(history: &History<M>) -> usize {
+    history
+        .entries()
+        .iter()
+        .filter(|entry| matches!(entry, Entry::Install { joined: false, .. }))
         .count()
 }
 
@@ -201,17 +210,23 @@ fn without_workers_the_history_is_the_sessions(rt: HostRuntime) -> Result<(), Fa
 fn eight_workers_beside_a_thousand_reloads(rt: HostRuntime) -> Result<(), Fail> {
     let alloc = rt.alloc();
     let book = edited::<Brand>(alloc, Blank::new(1))?;
+    let holding = Arc::new(alloc, HoldingGate::new(7))?;
     let session = Reloading {
         alloc,
-        reloads: 1000,
+        reloads: 500,
         times: TIMES,
+        holding: Arc::try_clone(&holding)?,
     };
-    let (book, answer) = beside(&rt, alloc, book, 8, &OpenGate, session)?;
+    let gate: &HoldingGate = &*holding;
+    let (book, answer) = beside(&rt, alloc, book, 8, gate, session)?;
     assert_eq!(rt; answer, (1000, true));
     // Version 1002 adds 1004.
     assert_eq!(rt; *last(&book)?, 8032);
     let history = Book::into_history(book);
     assert!(rt; is_right(alloc, &history));
+    // The first seven tickets were drawn under version 2 and handed in under 502, and the eighth came before the next reload.
+    assert!(rt; holding.has_let_go());
+    assert!(rt; older(&history) >= 7);
     Ok(())
 }
 

@@ -1,0 +1,144 @@
+// Orders of designs with several instances, worked out by hand.
+use crate::orders::{copies, order_within, signal};
+use ls_text::NameId;
+use no_memory::NoMemory;
+use std::alloc::Global;
+use std::process::Abort;
+use std::test::Fail;
+use typed_ir::{InstanceId, InstanceName, InstanceTable};
+
+// A top, and behind it instances that stand in these.
+fn table_of(rt: &impl Abort, alloc: Global, parents: &[u32]) -> Result<InstanceTable, NoMemory> {
+    let mut rows = Vec::new(alloc);
+    rows.push(InstanceName {
+        parent: None,
+        name: NameId(0),
+    })?;
+    for parent in parents {
+        rows.push(InstanceName {
+            parent: Some(InstanceId(*parent)),
+            name: NameId(rows.len() as u64),
+        })?;
+    }
+    Ok(InstanceTable::new(rows).expect(rt, "a table"))
+}
+
+// That this is the order of nodes `assign TO = FROM;`, one for each pair, where signals of one bit stand in these instances.
+fn expect_order(
+    rt: &impl Abort,
+    alloc: Global,
+    parents: &[u32],
+    instances: &[u32],
+    pairs: &[(u32, u32)],
+    wanted: &[u32],
+) -> Result<(), NoMemory> {
+    let mut signals = Vec::new(alloc);
+    for instance in instances {
+        signals.push(signal(rt, *instance, signals.len(), 1))?;
+    }
+    let table = table_of(rt, alloc, parents)?;
+    let (placed, list) = order_within(rt, alloc, table, signals, copies(alloc, pairs)?)?;
+    assert!(rt; placed);
+    assert_eq!(rt; list.as_slice(), wanted);
+    Ok(())
+}
+
+// The signals of a top, which are two wires, and of two instances in it, which have x, p, q and r each: p is x, and q is r.
+const STAGES: [u32; 10] = [0, 0, 1, 1, 1, 1, 2, 2, 2, 2];
+
+// The first instance reads what the second one drives, by a wire of the top: first all of the second one, then all of the first.
+#[test]
+fn an_instance_stands_behind_what_it_waits_for(rt: HostRuntime) -> Result<(), Fail> {
+    // x1 = w, x2 = in, w = p2; p1 = x1, q1 = r1; p2 = x2, q2 = r2
+    let pairs = [(2, 0), (6, 1), (0, 7), (3, 2), (4, 5), (7, 6), (8, 9)];
+    expect_order(
+        &rt,
+        rt.alloc(),
+        &[0, 0],
+        &STAGES,
+        &pairs,
+        &[1, 5, 2, 6, 0, 3, 4],
+    )?;
+    Ok(())
+}
+
+// The second instance reads what the first one drives: nothing of the second stands before the last of the first.
+#[test]
+fn instances_stand_one_behind_the_other(rt: HostRuntime) -> Result<(), Fail> {
+    // x1 = in, x2 = w, w = p1; p1 = x1, q1 = r1; p2 = x2, q2 = r2
+    let pairs = [(2, 1), (6, 0), (0, 3), (3, 2), (4, 5), (7, 6), (8, 9)];
+    expect_order(
+        &rt,
+        rt.alloc(),
+        &[0, 0],
+        &STAGES,
+        &pairs,
+        &[0, 3, 2, 4, 1, 5, 6],
+    )?;
+    Ok(())
+}
+
+// Each instance reads what the other one has: the first begins, and goes on behind all of the second.
+#[test]
+fn two_instances_that_wait_for_each_other(rt: HostRuntime) -> Result<(), Fail> {
+    // x1 = v, w = q1; x2 = w, v = q2; p1 = x1, q1 = r1; p2 = x2, q2 = r2
+    let pairs = [
+        (2, 1),
+        (0, 4),
+        (6, 0),
+        (1, 8),
+        (3, 2),
+        (4, 5),
+        (7, 6),
+        (8, 9),
+    ];
+    expect_order(
+        &rt,
+        rt.alloc(),
+        &[0, 0],
+        &STAGES,
+        &pairs,
+        &[5, 1, 2, 6, 7, 3, 0, 4],
+    )?;
+    Ok(())
+}
+
+// The first two read what the other has, and the third what the first gives: it stands before the circle is done.
+#[test]
+fn an_instance_behind_two_that_wait_for_each_other(rt: HostRuntime) -> Result<(), Fail> {
+    let instances = [0, 0, 0, 1, 1, 1, 1, 2, 2, 2, 2, 3, 3, 3, 3];
+    // x1 = v, w = q1, u = p1; x2 = w, v = q2; x3 = u; p1 = x1, q1 = r1; p2 = x2, q2 = r2; p3 = x3, q3 = r3
+    let pairs = [
+        (3, 0),
+        (1, 5),
+        (2, 4),
+        (7, 1),
+        (0, 9),
+        (11, 2),
+        (4, 3),
+        (5, 6),
+        (8, 7),
+        (9, 10),
+        (12, 11),
+        (13, 14),
+    ];
+    let wanted = [7, 1, 11, 3, 8, 9, 4, 0, 6, 2, 5, 10];
+    expect_order(&rt, rt.alloc(), &[0, 0, 0], &instances, &pairs, &wanted)?;
+    Ok(())
+}
+
+// The second stands in the first, which hands x on to it and its p back: what the first reads of it comes as soon as it can.
+#[test]
+fn an_instance_within_another(rt: HostRuntime) -> Result<(), Fail> {
+    // x1 = in, w = p1; x2 = x1, p1 = p2; q1 = r1; p2 = x2, q2 = r2
+    let pairs = [(2, 0), (1, 3), (6, 2), (3, 7), (4, 5), (7, 6), (8, 9)];
+    expect_order(
+        &rt,
+        rt.alloc(),
+        &[0, 1],
+        &STAGES,
+        &pairs,
+        &[0, 4, 2, 5, 3, 1, 6],
+    )?;
+    Ok(())
+}
