@@ -1,13 +1,17 @@
-// A script as a session's work beside workers.
-ghost use Rattle.std.specs.Prelude.{◌≡◌, ◌≤◌, ◌^◌, true, false, None};
+// A session carries out a script beside workers.
+ghost use Rattle.std.specs.Prelude.{◌≡◌, ◌≤◌, ◌^◌, true, None};
 ghost use Rattle.book_turn.specs.Passes.{IsOf, known};
 ghost use Rattle.book_turn.specs.Turns.{GoesOn};
 ghost use Rattle.command_read.specs.Readers.{stopped};
 ghost use Rattle.live_session.specs.AtTurn.{StandsAt};
-ghost use Rattle.segment_verify.specs.Workers.{is_closed, IsFree};
+ghost use Rattle.segment_verify.specs.Workers.{IsFree};
+ghost use Rattle.livesim.specs.Lent.{IsAtWork};
 
+use crate::lending::beside;
 use crate::played::Played;
 use crate::playing::play;
+use crate::ran::Ran;
+use book_history::history::History;
 use book_turn::{SessionPass, Turn};
 use checkpoint_book::book::Book;
 use command_read::Reader;
@@ -20,114 +24,123 @@ use std::alloc::Global;
 use std::sync::Wait;
 use std::test::Fail;
 use std::thread::Threads;
-use worker_scope::{SessionWork, Worked, with_workers};
+use worker_scope::Worked;
 
 /// How many commands are carried out at most.
 const MOST: u32 = 64;
 
-/// A session without a design, and where its commands and its files come from.
-#[derive(Drop)]
-struct Scripted<S: Source> {
-    alloc: Global,
-    session: Session,
-    reader: Reader,
-    source: S,
-    shelf: MemShelf,
-}
-
-impl<S: Source + Drop> SessionWork<Design> for Scripted<S> {
-    type Answer = Result<Played, NoMemory>;
-
-    ghost ready = { λ s v. (stopped s.reader ≡ None) × StandsAt s.session v };
-
-    ghost does = { λ s v w a. Unit {0} };
-
-    fn work<R: Threads + Wait + Sync>(
-        self,
-        rt: &R,
-        turn: &Turn<Book<Design>>,
-        pass: &mut SessionPass<Book<Design>>,
-    ) -> Result<Played, NoMemory> {
-        play_all(rt, self, turn, pass)
-    }
-}
-
 /// Carries out the script.
-#[tactic(auto, using(crate::proofs::Standing::free_at, live_session::proofs::SettledAtTurn::own_open))]
-fn play_all<S: Source + Drop, R: Threads + Wait + Sync>(
+fn play_all<R: Threads + Wait + Sync, S: Source>(
     rt: &R,
-    scripted: Scripted<S>,
+    alloc: Global,
+    session: &mut Session,
+    reader: &mut Reader,
     turn: &Turn<Book<Design>>,
     pass: &mut SessionPass<Book<Design>>,
+    source: &mut S,
+    shelf: &mut MemShelf,
 ) -> Result<Played, NoMemory>
-    requires going { stopped scripted.reader ≡ None }
+    requires going { stopped reader.old ≡ None }
     requires turn { IsOf turn.now pass.old true }
-    requires at { StandsAt scripted.session (known pass.old) }
+    requires at { StandsAt session.old (known pass.old) }
     ensures turn { IsOf turn.now pass.new true }
-    ensures free { IsFree (known pass.new) }
-    ensures open { is_closed (known pass.new).own ≡ false }
+    ensures at { StandsAt session.new (known pass.new) }
     ensures goes { GoesOn (known pass.old) (known pass.new) }
 {
-    let Scripted {
-        alloc,
-        mut session,
-        mut reader,
-        mut source,
-        mut shelf,
-    } = scripted;
     let mut lines = Vec::new(alloc);
     play(
-        rt,
-        alloc,
-        &mut session,
-        &mut reader,
-        turn,
-        pass,
-        &mut source,
-        &mut shelf,
-        &mut lines,
-        MOST,
+        rt, alloc, session, reader, turn, pass, source, shelf, &mut lines, MOST,
     )?;
     let answers = shelf.answers().len();
     Ok(Played { lines, answers })
 }
 
+// What is left of the book once nobody has it.
+fn history_of<R: Wait>(
+    rt: &R,
+    turn: Turn<Book<Design>>,
+    pass: SessionPass<Book<Design>>,
+) -> History<Design>
+    requires turn { IsOf turn pass true }
+    requires free { IsFree (known pass) }
+{
+    Book::into_history(turn.finish(rt, pass))
+}
+
+// What comes of a script, and of its book, which has a mark at each fourth cycle; an edit is simulated from the last one that is a cycle back.
+fn run<R: Threads + Wait + Sync, G: Gate, S: Source>(
+    rt: &R,
+    alloc: Global,
+    limits: Limits,
+    workers: u16,
+    gate: &G,
+    source: &mut S,
+    shelf: &mut MemShelf,
+) -> Result<Ran, NoMemory>
+    requires { limits.cycles ≤ 2 ^ 40 }
+{
+    let mut session = Session::new(alloc, limits)?;
+    let mut reader = Reader::new(alloc)?;
+    let book = Book::new(alloc, 4, 1, limits.rooms)?;
+    let (turn, pass) = Turn::make(rt, alloc, book)?;
+    let mut script = |turn: &Turn<Book<Design>>, pass: &mut SessionPass<Book<Design>>| -> Result<
+        Played,
+        NoMemory,
+    >
+        requires turn { IsOf turn.now pass.old true }
+        requires going { stopped reader ≡ None }
+        requires at { StandsAt session (known pass.old) }
+        ensures turn { IsAtWork turn.now pass.new }
+        ensures goes { GoesOn (known pass.old) (known pass.new) }
+        ensures at { StandsAt session.exit (known pass.new) }
+    {
+        play_all(
+            rt,
+            alloc,
+            &mut session,
+            &mut reader,
+            turn,
+            pass,
+            source,
+            shelf,
+        )
+    };
+    let Worked {
+        pass,
+        answer: played,
+        started,
+        refusal: _,
+    } = beside(rt, alloc, &turn, pass, workers, gate, &mut script);
+    Ok(Ran {
+        played,
+        history: history_of(rt, turn, pass),
+        started,
+    })
+}
+
 /// What comes of a script of at most 64 commands in a session with these limits, over this shelf, beside so many workers, with a history that is right and
-/// over. Its book has a mark at each fourth cycle, and an edit is simulated from the last one that is a cycle back.
+/// over.
 pub fn played<R: Threads + Wait + Sync, G: Gate, S: Source + Drop>(
     rt: &R,
     alloc: Global,
     limits: Limits,
     workers: u16,
     gate: &G,
-    source: S,
-    shelf: MemShelf,
+    mut source: S,
+    mut shelf: MemShelf,
 ) -> Result<Played, Fail>
     requires { limits.cycles ≤ 2 ^ 40 }
 {
-    let session = Session::new(alloc, limits)?;
-    let reader = Reader::new(alloc)?;
-    let book = Book::new(alloc, 4, 1, limits.rooms)?;
-    let (turn, pass) = Turn::make(rt, alloc, book)?;
-    let scripted = Scripted {
-        alloc,
-        session,
-        reader,
-        source,
-        shelf,
-    };
-    let Worked {
-        pass,
-        answer,
+    let Ran {
+        played,
+        history,
         started,
-        refusal,
-    } = with_workers(rt, alloc, &turn, pass, workers, gate, scripted);
-    let history = Book::into_history(turn.finish(rt, pass));
-    if started != workers || refusal.is_some() {
+    } = run(rt, alloc, limits, workers, gate, &mut source, &mut shelf)?;
+    if started != workers {
         return Err("a worker was not started")?;
     }
     if !is_right(alloc, &history)? || !is_over(&history) {
         return Err("the history isn't right, or isn't over")?;
     }
-    Ok(answer?)
+    Ok(played?)
 }
