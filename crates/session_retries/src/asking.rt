@@ -47,6 +47,7 @@ fn ask<R: Threads + Wait + Sync, F: Shelf>(
             }
         }
         ReadEnd::Refused(fault) => Ok(Some(session.refusal(alloc, &fault)?.lines)),
+        ReadEnd::NoMemory => Err(NoMemory),
         _ => Ok(Some(TextBytes::new(Vec::new(alloc)))),
     }
 }
