@@ -80,3 +80,25 @@ fn a_name_takes_no_step(rt: HostRuntime) -> Result<(), Fail> {
     assert_eq!(rt; program.clocking.len(), 2);
     Ok(())
 }
+
+// reg [64:0] wide; reg narrow; the first takes two words of a state, and the second one.
+#[test]
+fn a_register_of_65_bits_takes_two_words(rt: HostRuntime) -> Result<(), Fail> {
+    let alloc = rt.alloc();
+    let parts = Parts {
+        instances: InstanceTable::of_top(alloc, NameId(0))?,
+        signals: vec![in alloc; signal(&rt, 0, 0, 65), signal(&rt, 0, 1, 1)]?,
+        registers: vec![in alloc; SignalId(0), SignalId(1)]?,
+        inputs: Vec::new(alloc),
+        nodes: Vec::new(alloc),
+        clocked: Vec::new(alloc),
+    };
+    let Ok(linked) = linked(alloc, design_of(&rt, alloc, parts)?) else {
+        return Err("no order")?;
+    };
+    let Ok(layout) = state_layout::layout_of(alloc, &linked) else {
+        return Err("no layout")?;
+    };
+    assert_eq!(rt; layout.words(), 3);
+    Ok(())
+}
