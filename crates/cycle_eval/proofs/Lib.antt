@@ -6,3 +6,4 @@ pub mod Laws
 pub mod InputRows
 pub mod Driving
 pub mod RowRuns
+pub mod DesignsShared

@@ -1,2 +1,1 @@
-pub mod DesignsShared
 pub mod Owning

@@ -22,7 +22,6 @@ pub mod OneHistory
 pub mod DesignNames
 pub mod Standing
 pub mod Judged
-pub mod DesignsShared
 pub mod HeldTexts
 pub mod BlockTexts
 pub mod NextWorlds

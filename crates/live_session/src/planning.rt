@@ -69,7 +69,7 @@ fn numbered(
 }
 
 // A design at its beginning, which opens the book, with the line that accepts it.
-#[tactic(auto, using(crate::proofs::DesignsShared::design_send, crate::proofs::DesignsShared::design_sync))]
+#[tactic(auto, using(cycle_eval::proofs::DesignsShared::design_send, cycle_eval::proofs::DesignsShared::design_sync))]
 fn begun(
     alloc: Global,
     limits: Limits,
@@ -207,7 +207,7 @@ fn number_behind(number: u64, charge: u32) -> u64
 }
 
 // Has a version run from the book's chosen mark on: its cycle. Where memory runs out, all is as before.
-#[tactic(auto, using(crate::proofs::DesignsShared::design_send, crate::proofs::DesignsShared::design_sync))]
+#[tactic(auto, using(cycle_eval::proofs::DesignsShared::design_send, cycle_eval::proofs::DesignsShared::design_sync))]
 fn reloaded<L: Ledger>(
     alloc: Global,
     limits: Limits,

@@ -389,7 +389,7 @@ impl Session {
     }
 
     // Runs so many cycles, whose steps are counted; 62 without a design.
-    #[tactic(auto, using(crate::proofs::DesignsShared::design_send, crate::proofs::DesignsShared::design_sync))]
+    #[tactic(auto, using(cycle_eval::proofs::DesignsShared::design_send, cycle_eval::proofs::DesignsShared::design_sync))]
     fn run<L: Ledger>(
         &mut self,
         alloc: Global,
@@ -418,7 +418,7 @@ impl Session {
     }
 
     // Shows registers; 62 without a design.
-    #[tactic(auto, using(crate::proofs::DesignsShared::design_send, crate::proofs::DesignsShared::design_sync))]
+    #[tactic(auto, using(cycle_eval::proofs::DesignsShared::design_send, cycle_eval::proofs::DesignsShared::design_sync))]
     fn show(
         &mut self,
         alloc: Global,
@@ -628,7 +628,7 @@ impl Session {
     }
 
     // The same in one turn of the book.
-    #[tactic(auto, using(crate::proofs::DesignsShared::design_send, crate::proofs::DesignsShared::design_sync))]
+    #[tactic(auto, using(cycle_eval::proofs::DesignsShared::design_send, cycle_eval::proofs::DesignsShared::design_sync))]
     fn step_in_turn<R: Threads + Wait + Sync, F: Shelf>(
         &mut self,
         rt: &R,

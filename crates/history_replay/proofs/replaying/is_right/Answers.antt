@@ -2,7 +2,7 @@ use denote.Param.Send.{sendable}
 use Rattle.std.proofs.Common.{ap, length, refl, arith}
 use Rattle.std.proofs.Crossing.{crosses}
 use Rattle.machine.proofs.Runs.{gapless_whole}
-use Rattle.history_replay.proofs.DesignsShared.{design_send, design_sync}
+use Rattle.cycle_eval.proofs.DesignsShared.{design_send, design_sync}
 use Rattle.history_replay.proofs.replaying.is_right.Goals as goal
 
 pub share_between-requires-clause-gapless : goal.share_between-requires-clause-gapless

@@ -1,6 +1,6 @@
 use denote.Param.Send.{sendable}
 use Rattle.std.proofs.Crossing.{crosses}
-use Rattle.history_replay.proofs.DesignsShared.{design_send, design_sync}
+use Rattle.cycle_eval.proofs.DesignsShared.{design_send, design_sync}
 use Rattle.history_replay.proofs.tests.no_entry.Goals as goal
 
 pub empty-requires-send-M : goal.empty-requires-send-M

@@ -6,7 +6,7 @@ use denote.Param.Send.{sendable}
 use Rattle.std.proofs.Crossing.{crosses}
 use Rattle.book_history.specs.declared.version.Version.{Version}
 use Rattle.cycle_eval.specs.declared.design.Design.{Design}
-use Rattle.live_session.proofs.DesignsShared.{design_send, design_sync}
+use Rattle.cycle_eval.proofs.DesignsShared.{design_send, design_sync}
 use Rattle.live_session.proofs.Beginning.{first_room, marks_none, never_opened, opens_so, stands_first}
 use Rattle.live_session.proofs.planning.begun.Goals as goal
 

@@ -6,7 +6,7 @@ use Rattle.checkpoint_book.specs.Views.{LeadTo}
 use Rattle.cycle_eval.specs.declared.design.Design.{Design}
 use Rattle.version_swap.specs.Operations.{ops_of}
 use Rattle.live_session.specs.Logs.{Ops, book_in, valid}
-use Rattle.live_session.proofs.DesignsShared.{design_send, design_sync}
+use Rattle.cycle_eval.proofs.DesignsShared.{design_send, design_sync}
 use Rattle.live_session.proofs.Renewing.{has_session_room, is_opened, leads_to, marks_stay, next_number, number_charged, reloads_so, stands_next}
 use Rattle.live_session.proofs.planning.reloaded.Goals as goal
 

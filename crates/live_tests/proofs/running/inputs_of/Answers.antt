@@ -1,6 +1,6 @@
 use denote.Param.Send.{sendable}
 use Rattle.std.proofs.Crossing.{crosses}
-use Rattle.live_session.proofs.DesignsShared.{design_send, design_sync}
+use Rattle.cycle_eval.proofs.DesignsShared.{design_send, design_sync}
 use Rattle.live_tests.proofs.running.inputs_of.Goals as goal
 
 pub runs-run-items-requires-send-M : goal.runs-run-items-requires-send-M

@@ -1,7 +1,7 @@
 use Rattle.std.proofs.Common.{sym, ◌∙◌}
 use denote.Param.Send.{sendable}
 use Rattle.std.proofs.Crossing.{crosses}
-use Rattle.live_session.proofs.DesignsShared.{design_send, design_sync}
+use Rattle.cycle_eval.proofs.DesignsShared.{design_send, design_sync}
 use Rattle.livesim.proofs.Lendings.{alone_told, called_as, worked_told}
 use Rattle.livesim.proofs.lending.beside_workers.Goals as goal
 

@@ -6,7 +6,7 @@ use Rattle.book_turn.specs.Passes.{known}
 use Rattle.live_options.specs.Words.{options_of}
 use denote.Param.Send.{sendable}
 use Rattle.std.proofs.Crossing.{crosses}
-use Rattle.live_session.proofs.DesignsShared.{design_send, design_sync, inputs_send, inputs_sync, ops_send, ops_sync, state_send}
+use Rattle.cycle_eval.proofs.DesignsShared.{design_send, design_sync, inputs_send, inputs_sync, ops_send, ops_sync, state_send}
 use Rattle.live_session.specs.AtTurn.{carried_settings, log_of}
 use Rattle.live_session.specs.Sessions.{settings_of}
 use Rattle.livesim.specs.Settings.{settings}

@@ -1,6 +1,6 @@
 use denote.Param.Send.{sendable}
 use Rattle.std.proofs.Crossing.{crosses}
-use Rattle.history_replay.proofs.DesignsShared.{design_send, design_sync}
+use Rattle.cycle_eval.proofs.DesignsShared.{design_send, design_sync}
 use Rattle.script_rows.proofs.tests.other_words_are_refused.Goals as goal
 
 pub entries-requires-send-M : goal.entries-requires-send-M

@@ -1,6 +1,6 @@
 use denote.Param.Send.{sendable}
 use Rattle.std.proofs.Crossing.{crosses}
-use Rattle.live_session.proofs.DesignsShared.{design_send, design_sync}
+use Rattle.cycle_eval.proofs.DesignsShared.{design_send, design_sync}
 use Rattle.session_tests.proofs.lending.beside.Goals as goal
 
 pub with_workers-pass-requires-send-M : goal.with_workers-pass-requires-send-M

@@ -9,7 +9,7 @@ use Rattle.live_session.specs.Logs.{book_in}
 use Rattle.live_session.proofs.ShownTables.{display_shown, fits_there, opened_there}
 use denote.Param.Send.{sendable}
 use Rattle.std.proofs.Crossing.{crosses}
-use Rattle.live_session.proofs.DesignsShared.{design_send, design_sync}
+use Rattle.cycle_eval.proofs.DesignsShared.{design_send, design_sync}
 use Rattle.live_session.proofs.running.Running.display.Goals as goal
 
 pub legal-requires-send-M : goal.legal-requires-send-M

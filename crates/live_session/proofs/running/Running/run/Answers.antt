@@ -13,7 +13,7 @@ use Rattle.live_session.specs.Runs.{rows_behind}
 use Rattle.live_session.specs.Turns.{Accepts}
 use Rattle.live_session.specs.declared.running.Running.{Running}
 use Rattle.live_session.proofs.AscendingRows.{AreWithin}
-use Rattle.live_session.proofs.DesignsShared.{design_send, design_sync}
+use Rattle.cycle_eval.proofs.DesignsShared.{design_send, design_sync}
 use Rattle.live_session.proofs.Judged.{stops_still, world_with}
 use Rattle.live_session.proofs.JudgedRuns.{RunsOn, no_code, ran_on, room_there, run_accepted, run_refused, run_stands}
 use Rattle.live_session.proofs.KeptRuns.{kept_on}

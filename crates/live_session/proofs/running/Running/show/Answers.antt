@@ -17,7 +17,7 @@ use Rattle.live_session.proofs.ShownBeside.{book_shown, show_done, show_runs, sh
 use Rattle.live_session.proofs.ShownTables.{opened_there}
 use denote.Param.Send.{sendable}
 use Rattle.std.proofs.Crossing.{crosses}
-use Rattle.live_session.proofs.DesignsShared.{design_send, design_sync}
+use Rattle.cycle_eval.proofs.DesignsShared.{design_send, design_sync}
 use Rattle.live_session.proofs.running.Running.show.Goals as goal
 
 pub show-shown-requires-send-M : goal.show-shown-requires-send-M

@@ -7,7 +7,7 @@ use Rattle.wave_report.specs.Replies.{status_text}
 use Rattle.wave_report.specs.declared.unit_line.UnitLine.{UnitLine}
 use Rattle.live_session.specs.Logs.{book_in}
 use Rattle.live_session.specs.Statuses.{key_line}
-use Rattle.live_session.proofs.DesignsShared.{design_send, design_sync}
+use Rattle.cycle_eval.proofs.DesignsShared.{design_send, design_sync}
 use Rattle.live_session.proofs.StatusLines.{status_told}
 use Rattle.live_session.proofs.running.Running.status.Goals as goal
 

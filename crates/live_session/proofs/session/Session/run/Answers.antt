@@ -2,7 +2,7 @@ use Rattle.std.proofs.Common.{refl}
 use denote.Param.Send.{sendable}
 use Rattle.std.proofs.Crossing.{crosses}
 use Rattle.command_read.specs.Asking.{Runs}
-use Rattle.live_session.proofs.DesignsShared.{design_send, design_sync}
+use Rattle.cycle_eval.proofs.DesignsShared.{design_send, design_sync}
 use Rattle.live_session.proofs.SessionCalls.{counted_there, kept_there, none_runs, stands_there}
 use Rattle.live_session.proofs.SessionSteps.{answers_on, stops_on, stops_still}
 use Rattle.live_session.proofs.session.Session.run.Goals as goal

@@ -5,7 +5,7 @@ use Rattle.book_history.specs.Readers.{links_in}
 use Rattle.book_turn.specs.Passes.{known}
 use Rattle.turn_settle.specs.Settled.{HasSettledBeside, HasTriedBeside}
 use Rattle.live_session.specs.Logs.{kit}
-use Rattle.live_session.proofs.DesignsShared.{design_send, design_sync}
+use Rattle.cycle_eval.proofs.DesignsShared.{design_send, design_sync}
 use Rattle.live_session.proofs.RefusedShows.{stopped}
 use Rattle.live_session.proofs.SettledAtTurn.{book_is, goes_by, opened_here, own_open, room_here, settled_at, tried_at}
 use Rattle.live_session.proofs.session.Session.settle.Goals as goal

@@ -9,7 +9,7 @@ use Rattle.live_session.specs.Beside.{Stands}
 use Rattle.live_session.specs.Sessions.{world_of}
 use Rattle.live_session.specs.SettleAnswers.{settled_up_to}
 use Rattle.live_session.specs.Shown.{settle_text}
-use Rattle.live_session.proofs.DesignsShared.{design_send, design_sync}
+use Rattle.cycle_eval.proofs.DesignsShared.{design_send, design_sync}
 use Rattle.live_session.proofs.KeptRuns.{charged_kept}
 use Rattle.live_session.proofs.RefusedShows.{stopped}
 use Rattle.live_session.proofs.SessionCalls.{kept_there, stands_there}

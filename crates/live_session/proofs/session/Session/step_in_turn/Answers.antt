@@ -4,7 +4,7 @@ use Rattle.std.proofs.Crossing.{crosses}
 use Rattle.book_turn.proofs.Turns.{goes_more}
 use Rattle.book_turn.specs.Passes.{known}
 use Rattle.live_session.proofs.Among.{beside_there, meets}
-use Rattle.live_session.proofs.DesignsShared.{design_send, design_sync, inputs_send, inputs_sync, ops_send, ops_sync, state_send}
+use Rattle.cycle_eval.proofs.DesignsShared.{design_send, design_sync, inputs_send, inputs_sync, ops_send, ops_sync, state_send}
 use Rattle.live_session.proofs.InTurn.{adds_of, may_leave, stands_then, steps_then, stops_then}
 use Rattle.live_session.proofs.session.Session.step_in_turn.Goals as goal
 
