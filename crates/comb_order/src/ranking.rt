@@ -51,6 +51,16 @@ impl Grouping {
     }
 }
 
+// Whether one of them is true.
+fn has_true(flags: &[bool]) -> bool {
+    for flag in flags {
+        if *flag {
+            return true;
+        }
+    }
+    false
+}
+
 /// The rank of each node of a design. It takes time in proportion to nodes, edges and instances. Want of memory is `NoMemory`.
 pub fn ranks_of(alloc: Global, design: &Flat, graph: &[Vec<NodeId>]) -> Result<Vec<Rank>, NoMemory>
     ensures { IfOk result (λ ranks. length ranks.items ≡ length design.now.nodes.items) }
@@ -60,7 +70,11 @@ pub fn ranks_of(alloc: Global, design: &Flat, graph: &[Vec<NodeId>]) -> Result<V
     let none = vec![in alloc; false; instances.len()]?;
     let whole = Grouping::new(alloc, graph, &belongings, &none)?;
     let apart = apart_in(alloc, instances, belongings.len(), &whole.components)?;
-    let grouping = Grouping::new(alloc, graph, &belongings, &apart)?;
+    let grouping = if has_true(&apart) {
+        Grouping::new(alloc, graph, &belongings, &apart)?
+    } else {
+        whole
+    };
     let mut ranks = Vec::with_capacity(alloc, belongings.len())?;
     for node in 0..belongings.len() {
         let rank = grouping.rank(node, belongings[node].reads);
