@@ -1,14 +1,18 @@
 -- What can be placed, in another order.
-use Rattle.std.proofs.Common.{◌≡◌, ℕ, zero, suc, ◌+◌, ◌<◌, ◌≤◌, ◌==◌, Bool, cond, inl, inr, List, [], ◌∷◌, ◌++◌, append_assoc, append-nil, refl, sym, ◌∙◌, ap, subst, arith}
+use Rattle.std.proofs.Common.{◌≡◌, ℕ, zero, suc, ◌+◌, ◌<◌, ◌≤◌, ◌==◌, Bool, cond, inl, inr, List, length, [], ◌∷◌, ◌++◌, append_assoc, append-nil, refl, sym, ◌∙◌, ap, subst, arith}
 use Rattle.std.specs.List.{sum_by}
+use Rattle.std.specs.Global.{Global}
+use Rattle.std.specs.declared.vec.Vec.{Vec}
 use Rattle.std.specs.List.Sorted.{IsPermutation}
 use Rattle.std.proofs.lemmas.Bool.{eqb-true, eq-eqb}
 use Rattle.std.proofs.lemmas.List.Sorted.{IsPermutation-append_right, IsPermutation-append_comm, IsPermutation-trans, IsPermutation-sym, sum_by-IsPermutation}
 use Rattle.std.proofs.lemmas.List.Sums.{sum_by-cons}
 use Rattle.typed_ir.specs.Orders.{Member, Distinct}
 use Rattle.typed_ir.proofs.Cases.{by_cases}
-use Rattle.comb_order.specs.Graphs.{times}
+use Rattle.typed_ir.proofs.Members.{member_right}
+use Rattle.comb_order.specs.Graphs.{times, rows_of}
 use Rattle.comb_order.specs.Kahn.{IsPlacing}
+use Rattle.comb_order.proofs.Counts.{length_rows}
 use Rattle.comb_order.proofs.Released.{times-same, times-other}
 
 times_sum : (t : ℕ) (xs : List ℕ) → times t xs ≡ sum_by (λ x. cond (t == x) 1 0) xs
@@ -109,3 +113,10 @@ one_ready all free free' node n ready ready' e same more p =
     IsPermutation-append_right free' (node ∷ ready) ready' (subst (λ x. IsPermutation (x ∷ ready) ready') same more) in
     IsPermutation-trans all (free' ++ node ∷ ready) (free' ++ ready')
     (subst (IsPermutation all) (ap (λ xs. xs ++ ready) e ∙ append_assoc free' (node ∷ []) ready) p) moved
+
+-- what can be placed has a rank, where each node has
+pub ranked_each : {A : Type 0} (graph : List (Vec ℕ Global)) (ranks : List A) → length ranks ≡ length graph
+    → {flags : List Bool} {c : ℕ → ℕ} (done todo : List ℕ) → IsPlacing (rows_of graph) flags c done todo → (t : ℕ) → Member t todo → t < length ranks
+ranked_each graph ranks e done todo p t m =
+    let small : t < length (rows_of graph) = (p.in_zero t (member_right t done todo m)).0 in
+    omega (arith, small, length_rows graph, e)

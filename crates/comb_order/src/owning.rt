@@ -1,46 +1,71 @@
-// The instance that each node belongs to: the deepest of those whose signals it drives or reads. So a connection is of the instance
-// that is connected, on both of its sides.
+// The instance that each node belongs to: that of all signals which it drives and reads. A connection belongs to none.
 ghost use Rattle.std.specs.Prelude.{◌≡◌, IfOk, length};
 
 use no_memory::NoMemory;
 use std::alloc::Global;
 use typed_ir::{InstanceId, Node, Signal, Touch, drives_of, reads_of};
 
-// The greatest number of an instance among one and those of some signals; each stands behind those that it stands in.
-fn deepest(touches: &[Touch], signals: &[Signal], known: u32) -> u32 {
-    let mut deepest = known;
+/// Where a node belongs.
+#[derive(Clone, Copy, Debug, PartialEq, Eq)]
+pub struct Belonging {
+    /// The instance of the first signal that it drives.
+    pub instance: InstanceId,
+    /// Whether all signals that it drives and reads stand in that instance.
+    pub is_within: bool,
+    /// Whether it reads a signal.
+    pub reads: bool,
+}
+
+// Whether all of these signals stand in an instance.
+fn stand_in(touches: &[Touch], signals: &[Signal], instance: InstanceId) -> bool {
     for touch in touches {
-        let place = touch.signal.index();
-        if place < signals.len() {
-            let instance = signals[place].instance;
-            if deepest < instance.0 {
-                deepest = instance.0;
+        if let Some(signal) = signals.get(touch.signal.index()) {
+            if signal.instance.0 != instance.0 {
+                return false;
             }
         }
     }
-    deepest
+    true
 }
 
-// The instance of a node.
-fn owner_of(alloc: Global, node: &Node, signals: &[Signal]) -> Result<InstanceId, NoMemory> {
+// The instance of the first of these signals.
+fn first_instance(touches: &[Touch], signals: &[Signal]) -> Option<InstanceId> {
+    let touch = touches.first()?;
+    let signal = signals.get(touch.signal.index())?;
+    Some(signal.instance)
+}
+
+// Where a node belongs.
+fn belonging_of(alloc: Global, node: &Node, signals: &[Signal]) -> Result<Belonging, NoMemory> {
     let driven = drives_of(alloc, node)?;
     let read = reads_of(alloc, node)?;
-    let above = deepest(&driven, signals, 0);
-    Ok(InstanceId(deepest(&read, signals, above)))
+    let reads = !read.is_empty();
+    match first_instance(&driven, signals) {
+        Some(instance) => Ok(Belonging {
+            instance,
+            is_within: stand_in(&driven, signals, instance) && stand_in(&read, signals, instance),
+            reads,
+        }),
+        None => Ok(Belonging {
+            instance: InstanceId(0),
+            is_within: false,
+            reads,
+        }),
+    }
 }
 
-/// The instance of each node. Want of memory is `NoMemory`.
-pub fn owners_of(
+/// Where each node belongs. Want of memory is `NoMemory`.
+pub fn belongings_of(
     alloc: Global,
     nodes: &[Node],
     signals: &[Signal],
-) -> Result<Vec<InstanceId>, NoMemory>
-    ensures { IfOk result (λ owners. length owners.items ≡ length nodes.now) }
+) -> Result<Vec<Belonging>, NoMemory>
+    ensures { IfOk result (λ belongings. length belongings.items ≡ length nodes.now) }
 {
-    let mut owners = Vec::with_capacity(alloc, nodes.len())?;
+    let mut belongings = Vec::with_capacity(alloc, nodes.len())?;
     for node in nodes {
-        let owner = owner_of(alloc, node, signals)?;
-        owners.push(owner)?;
+        let belonging = belonging_of(alloc, node, signals)?;
+        belongings.push(belonging)?;
     }
-    Ok(owners)
+    Ok(belongings)
 }

@@ -1,11 +1,12 @@
-// Nodes are placed one by one, each once all that comes before it is placed: next comes the one of the least rank, and of these
-// the one of the least number.
+// Nodes are placed one by one, each once all that comes before it is placed: next comes the one of the least rank, and of one rank the one
+// of the least number.
 ghost use Rattle.std.specs.Prelude.{◌≡◌, ◌-◌, ◌≤◌, ◌<◌, ◌^◌, ◌++◌, ◌∷◌, [], ◌==◌, if◌then◌else◌, ℕ, length, slice_index, IfOk};
 ghost use Rattle.typed_ir.specs.Valuations.{put};
 ghost use Rattle.comb_order.specs.Graphs.{times, waiting, rows_of, lowered, released, count_of};
 ghost use Rattle.comb_order.specs.Kahn.{IsClosed, IsPlacing};
 
 use crate::counting::{free_nodes, in_degrees};
+use crate::rank::Rank;
 use crate::ready::{make_ready, next_ready};
 use std::alloc::{AllocError, Global};
 use std::collections::BinaryHeap;
@@ -26,7 +27,7 @@ fn lower(t: NodeId, counts: &mut [u32], free: &mut Vec<NodeId>) -> Result<(), Al
     Ok(())
 }
 
-/// The nodes of a row lose one predecessor each, from the last to the first; those that are free now go onto the stack.
+/// The nodes of a row lose one predecessor each, from the last to the first; those that are free now join the free ones.
 pub fn release(row: &[NodeId], counts: &mut [u32], free: &mut Vec<NodeId>) -> Result<(), AllocError>
     requires { (x : ℕ) → times x row.now ≤ slice_index counts.old x }
     ensures counts { IfOk result (λ _. count_of counts.new ≡ lowered row.now (count_of counts.old)) }
@@ -44,13 +45,14 @@ pub fn release(row: &[NodeId], counts: &mut [u32], free: &mut Vec<NodeId>) -> Re
 fn place_free(
     alloc: Global,
     graph: &[Vec<NodeId>],
-    ranks: &[u32],
+    ranks: &[Rank],
     counts: &mut [u32],
     placed: &mut [bool],
     free: &mut Vec<NodeId>,
     order: &mut Vec<NodeId>,
 ) -> Result<(), AllocError>
     requires closed { IsClosed (rows_of graph.now) }
+    requires ranked { length ranks.now ≡ length graph.now }
     requires start { IsPlacing (rows_of graph.now) placed.old (count_of counts.old) order.old.items free.old.items }
     ensures { IfOk result (λ _. IsPlacing (rows_of graph.now) placed.new (count_of counts.new) order.new.items []) }
 {
@@ -73,12 +75,13 @@ pub struct Placing {
     pub placed: Vec<bool>,
 }
 
-/// Places all that can be placed, the nodes of the least rank first. `ranks` has one for each node.
+/// Places all that can be placed: always the node of the least rank of those that can be next. `ranks` has one for each node.
 pub fn place_nodes(
     alloc: Global,
     graph: &[Vec<NodeId>],
-    ranks: &[u32],
+    ranks: &[Rank],
 ) -> Result<Placing, AllocError>
+    requires ranked { length ranks.now ≡ length graph.now }
     requires closed { IsClosed (rows_of graph.now) }
     requires few { (t : ℕ) → waiting (rows_of graph.now) [] t < 2 ^ 32 }
     requires nodes { length graph.now < 2 ^ 32 }

@@ -1,30 +1,27 @@
 // The nodes that can be placed next stand in a heap, by their turns.
-ghost use Rattle.std.specs.Prelude.{◌≡◌, [], ◌∷◌, ◌++◌, IfOk, IfSome, IfNone, IsPermutation};
+ghost use Rattle.std.specs.Prelude.{◌≡◌, ◌<◌, ℕ, [], ◌∷◌, ◌++◌, length, IfOk, IfSome, IfNone, IsPermutation};
+ghost use Rattle.typed_ir.specs.Orders.{Member};
 ghost use Rattle.comb_order.specs.Ready.{nodes_in};
 
+use crate::rank::Rank;
 use crate::turn::Turn;
 use std::alloc::AllocError;
 use std::cmp::Reverse;
 use std::collections::BinaryHeap;
 use typed_ir::NodeId;
 
-// The rank of a node's instance.
-fn rank_of(ranks: &[u32], node: NodeId) -> u32 {
-    let place = node.index();
-    if place < ranks.len() { ranks[place] } else { 0 }
-}
-
-/// Nodes that are free join those that are ready.
+/// Nodes that are free join those that are ready. Each has a rank.
 pub fn make_ready(
     free: &mut Vec<NodeId>,
-    ranks: &[u32],
+    ranks: &[Rank],
     ready: &mut BinaryHeap<Reverse<Turn>>,
 ) -> Result<(), AllocError>
+    requires ranked { (t : ℕ) → Member t free.old.items → t < length ranks.now }
     ensures none_left { IfOk result (λ _. free.new.items ≡ []) }
     ensures all { IfOk result (λ _. IsPermutation (free.old.items ++ nodes_in ready.old) (nodes_in ready.new)) }
 {
     while let Some(node) = free.pop() {
-        let rank = rank_of(ranks, node);
+        let rank = ranks[node.index()];
         ready.push(Reverse(Turn {
             rank,
             node: node.number(),

@@ -1,8 +1,9 @@
 // When a node that can be placed has its turn.
+use crate::rank::Rank;
 
-/// A node's turn: by the rank of its instance, and within one by its number. The least comes first.
+/// A node's turn: by its rank, and of one rank by its number. The least comes first.
 #[derive(Clone, Copy, Debug, PartialEq, Eq, PartialOrd, Ord)]
 pub struct Turn {
-    pub rank: u32,
+    pub rank: Rank,
     pub node: u32,
 }

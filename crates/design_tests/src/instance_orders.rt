@@ -1,11 +1,11 @@
 // Orders of designs with several instances, worked out by hand.
-use crate::orders::{copies, order_within, signal};
+use crate::orders::{copies, order_within, signal, tied};
 use ls_text::NameId;
 use no_memory::NoMemory;
 use std::alloc::Global;
 use std::process::Abort;
 use std::test::Fail;
-use typed_ir::{InstanceId, InstanceName, InstanceTable};
+use typed_ir::{InstanceId, InstanceName, InstanceTable, Node};
 
 // A top, and behind it instances that stand in these.
 fn table_of(rt: &impl Abort, alloc: Global, parents: &[u32]) -> Result<InstanceTable, NoMemory> {
@@ -23,7 +23,27 @@ fn table_of(rt: &impl Abort, alloc: Global, parents: &[u32]) -> Result<InstanceT
     Ok(InstanceTable::new(rows).expect(rt, "a table"))
 }
 
-// That this is the order of nodes `assign TO = FROM;`, one for each pair, where signals of one bit stand in these instances.
+// That this is the order of nodes, where signals of one bit stand in these instances.
+fn expect_order_of(
+    rt: &impl Abort,
+    alloc: Global,
+    parents: &[u32],
+    instances: &[u32],
+    nodes: Vec<Node>,
+    wanted: &[u32],
+) -> Result<(), NoMemory> {
+    let mut signals = Vec::new(alloc);
+    for instance in instances {
+        signals.push(signal(rt, *instance, signals.len(), 1))?;
+    }
+    let table = table_of(rt, alloc, parents)?;
+    let (placed, list) = order_within(rt, alloc, table, signals, nodes)?;
+    assert!(rt; placed);
+    assert_eq!(rt; list.as_slice(), wanted);
+    Ok(())
+}
+
+// The same of nodes `assign TO = FROM;`, one for each pair.
 fn expect_order(
     rt: &impl Abort,
     alloc: Global,
@@ -32,15 +52,8 @@ fn expect_order(
     pairs: &[(u32, u32)],
     wanted: &[u32],
 ) -> Result<(), NoMemory> {
-    let mut signals = Vec::new(alloc);
-    for instance in instances {
-        signals.push(signal(rt, *instance, signals.len(), 1))?;
-    }
-    let table = table_of(rt, alloc, parents)?;
-    let (placed, list) = order_within(rt, alloc, table, signals, copies(alloc, pairs)?)?;
-    assert!(rt; placed);
-    assert_eq!(rt; list.as_slice(), wanted);
-    Ok(())
+    let nodes = copies(alloc, pairs)?;
+    expect_order_of(rt, alloc, parents, instances, nodes, wanted)
 }
 
 // The signals of a top, which are two wires, and of two instances in it, which have x, p, q and r each: p is x, and q is r.
@@ -57,7 +70,7 @@ fn an_instance_stands_behind_what_it_waits_for(rt: HostRuntime) -> Result<(), Fa
         &[0, 0],
         &STAGES,
         &pairs,
-        &[1, 5, 2, 6, 0, 3, 4],
+        &[1, 5, 6, 2, 0, 3, 4],
     )?;
     Ok(())
 }
@@ -73,7 +86,7 @@ fn instances_stand_one_behind_the_other(rt: HostRuntime) -> Result<(), Fail> {
         &[0, 0],
         &STAGES,
         &pairs,
-        &[0, 3, 2, 4, 1, 5, 6],
+        &[0, 3, 4, 2, 1, 5, 6],
     )?;
     Ok(())
 }
@@ -103,7 +116,7 @@ fn two_instances_that_wait_for_each_other(rt: HostRuntime) -> Result<(), Fail> {
     Ok(())
 }
 
-// The first two read what the other has, and the third what the first gives: it stands before the circle is done.
+// The first two read what the other has, and the third what the first gives: it stands side by side behind the whole circle.
 #[test]
 fn an_instance_behind_two_that_wait_for_each_other(rt: HostRuntime) -> Result<(), Fail> {
     let instances = [0, 0, 0, 1, 1, 1, 1, 2, 2, 2, 2, 3, 3, 3, 3];
@@ -122,12 +135,12 @@ fn an_instance_behind_two_that_wait_for_each_other(rt: HostRuntime) -> Result<()
         (12, 11),
         (13, 14),
     ];
-    let wanted = [7, 1, 11, 3, 8, 9, 4, 0, 6, 2, 5, 10];
+    let wanted = [7, 1, 3, 8, 9, 4, 0, 6, 2, 5, 10, 11];
     expect_order(&rt, rt.alloc(), &[0, 0, 0], &instances, &pairs, &wanted)?;
     Ok(())
 }
 
-// The second stands in the first, which hands x on to it and its p back: what the first reads of it comes as soon as it can.
+// The second stands in the first, which hands x on to it and its p back, by names alone.
 #[test]
 fn an_instance_within_another(rt: HostRuntime) -> Result<(), Fail> {
     // x1 = in, w = p1; x2 = x1, p1 = p2; q1 = r1; p2 = x2, q2 = r2
@@ -138,7 +151,46 @@ fn an_instance_within_another(rt: HostRuntime) -> Result<(), Fail> {
         &[0, 1],
         &STAGES,
         &pairs,
-        &[0, 4, 2, 5, 3, 1, 6],
+        &[0, 2, 4, 5, 6, 3, 1],
+    )?;
+    Ok(())
+}
+
+// A wire of the first goes through the second, which stands in it, and back: the first falls apart, and the second stands side by side.
+#[test]
+fn a_wire_through_an_instance_within(rt: HostRuntime) -> Result<(), Fail> {
+    // in; x1, w1, y1, p1, q1, r1; x2, p2, q2, r2
+    let instances = [0, 1, 1, 1, 1, 1, 1, 2, 2, 2, 2];
+    // x1 = in; w1 = x1, p1 = y1, q1 = r1; x2 = w1, y1 = p2; p2 = x2, q2 = r2
+    let pairs = [
+        (1, 0),
+        (2, 1),
+        (4, 3),
+        (5, 6),
+        (7, 2),
+        (3, 8),
+        (8, 7),
+        (9, 10),
+    ];
+    let wanted = [0, 1, 3, 4, 6, 7, 5, 2];
+    expect_order(&rt, rt.alloc(), &[0, 1], &instances, &pairs, &wanted)?;
+    Ok(())
+}
+
+// The second is connected to a constant, and the first to a wire: both stand in one order.
+#[test]
+fn a_constant_changes_no_order(rt: HostRuntime) -> Result<(), Fail> {
+    // p1 = x1, q1 = r1; p2 = x2, q2 = r2; x1 = in, x2 = 0
+    let pairs = [(3, 2), (4, 5), (7, 6), (8, 9), (2, 0)];
+    let mut nodes = copies(rt.alloc(), &pairs)?;
+    nodes.push(tied(rt.alloc(), 6)?)?;
+    expect_order_of(
+        &rt,
+        rt.alloc(),
+        &[0, 0],
+        &STAGES,
+        nodes,
+        &[4, 0, 1, 5, 2, 3],
     )?;
     Ok(())
 }

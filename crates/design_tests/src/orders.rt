@@ -1,6 +1,7 @@
 // Orders and loops of small designs, worked out by hand, and of a long chain.
 ghost use Rattle.std.specs.Prelude.{◌≡◌};
 
+use bits::Bits;
 use comb_order::{OrderRefusal, Parts, checked_flat, no_block, order};
 use ls_text::NameId;
 use no_memory::NoMemory;
@@ -41,6 +42,11 @@ pub fn copies(alloc: Global, pairs: &[(u32, u32)]) -> Result<Vec<Node>, NoMemory
         nodes.push(assign(alloc, bit(*to, 0), Typed::name(SignalId(*from), 1))?)?;
     }
     Ok(nodes)
+}
+
+// assign TO = 1'b0; of one bit
+pub fn tied(alloc: Global, to: u32) -> Result<Node, NoMemory> {
+    assign(alloc, bit(to, 0), Typed::constant(Bits::new(1, 0)))
 }
 
 // assign TO[I] = FROM[J]; for each line of the table: TO, I, FROM and J

@@ -11,6 +11,14 @@ use Rattle.comb_order.proofs.Counts.{length_rows}
 use Rattle.comb_order.proofs.Designs.{order_of, exactly, no_order, graph_closed, graph_few}
 use Rattle.comb_order.proofs.ordering.order.Goals as goal
 
+pub ordered-requires-clause-ranked : goal.ordered-requires-clause-ranked
+ordered-requires-clause-ranked c =
+    let design = c.args.design.now in
+    let rows = c.in-Ok.graph.items in
+    let size : length (rows_of rows) ≡ length (map node_of design.nodes.items) = c.in-Ok.ensures.graph.size in
+    let ranked : length c.in-Ok-ranks_of.ranks.items ≡ length design.nodes.items = c.in-Ok-ranks_of.ensures in
+    omega (arith, ap length c.deref-2.ensures.value, ap length c.deref-3.ensures.value, length_rows rows, size, length-map design.nodes.items node_of, ranked)
+
 pub ordered-requires-clause-closed : goal.ordered-requires-clause-closed
 ordered-requires-clause-closed c =
     subst (λ g. IsClosed (rows_of g)) (sym c.deref-2.ensures.value)
