@@ -100,9 +100,9 @@ fn carried_into(
 
 /// The state that the registers of the new design take: each the value that an operation creates it with, else the old value of the register
 /// that is renamed to it, else the old value of its own name, both at the same path, else its initial value. A value is cut, or filled with
-/// zeros, to its width. Registers are found by hash, in time in proportion to instances, registers and operations. Pages in which no
-/// register takes another value than it has in `state` are shared with that one where both designs have registers of the same widths in the same order.
-/// It fails at want of memory alone.
+/// zeros, to its width. Registers are found by hash, in time in proportion to instances, registers and operations. Where both designs have
+/// registers of the same widths in the same order, pages in which no register takes another value than it has in `state` are shared with that
+/// one. It fails at want of memory alone.
 pub fn carry_state(
     alloc: Global,
     old: &RegisterLayout<'_>,
