@@ -17,7 +17,7 @@ use Rattle.state_layout.specs.Slots.{state_widths}
 use Rattle.cycle_eval.specs.Inputs.{own_name}
 use Rattle.cycle_eval.specs.Kits.{Fits, instance_path, register_at, register_of, regs_of, reset_of}
 use Rattle.state_layout.specs.Words.{register_widths, width_in}
-use Rattle.cycle_eval.specs.Paths.{initial_in}
+use Rattle.reg_transform.specs.Beginnings.{initial_in}
 
 -- ---- widths and values at the beginning
 

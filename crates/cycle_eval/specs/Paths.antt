@@ -4,6 +4,3 @@ use Rattle.typed_ir.specs.declared.signal.Signal.{Signal}
 
 abbrev pub name_in : List Signal → ℕ → ℕ
 name_in signals s = slice_index (map (λ (x : Signal). x.name.0) signals) s
-
-abbrev pub initial_in : List Signal → ℕ → ℕ
-initial_in signals s = slice_index (map (λ (x : Signal). x.initial) signals) s

@@ -5,7 +5,7 @@ ghost use Rattle.typed_ir.specs.Flats.{are_below};
 ghost use Rattle.cycle_eval.specs.Designs.{design_flat};
 ghost use Rattle.cycle_eval.specs.Kits.{Fits, reset_of, carried_of};
 ghost use Rattle.state_layout.specs.Words.{width_in};
-ghost use Rattle.cycle_eval.specs.Paths.{initial_in};
+ghost use Rattle.reg_transform.specs.Beginnings.{initial_in};
 ghost use Rattle.reg_transform.specs.States.{paired};
 
 use crate::design::Design;
@@ -59,7 +59,12 @@ impl Design {
         requires { Fits (design_flat old.now) state.now }
         ensures { IfOk result (λ s. s ≡ carried_of ops.now (design_flat old.now) (design_flat self.now) state.now) }
     {
-        let reset = self.reset_state(alloc)?;
-        carry_state(alloc, &old.regs(), &self.regs(), ops, &reset, state)
+        carry_state(
+            alloc,
+            &old.register_layout(),
+            &self.register_layout(),
+            ops,
+            state,
+        )
     }
 }

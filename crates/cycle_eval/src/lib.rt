@@ -3,7 +3,7 @@
 // `making` has a design's registers laid out and its steps made, `design` holds both, `inputs` puts what a row gives among the words, by the inputs'
 // names, and tells their widths, `cycle` takes the steps of a cycle, `run` goes from one state (`state`) to another, stretch by stretch of equal
 // rows, and `carrying` has the beginning state and hands registers of an older design over (crate `reg_transform`). `parts` are what a table of
-// registers shows, and `as_machine` is the design as a machine; `input_tests` are rows of inputs worked out by hand.
+// registers shows and what carrying asks of them, and `as_machine` is the design as a machine; `input_tests` are rows of inputs worked out by hand.
 #![tactic(auto)]
 
 mod as_machine;

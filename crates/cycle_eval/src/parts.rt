@@ -1,13 +1,14 @@
-// What of a design a table of its registers shows.
+// What of a design a table of its registers shows, and what carrying asks of them.
 ghost use Rattle.std.specs.Prelude.{◌≡◌, ◌<◌, IsTrue, length, slice_get};
 ghost use Rattle.typed_ir.specs.Flats.{are_below};
 ghost use Rattle.cycle_eval.specs.Designs.{design_flat, instances_of, signals_of};
-ghost use Rattle.cycle_eval.specs.Kits.{Fits, regs_of};
+ghost use Rattle.cycle_eval.specs.Kits.{Fits, regs_of, reset_of};
+ghost use Rattle.reg_transform.specs.Beginnings.{reset_in};
 ghost use Rattle.reg_transform.specs.Regs.{registers_in};
 
 use crate::design::Design;
 use bits::Bits;
-use reg_transform::Regs;
+use reg_transform::{RegisterLayout, Regs};
 use state_layout::SlotState;
 use typed_ir::{InstanceName, RegisterId, Signal, SignalId};
 
@@ -38,11 +39,22 @@ impl Design {
     pub fn regs(&self) -> Regs<'_>
         ensures { registers_in result ≡ regs_of (design_flat self.now) }
     {
+        self.register_layout().regs
+    }
+
+    /// The registers, where they stand in a state, and what each has at the beginning.
+    pub(crate) fn register_layout(&self) -> RegisterLayout<'_>
+        ensures registers { registers_in result.regs ≡ regs_of (design_flat self.now) }
+        ensures reset { reset_in result.regs ≡ reset_of (design_flat self.now) }
+    {
         let design = &self.linked.design;
-        Regs {
-            instances: &design.instances,
-            signals: &design.signals,
-            registers: &design.registers,
+        RegisterLayout {
+            regs: Regs {
+                instances: &design.instances,
+                signals: &design.signals,
+                registers: &design.registers,
+            },
+            slots: &self.layout,
         }
     }
 

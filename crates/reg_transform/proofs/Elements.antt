@@ -8,6 +8,7 @@ use Rattle.typed_ir.specs.Flats.{are_below, are_within}
 use Rattle.typed_ir.specs.Orders.{at_or}
 use Rattle.typed_ir.proofs.Cases.{and_left, and_right}
 use Rattle.state_layout.specs.Words.{width_in}
+use Rattle.reg_transform.specs.Beginnings.{initial_in}
 use Rattle.reg_transform.specs.Regs.{register_of, register_at}
 use Rattle.reg_transform.specs.Registers.{Register, widths_of}
 use Rattle.reg_transform.specs.Numbers.{number_at}
@@ -39,6 +40,18 @@ pub register_read : {T : Type 0} (f : Signal → T) (d : T) (signals : List Sign
 register_read f d signals [] i r x h e there is = absurd (omega (arith, h))
 register_read f d signals (q ∷ qs) zero r x h e there is = ap Some (ap (at_or f d signals) (sym e) ∙ signal_read f d signals r x there is)
 register_read f d signals (q ∷ qs) (suc i) r x h e there is = register_read f d signals qs i r x (omega (arith, h)) e there is
+
+-- what the signal of a register begins with
+one_initial : (signals : List Signal) (r : ℕ) (x : Signal) → r < length signals → x ≡ get_or signals r x → initial_in signals r ≡ x.initial
+one_initial [] r x h is = absurd (omega (arith, h))
+one_initial (y ∷ ys) zero x h is = ap (λ (z : Signal). z.initial) (sym is)
+one_initial (y ∷ ys) (suc r) x h is = one_initial ys r x (omega (arith, h)) is
+
+pub initial_read : (signals : List Signal) (rs : List ℕ) (i r : ℕ) (x : Signal) → i < length rs → r ≡ get_or rs i 0
+    → r < length signals → x ≡ get_or signals r x → slice_get (map (initial_in signals) rs) i ≡ Some x.initial
+initial_read signals [] i r x h e there is = absurd (omega (arith, h))
+initial_read signals (q ∷ qs) zero r x h e there is = ap Some (ap (initial_in signals) (sym e) ∙ one_initial signals r x there is)
+initial_read signals (q ∷ qs) (suc i) r x h e there is = initial_read signals qs i r x (omega (arith, h)) e there is
 
 -- the width of a register's signal is that of the register
 one_width : (paths : List (List ℕ)) (signals : List Signal) (r : ℕ) → width_in signals r ≡ (register_at paths signals r).width

@@ -16,13 +16,15 @@ use Rattle.typed_ir.specs.States.{sized_value}
 use Rattle.typed_ir.specs.Views.{widths}
 use Rattle.typed_ir.proofs.Cases.{and_left, and_right}
 use Rattle.state_layout.specs.Slots.{state_widths}
+use Rattle.state_layout.specs.Words.{width_in}
+use Rattle.reg_transform.specs.Beginnings.{initial_in}
 use Rattle.reg_transform.specs.Carrying.{created, renamed, first_given, taken, value_of, carried_each}
 use Rattle.reg_transform.specs.Found.{Key}
 use Rattle.reg_transform.specs.Numbers.{number_at, value_by, carried_by}
 use Rattle.reg_transform.specs.PathNumbers.{NumberPaths}
 use Rattle.reg_transform.specs.Registers.{RegisterName, Register, called, is_same, same_path, widths_of}
 use Rattle.reg_transform.specs.Regs.{register_of, register_at}
-use Rattle.reg_transform.specs.States.{state_values}
+use Rattle.reg_transform.specs.States.{paired, state_values}
 use Rattle.reg_transform.proofs.Elements.{dropped, at_signal}
 
 abbrev pub pair : ℕ → ℕ → ℕ × ℕ
@@ -100,6 +102,12 @@ all_taken [] zero h = refl
 all_taken [] (suc i) h = refl
 all_taken (p ∷ s) zero h = absurd (omega (arith, h))
 all_taken (p ∷ s) (suc i) h = ap (λ zs. p ∷ zs) (all_taken s i (omega (arith, h)))
+
+-- the values of the beginning
+pub begun_values : (signals : List Signal) (ids : List ℕ)
+    → state_values (paired (map (width_in signals) ids) (map (initial_in signals) ids)) ≡ map (initial_in signals) ids
+begun_values signals [] = refl
+begun_values signals (s ∷ ss) = ap (λ xs. initial_in signals s ∷ xs) (begun_values signals ss)
 
 -- ---- by keys and by paths
 

@@ -3,6 +3,7 @@ pub mod States
 pub mod OperationFaults
 pub mod Carrying
 pub mod Regs
+pub mod Beginnings
 pub mod Refusals
 pub mod PathNumbers
 pub mod Found

@@ -1,12 +1,12 @@
 // The state that operations and the state of an older design leave the registers of a design.
 ghost use Rattle.std.specs.Prelude.{◌≡◌, IfOk, length};
 ghost use Rattle.std.specs.Option.{option_or};
+ghost use Rattle.reg_transform.specs.Beginnings.{initials_in, reset_in};
 ghost use Rattle.reg_transform.specs.Carrying.{carried, first_given, value_under};
 ghost use Rattle.reg_transform.specs.Found.{created_in, key_of, name_of, renamed_in, value_in};
 ghost use Rattle.reg_transform.specs.Numbers.{carried_by, numbers_in};
 ghost use Rattle.reg_transform.specs.Registers.{widths_of};
 ghost use Rattle.reg_transform.specs.Regs.{registers_in};
-ghost use Rattle.reg_transform.specs.States.{state_values};
 ghost use Rattle.state_layout.specs.Slots.{state_widths};
 
 use crate::changes::{Changes, changes_of};
@@ -15,6 +15,7 @@ use crate::old_values::{OldValues, old_values};
 use crate::qualified_name::QualifiedName;
 use crate::reading::{key_at, signal_at};
 use crate::register_key::RegisterKey;
+use crate::register_layout::RegisterLayout;
 use crate::regs::Regs;
 use bits::Bits;
 use no_memory::NoMemory;
@@ -55,64 +56,65 @@ fn value_at(values: &OldValues, changes: &Changes, key: RegisterKey, initial: u1
     }
 }
 
-// The state into a share of which registers are written: the old one where it has the same widths, so that pages in which no register takes another value
-// stay shared with it; else `reset`.
-fn base_of<'a>(state: &'a SlotState, reset: &'a SlotState) -> &'a SlotState
-    ensures { state_widths result.now ≡ state_widths reset.now }
+// The state into which registers are written: a share of the old one where registers have the same slots, so that pages in which no register
+// takes another value stay shared with it; else zeros, which are one page.
+fn base_of(
+    alloc: Global,
+    old: &RegisterLayout<'_>,
+    new: &RegisterLayout<'_>,
+    state: &SlotState,
+) -> Result<SlotState, NoMemory>
+    requires { state_widths state.now ≡ widths_of (registers_in old.now.regs) }
+    ensures { IfOk result (λ base. state_widths base ≡ widths_of (registers_in new.now.regs)) }
 {
-    if state.has_widths_of(reset) {
-        state
+    if old.slots.same(new.slots) {
+        state.share()
     } else {
-        reset
+        SlotState::zeros(alloc, new.slots)
     }
 }
 
-// What these registers take, where these are the numbers of the instances' paths: each is written into a share of `base`.
+// What these registers take, written into `base`, where these are the numbers of the instances' paths.
 fn carried_into(
     alloc: Global,
     new: &Regs<'_>,
     numbers: &[usize],
-    base: &SlotState,
-    reset: &SlotState,
+    base: SlotState,
     values: &OldValues,
     ops: &[RegOp],
 ) -> Result<SlotState, NoMemory>
     requires numbered { length numbers.now ≡ length new.now.instances.now.rows.items }
-    requires reset { state_widths reset.now ≡ widths_of (registers_in new.now) }
-    requires base { state_widths base.now ≡ state_widths reset.now }
-    ensures { IfOk result (λ s. s ≡ carried_by ops.now (value_in values.now) (numbers_in numbers.now new.now) (registers_in new.now) (state_values reset.now)) }
+    requires base { state_widths base ≡ widths_of (registers_in new.now) }
+    ensures { IfOk result (λ s. s ≡ carried_by ops.now (value_in values.now) (numbers_in numbers.now new.now) (registers_in new.now) (initials_in new.now)) }
 {
     let changes = changes_of(alloc, ops)?;
-    let mut carried = base.share()?;
+    let mut carried = base;
     for place in 0..new.registers.len() {
         let signal = signal_at(new, place);
         let key = key_at(numbers, signal);
-        let initial = reset.read(RegisterId(place)).value;
-        let value = value_at(values, &changes, key, initial);
+        let value = value_at(values, &changes, key, signal.initial);
         carried.write(RegisterId(place), Bits::new(signal.width, value))?;
     }
     Ok(carried)
 }
 
 /// The state that the registers of the new design take: each the value that an operation creates it with, else the old value of the register
-/// that is renamed to it, else the old value of its own name, both at the same path, else its value in `reset`. A value is cut, or filled with
-/// zeros, to its width. Registers are found by hash, in time in proportion to instances, registers and operations. Pages in which no
-/// register takes another value than it has in `state` are shared with that one where both designs have registers of the same widths in the same order, else
-/// those in which nothing differs from `reset` with `reset`. It fails at want of memory alone.
+/// that is renamed to it, else the old value of its own name, both at the same path, else its initial value. A value is cut, or filled with
+/// zeros, to its width. Registers are found by hash, in time in proportion to instances, registers and operations. Where both designs have
+/// registers of the same widths in the same order, pages in which no register takes another value than it has in `state` are shared with that
+/// one. It fails at want of memory alone.
 pub fn carry_state(
     alloc: Global,
-    old: &Regs<'_>,
-    new: &Regs<'_>,
+    old: &RegisterLayout<'_>,
+    new: &RegisterLayout<'_>,
     ops: &[RegOp],
-    reset: &SlotState,
     state: &SlotState,
 ) -> Result<SlotState, NoMemory>
-    requires reset { state_widths reset.now ≡ widths_of (registers_in new.now) }
-    requires state { state_widths state.now ≡ widths_of (registers_in old.now) }
-    ensures { IfOk result (λ s. s ≡ carried ops.now (registers_in old.now) (registers_in new.now) reset.now state.now) }
+    requires state { state_widths state.now ≡ widths_of (registers_in old.now.regs) }
+    ensures { IfOk result (λ s. s ≡ carried ops.now (registers_in old.now.regs) (registers_in new.now.regs) (reset_in new.now.regs) state.now) }
 {
-    let numbers = path_numbers(alloc, old.instances, new.instances)?;
-    let values = old_values(alloc, old, &numbers.old, state)?;
-    let base = base_of(state, reset);
-    carried_into(alloc, new, &numbers.new, base, reset, &values, ops)
+    let numbers = path_numbers(alloc, old.regs.instances, new.regs.instances)?;
+    let values = old_values(alloc, &old.regs, &numbers.old, state)?;
+    let base = base_of(alloc, old, new, state)?;
+    carried_into(alloc, &new.regs, &numbers.new, base, &values, ops)
 }

@@ -1,6 +1,7 @@
 // Whether operations hold between the registers of two designs.
 ghost use Rattle.std.specs.Prelude.{◌≡◌, ◌||◌, [], Some, IfOk, IfErr};
 ghost use Rattle.std.specs.Option.{option_or};
+ghost use Rattle.reg_ops.specs.declared.reg_op.RegOp.TheVariants.{Rename};
 ghost use Rattle.reg_transform.specs.Found.{greatest_in, is_among};
 ghost use Rattle.reg_transform.specs.Greatest.{faults, misses_by, twice_by};
 ghost use Rattle.reg_transform.specs.OperationFaults.{AreValid, are_one, new_of, old_of, operations_fault};
@@ -16,9 +17,34 @@ use crate::op_fault::OpFault;
 use crate::op_refusal::OpRefusal;
 use crate::qualified_name::QualifiedName;
 use crate::regs::Regs;
+use ls_text::NameId;
 use no_memory::NoMemory;
 use reg_ops::RegOp;
 use std::alloc::Global;
+
+// What the registers of both designs say against a rename.
+fn rename_misses(
+    before: &GreatestValues,
+    after: &GreatestValues,
+    in_module: NameId,
+    from: NameId,
+    to: NameId,
+) -> Option<Breach>
+    ensures { faults result ≡ misses_by (greatest_in before.now) (greatest_in after.now) (Rename in_module from to) }
+{
+    let old = QualifiedName {
+        in_module,
+        name: from,
+    };
+    let new = QualifiedName {
+        in_module,
+        name: to,
+    };
+    first_of(
+        broken(!before.has(old), 50, old),
+        broken(!after.has(new), 51, new),
+    )
+}
 
 // What the registers of both designs say against an operation.
 fn misses(before: &GreatestValues, after: &GreatestValues, op: &RegOp) -> Option<Breach>
@@ -29,20 +55,7 @@ fn misses(before: &GreatestValues, after: &GreatestValues, op: &RegOp) -> Option
             in_module,
             from,
             to,
-        } => {
-            let old = QualifiedName {
-                in_module,
-                name: from,
-            };
-            let new = QualifiedName {
-                in_module,
-                name: to,
-            };
-            first_of(
-                broken(!before.has(old), 50, old),
-                broken(!after.has(new), 51, new),
-            )
-        }
+        } => rename_misses(before, after, in_module, from, to),
         RegOp::Create {
             in_module,
             reg,

@@ -1,6 +1,7 @@
 // Registers one by one.
 ghost use Rattle.std.specs.Prelude.{◌≡◌, ◌<◌, ℕ, List, Some, length, slice_index, slice_get};
 ghost use Rattle.typed_ir.specs.Paths.{paths_of};
+ghost use Rattle.reg_transform.specs.Beginnings.{initials_in};
 ghost use Rattle.reg_transform.specs.Found.{name_of};
 ghost use Rattle.reg_transform.specs.Numbers.{numbers_in};
 ghost use Rattle.reg_transform.specs.Registers.{called};
@@ -16,6 +17,7 @@ pub fn signal_at<'a>(regs: &Regs<'a>, place: usize) -> &'a Signal
     requires { place < length regs.now.registers.now }
     ensures register { slice_get (registers_in regs.now) place ≡ Some (register_of (paths_of regs.now.instances.now.rows.items) result.now) }
     ensures number { (numbers : List ℕ) → slice_get (numbers_in numbers regs.now) place ≡ Some (slice_index numbers result.now.instance) }
+    ensures initial { slice_get (initials_in regs.now) place ≡ Some result.now.initial }
     ensures there { result.now.instance < length regs.now.instances.now.rows.items }
 {
     let register = regs.registers[place].index();

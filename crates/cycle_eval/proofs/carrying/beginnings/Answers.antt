@@ -8,7 +8,7 @@ use Rattle.typed_ir.specs.declared.signal.Signal.{Signal}
 use Rattle.typed_ir.specs.States.{sized_value}
 use Rattle.typed_ir.specs.Views.{widths}
 use Rattle.state_layout.specs.Words.{width_in}
-use Rattle.cycle_eval.specs.Paths.{initial_in}
+use Rattle.reg_transform.specs.Beginnings.{initial_in}
 use Rattle.state_layout.specs.Slots.{state_widths}
 use Rattle.reg_transform.specs.States.{paired}
 use Rattle.reg_transform.proofs.Values.{widths_same}

@@ -1,7 +1,7 @@
 use Rattle.std.proofs.Common.{◌≡◌, ◌++◌, ℕ, map, drop}
 use Rattle.typed_ir.specs.States.{sized_value}
 use Rattle.state_layout.specs.Words.{width_in}
-use Rattle.cycle_eval.specs.Paths.{initial_in}
+use Rattle.reg_transform.specs.Beginnings.{initial_in}
 use Rattle.cycle_eval.proofs.carrying.beginnings.Given as goal
 
 abbrev pub invariant-loop-register : goal.invariant-loop-register

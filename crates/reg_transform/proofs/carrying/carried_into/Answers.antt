@@ -1,4 +1,4 @@
-use Rattle.std.proofs.Common.{◌≡◌, ◌≤◌, ◌+◌, ◌%◌, ◌^◌, ◌++◌, ◌<◌, ◌∷◌, [], ◌∙◌, ℕ, List, length, get_or, map, take, drop, set, refl, sym, ap, ap₂, subst, arith}
+use Rattle.std.proofs.Common.{◌≡◌, ◌≤◌, ◌+◌, ◌%◌, ◌^◌, ◌++◌, ◌<◌, ◌∷◌, [], ◌∙◌, ℕ, List, length, get_or, take, drop, set, refl, sym, ap, ap₂, arith}
 use Rattle.std.specs.Prelude.{slice_index}
 use Rattle.std.proofs.Math.ListN.{drop_of_length-le}
 use Rattle.std.proofs.lemmas.List.{append-nil, length-map, take_more_set}
@@ -6,30 +6,26 @@ use Rattle.typed_ir.specs.Paths.{paths_of}
 use Rattle.state_layout.specs.Slots.{state_widths}
 use Rattle.state_layout.proofs.Splices.{written_widths}
 use Rattle.state_layout.proofs.Views.{width_at}
+use Rattle.reg_transform.specs.Beginnings.{initials_in}
 use Rattle.reg_transform.specs.Found.{created_in, renamed_in, value_in, name_of}
 use Rattle.reg_transform.specs.Numbers.{carried_by, number_at, numbers_in}
 use Rattle.reg_transform.specs.Registers.{widths_of}
 use Rattle.reg_transform.specs.Regs.{register_of, registers_in}
-use Rattle.reg_transform.specs.States.{state_values}
-use Rattle.reg_transform.proofs.Values.{all_taken, carried_step, got_value, pair, place_past, place_there, taken_by, taken_is, width_got}
+use Rattle.reg_transform.proofs.Values.{all_taken, carried_step, pair, place_past, place_there, taken_by, taken_is, width_got}
 use Rattle.reg_transform.proofs.carrying.carried_into.Goals as goal
 
 pub loop-place-init : goal.loop-place-init
-loop-place-init c = record { kept = ap state_widths c.in_ok-carried.ensures ∙ c.requires.base; written = refl }
-
-pub read-initial-requires : goal.read-initial-requires
-read-initial-requires c = place_there c.args.reset.now (paths_of c.args.new.now.instances.now.rows.items) c.args.new.now.signals.now c.args.new.now.registers.now
-    c.loop-place.place c.requires.reset c.loop-place-test.true
+loop-place-init c = record { kept = c.requires.base; written = refl }
 
 pub write-requires-clause-there : goal.write-requires-clause-there
 write-requires-clause-there c = place_there c.loop-place.carried (paths_of c.args.new.now.instances.now.rows.items) c.args.new.now.signals.now
-    c.args.new.now.registers.now c.loop-place.place (c.loop-place.invariant.kept ∙ c.requires.reset) c.loop-place-test.true
+    c.args.new.now.registers.now c.loop-place.place c.loop-place.invariant.kept c.loop-place-test.true
 
 pub write-requires-clause-width : goal.write-requires-clause-width
 write-requires-clause-width c =
     let regs = c.args.new.now in
     let r = register_of (paths_of regs.instances.now.rows.items) c.signal_at-signal.result.now in
-    ap (λ ws. get_or ws c.loop-place.place 0) (c.loop-place.invariant.kept ∙ c.requires.reset)
+    ap (λ ws. get_or ws c.loop-place.place 0) c.loop-place.invariant.kept
     ∙ width_got (registers_in regs) c.loop-place.place r c.signal_at-signal.ensures.register ∙ sym c.new.ensures.width
 
 pub loop-place-preserved : goal.loop-place-preserved
@@ -43,7 +39,7 @@ loop-place-preserved c =
     let n = slice_index numbers x.instance in
     let paths = paths_of regs.instances.now.rows.items in
     let r = register_of paths x in
-    let i = c.read-initial.result.value in
+    let i = x.initial in
     let key = c.key_at-key.result in
     let s = c.loop-place.carried in
     let j = c.loop-place.place in
@@ -54,7 +50,7 @@ loop-place-preserved c =
     (c.key_at-key.ensures.called paths) c.in_ok-changes.ensures.created c.in_ok-changes.ensures.renamed in
     let here : pair b.width b.value ≡ (r.width, taken_by ops old n r i % 2 ^ r.width) =
     ap₂ pair c.new.ensures.width (c.new.ensures.value ∙ ap (λ v. v % 2 ^ x.width) taken) in
-    let widths : state_widths s ≡ widths_of (registers_in regs) = c.loop-place.invariant.kept ∙ c.requires.reset in
+    let widths : state_widths s ≡ widths_of (registers_in regs) = c.loop-place.invariant.kept in
     let there : j < length s = place_there s paths regs.signals.now regs.registers.now j widths c.loop-place-test.true in
     let own : (get_or s j (0, 0)).0 ≡ b.width =
     sym (width_at s j) ∙ ap (λ ws. get_or ws j 0) widths ∙ width_got (registers_in regs) j r c.signal_at-signal.ensures.register ∙ sym c.new.ensures.width in
@@ -63,9 +59,8 @@ loop-place-preserved c =
     ap (take (j + 1)) put ∙ take_more_set s j (b.width, b.value) there ∙ ap (λ p. take j s ++ p ∷ []) here in
     record {
       kept = ap state_widths put ∙ written_widths s j b.width b.value (0, 0) own ∙ c.loop-place.invariant.kept;
-      written = carried_step ops old (numbers_in numbers regs) (registers_in regs) (state_values c.args.reset.now) j n r i (take j s) (take (j + 1) c.write.new.self)
-          (c.signal_at-signal.ensures.number numbers) c.signal_at-signal.ensures.register
-          (got_value c.args.reset.now j c.read-initial.result.width i c.read-initial.ensures) more
+      written = carried_step ops old (numbers_in numbers regs) (registers_in regs) (initials_in regs) j n r i (take j s) (take (j + 1) c.write.new.self)
+          (c.signal_at-signal.ensures.number numbers) c.signal_at-signal.ensures.register c.signal_at-signal.ensures.initial more
           ∙ c.loop-place.invariant.written;
     }
 
@@ -76,14 +71,14 @@ returns c =
     let old = value_in c.args.values.now in
     let ns = numbers_in c.args.numbers.now regs in
     let rs = registers_in regs in
-    let xs = state_values c.args.reset.now in
+    let xs = initials_in regs in
     let s = c.loop-place.carried in
     let j = c.loop-place.place in
     let paths = paths_of regs.instances.now.rows.items in
     let long : length ns ≡ length regs.registers.now = length-map regs.registers.now (number_at c.args.numbers.now regs.signals.now) in
     let past : length ns ≤ j = omega (arith, long, c.loop-place-test.false) in
     let few : length s ≤ j =
-    place_past s paths regs.signals.now regs.registers.now j (c.loop-place.invariant.kept ∙ c.requires.reset) (omega (arith, c.loop-place-test.false)) in
+    place_past s paths regs.signals.now regs.registers.now j c.loop-place.invariant.kept (omega (arith, c.loop-place-test.false)) in
     sym (all_taken s j few)
     ∙ sym (append-nil (take j s))
     ∙ sym (ap (λ (zs : List ℕ). take j s ++ carried_by ops old zs (drop j rs) (drop j xs)) (drop_of_length-le ns past))

@@ -1,5 +1,4 @@
-use Rattle.std.proofs.Common.{rules, ◌≡◌, ◌≤◌, ◌+◌, ◌++◌, ◌∙◌, ℕ, List, [], ◌∷◌, append_assoc, length, map, drop, sym, ap, arith}
-use Rattle.std.specs.Arc.{arc_value}
+use Rattle.std.proofs.Common.{◌≡◌, ◌≤◌, ◌+◌, ◌++◌, ◌∙◌, ℕ, List, [], ◌∷◌, append_assoc, length, map, drop, sym, ap, arith}
 use Rattle.std.specs.Prelude.{slice_get, Some}
 use Rattle.std.proofs.Math.ListN.{drop_of_length-le}
 use Rattle.std.proofs.lemmas.List.{append-nil, length-map, map_push}
@@ -7,10 +6,11 @@ use Rattle.bits.specs.declared.Bits.{Bits}
 use Rattle.typed_ir.specs.Paths.{paths_of}
 use Rattle.typed_ir.specs.States.{sized_value}
 use Rattle.typed_ir.specs.Views.{widths}
+use Rattle.typed_ir.proofs.Listed.{if_ok}
 use Rattle.reg_transform.specs.Registers.{Register, widths_of}
 use Rattle.reg_transform.specs.Regs.{register_at, registers_in}
 use Rattle.state_layout.specs.Slots.{state_widths}
-use Rattle.reg_transform.proofs.Elements.{dropped, widths_are}
+use Rattle.reg_transform.proofs.Elements.{dropped}
 use Rattle.reg_transform.proofs.Values.{widths_same}
 use Rattle.reg_transform.proofs.operation_tests.state_of.Goals as goal
 
@@ -29,7 +29,7 @@ widths_step rs i r was now b at here e =
 
 pub loop-place-preserved : goal.loop-place-preserved
 loop-place-preserved c =
-    widths_step (registers_in c.args.regs.now) c.loop-place.place _ c.loop-place.state.items c.push.new.self.items c.new.result c.signal_at-signal.ensures.register
+    widths_step (registers_in c.args.layout.now.regs) c.loop-place.place _ c.loop-place.state.items c.push.new.self.items c.new.result c.signal_at-signal.ensures.register
     c.new.ensures.width c.in_ok-push.ensures.items
     ∙ c.loop-place.invariant
 
@@ -42,24 +42,22 @@ all_widths rs items i past is =
 
 pub filled-requires : goal.filled-requires
 filled-requires c =
-    let regs = c.args.regs.now in
+    let regs = c.args.layout.now.regs in
     let rs = registers_in regs in
     let paths = paths_of regs.instances.now.rows.items in
     let past : length rs ≤ c.loop-place.place = omega (arith, length-map regs.registers.now (register_at paths regs.signals.now), c.loop-place-test.false) in
-    let held : arc_value c.in_ok-layout.layout ≡ c.in_ok-laid_out.field-0 = search rules in
     ap widths c.deref.ensures.value
     ∙ widths_same c.loop-place.state.items
     ∙ all_widths rs c.loop-place.state.items c.loop-place.place past c.loop-place.invariant
-    ∙ sym (widths_are paths regs.signals.now regs.registers.now)
-    ∙ sym c.in_ok-laid_out.ensures.made
-    ∙ sym held
+    ∙ sym c.args.layout.now.laid
 
 pub returns : goal.returns
 returns c =
-    let regs = c.args.regs.now in
+    let regs = c.args.layout.now.regs in
     let rs = registers_in regs in
     let items = c.loop-place.state.items in
     let paths = paths_of regs.instances.now.rows.items in
     let past : length rs ≤ c.loop-place.place = omega (arith, length-map regs.registers.now (register_at paths regs.signals.now), c.loop-place-test.false) in
-    ap state_widths c.in_ok-filled.ensures ∙ ap (λ xs. state_widths (map sized_value xs)) c.deref.ensures.value
-    ∙ all_widths rs items c.loop-place.place past c.loop-place.invariant
+    let whole : state_widths (map sized_value c.deref.result.now) ≡ widths_of rs =
+    ap (λ xs. state_widths (map sized_value xs)) c.deref.ensures.value ∙ all_widths rs items c.loop-place.place past c.loop-place.invariant in
+    if_ok c.filled.result (λ s. s ≡ map sized_value c.deref.result.now) (λ s. state_widths s ≡ widths_of rs) (λ s e. ap state_widths e ∙ whole) c.filled.ensures

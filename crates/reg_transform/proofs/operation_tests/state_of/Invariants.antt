@@ -7,4 +7,4 @@ use Rattle.reg_transform.proofs.operation_tests.state_of.Given as goal
 
 abbrev pub invariant-loop-place : goal.invariant-loop-place
 invariant-loop-place l =
-    state_widths (map sized_value l.state.items) ++ widths_of (drop l.place (registers_in l.regs)) ≡ widths_of (registers_in l.regs)
+    state_widths (map sized_value l.state.items) ++ widths_of (drop l.place (registers_in l.layout.regs)) ≡ widths_of (registers_in l.layout.regs)

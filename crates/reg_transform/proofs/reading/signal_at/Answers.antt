@@ -4,7 +4,7 @@ use Rattle.std.proofs.lemmas.List.{get_or_default}
 use Rattle.typed_ir.specs.declared.signal.Signal.{Signal}
 use Rattle.typed_ir.specs.Paths.{paths_of}
 use Rattle.reg_transform.specs.Regs.{register_of}
-use Rattle.reg_transform.proofs.Elements.{below_read, register_read, within_read}
+use Rattle.reg_transform.proofs.Elements.{below_read, initial_read, register_read, within_read}
 use Rattle.reg_transform.proofs.reading.signal_at.Goals as goal
 
 pub offset_bounds-regs-register : goal.offset_bounds-regs-register
@@ -50,6 +50,17 @@ returns-clause-number c = λ numbers.
     register_read (λ (z : Signal). slice_index numbers z.instance) 0 signals rs c.args.place c.index-register.result x c.requires same
     (omega (arith, listed, same)) c.index-regs-register.is
     ∙ ap (λ (z : Signal). Some (slice_index numbers z.instance)) c.index-regs-register.is
+
+pub returns-clause-initial : goal.returns-clause-initial
+returns-clause-initial c =
+    let rs = c.args.regs.now.registers.now in
+    let signals = c.args.regs.now.signals.now in
+    let x = c.index-regs-register.result in
+    let listed : get_or rs c.args.place 0 < length signals = below_read rs (length signals) c.args.place c.args.regs.now.registers_there c.requires in
+    let same : c.index-register.result ≡ get_or rs c.args.place 0 =
+    c.index-register.ensures ∙ get_or_default rs c.args.place c.index-regs-place.result 0 c.requires in
+    initial_read signals rs c.args.place c.index-register.result x c.requires same (omega (arith, listed, same)) c.index-regs-register.is
+    ∙ ap (λ (z : Signal). Some z.initial) c.index-regs-register.is
 
 pub returns-clause-there : goal.returns-clause-there
 returns-clause-there c =

@@ -8,7 +8,7 @@ use Rattle.cycle_eval.specs.Designs.{design_flat}
 use Rattle.cycle_eval.specs.Kits.{Fits, reset_of}
 use Rattle.cycle_eval.specs.DesignLaws.{reset_fits}
 use Rattle.state_layout.specs.Words.{width_in}
-use Rattle.cycle_eval.specs.Paths.{initial_in}
+use Rattle.reg_transform.specs.Beginnings.{initial_in}
 use Rattle.reg_transform.specs.States.{paired}
 use Rattle.cycle_eval.proofs.Keys.{begun, register_widths_are}
 use Rattle.cycle_eval.proofs.design.Design.reset_state.Goals as goal
