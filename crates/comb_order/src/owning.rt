@@ -1,4 +1,4 @@
-// The instance that each node belongs to: that of all signals which it drives and reads. A connection belongs to none.
+// The instance that each node belongs to: the least of those whose signals it drives or reads, which of a connection is the outer one.
 ghost use Rattle.std.specs.Prelude.{◌≡◌, IfOk, length};
 
 use no_memory::NoMemory;
@@ -8,50 +8,47 @@ use typed_ir::{InstanceId, Node, Signal, Touch, drives_of, reads_of};
 /// Where a node belongs.
 #[derive(Clone, Copy, Debug, PartialEq, Eq)]
 pub struct Belonging {
-    /// The instance of the first signal that it drives.
+    /// The least instance of the signals that it drives and reads.
     pub instance: InstanceId,
-    /// Whether all signals that it drives and reads stand in that instance.
+    /// Whether all these signals stand in that instance.
     pub is_within: bool,
     /// Whether it reads a signal.
     pub reads: bool,
 }
 
-// Whether all of these signals stand in an instance.
-fn stand_in(touches: &[Touch], signals: &[Signal], instance: InstanceId) -> bool {
+// The least number of an instance among one and those of some signals.
+fn least_of(touches: &[Touch], signals: &[Signal], known: u32) -> u32 {
+    let mut least = known;
     for touch in touches {
         if let Some(signal) = signals.get(touch.signal.index()) {
-            if signal.instance.0 != instance.0 {
-                return false;
-            }
+            least = least.min(signal.instance.0);
         }
     }
-    true
+    least
 }
 
-// The instance of the first of these signals.
-fn first_instance(touches: &[Touch], signals: &[Signal]) -> Option<InstanceId> {
-    let touch = touches.first()?;
-    let signal = signals.get(touch.signal.index())?;
-    Some(signal.instance)
+// The greatest number of an instance among one and those of some signals.
+fn greatest_of(touches: &[Touch], signals: &[Signal], known: u32) -> u32 {
+    let mut greatest = known;
+    for touch in touches {
+        if let Some(signal) = signals.get(touch.signal.index()) {
+            greatest = greatest.max(signal.instance.0);
+        }
+    }
+    greatest
 }
 
-// Where a node belongs.
+// Where a node belongs; to the top, where it drives and reads nothing.
 fn belonging_of(alloc: Global, node: &Node, signals: &[Signal]) -> Result<Belonging, NoMemory> {
     let driven = drives_of(alloc, node)?;
     let read = reads_of(alloc, node)?;
-    let reads = !read.is_empty();
-    match first_instance(&driven, signals) {
-        Some(instance) => Ok(Belonging {
-            instance,
-            is_within: stand_in(&driven, signals, instance) && stand_in(&read, signals, instance),
-            reads,
-        }),
-        None => Ok(Belonging {
-            instance: InstanceId(0),
-            is_within: false,
-            reads,
-        }),
-    }
+    let least = least_of(&read, signals, least_of(&driven, signals, u32::MAX));
+    let greatest = greatest_of(&read, signals, greatest_of(&driven, signals, 0));
+    Ok(Belonging {
+        instance: InstanceId(least.min(greatest)),
+        is_within: least == greatest,
+        reads: !read.is_empty(),
+    })
 }
 
 /// Where each node belongs. Want of memory is `NoMemory`.

@@ -3,10 +3,8 @@
 /// A node's rank. The least comes first.
 #[derive(Clone, Copy, Debug, PartialEq, Eq, PartialOrd, Ord)]
 pub struct Rank {
-    /// The component of its group.
-    pub component: usize,
-    /// Within a circle: a node that stands alone before those of instances, and the least instance first.
-    pub group: usize,
-    /// Within a group: what reads nothing first.
+    /// The position of its group.
+    pub position: usize,
+    /// Within a group what reads nothing comes first.
     pub reads: bool,
 }

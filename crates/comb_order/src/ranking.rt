@@ -1,64 +1,87 @@
-// The ranks by which nodes are placed. Groups are ranked by their components: a group that stands in no circle is placed once all that its
-// nodes wait for is, so that they stand side by side, and in one order for all instances of a module.
+// The ranks by which nodes are placed: by the positions of their groups. A group that stands in no circle is placed once all that its nodes wait
+// for is, so that they stand side by side, and in one order for all instances of a module.
 ghost use Rattle.std.specs.Prelude.{◌≡◌, IfOk, length};
 
 use crate::components::{Components, components_of};
-use crate::grouping::{group_graph, groups_of, instance_group};
+use crate::dividing::{ends_of, opened_in, parted_in};
+use crate::division::Division;
+use crate::group_graph::GroupGraph;
+use crate::groups::Groups;
 use crate::owning::{Belonging, belongings_of};
-use crate::parting::apart_in;
+use crate::positions::positions_of;
 use crate::rank::Rank;
 use no_memory::NoMemory;
 use std::alloc::{AllocError, Global};
-use typed_ir::{Flat, NodeId};
+use typed_ir::{Flat, InstanceName, NodeId};
 
-// The group of each node, and the components of the groups.
+// How often more is taken apart: the own nodes of instances, then instances that as a whole stand in a circle, then the own nodes of these.
+const DIVISIONS: u32 = 3;
+
+// The groups of the nodes, and their components.
 #[derive(Drop)]
 struct Grouping {
-    groups: Vec<usize>,
+    groups: Groups,
     components: Components,
 }
 
 impl Grouping {
-    // So many instances, of which these fall apart.
     fn new(
         alloc: Global,
         graph: &[Vec<NodeId>],
+        rows: &[InstanceName],
         belongings: &[Belonging],
-        apart: &[bool],
+        division: &Division,
     ) -> Result<Grouping, AllocError> {
-        let groups = groups_of(alloc, belongings, apart)?;
-        let count = instance_group(belongings.len(), apart.len());
-        let graph = group_graph(alloc, graph, &groups, count)?;
-        let components = components_of(alloc, &graph)?;
+        let groups = Groups::new(alloc, rows, belongings, division)?;
+        let between = GroupGraph::new(alloc, graph, &groups)?;
+        let components = components_of(alloc, &between)?;
         Ok(Grouping { groups, components })
     }
 
-    // The rank of a node.
-    fn rank(&self, node: usize, reads: bool) -> Rank {
-        let group = match self.groups.get(node) {
-            Some(group) => *group,
-            None => node,
-        };
-        let component = match self.components.of(group) {
-            Some(component) => component,
-            None => group,
-        };
-        Rank {
-            component,
-            group,
-            reads,
+    // Takes apart what stands in a circle; whether there was more than before.
+    fn divide(
+        &self,
+        alloc: Global,
+        ends: &[usize],
+        division: &mut Division,
+    ) -> Result<bool, AllocError> {
+        let parted = parted_in(alloc, &self.groups, &self.components, ends)?;
+        if division.part(&parted) {
+            return Ok(true);
         }
+        let opened = opened_in(alloc, &self.groups, &self.components, ends)?;
+        Ok(division.unfold(&opened))
     }
 }
 
-// Whether one of them is true.
-fn has_true(flags: &[bool]) -> bool {
-    for flag in flags {
-        if *flag {
-            return true;
+// The groups by which nodes are placed.
+fn grouping_of(
+    alloc: Global,
+    graph: &[Vec<NodeId>],
+    rows: &[InstanceName],
+    belongings: &[Belonging],
+) -> Result<Grouping, AllocError> {
+    let ends = ends_of(alloc, rows)?;
+    let mut division = Division::new(alloc, rows.len())?;
+    let mut grouping = Grouping::new(alloc, graph, rows, belongings, &division)?;
+    for _turn in 0..DIVISIONS {
+        if !grouping.divide(alloc, &ends, &mut division)? {
+            return Ok(grouping);
         }
+        grouping = Grouping::new(alloc, graph, rows, belongings, &division)?;
     }
-    false
+    Ok(grouping)
+}
+
+// The position of a node.
+fn position_of(groups: &Groups, positions: &[usize], node: usize) -> usize {
+    match groups.standing(node) {
+        Some(standing) => match positions.get(standing.group) {
+            Some(position) => *position,
+            None => node,
+        },
+        None => node,
+    }
 }
 
 /// The rank of each node of a design. It takes time in proportion to nodes, edges and instances. Want of memory is `NoMemory`.
@@ -66,19 +89,14 @@ pub fn ranks_of(alloc: Global, design: &Flat, graph: &[Vec<NodeId>]) -> Result<V
     ensures { IfOk result (λ ranks. length ranks.items ≡ length design.now.nodes.items) }
 {
     let belongings = belongings_of(alloc, &design.nodes, &design.signals)?;
-    let instances = &design.instances.rows;
-    let none = vec![in alloc; false; instances.len()]?;
-    let whole = Grouping::new(alloc, graph, &belongings, &none)?;
-    let apart = apart_in(alloc, instances, belongings.len(), &whole.components)?;
-    let grouping = if has_true(&apart) {
-        Grouping::new(alloc, graph, &belongings, &apart)?
-    } else {
-        whole
-    };
+    let grouping = grouping_of(alloc, graph, &design.instances.rows, &belongings)?;
+    let positions = positions_of(alloc, &grouping.groups, &grouping.components)?;
     let mut ranks = Vec::with_capacity(alloc, belongings.len())?;
     for node in 0..belongings.len() {
-        let rank = grouping.rank(node, belongings[node].reads);
-        ranks.push(rank)?;
+        ranks.push(Rank {
+            position: position_of(&grouping.groups, &positions, node),
+            reads: belongings[node].reads,
+        })?;
     }
     Ok(ranks)
 }

@@ -194,3 +194,62 @@ fn a_constant_changes_no_order(rt: HostRuntime) -> Result<(), Fail> {
     )?;
     Ok(())
 }
+
+// The signals of a top, which are two wires, and of two instances in it, of i, t, z, r, y and o each, and in each of these one of x and p.
+const CORES: [u32; 18] = [0, 0, 1, 1, 1, 1, 1, 1, 2, 2, 3, 3, 3, 3, 3, 3, 4, 4];
+
+// Two instances through which a wire goes into one within and back: one behind the other, and both beside each other. Neither stands among the
+// nodes of the other, and both stand in one order.
+#[test]
+fn instances_with_others_within(rt: HostRuntime) -> Result<(), Fail> {
+    // of the second one its i is w, or in
+    for (second, wanted) in [
+        (1, [0, 3, 4, 5, 8, 6, 7, 1, 2, 9, 10, 11, 14, 12, 13]),
+        (0, [0, 2, 3, 4, 5, 8, 6, 7, 1, 9, 10, 11, 14, 12, 13]),
+    ] {
+        // i1 = in, w = o1, i2; t = i, z = r, x = t, y = p, o = y, and p = x, of the first and of the second
+        let pairs = [
+            (2, 0),
+            (1, 7),
+            (10, second),
+            (3, 2),
+            (4, 5),
+            (8, 3),
+            (6, 9),
+            (7, 6),
+            (9, 8),
+            (11, 10),
+            (12, 13),
+            (16, 11),
+            (14, 17),
+            (15, 14),
+            (17, 16),
+        ];
+        expect_order(&rt, rt.alloc(), &[0, 1, 0, 3], &CORES, &pairs, &wanted)?;
+    }
+    Ok(())
+}
+
+// A wire of the top goes through the first by one within it, and once more through the first by another one within: each of these stands side by side.
+#[test]
+fn an_instance_that_is_entered_twice(rt: HostRuntime) -> Result<(), Fail> {
+    // in, w; a, b, p, q; x1, y1, z1, r1; x2, y2, z2, r2
+    let instances = [0, 0, 1, 1, 1, 1, 2, 2, 2, 2, 3, 3, 3, 3];
+    // a = in, w = p, b = w; x1 = a, p = y1, x2 = b, q = y2; y1 = x1, z1 = r1; y2 = x2, z2 = r2
+    let pairs = [
+        (2, 0),
+        (1, 4),
+        (3, 1),
+        (6, 2),
+        (4, 7),
+        (10, 3),
+        (5, 11),
+        (7, 6),
+        (8, 9),
+        (11, 10),
+        (12, 13),
+    ];
+    let wanted = [0, 3, 7, 8, 4, 1, 2, 5, 9, 10, 6];
+    expect_order(&rt, rt.alloc(), &[0, 1, 1], &instances, &pairs, &wanted)?;
+    Ok(())
+}

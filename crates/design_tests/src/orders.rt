@@ -132,7 +132,7 @@ fn answer(
     order_within(rt, alloc, top, signals, nodes)
 }
 
-// That this is the order: of the nodes that can be next, the least number is.
+// That this is the order: of the nodes that can be next what reads nothing is, and then the least number.
 fn expect_order(
     rt: &impl Abort,
     alloc: Global,
@@ -167,7 +167,7 @@ fn a_chain_written_backwards(rt: HostRuntime) -> Result<(), Fail> {
     Ok(())
 }
 
-// Chains stand one behind the other, as they are written or backwards; and of nodes that can be next the least number is.
+// Chains stand one behind the other, as they are written or backwards; and of nodes that can be next, which all read, the least number is.
 #[test]
 fn least_number_first(rt: HostRuntime) -> Result<(), Fail> {
     // what each node drives and what it reads; and the order
