@@ -115,7 +115,7 @@ one_ready all free free' node n ready ready' e same more p =
     (subst (IsPermutation all) (ap (λ xs. xs ++ ready) e ∙ append_assoc free' (node ∷ []) ready) p) moved
 
 -- what can be placed has a rank, where each node has
-pub ranked_each : {A : Type 0} (graph : List (Vec ℕ Global)) (ranks : List A) → length ranks ≡ length graph
+pub ranked_each : (graph : List (Vec ℕ Global)) (ranks : List ℕ) → length ranks ≡ length graph
     → {flags : List Bool} {c : ℕ → ℕ} (done todo : List ℕ) → IsPlacing (rows_of graph) flags c done todo → (t : ℕ) → Member t todo → t < length ranks
 ranked_each graph ranks e done todo p t m =
     let small : t < length (rows_of graph) = (p.in_zero t (member_right t done todo m)).0 in

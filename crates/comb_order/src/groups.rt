@@ -1,4 +1,4 @@
-// Nodes in groups. A node alone is one, the own nodes of an instance are one, and so is an instance with all that stands in it, among the groups
+// Nodes in groups. A node alone is one, the own nodes of an instance are one (`Belonging`), and so is an instance with all that stands in it, among the groups
 // of the one above. Groups are counted over the nodes, then the instances by their own nodes, then the whole instances.
 use crate::division::Division;
 use crate::owning::Belonging;
@@ -94,7 +94,7 @@ impl Groups {
         for node in 0..belongings.len() {
             let belonging = belongings[node];
             let instance = belonging.instance;
-            let is_one = belonging.is_within && !is_of(&division.apart, instance.index());
+            let is_one = belonging.is_own && !is_of(&division.apart, instance.index());
             let group = if is_one {
                 belongings.len().saturating_add(instance.index())
             } else {

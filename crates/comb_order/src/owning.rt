@@ -1,4 +1,5 @@
 // The instance that each node belongs to: the least of those whose signals it drives or reads, which of a connection is the outer one.
+// A port with a constant is driven within the inner one, like a constant of its own; so what reads nothing stands alone too.
 ghost use Rattle.std.specs.Prelude.{◌≡◌, IfOk, length};
 
 use no_memory::NoMemory;
@@ -10,10 +11,8 @@ use typed_ir::{InstanceId, Node, Signal, Touch, drives_of, reads_of};
 pub struct Belonging {
     /// The least instance of the signals that it drives and reads.
     pub instance: InstanceId,
-    /// Whether all these signals stand in that instance.
-    pub is_within: bool,
-    /// Whether it reads a signal.
-    pub reads: bool,
+    /// Whether it is one of that instance's own: it reads a signal, and all these signals stand in that instance.
+    pub is_own: bool,
 }
 
 // The least number of an instance among one and those of some signals.
@@ -46,8 +45,7 @@ fn belonging_of(alloc: Global, node: &Node, signals: &[Signal]) -> Result<Belong
     let greatest = greatest_of(&read, signals, greatest_of(&driven, signals, 0));
     Ok(Belonging {
         instance: InstanceId(least.min(greatest)),
-        is_within: least == greatest,
-        reads: !read.is_empty(),
+        is_own: least == greatest && !read.is_empty(),
     })
 }
 

@@ -6,7 +6,6 @@ ghost use Rattle.comb_order.specs.Graphs.{times, waiting, rows_of, lowered, rele
 ghost use Rattle.comb_order.specs.Kahn.{IsClosed, IsPlacing};
 
 use crate::counting::{free_nodes, in_degrees};
-use crate::rank::Rank;
 use crate::ready::{make_ready, next_ready};
 use std::alloc::{AllocError, Global};
 use std::collections::BinaryHeap;
@@ -45,7 +44,7 @@ pub fn release(row: &[NodeId], counts: &mut [u32], free: &mut Vec<NodeId>) -> Re
 fn place_free(
     alloc: Global,
     graph: &[Vec<NodeId>],
-    ranks: &[Rank],
+    ranks: &[usize],
     counts: &mut [u32],
     placed: &mut [bool],
     free: &mut Vec<NodeId>,
@@ -79,7 +78,7 @@ pub struct Placing {
 pub fn place_nodes(
     alloc: Global,
     graph: &[Vec<NodeId>],
-    ranks: &[Rank],
+    ranks: &[usize],
 ) -> Result<Placing, AllocError>
     requires ranked { length ranks.now ≡ length graph.now }
     requires closed { IsClosed (rows_of graph.now) }

@@ -9,7 +9,6 @@ use crate::group_graph::GroupGraph;
 use crate::groups::Groups;
 use crate::owning::{Belonging, belongings_of};
 use crate::positions::positions_of;
-use crate::rank::Rank;
 use no_memory::NoMemory;
 use std::alloc::{AllocError, Global};
 use typed_ir::{Flat, InstanceName, NodeId};
@@ -85,7 +84,7 @@ fn position_of(groups: &Groups, positions: &[usize], node: usize) -> usize {
 }
 
 /// The rank of each node of a design. It takes time in proportion to nodes, edges and instances. Want of memory is `NoMemory`.
-pub fn ranks_of(alloc: Global, design: &Flat, graph: &[Vec<NodeId>]) -> Result<Vec<Rank>, NoMemory>
+pub fn ranks_of(alloc: Global, design: &Flat, graph: &[Vec<NodeId>]) -> Result<Vec<usize>, NoMemory>
     ensures { IfOk result (λ ranks. length ranks.items ≡ length design.now.nodes.items) }
 {
     let belongings = belongings_of(alloc, &design.nodes, &design.signals)?;
@@ -93,10 +92,8 @@ pub fn ranks_of(alloc: Global, design: &Flat, graph: &[Vec<NodeId>]) -> Result<V
     let positions = positions_of(alloc, &grouping.groups, &grouping.components)?;
     let mut ranks = Vec::with_capacity(alloc, belongings.len())?;
     for node in 0..belongings.len() {
-        ranks.push(Rank {
-            position: position_of(&grouping.groups, &positions, node),
-            reads: belongings[node].reads,
-        })?;
+        let rank = position_of(&grouping.groups, &positions, node);
+        ranks.push(rank)?;
     }
     Ok(ranks)
 }

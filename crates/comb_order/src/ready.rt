@@ -3,7 +3,6 @@ ghost use Rattle.std.specs.Prelude.{◌≡◌, ◌<◌, ℕ, [], ◌∷◌, ◌+
 ghost use Rattle.typed_ir.specs.Orders.{Member};
 ghost use Rattle.comb_order.specs.Ready.{nodes_in};
 
-use crate::rank::Rank;
 use crate::turn::Turn;
 use std::alloc::AllocError;
 use std::cmp::Reverse;
@@ -13,7 +12,7 @@ use typed_ir::NodeId;
 /// Nodes that are free join those that are ready. Each has a rank.
 pub fn make_ready(
     free: &mut Vec<NodeId>,
-    ranks: &[Rank],
+    ranks: &[usize],
     ready: &mut BinaryHeap<Reverse<Turn>>,
 ) -> Result<(), AllocError>
     requires ranked { (t : ℕ) → Member t free.old.items → t < length ranks.now }

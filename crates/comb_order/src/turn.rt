@@ -1,9 +1,8 @@
 // When a node that can be placed has its turn.
-use crate::rank::Rank;
 
 /// A node's turn: by its rank, and of one rank by its number. The least comes first.
 #[derive(Clone, Copy, Debug, PartialEq, Eq, PartialOrd, Ord)]
 pub struct Turn {
-    pub rank: Rank,
+    pub rank: usize,
     pub node: u32,
 }

@@ -132,7 +132,7 @@ fn answer(
     order_within(rt, alloc, top, signals, nodes)
 }
 
-// That this is the order: of the nodes that can be next what reads nothing is, and then the least number.
+// That this is the order: of the nodes that can be next, which all read, the least number is.
 fn expect_order(
     rt: &impl Abort,
     alloc: Global,
