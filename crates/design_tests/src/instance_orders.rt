@@ -253,3 +253,29 @@ fn an_instance_that_is_entered_twice(rt: HostRuntime) -> Result<(), Fail> {
     expect_order(&rt, rt.alloc(), &[0, 1, 1], &instances, &pairs, &wanted)?;
     Ok(())
 }
+
+// The top's own nodes wait for the third instance, which waits for them, and fall apart; the first waits as a whole for what waits for it, and is opened; and
+// then its own nodes share a component with the second, which stands in it, and fall apart too.
+#[test]
+fn circles_are_taken_apart_in_three_turns(rt: HostRuntime) -> Result<(), Fail> {
+    // u; a, b, c, d, e; x2, p2; x3, p3; f, g, h, k
+    let instances = [0, 1, 1, 1, 1, 1, 2, 2, 3, 3, 0, 0, 0, 0];
+    // x3 = f; b = p2; k = g; g = p3; a = u; d = e; p3 = x3; x2 = d; u = b; c = a; p2 = x2; f = h
+    let pairs = [
+        (8, 10),
+        (2, 7),
+        (13, 11),
+        (11, 9),
+        (1, 0),
+        (4, 5),
+        (9, 8),
+        (6, 4),
+        (0, 2),
+        (3, 1),
+        (7, 6),
+        (10, 12),
+    ];
+    let wanted = [5, 7, 11, 0, 10, 1, 8, 4, 9, 6, 3, 2];
+    expect_order(&rt, rt.alloc(), &[0, 1, 0], &instances, &pairs, &wanted)?;
+    Ok(())
+}
