@@ -112,20 +112,12 @@ impl SlotState {
         })
     }
 
-    /// Shares each page that has the words of the other state's page at the same place with that state, whatever its layout. The values
-    /// stay. It takes no memory, and does nothing where this state was shared and not written since.
+    /// Where a page has the same words as the other state's page at that place, both states have one page from then on, whatever their
+    /// layouts. The values stay. It takes no memory, and does nothing where this state was shared and not written since.
     pub fn share_with(&mut self, other: &SlotState)
         ensures { self.new ≡ self.old }
     {
         self.pages.share_with(&other.pages);
-    }
-
-    /// Whether both have registers of the same widths, in the same order.
-    pub fn has_widths_of(&self, other: &SlotState) -> bool
-        ensures same { result ≡ true → state_widths self.now ≡ state_widths other.now }
-        ensures all { state_widths self.now ≡ state_widths other.now → result ≡ true }
-    {
-        self.layout.same(&other.layout)
     }
 
     /// Whether both have the same registers by their widths, with the same values, in the same order.
