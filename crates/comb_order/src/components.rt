@@ -1,6 +1,5 @@
 // The strongly connected components of a graph of groups, each behind those from which edges come to it. Two depth-first searches find
-// them (S. R. Kosaraju; M. Sharir, 1981): the first goes along the edges (`leaving`), and the second against them, from what the first
-// left last.
+// them: the first goes along the edges (`leaving`), and the second against them, from what the first left last.
 use crate::group_graph::{GroupGraph, empty_rows, note};
 use crate::joining::Joining;
 use crate::leaving::{leaving_order, most_turns};
@@ -59,7 +58,7 @@ impl Components {
         }
     }
 
-    // A group that has no component joins one, and with it what comes before it.
+    // A group that has no component joins one; what comes before it is to join the same one, where it has none yet.
     fn join(
         &mut self,
         rows: &[Vec<usize>],

@@ -6,7 +6,7 @@ use std::alloc::{AllocError, Global};
 pub struct Division {
     /// Whether its own nodes stand alone, and not as one group.
     pub apart: Vec<bool>,
-    /// Whether its groups stand among those of the instance above it, and not within a group of their own.
+    /// Whether its groups stand among those of the nearest instance above that isn't open, and not within a group of their own.
     pub open: Vec<bool>,
 }
 

@@ -1,5 +1,6 @@
-// Nodes in groups. A node alone is one, the own nodes of an instance are one (`Belonging`), and so is an instance with all that stands in it, among the groups
-// of the one above. Groups are counted over the nodes, then the instances by their own nodes, then the whole instances.
+// Nodes in groups. A node alone is one, the own nodes of an instance are one (`Belonging`), and so is an instance with all that stands in
+// it, among the groups of the one above. Groups are counted over the nodes, then the instances by their own nodes, then the whole instances.
+use crate::ascent::{Ascent, ascents_of};
 use crate::division::Division;
 use crate::owning::Belonging;
 use crate::standing::Standing;
@@ -11,10 +12,10 @@ use typed_ir::{InstanceId, InstanceName};
 pub struct Groups {
     // Of each node its group, and the instance among whose groups that stands.
     of: Vec<Standing>,
-    // Of each instance the one among whose groups its own nodes stand: itself, where it isn't open.
+    // Of each instance the one among whose groups its own nodes stand: itself, where it isn't open, else the nearest above that isn't.
     scopes: Vec<usize>,
-    // Of each instance the one among whose groups it stands as a whole: none, where it is open, and of the top.
-    above: Vec<Option<usize>>,
+    // Of each instance the ways up to those among whose groups it stands as a whole: none, where it is open, and of the top.
+    ascents: Vec<Ascent>,
 }
 
 // Whether an instance is of these.
@@ -33,7 +34,7 @@ fn scope_of(scopes: &[usize], instance: InstanceId) -> usize {
     }
 }
 
-// For each instance the one among whose groups its own nodes stand: the nearest above it that isn't open.
+// For each instance the one among whose groups its own nodes stand: itself, where it isn't open, else the nearest above that isn't.
 fn scopes_of(
     alloc: Global,
     rows: &[InstanceName],
@@ -56,7 +57,7 @@ fn scopes_of(
     Ok(scopes)
 }
 
-// For each instance the one among whose groups it stands as a whole.
+// For each instance the one among whose groups it stands as a whole, if any.
 fn above_of(
     alloc: Global,
     rows: &[InstanceName],
@@ -89,7 +90,7 @@ impl Groups {
         division: &Division,
     ) -> Result<Groups, AllocError> {
         let scopes = scopes_of(alloc, rows, division)?;
-        let above = above_of(alloc, rows, division, &scopes)?;
+        let ascents = ascents_of(alloc, &above_of(alloc, rows, division, &scopes)?)?;
         let mut of = Vec::with_capacity(alloc, belongings.len())?;
         for node in 0..belongings.len() {
             let belonging = belongings[node];
@@ -103,7 +104,11 @@ impl Groups {
             let scope = scope_of(&scopes, instance);
             of.push(Standing { group, scope })?;
         }
-        Ok(Groups { of, scopes, above })
+        Ok(Groups {
+            of,
+            scopes,
+            ascents,
+        })
     }
 
     /// How many instances there are.
@@ -139,7 +144,7 @@ impl Groups {
     /// The instance among whose groups one stands.
     pub fn scope(&self, group: usize) -> Option<usize> {
         if let Some(instance) = self.whole_of(group) {
-            return *self.above.get(instance)?;
+            return self.above(instance);
         }
         match group.checked_sub(self.of.len()) {
             Some(instance) => self.scopes.get(instance).copied(),
@@ -147,16 +152,31 @@ impl Groups {
         }
     }
 
-    // Where the instance as a whole stands among whose groups one stands.
-    fn above(&self, standing: Standing) -> Option<Standing> {
-        let scope = self.above.get(standing.scope).copied()??;
-        Some(Standing {
-            group: self.whole(standing.scope),
-            scope,
-        })
+    // The instance among whose groups one stands as a whole.
+    fn above(&self, instance: usize) -> Option<usize> {
+        let ascent = self.ascents.get(instance)?;
+        if ascent.depth == 0 {
+            None
+        } else {
+            Some(ascent.above)
+        }
     }
 
-    /// The groups in which two nodes stand among those of one instance, the innermost that has both. A turn goes up by one instance.
+    // Further up from where something stands, whose instance comes behind another one: to one behind that still, from which it goes up again, whatever
+    // its group is; or else to where its instance stands as a whole.
+    fn up(&self, standing: Standing, behind: usize) -> Option<Standing> {
+        let far = Ascent::of(&self.ascents, standing.scope).far;
+        if behind < far && far < standing.scope {
+            let group = standing.group;
+            return Some(Standing { group, scope: far });
+        }
+        let scope = self.above(standing.scope)?;
+        let group = self.whole(standing.scope);
+        Some(Standing { group, scope })
+    }
+
+    /// The groups in which two nodes stand among those of one instance, the innermost that has both. Turns grow with the logarithm of the instances
+    /// between.
     pub fn meet(&self, node: usize, other: usize) -> Option<(usize, usize)> {
         let mut one = self.standing(node)?;
         let mut two = self.standing(other)?;
@@ -165,9 +185,9 @@ impl Groups {
                 return Some((one.group, two.group));
             }
             if one.scope > two.scope {
-                one = self.above(one)?;
+                one = self.up(one, two.scope)?;
             } else {
-                two = self.above(two)?;
+                two = self.up(two, one.scope)?;
             }
         }
         None

@@ -1,5 +1,6 @@
-// The ranks by which nodes are placed: by the positions of their groups. A group that stands in no circle is placed once all that its nodes wait
-// for is, so that they stand side by side, and in one order for all instances of a module.
+// The ranks by which nodes are placed: names as soon as they can be, since they take no step, and the others by the positions of their groups. A group
+// that stands in no circle is placed once all that its nodes wait for is, so that their steps stand side by side, and in one order for all
+// instances of a module.
 ghost use Rattle.std.specs.Prelude.{◌≡◌, IfOk, length};
 
 use crate::components::{Components, components_of};
@@ -7,13 +8,15 @@ use crate::dividing::{ends_of, opened_in, parted_in};
 use crate::division::Division;
 use crate::group_graph::GroupGraph;
 use crate::groups::Groups;
+use crate::naming::{is_named, names_of};
 use crate::owning::{Belonging, belongings_of};
+use crate::passing_over::graph_over;
 use crate::positions::positions_of;
 use no_memory::NoMemory;
 use std::alloc::{AllocError, Global};
 use typed_ir::{Flat, InstanceName, NodeId};
 
-// How often more is taken apart: the own nodes of instances, then instances that as a whole stand in a circle, then the own nodes of these.
+// How often more is taken apart at most: the own nodes of instances, then instances that as a whole stand in a circle, then the own nodes of these.
 const DIVISIONS: u32 = 3;
 
 // The groups of the nodes, and their components.
@@ -83,16 +86,22 @@ fn position_of(groups: &Groups, positions: &[usize], node: usize) -> usize {
     }
 }
 
-/// The rank of each node of a design. It takes time in proportion to nodes, edges and instances. Want of memory is `NoMemory`.
+/// The rank of each node of a design, whose graph this is. A name has the first. Want of memory is `NoMemory`.
 pub fn ranks_of(alloc: Global, design: &Flat, graph: &[Vec<NodeId>]) -> Result<Vec<usize>, NoMemory>
     ensures { IfOk result (λ ranks. length ranks.items ≡ length design.now.nodes.items) }
 {
     let belongings = belongings_of(alloc, &design.nodes, &design.signals)?;
-    let grouping = grouping_of(alloc, graph, &design.instances.rows, &belongings)?;
+    let names = names_of(alloc, &design.nodes, &design.signals)?;
+    let steps = graph_over(alloc, graph, &names)?;
+    let grouping = grouping_of(alloc, &steps, &design.instances.rows, &belongings)?;
     let positions = positions_of(alloc, &grouping.groups, &grouping.components)?;
     let mut ranks = Vec::with_capacity(alloc, belongings.len())?;
     for node in 0..belongings.len() {
-        let rank = position_of(&grouping.groups, &positions, node);
+        let rank = if is_named(&names, node) {
+            0
+        } else {
+            position_of(&grouping.groups, &positions, node).saturating_add(1)
+        };
         ranks.push(rank)?;
     }
     Ok(ranks)

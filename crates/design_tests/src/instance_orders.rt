@@ -1,5 +1,5 @@
-// Orders of designs with several instances, worked out by hand.
-use crate::orders::{copies, order_within, signal, tied};
+// Orders of designs with several instances, worked out by hand. Each node is a name, `assign TO = FROM;`, or a step, `assign TO = ~FROM;`, of one bit.
+use crate::orders::{copies, inverses, order_within, signal, tied};
 use ls_text::NameId;
 use no_memory::NoMemory;
 use std::alloc::Global;
@@ -43,50 +43,71 @@ fn expect_order_of(
     Ok(())
 }
 
-// The same of nodes `assign TO = FROM;`, one for each pair.
+// Names, and behind them steps: what each drives, and what it reads.
+fn nodes_of(
+    alloc: Global,
+    names: &[(u32, u32)],
+    steps: &[(u32, u32)],
+) -> Result<Vec<Node>, NoMemory> {
+    let mut nodes = copies(alloc, names)?;
+    for node in inverses(alloc, steps)? {
+        nodes.push(node)?;
+    }
+    Ok(nodes)
+}
+
+// The same of these names and steps.
 fn expect_order(
     rt: &impl Abort,
     alloc: Global,
     parents: &[u32],
     instances: &[u32],
-    pairs: &[(u32, u32)],
+    names: &[(u32, u32)],
+    steps: &[(u32, u32)],
     wanted: &[u32],
 ) -> Result<(), NoMemory> {
-    let nodes = copies(alloc, pairs)?;
+    let nodes = nodes_of(alloc, names, steps)?;
     expect_order_of(rt, alloc, parents, instances, nodes, wanted)
 }
 
-// The signals of a top, which are two wires, and of two instances in it, which have x, p, q and r each: p is x, and q is r.
+// The signals of a top, which are two wires, and of two instances in it, which have x, p, q and r each: p is of x, and q of r.
 const STAGES: [u32; 10] = [0, 0, 1, 1, 1, 1, 2, 2, 2, 2];
+
+// Their steps.
+const STAGE_STEPS: [(u32, u32); 4] = [(3, 2), (4, 5), (7, 6), (8, 9)];
 
 // The first instance reads what the second one drives, by a wire of the top: first all of the second one, then all of the first.
 #[test]
 fn an_instance_stands_behind_what_it_waits_for(rt: HostRuntime) -> Result<(), Fail> {
-    // x1 = w, x2 = in, w = p2; p1 = x1, q1 = r1; p2 = x2, q2 = r2
-    let pairs = [(2, 0), (6, 1), (0, 7), (3, 2), (4, 5), (7, 6), (8, 9)];
+    // x1 = w, x2 = in, w = p2
+    let names = [(2, 0), (6, 1), (0, 7)];
+    let wanted = [1, 5, 2, 0, 6, 3, 4];
     expect_order(
         &rt,
         rt.alloc(),
         &[0, 0],
         &STAGES,
-        &pairs,
-        &[1, 5, 6, 2, 0, 3, 4],
+        &names,
+        &STAGE_STEPS,
+        &wanted,
     )?;
     Ok(())
 }
 
-// The second instance reads what the first one drives: nothing of the second stands before the last of the first.
+// The second instance reads what the first one drives: no step of the second stands before the last of the first.
 #[test]
 fn instances_stand_one_behind_the_other(rt: HostRuntime) -> Result<(), Fail> {
-    // x1 = in, x2 = w, w = p1; p1 = x1, q1 = r1; p2 = x2, q2 = r2
-    let pairs = [(2, 1), (6, 0), (0, 3), (3, 2), (4, 5), (7, 6), (8, 9)];
+    // x1 = in, x2 = w, w = p1
+    let names = [(2, 1), (6, 0), (0, 3)];
+    let wanted = [0, 3, 2, 1, 4, 5, 6];
     expect_order(
         &rt,
         rt.alloc(),
         &[0, 0],
         &STAGES,
-        &pairs,
-        &[0, 3, 4, 2, 1, 5, 6],
+        &names,
+        &STAGE_STEPS,
+        &wanted,
     )?;
     Ok(())
 }
@@ -94,24 +115,39 @@ fn instances_stand_one_behind_the_other(rt: HostRuntime) -> Result<(), Fail> {
 // Each instance reads what the other one has: the first begins, and goes on behind all of the second.
 #[test]
 fn two_instances_that_wait_for_each_other(rt: HostRuntime) -> Result<(), Fail> {
-    // x1 = v, w = q1; x2 = w, v = q2; p1 = x1, q1 = r1; p2 = x2, q2 = r2
-    let pairs = [
-        (2, 1),
-        (0, 4),
-        (6, 0),
-        (1, 8),
-        (3, 2),
-        (4, 5),
-        (7, 6),
-        (8, 9),
-    ];
+    // x1 = v, w = q1; x2 = w, v = q2
+    let names = [(2, 1), (0, 4), (6, 0), (1, 8)];
+    let wanted = [5, 1, 2, 6, 7, 3, 0, 4];
     expect_order(
         &rt,
         rt.alloc(),
         &[0, 0],
         &STAGES,
-        &pairs,
-        &[5, 1, 2, 6, 7, 3, 0, 4],
+        &names,
+        &STAGE_STEPS,
+        &wanted,
+    )?;
+    Ok(())
+}
+
+// Each instance reads a register of the other one, by names alone: no step waits, and each stands side by side.
+#[test]
+fn two_instances_that_read_registers_of_each_other(rt: HostRuntime) -> Result<(), Fail> {
+    // w, v; x1, p1, q1, r1, z1; x2, p2, q2, r2, z2
+    let instances = [0, 0, 1, 1, 1, 1, 1, 2, 2, 2, 2, 2];
+    // x1 = v, w = q1; x2 = w, v = q2; q1 = r1, q2 = r2
+    let names = [(2, 1), (0, 4), (7, 0), (1, 9), (4, 5), (9, 10)];
+    // p1 of x1, z1 of r1; p2 of x2, z2 of r2
+    let steps = [(3, 2), (6, 5), (8, 7), (11, 10)];
+    let wanted = [4, 1, 2, 5, 3, 0, 6, 7, 8, 9];
+    expect_order(
+        &rt,
+        rt.alloc(),
+        &[0, 0],
+        &instances,
+        &names,
+        &steps,
+        &wanted,
     )?;
     Ok(())
 }
@@ -119,39 +155,43 @@ fn two_instances_that_wait_for_each_other(rt: HostRuntime) -> Result<(), Fail> {
 // The first two read what the other has, and the third what the first gives: it stands side by side behind the whole circle.
 #[test]
 fn an_instance_behind_two_that_wait_for_each_other(rt: HostRuntime) -> Result<(), Fail> {
+    // v, w, u; x1, p1, q1, r1; x2, p2, q2, r2; x3, p3, q3, r3
     let instances = [0, 0, 0, 1, 1, 1, 1, 2, 2, 2, 2, 3, 3, 3, 3];
-    // x1 = v, w = q1, u = p1; x2 = w, v = q2; x3 = u; p1 = x1, q1 = r1; p2 = x2, q2 = r2; p3 = x3, q3 = r3
-    let pairs = [
-        (3, 0),
-        (1, 5),
-        (2, 4),
-        (7, 1),
-        (0, 9),
-        (11, 2),
-        (4, 3),
-        (5, 6),
-        (8, 7),
-        (9, 10),
-        (12, 11),
-        (13, 14),
-    ];
+    // x1 = v, w = q1, u = p1; x2 = w, v = q2; x3 = u
+    let names = [(3, 0), (1, 5), (2, 4), (7, 1), (0, 9), (11, 2)];
+    // p1 of x1, q1 of r1; p2 of x2, q2 of r2; p3 of x3, q3 of r3
+    let steps = [(4, 3), (5, 6), (8, 7), (9, 10), (12, 11), (13, 14)];
     let wanted = [7, 1, 3, 8, 9, 4, 0, 6, 2, 5, 10, 11];
-    expect_order(&rt, rt.alloc(), &[0, 0, 0], &instances, &pairs, &wanted)?;
+    expect_order(
+        &rt,
+        rt.alloc(),
+        &[0, 0, 0],
+        &instances,
+        &names,
+        &steps,
+        &wanted,
+    )?;
     Ok(())
 }
 
 // The second stands in the first, which hands x on to it and its p back, by names alone.
 #[test]
 fn an_instance_within_another(rt: HostRuntime) -> Result<(), Fail> {
-    // x1 = in, w = p1; x2 = x1, p1 = p2; q1 = r1; p2 = x2, q2 = r2
-    let pairs = [(2, 0), (1, 3), (6, 2), (3, 7), (4, 5), (7, 6), (8, 9)];
+    // in, w; x1, p1, q1, r1; x2, p2, q2, r2
+    let instances = [0, 0, 1, 1, 1, 1, 2, 2, 2, 2];
+    // x1 = in, w = p1; x2 = x1, p1 = p2
+    let names = [(2, 0), (1, 3), (6, 2), (3, 7)];
+    // q1 of r1; p2 of x2, q2 of r2
+    let steps = [(4, 5), (7, 6), (8, 9)];
+    let wanted = [0, 2, 4, 5, 3, 1, 6];
     expect_order(
         &rt,
         rt.alloc(),
         &[0, 1],
-        &STAGES,
-        &pairs,
-        &[0, 2, 4, 5, 6, 3, 1],
+        &instances,
+        &names,
+        &steps,
+        &wanted,
     )?;
     Ok(())
 }
@@ -161,37 +201,75 @@ fn an_instance_within_another(rt: HostRuntime) -> Result<(), Fail> {
 fn a_wire_through_an_instance_within(rt: HostRuntime) -> Result<(), Fail> {
     // in; x1, w1, y1, p1, q1, r1; x2, p2, q2, r2
     let instances = [0, 1, 1, 1, 1, 1, 1, 2, 2, 2, 2];
-    // x1 = in; w1 = x1, p1 = y1, q1 = r1; x2 = w1, y1 = p2; p2 = x2, q2 = r2
-    let pairs = [
-        (1, 0),
-        (2, 1),
-        (4, 3),
-        (5, 6),
-        (7, 2),
-        (3, 8),
-        (8, 7),
-        (9, 10),
-    ];
-    let wanted = [0, 1, 3, 4, 6, 7, 5, 2];
-    expect_order(&rt, rt.alloc(), &[0, 1], &instances, &pairs, &wanted)?;
+    // x1 = in; x2 = w1, y1 = p2
+    let names = [(1, 0), (7, 2), (3, 8)];
+    // w1 of x1, p1 of y1, q1 of r1; p2 of x2, q2 of r2
+    let steps = [(2, 1), (4, 3), (5, 6), (8, 7), (9, 10)];
+    let wanted = [0, 3, 1, 5, 6, 2, 7, 4];
+    expect_order(
+        &rt,
+        rt.alloc(),
+        &[0, 1],
+        &instances,
+        &names,
+        &steps,
+        &wanted,
+    )?;
+    Ok(())
+}
+
+// The first feeds the second, which stands in it, and reads a register of it by a name: no step waits for the second, and each stands side by side.
+#[test]
+fn a_register_of_an_instance_within(rt: HostRuntime) -> Result<(), Fail> {
+    // in; i, u, v, y; x, p, q, r, z
+    let instances = [0, 1, 1, 1, 1, 2, 2, 2, 2, 2];
+    // i = in; x = u, y = q; q = r
+    let names = [(1, 0), (5, 2), (4, 7), (7, 8)];
+    // u of i, v of y; p of x, z of r
+    let steps = [(2, 1), (3, 4), (6, 5), (9, 8)];
+    let wanted = [0, 3, 2, 4, 1, 5, 6, 7];
+    expect_order(
+        &rt,
+        rt.alloc(),
+        &[0, 1],
+        &instances,
+        &names,
+        &steps,
+        &wanted,
+    )?;
+    Ok(())
+}
+
+// The first feeds the second, which stands in it, and reads what that hands back by a name: no step waits for one of the second.
+#[test]
+fn a_name_through_an_instance_within(rt: HostRuntime) -> Result<(), Fail> {
+    // in; i, u, v, y; x, t, p
+    let instances = [0, 1, 1, 1, 1, 2, 2, 2];
+    // i = in; x = u, y = t; t = x
+    let names = [(1, 0), (5, 2), (6, 5), (4, 6)];
+    // u of i; p of x; v of y
+    let steps = [(2, 1), (7, 5), (3, 4)];
+    let wanted = [0, 4, 1, 2, 3, 6, 5];
+    expect_order(
+        &rt,
+        rt.alloc(),
+        &[0, 1],
+        &instances,
+        &names,
+        &steps,
+        &wanted,
+    )?;
     Ok(())
 }
 
 // The second is connected to a constant, and the first to a wire: both stand in one order.
 #[test]
 fn a_constant_changes_no_order(rt: HostRuntime) -> Result<(), Fail> {
-    // p1 = x1, q1 = r1; p2 = x2, q2 = r2; x1 = in, x2 = 0
-    let pairs = [(3, 2), (4, 5), (7, 6), (8, 9), (2, 0)];
-    let mut nodes = copies(rt.alloc(), &pairs)?;
+    // x1 = in; and x2 = 0 behind the others
+    let mut nodes = nodes_of(rt.alloc(), &[(2, 0)], &STAGE_STEPS)?;
     nodes.push(tied(rt.alloc(), 6)?)?;
-    expect_order_of(
-        &rt,
-        rt.alloc(),
-        &[0, 0],
-        &STAGES,
-        nodes,
-        &[4, 0, 1, 5, 2, 3],
-    )?;
+    let wanted = [0, 1, 2, 5, 3, 4];
+    expect_order_of(&rt, rt.alloc(), &[0, 0], &STAGES, nodes, &wanted)?;
     Ok(())
 }
 
@@ -199,58 +277,68 @@ fn a_constant_changes_no_order(rt: HostRuntime) -> Result<(), Fail> {
 const CORES: [u32; 18] = [0, 0, 1, 1, 1, 1, 1, 1, 2, 2, 3, 3, 3, 3, 3, 3, 4, 4];
 
 // Two instances through which a wire goes into one within and back: one behind the other, and both beside each other. Neither stands among the
-// nodes of the other, and both stand in one order.
+// steps of the other, and both stand in one order.
 #[test]
 fn instances_with_others_within(rt: HostRuntime) -> Result<(), Fail> {
+    // of the first and of the second: t of i, z of r, o of y; and within p of x
+    let steps = [
+        (3, 2),
+        (4, 5),
+        (7, 6),
+        (9, 8),
+        (11, 10),
+        (12, 13),
+        (15, 14),
+        (17, 16),
+    ];
     // of the second one its i is w, or in
     for (second, wanted) in [
-        (1, [0, 3, 4, 5, 8, 6, 7, 1, 2, 9, 10, 11, 14, 12, 13]),
-        (0, [0, 2, 3, 4, 5, 8, 6, 7, 1, 9, 10, 11, 14, 12, 13]),
+        (1, [0, 7, 3, 8, 10, 4, 9, 1, 2, 11, 5, 12, 14, 6, 13]),
+        (0, [0, 2, 7, 3, 8, 10, 4, 9, 1, 11, 5, 12, 14, 6, 13]),
     ] {
-        // i1 = in, w = o1, i2; t = i, z = r, x = t, y = p, o = y, and p = x, of the first and of the second
-        let pairs = [
+        // i1 = in, w = o1, i2; x = t, y = p of the first and of the second
+        let names = [
             (2, 0),
             (1, 7),
             (10, second),
-            (3, 2),
-            (4, 5),
             (8, 3),
             (6, 9),
-            (7, 6),
-            (9, 8),
-            (11, 10),
-            (12, 13),
             (16, 11),
             (14, 17),
-            (15, 14),
-            (17, 16),
         ];
-        expect_order(&rt, rt.alloc(), &[0, 1, 0, 3], &CORES, &pairs, &wanted)?;
+        expect_order(
+            &rt,
+            rt.alloc(),
+            &[0, 1, 0, 3],
+            &CORES,
+            &names,
+            &steps,
+            &wanted,
+        )?;
     }
     Ok(())
 }
 
-// A wire of the top goes through the first by one within it, and once more through the first by another one within: each of these stands side by side.
+// A wire of the top goes through the first by one within it, and by a step of the top once more through the first by another one within: each of these
+// stands side by side.
 #[test]
 fn an_instance_that_is_entered_twice(rt: HostRuntime) -> Result<(), Fail> {
     // in, w; a, b, p, q; x1, y1, z1, r1; x2, y2, z2, r2
     let instances = [0, 0, 1, 1, 1, 1, 2, 2, 2, 2, 3, 3, 3, 3];
-    // a = in, w = p, b = w; x1 = a, p = y1, x2 = b, q = y2; y1 = x1, z1 = r1; y2 = x2, z2 = r2
-    let pairs = [
-        (2, 0),
-        (1, 4),
-        (3, 1),
-        (6, 2),
-        (4, 7),
-        (10, 3),
-        (5, 11),
-        (7, 6),
-        (8, 9),
-        (11, 10),
-        (12, 13),
-    ];
-    let wanted = [0, 3, 7, 8, 4, 1, 2, 5, 9, 10, 6];
-    expect_order(&rt, rt.alloc(), &[0, 1, 1], &instances, &pairs, &wanted)?;
+    // a = in, b = w; x1 = a, p = y1, x2 = b, q = y2
+    let names = [(2, 0), (3, 1), (6, 2), (4, 7), (10, 3), (5, 11)];
+    // w of p; y1 of x1, z1 of r1; y2 of x2, z2 of r2
+    let steps = [(1, 4), (7, 6), (8, 9), (11, 10), (12, 13)];
+    let wanted = [0, 2, 7, 3, 8, 6, 1, 4, 9, 5, 10];
+    expect_order(
+        &rt,
+        rt.alloc(),
+        &[0, 1, 1],
+        &instances,
+        &names,
+        &steps,
+        &wanted,
+    )?;
     Ok(())
 }
 
@@ -260,22 +348,69 @@ fn an_instance_that_is_entered_twice(rt: HostRuntime) -> Result<(), Fail> {
 fn circles_are_taken_apart_in_three_turns(rt: HostRuntime) -> Result<(), Fail> {
     // u; a, b, c, d, e; x2, p2; x3, p3; f, g, h, k
     let instances = [0, 1, 1, 1, 1, 1, 2, 2, 3, 3, 0, 0, 0, 0];
-    // x3 = f; b = p2; k = g; g = p3; a = u; d = e; p3 = x3; x2 = d; u = b; c = a; p2 = x2; f = h
-    let pairs = [
-        (8, 10),
-        (2, 7),
-        (13, 11),
-        (11, 9),
-        (1, 0),
-        (4, 5),
-        (9, 8),
-        (6, 4),
-        (0, 2),
-        (3, 1),
-        (7, 6),
-        (10, 12),
+    // x3 = f; b = p2; g = p3; a = u; x2 = d
+    let names = [(8, 10), (2, 7), (11, 9), (1, 0), (6, 4)];
+    // k of g; d of e; p3 of x3; u of b; c of a; p2 of x2; f of h
+    let steps = [(13, 11), (4, 5), (9, 8), (0, 2), (3, 1), (7, 6), (10, 12)];
+    let wanted = [6, 4, 11, 0, 10, 1, 8, 3, 9, 7, 2, 5];
+    expect_order(
+        &rt,
+        rt.alloc(),
+        &[0, 1, 0],
+        &instances,
+        &names,
+        &steps,
+        &wanted,
+    )?;
+    Ok(())
+}
+
+// A step in the innermost of five instances, each in the one before, waits for one in the innermost of five others, by names alone: first all of those.
+#[test]
+fn names_through_many_instances(rt: HostRuntime) -> Result<(), Fail> {
+    let instances = [
+        0, 1, 1, 1, 2, 2, 2, 3, 3, 3, 4, 4, 4, 5, 5, 5, 6, 6, 6, 7, 7, 7, 8, 8, 8, 9, 9, 9, 10, 10,
+        10,
     ];
-    let wanted = [5, 7, 11, 0, 10, 1, 8, 4, 9, 6, 3, 2];
-    expect_order(&rt, rt.alloc(), &[0, 1, 0], &instances, &pairs, &wanted)?;
+    // w; and of each instance x, z and r: x9 = x10, x8 = x9, x7 = x8, x6 = x7; w = x6; x1 = w, x2 = x1, x3 = x2, x4 = x3, x5 = x4
+    let names = [
+        (25, 28),
+        (22, 25),
+        (19, 22),
+        (16, 19),
+        (0, 16),
+        (1, 0),
+        (4, 1),
+        (7, 4),
+        (10, 7),
+        (13, 10),
+    ];
+    // z1 of r1, z2 of r2, z3 of r3, z4 of r4, z5 of x5; z6 of r6, z7 of r7, z8 of r8, z9 of r9, z10 of r10, x10 of z10
+    let steps = [
+        (2, 3),
+        (5, 6),
+        (8, 9),
+        (11, 12),
+        (14, 13),
+        (17, 18),
+        (20, 21),
+        (23, 24),
+        (26, 27),
+        (29, 30),
+        (28, 29),
+    ];
+    let wanted = [
+        15, 16, 17, 18, 19, 20, 0, 1, 2, 3, 4, 5, 6, 7, 8, 9, 10, 11, 12, 13, 14,
+    ];
+    let parents = [0, 1, 2, 3, 4, 0, 6, 7, 8, 9];
+    expect_order(
+        &rt,
+        rt.alloc(),
+        &parents,
+        &instances,
+        &names,
+        &steps,
+        &wanted,
+    )?;
     Ok(())
 }

@@ -10,7 +10,7 @@ use std::process::Abort;
 use std::test::Fail;
 use typed_ir::{
     ArithmeticOperator, BinaryOperator, Flat, InstanceId, InstanceTable, Lane, Node, NodeId,
-    Signal, SignalId, Span, TargetForm, Typed,
+    Signal, SignalId, Span, TargetForm, Typed, UnaryOperator,
 };
 
 pub fn bit(number: u32, low: u8) -> Span
@@ -40,6 +40,17 @@ pub fn copies(alloc: Global, pairs: &[(u32, u32)]) -> Result<Vec<Node>, NoMemory
     let mut nodes = Vec::new(alloc);
     for (to, from) in pairs {
         nodes.push(assign(alloc, bit(*to, 0), Typed::name(SignalId(*from), 1))?)?;
+    }
+    Ok(nodes)
+}
+
+// assign TO = ~FROM; both of one bit, for each pair
+pub fn inverses(alloc: Global, pairs: &[(u32, u32)]) -> Result<Vec<Node>, NoMemory> {
+    let mut nodes = Vec::new(alloc);
+    for (to, from) in pairs {
+        let name = Typed::name(SignalId(*from), 1);
+        let value = Typed::unary(alloc, UnaryOperator::Inverse, name)?;
+        nodes.push(assign(alloc, bit(*to, 0), value)?)?;
     }
     Ok(nodes)
 }
