@@ -8,8 +8,8 @@ pub struct Ascent {
     pub depth: usize,
     /// The one above it.
     pub above: usize,
-    /// One that is further up. These are chosen so that each instance above is reached in a number of turns that grows with the logarithm of the
-    /// depth.
+    /// One that is further up. These are chosen so that each instance above is reached in a number of turns that grows with the logarithm
+    /// of the depth.
     pub far: usize,
 }
 
@@ -31,7 +31,8 @@ impl Ascent {
         }
     }
 
-    // The ways up from an instance behind the one above it. Where two ways far up from there are of one length, both make the way far up from here.
+    // The ways up from an instance behind the one above it. Where two ways far up from there are of one length, both make the way far up
+    // from here.
     fn behind(ascents: &[Ascent], above: usize) -> Ascent {
         let near = Ascent::of(ascents, above);
         let middle = Ascent::of(ascents, near.far);

@@ -52,7 +52,7 @@ fn number_at(least: &[usize], component: Option<usize>) -> usize {
     }
 }
 
-/// Whether the own nodes of each instance stand in a circle with what stands in it, so that they can't stand side by side while that one does, with all in it.
+/// Whether the own nodes of each instance stand in a circle with what stands in it, so that they can't stand side by side while that does.
 pub fn parted_in(
     alloc: Global,
     groups: &Groups,

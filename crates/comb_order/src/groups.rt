@@ -162,8 +162,8 @@ impl Groups {
         }
     }
 
-    // Further up from where something stands, whose instance comes behind another one: to one behind that still, from which it goes up again, whatever
-    // its group is; or else to where its instance stands as a whole.
+    // Further up from where something stands, whose instance comes behind another one: to one behind that still, from which it goes up
+    // again, whatever its group is; or else to where its instance stands as a whole.
     fn up(&self, standing: Standing, behind: usize) -> Option<Standing> {
         let far = Ascent::of(&self.ascents, standing.scope).far;
         if behind < far && far < standing.scope {
@@ -175,8 +175,8 @@ impl Groups {
         Some(Standing { group, scope })
     }
 
-    /// The groups in which two nodes stand among those of one instance, the innermost that has both. Turns grow with the logarithm of the instances
-    /// between.
+    /// The groups in which two nodes stand among those of one instance, the innermost that has both. Turns grow with the logarithm of the
+    /// instances between.
     pub fn meet(&self, node: usize, other: usize) -> Option<(usize, usize)> {
         let mut one = self.standing(node)?;
         let mut two = self.standing(other)?;

@@ -1,5 +1,5 @@
-// The graph of the nodes that take a step. A name takes none, so what reads it waits for what drives the signal that it names; and where that
-// is a register or an input, for nothing.
+// The graph of the nodes that take a step. A name takes none, so what reads it waits for what drives the signal that it names; and where
+// that is a register or an input, for nothing.
 use crate::naming::is_named;
 use std::alloc::{AllocError, Global};
 use typed_ir::NodeId;
@@ -13,16 +13,8 @@ fn edges_in(graph: &[Vec<NodeId>]) -> usize {
     edges
 }
 
-// Puts the nodes of a row behind others.
-fn append(row: &[NodeId], nodes: &mut Vec<NodeId>) -> Result<(), AllocError> {
-    for node in row {
-        nodes.push(*node)?;
-    }
-    Ok(())
-}
-
-// Those that wait for a node directly, or for names of what it drives. Behind a node the names make a tree, since each names one signal and no
-// bit has two drivers; so each edge has one turn at most.
+// Those that wait for a node directly, or for names of what it drives. Behind a node the names make a tree, since each names one signal
+// and no bit has two drivers; so each edge has one turn at most.
 fn row_over(
     alloc: Global,
     graph: &[Vec<NodeId>],
@@ -32,14 +24,14 @@ fn row_over(
 ) -> Result<Vec<NodeId>, AllocError> {
     let mut row = Vec::with_capacity(alloc, from.len())?;
     let mut next = Vec::with_capacity(alloc, from.len())?;
-    append(from, &mut next)?;
+    next.extend_from_slice(from)?;
     for _turn in 0..turns {
         match next.pop() {
             Some(node) => {
                 if !is_named(names, node.index()) {
                     row.push(node)?;
                 } else if let Some(further) = graph.get(node.index()) {
-                    append(further, &mut next)?;
+                    next.extend_from_slice(further)?;
                 }
             }
             None => break,
@@ -48,8 +40,8 @@ fn row_over(
     Ok(row)
 }
 
-/// The graph of the nodes that aren't names: an edge where one waits for another directly or by names alone. A name has no edge. Each name costs a turn
-/// for each node that drives bits of the signal at its root.
+/// The graph of the nodes that aren't names: an edge where one waits for another directly or by names alone. A name has no edge. Each name
+/// costs a turn for each node that drives bits of the signal at its root.
 pub fn graph_over(
     alloc: Global,
     graph: &[Vec<NodeId>],

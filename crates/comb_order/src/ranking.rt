@@ -1,6 +1,6 @@
-// The ranks by which nodes are placed: names as soon as they can be, since they take no step, and the others by the positions of their groups. A group
-// that stands in no circle is placed once all that its nodes wait for is, so that their steps stand side by side, and in one order for all
-// instances of a module.
+// The ranks by which nodes are placed: names as soon as they can be, since they take no step, and the others by the positions of their
+// groups. A group that stands in no circle is placed once all that its nodes wait for is, so that their steps stand side by side, and in
+// one order for all instances of a module.
 ghost use Rattle.std.specs.Prelude.{◌≡◌, IfOk, length};
 
 use crate::components::{Components, components_of};
@@ -16,7 +16,8 @@ use no_memory::NoMemory;
 use std::alloc::{AllocError, Global};
 use typed_ir::{Flat, InstanceName, NodeId};
 
-// How often more is taken apart at most: the own nodes of instances, then instances that as a whole stand in a circle, then the own nodes of these.
+// How often more is taken apart at most: the own nodes of instances, then instances that as a whole stand in a circle, then the own nodes
+// of these.
 const DIVISIONS: u32 = 3;
 
 // The groups of the nodes, and their components.

@@ -1,4 +1,5 @@
-// Orders of designs with several instances, worked out by hand. Each node is a name, `assign TO = FROM;`, or a step, `assign TO = ~FROM;`, of one bit.
+// Orders of designs with several instances, worked out by hand. Each node is a name, `assign TO = FROM;`, or a step, `assign TO =
+// ~FROM;`, of one bit.
 use crate::orders::{copies, inverses, order_within, signal, tied};
 use ls_text::NameId;
 use no_memory::NoMemory;
@@ -218,7 +219,8 @@ fn a_wire_through_an_instance_within(rt: HostRuntime) -> Result<(), Fail> {
     Ok(())
 }
 
-// The first feeds the second, which stands in it, and reads a register of it by a name: no step waits for the second, and each stands side by side.
+// The first feeds the second, which stands in it, and reads a register of it by a name: no step waits for the second, and each stands
+// side by side.
 #[test]
 fn a_register_of_an_instance_within(rt: HostRuntime) -> Result<(), Fail> {
     // in; i, u, v, y; x, p, q, r, z
@@ -273,11 +275,12 @@ fn a_constant_changes_no_order(rt: HostRuntime) -> Result<(), Fail> {
     Ok(())
 }
 
-// The signals of a top, which are two wires, and of two instances in it, of i, t, z, r, y and o each, and in each of these one of x and p.
+// The signals of a top, which are two wires, and of two instances in it, of i, t, z, r, y and o each, and in each of these one of x and
+// p.
 const CORES: [u32; 18] = [0, 0, 1, 1, 1, 1, 1, 1, 2, 2, 3, 3, 3, 3, 3, 3, 4, 4];
 
-// Two instances through which a wire goes into one within and back: one behind the other, and both beside each other. Neither stands among the
-// steps of the other, and both stand in one order.
+// Two instances through which a wire goes into one within and back: one behind the other, and both beside each other. Neither stands
+// among the steps of the other, and both stand in one order.
 #[test]
 fn instances_with_others_within(rt: HostRuntime) -> Result<(), Fail> {
     // of the first and of the second: t of i, z of r, o of y; and within p of x
@@ -319,8 +322,8 @@ fn instances_with_others_within(rt: HostRuntime) -> Result<(), Fail> {
     Ok(())
 }
 
-// A wire of the top goes through the first by one within it, and by a step of the top once more through the first by another one within: each of these
-// stands side by side.
+// A wire of the top goes through the first by one within it, and by a step of the top once more through the first by another one within:
+// each of these stands side by side.
 #[test]
 fn an_instance_that_is_entered_twice(rt: HostRuntime) -> Result<(), Fail> {
     // in, w; a, b, p, q; x1, y1, z1, r1; x2, y2, z2, r2
@@ -342,8 +345,8 @@ fn an_instance_that_is_entered_twice(rt: HostRuntime) -> Result<(), Fail> {
     Ok(())
 }
 
-// The top's own nodes wait for the third instance, which waits for them, and fall apart; the first waits as a whole for what waits for it, and is opened; and
-// then its own nodes share a component with the second, which stands in it, and fall apart too.
+// The top's own nodes wait for the third instance, which waits for them, and fall apart; the first waits as a whole for what waits for
+// it, and is opened; and then its own nodes share a component with the second, which stands in it, and fall apart too.
 #[test]
 fn circles_are_taken_apart_in_three_turns(rt: HostRuntime) -> Result<(), Fail> {
     // u; a, b, c, d, e; x2, p2; x3, p3; f, g, h, k
@@ -365,7 +368,8 @@ fn circles_are_taken_apart_in_three_turns(rt: HostRuntime) -> Result<(), Fail> {
     Ok(())
 }
 
-// A step in the innermost of five instances, each in the one before, waits for one in the innermost of five others, by names alone: first all of those.
+// A step in the innermost of five instances, each in the one before, waits for one in the innermost of five others, by names alone: first
+// all of those.
 #[test]
 fn names_through_many_instances(rt: HostRuntime) -> Result<(), Fail> {
     let instances = [
