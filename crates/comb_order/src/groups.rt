@@ -1,6 +1,5 @@
 // Nodes in groups. A node alone is one, the own nodes of an instance are one (`Belonging`), and so is an instance with all that stands in
 // it, among the groups of the one above. Groups are counted over the nodes, then the instances by their own nodes, then the whole instances.
-use crate::ascent::{Ascent, ascents_of};
 use crate::division::Division;
 use crate::owning::Belonging;
 use crate::standing::Standing;
@@ -14,8 +13,8 @@ pub struct Groups {
     of: Vec<Standing>,
     // Of each instance the one among whose groups its own nodes stand: itself, where it isn't open, else the nearest above that isn't.
     scopes: Vec<usize>,
-    // Of each instance the ways up to those among whose groups it stands as a whole: none, where it is open, and of the top.
-    ascents: Vec<Ascent>,
+    // Of each instance the one among whose groups it stands as a whole: none, where it is open, and of the top.
+    above: Vec<Option<usize>>,
 }
 
 // Whether an instance is of these.
@@ -90,7 +89,7 @@ impl Groups {
         division: &Division,
     ) -> Result<Groups, AllocError> {
         let scopes = scopes_of(alloc, rows, division)?;
-        let ascents = ascents_of(alloc, &above_of(alloc, rows, division, &scopes)?)?;
+        let above = above_of(alloc, rows, division, &scopes)?;
         let mut of = Vec::with_capacity(alloc, belongings.len())?;
         for node in 0..belongings.len() {
             let belonging = belongings[node];
@@ -104,11 +103,7 @@ impl Groups {
             let scope = scope_of(&scopes, instance);
             of.push(Standing { group, scope })?;
         }
-        Ok(Groups {
-            of,
-            scopes,
-            ascents,
-        })
+        Ok(Groups { of, scopes, above })
     }
 
     /// How many instances there are.
@@ -144,7 +139,7 @@ impl Groups {
     /// The instance among whose groups one stands.
     pub fn scope(&self, group: usize) -> Option<usize> {
         if let Some(instance) = self.whole_of(group) {
-            return self.above(instance);
+            return *self.above.get(instance)?;
         }
         match group.checked_sub(self.of.len()) {
             Some(instance) => self.scopes.get(instance).copied(),
@@ -152,31 +147,16 @@ impl Groups {
         }
     }
 
-    // The instance among whose groups one stands as a whole.
-    fn above(&self, instance: usize) -> Option<usize> {
-        let ascent = self.ascents.get(instance)?;
-        if ascent.depth == 0 {
-            None
-        } else {
-            Some(ascent.above)
-        }
+    // Where the instance as a whole stands among whose groups one stands.
+    fn above(&self, standing: Standing) -> Option<Standing> {
+        let scope = self.above.get(standing.scope).copied()??;
+        Some(Standing {
+            group: self.whole(standing.scope),
+            scope,
+        })
     }
 
-    // Further up from where something stands, whose instance comes behind another one: to one behind that still, from which it goes up
-    // again, whatever its group is; or else to where its instance stands as a whole.
-    fn up(&self, standing: Standing, behind: usize) -> Option<Standing> {
-        let far = Ascent::of(&self.ascents, standing.scope).far;
-        if behind < far && far < standing.scope {
-            let group = standing.group;
-            return Some(Standing { group, scope: far });
-        }
-        let scope = self.above(standing.scope)?;
-        let group = self.whole(standing.scope);
-        Some(Standing { group, scope })
-    }
-
-    /// The groups in which two nodes stand among those of one instance, the innermost that has both. Turns grow with the logarithm of the
-    /// instances between.
+    /// The groups in which two nodes stand among those of one instance, the innermost that has both. A turn goes up by one instance.
     pub fn meet(&self, node: usize, other: usize) -> Option<(usize, usize)> {
         let mut one = self.standing(node)?;
         let mut two = self.standing(other)?;
@@ -185,9 +165,9 @@ impl Groups {
                 return Some((one.group, two.group));
             }
             if one.scope > two.scope {
-                one = self.up(one, two.scope)?;
+                one = self.above(one)?;
             } else {
-                two = self.up(two, one.scope)?;
+                two = self.above(two)?;
             }
         }
         None

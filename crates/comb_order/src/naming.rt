@@ -1,6 +1,6 @@
-// Nodes that only give a signal another name: they take no step in a cycle (`naming` of design_steps has the same rule).
+// Nodes that only give a signal another name: they take no step in a cycle. (`naming` of design_steps has the same rule, with a clause.)
 use std::alloc::{AllocError, Global};
-use typed_ir::{Form, Lane, Node, Signal, SignalId};
+use typed_ir::{Form, Lane, Node, NodeId, Signal, SignalId};
 
 // Whether a signal is there with this width, in bits.
 fn has_width(signal: SignalId, width: u8, signals: &[Signal]) -> bool {
@@ -34,15 +34,34 @@ fn is_name(node: &Node, signals: &[Signal]) -> bool {
     }
 }
 
-/// Whether each node only gives a signal another name.
+// Marks the nodes of a row: one node comes before each of them. A node that was marked before has several before it, and is no name.
+fn mark_row(row: &[NodeId], marks: &mut [bool], names: &mut [bool]) {
+    for node in row {
+        let place = node.index();
+        if place < marks.len() && place < names.len() {
+            if marks[place] {
+                names[place] = false;
+            }
+            marks[place] = true;
+        }
+    }
+}
+
+/// Whether each node only gives another name to a signal that at most one node drives. A name of a signal that several nodes drive counts as
+/// a node like others: so there are no more edges over names than edges.
 pub fn names_of(
     alloc: Global,
     nodes: &[Node],
     signals: &[Signal],
+    graph: &[Vec<NodeId>],
 ) -> Result<Vec<bool>, AllocError> {
     let mut names = Vec::with_capacity(alloc, nodes.len())?;
     for node in nodes {
         names.push(is_name(node, signals))?;
+    }
+    let mut marks = vec![in alloc; false; nodes.len()]?;
+    for row in graph {
+        mark_row(row, &mut marks, &mut names);
     }
     Ok(names)
 }

@@ -1,5 +1,5 @@
-// The graph of the nodes that take a step. A name takes none, so what reads it waits for what drives the signal that it names; and where
-// that is a register or an input, for nothing.
+// The graph of the nodes that aren't names. A name takes no step, so what reads it waits for what drives the signal that it names; and
+// where no node drives that, as with a register or an input, for nothing.
 use crate::naming::is_named;
 use std::alloc::{AllocError, Global};
 use typed_ir::NodeId;
@@ -13,8 +13,8 @@ fn edges_in(graph: &[Vec<NodeId>]) -> usize {
     edges
 }
 
-// Those that wait for a node directly, or for names of what it drives. Behind a node the names make a tree, since each names one signal
-// and no bit has two drivers; so each edge has one turn at most.
+// Those that wait for a node directly, or for names of what it drives. At most one node comes before a name, so behind a node that isn't one
+// the names make a tree, which no circle of names is part of, and each edge has one turn at most.
 fn row_over(
     alloc: Global,
     graph: &[Vec<NodeId>],
@@ -40,8 +40,8 @@ fn row_over(
     Ok(row)
 }
 
-/// The graph of the nodes that aren't names: an edge where one waits for another directly or by names alone. A name has no edge. Each name
-/// costs a turn for each node that drives bits of the signal at its root.
+/// The graph of the nodes that aren't names: an edge where one waits for another directly or by names alone. A name has no edge. There are no
+/// more edges than in the whole graph, and it takes time in proportion to those.
 pub fn graph_over(
     alloc: Global,
     graph: &[Vec<NodeId>],

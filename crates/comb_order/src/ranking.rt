@@ -1,6 +1,6 @@
 // The ranks by which nodes are placed: names as soon as they can be, since they take no step, and the others by the positions of their
 // groups. A group that stands in no circle is placed once all that its nodes wait for is, so that their steps stand side by side, and in
-// one order for all instances of a module.
+// one order for all instances of a unit, unless names outside lead from what one of these drives back to it.
 ghost use Rattle.std.specs.Prelude.{◌≡◌, IfOk, length};
 
 use crate::components::{Components, components_of};
@@ -87,12 +87,13 @@ fn position_of(groups: &Groups, positions: &[usize], node: usize) -> usize {
     }
 }
 
-/// The rank of each node of a design, whose graph this is. A name has the first. Want of memory is `NoMemory`.
+/// The rank of each node of a design, whose graph this is. A name has the first. It takes time in proportion to nodes, instances and edges,
+/// an edge as many turns as instances lie between its nodes and the one that has both. Want of memory is `NoMemory`.
 pub fn ranks_of(alloc: Global, design: &Flat, graph: &[Vec<NodeId>]) -> Result<Vec<usize>, NoMemory>
     ensures { IfOk result (λ ranks. length ranks.items ≡ length design.now.nodes.items) }
 {
     let belongings = belongings_of(alloc, &design.nodes, &design.signals)?;
-    let names = names_of(alloc, &design.nodes, &design.signals)?;
+    let names = names_of(alloc, &design.nodes, &design.signals, graph)?;
     let steps = graph_over(alloc, graph, &names)?;
     let grouping = grouping_of(alloc, &steps, &design.instances.rows, &belongings)?;
     let positions = positions_of(alloc, &grouping.groups, &grouping.components)?;
