@@ -25,7 +25,7 @@ pub fn bit(number: u32, low: u8) -> Span
 }
 
 // A continuous assignment to these bits.
-fn assign(alloc: Global, span: Span, e: Typed) -> Result<Node, NoMemory> {
+pub fn assign(alloc: Global, span: Span, e: Typed) -> Result<Node, NoMemory> {
     let mut lanes = Vec::new(alloc);
     lanes.push(Lane { shift: 0, span })?;
     Ok(Node::Drive {
@@ -61,7 +61,7 @@ pub fn tied(alloc: Global, to: u32) -> Result<Node, NoMemory> {
 }
 
 // assign TO[I] = FROM[J]; for each line of the table: TO, I, FROM and J
-fn bit_copies(
+pub fn bit_copies(
     rt: &impl Abort,
     alloc: Global,
     table: &[(u32, u8, u32, u8)],
@@ -143,7 +143,7 @@ fn answer(
     order_within(rt, alloc, top, signals, nodes)
 }
 
-// That this is the order: of the nodes that can be next, which all read, the least number is.
+// That this is the order.
 fn expect_order(
     rt: &impl Abort,
     alloc: Global,
@@ -173,7 +173,7 @@ fn expect_loop(
 
 #[test]
 fn a_chain_written_backwards(rt: HostRuntime) -> Result<(), Fail> {
-    let nodes = copies(rt.alloc(), &[(3, 2), (2, 1), (1, 0)])?;
+    let nodes = inverses(rt.alloc(), &[(3, 2), (2, 1), (1, 0)])?;
     expect_order(&rt, rt.alloc(), &[1; 4], nodes, &[2, 1, 0])?;
     Ok(())
 }
@@ -197,7 +197,7 @@ fn least_number_first(rt: HostRuntime) -> Result<(), Fail> {
         ),
     ];
     for (pairs, wanted) in table {
-        let nodes = copies(rt.alloc(), &pairs)?;
+        let nodes = inverses(rt.alloc(), &pairs)?;
         expect_order(&rt, rt.alloc(), &[1; 8], nodes, &wanted)?;
     }
     Ok(())
