@@ -1,9 +1,9 @@
 // What comes before what, of groups.
 use crate::groups::Groups;
+use crate::units::like_of;
 use std::alloc::{AllocError, Global};
-use typed_ir::NodeId;
 
-/// Which groups come after a group and which before it: each once for each edge between nodes of theirs.
+/// Which groups come after a group and which before it. One may stand there several times.
 #[derive(Drop)]
 pub struct GroupGraph {
     pub after: Vec<Vec<usize>>,
@@ -28,31 +28,47 @@ pub fn note(rows: &mut [Vec<usize>], at: usize, number: usize) -> Result<(), All
 }
 
 impl GroupGraph {
-    /// The graph of the groups of a graph's nodes. An edge is one between groups of the innermost instance that has both nodes.
+    // A graph of so many groups without edges.
+    fn empty(alloc: Global, count: usize) -> Result<GroupGraph, AllocError> {
+        let after = empty_rows(alloc, count)?;
+        let before = empty_rows(alloc, count)?;
+        Ok(GroupGraph { after, before })
+    }
+
+    /// The graph of the groups of a graph's nodes. An edge is one between groups of the innermost scope that has both nodes.
     pub fn new(
         alloc: Global,
-        graph: &[Vec<NodeId>],
+        graph: &[Vec<usize>],
         groups: &Groups,
     ) -> Result<GroupGraph, AllocError> {
-        let after = empty_rows(alloc, groups.count())?;
-        let before = empty_rows(alloc, groups.count())?;
-        let mut between = GroupGraph { after, before };
+        let mut between = GroupGraph::empty(alloc, groups.count())?;
         for node in 0..graph.len() {
-            between.note_row(node, &graph[node], groups)?;
+            for other in &graph[node] {
+                if let Some((one, two)) = groups.meet(node, *other) {
+                    between.add(one, two)?;
+                }
+            }
         }
         Ok(between)
     }
 
-    // The edges from a node.
-    fn note_row(&mut self, from: usize, row: &[NodeId], groups: &Groups) -> Result<(), AllocError> {
-        for node in row {
-            if let Some((one, two)) = groups.meet(from, node.index()) {
-                if one != two {
-                    note(&mut self.after, one, two)?;
-                    note(&mut self.before, two, one)?;
-                }
-            }
+    /// One more edge, where the groups are two.
+    pub fn add(&mut self, one: usize, two: usize) -> Result<(), AllocError> {
+        if one != two {
+            note(&mut self.after, one, two)?;
+            note(&mut self.before, two, one)?;
         }
         Ok(())
+    }
+
+    /// The edges of all instances of a unit, as edges of the first one. `likes` has for each group the one that stands for it there.
+    pub fn united(&self, alloc: Global, likes: &[usize]) -> Result<GroupGraph, AllocError> {
+        let mut united = GroupGraph::empty(alloc, self.after.len())?;
+        for one in 0..self.after.len() {
+            for two in &self.after[one] {
+                united.add(like_of(likes, one), like_of(likes, *two))?;
+            }
+        }
+        Ok(united)
     }
 }

@@ -1,5 +1,7 @@
-// Nodes in groups. A node alone is one, the own nodes of an instance are one (`Belonging`), and so is an instance with all that stands in
-// it, among the groups of the one above. Groups are counted over the nodes, then the instances by their own nodes, then the whole instances.
+// Nodes in groups. A node is one, the own nodes of an instance are one (`Belonging`), and so is an instance with all that stands in it, among the
+// groups of the one above. Own nodes stand in the group of these, and among the instance's other groups where they are apart (`Division`).
+// Groups are counted over the nodes, then the instances by their own nodes, then the whole instances. What groups stand in is a scope: scopes
+// are counted over the instances, and then over these by their own nodes.
 use crate::division::Division;
 use crate::owning::Belonging;
 use crate::standing::Standing;
@@ -9,9 +11,9 @@ use typed_ir::{InstanceId, InstanceName};
 /// The groups of a design's nodes.
 #[derive(Drop)]
 pub struct Groups {
-    // Of each node its group, and the instance among whose groups that stands.
-    of: Vec<Standing>,
-    // Of each instance the one among whose groups its own nodes stand: itself, where it isn't open, else the nearest above that isn't.
+    // Of each node the scope that it stands in.
+    of: Vec<usize>,
+    // Of each instance the one among whose groups that of its own nodes stands: itself, where it isn't open, else the nearest above that isn't.
     scopes: Vec<usize>,
     // Of each instance the one among whose groups it stands as a whole: none, where it is open, and of the top.
     above: Vec<Option<usize>>,
@@ -25,7 +27,7 @@ fn is_of(flags: &[bool], instance: usize) -> bool {
     }
 }
 
-// The instance among whose groups those of another one stand.
+// The instance among whose groups those of another one stand, by such a list.
 fn scope_of(scopes: &[usize], instance: InstanceId) -> usize {
     match scopes.get(instance.index()) {
         Some(scope) => *scope,
@@ -33,7 +35,7 @@ fn scope_of(scopes: &[usize], instance: InstanceId) -> usize {
     }
 }
 
-// For each instance the one among whose groups its own nodes stand: itself, where it isn't open, else the nearest above that isn't.
+// For each instance the one among whose groups that of its own nodes stands: itself, where it isn't open, else the nearest above that isn't.
 fn scopes_of(
     alloc: Global,
     rows: &[InstanceName],
@@ -91,17 +93,14 @@ impl Groups {
         let scopes = scopes_of(alloc, rows, division)?;
         let above = above_of(alloc, rows, division, &scopes)?;
         let mut of = Vec::with_capacity(alloc, belongings.len())?;
-        for node in 0..belongings.len() {
-            let belonging = belongings[node];
-            let instance = belonging.instance;
-            let is_one = belonging.is_own && !is_of(&division.apart, instance.index());
-            let group = if is_one {
-                belongings.len().saturating_add(instance.index())
+        for belonging in belongings {
+            let instance = belonging.instance.index();
+            let is_one = belonging.is_own && !is_of(&division.apart, instance);
+            of.push(if is_one {
+                rows.len().saturating_add(instance)
             } else {
-                node
-            };
-            let scope = scope_of(&scopes, instance);
-            of.push(Standing { group, scope })?;
+                scope_of(&scopes, belonging.instance)
+            })?;
         }
         Ok(Groups { of, scopes, above })
     }
@@ -109,6 +108,11 @@ impl Groups {
     /// How many instances there are.
     pub fn instances(&self) -> usize {
         self.scopes.len()
+    }
+
+    /// How many scopes there are.
+    pub fn scope_count(&self) -> usize {
+        self.instances().saturating_mul(2)
     }
 
     /// How many groups there are.
@@ -126,37 +130,57 @@ impl Groups {
         self.own(self.instances()).saturating_add(instance)
     }
 
-    /// The instance that a group is as a whole.
-    pub fn whole_of(&self, group: usize) -> Option<usize> {
-        group.checked_sub(self.whole(0))
+    /// The scope that a group is, where it isn't a node.
+    pub fn inside(&self, group: usize) -> Option<usize> {
+        match group.checked_sub(self.whole(0)) {
+            Some(instance) => Some(instance),
+            None => Some(
+                group
+                    .checked_sub(self.own(0))?
+                    .saturating_add(self.instances()),
+            ),
+        }
     }
 
-    /// Where a node stands.
-    pub fn standing(&self, node: usize) -> Option<Standing> {
-        self.of.get(node).copied()
+    /// The instance of a scope: the one that it is, or whose own nodes it holds.
+    pub fn instance_of(&self, scope: usize) -> usize {
+        match scope.checked_sub(self.instances()) {
+            Some(instance) => instance,
+            None => scope,
+        }
     }
 
-    /// The instance among whose groups one stands.
+    // The group that a scope is, and where that stands.
+    fn around(&self, scope: usize) -> Option<Standing> {
+        match scope.checked_sub(self.instances()) {
+            Some(instance) => Some(Standing {
+                group: self.own(instance),
+                scope: self.scopes.get(instance).copied()?,
+            }),
+            None => Some(Standing {
+                group: self.whole(scope),
+                scope: self.above.get(scope).copied()??,
+            }),
+        }
+    }
+
+    /// The scope that a group stands in.
     pub fn scope(&self, group: usize) -> Option<usize> {
-        if let Some(instance) = self.whole_of(group) {
-            return *self.above.get(instance)?;
-        }
-        match group.checked_sub(self.of.len()) {
-            Some(instance) => self.scopes.get(instance).copied(),
-            None => Some(self.of.get(group)?.scope),
+        match self.inside(group) {
+            Some(scope) => Some(self.around(scope)?.scope),
+            None => self.of.get(group).copied(),
         }
     }
 
-    // Where the instance as a whole stands among whose groups one stands.
-    fn above(&self, standing: Standing) -> Option<Standing> {
-        let scope = self.above.get(standing.scope).copied()??;
+    // Where a node stands.
+    fn standing(&self, node: usize) -> Option<Standing> {
         Some(Standing {
-            group: self.whole(standing.scope),
-            scope,
+            group: node,
+            scope: self.of.get(node).copied()?,
         })
     }
 
-    /// The groups in which two nodes stand among those of one instance, the innermost that has both. A turn goes up by one instance.
+    /// The groups in which two nodes stand in one scope, the innermost that has both. A turn goes up by one scope.
     pub fn meet(&self, node: usize, other: usize) -> Option<(usize, usize)> {
         let mut one = self.standing(node)?;
         let mut two = self.standing(other)?;
@@ -165,9 +189,9 @@ impl Groups {
                 return Some((one.group, two.group));
             }
             if one.scope > two.scope {
-                one = self.above(one)?;
+                one = self.around(one.scope)?;
             } else {
-                two = self.above(two)?;
+                two = self.around(two.scope)?;
             }
         }
         None

@@ -1,4 +1,4 @@
-// A depth-first search of a graph of groups along its edges.
+// A depth-first search of a graph along its edges, as of groups.
 use std::alloc::{AllocError, Global};
 
 // What a search along the edges does next.

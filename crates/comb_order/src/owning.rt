@@ -1,7 +1,5 @@
 // The instance that each node belongs to: the least of those whose signals it drives or reads, which of a connection is the outer one.
 // A port with a constant is driven within the inner one, like a constant of its own; so what reads nothing stands alone too.
-ghost use Rattle.std.specs.Prelude.{◌≡◌, IfOk, length};
-
 use no_memory::NoMemory;
 use std::alloc::Global;
 use typed_ir::{InstanceId, Node, Signal, Touch, drives_of, reads_of};
@@ -11,6 +9,8 @@ use typed_ir::{InstanceId, Node, Signal, Touch, drives_of, reads_of};
 pub struct Belonging {
     /// The least instance of the signals that it drives and reads.
     pub instance: InstanceId,
+    /// Whether it reads a signal.
+    pub reads: bool,
     /// Whether it is one of that instance's own: it reads a signal, and all these signals stand in that instance.
     pub is_own: bool,
 }
@@ -45,6 +45,7 @@ fn belonging_of(alloc: Global, node: &Node, signals: &[Signal]) -> Result<Belong
     let greatest = greatest_of(&read, signals, greatest_of(&driven, signals, 0));
     Ok(Belonging {
         instance: InstanceId(least.min(greatest)),
+        reads: !read.is_empty(),
         is_own: least == greatest && !read.is_empty(),
     })
 }
@@ -54,9 +55,7 @@ pub fn belongings_of(
     alloc: Global,
     nodes: &[Node],
     signals: &[Signal],
-) -> Result<Vec<Belonging>, NoMemory>
-    ensures { IfOk result (λ belongings. length belongings.items ≡ length nodes.now) }
-{
+) -> Result<Vec<Belonging>, NoMemory> {
     let mut belongings = Vec::with_capacity(alloc, nodes.len())?;
     for node in nodes {
         let belonging = belonging_of(alloc, node, signals)?;

@@ -21,7 +21,7 @@ fn row_over(
     names: &[bool],
     from: &[NodeId],
     turns: usize,
-) -> Result<Vec<NodeId>, AllocError> {
+) -> Result<Vec<usize>, AllocError> {
     let mut row = Vec::with_capacity(alloc, from.len())?;
     let mut next = Vec::with_capacity(alloc, from.len())?;
     next.extend_from_slice(from)?;
@@ -29,7 +29,7 @@ fn row_over(
         match next.pop() {
             Some(node) => {
                 if !is_named(names, node.index()) {
-                    row.push(node)?;
+                    row.push(node.index())?;
                 } else if let Some(further) = graph.get(node.index()) {
                     next.extend_from_slice(further)?;
                 }
@@ -46,7 +46,7 @@ pub fn graph_over(
     alloc: Global,
     graph: &[Vec<NodeId>],
     names: &[bool],
-) -> Result<Vec<Vec<NodeId>>, AllocError> {
+) -> Result<Vec<Vec<usize>>, AllocError> {
     let turns = edges_in(graph);
     let mut rows = Vec::with_capacity(alloc, graph.len())?;
     for node in 0..graph.len() {

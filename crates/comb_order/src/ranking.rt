@@ -1,6 +1,6 @@
-// The ranks by which nodes are placed: names as soon as they can be, since they take no step, and the others by the positions of their
-// groups. A group that stands in no circle is placed once all that its nodes wait for is, so that their steps stand side by side, and in
-// one order for all instances of a unit, unless names outside lead from what one of these drives back to it.
+// The ranks by which nodes are placed: names as soon as they can be, since they take no step, and the others by their positions. A group
+// that stands in no circle is placed once all that its nodes wait for is, so that their steps stand side by side. Positions within it are those
+// of its unit, so that all instances of a unit have one order, unless two of them need opposite ones.
 ghost use Rattle.std.specs.Prelude.{◌≡◌, IfOk, length};
 
 use crate::components::{Components, components_of};
@@ -8,10 +8,12 @@ use crate::dividing::{ends_of, opened_in, parted_in};
 use crate::division::Division;
 use crate::group_graph::GroupGraph;
 use crate::groups::Groups;
+use crate::leading::{lead, leaders_of};
 use crate::naming::{is_named, names_of};
 use crate::owning::{Belonging, belongings_of};
 use crate::passing_over::graph_over;
 use crate::positions::positions_of;
+use crate::units::Units;
 use no_memory::NoMemory;
 use std::alloc::{AllocError, Global};
 use typed_ir::{Flat, InstanceName, NodeId};
@@ -20,25 +22,30 @@ use typed_ir::{Flat, InstanceName, NodeId};
 // of these.
 const DIVISIONS: u32 = 3;
 
-// The groups of the nodes, and their components.
+// The groups of the nodes, what comes before what of them, and their components.
 #[derive(Drop)]
 struct Grouping {
     groups: Groups,
+    between: GroupGraph,
     components: Components,
 }
 
 impl Grouping {
     fn new(
         alloc: Global,
-        graph: &[Vec<NodeId>],
+        steps: &[Vec<usize>],
         rows: &[InstanceName],
         belongings: &[Belonging],
         division: &Division,
     ) -> Result<Grouping, AllocError> {
         let groups = Groups::new(alloc, rows, belongings, division)?;
-        let between = GroupGraph::new(alloc, graph, &groups)?;
+        let between = GroupGraph::new(alloc, steps, &groups)?;
         let components = components_of(alloc, &between)?;
-        Ok(Grouping { groups, components })
+        Ok(Grouping {
+            groups,
+            between,
+            components,
+        })
     }
 
     // Takes apart what stands in a circle; whether there was more than before.
@@ -57,54 +64,81 @@ impl Grouping {
     }
 }
 
-// The groups by which nodes are placed.
+// The groups by which nodes are placed, and what is taken apart for them.
 fn grouping_of(
     alloc: Global,
-    graph: &[Vec<NodeId>],
+    steps: &[Vec<usize>],
     rows: &[InstanceName],
     belongings: &[Belonging],
+    division: &mut Division,
 ) -> Result<Grouping, AllocError> {
     let ends = ends_of(alloc, rows)?;
-    let mut division = Division::new(alloc, rows.len())?;
-    let mut grouping = Grouping::new(alloc, graph, rows, belongings, &division)?;
+    let mut grouping = Grouping::new(alloc, steps, rows, belongings, division)?;
     for _turn in 0..DIVISIONS {
-        if !grouping.divide(alloc, &ends, &mut division)? {
+        if !grouping.divide(alloc, &ends, division)? {
             return Ok(grouping);
         }
-        grouping = Grouping::new(alloc, graph, rows, belongings, &division)?;
+        grouping = Grouping::new(alloc, steps, rows, belongings, division)?;
     }
     Ok(grouping)
 }
 
-// The position of a node.
-fn position_of(groups: &Groups, positions: &[usize], node: usize) -> usize {
-    match groups.standing(node) {
-        Some(standing) => match positions.get(standing.group) {
-            Some(position) => *position,
-            None => node,
-        },
-        None => node,
+// The position of each node, where `steps` says which of them waits for which; that is changed.
+fn node_positions(
+    alloc: Global,
+    design: &Flat,
+    steps: &mut [Vec<usize>],
+) -> Result<Vec<usize>, NoMemory> {
+    let rows = &design.instances.rows;
+    let belongings = belongings_of(alloc, &design.nodes, &design.signals)?;
+    let mut division = Division::new(alloc, rows.len())?;
+    let grouping = grouping_of(alloc, steps, rows, &belongings, &mut division)?;
+    let groups = &grouping.groups;
+    let components = &grouping.components;
+    let units = Units::new(alloc, rows, &design.signals, belongings)?;
+    let likes = units.likes(alloc, groups)?;
+    let mut united = grouping.between.united(alloc, &likes)?;
+    let leaders = leaders_of(alloc, groups, components, &division, &units)?;
+    lead(alloc, &leaders, &units, steps, &mut united)?;
+    let unit_components = components_of(alloc, &united)?;
+    Ok(positions_of(alloc, groups, components, &likes, &unit_components)?)
+}
+
+// The rank of a node that has this position.
+fn rank_of(names: &[bool], positions: &[usize], node: usize) -> usize {
+    if is_named(names, node) {
+        return 0;
+    }
+    match positions.get(node) {
+        Some(position) => position.saturating_add(1),
+        None => usize::MAX,
     }
 }
 
+// The rank of each of so many nodes.
+fn ranked(
+    alloc: Global,
+    names: &[bool],
+    positions: &[usize],
+    count: usize,
+) -> Result<Vec<usize>, AllocError>
+    ensures { IfOk result (λ ranks. length ranks.items ≡ count) }
+{
+    let mut ranks = Vec::with_capacity(alloc, count)?;
+    for node in 0..count {
+        ranks.push(rank_of(names, positions, node))?;
+    }
+    Ok(ranks)
+}
+
 /// The rank of each node of a design, whose graph this is. A name has the first. It takes time in proportion to nodes, instances and edges,
-/// an edge as many turns as instances lie between its nodes and the one that has both. Want of memory is `NoMemory`.
+/// an edge as many turns as scopes lie between its nodes and the one that has both. Want of memory is `NoMemory`.
 pub fn ranks_of(alloc: Global, design: &Flat, graph: &[Vec<NodeId>]) -> Result<Vec<usize>, NoMemory>
     ensures { IfOk result (λ ranks. length ranks.items ≡ length design.now.nodes.items) }
 {
-    let belongings = belongings_of(alloc, &design.nodes, &design.signals)?;
     let names = names_of(alloc, &design.nodes, &design.signals, graph)?;
-    let steps = graph_over(alloc, graph, &names)?;
-    let grouping = grouping_of(alloc, &steps, &design.instances.rows, &belongings)?;
-    let positions = positions_of(alloc, &grouping.groups, &grouping.components)?;
-    let mut ranks = Vec::with_capacity(alloc, belongings.len())?;
-    for node in 0..belongings.len() {
-        let rank = if is_named(&names, node) {
-            0
-        } else {
-            position_of(&grouping.groups, &positions, node).saturating_add(1)
-        };
-        ranks.push(rank)?;
-    }
+    let mut steps = graph_over(alloc, graph, &names)?;
+    let positions = node_positions(alloc, design, &mut steps)?;
+    let ranks = ranked(alloc, &names, &positions, design.nodes.len())?;
     Ok(ranks)
 }

@@ -1,6 +1,6 @@
 // Where a group stands.
 
-/// A group, and the instance among whose groups it stands.
+/// A group, and the scope that it stands in.
 #[derive(Clone, Copy, Debug, PartialEq, Eq)]
 pub struct Standing {
     pub group: usize,

@@ -48,6 +48,3 @@ pub use port_value::PortValue;
 pub use port_values::PortValues;
 pub use read_end::ReadEnd;
 pub use reader::Reader;
-
-#[cfg(test)]
-mod tests;

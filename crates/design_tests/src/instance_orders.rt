@@ -38,7 +38,7 @@ fn signals_in(
 }
 
 // Signals of one bit in these instances.
-fn bits_in(rt: &impl Abort, alloc: Global, instances: &[u32]) -> Result<Vec<Signal>, NoMemory> {
+pub fn bits_in(rt: &impl Abort, alloc: Global, instances: &[u32]) -> Result<Vec<Signal>, NoMemory> {
     let mut signals = Vec::new(alloc);
     for instance in instances {
         signals.push(signal(rt, *instance, signals.len(), 1))?;
@@ -47,7 +47,7 @@ fn bits_in(rt: &impl Abort, alloc: Global, instances: &[u32]) -> Result<Vec<Sign
 }
 
 // That this is the order of nodes.
-fn expect_order_of(
+pub fn expect_order_of(
     rt: &impl Abort,
     alloc: Global,
     parents: &[u32],
@@ -71,7 +71,7 @@ fn put(nodes: &mut Vec<Node>, more: Vec<Node>) -> Result<(), NoMemory> {
 }
 
 // Names, and behind them steps: what each drives, and what it reads.
-fn nodes_of(
+pub fn nodes_of(
     alloc: Global,
     names: &[(u32, u32)],
     steps: &[(u32, u32)],
@@ -82,7 +82,7 @@ fn nodes_of(
 }
 
 // The same of these names and steps, where signals of one bit stand in these instances.
-fn expect_order(
+pub fn expect_order(
     rt: &impl Abort,
     alloc: Global,
     parents: &[u32],
@@ -97,10 +97,10 @@ fn expect_order(
 }
 
 // The signals of a top, which are two wires, and of two instances in it, which have x, p, q and r each: p is of x, and q of r.
-const STAGES: [u32; 10] = [0, 0, 1, 1, 1, 1, 2, 2, 2, 2];
+pub const STAGES: [u32; 10] = [0, 0, 1, 1, 1, 1, 2, 2, 2, 2];
 
 // Their steps, those of both instances by turns: p2, p1, q2, q1.
-const STAGE_STEPS: [(u32, u32); 4] = [(7, 6), (3, 2), (8, 9), (4, 5)];
+pub const STAGE_STEPS: [(u32, u32); 4] = [(7, 6), (3, 2), (8, 9), (4, 5)];
 
 // The first instance reads what the second one drives, by a wire of the top: first all of the second one, then all of the first.
 #[test]

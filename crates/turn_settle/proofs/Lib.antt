@@ -1,4 +1,3 @@
 pub mod Visiting
 pub mod Passing
 pub mod Settling
-pub mod Beginning

@@ -4,8 +4,6 @@
 // the turn knows before and behind it stands in `specs/Settled`, with its entries by the words of `book_settle`.
 #![tactic(auto)]
 
-#[cfg(test)]
-mod tests;
 mod visits;
 
 ghost use Rattle.std.specs.Prelude.{◌≡◌, ◌+◌, ◌*◌, ◌≤◌, ◌<◌, ◌∷◌, [], None, true, false, min, IfOk, OnOk, OnErr};

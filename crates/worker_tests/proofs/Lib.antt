@@ -1,2 +1,3 @@
 pub mod Spoken
 pub mod Settles
+pub mod Beginning

@@ -1,7 +1,7 @@
 // Tests of workers in threads beside a session, in a crate of their own, since a crate with tests is proved twice.
 //
 // `asking`, `reloading` and `settling` are work of a session; `watched` sees where threads are, by `watch`, beside the gates of
-// `test_gates`; `replay` and `drawn` take the history that is left, entry by entry.
+// `test_gates`; `replay` and `drawn` take the history that is left, entry by entry. `turn_tests` is a settle without workers.
 #![tactic(auto)]
 
 #[cfg(test)]
@@ -16,6 +16,8 @@ mod replay;
 mod settling;
 #[cfg(test)]
 mod tests;
+#[cfg(test)]
+mod turn_tests;
 #[cfg(test)]
 mod watch;
 #[cfg(test)]

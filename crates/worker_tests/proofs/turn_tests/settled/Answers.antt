@@ -1,6 +1,6 @@
 use Rattle.std.proofs.Common.{arith, ◌+◌, ◌*◌}
-use Rattle.turn_settle.proofs.Beginning.{begun_own, begun_open, begun_room, begun_opened, finished_open}
-use Rattle.turn_settle.proofs.tests.settled.Goals as goal
+use Rattle.worker_tests.proofs.Beginning.{begun_own, begun_open, begun_room, begun_opened, finished_open}
+use Rattle.worker_tests.proofs.turn_tests.settled.Goals as goal
 
 pub settle-requires-clause-own : goal.settle-requires-clause-own
 settle-requires-clause-own g c κs within = begun_own _ _ c.in_ok-turn.ensures.1

@@ -3,7 +3,6 @@ ghost use Rattle.std.specs.Prelude.{◌≡◌, IfOk};
 ghost use Rattle.cycle_eval.specs.Designs.{design_flat};
 ghost use Rattle.cycle_eval.specs.Kits.{Fits};
 
-use crate::tables::table;
 use bits::Bits;
 use comb_order::{Parts, checked_flat, linked, no_block};
 use cycle_eval::Design;
@@ -14,6 +13,7 @@ use std::alloc::Global;
 use std::process::Abort;
 use std::test::Fail;
 use typed_ir::{InstanceId, InstanceName, InstanceTable, Signal, SignalId};
+use wave_report::table;
 
 // The instances cpu, cpu.alu, cpu.alu.add and cpu.bus.
 fn instances(rt: &impl Abort, alloc: Global, names: &mut Names) -> Result<InstanceTable, NoMemory> {

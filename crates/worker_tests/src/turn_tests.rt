@@ -3,7 +3,6 @@ ghost use Rattle.std.specs.Prelude.{◌≡◌, ◌<◌, ◌+◌, ◌*◌, [], fa
 ghost use Rattle.book_history.specs.Readers.{IsOpened};
 ghost use Rattle.checkpoint_book.specs.Views.{book_of, counts_of, HasSessionRoom};
 
-use crate::settle;
 use book_history::rooms::Rooms;
 use book_history::version::Version;
 use book_turn::Turn;
@@ -21,6 +20,7 @@ use std::marker::Brand;
 use std::sync::ledger::{Blank, Ledger};
 use std::sync::{Arc, Wait};
 use std::test::Fail;
+use turn_settle::settle;
 
 /// The version of this number whose machine adds so much.
 fn adds(

@@ -1,13 +1,10 @@
 // The lines of each kind of reply, written by hand.
-use crate::replies::reply_line;
-use crate::reply_kind::ReplyKind;
-use crate::unit_line::UnitLine;
-use crate::unit_lines::UnitLines;
 use ls_text::TextBytes;
 use no_memory::NoMemory;
 use std::alloc::Global;
 use std::process::Abort;
 use std::test::Fail;
+use wave_report::{ReplyKind, UnitLine, UnitLines, reply_line};
 
 // A unit of this name, whose digest begins with this byte and is 255 for the rest.
 fn unit(alloc: Global, name: &[u8], first: u8) -> Result<UnitLine, NoMemory> {

@@ -1,5 +1,5 @@
 // That a script's commands are those of the format, whatever the pieces are in which it comes.
-use super::*;
+use command_read::{Command, Edit, ReadEnd, Reader};
 use ls_port::{Failed, MemSource, Source};
 use ls_text::{NameId, Names, NoMemory, fault_line, push_decimal};
 use reg_ops::RegOp;
