@@ -142,14 +142,6 @@ impl Groups {
         }
     }
 
-    /// The instance of a scope: the one that it is, or whose own nodes it holds.
-    pub fn instance_of(&self, scope: usize) -> usize {
-        match scope.checked_sub(self.instances()) {
-            Some(instance) => instance,
-            None => scope,
-        }
-    }
-
     // The group that a scope is, and where that stands.
     fn around(&self, scope: usize) -> Option<Standing> {
         match scope.checked_sub(self.instances()) {

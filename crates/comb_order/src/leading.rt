@@ -1,6 +1,6 @@
 // Where an instance stands in a circle, steps outside may lead from one of its own nodes to another. Of each unit the first such instance leads:
-// its own nodes are put into an order in which all its steps may come, and the order of the unit follows that, unless another instance needs
-// an opposite one. Names are among these nodes; where they come doesn't matter.
+// its own nodes are put into an order in which its steps may come, with what its unit's other instances need where that may be too, and the order
+// of the unit follows that, unless another instance needs an opposite one. Names are among these nodes; where they come doesn't matter.
 use crate::components::Components;
 use crate::division::Division;
 use crate::group_graph::{GroupGraph, note};
@@ -74,8 +74,8 @@ fn add_united(
     Ok(())
 }
 
-/// Adds to the edges of units the order of the own nodes of instances that lead, as edges from each to the next. `steps` says which node waits
-/// for which, and is changed.
+/// Adds to the edges of units the order of the own nodes of instances that lead, as edges from each to the next. `steps` has for each node
+/// those that wait for it, and is changed.
 pub fn lead(
     alloc: Global,
     leaders: &[bool],

@@ -1,4 +1,5 @@
-// Nodes that only give a signal another name: they take no step in a cycle. (`naming` of design_steps has the same rule, with a clause.)
+// Nodes that only give a signal another name: they take no step in a cycle. (`naming` of design_steps has the same test of a node, with a
+// clause; a name of what several nodes drive takes no step there either, and counts as a node here.)
 use std::alloc::{AllocError, Global};
 use typed_ir::{Form, Lane, Node, NodeId, Signal, SignalId};
 

@@ -2,13 +2,15 @@
 // A port with a constant is driven within the inner one, like a constant of its own; so what reads nothing stands alone too.
 use no_memory::NoMemory;
 use std::alloc::Global;
-use typed_ir::{InstanceId, Node, Signal, Touch, drives_of, reads_of};
+use typed_ir::{InstanceId, Node, Signal, SignalId, Touch, drives_of, reads_of};
 
 /// Where a node belongs.
 #[derive(Clone, Copy, Debug, PartialEq, Eq)]
 pub struct Belonging {
     /// The least instance of the signals that it drives and reads.
     pub instance: InstanceId,
+    /// The first signal that it drives; the first of all, where it drives none.
+    pub drives: SignalId,
     /// Whether it reads a signal.
     pub reads: bool,
     /// Whether it is one of that instance's own: it reads a signal, and all these signals stand in that instance.
@@ -43,8 +45,13 @@ fn belonging_of(alloc: Global, node: &Node, signals: &[Signal]) -> Result<Belong
     let read = reads_of(alloc, node)?;
     let least = least_of(&read, signals, least_of(&driven, signals, u32::MAX));
     let greatest = greatest_of(&read, signals, greatest_of(&driven, signals, 0));
+    let drives = match driven.first() {
+        Some(touch) => touch.signal,
+        None => SignalId(0),
+    };
     Ok(Belonging {
         instance: InstanceId(least.min(greatest)),
+        drives,
         reads: !read.is_empty(),
         is_own: least == greatest && !read.is_empty(),
     })

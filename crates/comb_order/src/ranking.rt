@@ -83,7 +83,7 @@ fn grouping_of(
     Ok(grouping)
 }
 
-// The position of each node, where `steps` says which of them waits for which; that is changed.
+// The position of each node, where `steps` has for each those that wait for it; that is changed.
 fn node_positions(
     alloc: Global,
     design: &Flat,
@@ -132,7 +132,7 @@ fn ranked(
 }
 
 /// The rank of each node of a design, whose graph this is. A name has the first. It takes time in proportion to nodes, instances and edges,
-/// an edge as many turns as scopes lie between its nodes and the one that has both. Want of memory is `NoMemory`.
+/// an edge as many turns as scopes lie between each of its nodes and the one that has both. Want of memory is `NoMemory`.
 pub fn ranks_of(alloc: Global, design: &Flat, graph: &[Vec<NodeId>]) -> Result<Vec<usize>, NoMemory>
     ensures { IfOk result (λ ranks. length ranks.items ≡ length design.now.nodes.items) }
 {

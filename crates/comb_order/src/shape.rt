@@ -3,7 +3,7 @@
 /// What instances of one unit have alike. Those of two units of one module may have it alike too, and then count as of one.
 #[derive(Clone, Copy, Debug, PartialEq, Eq, Hash)]
 pub struct Shape {
-    /// The number of the module's name.
+    /// The number of the module's name; 0, where the instance has no signals.
     pub module: u64,
     /// How many signals the instance has.
     pub signals: usize,

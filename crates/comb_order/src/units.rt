@@ -12,6 +12,8 @@ use typed_ir::{InstanceName, Signal};
 pub struct Units {
     // Of each instance the first one of its unit.
     first: Vec<usize>,
+    // Of each instance the one that stands in the first of a unit as it stands in one of that: itself, where it stands in none.
+    inner: Vec<usize>,
     seating: Seating,
     belongings: Vec<Belonging>,
 }
@@ -82,6 +84,41 @@ fn first_ones(alloc: Global, shapes: &[Shape]) -> Result<Vec<usize>, AllocError>
     Ok(first)
 }
 
+// For each instance the one that stands in the first of a unit as it stands in one of that.
+fn inner_ones(
+    alloc: Global,
+    rows: &[InstanceName],
+    first: &[usize],
+) -> Result<Vec<usize>, AllocError> {
+    let mut inner = Vec::with_capacity(alloc, rows.len())?;
+    for instance in 0..rows.len() {
+        inner.push(match rows[instance].parent {
+            Some(parent) => moved(instance, parent.index(), first),
+            None => instance,
+        })?;
+    }
+    Ok(inner)
+}
+
+// The instance that stands in the first of a unit as one stands in this one of it; that itself, where there is none.
+fn moved(instance: usize, above: usize, first: &[usize]) -> usize {
+    match first.get(above) {
+        Some(first) => match instance.checked_sub(above) {
+            Some(behind) => first.saturating_add(behind),
+            None => instance,
+        },
+        None => instance,
+    }
+}
+
+// The number at a place of a list; the place itself, where there is none.
+fn number_at(list: &[usize], place: usize) -> usize {
+    match list.get(place) {
+        Some(number) => *number,
+        None => place,
+    }
+}
+
 impl Units {
     /// The units of these instances, by the signals in them and by what belongs to them.
     pub fn new(
@@ -90,11 +127,12 @@ impl Units {
         signals: &[Signal],
         belongings: Vec<Belonging>,
     ) -> Result<Units, AllocError> {
-        let seating = Seating::new(alloc, rows.len(), &belongings)?;
+        let seating = Seating::new(alloc, rows.len(), signals, &belongings)?;
         let mut shapes = shapes_of(alloc, signals, &seating, rows.len())?;
         count_inner(rows, &mut shapes);
         let first = first_ones(alloc, &shapes)?;
         Ok(Units {
+            inner: inner_ones(alloc, rows, &first)?,
             first,
             seating,
             belongings,
@@ -103,10 +141,7 @@ impl Units {
 
     /// The first instance of an instance's unit.
     pub fn first(&self, instance: usize) -> usize {
-        match self.first.get(instance) {
-            Some(first) => *first,
-            None => instance,
-        }
+        number_at(&self.first, instance)
     }
 
     /// The instance of which a node is an own one.
@@ -132,49 +167,25 @@ impl Units {
         }
     }
 
-    // The instance that stands in the first one of a unit as another stands in one of it.
-    fn moved(&self, instance: usize, scope: usize) -> Option<usize> {
-        instance.checked_sub(scope)?.checked_add(self.first(scope))
-    }
-
-    // What stands in the first instance of a unit as a group does in one of it: an own node by the instance that owns it, and any other
-    // group by the one in whose scope it stands.
-    fn counterpart(&self, groups: &Groups, group: usize) -> Option<usize> {
-        if let Some(instance) = self.owner(group) {
-            return Some(self.seat(group, self.first(instance)));
-        }
-        let scope = groups.instance_of(groups.scope(group)?);
-        match groups.inside(group) {
-            Some(inside) => {
-                let instance = groups.instance_of(inside);
-                group
-                    .checked_sub(instance)?
-                    .checked_add(self.moved(instance, scope)?)
-            }
-            None => {
-                let instance = self.belongings.get(group)?.instance.index();
-                Some(self.seat(group, self.moved(instance, scope)?))
-            }
-        }
-    }
-
-    /// For each group the one that stands for it in the first instance of its unit; that itself, where there is none.
+    /// For each group the one that stands for it in the first instance of its unit. A node is of the unit of the instance that it belongs to,
+    /// and so are an instance's own nodes; an instance as a whole is of the unit of the one above.
     pub fn likes(&self, alloc: Global, groups: &Groups) -> Result<Vec<usize>, AllocError> {
         let mut likes = Vec::with_capacity(alloc, groups.count())?;
-        for group in 0..groups.count() {
-            likes.push(match self.counterpart(groups, group) {
-                Some(other) => other,
-                None => group,
-            })?;
+        for node in 0..self.belongings.len() {
+            let first = self.first(self.belongings[node].instance.index());
+            likes.push(self.seat(node, first))?;
+        }
+        for first in &self.first {
+            likes.push(groups.own(*first))?;
+        }
+        for inner in &self.inner {
+            likes.push(groups.whole(*inner))?;
         }
         Ok(likes)
     }
 }
 
-/// The group that stands for another one, by such a list.
+/// The group that stands for another one, by such a list; that itself, where there is none.
 pub fn like_of(likes: &[usize], group: usize) -> usize {
-    match likes.get(group) {
-        Some(other) => *other,
-        None => group,
-    }
+    number_at(likes, group)
 }

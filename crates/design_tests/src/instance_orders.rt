@@ -63,7 +63,7 @@ pub fn expect_order_of(
 }
 
 // Puts nodes behind others.
-fn put(nodes: &mut Vec<Node>, more: Vec<Node>) -> Result<(), NoMemory> {
+pub fn put(nodes: &mut Vec<Node>, more: Vec<Node>) -> Result<(), NoMemory> {
     for node in more {
         nodes.push(node)?;
     }

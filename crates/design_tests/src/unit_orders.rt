@@ -1,7 +1,8 @@
 // Orders of instances of one unit, worked out by hand, where what one of them drives leads back to it.
 use crate::instance_orders::{
-    STAGE_STEPS, STAGES, bits_in, expect_order, expect_order_of, nodes_of,
+    STAGE_STEPS, STAGES, bits_in, expect_order, expect_order_of, nodes_of, put,
 };
+use crate::orders::{inverses, tied};
 use ls_text::NameId;
 use std::test::Fail;
 
@@ -59,6 +60,28 @@ fn an_instance_in_a_circle_leads(rt: HostRuntime) -> Result<(), Fail> {
         let steps = [back, p2, p1, q2, q1];
         expect_order(&rt, rt.alloc(), &[0, 0], &STAGES, &names, &steps, &wanted)?;
     }
+    Ok(())
+}
+
+// Two instances each have a step that reads nothing, one into another instance within by its connection, and one of that, listed unit by unit: in
+// both what reads nothing comes first.
+#[test]
+fn what_reads_nothing_has_its_place(rt: HostRuntime) -> Result<(), Fail> {
+    let alloc = rt.alloc();
+    // in; i and c of the first, and x and p within; and those of the second
+    let signals = bits_in(&rt, alloc, &[0, 1, 1, 2, 2, 3, 3, 4, 4])?;
+    // i1 = in, i2 = in
+    let mut nodes = nodes_of(alloc, &[(1, 0), (5, 0)], &[])?;
+    for first in [1, 5] {
+        // c = 0; x of i; p of x
+        nodes.push(tied(alloc, first + 1)?)?;
+        put(
+            &mut nodes,
+            inverses(alloc, &[(first + 2, first), (first + 3, first + 2)])?,
+        )?;
+    }
+    let wanted = [0, 1, 2, 3, 4, 5, 6, 7];
+    expect_order_of(&rt, alloc, &[0, 1, 0, 3], signals, nodes, &wanted)?;
     Ok(())
 }
 
