@@ -8,7 +8,7 @@ use Rattle.typed_ir.specs.declared.touch.Touch.{Touch}
 use Rattle.typed_ir.specs.Valuations.{Places, any_within, nowhere}
 use Rattle.typed_ir.specs.Stmts.{SizedStmt, targets, known_after}
 use Rattle.typed_ir.specs.Touches.{has_bit, touched}
-use Rattle.typed_ir.proofs.Cases.{by_cases, and_left, only_right}
+use Rattle.typed_ir.proofs.Cases.{by_cases, and_left, only_right, and_told}
 use Rattle.block_rules.specs.declared.bit_table.BitTable.{BitTable}
 use Rattle.block_rules.specs.Paths.{is_open, reads_early, flags_of_block, unwritten, AreHere}
 use Rattle.block_rules.specs.Tables.{bits_of, Leads, is_named}
@@ -64,17 +64,12 @@ touched_named (t ∷ ts) s i h =
     (λ here. or_left (s == t.signal) (is_named ts s) (and_left (s == t.signal) (has_bit t.mask i) here))
     (λ out. or_right (s == t.signal) (is_named ts s) (touched_named ts s i (only_right ((s == t.signal) && has_bit t.mask i) (touched ts s i) out h)))
 
-named_open : (n o : Bool) → (o ≡ true → n ≡ true) → (n && o) ≡ o
-named_open true o h = refl
-named_open false true h = absurd (true≢false (sym (h refl)))
-named_open false false h = refl
-
 pub latches_are : (w0 w1 k0 k1 : BitTable) (touches learned : List Touch) (l w : Places) (st : SizedStmt) → length w1.masks.items ≡ length k0.masks.items
     → ((s i : ℕ) → i < 128 → bits_of w1 s i ≡ any_within (targets st) s i) → bits_of w0 ≡ nowhere → bits_of k0 ≡ nowhere
     → Leads w0 w1 [] touches l w → Leads k0 k1 [] learned (bits_of k1) (known_after st (bits_of k0))
     → (s : ℕ) → (is_named touches s && is_open (bits_of w1) (bits_of k1) s) ≡ unwritten st s
 latches_are w0 w1 k0 k1 touches learned l w st long writes none blank g h s =
-    named_open (is_named touches s) (is_open (bits_of w1) (bits_of k1) s) named ∙ same_open w0 w1 k0 k1 learned st long writes blank h s
+    and_told (is_named touches s) (is_open (bits_of w1) (bits_of k1) s) named ∙ same_open w0 w1 k0 k1 learned st long writes blank h s
   where
     named : is_open (bits_of w1) (bits_of k1) s ≡ true → is_named touches s ≡ true
     named is =

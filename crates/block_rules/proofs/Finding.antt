@@ -3,7 +3,7 @@ use Rattle.std.proofs.Common.{◌≡◌, ℕ, zero, suc, ◌+◌, ◌-◌, ◌^�
 use Rattle.std.specs.Prelude.{bit_and, slice_index}
 use Rattle.std.specs.Int.{bit_at}
 use Rattle.std.proofs.Math.Bool.{or-false, or_assoc, and-false}
-use Rattle.std.proofs.lemmas.Bool.{eqb-true, eq-eqb, ne_eqb, or_parts, or_from, and_from, not-true, not_from_false}
+use Rattle.std.proofs.lemmas.Bool.{eqb-true, eq-eqb, ne_eqb, or_parts, or_from, and_from, not-true, not_from_false, and_left as still_closed}
 use Rattle.bits.proofs.Runs.{by_order}
 use Rattle.std.proofs.lemmas.List.{at_drop_all}
 use Rattle.std.proofs.lemmas.Nat.{and_le_l}
@@ -14,11 +14,11 @@ use Rattle.typed_ir.specs.Valuations.{Places, within}
 use Rattle.typed_ir.specs.Touches.{has_bit, touched, Adds}
 use Rattle.typed_ir.proofs.Cases.{by_cases, and_left, and_right, turned}
 use Rattle.typed_ir.proofs.Lists.{drop_read}
-use Rattle.typed_ir.proofs.Masks.{adds_one, whole_mask}
+use Rattle.typed_ir.proofs.Masks.{adds_one, whole_mask, has_both, no_bit}
 use Rattle.block_rules.specs.declared.bit_table.BitTable.{BitTable}
 use Rattle.block_rules.specs.Paths.{some_below, early, is_member, are_distinct, is_open}
 use Rattle.block_rules.specs.Tables.{bits_of, is_named, AreTaken}
-use Rattle.block_rules.proofs.Masks.{has_both, no_bit, low_bit, high_bit}
+use Rattle.block_rules.proofs.Masks.{low_bit, high_bit}
 use Rattle.block_rules.proofs.Knowing.{some_same}
 use Rattle.block_rules.proofs.Whole.{none_below}
 
@@ -194,7 +194,7 @@ found_none old signal w k s out =
 
 -- ---- and taken out of the table
 
-none_some : (n : ℕ) (test : ℕ → Bool) → ((i : ℕ) → i < n → test i ≡ false) → some_below n test ≡ false
+pub none_some : (n : ℕ) (test : ℕ → Bool) → ((i : ℕ) → i < n → test i ≡ false) → some_below n test ≡ false
 unfolding some_below
 none_some zero test h = refl
 none_some (suc n) test h = ap₂ (λ a b. a || b) (h n (omega arith)) (none_some n test (λ i k. h i (omega (arith, k))))
@@ -229,9 +229,6 @@ distinct_push x (y ∷ xs) h out =
     ∙ or_from (is_member y xs) (y == x) (not-true (is_member y xs) (and_left (not (is_member y xs)) (are_distinct xs) h))
     (turned y x ∙ (or_parts (x == y) (is_member x xs) out).0)))
     (distinct_push x xs (and_right (not (is_member y xs)) (are_distinct xs) h) (or_parts (x == y) (is_member x xs) out).1)
-
-still_closed : (a b : Bool) → a ≡ false → (a && b) ≡ false
-still_closed a b h = ap (λ x. x && b) h
 
 -- a signal that had such a bit
 pub taken_open : (found : List ℕ) (signal : ℕ) (old new known : BitTable) → AreTaken found old known → is_open (bits_of old) (bits_of known) signal ≡ true

@@ -3,7 +3,7 @@ use Rattle.std.proofs.Common.{◌≡◌, ℕ, ◌+◌, ◌<◌, ◌≤◌, Bool,
 use Rattle.std.specs.Prelude.{bit_xor, slice_index}
 use Rattle.std.specs.declared.vec.Vec.{Vec}
 use Rattle.std.specs.Global.{Global}
-use Rattle.std.proofs.Math.Bool.{or-false, or_assoc, and-false}
+use Rattle.std.proofs.Math.Bool.{or-false, or_assoc, and-false, and-not_self}
 use Rattle.std.proofs.Math.Path.{fun_ext}
 use Rattle.std.proofs.lemmas.Bool.{eqb-true, lt-ltb, or_left}
 use Rattle.std.proofs.lemmas.List.{at_drop_all}
@@ -13,10 +13,10 @@ use Rattle.typed_ir.specs.Valuations.{Places}
 use Rattle.typed_ir.specs.Touches.{has_bit, touched, Adds}
 use Rattle.typed_ir.proofs.Cases.{by_cases}
 use Rattle.typed_ir.proofs.Lists.{drop_read}
-use Rattle.typed_ir.proofs.Masks.{adds_one}
+use Rattle.typed_ir.proofs.Masks.{adds_one, no_bit, or_nothing}
 use Rattle.block_rules.specs.declared.bit_table.BitTable.{BitTable}
 use Rattle.block_rules.specs.Tables.{bits_of, SameBelow, Leads, common_of, candidates}
-use Rattle.block_rules.proofs.Masks.{low_bit, high_bit, bit_small, bit_inside, has_one, but_new, no_bit}
+use Rattle.block_rules.proofs.Masks.{low_bit, high_bit, bit_small, bit_inside, has_one, but_new}
 use Rattle.block_rules.proofs.Knowing.{Alike}
 
 -- ---- tests
@@ -99,13 +99,6 @@ leads_from a a' b xs ys l w is long h = record {
 abbrev fresh : BitTable → BitTable → Places
 fresh before after = λ s i. bits_of after s i && not (bits_of before s i)
 
-nothing : (a b : Bool) → (a || (b && false)) ≡ a
-nothing a b = ap (λ t. a || t) (and-false b) ∙ or-false a
-
-none : (b : Bool) → (b && not b) ≡ false
-none true = refl
-none false = refl
-
 one_fresh : (before after : BitTable) (signal mask m n s i : ℕ)
     → m ≡ slice_index before.masks.items signal → n ≡ slice_index after.masks.items signal
     → bits_of after s i ≡ (bits_of before s i || (nat_lt s (length before.masks.items) && ((s == signal) && has_bit mask i)))
@@ -122,8 +115,8 @@ one_fresh before after signal mask m n s i is_m is_n bits keeps small = by_cases
     (λ out. ap (λ b. b && has_bit (bit_xor n m) i) out
     ∙ sym (ap (λ b. b && not (bits_of before s i))
     (bits ∙ ap (λ b. bits_of before s i || (nat_lt s (length before.masks.items) && (b && has_bit mask i))) out
-    ∙ nothing (bits_of before s i) (nat_lt s (length before.masks.items)))
-    ∙ none (bits_of before s i)))
+    ∙ or_nothing (bits_of before s i) (nat_lt s (length before.masks.items)))
+    ∙ and-not_self (bits_of before s i)))
 
 -- the bits of one mask
 one_leads : (before after : BitTable) (old new : List Touch) (signal mask : ℕ)

@@ -1,8 +1,8 @@
 mod Masks
-mod Knowing
+pub mod Knowing
 mod Whole
 mod Legal
 mod Leading
-mod Finding
+pub mod Finding
 mod Listing
 mod Called

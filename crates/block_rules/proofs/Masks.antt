@@ -1,34 +1,17 @@
 -- Bits of masks, and of tables of masks.
-use Rattle.std.proofs.Common.{◌≡◌, ℕ, zero, suc, ◌+◌, ◌%◌, ◌<◌, ◌≤◌, min, max, Bool, true, false, ◌||◌, ◌&&◌, not, ◌==◌, nat_lt, List, length, get_or, set, refl, sym, ◌∙◌, ap, ap₂, arith, true≢false}
+use Rattle.std.proofs.Common.{◌≡◌, ℕ, zero, suc, ◌+◌, ◌%◌, ◌<◌, ◌≤◌, Bool, true, false, ◌||◌, ◌&&◌, not, ◌==◌, nat_lt, List, length, get_or, set, refl, sym, ◌∙◌, ap, ap₂, arith, true≢false}
 use Rattle.std.specs.Prelude.{bit_and, bit_or, bit_xor, slice_index}
 use Rattle.std.specs.Int.{bit_at}
-use Rattle.std.proofs.Math.Bool.{or-false, and-false}
-use Rattle.std.proofs.lemmas.Bool.{eqb-true, eqb-false, ne_eqb, lt-ltb, le-ltb}
+use Rattle.std.proofs.Math.Bool.{and-false}
+use Rattle.std.proofs.lemmas.Bool.{eqb-true, eqb-false, lt-ltb, le-ltb}
 use Rattle.std.proofs.lemmas.List.{get_or-set_same, get_or-set_other, get_or_past, get_or_default}
-use Rattle.std.proofs.lemmas.Nat.Bits.{bit_at_and, bit_at_or, bit_at_xor, bit_at-lt, bit_at-zero}
+use Rattle.std.proofs.lemmas.Nat.Bits.{bit_at_xor, bit_at-lt}
 use Rattle.bits.proofs.Runs.{by_order}
 use Rattle.typed_ir.specs.Touches.{has_bit}
 use Rattle.typed_ir.proofs.Cases.{by_cases}
+use Rattle.typed_ir.proofs.Masks.{has_both, has_either, no_bit, or_nothing}
 
 -- ---- one mask
-
-both_ones : (a b : ℕ) → a < 2 → b < 2 → (min a b == 1) ≡ ((a == 1) && (b == 1))
-both_ones zero zero h k = refl
-both_ones zero (suc zero) h k = refl
-both_ones (suc zero) zero h k = refl
-both_ones (suc zero) (suc zero) h k = refl
-both_ones (suc (suc a)) b h k = absurd (omega (arith, h))
-both_ones zero (suc (suc b)) h k = absurd (omega (arith, k))
-both_ones (suc zero) (suc (suc b)) h k = absurd (omega (arith, k))
-
-either_one : (a b : ℕ) → a < 2 → b < 2 → (max a b == 1) ≡ ((a == 1) || (b == 1))
-either_one zero zero h k = refl
-either_one zero (suc zero) h k = refl
-either_one (suc zero) zero h k = refl
-either_one (suc zero) (suc zero) h k = refl
-either_one (suc (suc a)) b h k = absurd (omega (arith, h))
-either_one zero (suc (suc b)) h k = absurd (omega (arith, k))
-either_one (suc zero) (suc (suc b)) h k = absurd (omega (arith, k))
 
 one_only : (a b : ℕ) → a < 2 → b < 2 → ((a + b) % 2 == 1) ≡ (((a == 1) && not (b == 1)) || (not (a == 1) && (b == 1)))
 one_only zero zero h k = refl
@@ -39,22 +22,10 @@ one_only (suc (suc a)) b h k = absurd (omega (arith, h))
 one_only zero (suc (suc b)) h k = absurd (omega (arith, k))
 one_only (suc zero) (suc (suc b)) h k = absurd (omega (arith, k))
 
-pub has_both : (m n i : ℕ) → has_bit (bit_and m n) i ≡ (has_bit m i && has_bit n i)
-has_both m n i = ap (λ b. b == 1) (bit_at_and m n i) ∙ both_ones (bit_at m i) (bit_at n i) (bit_at-lt m i) (bit_at-lt n i)
-
-pub has_either : (m n i : ℕ) → has_bit (bit_or m n) i ≡ (has_bit m i || has_bit n i)
-has_either m n i = ap (λ b. b == 1) (bit_at_or m n i) ∙ either_one (bit_at m i) (bit_at n i) (bit_at-lt m i) (bit_at-lt n i)
-
 pub has_one : (m n i : ℕ) → has_bit (bit_xor m n) i ≡ ((has_bit m i && not (has_bit n i)) || (not (has_bit m i) && has_bit n i))
 has_one m n i = ap (λ b. b == 1) (bit_at_xor m n i) ∙ one_only (bit_at m i) (bit_at n i) (bit_at-lt m i) (bit_at-lt n i)
 
-pub no_bit : (i : ℕ) → has_bit 0 i ≡ false
-no_bit i = ne_eqb (bit_at 0 i) 1 (λ e. let z : bit_at 0 i ≡ 0 = bit_at-zero i in omega (arith, z, e))
-
 -- ---- tests
-
-pub or_nothing : (a b : Bool) → (a || (b && false)) ≡ a
-or_nothing a b = ap (λ t. a || t) (and-false b) ∙ or-false a
 
 but_both : (m t : Bool) → ((m && not (m && t)) || (not m && (m && t))) ≡ (m && not t)
 but_both true true = refl
@@ -66,10 +37,6 @@ but_new true true h = refl
 but_new true false h = refl
 but_new false true h = absurd (true≢false (sym (h refl)))
 but_new false false h = refl
-
-apart : (b : Bool) → (b && not b) ≡ false
-apart true = refl
-apart false = refl
 
 pub out_of : (low x t : Bool) → (low && (x && not t)) ≡ ((low && x) && not t)
 out_of true x t = refl

@@ -5,8 +5,6 @@
 #![tactic(auto)]
 
 pub mod laws;
-#[cfg(test)]
-mod tests;
 
 ghost use Rattle.std.specs.Prelude.{◌≡◌, ◌+◌, ◌*◌, ◌≤◌, ◌<◌, ◌++◌, ◌∷◌, [], None, true, false, min, IfOk, OnErr};
 ghost use Rattle.book_settle.specs.Rises.{IsPass, HasPassed, HasGivenUp};

@@ -14,10 +14,10 @@ use Rattle.typed_ir.specs.Flats.{NodeWritesFirst, IsFlat}
 use Rattle.typed_ir.specs.Touches.{has_bit, is_block}
 use Rattle.typed_ir.proofs.Cases.{by_cases, left_or, right_or, and_left, and_right, or_left, or_right, only_right}
 use Rattle.typed_ir.proofs.Numbered.{driver_index}
+use Rattle.typed_ir.proofs.Masks.{has_either}
 use Rattle.comb_order.specs.declared.drivers.Driver.{Driver}
 use Rattle.comb_order.specs.Driving.{row_in, drives_in, common, IsTableOf, IsTable}
 use Rattle.comb_order.specs.Parts.{is_member, spans_in, none_in, are_distinct, are_apart, rows_apart, are_idle, are_undriven, blocks_in, has_block}
-use Rattle.comb_order.proofs.Tables.{has_either}
 use Rattle.comb_order.proofs.Edging.{common_of}
 use Rattle.comb_order.proofs.Idle.{idle_drives}
 

@@ -1,19 +1,17 @@
 -- Drivers of no bit.
 use Rattle.std.proofs.Common.{◌≡◌, ℕ, ◌%◌, ◌^◌, ◌<◌, ◌==◌, inl, inr, true, false, ◌&&◌, List, [], ◌∷◌, refl, sym, ◌∙◌, ap, arith, true≢false}
 use Rattle.std.specs.Int.{bit_at}
-use Rattle.std.proofs.lemmas.Bool.{eqb-true, eqb-false, eq-eqb, ne_eqb, and_from, and_right, and_parts, or_from}
+use Rattle.std.proofs.lemmas.Bool.{eqb-true, eqb-false, eq-eqb, and_from, and_right, and_parts, or_from}
 use Rattle.std.proofs.lemmas.Nat.{pow_pos}
 use Rattle.std.proofs.lemmas.Nat.Bits.{bit_at-lt, bit_at-zero, same_from_bits_below}
 use Rattle.bits.proofs.Runs.{below_pow, bit_at-mod_in}
 use Rattle.typed_ir.specs.Touches.{has_bit}
 use Rattle.typed_ir.proofs.Cases.{by_cases, left_or, or_right}
+use Rattle.typed_ir.proofs.Masks.{no_bit}
 use Rattle.comb_order.specs.declared.drivers.Driver.{Driver}
 use Rattle.comb_order.specs.Driving.{drives_in}
 use Rattle.comb_order.specs.Parts.{is_idle, are_idle}
 use Rattle.comb_order.proofs.Edging.{find}
-
-pub no_bit : (i : ℕ) → has_bit 0 i ≡ false
-no_bit i = ne_eqb (bit_at 0 i) 1 (λ e. let z : bit_at 0 i ≡ 0 = bit_at-zero i in omega (arith, z, e))
 
 idle_bit : (m i : ℕ) → i < 128 → (m % 2 ^ 128 == 0) ≡ true → has_bit m i ≡ false
 idle_bit m i small h =

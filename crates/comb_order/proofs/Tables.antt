@@ -1,16 +1,15 @@
 -- Tables by rows, and the drivers of a signal.
 use Rattle.std.proofs.Common.{◌≡◌, ℕ, zero, suc, ◌+◌, ◌<◌, ◌≤◌, ◌==◌, Bool, true, false, ◌||◌, ◌&&◌, List, [], ◌∷◌, ◌++◌, length, map, take, get_or, set, refl, sym, ◌∙◌, ap, ap₂, arith}
-use Rattle.std.proofs.Math.Bool.{or-false, or_assoc, and-false}
+use Rattle.std.proofs.Math.Bool.{or-false, or_assoc}
 use Rattle.std.specs.declared.vec.Vec.{Vec}
 use Rattle.std.specs.Global.{Global}
 use Rattle.std.specs.Prelude.{bit_or}
-use Rattle.std.specs.Int.{bit_at}
 use Rattle.std.proofs.lemmas.Bool.{eqb-true, eqb-false, eq-eqb, ne_eqb}
-use Rattle.std.proofs.lemmas.Nat.Bits.{bit_at_or, bit_at-lt}
 use Rattle.typed_ir.specs.Valuations.{Places, nowhere}
 use Rattle.typed_ir.specs.Orders.{at_or}
 use Rattle.typed_ir.specs.Touches.{has_bit}
 use Rattle.typed_ir.proofs.Cases.{by_cases}
+use Rattle.typed_ir.proofs.Masks.{has_either, or_nothing}
 use Rattle.comb_order.specs.declared.drivers.Driver.{Driver}
 use Rattle.comb_order.specs.Graphs.{row_at, rows_of}
 use Rattle.comb_order.specs.Driving.{row_in, drives_in}
@@ -67,14 +66,6 @@ drives_both (x ∷ xs) ys a i =
 pub drives_one : (d : Driver) (a i : ℕ) → drives_in (d ∷ []) a i ≡ ((a == d.item) && has_bit d.mask i)
 drives_one d a i = or-false ((a == d.item) && has_bit d.mask i)
 
--- the bits of two masks together
-pub has_either : (m n i : ℕ) → has_bit (bit_or m n) i ≡ (has_bit m i || has_bit n i)
-has_either m n i =
-    let e = bit_at_or m n i in
-    let s : bit_at m i < 2 = bit_at-lt m i in
-    let t : bit_at n i < 2 = bit_at-lt n i in
-    grind (arith, e, s, t)
-
 -- the last driver's mask takes more bits
 pub drives_merged : (xs : List Driver) (node m n a i : ℕ)
     → drives_in (xs ++ record { item = node; mask = bit_or m n } ∷ []) a i
@@ -87,9 +78,6 @@ drives_merged xs node m n a i =
     ∙ ap (λ t. t || ((a == node) && has_bit n i)) (sym (drives_one d a i)))
     ∙ sym (or_assoc (drives_in xs a i) (drives_in (d ∷ []) a i) ((a == node) && has_bit n i))
     ∙ ap (λ t. t || ((a == node) && has_bit n i)) (sym (drives_both xs (d ∷ []) a i))
-
-pub or_nothing : (a b : Bool) → (a || (b && false)) ≡ a
-or_nothing a b = ap (λ t. a || t) (and-false b) ∙ or-false a
 
 -- one row of the table takes more bits of a node
 pub touch_added : (table : List (Vec Driver Global)) (k : ℕ) (r : Vec Driver Global) (node mask : ℕ) → k < length table

@@ -1,6 +1,6 @@
 // The ranks by which nodes are placed: names as soon as they can be, since they take no step, and the others by their positions. A group
 // that stands in no circle is placed once all that its nodes wait for is, so that their steps stand side by side. Positions within it are those
-// of its unit, so that all instances of a unit have one order, unless two of them need opposite ones.
+// of its unit, so that all instances of a unit have one order, unless what they need has no common one.
 ghost use Rattle.std.specs.Prelude.{◌≡◌, IfOk, length};
 
 use crate::components::{Components, components_of};

@@ -1,6 +1,10 @@
-// Tests of the reading of scripts, in a crate of their own, since a crate with tests is proved twice: rows of what `command_read` answers, in
-// pieces of several sizes.
+// Tests of what a script and a command line ask for, in a crate of their own, since a crate with tests is proved twice: rows of what `command_read`
+// answers, in pieces of several sizes (`script_tests`), of what `live_options` does (`option_tests`), and the script of `load_maker` (`load_tests`).
 #![tactic(auto)]
 
+#[cfg(test)]
+mod load_tests;
+#[cfg(test)]
+mod option_tests;
 #[cfg(test)]
 mod script_tests;

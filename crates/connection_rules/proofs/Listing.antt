@@ -8,13 +8,13 @@ use Rattle.verilog_ast.specs.Views.{expression_of, parts_of}
 use Rattle.width_rules.specs.Scopes.{Scope}
 use Rattle.width_rules.specs.Sizes.{length as size}
 use Rattle.width_rules.specs.Faults.{IsFirst}
+use Rattle.width_rules.proofs.Gathered.{no_part, parts_length}
 use Rattle.statement_rules.specs.Leaves.{Leaf, leaves}
 use Rattle.statement_rules.proofs.Walks.{head_is, ahead, refused_here}
 use Rattle.connection_rules.specs.declared.connection.Connection.{Connection}
 use Rattle.connection_rules.specs.Connections.{connection_faults, connection_kinds, all_connection_faults, all_connection_kinds}
 use Rattle.connection_rules.specs.Outputs.{is_target, target_at, part_faults, part_kinds}
 use Rattle.connection_rules.specs.Views.{connected_of}
-use Rattle.connection_rules.proofs.Written.{no_length, lengths}
 
 pub part_ahead : (scope : Scope) (xs : List Expr) (k : ℕ) (x : Expr) → k < length xs → x ≡ get_or xs k x → part_faults scope (expression_of x) ≡ []
     → part_faults scope (parts_of (map expression_of (drop (k + 1) xs))) ≡ part_faults scope (parts_of (map expression_of (drop k xs)))
@@ -30,11 +30,11 @@ pub long_ahead : (scope : Scope) (xs : List Expr) (k : ℕ) (x : Expr) (width mo
 long_ahead scope xs k x width more next h is own all =
     let split : size scope (parts_of (map expression_of (drop k xs))) ≡ size scope (expression_of x) + size scope (parts_of (map expression_of (drop (k + 1) xs))) =
     ap (λ (ys : List Expression). size scope (parts_of ys)) (head_is expression_of xs k x h is)
-    ∙ lengths scope (expression_of x) (parts_of (map expression_of (drop (k + 1) xs))) in
+    ∙ parts_length scope (expression_of x) (parts_of (map expression_of (drop (k + 1) xs))) in
     omega (arith, own, all, split)
 
 pub none_long : (scope : Scope) (xs : List Expr) (k : ℕ) → length xs ≤ k → size scope (parts_of (map expression_of (drop k xs))) ≡ 0
-none_long scope xs k h = at_drop_all (λ (ys : List Expr). size scope (parts_of (map expression_of ys))) xs k h ∙ no_length scope
+none_long scope xs k h = at_drop_all (λ (ys : List Expr). size scope (parts_of (map expression_of ys))) xs k h ∙ no_part scope
 
 pub leaves_ahead : (scope : Scope) (xs : List Expr) (k : ℕ) (x : Expr) (here more : List Leaf) → k < length xs → x ≡ get_or xs k x
     → more ≡ here ++ leaves scope (target_at (expression_of x))

@@ -3,8 +3,10 @@ use Rattle.std.proofs.Common.{◌≡◌, ◌<◌, ◌≤◌, ℕ, zero, suc, ◌
 use Rattle.std.specs.Prelude.{Option, Some, None, slice_get}
 use Rattle.std.proofs.lemmas.Bool.{lt-ltb, ne_eqb, eqb-true, eqb-false, cond-true, cond-false}
 use Rattle.std.proofs.lemmas.Option.{same_Some, none-some}
+use Rattle.std.proofs.Math.Bool.{and-false}
 use Rattle.typed_ir.specs.Orders.{Each, at_or}
 use Rattle.typed_ir.proofs.Cases.{by_cases}
+use Rattle.typed_ir.proofs.Lists.{each_append}
 use Rattle.unit_ir.specs.declared.child_shape.ChildShape.{ChildShape}
 use Rattle.unit_ir.specs.declared.port_shape.PortShape.{PortShape}
 use Rattle.unit_ir.specs.Items.{PlacedItem, SizedBody, Node, Clocked, Initial, node_in, nodes_in}
@@ -21,11 +23,7 @@ use Rattle.connection_rules.specs.Instances.{first_to, item_if, port_items, chil
 
 -- ---- lists
 
-each_append : {A : Type 0} (P : A → Type 0) (xs ys : List A) → Each P xs → Each P ys → Each P (xs ++ ys)
-each_append P [] ys h k = k
-each_append P (x ∷ xs) ys h k = (h.0, each_append P xs ys h.1 k)
-
-nodes_append : (xs ys : List PlacedItem) → nodes_in (xs ++ ys) ≡ nodes_in xs ++ nodes_in ys
+pub nodes_append : (xs ys : List PlacedItem) → nodes_in (xs ++ ys) ≡ nodes_in xs ++ nodes_in ys
 nodes_append [] ys = refl
 nodes_append (x ∷ xs) ys = nodes_behind x.body (nodes_append xs ys)
   where
@@ -36,23 +34,19 @@ nodes_append (x ∷ xs) ys = nodes_behind x.body (nodes_append xs ys)
 
 -- ---- the first connection of a port is one to it
 
-first_port : (k : ℕ) (cs : List Connected) (c : Connected) → first_to k cs ≡ Some c → c.port ≡ k
+pub first_port : (k : ℕ) (cs : List Connected) (c : Connected) → first_to k cs ≡ Some c → c.port ≡ k
 first_port k [] c h = absurd (none-some c h)
 first_port k (d ∷ ds) c h = by_cases (d.port == k)
     (λ t. sym (ap (λ (x : Connected). x.port) (same_Some d c (sym (cond-true (d.port == k) (Some d) (first_to k ds) t) ∙ h))) ∙ eqb-true d.port k t)
     (λ f. first_port k ds c (sym (cond-false (d.port == k) (Some d) (first_to k ds) f) ∙ h))
 
-first_is : (P : Connected → Type 0) (k : ℕ) (cs : List Connected) (c : Connected) → Each P cs → first_to k cs ≡ Some c → P c
+pub first_is : (P : Connected → Type 0) (k : ℕ) (cs : List Connected) (c : Connected) → Each P cs → first_to k cs ≡ Some c → P c
 first_is P k [] c all h = absurd (none-some c h)
 first_is P k (d ∷ ds) c all h = by_cases (d.port == k)
     (λ t. subst P (same_Some d c (sym (cond-true (d.port == k) (Some d) (first_to k ds) t) ∙ h)) all.0)
     (λ f. first_is P k ds c all.1 (sym (cond-false (d.port == k) (Some d) (first_to k ds) f) ∙ h))
 
 -- ---- each child, port and bit has at most one node
-
-none_right : (b : Bool) → (b && false) ≡ false
-none_right true = refl
-none_right false = refl
 
 -- what drives no such port
 other_child : (c s i d : ℕ) (scope : Scope) (x : Connected) → (d ≡ c → ⊥) → port_drives c s i (connection_node scope d x) ≡ false
@@ -67,7 +61,7 @@ other_port c s i d scope x h = by_input x.shape.input
   where
     by_input : (b : Bool) → port_drives c s i (cond b (input_node scope d x) (output_node scope d x (driven_by x))) ≡ false
     by_input true =
-        ap (λ b. (d == c) && (b && (nat_le 0 i && nat_lt i (0 + x.shape.width)) || false)) (ne_eqb s x.port h) ∙ none_right (d == c)
+        ap (λ b. (d == c) && (b && (nat_le 0 i && nat_lt i (0 + x.shape.width)) || false)) (ne_eqb s x.port h) ∙ and-false (d == c)
     by_input false = refl
 
 single : (b : Bool) → cond b 1 0 + 0 ≤ 1

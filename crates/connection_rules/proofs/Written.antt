@@ -19,14 +19,6 @@ use Rattle.connection_rules.specs.Outputs.{is_target, target_at, part_faults, pa
 
 -- ---- lengths
 
-pub no_length : (scope : Scope) → length scope e.NoPart ≡ 0
-unfolding length
-no_length scope = refl
-
-pub lengths : (scope : Scope) (x xs : Expression) → length scope (e.Parts x xs) ≡ length scope x + length scope xs
-unfolding length
-lengths scope x xs = refl
-
 pub same_length : (scope : Scope) (x : Expression) → is_target x ≡ true → target_length scope (target_at x) ≡ length scope x
 unfolding length
 same_length scope (e.Literal at x) h = absurd (true≢false (sym h))

@@ -8,11 +8,10 @@ use Rattle.typed_ir.specs.Valuations.{Valuation, look}
 use Rattle.typed_ir.specs.Orders.{Member}
 use Rattle.typed_ir.specs.Cycles.{Flat, fill, cut_to, input, width_at, IsReady}
 use Rattle.typed_ir.proofs.Cases.{by_cases}
-use Rattle.typed_ir.proofs.Members.{member_later}
+use Rattle.typed_ir.proofs.Members.{member_later, map_same}
 use Rattle.typed_ir.proofs.Ready.{member_or, fill-other}
 use Rattle.stimulus.specs.Rows.{value_in}
 use Rattle.cycle_eval.specs.Inputs.{name_at, row_values}
-use Rattle.cycle_eval.proofs.Laws.{map_same}
 
 pub cut_length : (ws xs : List ℕ) → length (cut_to ws xs) ≡ length ws
 cut_length [] xs = refl

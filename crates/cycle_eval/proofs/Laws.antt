@@ -1,5 +1,5 @@
 -- What a run of a design begins with and gives.
-use Rattle.std.proofs.Common.{◌≡◌, ℕ, ◌-◌, ◌<◌, Bool, true, false, true≢false, ◌==◌, List, [], ◌∷◌, length, map, drop, refl, sym, ◌∙◌, ap₂, arith, subst, min, inl, inr, length-drop}
+use Rattle.std.proofs.Common.{◌≡◌, ℕ, ◌-◌, ◌<◌, Bool, true, false, true≢false, ◌==◌, List, [], ◌∷◌, length, map, drop, refl, sym, ◌∙◌, ap₂, arith, subst, min, length-drop}
 use Rattle.std.proofs.lemmas.Bool.{eq-eqb, cond-true, cond-false, ne_eqb}
 use Rattle.std.proofs.lemmas.List.{length-take}
 use Rattle.machine.specs.Rows.{between, Covers}
@@ -7,6 +7,7 @@ use Rattle.typed_ir.specs.Valuations.{Valuation}
 use Rattle.typed_ir.specs.Orders.{Member, Distinct}
 use Rattle.typed_ir.specs.Cycles.{Flat, fill}
 use Rattle.typed_ir.proofs.Cases.{by_cases}
+use Rattle.typed_ir.proofs.Members.{map_same}
 use Rattle.cycle_eval.specs.Kits.{driven, run_of}
 use Rattle.state_layout.specs.Words.{register_widths}
 use Rattle.reg_transform.specs.States.{paired, state_values, are_alike}
@@ -17,11 +18,6 @@ pub run_is : (design : Flat) (rows : List (List (ℕ × ℕ))) (s : List (ℕ ×
     → paired (register_widths design) (driven design rows (state_values s)) ≡ run_of design rows s
 run_is design [] s h = absurd (omega (arith, h))
 run_is design (row ∷ rows) s h = refl
-
--- registers that were filled have what they were filled with
-pub map_same : (f g : ℕ → ℕ) (ts : List ℕ) → ((t : ℕ) → Member t ts → f t ≡ g t) → map f ts ≡ map g ts
-map_same f g [] h = refl
-map_same f g (t ∷ ts) h = ap₂ (λ (z : ℕ) (zs : List ℕ). z ∷ zs) (h t (inl refl)) (map_same f g ts (λ u m. h u (inr m)))
 
 pub fill_back : (rs xs : List ℕ) (env : Valuation) → Distinct rs → length xs ≡ length rs → map (fill rs xs env) rs ≡ xs
 fill_back [] [] env d h = refl

@@ -1,22 +1,15 @@
 -- States that are put among words, and read out of them.
-use Rattle.std.proofs.Common.{◌≡◌, ℕ, zero, suc, ◌+◌, ◌<◌, ◌≤◌, ◌==◌, nat_lt, List, [], ◌∷◌, ◌++◌, length, map, get_or, set, take, drop, IsTrue, refl, sym, ◌∙◌, ap, ap₂, subst, arith}
+use Rattle.std.proofs.Common.{◌≡◌, ℕ, zero, suc, ◌+◌, ◌<◌, ◌≤◌, ◌==◌, List, [], ◌∷◌, ◌++◌, length, map, get_or, set, take, drop, refl, sym, ◌∙◌, ap, ap₂, subst, arith}
 use Rattle.std.specs.Prelude.{slice_get, Some}
-use Rattle.std.proofs.lemmas.Bool.{ltb-true, cond-true, cond-false}
+use Rattle.std.proofs.lemmas.Bool.{cond-true, cond-false}
 use Rattle.std.proofs.lemmas.List.{length-map, take_more_set, map_more}
 use Rattle.typed_ir.specs.Valuations.{Valuation, put, look}
 use Rattle.typed_ir.specs.Cycles.{fill}
-use Rattle.typed_ir.specs.Flats.{are_below}
-use Rattle.typed_ir.proofs.Cases.{and_left, and_right, by_cases}
+use Rattle.typed_ir.proofs.Cases.{by_cases}
 use Rattle.typed_ir.proofs.Lists.{drop_split}
 use Rattle.reg_transform.specs.States.{paired, state_values}
 use Rattle.state_layout.specs.Slots.{state_widths}
 use Rattle.cycle_eval.proofs.Carries.{pair}
-
--- each register is there
-pub below_read : (rs : List ℕ) (count i : ℕ) → IsTrue (are_below rs count) → i < length rs → get_or rs i 0 < count
-below_read [] count i h k = absurd (omega (arith, k))
-below_read (r ∷ rs) count zero h k = ltb-true r count (and_left (nat_lt r count) (are_below rs count) h)
-below_read (r ∷ rs) count (suc i) h k = below_read rs count i (and_right (nat_lt r count) (are_below rs count) h) (omega (arith, k))
 
 -- one more register filled, from the end
 pub fill_step : (rs xs : List ℕ) (i : ℕ) (start env : Valuation) (r x : ℕ) → i < length rs → i < length xs → r ≡ get_or rs i 0 → x ≡ get_or xs i 0
@@ -73,11 +66,6 @@ written_step f g rs p s new w x listed there width value put before =
 -- all registers that were left are filled
 pub all_filled : (left : ℕ) (ss xs : List ℕ) (start env : Valuation) → left ≡ 0 → env ≡ fill (drop left ss) (drop left xs) start → env ≡ fill ss xs start
 all_filled left ss xs start env none is = subst (λ k. env ≡ fill (drop k ss) (drop k xs) start) none is
-
--- nothing is filled where nothing is given
-pub fill_none : (ss : List ℕ) (env : Valuation) → fill ss [] env ≡ env
-fill_none [] env = refl
-fill_none (s ∷ ss) env = refl
 
 -- a bit that is the same is so after the same was filled
 pub fill_look : (ss xs : List ℕ) (v w : Valuation) (s i : ℕ) → look v s i ≡ look w s i → look (fill ss xs v) s i ≡ look (fill ss xs w) s i

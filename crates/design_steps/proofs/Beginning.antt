@@ -70,7 +70,7 @@ spot_at v xs m =
     let p = position_or_len (λ x. v == x) xs in
     subst (Found xs v) (sym (ap (λ b. or_end (cond b (Some p) None) (length xs)) (lt-ltb p (length xs) f.within))) f
 
-fill_none : (rs : List ℕ) (env : Valuation) → fill rs [] env ≡ env
+pub fill_none : (rs : List ℕ) (env : Valuation) → fill rs [] env ≡ env
 fill_none [] env = refl
 fill_none (r ∷ rs) env = refl
 

@@ -1,5 +1,5 @@
 -- What words hold after those of registers are copied over.
-use Rattle.std.proofs.Common.{◌≡◌, ℕ, zero, suc, ◌+◌, ◌-◌, ◌<◌, ◌≤◌, ◌&&◌, nat_le, nat_lt, inl, inr, List, [], ◌∷◌, length, get_or, refl, sym, ap, ◌∙◌, subst, arith, true, true≢false}
+use Rattle.std.proofs.Common.{◌≡◌, ℕ, ◌+◌, ◌-◌, ◌<◌, ◌≤◌, ◌&&◌, nat_le, nat_lt, inl, inr, List, [], ◌∷◌, get_or, refl, sym, ap, ◌∙◌, subst, arith, true, true≢false}
 use Rattle.std.proofs.lemmas.Bool.{leb-true, le-leb, ltb-true, ltb-false, and_from, cond-true, cond-false}
 use Rattle.typed_ir.specs.Valuations.{Valuation, put}
 use Rattle.typed_ir.specs.Orders.{Member}
@@ -15,11 +15,6 @@ pub below_member : (rs : List ℕ) (n r : ℕ) → are_below rs n ≡ true → M
 below_member [] n r h m = absurd m
 below_member (s ∷ rs) n r h (inl e) = let less : s < n = ltb-true s n (and_left (nat_lt s n) (are_below rs n) h) in omega (arith, e, less)
 below_member (s ∷ rs) n r h (inr m) = below_member rs n r (and_right (nat_lt s n) (are_below rs n) h) m
-
-pub below_read : (rs : List ℕ) (n i : ℕ) → are_below rs n ≡ true → i < length rs → get_or rs i 0 < n
-below_read [] n i h less = absurd (omega (arith, less))
-below_read (r ∷ rs) n zero h less = ltb-true r n (and_left (nat_lt r n) (are_below rs n) h)
-below_read (r ∷ rs) n (suc i) h less = below_read rs n i (and_right (nat_lt r n) (are_below rs n) h) (omega (arith, less))
 
 -- a place to which nothing is copied
 pub carried_kept : (rs : List ℕ) (from to : ℕ) (w : Valuation) (k : ℕ) → ((r : ℕ) → Member r rs → k ≡ to + r → ⊥) → carried rs from to w k ≡ w k

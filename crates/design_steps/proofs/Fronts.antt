@@ -13,18 +13,17 @@ use Rattle.typed_ir.specs.Flats.{signal_widths}
 use Rattle.typed_ir.specs.FlatNodes.{node_of}
 use Rattle.typed_ir.proofs.Cases.{by_cases, and_left, and_right}
 use Rattle.typed_ir.proofs.Mentions.{reads_foreign}
+use Rattle.typed_ir.proofs.Lists.{each_left, each_right, each_append, each_weaker}
 use Rattle.step_layout.specs.declared.layout.Layout.{Layout}
 use Rattle.step_layout.specs.Plans.{IsKnown, width_at}
 use Rattle.step_layout.specs.Statements.{stmt_constants, stmt_code}
 use Rattle.step_layout.specs.Nodes.{as_statement, node_at, in_order}
 use Rattle.step_layout.specs.Views.{plan_of}
-use Rattle.step_layout.proofs.Ready.{each_left, each_right}
 use Rattle.step_layout.proofs.Passing.{node_legal}
 use Rattle.design_steps.specs.declared.naming.Naming.{Naming}
 use Rattle.design_steps.specs.Pooled.{nodes_constants}
 use Rattle.design_steps.specs.Namings.{is_shared, kept, Names, LeadsTo, Itself, Over, IsAlias}
 use Rattle.design_steps.specs.Layings.{left_of, own_plan, view_of, writes, LaysOut}
-use Rattle.design_steps.proofs.Holding.{each_both, each_map}
 use Rattle.design_steps.proofs.Shared.{names_drive, names_read, names_some}
 use Rattle.design_steps.proofs.Written.{written_drives, read_mentioned}
 use Rattle.design_steps.proofs.Alike.{stmt_same}
@@ -173,7 +172,7 @@ module _ (l : Layout) (design : Flat) (h : LaysOut l design) where
         let ws = signal_widths design.signals.items in
         stmt_same (plan_of l) (view_of l n).slot st mark (ap (is_legal st) h.widths ∙ node_legal n ws is.legal)
         (λ t i r within. mention_stands t i (read_mentioned n t i r) within)
-        (each_map (λ (p : Span). (p.signal < length design.signals.items) × (slice_index l.slots.items p.signal ≡ p.signal + 1))
+        (each_weaker (λ (p : Span). (p.signal < length design.signals.items) × (slice_index l.slots.items p.signal ≡ p.signal + 1))
         (λ (p : Span). (view_of l n).slot p.signal ≡ (plan_of l).slot p.signal) (targets st)
         (λ p at. let e = own_at p.signal at.0 at.1 in view_own l n p.signal e ∙ sym e)
         (kept_targets l design h k left n is.legal (λ s i d. is.drives s i ∙ d)))
@@ -203,7 +202,7 @@ module _ (l : Layout) (design : Flat) (h : LaysOut l design) (mark : ℕ) where
           (if b then kept l.widths.items l.slots.items (map node_of design.nodes.items) ks else (k ∷ kept l.widths.items l.slots.items (map node_of design.nodes.items) ks)))
       of rest true e = rest
       of rest false e =
-          each_both IsAlike (node_at (map node_of design.nodes.items) k)
+          each_append IsAlike (node_at (map node_of design.nodes.items) k)
           (in_order (map node_of design.nodes.items) (kept l.widths.items l.slots.items (map node_of design.nodes.items) ks))
           (alike_at done k (rest_front (Before design) done k ks r) (there k (inl refl)) e) rest
 

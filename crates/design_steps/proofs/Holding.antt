@@ -6,25 +6,16 @@ use Rattle.std.proofs.lemmas.Bool.{eqb-true}
 use Rattle.indexmap.specs.IndexSet.{insert_key}
 use Rattle.typed_ir.specs.declared.arm.Arm.{Arm as Arm'}
 use Rattle.typed_ir.specs.declared.lane.Lane.{Lane}
-use Rattle.typed_ir.specs.Orders.{Member, Each}
+use Rattle.typed_ir.specs.Orders.{Member}
 use Rattle.typed_ir.specs.Stmts.{SizedStmt}
 use Rattle.typed_ir.specs.Statements.{stmt_of, arm_of, item_of, arms_before}
 use Rattle.typed_ir.proofs.Cases.{by_cases}
-use Rattle.typed_ir.proofs.Lists.{drop_read}
+use Rattle.typed_ir.proofs.Lists.{drop_read, each_append, each_weaker, each_left, each_right}
 use Rattle.typed_ir.proofs.Listed.{arm_is}
 use Rattle.typed_ir.proofs.Members.{member_left, member_right}
 use Rattle.step_layout.specs.Statements.{target_constants, item_constants, stmt_constants, arm_constants}
 use Rattle.step_layout.specs.Nodes.{parts_of}
 use Rattle.design_steps.specs.Pooled.{Holds}
-use Rattle.step_layout.proofs.Ready.{each_left, each_right}
-
-pub each_both : {A : Type 0} (P : A → Type 0) (xs ys : List A) → Each P xs → Each P ys → Each P (xs ++ ys)
-each_both P [] ys h k = k
-each_both P (x ∷ xs) ys h k = (h.0, each_both P xs ys h.1 k)
-
-pub each_map : {A : Type 0} (P Q : A → Type 0) (xs : List A) → ((x : A) → P x → Q x) → Each P xs → Each Q xs
-each_map P Q [] f h = tt
-each_map P Q (x ∷ xs) f h = (f x h.0, each_map P Q xs f h.1)
 
 pub holds_none : (xs : List ℕ) → Holds xs xs []
 holds_none xs = record { kept = λ v m. m; there = tt }
@@ -32,14 +23,14 @@ holds_none xs = record { kept = λ v m. m; there = tt }
 pub holds_both : (old mid new ps qs : List ℕ) → Holds old mid ps → Holds mid new qs → Holds old new (ps ++ qs)
 holds_both old mid new ps qs h k = record {
   kept = λ v m. k.kept v (h.kept v m);
-  there = each_both (λ v. Member v new) ps qs (each_map (λ v. Member v mid) (λ v. Member v new) ps k.kept h.there) k.there;
+  there = each_append (λ v. Member v new) ps qs (each_weaker (λ v. Member v mid) (λ v. Member v new) ps k.kept h.there) k.there;
 }
 
 -- what was put in first, and what was put in then
 pub holds_first : (old mid new ps qs : List ℕ) → Holds old mid ps → Holds mid new qs → Holds old new ps
 holds_first old mid new ps qs h k = record {
   kept = λ v m. k.kept v (h.kept v m);
-  there = each_map (λ v. Member v mid) (λ v. Member v new) ps k.kept h.there;
+  there = each_weaker (λ v. Member v mid) (λ v. Member v new) ps k.kept h.there;
 }
 
 pub holds_then : (old mid new ps qs : List ℕ) → Holds old mid ps → Holds mid new qs → Holds old new qs
@@ -62,7 +53,7 @@ then_ok (Err e) old mid new ps qs h k = tt
 pub holds_front : (old mid new ps qs : List ℕ) → Holds mid new ps → Holds old mid qs → Holds old new (ps ++ qs)
 holds_front old mid new ps qs h k = record {
   kept = λ v m. h.kept v (k.kept v m);
-  there = each_both (λ v. Member v new) ps qs h.there (each_map (λ v. Member v mid) (λ v. Member v new) qs h.kept k.there);
+  there = each_append (λ v. Member v new) ps qs h.there (each_weaker (λ v. Member v mid) (λ v. Member v new) qs h.kept k.there);
 }
 
 found_in : (v : ℕ) (xs : List ℕ) → list_any (λ x. v == x) xs ≡ true → Member v xs
@@ -101,8 +92,8 @@ holds_arm arms otherwise k x old mid new h is one rest =
     (subst (λ a. Holds old new (arm_constants a)) (sym (arm_is x others))
     (record {
       kept = own.kept;
-      there = each_both (λ v. Member v new) items (body ++ arm_constants others) (each_left (λ v. Member v new) items body front)
-          (each_both (λ v. Member v new) body (arm_constants others) (each_right (λ v. Member v new) items body front)
+      there = each_append (λ v. Member v new) items (body ++ arm_constants others) (each_left (λ v. Member v new) items body front)
+          (each_append (λ v. Member v new) body (arm_constants others) (each_right (λ v. Member v new) items body front)
           (each_right (λ v. Member v new) (items ++ body) (arm_constants others) own.there));
     }))
 

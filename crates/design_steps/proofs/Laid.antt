@@ -17,6 +17,7 @@ use Rattle.typed_ir.specs.FlatNodes.{node_of}
 use Rattle.typed_ir.specs.Statements.{stmt_of, sequence_of}
 use Rattle.typed_ir.specs.declared.stmt.Stmt.{Stmt}
 use Rattle.typed_ir.proofs.Cases.{and_left, and_right}
+use Rattle.typed_ir.proofs.Lists.{each_append}
 use Rattle.step_layout.specs.declared.layout.Layout.{Layout}
 use Rattle.step_layout.specs.Plans.{IsAlone, IsKnown}
 use Rattle.step_layout.specs.Views.{plan_of}
@@ -26,7 +27,6 @@ use Rattle.step_layout.specs.Right.{IsLaid, IsLaidNode}
 use Rattle.design_steps.specs.declared.naming.Naming.{Naming}
 use Rattle.design_steps.specs.Namings.{is_shared, kept, IsAlias}
 use Rattle.design_steps.specs.Layings.{with_slots, clocking_plan, view_of, writes, signals_of, LaysOut}
-use Rattle.design_steps.proofs.Holding.{each_both}
 use Rattle.step_layout.proofs.Passing.{node_legal}
 use Rattle.design_steps.proofs.Counting.{in_all}
 use Rattle.design_steps.proofs.Shared.{names_drive, names_known, names_shared}
@@ -138,7 +138,7 @@ module _ (l : Layout) (design : Flat) (h : LaysOut l design) where
           (if b then kept l.widths.items l.slots.items (map node_of design.nodes.items) ks else (k ∷ kept l.widths.items l.slots.items (map node_of design.nodes.items) ks)))
       of rest true e = rest
       of rest false e =
-          each_both (λ n. IsLaidNode (view_of l n) (signals_of design) n) (node_at (map node_of design.nodes.items) k)
+          each_append (λ n. IsLaidNode (view_of l n) (signals_of design) n) (node_at (map node_of design.nodes.items) k)
           (in_order (map node_of design.nodes.items) (kept l.widths.items l.slots.items (map node_of design.nodes.items) ks)) (node_at_laid k e) rest
 
   blocks_legal : (sts : List Stmt) → IsTrue (are_clocked sts (signal_widths design.signals.items)) → is_legal (sequence_of (map stmt_of sts)) (signal_widths design.signals.items) ≡ true

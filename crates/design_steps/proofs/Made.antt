@@ -1,12 +1,8 @@
 -- What is made of a linked design is its program.
 use Rattle.std.proofs.Common.{true, ◌≡◌, ℕ, ◌+◌, ◌-◌, ◌*◌, ◌<◌, ◌≤◌, List, [], ◌∷◌, ◌++◌, map, length, replicate, refl, sym, ap, ◌∙◌, subst, arith}
-use Rattle.std.proofs.lemmas.Bool.{and_from}
 use Rattle.typed_ir.specs.declared.linked.Linked.{Linked}
 use Rattle.typed_ir.specs.Nodes.{FlatNode}
 use Rattle.typed_ir.specs.Orders.{Each}
-use Rattle.typed_ir.proofs.Cases.{and_left, and_right}
-use Rattle.word_steps.specs.Sound.{is_sized}
-use Rattle.word_steps.specs.declared.step.Step.{Step}
 use Rattle.step_layout.specs.declared.layout.Layout.{Layout}
 use Rattle.typed_ir.specs.Statements.{stmt_of, sequence_of}
 use Rattle.typed_ir.specs.Cycles.{IsReady as IsBased}
@@ -17,7 +13,7 @@ use Rattle.step_layout.specs.Statements.{stmt_code}
 use Rattle.step_layout.specs.Nodes.{as_statement, nodes_code}
 use Rattle.step_layout.specs.Sizes.{are_sized}
 use Rattle.step_layout.specs.Views.{plan_of}
-use Rattle.step_layout.proofs.Sizing.{stmt_sized}
+use Rattle.step_layout.proofs.Sizing.{stmt_sized, sized_append}
 use Rattle.step_layout.proofs.Passing.{node_legal}
 use Rattle.design_steps.specs.declared.program.Program.{Program}
 use Rattle.design_steps.specs.Layings.{LaysOut, own_plan, clocking_plan, view_of, mark_of, signals_of}
@@ -31,18 +27,12 @@ use Rattle.design_steps.specs.Moves.{moved_step, env_by, gathered}
 use Rattle.design_steps.proofs.Moved.{moved_sized}
 use Rattle.design_steps.proofs.Gathered.{IsTable, all_table}
 
-sized_both : (xs ys : List Step) → are_sized xs ≡ true → are_sized ys ≡ true → are_sized (xs ++ ys) ≡ true
-sized_both [] ys h k = k
-sized_both (x ∷ xs) ys h k =
-    let own = is_sized x.wide x.op x.width x.low in
-    and_from own (are_sized (xs ++ ys)) (and_left own (are_sized xs) h) (sized_both xs ys (and_right own (are_sized xs) h) k)
-
 -- the steps of nodes fit the words that they take, where each is laid out by a plan of its own
 nodes_sized : (l : Layout) → ((s : ℕ) → width_at (plan_of l) s ≤ 128) → (rs : List ℕ) (ks : List FlatNode) (mark : ℕ) → Each (λ k. IsLaidNode (view_of l k) rs k) ks
     → are_sized (nodes_code (plan_of l) ks mark) ≡ true
 nodes_sized l few rs [] mark h = refl
 nodes_sized l few rs (k ∷ ks) mark h =
-    sized_both (stmt_code (plan_of l) (as_statement k) mark) (nodes_code (plan_of l) ks mark)
+    sized_append (stmt_code (plan_of l) (as_statement k) mark) (nodes_code (plan_of l) ks mark)
     (stmt_sized (plan_of l) few (as_statement k) mark (node_legal k l.widths.items h.0.legal)) (nodes_sized l few rs ks mark h.1)
 
 pub made : (p : Program) (l : Linked) (mark last : ℕ) → LaysOut p.layout l.design → mark ≡ mark_of p.layout

@@ -4,9 +4,7 @@ use Rattle.std.specs.Prelude.{slice_index, if◌then◌else◌}
 use Rattle.std.specs.Int.{bit_at}
 use Rattle.std.proofs.lemmas.Bool.{ltb-true, ltb-false, eqb-true, eqb-false, cond-true, cond-false}
 use Rattle.std.proofs.lemmas.List.{append-nil}
-use Rattle.std.proofs.lemmas.Nat.Bits.{same_from_bits}
-use Rattle.bits.proofs.Runs.{bit_at-mod_out}
-use Rattle.bits.proofs.Modulo.{small}
+use Rattle.std.proofs.lemmas.Nat.Bits.{same_from_bits, bit_at_above}
 use Rattle.typed_ir.specs.declared.linked.Linked.{Linked}
 use Rattle.typed_ir.specs.Orders.{Member, at_or, any_drives}
 use Rattle.typed_ir.specs.Valuations.{Valuation, look, Same}
@@ -38,10 +36,6 @@ use Rattle.design_steps.proofs.Counting.{below_all}
 use Rattle.design_steps.proofs.Apart.{widths_many, stand, view_few, view_apart, view_own, own_place, own_next, own_mark, alias_at, view_ready}
 use Rattle.design_steps.proofs.Laid.{driven_there, not_alias, one_laid}
 use Rattle.design_steps.proofs.Fronts.{IsFront, IsRest, rest_first, rest_front, rest_next, IsNode, the_node, Before, root_done, own_at, read_done, mention_stands, view_same}
-
--- a bit that a number doesn't have
-high_bit : (x width i : ℕ) → x < 2 ^ width → width ≤ i → bit_at x i ≡ 0
-high_bit x width i fits high = ap (λ y. bit_at y i) (sym (small x width fits)) ∙ bit_at-mod_out x width i high
 
 drives_number : (ns : List FlatNode) (k s i : ℕ) → drives_at ns k s i ≡ true → k < length ns
 drives_number [] k s i d = absurd (true≢false (sym d))
@@ -125,7 +119,7 @@ module _ (lay : Layout) (l : Linked) (lays : LaysOut lay l.design) (f : IsFlat (
   settled_high : (s i : ℕ) → s < length l.design.signals.items → slice_index ws s ≤ i → look settled s i ≡ 0
   settled_high s i less high =
       settled_free s i (undriven s i (λ a d. let low = (driven_there lay l.design lays a s i d).1 in omega (arith, low, high)))
-      ∙ high_bit (first ((own_plan lay).slot s)) (slice_index ws s) i
+      ∙ bit_at_above (first ((own_plan lay).slot s)) (slice_index ws s) i
       (subst (λ vs. first ((own_plan lay).slot s) < 2 ^ slice_index vs s) lays.widths (ready.fits s (wide s less))) high
 
   -- a wire that is another name has what the signal has
@@ -213,7 +207,7 @@ module _ (lay : Layout) (l : Linked) (lays : LaysOut lay l.design) (f : IsFlat (
             ∙ ap (λ x. bit_at x j) (sym (settled_alias t a)))
             (λ no.
             let high = ltb-false j (slice_index ws t) no in
-            high_bit (w ((view_of lay n).slot t)) (slice_index ws t) j
+            bit_at_above (w ((view_of lay n).slot t)) (slice_index ws t) j
             (subst (λ vs. w ((view_of lay n).slot t) < 2 ^ slice_index vs t) lays.widths ((view_ready lay l.design lays n w r.ready).fits t (wide t less))) high
             ∙ sym (settled_high t j less high))
 

@@ -1,5 +1,5 @@
 -- What a cycle of a program gives.
-use Rattle.std.proofs.Common.{◌≡◌, ℕ, ◌+◌, ◌*◌, ◌<◌, ◌≤◌, ◌^◌, ◌&&◌, ◌==◌, nat_lt, inl, inr, List, [], ◌∷◌, ◌++◌, map, length, refl, sym, ap, ap₂, ◌∙◌, subst, arith, IsTrue}
+use Rattle.std.proofs.Common.{◌≡◌, ℕ, ◌+◌, ◌*◌, ◌<◌, ◌≤◌, ◌^◌, ◌&&◌, ◌==◌, nat_lt, inl, inr, List, [], ◌∷◌, ◌++◌, map, length, refl, sym, ap, ◌∙◌, subst, arith, IsTrue}
 use Rattle.std.proofs.Math.Logic.{∥∥₁_elim}
 use Rattle.std.proofs.Props.{props}
 use Rattle.std.proofs.lemmas.Bool.{ltb-true, ltb-false, eqb-true, eqb-false, cond-true, cond-false}
@@ -23,6 +23,7 @@ use Rattle.typed_ir.proofs.Numbered.{wires_satisfy}
 use Rattle.typed_ir.proofs.Pending.{clocked_still}
 use Rattle.typed_ir.proofs.Ready.{member_or, fill-other, applied_others, all_signals, next_ready}
 use Rattle.typed_ir.proofs.Settled.{round-outside}
+use Rattle.typed_ir.proofs.Members.{map_same}
 use Rattle.word_steps.specs.declared.step.Step.{Step}
 use Rattle.word_steps.specs.Walks.{At, walk, at}
 use Rattle.step_layout.specs.Statements.{stmt_code}
@@ -96,10 +97,6 @@ pub record Settles (p : Program) (l : Linked) (old w v : Valuation) : Type 0 whe
   pub kept : (s : ℕ) → ((plan_of p.layout).slot s ≡ (own_plan p.layout).slot s → ⊥) → w ((own_plan p.layout).slot s) ≡ old ((own_plan p.layout).slot s)
   pub still : (k : ℕ) → length l.design.signals.items < k → k < 2 * length l.design.signals.items + 1 → w k ≡ old k
   pub ready : IsReady (own_plan p.layout) (signals_of l.design) w
-
-map_same : (f g : ℕ → ℕ) (ts : List ℕ) → ((t : ℕ) → Member t ts → f t ≡ g t) → map f ts ≡ map g ts
-map_same f g [] h = refl
-map_same f g (t ∷ ts) h = ap₂ (λ (z : ℕ) (zs : List ℕ). z ∷ zs) (h t (inl refl)) (map_same f g ts (λ u m. h u (inr m)))
 
 -- ---- the wires
 

@@ -11,13 +11,12 @@ use Rattle.typed_ir.specs.Stmts.{index_reads, SizedTarget, Fixed, Moving, SizedS
 use Rattle.typed_ir.specs.Nodes.{FlatNode, Drive, Block, lane_spans, node_drives, drives_at, is_legal_node, are_legal}
 use Rattle.typed_ir.specs.Touches.{all_reads, mentions}
 use Rattle.typed_ir.proofs.Cases.{by_cases, and_left, and_right, only_right, left_or, right_or}
+use Rattle.typed_ir.proofs.Lists.{each_left, each_right, each_append}
 use Rattle.step_layout.specs.Statements.{stmt_constants}
 use Rattle.step_layout.specs.Nodes.{parts_of, as_statement, node_at}
 use Rattle.design_steps.specs.Pooled.{nodes_constants}
 use Rattle.design_steps.specs.Namings.{is_among}
 use Rattle.design_steps.specs.Layings.{writes}
-use Rattle.step_layout.proofs.Ready.{each_left, each_right}
-use Rattle.design_steps.proofs.Holding.{each_both}
 use Rattle.step_layout.proofs.Passing.{node_legal}
 
 -- ---- what is legal writes signals alone that are there
@@ -67,18 +66,18 @@ module _ (P : Span → Type 0) (ws : List ℕ) (there : (p : Span) → IsThere w
     targets_there (Assign parts e) h = parts_there parts (and_left (are_targets parts ws) (is_sized e ws) h)
     targets_there (Later parts e) h = tt
     targets_there (Then a b) h =
-        each_both P (targets a) (targets b) (targets_there a (and_left (is_legal a ws) (is_legal b ws) h))
+        each_append P (targets a) (targets b) (targets_there a (and_left (is_legal a ws) (is_legal b ws) h))
         (targets_there b (and_right (is_legal a ws) (is_legal b ws) h))
     targets_there (If c a b) h =
         let sides = and_right (is_sized c ws) (is_legal a ws && is_legal b ws) h in
-        each_both P (targets a) (targets b) (targets_there a (and_left (is_legal a ws) (is_legal b ws) sides))
+        each_append P (targets a) (targets b) (targets_there a (and_left (is_legal a ws) (is_legal b ws) sides))
         (targets_there b (and_right (is_legal a ws) (is_legal b ws) sides))
     targets_there (Case e arms) h = arm_targets_there arms (and_right (is_sized e ws) (are_legal_arms arms ws) h)
 
     arm_targets_there : (arms : SizedArms) → are_legal_arms arms ws ≡ true → Each P (arm_targets arms)
     arm_targets_there (Arm items body rest) h =
         let both = and_right (are_items items ws) (is_legal body ws && are_legal_arms rest ws) h in
-        each_both P (targets body) (arm_targets rest) (targets_there body (and_left (is_legal body ws) (are_legal_arms rest ws) both))
+        each_append P (targets body) (arm_targets rest) (targets_there body (and_left (is_legal body ws) (are_legal_arms rest ws) both))
         (arm_targets_there rest (and_right (is_legal body ws) (are_legal_arms rest ws) both))
     arm_targets_there (Default otherwise) h = targets_there otherwise h
 
@@ -88,18 +87,18 @@ module _ (P : Span → Type 0) (ws : List ℕ) (there : (p : Span) → IsThere w
     later_there (Assign parts e) h = tt
     later_there (Later parts e) h = parts_there parts (and_left (are_targets parts ws) (is_sized e ws) h)
     later_there (Then a b) h =
-        each_both P (later_targets a) (later_targets b) (later_there a (and_left (is_legal a ws) (is_legal b ws) h))
+        each_append P (later_targets a) (later_targets b) (later_there a (and_left (is_legal a ws) (is_legal b ws) h))
         (later_there b (and_right (is_legal a ws) (is_legal b ws) h))
     later_there (If c a b) h =
         let sides = and_right (is_sized c ws) (is_legal a ws && is_legal b ws) h in
-        each_both P (later_targets a) (later_targets b) (later_there a (and_left (is_legal a ws) (is_legal b ws) sides))
+        each_append P (later_targets a) (later_targets b) (later_there a (and_left (is_legal a ws) (is_legal b ws) sides))
         (later_there b (and_right (is_legal a ws) (is_legal b ws) sides))
     later_there (Case e arms) h = later_arms_there arms (and_right (is_sized e ws) (are_legal_arms arms ws) h)
 
     later_arms_there : (arms : SizedArms) → are_legal_arms arms ws ≡ true → Each P (later_arm_targets arms)
     later_arms_there (Arm items body rest) h =
         let both = and_right (are_items items ws) (is_legal body ws && are_legal_arms rest ws) h in
-        each_both P (later_targets body) (later_arm_targets rest) (later_there body (and_left (is_legal body ws) (are_legal_arms rest ws) both))
+        each_append P (later_targets body) (later_arm_targets rest) (later_there body (and_left (is_legal body ws) (are_legal_arms rest ws) both))
         (later_arms_there rest (and_right (is_legal body ws) (are_legal_arms rest ws) both))
     later_arms_there (Default otherwise) h = later_there otherwise h
 
@@ -110,14 +109,14 @@ mutual
   clocked_targets P (Assign parts e) h = absurd (true≢false (sym h))
   clocked_targets P (Later parts e) h = tt
   clocked_targets P (Then a b) h =
-      each_both P (targets a) (targets b) (clocked_targets P a (and_left (is_clocked a) (is_clocked b) h)) (clocked_targets P b (and_right (is_clocked a) (is_clocked b) h))
+      each_append P (targets a) (targets b) (clocked_targets P a (and_left (is_clocked a) (is_clocked b) h)) (clocked_targets P b (and_right (is_clocked a) (is_clocked b) h))
   clocked_targets P (If c a b) h =
-      each_both P (targets a) (targets b) (clocked_targets P a (and_left (is_clocked a) (is_clocked b) h)) (clocked_targets P b (and_right (is_clocked a) (is_clocked b) h))
+      each_append P (targets a) (targets b) (clocked_targets P a (and_left (is_clocked a) (is_clocked b) h)) (clocked_targets P b (and_right (is_clocked a) (is_clocked b) h))
   clocked_targets P (Case e arms) h = clocked_arm_targets P arms h
 
   clocked_arm_targets : (P : Span → Type 0) (arms : SizedArms) → are_clocked_arms arms ≡ true → Each P (arm_targets arms)
   clocked_arm_targets P (Arm items body rest) h =
-      each_both P (targets body) (arm_targets rest) (clocked_targets P body (and_left (is_clocked body) (are_clocked_arms rest) h))
+      each_append P (targets body) (arm_targets rest) (clocked_targets P body (and_left (is_clocked body) (are_clocked_arms rest) h))
       (clocked_arm_targets P rest (and_right (is_clocked body) (are_clocked_arms rest) h))
   clocked_arm_targets P (Default otherwise) h = clocked_targets P otherwise h
 

@@ -1,27 +1,25 @@
 -- Bits of masks and of tables of masks.
-use Rattle.std.proofs.Common.{◌≡◌, ◌<◌, ◌≤◌, ◌+◌, ◌^◌, ◌==◌, ◌&&◌, ◌||◌, ℕ, zero, suc, min, max, Bool, true, false, not, nat_le, nat_lt, List, [], ◌∷◌, length, get_or, set, refl, sym, ◌∙◌, ap, ap₂, arith, true≢false}
+use Rattle.std.proofs.Common.{◌≡◌, ◌<◌, ◌≤◌, ◌+◌, ◌^◌, ◌==◌, ◌&&◌, ◌||◌, ℕ, zero, suc, Bool, true, false, not, nat_le, nat_lt, List, [], ◌∷◌, length, get_or, set, refl, sym, ◌∙◌, ap, ap₂, arith, true≢false}
 use Rattle.std.specs.Prelude.{bit_and, bit_or, slice_index}
 use Rattle.std.specs.Int.{bit_at}
-use Rattle.std.proofs.Math.Bool.{or-false, or_assoc, and-false}
-use Rattle.std.proofs.lemmas.Bool.{eqb-true, eqb-false, eq-eqb, ne_eqb, or_from}
+use Rattle.std.proofs.Math.Bool.{or_assoc, and-false}
+use Rattle.std.proofs.lemmas.Bool.{eqb-true, eqb-false, eq-eqb, or_from}
 use Rattle.std.proofs.lemmas.List.{get_or-set_same, get_or-set_other}
 use Rattle.std.proofs.lemmas.Nat.{pow_pos}
-use Rattle.std.proofs.lemmas.Nat.Bits.{bit_at_and, bit_at_or, bit_at-lt, bit_at-zero, same_from_bits_below}
+use Rattle.std.proofs.lemmas.Nat.Bits.{bit_at-lt, bit_at-zero, same_from_bits_below}
 use Rattle.typed_ir.specs.declared.span.Span.{Span}
 use Rattle.typed_ir.specs.Valuations.{Places, within}
 use Rattle.typed_ir.specs.Touches.{has_bit}
-use Rattle.typed_ir.proofs.Cases.{by_cases, or_left, or_right}
+use Rattle.typed_ir.proofs.Cases.{by_cases, or_left, or_right, or_none}
+use Rattle.typed_ir.proofs.Masks.{has_both, has_either, no_bit}
 use Rattle.block_rules.specs.Paths.{some_below}
+use Rattle.block_rules.proofs.Knowing.{some_same}
+use Rattle.block_rules.proofs.Finding.{none_some}
 use Rattle.driver_rules.specs.Doubles.{meets}
 use Rattle.driver_rules.specs.Told.{marked, joined}
 use Rattle.driver_rules.proofs.Runs.{by_order}
 
 -- ---- one test of a bit for each
-
-pub some_same : (n : ℕ) (f g : ℕ → Bool) → ((i : ℕ) → i < n → f i ≡ g i) → some_below n f ≡ some_below n g
-unfolding some_below
-some_same zero f g h = refl
-some_same (suc n) f g h = ap₂ (λ a b. a || b) (h n (omega arith)) (some_same n f g (λ i k. h i (omega (arith, k))))
 
 pub none_below : (n : ℕ) (f : ℕ → Bool) → some_below n f ≡ false → (i : ℕ) → i < n → f i ≡ false
 unfolding some_below
@@ -30,44 +28,15 @@ none_below (suc n) f h i k = by_cases (i == n)
     (λ yes. ap f (eqb-true i n yes) ∙ or_left (f n) (some_below n f) h)
     (λ no. none_below n f (or_right (f n) (some_below n f) h) i (let apart : i ≡ n → ⊥ = eqb-false i n no in omega (arith, k, apart)))
 
-pub some_none : (n : ℕ) (f : ℕ → Bool) → ((i : ℕ) → i < n → f i ≡ false) → some_below n f ≡ false
-unfolding some_below
-some_none zero f h = refl
-some_none (suc n) f h = ap₂ (λ a b. a || b) (h n (omega arith)) (some_none n f (λ i k. h i (omega (arith, k))))
-
 -- ---- masks
-
-both_ones : (a b : ℕ) → a < 2 → b < 2 → (min a b == 1) ≡ ((a == 1) && (b == 1))
-both_ones zero zero h k = refl
-both_ones zero (suc zero) h k = refl
-both_ones (suc zero) zero h k = refl
-both_ones (suc zero) (suc zero) h k = refl
-both_ones (suc (suc a)) b h k = absurd (omega (arith, h))
-both_ones zero (suc (suc b)) h k = absurd (omega (arith, k))
-both_ones (suc zero) (suc (suc b)) h k = absurd (omega (arith, k))
-
-either_one : (a b : ℕ) → a < 2 → b < 2 → (max a b == 1) ≡ ((a == 1) || (b == 1))
-either_one zero zero h k = refl
-either_one zero (suc zero) h k = refl
-either_one (suc zero) zero h k = refl
-either_one (suc zero) (suc zero) h k = refl
-either_one (suc (suc a)) b h k = absurd (omega (arith, h))
-either_one zero (suc (suc b)) h k = absurd (omega (arith, k))
-either_one (suc zero) (suc (suc b)) h k = absurd (omega (arith, k))
-
-has_both : (m n i : ℕ) → has_bit (bit_and m n) i ≡ (has_bit m i && has_bit n i)
-has_both m n i = ap (λ b. b == 1) (bit_at_and m n i) ∙ both_ones (bit_at m i) (bit_at n i) (bit_at-lt m i) (bit_at-lt n i)
-
-has_either : (m n i : ℕ) → has_bit (bit_or m n) i ≡ (has_bit m i || has_bit n i)
-has_either m n i = ap (λ b. b == 1) (bit_at_or m n i) ∙ either_one (bit_at m i) (bit_at n i) (bit_at-lt m i) (bit_at-lt n i)
 
 -- two masks of 128 bits have one in common
 pub masks_meet : (m n : ℕ) → bit_and m n < 2 ^ 128 → not (bit_and m n == 0) ≡ some_below 128 (λ i. has_bit m i && has_bit n i)
 masks_meet m n small = by_cases (bit_and m n == 0)
     (λ yes. let e : bit_and m n ≡ 0 = eqb-true (bit_and m n) 0 yes in
-    ap not yes ∙ sym (some_none 128 (λ i. has_bit m i && has_bit n i)
+    ap not yes ∙ sym (none_some 128 (λ i. has_bit m i && has_bit n i)
     (λ i k. sym (has_both m n i) ∙ ap (λ x. has_bit x i) e
-    ∙ ne_eqb (bit_at 0 i) 1 (λ one. let z : bit_at 0 i ≡ 0 = bit_at-zero i in omega (arith, z, one)))))
+    ∙ no_bit i)))
     (λ no. ap not no ∙ sym (found no))
   where
     found : (bit_and m n == 0) ≡ false → some_below 128 (λ i. has_bit m i && has_bit n i) ≡ true
@@ -88,9 +57,6 @@ meets_is table p mask old is run = some_same 128 (λ i. has_bit mask i && has_bi
     (λ i small. ap₂ (λ b m. b && has_bit m i) (run i small) is
     ∙ ap (λ b. (b && (nat_le p.low i && nat_lt i (p.low + p.width))) && marked table p.signal i) (sym (eq-eqb p.signal p.signal refl)))
 
-or_nothing : (a b : Bool) → b ≡ false → (a || b) ≡ a
-or_nothing a b h = ap (λ t. a || t) h ∙ or-false a
-
 -- a part joins the table
 pub marks_part : (table : List ℕ) (p : Span) (mask old s i : ℕ) → p.signal < length table → old ≡ slice_index table p.signal
     → has_bit mask i ≡ (nat_le p.low i && nat_lt i (p.low + p.width))
@@ -104,7 +70,7 @@ marks_part table p mask old s i inside is run =
     ∙ ap₂ (λ m b. has_bit m i || b) (is ∙ ap (slice_index table) (sym e)) run
     ∙ ap (λ b. marked table s i || (b && (nat_le p.low i && nat_lt i (p.low + p.width)))) (sym yes))
     (λ no. ap (λ z. has_bit z i) (get_or-set_other table p.signal s (bit_or old mask) 0 (eqb-false s p.signal no))
-    ∙ sym (or_nothing (marked table s i) (within p s i) (ap (λ b. b && (nat_le p.low i && nat_lt i (p.low + p.width))) no)))
+    ∙ sym (or_none (marked table s i) (within p s i) (ap (λ b. b && (nat_le p.low i && nat_lt i (p.low + p.width))) no)))
 
 apart : (m w : Bool) → ((m || w) && not m) ≡ (w && not m)
 apart true true = refl

@@ -9,9 +9,9 @@ use Rattle.typed_ir.specs.Stmts.{SizedStmt, targets, known_after}
 use Rattle.typed_ir.proofs.Cases.{by_cases, left_or, right_or, only_right, and_left, and_right}
 use Rattle.unit_ir.specs.declared.signal_declaration.SignalDeclaration.{SignalDeclaration}
 use Rattle.block_rules.specs.Paths.{is_member, unwritten, AreHere}
+use Rattle.block_rules.proofs.Finding.{none_some}
 use Rattle.driver_rules.specs.Writes.{AreWithin}
 use Rattle.driver_rules.specs.Blocks.{order_at, comes_before, nearer, first_declared}
-use Rattle.driver_rules.proofs.Bits.{some_none}
 use Rattle.driver_rules.proofs.Runs.{by_order}
 use Rattle.driver_rules.proofs.Lists.{take_next}
 
@@ -185,6 +185,6 @@ past_none count s i (p ∷ ps) all h =
 
 pub unwritten_here : (count : ℕ) (st : SizedStmt) (s : ℕ) → AreHere count st → unwritten st s ≡ true → s < count
 unwritten_here count st s here h = by_order s count (λ k. k)
-    (λ past. absurd (true≢false (sym h ∙ some_none 128 (λ i. any_within (targets st) s i && not (known_after st nowhere s i))
+    (λ past. absurd (true≢false (sym h ∙ none_some 128 (λ i. any_within (targets st) s i && not (known_after st nowhere s i))
     (λ i small. ap (λ b. b && not (known_after st nowhere s i))
     (past_none count s i (targets st) (all_each (λ (p : Span). p.signal < count) (targets st) here) past)))))

@@ -1,19 +1,21 @@
 -- Bits that join a table, part by part, and parts that have a bit of it.
 use Rattle.std.proofs.Common.{◌≡◌, ◌<◌, ◌≤◌, ◌+◌, ◌&&◌, ◌||◌, ℕ, zero, suc, Bool, true, false, cond, not, List, [], ◌∷◌, ◌++◌, map, drop, take, length, get_or, set, nat_le, nat_lt, refl, sym, ◌∙◌, ap, ap₂, subst, arith, true≢false}
-use Rattle.std.proofs.Math.Bool.{or-false, or_assoc}
+use Rattle.std.proofs.Math.Bool.{or-false, or_assoc, and-not_self}
 use Rattle.typed_ir.specs.declared.span.Span.{Span}
 use Rattle.typed_ir.specs.Valuations.{Places, within, any_within, nowhere}
 use Rattle.std.specs.Prelude.{bit_or, slice_index}
+use Rattle.std.proofs.lemmas.List.{take_all}
 use Rattle.typed_ir.specs.Touches.{has_bit}
 use Rattle.typed_ir.specs.Orders.{Each}
 use Rattle.typed_ir.proofs.Lists.{drop_read}
 use Rattle.typed_ir.proofs.Locals.{any_within-append}
 use Rattle.block_rules.specs.Paths.{true_from}
+use Rattle.block_rules.proofs.Knowing.{some_same}
 use Rattle.driver_rules.specs.declared.driver.Driver.{Driver}
 use Rattle.driver_rules.specs.declared.driver_id.DriverId.{DriverId}
 use Rattle.driver_rules.specs.Doubles.{meets, overlaps}
 use Rattle.driver_rules.specs.Told.{marked, joined, Puts, Grows}
-use Rattle.driver_rules.proofs.Bits.{some_same, marks_part, part_joined}
+use Rattle.driver_rules.proofs.Bits.{marks_part, part_joined}
 use Rattle.driver_rules.proofs.Lists.{flag_next, take_next}
 use Rattle.driver_rules.proofs.Runs.{puts_two, puts_same, puts_none}
 
@@ -21,12 +23,6 @@ pub each_read : {A : Type 0} (P : A → Type 0) (xs : List A) (k : ℕ) (x : A) 
 each_read P [] k x all h is = absurd (omega (arith, h))
 each_read P (y ∷ ys) zero x all h is = subst P (sym is) all.0
 each_read P (y ∷ ys) (suc k) x all h is = each_read P ys k x all.1 (omega (arith, h)) is
-
-pub take_past : {A : Type 0} (xs : List A) (k : ℕ) → length xs ≤ k → take k xs ≡ xs
-take_past [] zero h = refl
-take_past [] (suc k) h = refl
-take_past (x ∷ xs) zero h = absurd (omega (arith, h))
-take_past (x ∷ xs) (suc k) h = ap (λ zs. x ∷ zs) (take_past xs k (omega (arith, h)))
 
 -- ---- the same bits
 
@@ -83,14 +79,10 @@ grows_same by t u a b p q h same = record {
   puts = h.puts;
 }
 
-out : (a : Bool) → (a && not a) ≡ false
-out true = refl
-out false = refl
-
 pub grows_none : (by : DriverId) (t : List ℕ) (a : List Driver) → Grows by t t a a nowhere
 grows_none by t a = record {
   taken = λ s i small. sym (or-false (marked t s i));
-  puts = puts_none by a (joined t t) (λ s i small. out (marked t s i));
+  puts = puts_none by a (joined t t) (λ s i small. and-not_self (marked t s i));
 }
 
 -- one more span
@@ -105,7 +97,7 @@ grows_next by t u v a b c spans k x h is one two =
 
 pub grows_all : (by : DriverId) (t u : List ℕ) (a b : List Driver) (spans : List Span) (k : ℕ) → length spans ≤ k
     → Grows by t u a b (any_within (take k spans)) → Grows by t u a b (any_within spans)
-grows_all by t u a b spans k h g = subst (λ zs. Grows by t u a b (any_within zs)) (take_past spans k h) g
+grows_all by t u a b spans k h g = subst (λ zs. Grows by t u a b (any_within zs)) (take_all k spans h) g
 
 -- one part
 pub part_grows : (by : DriverId) (table : List ℕ) (place : ℕ) (p : Span) (mask old : ℕ) (a b : List Driver) → place ≡ p.signal → p.signal < length table

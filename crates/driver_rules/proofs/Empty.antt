@@ -1,10 +1,11 @@
 -- What it says of items that no fault is found in their targets.
 use Rattle.std.proofs.Common.{◌≡◌, ◌<◌, ◌≤◌, ◌+◌, ◌&&◌, ◌||◌, ℕ, zero, suc, Bool, true, false, not, nat_lt, List, [], ◌∷◌, ◌++◌, map, length, refl, sym, ◌∙◌, ap, ap₂, arith, true≢false}
-use Rattle.std.proofs.lemmas.Bool.{lt-ltb}
+use Rattle.std.proofs.lemmas.Bool.{lt-ltb, not-false}
 use Rattle.ls_text.specs.declared.fault.Fault.{Fault}
 use Rattle.typed_ir.specs.declared.span.Span.{Span}
 use Rattle.typed_ir.specs.Orders.{Each, at_or}
 use Rattle.typed_ir.proofs.Cases.{and_left}
+use Rattle.typed_ir.proofs.Lists.{each_weaker}
 use Rattle.unit_ir.specs.declared.signal_declaration.SignalDeclaration.{SignalDeclaration}
 use Rattle.unit_ir.specs.declared.typed_item.TypedItem.{TypedItem}
 use Rattle.unit_ir.specs.Items.{SizedBody, Node, Clocked, Initial, PlacedItem, item_of}
@@ -29,19 +30,11 @@ pub empty_right : {A : Type 0} (xs ys : List A) → xs ++ ys ≡ [] → ys ≡ [
 empty_right [] ys h = h
 empty_right (x ∷ xs) ys h = absurd (no_first x (xs ++ ys) h)
 
-pub each_map : {A : Type 0} (P Q : A → Type 0) (xs : List A) → ((x : A) → P x → Q x) → Each P xs → Each Q xs
-each_map P Q [] f h = tt
-each_map P Q (x ∷ xs) f h = (f x h.0, each_map P Q xs f h.1)
-
 pub each_both : {A : Type 0} (P Q : A → Type 0) (xs : List A) → Each P xs → Each Q xs → Each (λ x. P x × Q x) xs
 each_both P Q [] h k = tt
 each_both P Q (x ∷ xs) h k = ((h.0, k.0), each_both P Q xs h.1 k.1)
 
 -- ---- targets
-
-not_false : (b : Bool) → not b ≡ false → b ≡ true
-not_false true h = refl
-not_false false h = absurd (true≢false h)
 
 -- each signal that an item writes is one that it may write
 abbrev pub MayWrite : List SignalDeclaration → (ℕ → Bool) → PlacedItem → Type 0
@@ -50,8 +43,8 @@ MayWrite ds f x = Each (λ (s : ℕ). may_write ds f (writer_of x.body) s ≡ tr
 item_may : (ds : List SignalDeclaration) (f : ℕ → Bool) (x : PlacedItem) → target_faults ds f x ≡ [] → MayWrite ds f x
 item_may ds f x none =
     let flags = map (λ s. not (may_write ds f (writer_of x.body) s)) (written x.body) in
-    each_map (λ (s : ℕ). not (may_write ds f (writer_of x.body) s) ≡ false) (λ (s : ℕ). may_write ds f (writer_of x.body) s ≡ true) (written x.body)
-    (λ s. not_false (may_write ds f (writer_of x.body) s))
+    each_weaker (λ (s : ℕ). not (may_write ds f (writer_of x.body) s) ≡ false) (λ (s : ℕ). may_write ds f (writer_of x.body) s ≡ true) (written x.body)
+    (λ s. not-false (may_write ds f (writer_of x.body) s))
     (each_mapped (λ s. not (may_write ds f (writer_of x.body) s)) (written x.body)
     (all_false 0 flags (none_shown 33 (places_of_true flags) x.targets x.at none)))
 
@@ -82,9 +75,9 @@ body_within count (Clocked st) h = each_signal (λ (s : ℕ). s < count) (spans_
 body_within count (Initial signal) h = tt
 
 pub all_within : (ds : List SignalDeclaration) (f : ℕ → Bool) (xs : List PlacedItem) → all_target_faults ds f xs ≡ [] → AreItemsWithin (length ds) xs
-all_within ds f xs none = each_map (MayWrite ds f) (λ (x : PlacedItem). AreWithin (length ds) (spans_of x.body)) xs
+all_within ds f xs none = each_weaker (MayWrite ds f) (λ (x : PlacedItem). AreWithin (length ds) (spans_of x.body)) xs
     (λ x may. body_within (length ds) x.body
-    (each_map (λ (s : ℕ). may_write ds f (writer_of x.body) s ≡ true) (λ (s : ℕ). s < length ds) (written x.body)
+    (each_weaker (λ (s : ℕ). may_write ds f (writer_of x.body) s ≡ true) (λ (s : ℕ). s < length ds) (written x.body)
     (λ s. may_inside ds f (writer_of x.body) s) may))
     (items_may ds f xs none)
 

@@ -1,6 +1,6 @@
 -- What was put to a list of drivers, part by part.
 use Rattle.std.proofs.Common.{◌≡◌, ◌<◌, ◌≤◌, ◌+◌, ◌-◌, ◌==◌, ◌&&◌, ◌||◌, ℕ, Bool, true, false, cond, not, min, max, nat_le, nat_lt, ◌⊎◌, inl, inr, List, [], ◌∷◌, ◌++◌, refl, sym, ◌∙◌, ap, ap₂, subst, arith, true≢false}
-use Rattle.std.proofs.Math.Bool.{or-false, and-false}
+use Rattle.std.proofs.Math.Bool.{or-false, and-false, and_assoc}
 use Rattle.std.proofs.lemmas.Bool.{cases_lt, le-leb, lt-leb, lt-ltb, le-ltb, leb-true, leb-false, ltb-true, ltb-false}
 use Rattle.typed_ir.specs.Valuations.{Places, within}
 use Rattle.typed_ir.specs.declared.span.Span.{Span}
@@ -147,10 +147,6 @@ run_apart signal mask first low end s i h = by_order i low
     ∙ ap (λ t. (s == signal) && ((nat_le first i && t) && not (has_bit mask i))) (le-ltb i low k)
     ∙ ap (λ t. (s == signal) && (t && not (has_bit mask i))) (and-false (nat_le first i)) ∙ and-false (s == signal))))
 
-and_assoc : (a b c : Bool) → (a && (b && c)) ≡ ((a && b) && c)
-and_assoc true b c = refl
-and_assoc false b c = refl
-
 -- with the last run all of a span is put
 pub runs_done : (signal first width mask low end i s b : ℕ) → first ≤ low → low ≤ i → end ≤ i → i ≤ max first end → end ≡ min (first + width) 128
     → ((k : ℕ) → low ≤ k → k < i → has_bit mask k ≡ false) → b < 128
@@ -166,7 +162,7 @@ runs_done signal first width mask low end i s b from order past top is free smal
     ap (λ t. free_run signal mask first low s b || t) (free_all signal mask low end s b (λ k a z. free k a (omega (arith, z, same))))
     ∙ free_joined signal mask first low end s b from (omega (arith, order, same))
     ∙ ap (λ t. (s == signal) && ((nat_le first b && t) && not (has_bit mask b))) (ends h)
-    ∙ and_assoc (s == signal) (nat_le first b && nat_lt b (first + width)) (not (has_bit mask b)))
+    ∙ sym (and_assoc (s == signal) (nat_le first b && nat_lt b (first + width)) (not (has_bit mask b))))
   where
     ends : first ≤ end → nat_lt b end ≡ nat_lt b (first + width)
     ends h = by_order b end

@@ -33,7 +33,7 @@ use Rattle.driver_rules.proofs.Sooner.{none_shown}
 use Rattle.driver_rules.proofs.Lists.{all_false, each_mapped, at_or_more, at_or_past, take_next, map_more}
 use Rattle.driver_rules.proofs.Walks.{items_next, refused_here}
 use Rattle.driver_rules.proofs.Bits.{none_below}
-use Rattle.driver_rules.proofs.Doubles.{meets_same, overlaps_same, take_past}
+use Rattle.driver_rules.proofs.Doubles.{meets_same, overlaps_same}
 
 -- ---- what an item drives, by its number
 

@@ -1,7 +1,7 @@
 -- A module without a fault of its drivers is driven well.
 use Rattle.std.proofs.Common.{◌≡◌, ◌<◌, ◌≤◌, ◌+◌, ◌==◌, ◌&&◌, ◌||◌, ◌⊎◌, inl, inr, ℕ, zero, suc, Bool, true, false, cond, not, nat_le, nat_lt, List, [], ◌∷◌, ◌++◌, map, length, Option, Some, None, All, refl, sym, ◌∙◌, ap, ap₂, subst, arith, true≢false}
 use Rattle.std.proofs.Math.Bool.{and-false, or-false}
-use Rattle.std.proofs.lemmas.Bool.{eqb-true, le-ltb, lt-ltb}
+use Rattle.std.proofs.lemmas.Bool.{eqb-true, le-ltb, lt-ltb, not-true}
 use Rattle.ls_text.specs.declared.place.Place.{Place}
 use Rattle.ls_text.specs.declared.fault.Fault.{Fault}
 use Rattle.typed_ir.specs.declared.span.Span.{Span}
@@ -12,12 +12,14 @@ use Rattle.typed_ir.specs.Orders.{Each, Member, at_or}
 use Rattle.typed_ir.specs.Cycles.{Signal, WritesRegisters, block_writes}
 use Rattle.typed_ir.specs.Flats.{NodeWritesFirst}
 use Rattle.typed_ir.proofs.Cases.{by_cases, and_left, and_right, or_left, or_right, left_or, right_or, only_right}
+use Rattle.typed_ir.proofs.Lists.{each_append, each_weaker}
 use Rattle.unit_ir.specs.declared.mention.Mention.{Mention}
 use Rattle.unit_ir.specs.declared.signal_declaration.SignalDeclaration.{SignalDeclaration}
 use Rattle.unit_ir.specs.declared.signal_kind.SignalKind.{SignalKind}
 use Rattle.unit_ir.specs.declared.signal_kind.SignalKind.TheVariants.{Input, Net, Variable}
 use Rattle.unit_ir.specs.Trees.{UnitNode, Own, Into, From, count, own_drives, IsNodeSound}
 use Rattle.unit_ir.specs.Items.{SizedBody, Node, Clocked, Initial, PlacedItem, PlacedItems, node_in, block_in, nodes_in, blocks_in, unit_of}
+use Rattle.unit_ir.proofs.Counted.{count_append}
 use Rattle.width_rules.specs.declared.writer.Writer.{Writer}
 use Rattle.width_rules.specs.declared.writer.Writer.TheVariants as writer
 use Rattle.block_rules.specs.Paths.{flags_of_block, unwritten, places_of_true, BlocksAreWhole}
@@ -32,13 +34,9 @@ use Rattle.driver_rules.proofs.Sooner.{none_shown}
 use Rattle.driver_rules.proofs.Runs.{by_order}
 use Rattle.driver_rules.proofs.Taken.{own_is, item_apart, flag_number, sum_flags, at_most_one}
 use Rattle.driver_rules.proofs.Declared.{IsBest, declared_best, each_all, unwritten_here}
-use Rattle.driver_rules.proofs.Empty.{empty_left, empty_right, no_first, each_map, each_both, each_signal, MayWrite, items_may, all_within}
+use Rattle.driver_rules.proofs.Empty.{empty_left, empty_right, each_both, each_signal, MayWrite, items_may, all_within}
 
 -- ---- no bit twice
-
-count_append : {A : Type 0} (f : A → Bool) (xs ys : List A) → count f (xs ++ ys) ≡ count f xs + count f ys
-count_append f [] ys = omega arith
-count_append f (x ∷ xs) ys = ap (λ n. cond (f x) 1 0 + n) (count_append f xs ys) ∙ omega arith
 
 items_once : (taken : Places) (xs : List PlacedItem) (s i : ℕ) → double_faults taken xs ≡ [] → i < 128
     → count (λ (x : PlacedItem). writes x s i) xs + cond (taken s i) 1 0 ≤ 1
@@ -141,10 +139,6 @@ no_input ds f writer.Clocked s may is =
 no_input ds f writer.Combinational s may is =
     kinds_apart (λ (d : SignalDeclaration). is_variable_kind d.kind) (λ (d : SignalDeclaration). is_input_kind d.kind) (λ d. variable_input d.kind) ds s may is
 
-each_append : {A : Type 0} (P : A → Type 0) (xs ys : List A) → Each P xs → Each P ys → Each P (xs ++ ys)
-each_append P [] ys a b = b
-each_append P (x ∷ xs) ys a b = (a.0, each_append P xs ys a.1 b)
-
 each_node : (P : UnitNode → Type 0) (xs : List PlacedItem) → Each (λ (x : PlacedItem). Each P (node_in x.body)) xs → Each P (nodes_in xs)
 each_node P [] h = tt
 each_node P (x ∷ xs) h = each_append P (node_in x.body) (nodes_in xs) h.0 (each_node P xs h.1)
@@ -204,10 +198,6 @@ unsettled : (xs : List PlacedItem) (s : ℕ) → is_settled xs s ≡ false → E
 unsettled [] s h = tt
 unsettled (x ∷ xs) s h =
     (or_left (block_names s (blocks_of x.body)) (is_settled xs s) h, unsettled xs s (or_right (block_names s (blocks_of x.body)) (is_settled xs s) h))
-
-not_true : (b : Bool) → not b ≡ true → b ≡ false
-not_true true h = absurd (true≢false (sym h))
-not_true false h = refl
 
 -- ---- blocks
 
@@ -270,7 +260,7 @@ clocked_body : (ds : List SignalDeclaration) (f : ℕ → Bool) (registers : Lis
 clocked_body ds f registers (Node node) rest all may done = done
 clocked_body ds f registers (Clocked st) rest all may done = (
   each_signal (λ (s : ℕ). Member s registers) (later_targets st)
-      (each_map (λ (t : ℕ). may_write ds f writer.Clocked t ≡ true) (λ (s : ℕ). Member s registers) (map (λ (p : Span). p.signal) (later_targets st)) all may),
+      (each_weaker (λ (t : ℕ). may_write ds f writer.Clocked t ≡ true) (λ (s : ℕ). Member s registers) (map (λ (p : Span). p.signal) (later_targets st)) all may),
   done,
 )
 clocked_body ds f registers (Initial signal) rest all may done = done
@@ -298,14 +288,14 @@ unit_driven law p none narrow roles =
     record {
       own = λ s i. omega (arith, nodes_le p.items s i, at_most p s i no_doubles narrow);
       inputs_held = λ s i m. none_driven s i (nodes_in p.items) (each_node (λ node. own_drives s i node ≡ false) p.items
-          (each_map (MayWrite ds settled) (λ (x : PlacedItem). Each (λ node. own_drives s i node ≡ false) (node_in x.body)) p.items
+          (each_weaker (MayWrite ds settled) (λ (x : PlacedItem). Each (λ node. own_drives s i node ≡ false) (node_in x.body)) p.items
           (λ x may. input_body ds settled s i x.body may (roles.inputs s m)) may_all));
       registers_held = λ s i m. none_driven s i (nodes_in p.items) (each_node (λ node. own_drives s i node ≡ false) p.items
-          (each_map (λ (x : PlacedItem). MayWrite ds settled x × (block_names s (blocks_of x.body) ≡ false))
+          (each_weaker (λ (x : PlacedItem). MayWrite ds settled x × (block_names s (blocks_of x.body) ≡ false))
           (λ (x : PlacedItem). Each (λ node. own_drives s i node ≡ false) (node_in x.body)) p.items
           (λ x h. register_body ds settled s i x.body h.0 h.1 (and_left (is_variable ds s) (not (settled s)) (roles.only s m)))
           (each_both (MayWrite ds settled) (λ (x : PlacedItem). block_names s (blocks_of x.body) ≡ false) p.items may_all
-          (unsettled p.items s (not_true (settled s) (and_right (is_variable ds s) (not (settled s)) (roles.only s m)))))));
+          (unsettled p.items s (not-true (settled s) (and_right (is_variable ds s) (not (settled s)) (roles.only s m)))))));
       nodes = items_sound law p.signals ds p.items (all_within ds settled p.items no_targets) narrow no_blocks;
       writers = λ s i. omega (arith, blocks_le p.items s i, at_most p s i no_doubles narrow);
       registers_only = clocked_items ds settled p.registers p.items roles.all may_all;

@@ -1,5 +1,5 @@
 -- The instances of a design stand depth first: the top, and each other in one that is still open.
-use Rattle.std.proofs.Common.{◌≡◌, ◌<◌, ◌≤◌, ◌==◌, ℕ, zero, suc, Bool, true, false, ◌&&◌, nat_lt, if◌then◌else◌, List, [], ◌∷◌, ◌++◌, map, length, Result, Ok, Err, refl, sym, ◌∙◌, ap, subst, arith, append_assoc, append-nil}
+use Rattle.std.proofs.Common.{◌≡◌, ◌<◌, ◌≤◌, ◌==◌, ℕ, zero, suc, Bool, true, ◌&&◌, nat_lt, if◌then◌else◌, List, [], ◌∷◌, ◌++◌, map, length, Result, Ok, Err, refl, sym, ◌∙◌, ap, subst, arith, append_assoc, append-nil}
 use Rattle.std.specs.Prelude.{Option, Some, None, nat_le}
 use Rattle.std.proofs.lemmas.Bool.{cond-true, cond-false, eq-eqb, ne_eqb, lt-ltb}
 use Rattle.std.proofs.lemmas.List.{length_push, map_push, length-map}
@@ -7,6 +7,7 @@ use Rattle.ls_text.specs.declared.fault.Fault.{Fault}
 use Rattle.verilog_ast.specs.Items.{ModuleDeclaration}
 use Rattle.unit_ir.specs.Instances.{closed_to, goes_down, is_depth_first}
 use Rattle.gen_unroll.specs.Values.{◌>>=◌}
+use Rattle.gen_unroll.proofs.Answered.{err_or_ok, ok_same, first_step, past_test}
 use Rattle.elaborate.specs.declared.limits.Limits.{Limits}
 use Rattle.elaborate.specs.Checks.{ModuleChild}
 use Rattle.elaborate.specs.Elaborated.{Standing, Step, standing, top_standing, first_clock, clocks_behind, each_child, within as instances_within, is_on, of_module, child_at, top_of, from_top, elaborated}
@@ -15,40 +16,6 @@ use Rattle.elaborate.specs.Clocks.{top_clock}
 use Rattle.elaborate.specs.Checks.{or_no_module}
 use Rattle.module_names.specs.Modules.{module_named}
 use Rattle.width_rules.specs.Faults.{fault_at}
-
--- ---- steps that gave a value
-
-err_or_ok : {A P : Type 0} (f : Fault) (y : A) → Err f ≡ Ok y → P
-err_or_ok {A} f y h = absurd (subst is_err h tt)
-  where
-    is_err : Result A Fault → Type 0
-    is_err (Ok x) = ⊥
-    is_err (Err e) = Unit {0}
-
-abbrev good : {A : Type 0} → A → Result A Fault
-good x = Ok x
-
-ok_same : {A : Type 0} (x y : A) → good x ≡ good y → x ≡ y
-ok_same {A} x y h = ap (value_or x) h
-  where
-    value_or : A → Result A Fault → A
-    value_or z (Ok v) = v
-    value_or z (Err e) = z
-
--- the value of a first step, and what the second one gave of it
-record Stepped {A B : Type 0} (d : Result A Fault) (f : A → Result B Fault) (y : B) : Type 0 where
-  value : A
-  first : d ≡ Ok value
-  second : f value ≡ Ok y
-
-first_step : {A B : Type 0} (d : Result A Fault) (f : A → Result B Fault) (y : B) → (d >>= f) ≡ Ok y → Stepped d f y
-first_step (Ok x) f y h = record { value = x; first = refl; second = h }
-first_step (Err e) f y h = err_or_ok e y h
-
--- no fault was found by a test
-past_test : {A : Type 0} (b : Bool) (f : Fault) (r : Result A Fault) (y : A) → (if b then Err f else r) ≡ Ok y → r ≡ Ok y
-past_test true f r y h = err_or_ok f y h
-past_test false f r y h = h
 
 -- ---- which instances are open behind the last one
 
@@ -144,8 +111,9 @@ child_stands l ms (suc left) path above m around c k all new h stand is =
     let n = length all in
     let below = child_at l ms left (path ++ c.instantiated.name.0 ∷ []) in
     let named : Result ModuleDeclaration Fault = or_no_module (module_named c.instantiated.name.0 ms) c.instantiated in
-    let there = past_test (nat_le l.instances n) (fault_at 40 c.instantiated) (named >>= λ d. of_module l ms above below c k all d) new
-    (past_test (is_on path c.instantiated.name.0) (fault_at 23 c.instantiated) _ new is) in
+    let there = (past_test (nat_le l.instances n) (fault_at 40 c.instantiated) (named >>= λ d. of_module l ms above below c k all d) new
+    (past_test (is_on path c.instantiated.name.0) (fault_at 23 c.instantiated)
+    (if nat_le l.instances n then Err (fault_at 40 c.instantiated) else (named >>= λ d. of_module l ms above below c k all d)) new is).1).1 in
     let module_step = first_step named (λ d. of_module l ms above below c k all d) new there in
     let visit_step = first_step (visited l.turns ms None module_step.value c.overrides k) (λ v. instances_within (below n) v (all ++ standing above c k v ∷ [])) new module_step.second in
     let v = visit_step.value in

@@ -10,3 +10,4 @@ pub mod NamesInReach
 pub mod Prefixes
 pub mod Overridden
 pub mod MovedLists
+pub mod Answered

@@ -56,12 +56,3 @@ prefix_at texts xs k b h is =
 pub prefix_beyond : (texts : List (List ℕ)) (xs : List Block) (k : ℕ) → length xs ≤ k → prefix_in texts (reverse (map block_of xs)) (Some k) ≡ []
 prefix_beyond texts xs k h =
     beyond texts (reverse (map block_of xs)) k (let z = length-reverse (map block_of xs) ∙ length-map xs block_of in omega (arith, z, h))
-
--- four pieces, one after another
-pub pieces : (out before label index dot a b c d : List ℕ) → a ≡ out ++ before → b ≡ a ++ label → c ≡ b ++ index → d ≡ c ++ dot
-    → d ≡ out ++ (before ++ (label ++ (index ++ dot)))
-pieces out before label index dot a b c d h k l m =
-    m ∙ ap (λ zs. zs ++ dot) (l ∙ ap (λ zs. zs ++ index) (k ∙ ap (λ zs. zs ++ label) h))
-    ∙ append_assoc ((out ++ before) ++ label) index dot
-    ∙ append_assoc (out ++ before) label (index ++ dot)
-    ∙ append_assoc out before (label ++ (index ++ dot))

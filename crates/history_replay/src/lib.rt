@@ -27,6 +27,8 @@ mod ending_tests;
 mod given;
 #[cfg(test)]
 mod histories;
+#[cfg(test)]
+mod history_tests;
 mod links;
 #[cfg(test)]
 mod load_tests;
@@ -42,8 +44,6 @@ mod room_tests;
 mod running;
 mod settings;
 mod states;
-#[cfg(test)]
-mod tests;
 #[cfg(test)]
 mod ticket_tests;
 mod truth;

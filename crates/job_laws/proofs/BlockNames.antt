@@ -16,6 +16,7 @@ use Rattle.unit_ir.specs.declared.signal_kind.SignalKind.TheVariants as kind
 use Rattle.gen_unroll.specs.Declarations.{BitRange, declared_name, declared_reg_name}
 use Rattle.gen_unroll.specs.Reaches.{Reach, reach_in, innermost, in_reach}
 use Rattle.gen_unroll.specs.Steps.{GenerateBlock, ModuleStep, Listed, Port, Parameter, Item, Labelled, Opened, Closed, blocks_in}
+use Rattle.gen_unroll.proofs.Answered.{ok_same, first_step}
 use Rattle.unit_names.specs.Numbers.{SignalTable, header_names, first_where, if_any, with_header_port, ports_onto, is_no_port, numbered, table_of}
 use Rattle.unit_names.specs.Numbers.{module_table}
 use Rattle.unit_names.specs.Signals.{NamedSignal, is_outermost, is_port, is_port_named, header_net, kind_of_net, with_port, with_ports, with_next}
@@ -24,7 +25,6 @@ use Rattle.unit_names.specs.Signals.{put, with_net, with_nets, range_in, header_
 use Rattle.unit_jobs.specs.BlockNames.{declared_by, called_in, item_texts, texts_within}
 use Rattle.job_laws.specs.BlockSignals.{is_within_block, called}
 use Rattle.job_laws.specs.Outer.{is_item_outside, are_ports_outside}
-use Rattle.job_laws.proofs.Answered.{ok_same, first_step}
 use Rattle.job_laws.proofs.FoundValues.{one_less}
 use Rattle.job_laws.proofs.Numbering.{first_meets}
 use Rattle.job_laws.proofs.Ported.{net_signal}

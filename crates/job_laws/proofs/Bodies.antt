@@ -20,6 +20,7 @@ use Rattle.gen_unroll.specs.Declarations.{BitRange, declared_name, declared_reg_
 use Rattle.gen_unroll.specs.Reaches.{Reach, innermost, blocks_around, in_reach}
 use Rattle.gen_unroll.specs.Steps.{ModuleStep, Listed, Port, Parameter, Item, Labelled, Opened, Closed}
 use Rattle.gen_unroll.specs.Values.{ConstantValue, ◌>>=◌}
+use Rattle.gen_unroll.proofs.Answered.{Stepped, good, ok_same, first_step, past_need}
 use Rattle.clock_rules.specs.Connections.{connected}
 use Rattle.module_names.specs.Listings.{is_listed}
 use Rattle.module_names.specs.Modules.{module_named, parameters_of, header_ports}
@@ -34,7 +35,6 @@ use Rattle.unit_names.specs.Signals as signals
 use Rattle.unit_names.specs.Signals.{NamedSignal, with_port, with_ports, with_net, with_nets, item_signals, step_signals, declared_in}
 use Rattle.unit_names.specs.UnitLists as lists
 use Rattle.job_laws.specs.Outer.{is_item_outside, are_ports_outside}
-use Rattle.job_laws.proofs.Answered.{Stepped, good, ok_same, first_step, past_need}
 use Rattle.job_laws.proofs.Agreeing.{IsSame, Agrees, other_agrees, port_agrees, net_agrees, port_signal}
 use Rattle.job_laws.proofs.Ported.{InputsArePorts, inputs_put, inputs_last, net_no_input}
 use Rattle.job_laws.proofs.Ranges.{range_there}

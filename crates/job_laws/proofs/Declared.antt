@@ -6,9 +6,9 @@ use Rattle.verilog_ast.specs.declared.identifier.Identifier.{Identifier}
 use Rattle.verilog_ast.specs.declared.port_net.PortNet.{PortNet}
 use Rattle.verilog_ast.specs.Expressions.{Expression}
 use Rattle.gen_unroll.specs.Values.{◌>>=◌}
+use Rattle.gen_unroll.proofs.Answered.{err_or_ok, ok_same, first_step, past_need}
 use Rattle.elaborate.specs.Tables.{NameIn, Declaration, Table, same_block, is_same_name, declared_as, with_declaration, name_in, once, declare}
 use Rattle.elaborate.specs.Tables.{completes, completed_kind, net_over, initial, declare_net}
-use Rattle.job_laws.proofs.Answered.{err_or_ok, ok_same, first_step, past_need}
 
 -- ---- names
 

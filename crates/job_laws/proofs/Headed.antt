@@ -21,8 +21,8 @@ use Rattle.gen_unroll.specs.Unrolled.{State, each, override_of, given_or, parame
 use Rattle.gen_unroll.specs.Unrolled.{loop_turns, labelled, inside, outside, block_with, turn_with, loop_with, taken_with, unrolled, chosen, branch}
 use Rattle.gen_unroll.specs.Unrolled.{beginning, untyped, unrolled_module}
 use Rattle.gen_unroll.specs.Values.{ConstantValue, evaluated}
+use Rattle.gen_unroll.proofs.Answered.{err_or_ok}
 use Rattle.module_names.specs.Modules.{port_name, header_ports}
-use Rattle.job_laws.proofs.Answered.{err_or_ok}
 use Rattle.job_laws.proofs.Bodies.{is_of_body}
 
 -- the names of a header stand first among steps, in this order, where parameters may stand before and between them

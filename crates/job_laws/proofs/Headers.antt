@@ -15,6 +15,7 @@ use Rattle.gen_unroll.specs.Declarations.{BitRange}
 use Rattle.gen_unroll.specs.Reaches.{Reach, innermost, in_reach}
 use Rattle.gen_unroll.specs.Steps.{ModuleStep, Listed, Port, Parameter}
 use Rattle.gen_unroll.specs.Values.{ConstantValue, ◌>>=◌}
+use Rattle.gen_unroll.proofs.Answered.{ok_same, first_step, past_test}
 use Rattle.module_names.specs.Listings.{is_listed}
 use Rattle.module_names.specs.Modules.{port_name}
 use Rattle.elaborate.specs.declared.declaration_kind.DeclarationKind.TheVariants as kind
@@ -25,7 +26,6 @@ use Rattle.elaborate.specs.Tables.{Declaration, initial}
 use Rattle.unit_names.specs.Signals as signals
 use Rattle.unit_names.specs.Signals.{NamedSignal, with_port, with_next, last_of, complete_port, step_signals}
 use Rattle.job_laws.specs.Outer.{are_ports_outside}
-use Rattle.job_laws.proofs.Answered.{ok_same, first_step, past_test}
 use Rattle.job_laws.proofs.Agreeing.{IsSame, port_signal}
 use Rattle.job_laws.proofs.Ported.{net_no_input, last_new}
 use Rattle.job_laws.proofs.Ranges.{range_there}

@@ -12,6 +12,7 @@ use Rattle.verilog_ast.specs.declared.identifier.Identifier.{Identifier}
 use Rattle.verilog_ast.specs.Items.{ModuleDeclaration}
 use Rattle.width_rules.specs.Faults.{fault_at}
 use Rattle.gen_unroll.specs.Values.{◌>>=◌}
+use Rattle.gen_unroll.proofs.Answered.{err_or_ok, ok_same, first_step, past_test}
 use Rattle.module_names.specs.Modules.{module_named}
 use Rattle.elaborate.specs.declared.limits.Limits.{Limits}
 use Rattle.elaborate.specs.Checks.{ModuleChild, or_no_module}
@@ -20,7 +21,6 @@ use Rattle.elaborate.specs.Elaborated.{Standing, Step, standing, top_standing, f
 use Rattle.elaborate.specs.Elaborated.{within as instances_within, named_once, unless_there, few_modules, top_module, top_of, from_top, elaborated}
 use Rattle.elaborate.specs.Visits.{visited}
 use Rattle.job_laws.specs.InstanceModules.{IsVisited}
-use Rattle.job_laws.proofs.Answered.{err_or_ok, ok_same, first_step, past_test}
 
 -- ---- modules by their names
 

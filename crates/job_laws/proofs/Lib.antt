@@ -7,7 +7,6 @@ pub mod Rerolled
 pub mod CodeTrees
 pub mod FoundValues
 pub mod VisitedAgain
-pub mod Answered
 pub mod Declared
 pub mod Ported
 pub mod Agreeing

@@ -9,6 +9,7 @@ use Rattle.verilog_ast.specs.declared.identifier.Identifier.{Identifier}
 use Rattle.verilog_ast.specs.Declarations.{PortDeclaration, InputPort, OutputPort, NextPort, PortList, NoPorts, NamedPorts, DeclaredPorts}
 use Rattle.gen_unroll.specs.Declarations as declarations
 use Rattle.gen_unroll.specs.Declarations.{BitRange}
+use Rattle.gen_unroll.proofs.Answered.{past_need}
 use Rattle.module_names.specs.Listings.{is_listed}
 use Rattle.module_names.specs.Modules as modules
 use Rattle.module_names.specs.Modules.{header_ports}
@@ -23,7 +24,6 @@ use Rattle.unit_names.specs.Signals.{NamedSignal, is_outermost, is_port, is_port
 use Rattle.unit_names.specs.UnitReaches as reaches
 use Rattle.unit_names.proofs.Searching.{place_last}
 use Rattle.job_laws.specs.Leading.{IsPortSignal, AreNoInputs, AreLeading, rest, port}
-use Rattle.job_laws.proofs.Answered.{past_need}
 use Rattle.job_laws.proofs.Agreeing.{IsSame, Agree, Agrees, own}
 use Rattle.job_laws.proofs.Headers.{AreNew}
 use Rattle.job_laws.proofs.Ported.{InputsArePorts}

@@ -21,6 +21,7 @@ use Rattle.unit_ir.specs.Units.{signal_within, sized_unit}
 use Rattle.gen_unroll.specs.Steps.{ModuleStep}
 use Rattle.gen_unroll.specs.Unrolled.{unrolled_module, turn_limit}
 use Rattle.gen_unroll.specs.Values.{ConstantValue, constant_of, ◌>>=◌, unless}
+use Rattle.gen_unroll.proofs.Answered.{err_or_ok, ok_same, first_step}
 use Rattle.elaborate.specs.declared.limits.Limits.{Limits}
 use Rattle.elaborate.specs.Elaborated.{Standing, elaborated}
 use Rattle.elaborate.specs.Trees.{all_seen, tree}
@@ -37,7 +38,6 @@ use Rattle.unit_jobs.specs.JobViews.{job_view}
 use Rattle.unit_build.specs.Building.{module_of, job_steps, settled_signals, job_items, job_initials, placed_items, unit_with, unit_faults, built}
 use Rattle.unit_build.proofs.Standing.{placed_widths}
 use Rattle.job_laws.specs.JobUnits.{IsUnitOf}
-use Rattle.job_laws.proofs.Answered.{err_or_ok, ok_same, first_step}
 use Rattle.job_laws.proofs.CodeTrees.{code_stands}
 use Rattle.job_laws.proofs.KnownInstances.{IsKnown, side_by_side}
 use Rattle.job_laws.proofs.Rerolled.{ports_stand_outside}

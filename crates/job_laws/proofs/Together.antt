@@ -10,6 +10,7 @@ use Rattle.gen_unroll.specs.Reaches.{reach_in}
 use Rattle.gen_unroll.specs.Steps.{ModuleStep}
 use Rattle.gen_unroll.specs.Unrolled.{State, unrolled_module}
 use Rattle.gen_unroll.specs.Values.{ConstantValue, ◌>>=◌}
+use Rattle.gen_unroll.proofs.Answered.{good, ok_same, first_step}
 use Rattle.module_names.specs.Modules.{header_ports}
 use Rattle.elaborate.specs.Checks.{Checked, nothing_checked, check_steps, ports_declared, checked}
 use Rattle.elaborate.specs.Ports.{PortOutline, port_outlines}
@@ -20,7 +21,6 @@ use Rattle.unit_names.specs.Signals.{NamedSignal}
 use Rattle.unit_names.specs.UnitLists.{unit_signals, data_inputs}
 use Rattle.job_laws.specs.Leading.{AreLeading}
 use Rattle.job_laws.specs.Outer.{are_ports_outside}
-use Rattle.job_laws.proofs.Answered.{good, ok_same, first_step}
 use Rattle.job_laws.proofs.Headed.{headed}
 use Rattle.job_laws.proofs.Headers.{header_goes}
 use Rattle.job_laws.proofs.Leading.{leading_widths, leading_shape_widths, leading_inputs}

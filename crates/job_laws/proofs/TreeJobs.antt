@@ -11,12 +11,12 @@ use Rattle.unit_ir.specs.Shapes.{children_of, shape_of}
 use Rattle.gen_unroll.specs.Steps.{ModuleStep}
 use Rattle.gen_unroll.specs.Unrolled.{unrolled_module, turn_limit}
 use Rattle.gen_unroll.specs.Values.{◌>>=◌}
+use Rattle.gen_unroll.proofs.Answered.{ok_same, first_step}
 use Rattle.elaborate.specs.declared.limits.Limits.{Limits}
 use Rattle.elaborate.specs.Elaborated.{Standing, elaborated}
 use Rattle.elaborate.specs.Trees.{all_seen, tree}
 use Rattle.elaborate.specs.TreeViews.{instance_view, language_limits}
 use Rattle.unit_jobs.specs.Jobs.{InstanceJob, or_no_module, steps_under, job_with, instance_job, jobs_from, tree_jobs}
-use Rattle.job_laws.proofs.Answered.{ok_same, first_step}
 use Rattle.job_laws.proofs.CodeTrees.{code_stands}
 use Rattle.job_laws.proofs.InstanceModules.{all_visited}
 use Rattle.job_laws.proofs.KnownInstances.{IsKnown, all_known}

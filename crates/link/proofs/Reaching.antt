@@ -1,5 +1,5 @@
 -- Widths of ports against those of a whole unit, and the inputs that connections go into.
-use Rattle.std.proofs.Common.{◌≡◌, ℕ, zero, suc, ◌+◌, ◌<◌, ◌==◌, Bool, true, false, ◌&&◌, inl, inr, List, [], ◌∷◌, length, take, slice_index, cond, nat_le, nat_lt, Option, refl, sym, ◌∙◌, ap, subst, ltb-true, lt-ltb, eqb-true, true≢false, arith}
+use Rattle.std.proofs.Common.{◌≡◌, ℕ, zero, suc, ◌+◌, ◌<◌, ◌==◌, true, false, ◌&&◌, inl, inr, List, [], ◌∷◌, length, take, slice_index, cond, nat_le, nat_lt, Option, refl, sym, ◌∙◌, ap, subst, ltb-true, lt-ltb, eqb-true, true≢false, arith}
 use Rattle.std.proofs.Math.Nat.{min-le_left, min-le_right}
 use Rattle.std.proofs.lemmas.Bool.{and_from}
 use Rattle.std.proofs.lemmas.List.{length-take, get_or-take}
@@ -15,6 +15,7 @@ use Rattle.typed_ir.proofs.Cases.{and_left, and_right, by_cases, only_right}
 use Rattle.unit_ir.specs.declared.child_shape.ChildShape.{ChildShape}
 use Rattle.unit_ir.specs.declared.port_shape.PortShape.{PortShape}
 use Rattle.unit_ir.specs.Shapes.{is_data_input, data_inputs, is_input_of, are_inputs_of}
+use Rattle.unit_ir.proofs.Fitting.{both_from}
 
 -- ---- what fits the beginning of a list of widths fits the list
 
@@ -30,9 +31,6 @@ extends_take n whole part is = subst (Extends whole) is (record {
 
 pub extends_none : (whole : List ℕ) → Extends whole []
 extends_none whole = record { there = λ s h. absurd (omega (arith, h)); same = λ s h. absurd (omega (arith, h)) }
-
-both_from : (a b c d : Bool) → (a ≡ true → c ≡ true) → (b ≡ true → d ≡ true) → (a && b) ≡ true → (c && d) ≡ true
-both_from a b c d f g h = and_from c d (f (and_left a b h)) (g (and_right a b h))
 
 signal_reaches : (ws part : List ℕ) → Extends ws part → (s : ℕ) → nat_lt s (length part) ≡ true → nat_lt s (length ws) ≡ true
 signal_reaches ws part holds s h = lt-ltb s (length ws) (holds.there s (ltb-true s (length part) h))

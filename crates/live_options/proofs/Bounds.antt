@@ -1,32 +1,22 @@
 -- Options are within their bounds.
-use Rattle.std.proofs.Common.{◌≡◌, ℕ, ◌≤◌, Bool, true, false, leb, ◌&&◌, List, [], ◌∷◌, Option, Some, None, option_map, refl, subst, sym, codes, arith}
+use Rattle.std.proofs.Common.{◌≡◌, ℕ, ◌≤◌, leb, ◌&&◌, List, [], ◌∷◌, Option, Some, None, option_map, subst, sym, codes, arith}
 use Rattle.std.specs.Prelude.{IfSome}
 use Rattle.std.proofs.lemmas.Bool.{leb-true}
 use Rattle.clap.specs.Words.{Row, first_of, matches_of, takes}
 use Rattle.clap.proofs.WalkLemmas.{both}
-use Rattle.ls_text.specs.Options.{guard, ◌>>=◌}
+use Rattle.ls_text.specs.Options.{guard}
+use Rattle.ls_text.proofs.Options.{then_some, any_some, guarded}
 use Rattle.live_options.specs.declared.options.Options.{Options}
 use Rattle.live_options.specs.Words.{livesim_app, choice_within, load_of, number_of, number_within, options, options_in, options_of, value_of, value_within}
 use Rattle.live_options.specs.Bounds.{AreWithin, AskWithin}
-
--- a reading that goes on keeps what each step gives
-then_some : {A B : Type 0} (P : A → Type 0) (Q : B → Type 0) (o : Option A) (f : A → Option B) → IfSome o P → ((x : A) → P x → IfSome (f x) Q) → IfSome (o >>= f) Q
-then_some P Q (Some x) f h next = next x h
-then_some P Q None f h next = tt
-
-any_some : {A B : Type 0} (Q : B → Type 0) (o : Option A) (f : A → Option B) → ((x : A) → IfSome (f x) Q) → IfSome (o >>= f) Q
-any_some Q (Some x) f next = next x
-any_some Q None f next = tt
 
 abbrev IsBetween : (least most : ℕ) → ℕ → Type 0
 IsBetween least most n = (least ≤ n) × (n ≤ most)
 
 between : (least most n : ℕ) → IfSome (guard (leb least n && leb n most) n) (IsBetween least most)
-between least most n = by (leb least n && leb n most) (λ h. let each = both (leb least n) (leb n most) h in (leb-true _ _ each.0, leb-true _ _ each.1))
-  where
-    by : (b : Bool) → (b ≡ true → IsBetween least most n) → IfSome (guard b n) (IsBetween least most)
-    by true h = h refl
-    by false h = tt
+between least most n =
+    guarded (IsBetween least most) (leb least n && leb n most) n
+    (λ h. let each = both (leb least n) (leb n most) h in (leb-true _ _ each.0, leb-true _ _ each.1))
 
 number_between : (least most : ℕ) (text : List ℕ) → IfSome (number_within least most text) (IsBetween least most)
 number_between least most text =

@@ -10,6 +10,3 @@ mod values;
 
 pub use options::Options;
 pub use reading::read_options;
-
-#[cfg(test)]
-mod tests;

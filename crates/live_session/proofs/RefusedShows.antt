@@ -30,8 +30,3 @@ pub refused_stops : {E : Type 0} (names : List (List ℕ)) (limits : Limits) (as
 refused_stops names limits asked r j (Ok reply) = tt
 refused_stops names limits asked r j (Err e) =
     stops_still names limits asked r r j j (adds_nothing j) (λ (entries : List Entry) (grid : List ℕ). refl)
-
--- what holds where a call stops
-pub stopped : {T E P : Type 0} (answer : Result T E) → P → OnErr answer P
-stopped (Ok x) so = tt
-stopped (Err e) so = so

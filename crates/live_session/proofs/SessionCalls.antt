@@ -38,11 +38,6 @@ use Rattle.live_session.specs.declared.session.Session.{Session}
 use Rattle.live_session.proofs.Judged.{told_done}
 use Rattle.live_session.proofs.SessionSteps.{answers_for, none_twice, refuses_with, stops_before}
 
--- a fact that holds whatever came out
-pub always : {A E P : Type 0} (result : Result A E) → P → OnErr result P
-always (Ok x) p = tt
-always (Err e) p = p
-
 -- ---- what runs in a session
 
 pub kept_there : (names : List (List ℕ)) (limits : Limits) (running : Option Running) (r : Running) → running ≡ Some r

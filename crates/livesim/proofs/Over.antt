@@ -4,6 +4,7 @@ use Rattle.std.proofs.Math.Seq.{take-append_seam}
 use Rattle.std.proofs.lemmas.List.{length-map}
 use Rattle.std.proofs.KnownBytes.{Appends-nil, Appends-trans, Consumes-nil}
 use Rattle.std.specs.Io.KnownBytes.{Appends}
+use Rattle.std.proofs.lemmas.Bool.{false_from_ne_true}
 use Rattle.book_history.specs.Book.{Closes, Settings as BookSettings}
 use Rattle.command_read.specs.Readers.{has_ended, count_taken, stopped, asked_of as still_asked, AreKept}
 use Rattle.ls_text.specs.Readings.{TextFault}
@@ -58,10 +59,6 @@ neither n a b status is first second which = ⊎_elim (other n a status is first
 small : (b : Bool) (status : ℕ) → status ≡ status_of Whole b → status < 2
 small true status is = omega (arith, is)
 small false status is = omega (arith, is)
-
-open_reader : (b : Bool) → (b ≡ true → ⊥) → b ≡ false
-open_reader true never = absurd (never refl)
-open_reader false never = refl
 
 none_behind : (came kept lost : List ℕ) → came ≡ kept ++ lost → came ≡ kept → lost ≡ []
 none_behind came kept [] is same = refl
@@ -216,7 +213,7 @@ module _ (o : OptionsOf) (from mid to : Sources) (shelf mid_shelf shelved : Shel
       let bytes = d.bytes ++ e.reads.came in
       let rest = up_to_quit (e.told ++ still_asked new [] (has_ended new)) in
       let few = few_taken new going in
-      let unended : has_ended new ≡ false = open_reader (has_ended new) (λ ended. e.reads.takes.faultless ended halt.reason_is) in
+      let unended : has_ended new ≡ false = false_from_ne_true (has_ended new) (λ ended. e.reads.takes.faultless ended halt.reason_is) in
       let same : e.reads.came ≡ e.reads.kept = subst (λ s. AreKept s e.reads.came e.reads.kept) halt.reason_is e.reads.takes.holds in
       let s : IsStatus bytes (has_ended new) refused rest e.lost status = record {
         none_left = λ four five. none_left stop.Fault e.told e.lost _ _ halt;
@@ -246,7 +243,7 @@ module _ (o : OptionsOf) (from mid to : Sources) (shelf mid_shelf shelved : Shel
       let rest = up_to_quit (e.told ++ still_asked new [] (has_ended new)) in
       let many = many_taken new (ap is_too_much halt.reason_is) in
       let most = most_taken new in
-      let unended : has_ended new ≡ false = open_reader (has_ended new) (λ ended. e.reads.takes.few ended halt.reason_is) in
+      let unended : has_ended new ≡ false = false_from_ne_true (has_ended new) (λ ended. e.reads.takes.few ended halt.reason_is) in
       let last = subst (λ s. AreKept s e.reads.came e.reads.kept) halt.reason_is e.reads.takes.holds in
       let one_more : bytes ≡ (d.bytes ++ e.reads.kept) ++ last.0 ∷ [] = ap (λ c. d.bytes ++ c) last.1 ∙ sym (append_assoc d.bytes e.reads.kept (last.0 ∷ [])) in
       let cut : AreCut new bytes (d.bytes ++ e.reads.kept) [] = record {

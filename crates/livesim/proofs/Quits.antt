@@ -4,6 +4,7 @@ use Rattle.std.specs.List.{list_any}
 use Rattle.std.proofs.Math.Seq.{take-append_seam}
 use Rattle.std.proofs.lemmas.List.{take_all}
 use Rattle.std.proofs.lemmas.List.Folds.{list_any-append}
+use Rattle.std.proofs.lemmas.Bool.{or_parts}
 use Rattle.ls_text.specs.Readings.{TextFault}
 use Rattle.command_read.specs.Asking.{Asked}
 use Rattle.command_read.specs.Leading.{MayFollow}
@@ -27,19 +28,11 @@ abbrev pub counted : (quit : Bool) → (more : Told) → Told
 counted true more = []
 counted false more = up_to_quit more
 
-none_first : (a b : Bool) → (a || b) ≡ false → a ≡ false
-none_first true b none = none
-none_first false b none = refl
-
-none_second : (a b : Bool) → (a || b) ≡ false → b ≡ false
-none_second true b none = absurd (true≢false none)
-none_second false b none = none
-
 none_quits : (xs ys : Told) → list_any is_quit xs ≡ false → up_to_quit (xs ++ ys) ≡ xs ++ up_to_quit ys
 none_quits [] ys none = refl
 none_quits (x ∷ xs) ys none =
-    ap (λ q. x ∷ cond q [] (up_to_quit (xs ++ ys))) (none_first (is_quit x) (list_any is_quit xs) none)
-    ∙ ap (λ more. x ∷ more) (none_quits xs ys (none_second (is_quit x) (list_any is_quit xs) none))
+    ap (λ q. x ∷ cond q [] (up_to_quit (xs ++ ys))) (or_parts (is_quit x) (list_any is_quit xs) none).0
+    ∙ ap (λ more. x ∷ more) (none_quits xs ys (or_parts (is_quit x) (list_any is_quit xs) none).1)
 
 -- the commands up to the first `quit` are these, and then what counts behind them
 pub up_to : (quit : Bool) (told more : Told) → EndsAt quit told → up_to_quit (told ++ more) ≡ told ++ counted quit more
@@ -66,8 +59,8 @@ quits_last (x ∷ y ∷ front) last = quits_last (y ∷ front) last
 
 none_last : (told : Told) → list_any is_quit told ≡ false → end_with_quit told ≡ false
 none_last [] none = refl
-none_last (x ∷ []) none = none_first (is_quit x) false none
-none_last (x ∷ y ∷ told) none = none_last (y ∷ told) (none_second (is_quit x) (list_any is_quit (y ∷ told)) none)
+none_last (x ∷ []) none = (or_parts (is_quit x) false none).0
+none_last (x ∷ y ∷ told) none = none_last (y ∷ told) (or_parts (is_quit x) (list_any is_quit (y ∷ told)) none).1
 
 -- where none is `quit` the last one isn't
 pub never_quits : (told : Told) → list_any is_quit told ≡ false → end_with_quit told ≡ true → ⊥

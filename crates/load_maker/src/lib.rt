@@ -6,7 +6,5 @@
 mod files;
 pub mod laws;
 mod script;
-#[cfg(test)]
-mod tests;
 
 pub use script::make;

@@ -2,11 +2,13 @@
 //
 // `Source` and `Sink` are the traits that the program is written over. `MemSource`, `MemSink`, `SolidSource` and `SolidSink`
 // stand for them in memory, `StdSource` and `StdSink` on the streams of std. `Shelf` gives files by their names: `MemShelf` and
-// `SolidShelf` from memory, `FileShelf` from the folder that the program is run in. `Gate` is a pause point of threads. `tests` and
+// `SolidShelf` from memory, `FileShelf` from the folder that the program is run in. `Gate` is a pause point of threads. `failing_tests` and
 // `shelf_tests` have the order of calls.
 #![tactic(auto)]
 
 mod failed;
+#[cfg(test)]
+mod failing_tests;
 mod file_names;
 mod file_shelf;
 mod gate;
@@ -53,5 +55,3 @@ pub use std_source::StdSource;
 
 #[cfg(test)]
 mod shelf_tests;
-#[cfg(test)]
-mod tests;

@@ -1,7 +1,11 @@
 -- A table of names that has grown gives the same texts for its old ids.
-use Rattle.std.proofs.Common.{◌≡◌, ℕ, ◌<◌, ◌≤◌, List, [], ◌++◌, length, ap, ◌∙◌, append_assoc, arith}
+use Rattle.std.proofs.Common.{◌≡◌, ℕ, ◌<◌, ◌≤◌, List, [], ◌++◌, length, sym, ap, ◌∙◌, append_assoc, append-nil, arith}
 use Rattle.std.proofs.lemmas.List.{length-append, get_or_append_left}
 use Rattle.ls_text.specs.Texts.{Grows, text_at}
+
+-- a table has grown from itself
+pub grows_none : (texts : List (List ℕ)) → Grows texts texts
+grows_none texts = record { more = []; begins = sym (append-nil texts) }
 
 -- growth after growth is growth
 pub grows_on : (a b c : List (List ℕ)) → Grows a b → Grows b c → Grows a c

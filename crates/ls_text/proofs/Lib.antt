@@ -2,3 +2,6 @@ pub mod Growth
 pub mod Tables
 pub mod Refused
 pub mod Shown
+pub mod Cases
+pub mod Options
+pub mod Pieces

@@ -14,8 +14,6 @@ pub mod row_runs;
 pub mod steps;
 pub mod stretch;
 pub mod tally;
-#[cfg(test)]
-mod tests;
 
 use no_memory::NoMemory;
 use row_runs::RowRuns;

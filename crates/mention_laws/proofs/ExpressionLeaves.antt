@@ -19,6 +19,7 @@ use Rattle.width_rules.specs.Operators.{unary_kind, operator_of, comparison_with
 use Rattle.width_rules.specs.Scopes.{Meaning, Signal, Constant, Turn, Genvar, Unknown, Scope, is_signal}
 use Rattle.width_rules.specs.Signs.{is_signed}
 use Rattle.width_rules.specs.Sizes.{Operand, self_determined, unary_at, binary_at, length, push, joined, beside, extended, name_at, bits_at, bits_from, bits_between, count_of, is_constant}
+use Rattle.width_rules.proofs.RenamedSizes.{seen}
 use Rattle.block_rules.specs.Paths.{leaves}
 use Rattle.size_laws.specs.Written.{IsWritten, ArePartsWritten}
 use Rattle.mention_laws.specs.Leaves.{number_of, signals_of}
@@ -91,9 +92,6 @@ binary_leaves f (Compare op) a b ms ns h k l t =
 binary_leaves f (Logical op) a b ms ns h k l t =
     ap signals_of (extended_leaves (s.Binary (Logical op) (self_determined a) (self_determined b)) l t)
     ∙ both_named f (leaves (self_determined a)) (leaves (self_determined b)) ms ns (h a.own a.sign) (k b.own b.sign)
-
-abbrev seen : Scope → Expression → Operand
-seen scope x = record { own = length scope x; sign = is_signed scope x; at = push scope x }
 
 -- ---- expressions
 

@@ -1,18 +1,8 @@
 -- Names in an order, one more of them.
-use Rattle.std.proofs.Common.{◌≡◌, ℕ, Bool, true, false, ◌==◌, List, [], ◌∷◌, ◌++◌, refl, sym, ◌∙◌, ap, cond, true≢false}
-use Rattle.std.proofs.lemmas.Bool.{eqb-true, eq-eqb}
+use Rattle.std.proofs.Common.{◌≡◌, ℕ, Bool, true, false, ◌==◌, List, [], ◌∷◌, ◌++◌, refl, ◌∙◌, ap, cond}
+use Rattle.ls_text.proofs.Cases.{turned}
 use Rattle.verilog_ast.specs.declared.identifier.Identifier.{Identifier}
 use Rattle.module_names.specs.Listings.{is_listed}
-
-by_cases : {P : Type 0} (b : Bool) → (b ≡ true → P) → (b ≡ false → P) → P
-by_cases true f g = f refl
-by_cases false f g = g refl
-
--- a test of equality both ways
-turned : (m n : ℕ) → (m == n) ≡ (n == m)
-turned m n = by_cases (m == n)
-    (λ t. t ∙ sym (eq-eqb n m (sym (eqb-true m n t))))
-    (λ f. f ∙ sym (by_cases (n == m) (λ u. absurd (true≢false (sym (eq-eqb m n (sym (eqb-true n m u))) ∙ f))) (λ g. g)))
 
 swapped : (b c d : Bool) → cond b true (cond c true d) ≡ cond c true (cond b true d)
 swapped true true d = refl

@@ -1,32 +1,19 @@
 -- Names and selects that are written, without places: the same bits, and the same faults.
-use Rattle.std.proofs.Common.{◌≡◌, ℕ, ◌-◌, Bool, map, refl, ap}
-use Rattle.typed_ir.specs.Stmts.{SizedTarget}
+use Rattle.std.proofs.Common.{◌≡◌, ℕ, ◌-◌, map, refl, ap}
 use Rattle.verilog_ast.specs.declared.identifier.Identifier.{Identifier}
 use Rattle.verilog_ast.specs.Expressions as e
 use Rattle.verilog_ast.specs.Expressions.{Expression}
 use Rattle.width_rules.specs.declared.due.Due.{Due}
 use Rattle.width_rules.specs.declared.due.Due.TheVariants.{ConstantOnly}
-use Rattle.width_rules.specs.References.{part_at, part_from, reference_part, target_name_faults, reference_faults}
+use Rattle.width_rules.specs.References.{reference_part, target_name_faults, reference_faults}
 use Rattle.width_rules.specs.Scopes.{Meaning, Unknown, Scope}
-use Rattle.width_rules.specs.Sizes.{Operand, count_of, bits_between}
+use Rattle.width_rules.proofs.RenamedReferences.{bit_part, fixed_part, upward_part, downward_part}
 use Rattle.unplaced_trees.specs.Unplaced.{unplaced_expression, unplaced_name}
 use Rattle.place_laws.specs.Findings.{fault_unplaced}
-use Rattle.place_laws.proofs.UnplacedSizes.{same_fixed, same_worth, same_operand, parts_so, worth, alone}
+use Rattle.place_laws.proofs.UnplacedSizes.{same_fixed, same_worth, same_operand, parts_so}
 use Rattle.place_laws.proofs.UnplacedFaults.{both_so, run_so, part_so, width_so, same_count, same_between, same_faults}
 
 -- ---- the bits
-
-abbrev bit_part : ℕ → Meaning → Bool → Operand → Operand → SizedTarget
-bit_part shift m b x y = part_at m shift 1 0 b (worth x) x.sign (alone x)
-
-abbrev fixed_part : ℕ → Meaning → Bool → Operand → Operand → SizedTarget
-fixed_part shift m b x y = part_from m shift (worth y) (bits_between (worth x) (worth y))
-
-abbrev upward_part : ℕ → Meaning → Bool → Operand → Operand → SizedTarget
-upward_part shift m b x y = part_at m shift (count_of (worth y)) 0 b (worth x) x.sign (alone x)
-
-abbrev downward_part : ℕ → Meaning → Bool → Operand → Operand → SizedTarget
-downward_part shift m b x y = part_at m shift (count_of (worth y)) (count_of (worth y) - 1) b (worth x) x.sign (alone x)
 
 pub same_reference : (scope : Scope) (shift : ℕ) (x : Expression) → reference_part scope shift (unplaced_expression x) ≡ reference_part scope shift x
 same_reference scope shift (e.BitSelect n x) =

@@ -1,5 +1,5 @@
 -- Signs, lengths and sized forms are the same without places.
-use Rattle.std.proofs.Common.{◌≡◌, ℕ, ◌+◌, ◌-◌, ◌*◌, max, Bool, ◌&&◌, ℤ, refl, ◌∙◌, ap, ap₂}
+use Rattle.std.proofs.Common.{◌≡◌, ℕ, ◌+◌, ◌*◌, max, Bool, ◌&&◌, refl, ◌∙◌, ap, ap₂}
 use Rattle.std.proofs.Math.Path.{fun_ext}
 use Rattle.typed_ir.specs.Sized as s
 use Rattle.typed_ir.specs.Sized.{Sized, value_of}
@@ -7,9 +7,10 @@ use Rattle.verilog_ast.specs.Expressions.{Expression, BitSelect, PartSelect, Upw
 use Rattle.width_rules.specs.Constants.{constant, integer}
 use Rattle.width_rules.specs.Opened.{own}
 use Rattle.width_rules.specs.Operators.{unary_kind, operator_of}
-use Rattle.width_rules.specs.Scopes.{Meaning, Scope}
+use Rattle.width_rules.specs.Scopes.{Scope}
 use Rattle.width_rules.specs.Signs.{is_signed, unary_signed, binary_signed}
-use Rattle.width_rules.specs.Sizes.{Operand, length, push, joined, beside, is_constant, integer_of, count_of, bits_between, bits_at, bits_from, extended, unary_length, binary_length, unary_at, binary_at, no_signals}
+use Rattle.width_rules.specs.Sizes.{Operand, length, push, joined, beside, is_constant, count_of, bits_between, extended, unary_length, binary_length, unary_at, binary_at, no_signals}
+use Rattle.width_rules.proofs.RenamedSizes.{and_so, seen, seen_so, worth, alone, fixed_part, upward_part, downward_part, one_bit, repeated}
 use Rattle.unplaced_trees.specs.Unplaced.{unplaced_expression}
 
 pub same_sign : (scope : Scope) (e : Expression) → is_signed scope (unplaced_expression e) ≡ is_signed scope e
@@ -18,9 +19,6 @@ same_sign scope (Binary op x y) = ap₂ (binary_signed (operator_of op)) (same_s
 same_sign scope (Conditional c x y) = ap₂ (λ (a b : Bool). a && b) (same_sign scope x) (same_sign scope y)
 same_sign scope (Bracketed at x) = same_sign scope x
 same_sign scope other = refl
-
-and_so : (a b c d : Bool) → a ≡ b → c ≡ d → (a && c) ≡ (b && d)
-and_so a b c d = ap₂ (λ (x y : Bool). x && y)
 
 pub same_fixed : (scope : Scope) (e : Expression) → is_constant scope (unplaced_expression e) ≡ is_constant scope e
 same_fixed scope (BitSelect n x) = and_so _ _ _ _ refl (same_fixed scope x)
@@ -42,46 +40,15 @@ same_fixed scope other = refl
 
 -- ---- an expression by its sign, its length and what it is at both
 
-abbrev pub seen_as : Bool → ℕ → (ℕ → Bool → Sized) → Operand
-seen_as sign own at = record { own = own; sign = sign; at = at }
-
-abbrev pub seen : Scope → Expression → Operand
-seen scope x = seen_as (is_signed scope x) (length scope x) (push scope x)
-
-seen_so : (a b : Bool) (m n : ℕ) (p q : ℕ → Bool → Sized) → a ≡ b → m ≡ n → p ≡ q → seen_as a m p ≡ seen_as b n q
-seen_so a b m n p q signs lengths forms =
-    ap (λ (z : Bool). seen_as z m p) signs ∙ ap₂ (seen_as b) lengths forms
-
 -- where its length and what it is at each length and sign don't change
 operand_so : (scope : Scope) (e : Expression) → length scope (unplaced_expression e) ≡ length scope e
     → ((l : ℕ) (t : Bool) → push scope (unplaced_expression e) l t ≡ push scope e l t) → seen scope (unplaced_expression e) ≡ seen scope e
 operand_so scope e lengths forms =
     seen_so _ _ _ _ _ _ (same_sign scope e) lengths (fun_ext (λ l. fun_ext (λ t. forms l t)))
 
-abbrev pub worth : Operand → ℤ
-worth x = integer_of x.sign x.own x.at
-
-abbrev pub alone : Operand → Sized
-alone x = x.at x.own x.sign
-
 -- a function of whether an index is constant, and of two expressions
 pub parts_so : {A : Type 0} (F : Bool → Operand → Operand → A) (b c : Bool) (x p y q : Operand) → b ≡ c → x ≡ p → y ≡ q → F b x y ≡ F c p q
 parts_so {A} F b c x p y q bs xs ys = ap (λ (d : Bool). F d x y) bs ∙ ap₂ (F c) xs ys
-
-abbrev fixed_part : ℕ → Bool → Meaning → Bool → Operand → Operand → Sized
-fixed_part l t m b x y = extended (bits_from m (worth y) (bits_between (worth x) (worth y))) l t
-
-abbrev upward_part : ℕ → Bool → Meaning → Bool → Operand → Operand → Sized
-upward_part l t m b x y = extended (bits_at m (count_of (worth y)) 0 b (worth x) x.sign (alone x)) l t
-
-abbrev downward_part : ℕ → Bool → Meaning → Bool → Operand → Operand → Sized
-downward_part l t m b x y = extended (bits_at m (count_of (worth y)) (count_of (worth y) - 1) b (worth x) x.sign (alone x)) l t
-
-abbrev one_bit : ℕ → Bool → Meaning → Bool → Operand → Operand → Sized
-one_bit l t m b x y = extended (bits_at m 1 0 b (worth x) x.sign (alone x)) l t
-
-abbrev repeated : ℕ → Bool → ℕ → ℕ → Sized → Sized
-repeated l t count width x = extended (s.Repeat (count * width) count x) l t
 
 mutual
   unfolding length push joined beside

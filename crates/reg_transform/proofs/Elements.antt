@@ -4,7 +4,7 @@ use Rattle.std.specs.Prelude.{slice_get, slice_index, Some}
 use Rattle.std.proofs.lemmas.Bool.{ltb-true}
 use Rattle.std.proofs.lemmas.Option.{same_Some, none-some}
 use Rattle.typed_ir.specs.declared.signal.Signal.{Signal}
-use Rattle.typed_ir.specs.Flats.{are_below, are_within}
+use Rattle.typed_ir.specs.Flats.{are_within}
 use Rattle.typed_ir.specs.Orders.{at_or}
 use Rattle.typed_ir.proofs.Cases.{and_left, and_right}
 use Rattle.state_layout.specs.Words.{width_in}
@@ -12,12 +12,6 @@ use Rattle.reg_transform.specs.Beginnings.{initial_in}
 use Rattle.reg_transform.specs.Regs.{register_of, register_at}
 use Rattle.reg_transform.specs.Registers.{Register, widths_of}
 use Rattle.reg_transform.specs.Numbers.{number_at}
-
--- each register is there
-pub below_read : (rs : List ℕ) (count i : ℕ) → IsTrue (are_below rs count) → i < length rs → get_or rs i 0 < count
-below_read [] count i h k = absurd (omega (arith, k))
-below_read (r ∷ rs) count zero h k = ltb-true r count (and_left (nat_lt r count) (are_below rs count) h)
-below_read (r ∷ rs) count (suc i) h k = below_read rs count i (and_right (nat_lt r count) (are_below rs count) h) (omega (arith, k))
 
 -- the instance of a signal is there
 pub within_read : (signals : List Signal) (count r : ℕ) (x : Signal) → IsTrue (are_within signals count) → r < length signals → x ≡ get_or signals r x → x.instance < count

@@ -1,5 +1,5 @@
 -- Old values by keys, and what new registers take of them.
-use Rattle.std.proofs.Common.{◌≡◌, ℕ, ◌+◌, ◌%◌, ◌^◌, ◌<◌, ◌≤◌, zero, suc, nat_lt, Bool, ◌&&◌, ◌==◌, cond, List, [], ◌∷◌, ◌++◌, length, map, get_or, take, drop, IsTrue, append_assoc, refl, sym, ◌∙◌, ap, ap₂, subst, arith}
+use Rattle.std.proofs.Common.{◌≡◌, ℕ, ◌+◌, ◌%◌, ◌^◌, ◌<◌, ◌≤◌, zero, suc, nat_lt, Bool, ◌&&◌, ◌==◌, cond, List, [], ◌∷◌, ◌++◌, length, map, get_or, drop, IsTrue, append_assoc, refl, sym, ◌∙◌, ap, ap₂, subst}
 use Rattle.std.specs.Prelude.{slice_get, slice_index, Option, Some}
 use Rattle.std.proofs.Math.Path.{fun_ext}
 use Rattle.std.proofs.lemmas.Bool.{ltb-true}
@@ -95,13 +95,6 @@ place_past s paths signals ids i e h = subst (λ n. n ≤ i) (sym (state_long s 
 pub widths_same : (items : List Bits) → widths items ≡ state_widths (map sized_value items)
 widths_same [] = refl
 widths_same (b ∷ bs) = ap (λ ws. b.width ∷ ws) (widths_same bs)
-
--- all of a list is what stands before its end
-pub all_taken : {A : Type 0} (s : List A) (i : ℕ) → length s ≤ i → take i s ≡ s
-all_taken [] zero h = refl
-all_taken [] (suc i) h = refl
-all_taken (p ∷ s) zero h = absurd (omega (arith, h))
-all_taken (p ∷ s) (suc i) h = ap (λ zs. p ∷ zs) (all_taken s i (omega (arith, h)))
 
 -- the values of the beginning
 pub begun_values : (signals : List Signal) (ids : List ℕ)

@@ -23,7 +23,7 @@ use Rattle.width_rules.specs.declared.due.Due.TheVariants.{AnyValue, ConstantOnl
 use Rattle.width_rules.specs.declared.writer.Writer.TheVariants as writer
 use Rattle.width_rules.specs.Renaming.{MeansSame, fault_as}
 use Rattle.width_rules.specs.Scopes.{Scope}
-use Rattle.width_rules.proofs.RenamedFaults.{both_so, total_so, fault_of_so, same_faults}
+use Rattle.width_rules.proofs.RenamedFaults.{both_so, total_so, fault_of_so, same_faults, same_place}
 use Rattle.width_rules.proofs.RenamedReferences.{same_reference_faults}
 use Rattle.width_rules.proofs.RenamedSizes.{same_length}
 use Rattle.statement_rules.specs.Targets.{target_length, parts}
@@ -41,7 +41,6 @@ use Rattle.gen_unroll.proofs.MovedLists.{append_so, if_moved}
 use Rattle.rename_laws.specs.Findings.{port_shape_as, shape_as, connected_as, mention_as, placed_as}
 use Rattle.rename_laws.proofs.RenamedMentions.{same_expression_targets, same_numbered}
 use Rattle.rename_laws.proofs.RenamedTables.{same_clock}
-use Rattle.rename_laws.proofs.RenamedValueItems.{same_place}
 
 -- ---- each connection with its port
 

@@ -11,9 +11,9 @@ use Rattle.unit_ir.specs.Items.{PlacedItem, Node, Initial}
 use Rattle.unit_ir.specs.Trees.{Own}
 use Rattle.verilog_ast.specs.declared.identifier.Identifier.{Identifier}
 use Rattle.verilog_ast.specs.Declarations.{Declared, DeclaredReg, PortDeclaration, InputPort, OutputPort, NextPort}
-use Rattle.verilog_ast.specs.Expressions.{Expression, Binary, Conditional, Parts, Target, Reference, Joined, NoTarget, Targets}
+use Rattle.verilog_ast.specs.Expressions.{Expression, Target, Reference, Joined, NoTarget, Targets}
 use Rattle.verilog_ast.specs.Items.{ContinuousAssignment}
-use Rattle.verilog_ast.specs.Places.{expression_place, target_place}
+use Rattle.verilog_ast.specs.Places.{target_place}
 use Rattle.verilog_ast.specs.Renamed.{renamed_identifier}
 use Rattle.verilog_ast.specs.Renaming.{expression_as, target_as, declared_as, declared_reg_as, port_as, assignment_as}
 use Rattle.width_rules.specs.declared.due.Due.TheVariants.{ConstantOnly}
@@ -21,7 +21,7 @@ use Rattle.width_rules.specs.Faults.{faults}
 use Rattle.width_rules.specs.Renaming.{MeansSame, fault_as}
 use Rattle.width_rules.specs.Scopes.{Meaning, Scope}
 use Rattle.width_rules.specs.Sizes.{no_signals}
-use Rattle.width_rules.proofs.RenamedFaults.{both_so, same_faults}
+use Rattle.width_rules.proofs.RenamedFaults.{both_so, same_faults, same_place}
 use Rattle.statement_rules.specs.Drives.{SizedDrive, sized_drive}
 use Rattle.statement_rules.specs.Statements.{assigned}
 use Rattle.statement_rules.specs.Targets.{target_length, kind_faults}
@@ -113,12 +113,6 @@ same_initials f scope other (x ∷ xs) same =
     ∙ ap (λ (vs : List InitialValue). (if is_net_value scope x then [] else initial_value scope x ∷ []) ++ vs) (same_initials f scope other xs same)
 
 -- ---- items
-
-pub same_place : (f : NameId → NameId) (e : Expression) → expression_place (expression_as f e) ≡ expression_place e
-same_place f (Binary op x y) = same_place f x
-same_place f (Conditional c x y) = same_place f c
-same_place f (Parts x xs) = same_place f x
-same_place f rest = refl
 
 same_target_place : (f : NameId → NameId) (t : Target) → target_place (target_as f t) ≡ target_place t
 same_target_place f (Reference x) = same_place f x

@@ -5,7 +5,7 @@
 // ends, and WORDS are those of the command line, where there are any, but for the workers (`row`): each row runs without one and with two, where the
 // lines of those that print an estimate aren't compared. `FAULTS.md` is the page of faults (`page`): each of its examples is a row, and shows the fault by the line that the page
 // tells; each fault that a row shows is on the page. `fresh.txt` has a line `NAME FRESH` for each row whose last display is settled: FRESH.live has its last design
-// alone, with the inputs and cycles that were recorded, and the registers are the same (`fresh`). What differs is named, with the first line that does. `tests`
+// alone, with the inputs and cycles that were recorded, and the registers are the same (`fresh`). What differs is named, with the first line that does. `script_tests`
 // has rows and pages that don't agree.
 #![tactic(auto)]
 
@@ -15,7 +15,7 @@ mod histories;
 mod page;
 mod row;
 #[cfg(test)]
-mod tests;
+mod script_tests;
 
 use crate::counts::Counts;
 use crate::fresh::last_settled;

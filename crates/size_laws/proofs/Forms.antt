@@ -13,16 +13,14 @@ use Rattle.width_rules.specs.Opened.{own}
 use Rattle.width_rules.specs.Operators.{unary_kind, operator_of}
 use Rattle.width_rules.specs.Scopes.{Scope}
 use Rattle.width_rules.specs.Signs.{is_signed}
-use Rattle.width_rules.specs.Sizes.{Operand, length, push, joined, beside, literal_length, is_constant, count_of, bits_between, bits_at, bits_from}
+use Rattle.width_rules.specs.Sizes.{length, push, joined, beside, literal_length, is_constant, count_of, bits_between, bits_at, bits_from}
 use Rattle.width_rules.proofs.Reading.{left_none, right_none}
+use Rattle.width_rules.proofs.RenamedSizes.{seen}
 use Rattle.size_laws.specs.Fitting.{FitsScope}
 use Rattle.size_laws.specs.Written.{IsWritten, ArePartsWritten}
 use Rattle.size_laws.proofs.Bounds.{IsLong, some_if, run_none, third_none}
 use Rattle.size_laws.proofs.Lengths.{one_long, is_long, part_long, part_place, run_long, total_long}
 use Rattle.size_laws.proofs.Operands.{Fits, constant_fits, extended_fits, name_fits, bits_sized, range_sized, alone_fits, unary_fits, binary_fits, choice_fits, above_fits, repeated_sized, same_long}
-
-abbrev seen : Scope → Expression → Operand
-seen scope x = record { own = length scope x; sign = is_signed scope x; at = push scope x }
 
 no_bit : 1 ≤ 0 → ⊥
 no_bit h = omega (arith, h)

@@ -1,10 +1,10 @@
 -- Names, selects and operators whose operands fit the signals fit them.
-use Rattle.std.proofs.Common.{◌≡◌, ℕ, ◌+◌, ◌-◌, ◌*◌, ◌^◌, ◌≤◌, ◌<◌, ◌==◌, ◌&&◌, max, Bool, true, false, List, [], slice_index, nat_le, nat_lt, ℤ, pos, negsuc, refl, sym, ◌∙◌, ap, subst, true≢false, leb-true, le-leb, lt-ltb, eqb-true, eq-eqb, arith}
+use Rattle.std.proofs.Common.{◌≡◌, ℕ, ◌+◌, ◌-◌, ◌*◌, ◌^◌, ◌≤◌, ◌==◌, ◌&&◌, max, Bool, true, false, List, [], slice_index, nat_le, nat_lt, ℤ, pos, negsuc, refl, sym, ◌∙◌, ap, subst, true≢false, leb-true, le-leb, lt-ltb, eqb-true, eq-eqb, arith}
 use Rattle.std.specs.Prelude.{length as count}
 use Rattle.std.proofs.lemmas.Bool.{and_from, cond-true, cond-false}
 use Rattle.std.proofs.Math.Nat.{le-max_left, le-max_right}
-use Rattle.bits.specs.Values.{wrapped, resized}
-use Rattle.bits.proofs.Runs.{below_pow}
+use Rattle.bits.specs.Values.{resized}
+use Rattle.bits.proofs.Runs.{wrapped_below}
 use Rattle.typed_ir.proofs.Cases.{by_cases, and_left, and_right}
 use Rattle.typed_ir.specs.declared.unary_operator.UnaryOperator.TheVariants.{Inverse}
 use Rattle.typed_ir.specs.declared.binary_operator.BinaryOperator.{BinaryOperator as Operator}
@@ -35,10 +35,6 @@ pub signals_in : (x : Sized) (widths : List ℕ) → is_sized x widths ≡ true 
 signals_in x widths h = and_right (agrees x) (fits_signals x widths) h
 
 -- ---- simple operands
-
-wrapped_below : (w : ℕ) (z : ℤ) → wrapped w z < 2 ^ w
-wrapped_below w (pos n) = below_pow n w
-wrapped_below w (negsuc n) = omega (arith, below_pow n w)
 
 pub constant_fits : (own value l : ℕ) (t : Bool) (widths : List ℕ) → IsLong l → Fits (constant_at own value l t) l widths
 constant_fits own value l t widths long = record {

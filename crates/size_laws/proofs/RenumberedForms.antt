@@ -17,7 +17,8 @@ use Rattle.width_rules.specs.Opened.{own}
 use Rattle.width_rules.specs.Operators.{unary_kind, operator_of, comparison_with}
 use Rattle.width_rules.specs.Scopes.{Meaning, Signal, Constant, Turn, Genvar, Unknown, Scope, is_signal}
 use Rattle.width_rules.specs.Signs.{is_signed, name_signed, unary_signed, binary_signed}
-use Rattle.width_rules.specs.Sizes.{Operand, self_determined, length, push, joined, beside, is_constant, integer_of, read_as, count_of, bits_between, bits_at, bits_from, extended, name_length, name_at, unary_length, binary_length, unary_at, binary_at, no_signals}
+use Rattle.width_rules.specs.Sizes.{Operand, self_determined, length, push, joined, beside, is_constant, read_as, count_of, bits_between, bits_at, bits_from, extended, name_length, name_at, unary_length, binary_length, unary_at, binary_at, no_signals}
+use Rattle.width_rules.proofs.RenamedSizes.{and_so, seen, seen_so, worth}
 use Rattle.size_laws.specs.Renumbering.{meaning_as, renumbered, numbered_as}
 
 -- ---- widths and values
@@ -177,44 +178,29 @@ sign_as g scope (Parts x xs) = refl
 no_signal : (g : ℕ → ℕ) (m : Meaning) → not (is_signal (meaning_as g m)) ≡ not (is_signal m)
 no_signal g m = ap not (signal_as g m)
 
-both_so : (a b c d : Bool) → a ≡ b → c ≡ d → (a && c) ≡ (b && d)
-both_so a b c d = ap₂ (λ (x y : Bool). x && y)
-
 pub fixed_as : (g : ℕ → ℕ) (scope : Scope) (e : Expression) → is_constant (renumbered g scope) e ≡ is_constant scope e
 fixed_as g scope (Literal at x) = refl
 fixed_as g scope (Whole n) = no_signal g (scope n.name.0)
-fixed_as g scope (BitSelect n x) = both_so _ _ _ _ (no_signal g (scope n.name.0)) (fixed_as g scope x)
-fixed_as g scope (PartSelect n x y) = both_so _ _ _ _ (no_signal g (scope n.name.0)) (both_so _ _ _ _ (fixed_as g scope x) (fixed_as g scope y))
-fixed_as g scope (UpwardSelect n x y) = both_so _ _ _ _ (no_signal g (scope n.name.0)) (both_so _ _ _ _ (fixed_as g scope x) (fixed_as g scope y))
-fixed_as g scope (DownwardSelect n x y) = both_so _ _ _ _ (no_signal g (scope n.name.0)) (both_so _ _ _ _ (fixed_as g scope x) (fixed_as g scope y))
+fixed_as g scope (BitSelect n x) = and_so _ _ _ _ (no_signal g (scope n.name.0)) (fixed_as g scope x)
+fixed_as g scope (PartSelect n x y) = and_so _ _ _ _ (no_signal g (scope n.name.0)) (and_so _ _ _ _ (fixed_as g scope x) (fixed_as g scope y))
+fixed_as g scope (UpwardSelect n x y) = and_so _ _ _ _ (no_signal g (scope n.name.0)) (and_so _ _ _ _ (fixed_as g scope x) (fixed_as g scope y))
+fixed_as g scope (DownwardSelect n x y) = and_so _ _ _ _ (no_signal g (scope n.name.0)) (and_so _ _ _ _ (fixed_as g scope x) (fixed_as g scope y))
 fixed_as g scope (Unary at op x) = fixed_as g scope x
-fixed_as g scope (Binary op x y) = both_so _ _ _ _ (fixed_as g scope x) (fixed_as g scope y)
-fixed_as g scope (Conditional c x y) = both_so _ _ _ _ (fixed_as g scope c) (both_so _ _ _ _ (fixed_as g scope x) (fixed_as g scope y))
+fixed_as g scope (Binary op x y) = and_so _ _ _ _ (fixed_as g scope x) (fixed_as g scope y)
+fixed_as g scope (Conditional c x y) = and_so _ _ _ _ (fixed_as g scope c) (and_so _ _ _ _ (fixed_as g scope x) (fixed_as g scope y))
 fixed_as g scope (Concatenation at xs) = fixed_as g scope xs
-fixed_as g scope (Replication at c xs) = both_so _ _ _ _ (fixed_as g scope c) (fixed_as g scope xs)
+fixed_as g scope (Replication at c xs) = and_so _ _ _ _ (fixed_as g scope c) (fixed_as g scope xs)
 fixed_as g scope (Bracketed at x) = fixed_as g scope x
 fixed_as g scope NoPart = refl
-fixed_as g scope (Parts x xs) = both_so _ _ _ _ (fixed_as g scope x) (fixed_as g scope xs)
+fixed_as g scope (Parts x xs) = and_so _ _ _ _ (fixed_as g scope x) (fixed_as g scope xs)
 
 -- its length, and its form at each length and sign
 pub record IsSame (g : ℕ → ℕ) (scope : Scope) (e : Expression) : Type 0 where
   pub long : length (renumbered g scope) e ≡ length scope e
   pub form : (l : ℕ) (t : Bool) → push (renumbered g scope) e l t ≡ numbered_as g (push scope e l t)
 
-abbrev seen_as : Bool → ℕ → (ℕ → Bool → Sized) → Operand
-seen_as sign own at = record { own = own; sign = sign; at = at }
-
-abbrev seen : Scope → Expression → Operand
-seen scope x = seen_as (is_signed scope x) (length scope x) (push scope x)
-
-seen_so : (a b : Bool) (m n : ℕ) (p q : ℕ → Bool → Sized) → a ≡ b → m ≡ n → p ≡ q → seen_as a m p ≡ seen_as b n q
-seen_so a b m n p q signs lengths forms = ap (λ (z : Bool). seen_as z m p) signs ∙ ap₂ (seen_as b) lengths forms
-
 operand_as : (g : ℕ → ℕ) (scope : Scope) (e : Expression) → IsSame g scope e → seen (renumbered g scope) e ≡ moved g (seen scope e)
 operand_as g scope e same = seen_so _ _ _ _ _ _ (sign_as g scope e) same.long (fun_ext (λ l. fun_ext (λ t. same.form l t)))
-
-abbrev worth : Operand → ℤ
-worth x = integer_of x.sign x.own x.at
 
 worth_as : (g : ℕ → ℕ) (x : Operand) → worth (moved g x) ≡ worth x
 worth_as g x = ap (read_as x.sign x.own) (known_as g (x.at x.own x.sign))

@@ -1,15 +1,14 @@
 -- Slots in the code's list of them.
-use Rattle.std.proofs.Common.{◌≡◌, ℕ, zero, suc, ◌+◌, ◌<◌, ◌≤◌, List, [], ◌∷◌, ◌++◌, length, get_or, take, map, refl, sym, ◌∙◌, ap, subst, arith, ltb-true}
+use Rattle.std.proofs.Common.{◌≡◌, ℕ, zero, suc, ◌+◌, ◌<◌, ◌≤◌, List, [], ◌∷◌, ◌++◌, length, get_or, take, map, refl, sym, ◌∙◌, ap, subst, arith}
 use Rattle.std.proofs.lemmas.List.{get_or-map, length-map, map_push, map_more, take-map}
-use Rattle.std.specs.Prelude.{IsTrue, nat_lt, slice_index, IfOk, IfErr, IsErrAnd}
+use Rattle.std.specs.Prelude.{slice_index, IfOk, IfErr, IsErrAnd}
 use Rattle.std.specs.declared.result.Result.{Result}
 use Rattle.std.specs.declared.result.Result.TheVariants.{Ok, Err}
 use Rattle.typed_ir.specs.declared.flat.Flat.{Flat}
 use Rattle.typed_ir.specs.declared.instance_name.InstanceName.{InstanceName}
 use Rattle.typed_ir.specs.Cycles.{Signal as Signal'}
 use Rattle.typed_ir.specs.Linkeds.{flat}
-use Rattle.typed_ir.specs.Flats.{are_below, signal_of, signal_widths}
-use Rattle.typed_ir.proofs.Cases.{and_left, and_right}
+use Rattle.typed_ir.specs.Flats.{signal_of, signal_widths}
 use Rattle.ls_text.specs.declared.refusal.Refusal.{Refusal}
 use Rattle.ls_text.specs.declared.refusal.Refusal.TheVariants.{Fault as Refused, NoMemory}
 use Rattle.typed_ir.specs.declared.signal.Signal.{Signal}
@@ -83,12 +82,6 @@ both_ok (Ok x) p q f = f x p q
 both_ok (Err e) p q f = tt
 
 -- ---- register by register
-
--- a place of a list whose numbers are all below a bound
-pub below_read : (ss : List ℕ) (bound i : ℕ) → IsTrue (are_below ss bound) → i < length ss → get_or ss i 0 < bound
-below_read [] bound i h within = absurd (omega (arith, within))
-below_read (s ∷ ss) bound zero h within = ltb-true s bound (and_left (nat_lt s bound) (are_below ss bound) h)
-below_read (s ∷ ss) bound (suc i) h within = below_read ss bound i (and_right (nat_lt s bound) (are_below ss bound) h) (omega (arith, within))
 
 pub width_read : (signals : List Signal) (place : ℕ) (x : Signal) → place < length signals → x ≡ get_or signals place x → x.width ≡ width_in signals place
 width_read signals place x there read = ap (λ (s : Signal). s.width) read ∙ sym (get_or-map (λ (s : Signal). s.width) signals place x 0 there)

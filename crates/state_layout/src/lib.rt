@@ -1,7 +1,7 @@
 // The states of a design as words: each register has a slot of its own.
 //
 // `laying_out` gives the registers of a design their `slot`s, one behind the other, where they have room: a `layout`. `laws` says that slots stand
-// apart. `slot_state` is a state in shared pages by such a layout, `putting` reads and writes its slots. `tests` are states put together by hand.
+// apart. `slot_state` is a state in shared pages by such a layout, `putting` reads and writes its slots.
 #![tactic(auto)]
 
 mod laws;
@@ -10,8 +10,6 @@ mod layout;
 mod putting;
 mod slot;
 mod slot_state;
-#[cfg(test)]
-mod tests;
 
 pub use laws::{slots_stand_apart, words_give_states};
 pub use laying_out::{laid_out, layout_of};

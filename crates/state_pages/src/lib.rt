@@ -1,14 +1,12 @@
 // Words of 64 bits in shared pages, which are copied where they change.
 //
 // `page` is a page of 64 words, and `pages` a shared list of shared pages: what a list says of its words. `own_pages` writes to a page that
-// may be shared, and `sharing` makes pages of the same words one. `tests` are a few words put in by hand.
+// may be shared, and `sharing` makes pages of the same words one.
 #![tactic(auto)]
 
 mod own_pages;
 mod page;
 mod pages;
 mod sharing;
-#[cfg(test)]
-mod tests;
 
 pub use pages::Pages;

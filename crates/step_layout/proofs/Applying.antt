@@ -2,7 +2,7 @@
 use Rattle.std.proofs.Common.{◌≡◌, ℕ, zero, suc, ◌+◌, ◌-◌, ◌*◌, ◌/◌, ◌%◌, ◌^◌, ◌<◌, ◌≤◌, min, Bool, true, false, ◌&&◌, not, nat_le, nat_lt, refl, sym, ap, ap₂, ◌∙◌, subst, arith, ℤ, pos}
 use Rattle.std.specs.Prelude.{bit_or, if◌then◌else◌, negsuc}
 use Rattle.std.proofs.Math.Nat.{mul-add, mul_assoc, mul_comm, zero-mul}
-use Rattle.std.proofs.lemmas.Bool.{leb-true, ltb-true, ltb-false, cond-true, cond-false}
+use Rattle.std.proofs.lemmas.Bool.{leb-true, ltb-true, ltb-false, cond-true, cond-false, not-true}
 use Rattle.std.proofs.lemmas.Int.{ints}
 use Rattle.std.proofs.lemmas.Nat.{or_shifted, shl_whole}
 use Rattle.std.proofs.lemmas.Nat.Bits.{same_from_bits}
@@ -185,14 +185,10 @@ resize_right from x to signed y z fits some = by_test (is_filled from to signed)
         ∙ ap (λ s. resized from x to s) (sym (and_left signed (nat_lt from to) t))
     by_test false t = let one : x / 2 ^ 0 ≡ x = omega arith in ap (λ k. k % 2 ^ to) one ∙ cut_right from x to signed fits t
 
-not_true : (b : Bool) → not b ≡ true → b ≡ false
-not_true true h = sym h
-not_true false h = refl
-
 pub plain_right : (from x to : ℕ) (signed : Bool) → x < 2 ^ from → is_plain from to signed ≡ true → x ≡ resized from x to signed
 plain_right from x to signed fits t =
     sym (small x to (fits_more (leb-true from to (and_left (nat_le from to) (not (is_filled from to signed)) t))))
-    ∙ cut_right from x to signed fits (not_true (is_filled from to signed) (and_right (nat_le from to) (not (is_filled from to signed)) t))
+    ∙ cut_right from x to signed fits (not-true (is_filled from to signed) (and_right (nat_le from to) (not (is_filled from to signed)) t))
   where
     fits_more : from ≤ to → x < 2 ^ to
     fits_more few = fits_wider x from to fits few

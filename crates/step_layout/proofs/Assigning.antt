@@ -1,5 +1,5 @@
 -- Assignments to one part, and to more.
-use Rattle.std.proofs.Common.{◌≡◌, ℕ, ◌+◌, List, [], ◌∷◌, ◌++◌, length, get_or, Result, Ok, Err, OnOk, append_assoc, refl, ap, ◌∙◌, arith}
+use Rattle.std.proofs.Common.{◌≡◌, ℕ, ◌+◌, List, [], ◌∷◌, ◌++◌, length, get_or, append_assoc, refl, ap, ◌∙◌, arith}
 use Rattle.word_steps.specs.declared.step.Step.{Step}
 use Rattle.typed_ir.specs.declared.lane.Lane.{Lane}
 use Rattle.typed_ir.specs.declared.target.Target.{Target}
@@ -35,10 +35,6 @@ more_lanes : (l : Plan) (h : ℕ → ℕ) (ls : List Lane) (e : Sized) (mark : �
 more_lanes l h [] e mark some more = absurd (some refl)
 more_lanes l h (t ∷ []) e mark some more = absurd (more refl)
 more_lanes l h (t ∷ u ∷ ts) e mark some more = refl
-
-pub on_ok : {A E : Type 0} (r : Result A E) (P Q : Type 0) → (P → Q) → OnOk r P → OnOk r Q
-on_ok (Ok x) P Q f h = f h
-on_ok (Err e) P Q f h = tt
 
 -- the steps of all parts behind those of the value
 pub all_targets : (l : Plan) (h : ℕ → ℕ) (ts : List Target) (e : Sized) (mark : ℕ) (old mid new : List Step) (width second : ℕ)

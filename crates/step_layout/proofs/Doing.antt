@@ -14,6 +14,7 @@ use Rattle.typed_ir.specs.declared.binary_operator.BinaryOperator.TheVariants.{C
 use Rattle.typed_ir.specs.Sized.{Sized, Binary, value_of, width_of, agrees, fits_signals, is_width, is_signal, is_span}
 use Rattle.typed_ir.specs.Stmts.{SizedTarget, Fixed, Moving, SizedItem, SizedStmt, SizedArms, Skip as Nothing, Assign, Later, Then, If, Case, Arm, Default, is_target, are_targets, is_sized, are_items, is_legal, are_legal_arms, update_of, updates_of, all_applied, applied, written, matches_item, matches_any, exec, exec_arms, pending, pending_arms, span_of, targets, arm_targets, later_targets, later_arm_targets}
 use Rattle.typed_ir.proofs.Cases.{by_cases, and_left, and_right}
+use Rattle.typed_ir.proofs.Lists.{each_left, each_right}
 use Rattle.word_steps.specs.declared.step.Step.{Step}
 use Rattle.word_steps.specs.declared.op.Op.TheVariants.{Or, SkipIfZero, SkipIfEqual, SkipUnlessEqual, Skip}
 use Rattle.word_steps.specs.Walks.{at, walk, skips}
@@ -24,7 +25,7 @@ use Rattle.step_layout.specs.Expressions.{step, operand, before, code, constants
 use Rattle.step_layout.specs.Statements.{signal_of, is_whole, is_direct, part_code, parts_code, one_code, assign_code, pass_over, branch, Test, Truth, Pair, test_of, test_code, condition, subject_at, item_at, item_code, tests, stmt_code, arms_code, part_constants, target_constants, item_constants, stmt_constants, arm_constants}
 use Rattle.step_layout.specs.Right.{IsLaid}
 use Rattle.step_layout.proofs.Fits.{value_fits, signal_is, agree_both}
-use Rattle.step_layout.proofs.Ready.{each_left, each_right, same_signals, still_ready}
+use Rattle.step_layout.proofs.Ready.{same_signals, still_ready}
 use Rattle.step_layout.proofs.Layouts.{Runs, Stands, Gives, Fine, stands_runs, gives_runs, stands, gives}
 use Rattle.step_layout.proofs.Testing.{Asks, asks, passed, passed_right}
 use Rattle.step_layout.proofs.PartValues.{part_value, applied_part, part_right, part_fits, span_lies, whole_right, gives_by}

@@ -6,7 +6,7 @@ use Rattle.std.proofs.lemmas.Bool.{eqb-true, leb-true, ltb-true}
 use Rattle.std.proofs.lemmas.Nat.{pow_pos, or_lt, xor_lt, and_le_l, mul-le}
 use Rattle.bits.specs.Values.{wrapped, signed_of, quotient, remainder}
 use Rattle.bits.specs.Runs.{selected}
-use Rattle.bits.proofs.Runs.{below_pow}
+use Rattle.bits.proofs.Runs.{below_pow, wrapped_below}
 use Rattle.typed_ir.specs.declared.unary_operator.UnaryOperator.{UnaryOperator}
 use Rattle.typed_ir.specs.declared.unary_operator.UnaryOperator.TheVariants.{Inverse, Negative, AllOnes, AnyOne, NoOne, OddOnes}
 use Rattle.typed_ir.specs.declared.arithmetic_operator.ArithmeticOperator.TheVariants.{Sum, Difference, Product, Quotient, Remainder, And, Or, Xor, Xnor}
@@ -24,10 +24,6 @@ truth_fits false = omega arith
 
 below_top : (w x : ℕ) → 2 ^ w - 1 - x < 2 ^ w
 below_top w x = let h : 0 < 2 ^ w = pow_pos w in omega (arith, h)
-
-wrapped_fits : (w : ℕ) (z : ℤ) → wrapped w z < 2 ^ w
-wrapped_fits w (pos n) = below_pow n w
-wrapped_fits w (negsuc n) = below_top w (n % 2 ^ w)
 
 selected_fits : (n : ℕ) (z : ℤ) (w : ℕ) → selected n z w < 2 ^ w
 selected_fits n (pos low) w = below_pow (n / 2 ^ low) w
@@ -95,12 +91,12 @@ cond_fits false x y m h g = g
 quotient_fits : (w : ℕ) (signed : Bool) (a b : ℕ) → a < 2 ^ w → quotient w signed a b < 2 ^ w
 quotient_fits w signed a b h =
     cond_fits (b == 0) 0 (if signed then wrapped w (int_div (signed_of w a) (signed_of w b)) else a / b) (2 ^ w) (pow_pos w)
-    (cond_fits signed (wrapped w (int_div (signed_of w a) (signed_of w b))) (a / b) (2 ^ w) (wrapped_fits w (int_div (signed_of w a) (signed_of w b))) (lt_of_le_of_lt (div-le_self a b) h))
+    (cond_fits signed (wrapped w (int_div (signed_of w a) (signed_of w b))) (a / b) (2 ^ w) (wrapped_below w (int_div (signed_of w a) (signed_of w b))) (lt_of_le_of_lt (div-le_self a b) h))
 
 remainder_fits : (w : ℕ) (signed : Bool) (a b : ℕ) → a < 2 ^ w → remainder w signed a b < 2 ^ w
 remainder_fits w signed a b h =
     cond_fits (b == 0) 0 (if signed then wrapped w (int_rem (signed_of w a) (signed_of w b)) else a % b) (2 ^ w) (pow_pos w)
-    (cond_fits signed (wrapped w (int_rem (signed_of w a) (signed_of w b))) (a % b) (2 ^ w) (wrapped_fits w (int_rem (signed_of w a) (signed_of w b))) (lt_of_le_of_lt (mod-le a b) h))
+    (cond_fits signed (wrapped w (int_rem (signed_of w a) (signed_of w b))) (a % b) (2 ^ w) (wrapped_below w (int_rem (signed_of w a) (signed_of w b))) (lt_of_le_of_lt (mod-le a b) h))
 
 unary_fits : (op : UnaryOperator) (w x : ℕ) → apply_unary op w x < 2 ^ unary_width op w
 unary_fits Inverse w x = below_top w x
@@ -124,7 +120,7 @@ binary_fits (Compare op) w v x y t h g = truth_fits (apply_comparison op w x y)
 binary_fits (Logical op) w v x y t h g = truth_fits (apply_logical op x y)
 binary_fits (Shift Left) w v x y t h g = below_pow (x * 2 ^ y) w
 binary_fits (Shift Right) w v x y t h g = lt_of_le_of_lt (div-le_self x (2 ^ y)) h
-binary_fits (Shift ArithmeticRight) w v x y t h g = wrapped_fits w _
+binary_fits (Shift ArithmeticRight) w v x y t h g = wrapped_below w _
 
 -- a signal of this number and width
 pub signal_is : (signal width : ℕ) (ws : List ℕ) → is_signal signal width ws ≡ true → (signal < length ws) × (slice_index ws signal ≡ width)
@@ -159,4 +155,4 @@ module _ (ws : List ℕ) (env : Valuation) (fit : (s : ℕ) → s < length ws �
       let p = agree_three (width == count * width_of a) (nat_le 1 count) (nat_le width 128) (agrees a) h in
       subst (λ k. value_of (Repeat width count a) env < 2 ^ k) (sym (eqb-true width (count * width_of a) p.0))
       (copies_fit count (width_of a) (value_of a env) (value_fits a p.3 f))
-  value_fits (Resized a width signed) h f = wrapped_fits width _
+  value_fits (Resized a width signed) h f = wrapped_below width _

@@ -10,6 +10,7 @@ use Rattle.typed_ir.specs.Orders.{Each}
 use Rattle.typed_ir.specs.Sized.{Sized, Constant, Name, Part, Pick as Pick', Unary, Binary, Choice, Concat, Repeat, Resized, width_of, value_of, is_width, takes_widths, agrees, fits_signals, copies, place_of}
 use Rattle.typed_ir.proofs.Copies.{copies_fit}
 use Rattle.typed_ir.proofs.Cases.{and_left, and_right}
+use Rattle.typed_ir.proofs.Lists.{each_left, each_right}
 use Rattle.word_steps.specs.declared.step.Step.{Step}
 use Rattle.word_steps.specs.declared.op.Op.TheVariants.{Copy, Choose, Select, Join, Product, Pick}
 use Rattle.word_steps.specs.Walks.{apply, skips, writes, seen, at, walk, located, place_at}
@@ -21,7 +22,7 @@ use Rattle.step_layout.specs.Expressions.{step, is_wide, unary_op, binary_op, sw
 use Rattle.step_layout.proofs.Seen.{seen_whole, seen_part}
 use Rattle.step_layout.proofs.Fits.{a_width, widths_right, agree_both, agree_three, value_fits}
 use Rattle.step_layout.proofs.Applying.{unary_none, unary_writes, unary_right, binary_none, binary_writes, binary_right, join_right, repeat_right, resize_none, resize_writes, resize_right, plain_right, pick_right, locate_none, locate_writes, locate_right}
-use Rattle.step_layout.proofs.Ready.{each_left, each_right, same_signals, still_ready}
+use Rattle.step_layout.proofs.Ready.{same_signals, still_ready}
 
 -- the steps end with no step to pass over, and leave what stands below the mark
 pub record Runs (steps : List Step) (w : Valuation) (mark : ℕ) : Type 0 where

@@ -15,6 +15,7 @@ use Rattle.typed_ir.specs.Sized.{value_of, width_of, is_width, is_signal, is_spa
 use Rattle.typed_ir.specs.Stmts.{SizedTarget, Fixed, Moving, is_target, is_sized, moved, update_of, all_applied}
 use Rattle.typed_ir.proofs.Cases.{by_cases, and_left, and_right}
 use Rattle.typed_ir.proofs.Copies.{above_fits}
+use Rattle.typed_ir.proofs.Lists.{each_left, each_right}
 use Rattle.word_steps.specs.declared.step.Step.{Step}
 use Rattle.word_steps.specs.declared.op.Op.TheVariants.{Select, Place, PlaceAt}
 use Rattle.word_steps.specs.Walks.{seen, located, lowest, place_at}
@@ -24,7 +25,6 @@ use Rattle.step_layout.specs.Statements.{signal_of, is_whole, shifted, shift_cod
 use Rattle.step_layout.proofs.Seen.{seen_whole, in_lowest}
 use Rattle.step_layout.proofs.Fits.{a_width, signal_is}
 use Rattle.step_layout.proofs.Applying.{put_right, none_of}
-use Rattle.step_layout.proofs.Ready.{each_left, each_right}
 use Rattle.step_layout.proofs.Layouts.{Stands, Gives, Fine, runs_none, join, stands_runs, finish, at_mark, gives_runs, finds}
 
 -- ---- numbers

@@ -1,16 +1,7 @@
 -- What stays where words below a place stay.
-use Rattle.std.proofs.Common.{◌≡◌, ℕ, ◌^◌, ◌<◌, List, [], ◌∷◌, ◌++◌, sym, ◌∙◌, subst}
+use Rattle.std.proofs.Common.{◌≡◌, ℕ, ◌^◌, ◌<◌, List, sym, ◌∙◌, subst}
 use Rattle.typed_ir.specs.Valuations.{Valuation}
-use Rattle.typed_ir.specs.Orders.{Each}
 use Rattle.step_layout.specs.Plans.{Plan, IsApart, IsReady, signals, width_at}
-
-pub each_left : {A : Type 0} (P : A → Type 0) (xs ys : List A) → Each P (xs ++ ys) → Each P xs
-each_left P [] ys h = tt
-each_left P (x ∷ xs) ys h = (h.0, each_left P xs ys h.1)
-
-pub each_right : {A : Type 0} (P : A → Type 0) (xs ys : List A) → Each P (xs ++ ys) → Each P ys
-each_right P [] ys h = h
-each_right P (x ∷ xs) ys h = each_right P xs ys h.1
 
 module _ (l : Plan) (rs : List ℕ) (n : ℕ) (apart : IsApart l rs n) where
   pub same_signals : (v w : Valuation) → ((k : ℕ) → k < n → v k ≡ w k) → signals l v ≡ signals l w

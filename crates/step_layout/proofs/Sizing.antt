@@ -33,7 +33,7 @@ use Rattle.step_layout.proofs.Passing.{node_legal}
 
 -- ---- one step
 
-sized_append : (xs ys : List Step) → are_sized xs ≡ true → are_sized ys ≡ true → are_sized (xs ++ ys) ≡ true
+pub sized_append : (xs ys : List Step) → are_sized xs ≡ true → are_sized ys ≡ true → are_sized (xs ++ ys) ≡ true
 sized_append [] ys h k = k
 sized_append (s ∷ xs) ys h k =
     let own = is_sized s.wide s.op s.width s.low in

@@ -14,8 +14,6 @@ mod fronting;
 mod home;
 mod laws;
 mod layout;
-#[cfg(test)]
-mod layout_tests;
 mod matching;
 mod nodes;
 mod operand;

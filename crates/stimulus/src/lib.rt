@@ -2,7 +2,7 @@
 //
 // A `Row` has the values of one cycle by their names, `setting` is one of them, and `settings` finds one. A `Record` (`recorded`) is one row
 // a cycle, kept as runs of equal rows; `recording` adds rows, cuts them off and reads them, `lasting` changes the last run, and
-// `record_refusal` says why rows may be refused. `tests` are rows and records worked out by hand.
+// `record_refusal` says why rows may be refused.
 #![tactic(auto)]
 
 mod lasting;
@@ -12,8 +12,6 @@ mod recording;
 mod row;
 mod setting;
 mod settings;
-#[cfg(test)]
-mod tests;
 
 pub use record_refusal::RecordRefusal;
 pub use recorded::Record;

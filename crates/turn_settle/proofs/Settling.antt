@@ -1,5 +1,5 @@
 -- Passes beside workers, and then a show.
-use Rattle.std.proofs.Common.{◌≡◌, ℕ, ◌+◌, ◌≤◌, ◌<◌, ◌⊎◌, inl, inr, min, Bool, true, false, List, [], ◌∷◌, ◌++◌, length, Option, Some, None, Result, Ok, Err, OnErr, if◌then◌else◌, refl, sym, ◌∙◌, ap, subst, arith}
+use Rattle.std.proofs.Common.{◌≡◌, ℕ, ◌+◌, ◌≤◌, ◌<◌, ◌⊎◌, inl, inr, min, Bool, true, false, List, [], ◌∷◌, ◌++◌, length, Option, Some, None, if◌then◌else◌, refl, sym, ◌∙◌, ap, subst, arith}
 use Rattle.std.proofs.lemmas.Bool.{cond-true, cases_lt}
 use Rattle.machine.specs.Kit.{Kit}
 use Rattle.book_history.specs.declared.link.Link.{Link}
@@ -130,7 +130,3 @@ module _ {D S R O : Type 0} (k : Kit D S R O) where
 pub tried_behind : {D R O : Type 0} (v w x : Known D R O) (n m : ℕ) → n ≡ m → HasAdded [] v w → HasTriedBeside w x n → HasTriedBeside v x m
 tried_behind v w x n m is added h =
     record { own = h.own; added = adds_more [] h.own v w x added h.added; unfinished = h.unfinished; few = omega (arith, is, h.few) }
-
-pub whatever : {T E P : Type 0} (r : Result T E) → P → OnErr r P
-whatever (Ok x) p = tt
-whatever (Err e) p = p

@@ -13,3 +13,5 @@ pub mod Masks
 pub mod Mentions
 pub mod Listed
 pub mod Runs
+pub mod Paths
+pub mod Sent

@@ -1,5 +1,5 @@
 -- Statements and arms of lists, taken one by one.
-use Rattle.std.proofs.Common.{◌≡◌, ℕ, ◌+◌, ◌<◌, ◌≤◌, ◌||◌, List, [], ◌++◌, map, length, get_or, drop, Result, Ok, Err, Box, Global, IfOk, sym, ◌∙◌, ap, append_assoc}
+use Rattle.std.proofs.Common.{◌≡◌, ℕ, ◌+◌, ◌<◌, ◌≤◌, ◌||◌, List, [], ◌++◌, map, length, get_or, drop, Box, Global, sym, ◌∙◌, ap, append_assoc}
 use Rattle.std.proofs.Math.Bool.{or_assoc}
 use Rattle.std.proofs.lemmas.List.{at_drop_all}
 use Rattle.typed_ir.specs.declared.arm.Arm.{Arm as Arm'}
@@ -17,11 +17,6 @@ use Rattle.typed_ir.specs.Forms.{sized}
 use Rattle.typed_ir.specs.Touches.{touched, Adds}
 use Rattle.typed_ir.proofs.Lists.{drop_read}
 use Rattle.typed_ir.proofs.Locals.{any_within-append}
-
--- what holds where a call succeeds
-pub if_ok : {A E : Type 0} (r : Result A E) (P Q : A → Type 0) → ((x : A) → P x → Q x) → IfOk r P → IfOk r Q
-if_ok (Ok x) P Q f h = f x h
-if_ok (Err e) P Q f h = tt
 
 pub adds_two : (old mid new : List Touch) (p q : Places) → Adds old mid p → Adds mid new q → Adds old new (λ s i. p s i || q s i)
 adds_two old mid new p q h k = record {

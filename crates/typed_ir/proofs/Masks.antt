@@ -1,9 +1,10 @@
--- Lists of masks name the bits that the definitions name.
-use Rattle.std.proofs.Common.{◌≡◌, ℕ, ◌+◌, ◌-◌, ◌*◌, ◌/◌, ◌%◌, ◌^◌, ◌<◌, ◌≤◌, Bool, true, false, ◌||◌, ◌&&◌, ◌==◌, nat_le, nat_lt, List, [], ◌∷◌, ◌++◌, refl, sym, ◌∙◌, ap, ap₂, arith}
-use Rattle.std.proofs.Math.Bool.{or-false, or_assoc}
+-- Bits of masks, and lists of masks, which name the bits that the definitions name.
+use Rattle.std.proofs.Common.{◌≡◌, ℕ, zero, suc, ◌+◌, ◌-◌, ◌*◌, ◌/◌, ◌%◌, ◌^◌, ◌<◌, ◌≤◌, min, max, Bool, true, false, ◌||◌, ◌&&◌, ◌==◌, nat_le, nat_lt, List, [], ◌∷◌, ◌++◌, refl, sym, ◌∙◌, ap, ap₂, arith}
+use Rattle.std.proofs.Math.Bool.{or-false, or_assoc, and-false}
 use Rattle.std.specs.Int.{bit_at}
+use Rattle.std.specs.Prelude.{bit_and, bit_or}
 use Rattle.std.proofs.lemmas.Bool.{eq-eqb, ne_eqb, le-leb, lt-leb, lt-ltb, le-ltb}
-use Rattle.std.proofs.lemmas.Nat.Bits.{bit_at_ones, bit_at_mask_inside, bit_at_mask_below, bit_at_mask_above, ones_shr}
+use Rattle.std.proofs.lemmas.Nat.Bits.{bit_at_ones, bit_at_mask_inside, bit_at_mask_below, bit_at_mask_above, ones_shr, bit_at_and, bit_at_or, bit_at-lt, bit_at-zero}
 use Rattle.std.proofs.lemmas.Nat.{pow_pos}
 use Rattle.std.proofs.Math.Pow.{pow_mono, pow-lt}
 use Rattle.std.proofs.Math.Nat.{one-mul, mod-eq_of_lt}
@@ -16,11 +17,43 @@ pub and_true : (a b : Bool) → b ≡ true → (a && b) ≡ a
 and_true true b h = h
 and_true false b h = refl
 
+pub or_nothing : (a b : Bool) → (a || (b && false)) ≡ a
+or_nothing a b = ap (λ t. a || t) (and-false b) ∙ or-false a
+
 pub touched-append : (xs ys : List Touch) (s i : ℕ) → touched (xs ++ ys) s i ≡ (touched xs s i || touched ys s i)
 touched-append [] ys s i = refl
 touched-append (x ∷ xs) ys s i =
     ap (λ t. ((s == x.signal) && has_bit x.mask i) || t) (touched-append xs ys s i)
     ∙ sym (or_assoc ((s == x.signal) && has_bit x.mask i) (touched xs s i) (touched ys s i))
+
+-- ---- one mask
+
+both_ones : (a b : ℕ) → a < 2 → b < 2 → (min a b == 1) ≡ ((a == 1) && (b == 1))
+both_ones zero zero h k = refl
+both_ones zero (suc zero) h k = refl
+both_ones (suc zero) zero h k = refl
+both_ones (suc zero) (suc zero) h k = refl
+both_ones (suc (suc a)) b h k = absurd (omega (arith, h))
+both_ones zero (suc (suc b)) h k = absurd (omega (arith, k))
+both_ones (suc zero) (suc (suc b)) h k = absurd (omega (arith, k))
+
+either_one : (a b : ℕ) → a < 2 → b < 2 → (max a b == 1) ≡ ((a == 1) || (b == 1))
+either_one zero zero h k = refl
+either_one zero (suc zero) h k = refl
+either_one (suc zero) zero h k = refl
+either_one (suc zero) (suc zero) h k = refl
+either_one (suc (suc a)) b h k = absurd (omega (arith, h))
+either_one zero (suc (suc b)) h k = absurd (omega (arith, k))
+either_one (suc zero) (suc (suc b)) h k = absurd (omega (arith, k))
+
+pub has_both : (m n i : ℕ) → has_bit (bit_and m n) i ≡ (has_bit m i && has_bit n i)
+has_both m n i = ap (λ b. b == 1) (bit_at_and m n i) ∙ both_ones (bit_at m i) (bit_at n i) (bit_at-lt m i) (bit_at-lt n i)
+
+pub has_either : (m n i : ℕ) → has_bit (bit_or m n) i ≡ (has_bit m i || has_bit n i)
+has_either m n i = ap (λ b. b == 1) (bit_at_or m n i) ∙ either_one (bit_at m i) (bit_at n i) (bit_at-lt m i) (bit_at-lt n i)
+
+pub no_bit : (i : ℕ) → has_bit 0 i ≡ false
+no_bit i = ne_eqb (bit_at 0 i) 1 (λ e. let z : bit_at 0 i ≡ 0 = bit_at-zero i in omega (arith, z, e))
 
 -- ---- what joins a list
 
@@ -30,7 +63,7 @@ adds_one xs t p e = record {
       ∙ ap (λ b. touched xs s i || b) (or-false ((s == t.signal) && has_bit t.mask i) ∙ e s i h);
 }
 
--- ---- masks
+-- ---- masks of runs
 
 pub whole_mask : (signal s i : ℕ) → i < 128 → ((s == signal) && has_bit (2 ^ 128 - 1) i) ≡ (s == signal)
 whole_mask signal s i h = and_true (s == signal) (has_bit (2 ^ 128 - 1) i) (eq-eqb (bit_at (2 ^ 128 - 1) i) 1 (bit_at_ones 128 i h))

@@ -1,5 +1,5 @@
 -- Members of lists of numbers.
-use Rattle.std.proofs.Common.{◌≡◌, ℕ, List, [], ◌∷◌, ◌++◌, ◌⊎◌, inl, inr, refl}
+use Rattle.std.proofs.Common.{◌≡◌, ℕ, List, [], ◌∷◌, ◌++◌, ◌⊎◌, inl, inr, map, refl, ap₂}
 use Rattle.typed_ir.specs.Orders.{Member, Distinct}
 
 pub member_append : (x : ℕ) (xs ys : List ℕ) → Member x (xs ++ ys) → Member x xs ⊎ Member x ys
@@ -34,3 +34,8 @@ distinct_append (x ∷ xs) ys p q apart =
     either : Member x xs ⊎ Member x ys → ⊥
     either (inl m) = p.0 m
     either (inr m) = apart x (inl refl) m
+
+-- two views that show the same of each member
+pub map_same : (f g : ℕ → ℕ) (ts : List ℕ) → ((t : ℕ) → Member t ts → f t ≡ g t) → map f ts ≡ map g ts
+map_same f g [] h = refl
+map_same f g (t ∷ ts) h = ap₂ (λ (z : ℕ) (zs : List ℕ). z ∷ zs) (h t (inl refl)) (map_same f g ts (λ u m. h u (inr m)))

@@ -10,7 +10,7 @@ use Rattle.typed_ir.specs.Stmts.{SizedTarget, Fixed, Moving, SizedStmt, SizedArm
 use Rattle.typed_ir.specs.Nodes.{FlatNode, Drive, Block, lane_spans, node_drives, node_reads, are_lanes, is_legal_node}
 use Rattle.typed_ir.specs.Flats.{NodeWritesFirst}
 use Rattle.typed_ir.specs.Touches.{all_reads, all_arm_reads, mentions, is_block}
-use Rattle.typed_ir.proofs.Cases.{by_cases, or_left, or_right, left_or, right_or, and_left, and_right, only_right}
+use Rattle.typed_ir.proofs.Cases.{by_cases, or_left, or_right, left_or, right_or, and_left, and_right, only_right, or_none}
 use Rattle.typed_ir.proofs.Locals.{any_within-append, first_of_two, second_of_two}
 
 -- ---- reads
@@ -35,10 +35,6 @@ certain_free (Fixed lane ∷ ts) s i h =
     (certain_free ts s i (or_right (within lane.span s i) (any_within (map span_of ts) s i) h))
 certain_free (Moving reach index ∷ ts) s i h =
     certain_free ts s i (or_right (within (span_of (Moving reach index)) s i) (any_within (map span_of ts) s i) h)
-
-or_none : (a b : Bool) → b ≡ false → (a || b) ≡ a
-or_none true b h = refl
-or_none false b h = h
 
 -- a bit that isn't written isn't known anew
 mutual

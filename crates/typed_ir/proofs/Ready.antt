@@ -1,5 +1,5 @@
 -- After a cycle the environment is ready for the next one.
-use Rattle.std.proofs.Common.{◌≡◌, ℕ, suc, ◌-◌, ◌/◌, ◌^◌, min, ℤ, pos, Bool, true, false, ◌==◌, cond, ◌⊎◌, inl, inr, List, [], ◌∷◌, ◌++◌, map, refl, sym, ◌∙◌, ap, subst, nat_lt}
+use Rattle.std.proofs.Common.{◌≡◌, ℕ, suc, ◌-◌, ◌/◌, ◌^◌, min, ℤ, pos, Bool, true, false, ◌==◌, cond, ◌⊎◌, inl, inr, List, [], ◌∷◌, map, refl, sym, ◌∙◌, ap, subst, nat_lt}
 use Rattle.std.specs.Prelude.{negsuc}
 use Rattle.std.proofs.lemmas.Bool.{eqb-true, eqb-false, ne_eqb, cond-true, cond-false}
 use Rattle.typed_ir.specs.declared.span.Span.{Span}
@@ -14,18 +14,7 @@ use Rattle.typed_ir.proofs.Cases.{by_cases}
 use Rattle.typed_ir.proofs.Members.{member_later}
 use Rattle.typed_ir.proofs.Locals.{node_laws}
 use Rattle.typed_ir.proofs.Settled.{round-outside}
-
-each_append : {N : Type 0} (P : N → Type 0) (xs ys : List N) → Each P xs → Each P ys → Each P (xs ++ ys)
-each_append P [] ys h k = k
-each_append P (x ∷ xs) ys h k = (h.0, each_append P xs ys h.1 k)
-
-each_first : {N : Type 0} (P : N → Type 0) (xs ys : List N) → Each P (xs ++ ys) → Each P xs
-each_first P [] ys h = tt
-each_first P (x ∷ xs) ys h = (h.0, each_first P xs ys h.1)
-
-each_second : {N : Type 0} (P : N → Type 0) (xs ys : List N) → Each P (xs ++ ys) → Each P ys
-each_second P [] ys h = h
-each_second P (x ∷ xs) ys h = each_second P xs ys h.1
+use Rattle.typed_ir.proofs.Lists.{each_append, each_left, each_right}
 
 moved_signals : (P : ℕ → Type 0) (reach : Reach) (z : ℤ) (x : ℕ) → P reach.signal → Each (λ (u : Update). P u.span.signal) (moved reach z x)
 moved_signals P reach (pos low) x h = go (nat_lt low reach.total)
@@ -61,18 +50,18 @@ mutual
   pending_signals P (Later parts e) env h = updates_signals P parts (value_of e env) env h
   pending_signals P (Then a b) env h =
       each_append (λ (u : Update). P u.span.signal) (pending a env) (pending b (exec a env))
-      (pending_signals P a env (each_first (λ (p : Span). P p.signal) (later_targets a) (later_targets b) h))
-      (pending_signals P b (exec a env) (each_second (λ (p : Span). P p.signal) (later_targets a) (later_targets b) h))
+      (pending_signals P a env (each_left (λ (p : Span). P p.signal) (later_targets a) (later_targets b) h))
+      (pending_signals P b (exec a env) (each_right (λ (p : Span). P p.signal) (later_targets a) (later_targets b) h))
   pending_signals P (If c a b) env h =
-      chosen P (value_of c env == 0) (pending b env) (pending a env) (pending_signals P b env (each_second (λ (p : Span). P p.signal) (later_targets a) (later_targets b) h))
-      (pending_signals P a env (each_first (λ (p : Span). P p.signal) (later_targets a) (later_targets b) h))
+      chosen P (value_of c env == 0) (pending b env) (pending a env) (pending_signals P b env (each_right (λ (p : Span). P p.signal) (later_targets a) (later_targets b) h))
+      (pending_signals P a env (each_left (λ (p : Span). P p.signal) (later_targets a) (later_targets b) h))
   pending_signals P (Case e arms) env h = pending_arms_signals P arms (value_of e env) env h
 
   pending_arms_signals : (P : ℕ → Type 0) (arms : SizedArms) (subject : ℕ) (env : Valuation) → Each (λ (p : Span). P p.signal) (later_arm_targets arms)
       → Each (λ (u : Update). P u.span.signal) (pending_arms arms subject env)
   pending_arms_signals P (Arm items body rest) subject env h =
-      chosen P (matches_any subject items env) (pending body env) (pending_arms rest subject env) (pending_signals P body env (each_first (λ (p : Span). P p.signal) (later_targets body) (later_arm_targets rest) h))
-      (pending_arms_signals P rest subject env (each_second (λ (p : Span). P p.signal) (later_targets body) (later_arm_targets rest) h))
+      chosen P (matches_any subject items env) (pending body env) (pending_arms rest subject env) (pending_signals P body env (each_left (λ (p : Span). P p.signal) (later_targets body) (later_arm_targets rest) h))
+      (pending_arms_signals P rest subject env (each_right (λ (p : Span). P p.signal) (later_targets body) (later_arm_targets rest) h))
   pending_arms_signals P (Default otherwise) subject env h = pending_signals P otherwise env h
 
 pub all_signals : (registers : List ℕ) (sts : List SizedStmt) (env : Valuation) → WritesRegisters registers sts

@@ -2,29 +2,21 @@
 use Rattle.std.proofs.Common.{◌≡◌, ℕ, ◌+◌, Bool, true, false, List, [], ◌∷◌, ◌++◌, map, cond, refl, sym, ◌∙◌, ap, true≢false, subst, arith}
 use Rattle.typed_ir.specs.Nodes.{FlatNode}
 use Rattle.typed_ir.specs.Orders.{Each}
+use Rattle.typed_ir.proofs.Lists.{each_append}
 use Rattle.unit_ir.specs.declared.child_shape.ChildShape.{ChildShape}
-use Rattle.unit_ir.specs.Items.{PlacedItem, SizedBody, Node, Clocked, Initial, node_in, nodes_in}
+use Rattle.unit_ir.specs.Items.{PlacedItem, Clocked, node_in, nodes_in}
 use Rattle.unit_ir.specs.Trees.{UnitNode, Own, count}
 use Rattle.unit_ir.proofs.Counted.{count_append, count_none}
-use Rattle.unit_ir.proofs.Linking.{each_append}
 use Rattle.verilog_ast.specs.Items as i
 use Rattle.verilog_ast.specs.Items.{ModuleItem, ContinuousAssignment}
 use Rattle.width_rules.specs.Scopes.{Scope}
 use Rattle.gen_unroll.specs.Steps.{ModuleStep, Listed, Port, Parameter, Item, Labelled, Opened, Closed}
 use Rattle.connection_rules.specs.Instances.{instance_items}
+use Rattle.connection_rules.proofs.Standing.{nodes_append}
 use Rattle.sized_items.specs.declared.value_kind.ValueKind.TheVariants as kind
 use Rattle.sized_items.specs.DeclaredValues.{DeclaredValue, kind_of_net, as_assignment, is_net_value, values_of, reg_values_of, port_values}
 use Rattle.sized_items.specs.SizedItems.{drive_item, initial_item, value_item, plain_items}
 use Rattle.unit_build.specs.Walks.{instances_in, shapes_of, step_items}
-
-pub nodes_append : (xs ys : List PlacedItem) → nodes_in (xs ++ ys) ≡ nodes_in xs ++ nodes_in ys
-nodes_append [] ys = refl
-nodes_append (x ∷ xs) ys = nodes_behind x.body (nodes_append xs ys)
-  where
-    nodes_behind : (b : SizedBody) → nodes_in (xs ++ ys) ≡ nodes_in xs ++ nodes_in ys → node_in b ++ nodes_in (xs ++ ys) ≡ (node_in b ++ nodes_in xs) ++ nodes_in ys
-    nodes_behind (Node n) e = ap (λ (ns : List UnitNode). n ∷ ns) e
-    nodes_behind (Clocked st) e = e
-    nodes_behind (Initial s) e = e
 
 -- what the nodes of both have, all have
 pub each_items : (P : UnitNode → Type 0) (xs ys : List PlacedItem) → Each P (nodes_in xs) → Each P (nodes_in ys) → Each P (nodes_in (xs ++ ys))

@@ -1,13 +1,11 @@
 -- The nodes of connections without faults have widths that agree with the module's signals and with the ports of its instances.
-use Rattle.std.proofs.Common.{◌≡◌, ◌≤◌, ℕ, suc, ◌==◌, Bool, true, false, List, [], ◌∷◌, ◌++◌, length, cond, append_assoc, refl, sym, ◌∙◌, ap, subst, arith}
+use Rattle.std.proofs.Common.{◌≡◌, ◌≤◌, ℕ, suc, Bool, true, false, List, [], ◌∷◌, ◌++◌, length, cond, append_assoc, refl, sym, ◌∙◌, ap, subst, arith}
 use Rattle.std.specs.Prelude.{⊤, Option, Some, None}
-use Rattle.std.proofs.lemmas.Bool.{and_from, cond-true, cond-false}
+use Rattle.std.proofs.lemmas.Bool.{and_from}
 use Rattle.std.proofs.lemmas.List.{length-append}
-use Rattle.std.proofs.lemmas.Option.{same_Some, none-some}
 use Rattle.typed_ir.specs.Nodes.{are_lanes}
 use Rattle.typed_ir.specs.Orders.{Each}
 use Rattle.typed_ir.specs.Stmts.{is_sized}
-use Rattle.typed_ir.proofs.Cases.{by_cases}
 use Rattle.unit_ir.specs.declared.child_shape.ChildShape.{ChildShape}
 use Rattle.unit_ir.specs.declared.port_shape.PortShape.{PortShape}
 use Rattle.unit_ir.specs.Items.{nodes_in}
@@ -29,6 +27,7 @@ use Rattle.connection_rules.specs.ConnectionNodes.{driven_by, port_lane, port_va
 use Rattle.connection_rules.specs.Instances.{instance_faults, instance_kinds, item_faults, first_to, item_if, port_items, child_items, instance_items}
 use Rattle.connection_rules.specs.Outputs.{target_at, output_faults, output_kinds, known_lanes}
 use Rattle.connection_rules.proofs.ChildWidths.{lanes_lie, values_lie}
+use Rattle.connection_rules.proofs.Standing.{first_is}
 use Rattle.unit_build.proofs.ConnectedItems.{each_items}
 use Rattle.unit_build.proofs.ConnectedTargets.{IsOutput, output_so}
 use Rattle.unit_build.proofs.ConnectedTexts.{AreInstancesWritten, written_to}
@@ -89,12 +88,6 @@ all_right scope child (c ∷ cs) lanes values written f k = (
   all_right scope child cs lanes.1 values.1 written.1 (right_none (connection_faults scope c) (all_connection_faults scope cs) f)
       (right_none (connection_kinds scope c) (all_connection_kinds scope cs) k),
 )
-
-pub first_is : (P : Connected → Type 0) (k : ℕ) (cs : List Connected) (c : Connected) → Each P cs → first_to k cs ≡ Some c → P c
-first_is P k [] c all h = absurd (none-some c h)
-first_is P k (d ∷ ds) c all h = by_cases (d.port == k)
-    (λ t. subst P (same_Some d c (sym (cond-true (d.port == k) (Some d) (first_to k ds) t) ∙ h)) all.0)
-    (λ f. first_is P k ds c all.1 (sym (cond-false (d.port == k) (Some d) (first_to k ds) f) ∙ h))
 
 each_port : (P : UnitNode → Type 0) (Q : Connected → Type 0) (scope : Scope) (d : ℕ) → ((c : Connected) → Q c → P (connection_node scope d c))
     → (cs : List Connected) → Each Q cs → (k : ℕ) (ps : List PortShape) → Each P (nodes_in (port_items scope d cs k ps))

@@ -4,10 +4,10 @@ use Rattle.std.specs.Prelude.{⊤, Option, Some, None, slice_get}
 use Rattle.std.specs.Option.{option_map}
 use Rattle.ls_text.specs.declared.name_id.NameId.{NameId}
 use Rattle.typed_ir.specs.Orders.{Each}
+use Rattle.typed_ir.proofs.Lists.{each_append}
 use Rattle.unit_ir.specs.declared.child_shape.ChildShape.{ChildShape}
 use Rattle.unit_ir.specs.declared.port_shape.PortShape.{PortShape}
 use Rattle.unit_ir.specs.Shapes.{is_clock}
-use Rattle.unit_ir.proofs.Linking.{each_append}
 use Rattle.verilog_ast.specs.declared.connections.Connections.{Connections}
 use Rattle.verilog_ast.specs.declared.connections.Connections.TheVariants as connections
 use Rattle.verilog_ast.specs.declared.expression.Expr.{Expr}

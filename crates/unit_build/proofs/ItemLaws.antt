@@ -9,9 +9,9 @@ use Rattle.typed_ir.specs.Orders.{Each}
 use Rattle.typed_ir.specs.Sized.{is_span}
 use Rattle.typed_ir.specs.Stmts.{SizedTarget, Fixed, Moving, SizedStmt, is_sized, is_target, are_targets, is_legal, is_clocked}
 use Rattle.typed_ir.proofs.Cases.{and_left, and_right}
+use Rattle.typed_ir.proofs.Lists.{each_append}
 use Rattle.unit_ir.specs.Items.{SizedBody, Node, Clocked, Initial, PlacedItem, node_in, nodes_in, block_in, blocks_in}
 use Rattle.unit_ir.specs.Trees.{UnitNode, is_legal_unit_node, is_legal_block}
-use Rattle.unit_ir.proofs.Linking.{each_append}
 use Rattle.verilog_ast.specs.declared.expression.Expr.{Expr}
 use Rattle.verilog_ast.specs.declared.header_port.HeaderPort.{HeaderPort}
 use Rattle.verilog_ast.specs.declared.header_port.HeaderPort.TheVariants as port

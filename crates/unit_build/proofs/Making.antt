@@ -1,6 +1,6 @@
 -- The unit that is made of the parts.
-use Rattle.std.proofs.Common.{◌≡◌, List, [], ◌∷◌, ◌++◌, Bool, map, Result, Ok, refl, sym, ◌∙◌, ap, ap₂, subst}
-use Rattle.ls_text.specs.declared.fault.Fault.{Fault}
+use Rattle.std.proofs.Common.{◌≡◌, List, [], Bool, map, Result, Ok, sym, ◌∙◌, ap, ap₂, subst}
+use Rattle.width_rules.proofs.Reading.{left_none}
 use Rattle.driver_rules.specs.Driven.{AreNarrowItems, HasRoles, IsDriven}
 use Rattle.driver_rules.specs.DriverFaults.{driver_faults}
 use Rattle.gen_unroll.specs.declared.step.Step.{Step}
@@ -21,15 +21,6 @@ use Rattle.unit_names.specs.Numbers.{module_table}
 use Rattle.unit_build.specs.Building.{module_of, job_faults, placed_items, unit_faults, unit_with}
 use Rattle.unit_build.proofs.Sound.{narrow, roles, unit, sized}
 
-abbrev Begins : List Fault → Type 0
-Begins [] = ⊥
-Begins (x ∷ xs) = Unit {0}
-
--- where no fault is in two lists together, none is in the first
-none_first : (xs ys : List Fault) → xs ++ ys ≡ [] → xs ≡ []
-none_first [] ys h = refl
-none_first (x ∷ xs) ys h = absurd (subst Begins h tt)
-
 pub is_built : (job : BuildJob) (m : ModuleSignals) (settled : List Bool) (steps : List Step) (parts : UnitParts) (p : PlacedItems)
     → unit_faults job (table_in m) settled (map step_of steps) ≡ [] → p ≡ placed_items job (table_in m) settled (map step_of steps)
     → sized_unit parts ≡ unit_of p → parts.shapes ≡ job.children
@@ -45,7 +36,7 @@ pub is_sound : (job : BuildJob) (m : ModuleSignals) (settled : List Bool) (steps
 is_sound job m settled steps parts p table none placed driven made =
     let ss = map step_of steps in
     let there = placed_items job (table_in m) settled ss in
-    let item = none_first (job_faults job (table_in m) settled ss) (driver_faults there) none in
+    let item = left_none (job_faults job (table_in m) settled ss) (driver_faults there) none in
     let goes : AreNarrowItems there → HasRoles there → IsDriven (unit_of there) =
     subst (λ (q : PlacedItems). AreNarrowItems q → HasRoles q → IsDriven (unit_of q)) placed driven in
     subst IsUnit (sym (made ∙ ap unit_of placed)) (unit job m settled steps table (goes (narrow job m settled steps item) (roles job m settled steps table)))
@@ -56,4 +47,4 @@ pub is_sized : (job : BuildJob) (m : ModuleSignals) (settled : List Bool) (steps
 is_sized job m settled steps parts p none placed made shapes =
     let ss = map step_of steps in
     sized job m settled steps parts (made ∙ ap unit_of placed) shapes
-    (none_first (job_faults job (table_in m) settled ss) (driver_faults (placed_items job (table_in m) settled ss)) none)
+    (left_none (job_faults job (table_in m) settled ss) (driver_faults (placed_items job (table_in m) settled ss)) none)

@@ -2,12 +2,12 @@
 use Rattle.std.proofs.Common.{◌≡◌, ℕ, suc, true, List, [], ◌∷◌, ◌++◌, map}
 use Rattle.std.specs.Prelude.{⊤, Option, Some, None}
 use Rattle.typed_ir.specs.Orders.{Each}
+use Rattle.typed_ir.proofs.Lists.{each_append}
 use Rattle.unit_ir.specs.declared.child_shape.ChildShape.{ChildShape}
 use Rattle.unit_ir.specs.declared.port_shape.PortShape.{PortShape}
 use Rattle.unit_ir.specs.Items.{SizedBody, Node, Clocked, Initial, PlacedItem, node_in, nodes_in}
 use Rattle.unit_ir.specs.OwnWidths.{child_widths}
 use Rattle.unit_ir.specs.Trees.{UnitNode, is_legal_unit_node}
-use Rattle.unit_ir.proofs.Linking.{each_append}
 use Rattle.verilog_ast.specs.Items.{ModuleInstance}
 use Rattle.width_rules.specs.declared.writer.Writer.{Writer}
 use Rattle.width_rules.specs.Scopes.{Scope}

@@ -20,7 +20,7 @@ pub record Holds (first : ℕ) (whole part : List ℕ) : Type 0 where
   pub there : (s : ℕ) → s < length part → first + s < length whole
   pub same : (s : ℕ) → s < length part → slice_index whole (first + s) ≡ slice_index part s
 
-both_from : (a b c d : Bool) → (a ≡ true → c ≡ true) → (b ≡ true → d ≡ true) → (a && b) ≡ true → (c && d) ≡ true
+pub both_from : (a b c d : Bool) → (a ≡ true → c ≡ true) → (b ≡ true → d ≡ true) → (a && b) ≡ true → (c && d) ≡ true
 both_from a b c d f g h = and_from c d (f (and_left a b h)) (g (and_right a b h))
 
 signal_fits : (first : ℕ) (ws part : List ℕ) → Holds first ws part → (s : ℕ) → nat_lt s (length part) ≡ true → nat_lt (first + s) (length ws) ≡ true

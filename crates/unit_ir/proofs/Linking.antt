@@ -10,19 +10,12 @@ use Rattle.typed_ir.specs.Orders.{Each, Member, Distinct, any_drives}
 use Rattle.typed_ir.proofs.Members.{member_left, member_right, member_append, distinct_append}
 use Rattle.typed_ir.specs.Cycles.{WritesRegisters, block_writes}
 use Rattle.typed_ir.specs.Flats.{NodeWritesFirst, IsFlat}
+use Rattle.typed_ir.proofs.Lists.{each_append, each_map}
 use Rattle.unit_ir.specs.Shifts.{shifted_span, shifted_stmt}
 use Rattle.unit_ir.specs.Trees.{UnitNode, Own, Into, From, SizedUnit, Instances, Nothing, One, Standing, signals_in, firsts, copied_out, node_there, nodes_at, blocks_at, top_inputs, flat_of_tree, count, IsNodeSound, IsSoundUnit, AreSound}
 use Rattle.unit_ir.proofs.Pulled.{complete_shifted, first_shifted, spans_below, spans_shifted}
 use Rattle.unit_ir.proofs.Fitting.{later_shifted, one_each}
 use Rattle.unit_ir.proofs.Counted.{count_append, count_map, count_none, driven, nodes_given, registers_of, registers_range, InRange, no_register, Hit, member_there, member_back}
-
-pub each_append : {A : Type 0} (P : A → Type 0) (xs ys : List A) → Each P xs → Each P ys → Each P (xs ++ ys)
-each_append P [] ys h k = k
-each_append P (x ∷ xs) ys h k = (h.0, each_append P xs ys h.1 k)
-
-pub each_map : {A B : Type 0} (P : B → Type 0) (Q : A → Type 0) (f : A → B) (xs : List A) → ((x : A) → Q x → P (f x)) → Each Q xs → Each P (map f xs)
-each_map P Q f [] h all = tt
-each_map P Q f (x ∷ xs) h all = (h x all.0, each_map P Q f xs h all.1)
 
 -- what holds of all that each instance gives holds of all that the tree gives
 each_copied : {A : Type 0} (P : A → Type 0) (own : Standing → SizedUnit → List A) → ((at : Standing) (u : SizedUnit) (within : Instances) → IsSoundUnit u within → Each P (own at u))

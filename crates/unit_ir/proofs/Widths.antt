@@ -9,9 +9,9 @@ use Rattle.typed_ir.specs.Cycles.{Signal}
 use Rattle.unit_ir.specs.Shifts.{shifted_stmt}
 use Rattle.unit_ir.specs.Trees.{UnitNode, Own, Into, From, SizedUnit, Instances, Nothing, One, signals_in, firsts, copied_out, node_there, signal_there, signals_at, nodes_at, flat_of_tree, unit_widths, kid_widths, is_legal_unit_node, AreLegal, blocks_at, is_legal_block, top_inputs, AreSound}
 use Rattle.typed_ir.proofs.Cases.{and_left, and_right}
+use Rattle.typed_ir.proofs.Lists.{each_append, each_map}
 use Rattle.unit_ir.proofs.Fitting.{Holds, node_fits, joint_fits, stmt_fits, clocked_shifted}
 use Rattle.unit_ir.proofs.Counted.{nodes_given, kid_at, registers_range}
-use Rattle.unit_ir.proofs.Linking.{each_append, each_map}
 
 widths_in : Instances → List ℕ
 widths_in Nothing = []

@@ -30,7 +30,7 @@ use Rattle.connection_rules.specs.Connections.{Connected, connected_to, connecti
 use Rattle.connection_rules.specs.ConnectionNodes.{target_or_none, driven_by, port_lane, port_value, input_node, output_node, connection_node, connected_mentions, item_with, connection_item}
 use Rattle.connection_rules.specs.Instances.{instance_faults, instance_kinds, item_faults, first_to, item_if, port_items, child_items, instance_items}
 use Rattle.connection_rules.specs.Outputs.{is_target, target_at, as_target, part_faults, written_faults, output_faults, part_kinds, written_kinds, output_kinds, output_form, known_lanes}
-use Rattle.unit_build.proofs.ConnectedNodes.{first_is}
+use Rattle.connection_rules.proofs.Standing.{first_is}
 use Rattle.unit_build.proofs.ConnectedTargets.{target_written}
 use Rattle.unit_build.proofs.ConnectedTexts.{AreInstancesWritten, written_to}
 use Rattle.unit_laws.specs.RenumberedItems.{node_as, placed_as}

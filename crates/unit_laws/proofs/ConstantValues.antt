@@ -14,11 +14,11 @@ use Rattle.gen_unroll.specs.Reaches.{reach_in}
 use Rattle.gen_unroll.specs.Steps.{ModuleStep, Parameter, Opened, Closed}
 use Rattle.gen_unroll.specs.Unrolled.{unrolled_module, turn_limit}
 use Rattle.gen_unroll.specs.Values.{ConstantValue, constant_of, ◌>>=◌}
+use Rattle.gen_unroll.proofs.Answered.{first_step, ok_same}
 use Rattle.module_names.specs.Modules.{header_ports}
 use Rattle.module_registry.specs.Constants.{assigned_name, header_name, item_constants, constants_of}
 use Rattle.elaborate.specs.Checks.{Checked, nothing_checked, check_steps, ports_declared, checked}
 use Rattle.job_laws.specs.Outer.{outer_values}
-use Rattle.job_laws.proofs.Answered.{first_step, ok_same}
 use Rattle.job_laws.proofs.FoundValues.{parameters_found}
 use Rattle.job_laws.proofs.KnownInstances.{IsKnown}
 use Rattle.job_laws.proofs.Levels.{outer_sorts}

@@ -19,6 +19,7 @@ use Rattle.link.proofs.Sound.{same_long}
 use Rattle.gen_unroll.specs.Steps.{ModuleStep, blocks_in}
 use Rattle.gen_unroll.specs.Unrolled.{unrolled_module, turn_limit}
 use Rattle.gen_unroll.specs.Values.{constant_of}
+use Rattle.gen_unroll.proofs.Answered.{ok_same}
 use Rattle.clock_rules.specs.Views.{clock_view}
 use Rattle.module_names.specs.Modules.{module_named}
 use Rattle.elaborate.specs.declared.limits.Limits.{Limits}
@@ -35,7 +36,6 @@ use Rattle.unit_build.specs.Building.{module_of, job_steps}
 use Rattle.job_laws.specs.InstanceModules.{IsVisited}
 use Rattle.job_laws.specs.JobUnits.{IsUnitOf}
 use Rattle.job_laws.specs.Outer.{are_ports_outside}
-use Rattle.job_laws.proofs.Answered.{ok_same}
 use Rattle.job_laws.proofs.BlockNames.{same_names_within}
 use Rattle.job_laws.proofs.CodeTrees.{code_stands}
 use Rattle.job_laws.proofs.InstanceModules.{all_visited}

@@ -19,6 +19,7 @@ use Rattle.unit_ir.specs.Shapes.{children_of, shape_of, stands_in}
 use Rattle.gen_unroll.specs.Reaches.{innermost, blocks_around as blocks_left}
 use Rattle.gen_unroll.specs.Steps.{GenerateBlock, ModuleStep, Listed, Port, Parameter, Item, Labelled, Opened, Closed, blocks_in}
 use Rattle.gen_unroll.specs.Unrolled.{unrolled_module}
+use Rattle.gen_unroll.proofs.Answered.{ok_same}
 use Rattle.clock_rules.specs.Views.{clock_view}
 use Rattle.elaborate.specs.Elaborated.{Standing, elaborated}
 use Rattle.elaborate.specs.Ports.{PortOutline}
@@ -30,7 +31,6 @@ use Rattle.unit_jobs.specs.BlockNames.{called_in, declared_by, item_texts, texts
 use Rattle.unit_jobs.specs.JobViews.{text_of}
 use Rattle.job_laws.specs.BlockSignals.{is_within_block, called as signal_called}
 use Rattle.job_laws.specs.Outer.{are_ports_outside}
-use Rattle.job_laws.proofs.Answered.{ok_same}
 use Rattle.job_laws.proofs.BlockNames.{same_names_within}
 use Rattle.job_laws.proofs.KnownInstances.{same_first, same_others, side_by_side}
 use Rattle.job_laws.proofs.Rerolled.{ports_stand_outside}

@@ -13,6 +13,7 @@ use Rattle.gen_unroll.specs.Reaches.{Reach, innermost, in_reach, reach_in}
 use Rattle.gen_unroll.specs.Steps.{GenerateBlock, ModuleStep, Listed, Port, Parameter, Item, Labelled, Opened, Closed, blocks_in}
 use Rattle.gen_unroll.specs.Unrolled.{unrolled_module}
 use Rattle.gen_unroll.specs.Values.{ConstantValue, ◌>>=◌}
+use Rattle.gen_unroll.proofs.Answered.{err_or_ok, ok_same, first_step}
 use Rattle.module_names.specs.Modules.{module_named, parameters_of, header_ports}
 use Rattle.clock_rules.specs.Clocks.{all_free, declared_free, reg_free, assignment_free, statement_free, posedge, clock_of, clocks_of, clocks_in, unless_misused, clock_item}
 use Rattle.clock_rules.specs.Connections.{connected}
@@ -22,7 +23,6 @@ use Rattle.elaborate.specs.Clocks.{with_clock, own_port, declared_port, clock_st
 use Rattle.elaborate.specs.Overrides.{overridden}
 use Rattle.elaborate.specs.Tables.{Table}
 use Rattle.elaborate.specs.Visits.{Visited, top_ports, clocked, with_clocks, visited}
-use Rattle.job_laws.proofs.Answered.{err_or_ok, ok_same, first_step}
 use Rattle.unit_laws.proofs.KeptChildren.{are_instances, are_instances_here, children_kept, name_kept}
 use Rattle.unit_laws.proofs.OwnClocks.{IsPortOf, clock_own}
 use Rattle.unit_laws.proofs.StepNames.{instance_name, named_by, AreNamed, IsStepNamed, told_go}

@@ -10,9 +10,9 @@ use Rattle.width_rules.specs.Faults.{fault_at}
 use Rattle.width_rules.specs.Scopes.{Scope}
 use Rattle.module_names.specs.Listings.{is_listed}
 use Rattle.module_names.specs.Modules.{header_ports, is_input_of}
+use Rattle.gen_unroll.proofs.Answered.{good, err_or_ok, ok_same, first_step, past_need}
 use Rattle.clock_rules.specs.Clocks.{is_clock, clock_free, take_clock, connect, connection, clock_by_name, next_port, ports_behind, clock_by_order, clock_of}
 use Rattle.clock_rules.specs.Connections.{named, name_more, all_named, connected}
-use Rattle.job_laws.proofs.Answered.{good, err_or_ok, ok_same, first_step, past_need}
 
 -- there is no clock, or it is one of these ports
 abbrev pub IsPortOf : List Identifier → Option ℕ → Type 0

@@ -8,6 +8,7 @@ use Rattle.verilog_ast.specs.declared.identifier.Identifier.{Identifier}
 use Rattle.verilog_ast.specs.Items.{ModuleDeclaration}
 use Rattle.width_rules.specs.Faults.{fault_at}
 use Rattle.gen_unroll.specs.Values.{◌>>=◌}
+use Rattle.gen_unroll.proofs.Answered.{err_or_ok, ok_same, first_step, past_test}
 use Rattle.module_names.specs.Listings.{is_listed}
 use Rattle.module_names.specs.Modules.{module_named, header_ports}
 use Rattle.elaborate.specs.declared.limits.Limits.{Limits}
@@ -16,7 +17,6 @@ use Rattle.elaborate.specs.Clocks.{top_clock}
 use Rattle.elaborate.specs.Elaborated.{Standing, Step, standing, top_standing, each_child, is_on, of_module, child_at}
 use Rattle.elaborate.specs.Elaborated.{within as instances_within, top_of, from_top, elaborated}
 use Rattle.elaborate.specs.Visits.{visited}
-use Rattle.job_laws.proofs.Answered.{err_or_ok, ok_same, first_step, past_test}
 use Rattle.job_laws.proofs.InstanceModules.{top_named}
 use Rattle.unit_laws.proofs.OwnChildren.{IsOwn, IsOwnChild, AreOwn, visit_own}
 use Rattle.unit_laws.proofs.OwnClocks.{IsPortOf}

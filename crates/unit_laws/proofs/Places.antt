@@ -3,8 +3,8 @@ use Rattle.std.proofs.Common.{◌≡◌, ℕ, zero, suc, ◌+◌, ◌<◌, ◌�
 use Rattle.std.proofs.lemmas.Bool.{ne_eqb}
 use Rattle.std.proofs.lemmas.List.{length-append}
 use Rattle.typed_ir.specs.Orders.{Each}
+use Rattle.typed_ir.proofs.Lists.{each_append}
 use Rattle.unit_names.specs.Signals.{NamedSignal}
-use Rattle.unit_ir.proofs.Linking.{each_append}
 use Rattle.unit_laws.specs.Copies.{ModuleCopy, Copies, Nothing, One, Where, inside, from_each, SignalPlace, places_from, own_places, same_path, place_in}
 
 -- ---- paths

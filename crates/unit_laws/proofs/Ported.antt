@@ -1,12 +1,9 @@
 -- The connections of a module name ports of its instances alone.
-use Rattle.std.proofs.Common.{◌≡◌, ℕ, zero, suc, ◌+◌, ◌<◌, ◌≤◌, ◌==◌, Bool, true, false, cond, List, [], ◌∷◌, ◌++◌, length, map, append_assoc, refl, sym, ◌∙◌, ap, subst, arith}
+use Rattle.std.proofs.Common.{◌≡◌, ℕ, zero, suc, ◌+◌, ◌<◌, ◌≤◌, Bool, true, false, cond, List, [], ◌∷◌, ◌++◌, length, map, append_assoc, refl, ◌∙◌, ap, subst, arith}
 use Rattle.std.specs.Prelude.{Option, Some, None}
-use Rattle.std.proofs.lemmas.Bool.{eqb-true, cond-true, cond-false}
 use Rattle.std.proofs.lemmas.List.{length-append}
-use Rattle.std.proofs.lemmas.Option.{same_Some, none-some}
 use Rattle.typed_ir.specs.Orders.{Each, at_or}
 use Rattle.typed_ir.specs.Sized.{Name, Resized}
-use Rattle.typed_ir.proofs.Cases.{by_cases}
 use Rattle.unit_ir.specs.declared.child_shape.ChildShape.{ChildShape}
 use Rattle.unit_ir.specs.declared.port_shape.PortShape.{PortShape}
 use Rattle.unit_ir.specs.Items.{nodes_in}
@@ -21,6 +18,7 @@ use Rattle.unit_names.specs.Signals.{NamedSignal}
 use Rattle.connection_rules.specs.Connections.{Connected, connected_to}
 use Rattle.connection_rules.specs.ConnectionNodes.{input_node, output_node, connection_node, driven_by}
 use Rattle.connection_rules.specs.Instances.{first_to, item_if, port_items, instance_items}
+use Rattle.connection_rules.proofs.Standing.{first_port}
 use Rattle.unit_build.specs.Walks.{Walk, instances_in, shapes_of, shapes_behind, step_items, behind, walk_items}
 use Rattle.unit_build.proofs.ConnectedItems.{connected_items, each_items, step_each}
 use Rattle.unit_build.proofs.ConnectedNumbers.{IsWalkOver, goes_over, item_shapes}
@@ -56,12 +54,6 @@ node_ports all scope child x h = by_input x.shape.input
     by_input false = λ g first same. value_so g first _ _ (same x.port h)
 
 -- ---- the connections of an instance, port by port
-
-first_port : (k : ℕ) (cs : List Connected) (c : Connected) → first_to k cs ≡ Some c → c.port ≡ k
-first_port k [] c h = absurd (none-some c h)
-first_port k (d ∷ ds) c h = by_cases (d.port == k)
-    (λ t. sym (ap (λ (x : Connected). x.port) (same_Some d c (sym (cond-true (d.port == k) (Some d) (first_to k ds) t) ∙ h))) ∙ eqb-true d.port k t)
-    (λ f. first_port k ds c (sym (cond-false (d.port == k) (Some d) (first_to k ds) f) ∙ h))
 
 items_ports : (all : List ChildShape) (scope : Scope) (child : ℕ) (cs : List Connected) (k : ℕ) (ps : List PortShape)
     → k + length ps ≤ ports_of all child

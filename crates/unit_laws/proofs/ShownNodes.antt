@@ -7,13 +7,13 @@ use Rattle.typed_ir.specs.Nodes.{FlatNode, Drive, Block}
 use Rattle.typed_ir.specs.Orders.{Each}
 use Rattle.typed_ir.specs.Stmts.{SizedStmt, targets}
 use Rattle.typed_ir.specs.Valuations.{any_within}
+use Rattle.typed_ir.proofs.Lists.{each_append}
 use Rattle.unit_ir.specs.declared.child_shape.ChildShape.{ChildShape}
 use Rattle.unit_ir.specs.declared.port_shape.PortShape.{PortShape}
 use Rattle.unit_ir.specs.Items.{SizedBody, Node, Clocked, Initial, PlacedItem, node_in, nodes_in}
 use Rattle.unit_ir.specs.Shifts.{shifted_span, shifted_stmt, shifted_node}
 use Rattle.unit_ir.specs.Trees as t
 use Rattle.unit_ir.specs.Trees.{UnitNode, Own, Into, From, SizedUnit, Instances, firsts, signals_in, copied_out, node_there, nodes_at, flat_of_tree}
-use Rattle.unit_ir.proofs.Linking.{each_append}
 use Rattle.unit_ir.proofs.Pulled.{targets_shifted}
 use Rattle.verilog_ast.specs.Items as i
 use Rattle.verilog_ast.specs.Items.{ContinuousAssignment, ModuleItem, ModuleInstance}

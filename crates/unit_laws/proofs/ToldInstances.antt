@@ -1,13 +1,14 @@
 -- The instances of an elaborated tree are told: the name of each is a word of the table, and its clock, if any, is one of its own ports (IEEE Std
 -- 1364-2005, 12.1.2, 12.3 and 12.4).
-use Rattle.std.proofs.Common.{◌≡◌, ℕ, zero, suc, ◌<◌, ◌≤◌, ◌==◌, ◌⊎◌, Bool, true, false, if◌then◌else◌, List, [], ◌∷◌, All, length, map, Option, Some, None, Ok, refl, sym, ◌∙◌, ap, ap₂, subst, inl, inr}
+use Rattle.std.proofs.Common.{◌≡◌, ℕ, zero, suc, ◌<◌, ◌≤◌, ◌==◌, ◌⊎◌, Bool, true, if◌then◌else◌, List, [], ◌∷◌, All, length, map, Option, Some, None, Ok, refl, sym, ◌∙◌, ap, ap₂, subst, inl, inr}
 use Rattle.std.specs.List.{AllZip}
-use Rattle.std.proofs.lemmas.Bool.{cases_lt, eqb-true, eqb-false, eq-eqb, ne_eqb}
+use Rattle.std.proofs.lemmas.Bool.{cases_lt}
 use Rattle.std.proofs.lemmas.List.{get_or_past}
 use Rattle.std.proofs.lemmas.List.Elements.{All-nil, All-cons, All-head, All-tail}
 use Rattle.ls_text.specs.declared.name_id.NameId.{NameId}
 use Rattle.ls_text.specs.Texts.{Grows, text_at}
 use Rattle.ls_text.proofs.Growth.{grown_id, grown_text}
+use Rattle.ls_text.proofs.Cases.{turned}
 use Rattle.verilog_lex.specs.declared.kind.Kind.{Kind}
 use Rattle.verilog_lex.specs.declared.kind.Kind.TheVariants as k
 use Rattle.verilog_lex.specs.declared.literal.Literal.{Literal}
@@ -78,13 +79,6 @@ pub outline_name : (n : Identifier) (d : Option Declaration) → (outline n d).n
 outline_name n None = refl
 outline_name n (Some d) = refl
 
-same_test : (a b : ℕ) → (a == b) ≡ (b == a)
-same_test a b = cases (a == b) refl
-  where
-    cases : (c : Bool) → (a == b) ≡ c → (a == b) ≡ (b == a)
-    cases true is = is ∙ sym (eq-eqb b a (sym (eqb-true a b is)))
-    cases false is = is ∙ sym (ne_eqb b a (λ same. eqb-false a b is (sym same)))
-
 -- ports as they are outlined have the names of the header
 same_listed : (name : ℕ) (table : Table) (ns : List Identifier) (ps : List PortShape) → map port_of ps ≡ port_outlines ns table
     → is_listed name ns ≡ is_port_name name ps
@@ -95,7 +89,7 @@ same_listed name table (n ∷ ns) (p ∷ ps) same =
     let here = same_first (port_of p) (port_outline table n) (map port_of ps) (port_outlines ns table) same in
     let is : p.name.0 ≡ n.name.0 = ap (λ (o : PortOutline). o.name) here
     ∙ outline_name n (declared_as (record { block = None; name = n.name.0 }) table) in
-    ap₂ (λ (b rest : Bool). if b then true else rest) (same_test name n.name.0 ∙ ap (λ (m : ℕ). m == name) (sym is))
+    ap₂ (λ (b rest : Bool). if b then true else rest) (turned name n.name.0 ∙ ap (λ (m : ℕ). m == name) (sym is))
     (same_listed name table ns ps (same_others (port_of p) (port_outline table n) (map port_of ps) (port_outlines ns table) same))
 
 has_clock : (clock : Option NameId) (ns : List Identifier) (ps : List PortShape) → ((name : ℕ) → is_listed name ns ≡ is_port_name name ps)

@@ -17,6 +17,7 @@ use Rattle.unit_ir.specs.declared.port_shape.PortShape.{PortShape}
 use Rattle.unit_ir.specs.Shapes.{stands_in, children_of, shape_of}
 use Rattle.gen_unroll.specs.Steps.{ModuleStep, blocks_in}
 use Rattle.gen_unroll.specs.Unrolled.{turn_limit}
+use Rattle.gen_unroll.proofs.Answered.{ok_same}
 use Rattle.module_registry.specs.declared.build_job.BuildJob.{BuildJob}
 use Rattle.module_registry.specs.Constants.{constants_of}
 use Rattle.elaborate.specs.declared.limits.Limits.{Limits}
@@ -30,7 +31,6 @@ use Rattle.unit_jobs.specs.BlockNames.{texts_within}
 use Rattle.unit_jobs.specs.Jobs.{InstanceJob, module_called, steps_under, job_with, tree_jobs}
 use Rattle.unit_jobs.specs.JobViews.{text_of, job_view}
 use Rattle.unit_build.specs.Building.{job_steps}
-use Rattle.job_laws.proofs.Answered.{ok_same}
 use Rattle.job_laws.proofs.KnownInstances.{same_first, same_others, IsKnown}
 use Rattle.job_laws.proofs.Together.{visit_has}
 use Rattle.job_laws.proofs.TreeJobs.{known_steps, steps_known, jobs_known, are_jobs_known, tree_known, seen_of}

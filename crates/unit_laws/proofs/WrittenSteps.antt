@@ -3,7 +3,7 @@ use Rattle.std.proofs.Common.{ℕ, ◌-◌, Bool, true, false, if◌then◌else�
 use Rattle.ls_text.specs.declared.fault.Fault.{Fault}
 use Rattle.ls_text.specs.declared.place.Place.{Place}
 use Rattle.typed_ir.specs.Orders.{Each}
-use Rattle.unit_ir.proofs.Linking.{each_append}
+use Rattle.typed_ir.proofs.Lists.{each_append}
 use Rattle.verilog_ast.specs.declared.identifier.Identifier.{Identifier}
 use Rattle.verilog_ast.specs.Declarations.{Kind, ParameterAssignment, HeaderParameterDeclaration, PortDeclaration, PortList, NoPorts, NamedPorts, DeclaredPorts}
 use Rattle.verilog_ast.specs.Items as i

@@ -1,6 +1,7 @@
 -- Nets that gen_unroll declares without a number are hidden, so that no such net is in reach.
 use Rattle.std.proofs.Common.{◌≡◌, ℕ, ◌==◌, ◌||◌, Bool, true, false, cond, if◌then◌else◌, List, [], ◌∷◌, map, refl, sym, subst, true≢false}
 use Rattle.std.specs.Prelude.{Option, None}
+use Rattle.std.proofs.lemmas.Bool.{or_parts, or_from}
 use Rattle.typed_ir.specs.Sized.{is_width, is_signal}
 use Rattle.verilog_ast.specs.declared.identifier.Identifier.{Identifier}
 use Rattle.verilog_ast.specs.Declarations.{PortList, NoPorts, NamedPorts, DeclaredPorts}
@@ -18,12 +19,12 @@ use Rattle.unit_names.proofs.Fitting.{entered_fits}
 
 -- ---- which names are declared without a number
 
-abbrev is_name_in : ℕ → List Identifier → Bool
+abbrev pub is_name_in : ℕ → List Identifier → Bool
 is_name_in name [] = false
 is_name_in name (n ∷ ns) = if n.name.0 == name then true else is_name_in name ns
 
 -- among the items of a block themselves
-abbrev names_net : ℕ → ModuleItem → Bool
+abbrev pub names_net : ℕ → ModuleItem → Bool
 names_net name (i.Inputs at n k names) = is_name_in name names
 names_net name (i.Outputs at n k ports) = is_name_in name (map declared_name ports)
 names_net name (i.Wires at k nets) = is_name_in name (map declared_name nets)
@@ -33,22 +34,10 @@ names_net name (i.Items x xs) = names_net name x || names_net name xs
 names_net name other = false
 
 -- among the ports of a header
-abbrev names_port : ℕ → PortList → Bool
+abbrev pub names_port : ℕ → PortList → Bool
 names_port name NoPorts = false
 names_port name (NamedPorts names) = false
 names_port name (DeclaredPorts ports) = is_name_in name (map port_name ports)
-
-no_left : (a b : Bool) → (a || b) ≡ false → a ≡ false
-no_left true b h = h
-no_left false b h = refl
-
-no_right : (a b : Bool) → (a || b) ≡ false → b ≡ false
-no_right true b h = absurd (true≢false h)
-no_right false b h = h
-
-no_both : (a b : Bool) → a ≡ false → b ≡ false → (a || b) ≡ false
-no_both true b h k = h
-no_both false b h k = k
 
 -- ---- names that are declared
 
@@ -71,7 +60,7 @@ kinds_other P m one (n ∷ ns) s name before = kinds_other P m one ns (declared 
     by true h none = one
     by false h none = h none
 
-items_other : (P : Meaning → Type 0) → P Genvar → P Unknown → (x : ModuleItem) (s : Scope) (name : ℕ) → names_net name x ≡ false → P (s name) → P (item_names x s name)
+pub items_other : (P : Meaning → Type 0) → P Genvar → P Unknown → (x : ModuleItem) (s : Scope) (name : ℕ) → names_net name x ≡ false → P (s name) → P (item_names x s name)
 items_other P g u (i.Inputs at n k names) s name none before = nets_other P net names s name none before
 items_other P g u (i.Outputs at n k ports) s name none before = nets_other P net (map declared_name ports) s name none before
 items_other P g u (i.Wires at k nets) s name none before = nets_other P net (map declared_name nets) s name none before
@@ -80,8 +69,8 @@ items_other P g u (i.Genvars at names) s name none before = kinds_other P Genvar
 items_other P g u (i.Instances n overrides instances) s name none before = kinds_other P Unknown u (map instance_name instances) s name (λ other. before)
 items_other P g u (i.Region at items) s name none before = items_other P g u items s name none before
 items_other P g u (i.Items x xs) s name none before =
-    items_other P g u xs (item_names x s) name (no_right (names_net name x) (names_net name xs) none)
-    (items_other P g u x s name (no_left (names_net name x) (names_net name xs) none) before)
+    items_other P g u xs (item_names x s) name (or_parts (names_net name x) (names_net name xs) none).1
+    (items_other P g u x s name (or_parts (names_net name x) (names_net name xs) none).0 before)
 items_other P g u (i.Parameters at k ps) s name none before = before
 items_other P g u (i.LocalParameters at k ps) s name none before = before
 items_other P g u (i.Assigns at xs) s name none before = before
@@ -92,7 +81,7 @@ items_other P g u (i.Conditional xs) s name none before = before
 items_other P g u (i.Branch at c n items) s name none before = before
 items_other P g u i.NoItem s name none before = before
 
-ports_other : (P : Meaning → Type 0) (ps : PortList) (s : Scope) (name : ℕ) → names_port name ps ≡ false → P (s name) → P (port_names ps s name)
+pub ports_other : (P : Meaning → Type 0) (ps : PortList) (s : Scope) (name : ℕ) → names_port name ps ≡ false → P (s name) → P (port_names ps s name)
 ports_other P NoPorts s name none before = before
 ports_other P (NamedPorts names) s name none before = before
 ports_other P (DeclaredPorts ports) s name none before = nets_other P net (map port_name ports) s name none before
@@ -100,7 +89,7 @@ ports_other P (DeclaredPorts ports) s name none before = nets_other P net (map p
 -- ---- names that are hidden
 
 -- a net among these items stands for nothing, any other name for what it stood for
-items_hidden : (P : Meaning → Type 0) → P Unknown → (x : ModuleItem) (s : Scope) (name : ℕ) → (names_net name x ≡ false → P (s name)) → P (hidden x s name)
+pub items_hidden : (P : Meaning → Type 0) → P Unknown → (x : ModuleItem) (s : Scope) (name : ℕ) → (names_net name x ≡ false → P (s name)) → P (hidden x s name)
 items_hidden P u (i.Inputs at n k names) s name before = kinds_other P Unknown u names s name before
 items_hidden P u (i.Outputs at n k ports) s name before = kinds_other P Unknown u (map declared_name ports) s name before
 items_hidden P u (i.Wires at k nets) s name before = kinds_other P Unknown u (map declared_name nets) s name before
@@ -108,7 +97,7 @@ items_hidden P u (i.Regs at k regs) s name before = kinds_other P Unknown u (map
 items_hidden P u (i.Region at items) s name before = items_hidden P u items s name before
 items_hidden P u (i.Items x xs) s name before =
     items_hidden P u xs (hidden x s) name
-    (λ no_later. items_hidden P u x s name (λ no_first. before (no_both (names_net name x) (names_net name xs) no_first no_later)))
+    (λ no_later. items_hidden P u x s name (λ no_first. before (or_from (names_net name x) (names_net name xs) no_first no_later)))
 items_hidden P u (i.Genvars at names) s name before = before refl
 items_hidden P u (i.Instances n overrides instances) s name before = before refl
 items_hidden P u (i.Parameters at k ps) s name before = before refl
@@ -121,7 +110,7 @@ items_hidden P u (i.Conditional xs) s name before = before refl
 items_hidden P u (i.Branch at c n items) s name before = before refl
 items_hidden P u i.NoItem s name before = before refl
 
-ports_hidden : (P : Meaning → Type 0) → P Unknown → (ps : PortList) (s : Scope) (name : ℕ) → (names_port name ps ≡ false → P (s name)) → P (hidden_ports ps s name)
+pub ports_hidden : (P : Meaning → Type 0) → P Unknown → (ps : PortList) (s : Scope) (name : ℕ) → (names_port name ps ≡ false → P (s name)) → P (hidden_ports ps s name)
 ports_hidden P u NoPorts s name before = before refl
 ports_hidden P u (NamedPorts names) s name before = before refl
 ports_hidden P u (DeclaredPorts ports) s name before = kinds_other P Unknown u (map port_name ports) s name before

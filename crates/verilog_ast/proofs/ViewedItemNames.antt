@@ -29,10 +29,11 @@ use Rattle.verilog_ast.specs.declared.generate_item.GenerateItem.TheFolds.{fold-
 use Rattle.verilog_ast.specs.declared.item.Item.{Item}
 use Rattle.verilog_ast.specs.declared.item.Item.TheVariants as item
 use Rattle.verilog_ast.specs.declared.module_body.ModuleBody.{ModuleBody}
+use Rattle.verilog_ast.specs.declared.module.Module.{Module}
 use Rattle.verilog_ast.specs.Items.{ModuleItem}
-use Rattle.verilog_ast.specs.Names.{joined, names_of_option, names_of_identifiers, names_of_expression, names_of_range, names_of_shape, names_of_variable, names_of_reg_variable, names_of_parameter, names_of_header_parameter, names_of_header_port, names_of_ports, names_of_named, names_of_ordered, names_of_connections, names_of_instance, names_of_continuous, names_of_plain_item, names_of_loop, generate_item_names, branch_names, names_of_generate_item, names_of_branch, names_of_item, names_of_body}
-use Rattle.verilog_ast.specs.NamesWithin.{names_in_expression, names_in_range, names_in_kind, names_in_declared, names_in_declared_reg, names_in_parameter, names_in_header_parameter, names_in_port, names_in_ports, names_in_by_name, names_in_by_order, names_in_connections, names_in_instance, names_in_assignment, names_in_head, names_in_item, names_in_declaration}
-use Rattle.verilog_ast.specs.Views.{expression_of, range_of, kind_of, declared_of, declared_reg_of, parameter_of, header_parameter_of, port_of, ports_of, by_name_of, by_order_of, connections_of, instance_of, assignment_of, plain_item_of, head_of, items_of, generate_item_view, branch_view, generate_item_of, branch_of, item_of, declaration_of}
+use Rattle.verilog_ast.specs.Names.{joined, names_of_option, names_of_identifiers, names_of_expression, names_of_range, names_of_shape, names_of_variable, names_of_reg_variable, names_of_parameter, names_of_header_parameter, names_of_header_port, names_of_ports, names_of_named, names_of_ordered, names_of_connections, names_of_instance, names_of_continuous, names_of_plain_item, names_of_loop, generate_item_names, branch_names, names_of_generate_item, names_of_branch, names_of_item, names_of_body, names_of_modules}
+use Rattle.verilog_ast.specs.NamesWithin.{names_in_expression, names_in_range, names_in_kind, names_in_declared, names_in_declared_reg, names_in_parameter, names_in_header_parameter, names_in_port, names_in_ports, names_in_by_name, names_in_by_order, names_in_connections, names_in_instance, names_in_assignment, names_in_head, names_in_item, names_in_declaration, names_in_modules}
+use Rattle.verilog_ast.specs.Views.{expression_of, range_of, kind_of, declared_of, declared_reg_of, parameter_of, header_parameter_of, port_of, ports_of, by_name_of, by_order_of, connections_of, instance_of, assignment_of, plain_item_of, head_of, items_of, generate_item_view, branch_view, generate_item_of, branch_of, item_of, declaration_of, declarations_of}
 use Rattle.verilog_ast.proofs.ViewedNames.{all_named, option_named, expression_named, target_named, statement_named}
 
 joins : {a b c d : List NameId} → a ≡ b → c ≡ d → a ++ c ≡ b ++ d
@@ -174,3 +175,7 @@ pub declaration_named : (x : ModuleBody) → names_of_body x ≡ names_in_declar
 declaration_named x =
     ap (λ a. x.name.name ∷ a) (joins (all_named header_parameter_of names_of_header_parameter names_in_header_parameter header_parameter_named x.parameters)
     (joins (ports_named x.ports) (body_items_named x.items)))
+
+pub modules_named : (xs : List Module) → names_of_modules xs ≡ names_in_modules xs
+modules_named [] = refl
+modules_named (x ∷ xs) = joins (declaration_named x.body) (modules_named xs)

@@ -1,6 +1,8 @@
 -- The names that stand in a plain tree, in the order of the text.
 use Rattle.std.specs.Prelude.{List, [], ◌∷◌, ◌++◌, flat_map}
 use Rattle.ls_text.specs.declared.name_id.NameId.{NameId}
+use Rattle.verilog_ast.specs.declared.module.Module.{Module}
+use Rattle.verilog_ast.specs.Views.{declarations_of}
 use Rattle.verilog_ast.specs.Names.{names_of_option, names_of_identifiers, names_of_optional_label}
 use Rattle.verilog_ast.specs.Expressions.{Expression, Literal, Whole, BitSelect, PartSelect, UpwardSelect, DownwardSelect, Unary, Binary, Conditional, Concatenation, Replication, Bracketed, NoPart, Parts, Target, Reference, Joined, NoTarget, Targets}
 use Rattle.verilog_ast.specs.Statements.{CaseLabel, DontCare, Compared, Statement, Block, If, IfElse, Case, Assignment, Null, Default, Match, NoStatement, Statements}
@@ -122,3 +124,7 @@ names_in_item (i.Items x xs) = names_in_item x ++ names_in_item xs
 
 abbrev pub names_in_declaration : ModuleDeclaration → List NameId
 names_in_declaration x = x.name.name ∷ (flat_map names_in_header_parameter x.parameters ++ (names_in_ports x.ports ++ names_in_item x.items))
+
+-- the names in the modules of a text
+abbrev pub names_in_modules : List Module → List NameId
+names_in_modules xs = flat_map names_in_declaration (declarations_of xs)

@@ -1,9 +1,11 @@
 -- The names of a text's modules are names of its tokens.
-use Rattle.std.proofs.Common.{◌<◌, ℕ, List, flat_map, All}
+use Rattle.std.proofs.Common.{◌<◌, ℕ, List, flat_map, All, subst}
 use Rattle.ls_text.specs.declared.name_id.NameId.{NameId}
 use Rattle.verilog_lex.specs.declared.token.Token.{Token}
 use Rattle.verilog_ast.specs.declared.module.Module.{Module}
 use Rattle.verilog_ast.specs.Names.{names_of_item, names_of_body, names_of_modules}
+use Rattle.verilog_ast.specs.NamesWithin.{names_in_modules}
+use Rattle.verilog_ast.proofs.ViewedItemNames.{modules_named}
 use Rattle.verilog_ast.proofs.Within.{IsWithin, no_name, one_more, ◌⊕◌}
 use Rattle.verilog_expr.proofs.Named.{AreWithin, took}
 use Rattle.verilog_parse.specs.Modules as p
@@ -39,5 +41,5 @@ modules (another_module is x xs) w = let a = body x.tree w in let b = modules xs
 
 -- the modules of a whole text
 pub all_named : (n : ℕ) (names : List (List ℕ)) (xs : List Module) (s : List Token) → Stands names xs s → All (λ (t : Token). t.text.0 < n) s
-    → All (λ (id : NameId). id.0 < n) (names_of_modules xs)
-all_named n names xs s h w = (modules {n = n} h.tree (record { all = w })).0.all
+    → All (λ (id : NameId). id.0 < n) (names_in_modules xs)
+all_named n names xs s h w = subst (All (λ (id : NameId). id.0 < n)) (modules_named xs) (modules {n = n} h.tree (record { all = w })).0.all

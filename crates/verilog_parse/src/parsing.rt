@@ -1,7 +1,7 @@
 // The modules of a text, or its first fault.
 ghost use Rattle.std.specs.Prelude.{◌≡◌, ◌<◌, length, All, IfOk, IfErr};
 ghost use Rattle.verilog_lex.specs.Ends.{EndsOnce};
-ghost use Rattle.verilog_ast.specs.Names.{names_of_modules};
+ghost use Rattle.verilog_ast.specs.NamesWithin.{names_in_modules};
 ghost use Rattle.verilog_expr.specs.Shown.{Refuses, IsMemoryOrHeavy};
 ghost use Rattle.verilog_parse.specs.Files.{Stands, IsSpelled, file};
 
@@ -20,7 +20,7 @@ pub fn parse(alloc: Global, names: &mut Names, tokens: &[Token]) -> Result<Vec<M
     requires ends { EndsOnce tokens.now }
     requires named { All (λ t. t.text.0 < length names.old) tokens.now }
     ensures tree { IfOk result (λ all. Stands names.old all.items tokens.now) }
-    ensures names { IfOk result (λ all. All (λ id. id.0 < length names.old) (names_of_modules all.items)) }
+    ensures names { IfOk result (λ all. All (λ id. id.0 < length names.old) (names_in_modules all.items)) }
     ensures fault { IfErr result (Refuses file tokens.now) }
 
     // What the grammar has is read, unless memory runs out or too much is open at a token.

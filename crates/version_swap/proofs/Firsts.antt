@@ -1,5 +1,5 @@
 -- The first of equal keys, and of jobs of one text.
-use Rattle.std.proofs.Common.{◌≡◌, ℕ, Bool, true, false, cond, ◌&&◌, ◌||◌, List, [], ◌∷◌, ◌++◌, All, map, refl, sym, ◌∙◌, ap, ap₂, true≢false}
+use Rattle.std.proofs.Common.{◌≡◌, ℕ, Bool, true, false, cond, ◌||◌, List, [], ◌∷◌, ◌++◌, All, map, refl, sym, ◌∙◌, ap, ap₂, true≢false}
 use Rattle.std.proofs.lemmas.List.{map_push}
 use Rattle.std.proofs.lemmas.List.Elements.{All-nil, All-cons, All-head, All-tail, All-push}
 use Rattle.std.proofs.lemmas.Slice.Eq.{bytes_eq-Decides}
@@ -7,6 +7,7 @@ use Rattle.std.specs.Str.{bytes_eq}
 use Rattle.std.specs.List.{list_any}
 use Rattle.indexmap.specs.IndexSet.{insert_key}
 use Rattle.sha2.specs.Sha256.{sha256}
+use Rattle.typed_ir.proofs.Cases.{and_told}
 use Rattle.module_registry.specs.declared.build_job.BuildJob.{BuildJob}
 use Rattle.module_registry.specs.Entries.{is_among}
 use Rattle.module_registry.specs.Jobs.{job_text}
@@ -30,11 +31,6 @@ taken_in k copy ks new is_copy is =
 
 -- ---- keys of jobs are the same where the jobs have one text
 
-and_so : (a b : Bool) → (b ≡ true → a ≡ true) → (a && b) ≡ b
-and_so true b so = refl
-and_so false true so = so refl
-and_so false false so = refl
-
 itself : (xs : List ℕ) → bytes_eq xs xs ≡ true
 itself xs = (bytes_eq-Decides xs xs).1 refl
 
@@ -44,7 +40,7 @@ same_digest a b is = (bytes_eq-Decides (sha256 a) (sha256 b)).1 (ap sha256 ((byt
 module _ (names : List (List ℕ)) where
   same_texts : (a b : BuildJob) → same (key_of names a) (key_of names b) ≡ bytes_eq (job_text names a) (job_text names b)
   same_texts a b =
-      and_so (bytes_eq (sha256 (job_text names a)) (sha256 (job_text names b))) (bytes_eq (job_text names a) (job_text names b))
+      and_told (bytes_eq (sha256 (job_text names a)) (sha256 (job_text names b))) (bytes_eq (job_text names a) (job_text names b))
       (same_digest (job_text names a) (job_text names b))
 
   among_texts : (j : BuildJob) (js : List BuildJob) → is_among (key_of names j) (map (key_of names) js) ≡ is_text_among names (job_text names j) js

@@ -9,6 +9,7 @@ use Rattle.verilog_ast.specs.declared.module.Module.{Module}
 use Rattle.verilog_ast.specs.Items.{ModuleDeclaration}
 use Rattle.verilog_ast.specs.Renaming.{declaration_as}
 use Rattle.verilog_ast.specs.Views.{declarations_of}
+use Rattle.gen_unroll.proofs.Answered.{ok_same}
 use Rattle.unit_ir.specs.declared.instance.Instance.{Instance}
 use Rattle.elaborate.specs.Elaborated.{Standing}
 use Rattle.elaborate.specs.Trees.{all_seen}
@@ -18,7 +19,6 @@ use Rattle.design_laws.specs.Findings.{standing_as}
 use Rattle.design_laws.specs.Renaming.{KeepsApart, SpellsSame, number_as, found_as}
 use Rattle.rename_laws.specs.Findings.{unit_signal_as}
 use Rattle.rename_laws.specs.Jobs.{instance_as}
-use Rattle.job_laws.proofs.Answered.{ok_same}
 use Rattle.job_laws.proofs.KnownInstances.{same_first, same_others}
 use Rattle.unit_laws.specs.Copies.{Copies}
 use Rattle.unit_laws.specs.DesignCopies.{AreCopiesIn}

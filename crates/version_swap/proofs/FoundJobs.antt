@@ -12,9 +12,9 @@ use Rattle.ls_text.specs.Readings.{CanShow, fault_view}
 use Rattle.ls_text.specs.Texts.{Grows, HasEachOnce, text_at}
 use Rattle.ls_text.proofs.Growth.{grown_id, grown_text, grows_on}
 use Rattle.verilog_ast.specs.declared.module.Module.{Module}
-use Rattle.verilog_ast.specs.Names.{names_of_body, names_of_modules}
+use Rattle.verilog_ast.specs.NamesWithin.{names_in_declaration, names_in_modules}
 use Rattle.verilog_ast.specs.Items.{ModuleDeclaration}
-use Rattle.verilog_ast.specs.Views.{declarations_of}
+use Rattle.verilog_ast.specs.Views.{declaration_of, declarations_of}
 use Rattle.module_names.specs.Modules.{module_named}
 use Rattle.unit_ir.specs.declared.instance.Instance.{Instance}
 use Rattle.elaborate.specs.Elaborated.{Standing, elaborated}
@@ -71,7 +71,7 @@ top_is old names None n ms is grows spelled =
 module _ (before texts : List (List ℕ)) (files : List SourceFile) (name : Option NameId) (clock : NameId) (ms : List Module) (n : ℕ)
     (few : length files ≤ 256)
     (read : AreModules texts files ms) (spelled : All (IsSpelledUnder texts) ms)
-    (named : All (λ (id : NameId). id.0 < length texts) (names_of_modules ms)) (number : IsNumberOf before name n) (grew : Grows before texts) where
+    (named : All (λ (id : NameId). id.0 < length texts) (names_in_modules ms)) (number : IsNumberOf before name n) (grew : Grows before texts) where
   has_modules : HasModules texts files name ms n
   has_modules = record { few = few; modules = read; is_top = top_is before texts name n ms number grew spelled }
 
@@ -131,9 +131,9 @@ module _ (before texts : List (List ℕ)) (files : List SourceFile) (name : Opti
     modules_in : (names : List (List ℕ)) (js : List BuildJob) → Grows known names → tree_jobs known ms xs ≡ Ok (map (job_view names) js)
         → All (HasModuleIn names) js
     modules_in names js grows jobs =
-        modules_of_jobs (λ (m : Module). All (IsIn names) (names_of_body m.body)) known ms
+        modules_of_jobs (λ (m : Module). All (IsIn names) (names_in_declaration (declaration_of m.body))) known ms
         (each_named (IsIn names) ms (All-weaker (λ (id : NameId). id.0 < length texts) (IsIn names)
-        (λ id lt. grown_id texts names id.0 (grows_on texts known names grown grows) lt) (names_of_modules ms) named))
+        (λ id lt. grown_id texts names id.0 (grows_on texts known names grown grows) lt) (names_in_modules ms) named))
         names xs js jobs
 
     pub is_found : (names : List (List ℕ)) (js : List BuildJob) → Grows known names → tree_jobs known ms xs ≡ Ok (map (job_view names) js)

@@ -4,7 +4,7 @@ use Rattle.std.specs.Prelude.{None}
 use Rattle.std.proofs.lemmas.List.Elements.{All-head, All-tail}
 use Rattle.ls_text.specs.declared.name_id.NameId.{NameId}
 use Rattle.ls_text.specs.Texts.{Grows}
-use Rattle.ls_text.proofs.Growth.{grown_text}
+use Rattle.ls_text.proofs.Growth.{grown_text, grows_none}
 use Rattle.verilog_ast.specs.declared.module.Module.{Module}
 use Rattle.verilog_ast.specs.Views.{declarations_of}
 use Rattle.unit_ir.specs.declared.instance.Instance.{Instance}
@@ -28,7 +28,6 @@ use Rattle.unit_laws.proofs.StepNames.{IsStepNamed, told_go}
 use Rattle.unit_laws.proofs.ToldInstances.{modules_named}
 use Rattle.version_swap.proofs.GrownFound.{FoundIn}
 use Rattle.version_swap.proofs.JobParts.{IsSome, ids_in, texts_some}
-use Rattle.version_swap.proofs.JointTable.{grows_none}
 
 module _ {old new : List (List ℕ)} {ms : List Module} {top clock : ℕ} {xs : List Instance} {js : List BuildJob} {all : List Standing}
     (grows : Grows old new) (h : FoundIn old ms top clock xs js all) where

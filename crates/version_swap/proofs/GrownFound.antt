@@ -7,7 +7,7 @@ use Rattle.ls_text.specs.declared.fault.Fault.{Fault}
 use Rattle.ls_text.specs.declared.name_id.NameId.{NameId}
 use Rattle.ls_text.specs.declared.source_file.SourceFile.{SourceFile}
 use Rattle.ls_text.specs.Texts.{Grows, HasEachOnce}
-use Rattle.ls_text.proofs.Growth.{grown_text, grows_on}
+use Rattle.ls_text.proofs.Growth.{grown_text, grows_on, grows_none}
 use Rattle.verilog_ast.specs.declared.module.Module.{Module}
 use Rattle.verilog_ast.specs.Items.{ModuleDeclaration}
 use Rattle.verilog_ast.specs.Views.{declaration_of, declarations_of}
@@ -35,7 +35,6 @@ use Rattle.unit_laws.proofs.ToldInstances.{instances_told, modules_named}
 use Rattle.unit_laws.proofs.TreeNames.{IsModuleNamed, IsNameIn, tree_in}
 use Rattle.version_swap.specs.Founds.{AreModules, AreFound}
 use Rattle.version_swap.proofs.JobParts.{IsJobFrom, jobs_are_from, steps_are_named, ids_in, texts_some}
-use Rattle.version_swap.proofs.JointTable.{grows_none}
 use Rattle.version_swap.proofs.ModulesRead.{AreTokens}
 use Rattle.version_swap.proofs.NamedTokens.{are_tokens}
 

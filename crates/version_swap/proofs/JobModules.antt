@@ -5,7 +5,7 @@ use Rattle.std.proofs.lemmas.List.Elements.{All-nil, All-cons, All-head, All-tai
 use Rattle.ls_text.specs.declared.fault.Fault.{Fault}
 use Rattle.ls_text.specs.declared.name_id.NameId.{NameId}
 use Rattle.verilog_ast.specs.declared.module.Module.{Module}
-use Rattle.verilog_ast.specs.Names.{names_of_body, names_of_modules}
+use Rattle.verilog_ast.specs.NamesWithin.{names_in_declaration, names_in_modules}
 use Rattle.verilog_ast.specs.Views.{declaration_of}
 use Rattle.unit_ir.specs.declared.child_shape.ChildShape.{ChildShape}
 use Rattle.unit_ir.specs.declared.instance.Instance.{Instance}
@@ -27,13 +27,13 @@ module _ (P : NameId → Type 0) where
   back (n ∷ ns) ms all = back ns ms (All-tail P n (ns ++ ms) all)
 
   abbrev HasNames : Module → Type 0
-  HasNames m = All P (names_of_body m.body)
+  HasNames m = All P (names_in_declaration (declaration_of m.body))
 
-  pub each_named : (ms : List Module) → All P (names_of_modules ms) → All HasNames ms
+  pub each_named : (ms : List Module) → All P (names_in_modules ms) → All HasNames ms
   each_named [] all = All-nil HasNames
   each_named (m ∷ ms) all =
-      All-cons HasNames m ms (front (names_of_body m.body) (names_of_modules ms) all)
-      (each_named ms (back (names_of_body m.body) (names_of_modules ms) all))
+      All-cons HasNames m ms (front (names_in_declaration (declaration_of m.body)) (names_in_modules ms) all)
+      (each_named ms (back (names_in_declaration (declaration_of m.body)) (names_in_modules ms) all))
 
 module _ (P : Module → Type 0) (texts : List (List ℕ)) (ms : List Module) (all : All P ms) where
   module_in : (name : ℕ) (ns : List Module) (m : Module) → All P ns → module_called name ns ≡ Some m → P m

@@ -3,15 +3,12 @@ use Rattle.std.proofs.Common.{◌≡◌, ◌∙◌, ℕ, ◌+◌, ◌<◌, ◌�
 use Rattle.std.proofs.Common.{length, nat_lt, cond, Bool, true, false, true≢false, inl, inr, refl, sym, ap, arith}
 use Rattle.std.specs.Str.{bytes_eq}
 use Rattle.std.proofs.lemmas.Bool.{cases_lt, ltb-true, ltb-false, lt-ltb}
-use Rattle.std.proofs.lemmas.List.{append-nil, length-append, get_or_past, get_or_append_left, get_or_push}
+use Rattle.std.proofs.lemmas.List.{length-append, get_or_past, get_or_append_left, get_or_push}
 use Rattle.std.proofs.lemmas.Slice.Eq.{bytes_eq-Decides}
 use Rattle.ls_text.specs.Texts.{Grows, HasEachOnce, text_at}
 use Rattle.ls_text.specs.declared.name_id.NameId.{NameId}
-use Rattle.ls_text.proofs.Growth.{grown_id, grown_text, grows_on}
+use Rattle.ls_text.proofs.Growth.{grown_id, grown_text, grows_on, grows_none}
 use Rattle.design_laws.specs.Renaming.{KeepsApart, SpellsSame}
-
-pub grows_none : (names : List (List ℕ)) → Grows names names
-grows_none names = record { more = []; begins = sym (append-nil names) }
 
 -- what a table begins has each text once where the table does
 pub begins_once : (old new : List (List ℕ)) → Grows old new → HasEachOnce new → HasEachOnce old

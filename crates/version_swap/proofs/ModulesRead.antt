@@ -14,7 +14,7 @@ use Rattle.verilog_lex.specs.Ends.{EndsOnce}
 use Rattle.verilog_lex.specs.Readings.{Reads}
 use Rattle.verilog_lex.specs.Views.{said, IsNamed}
 use Rattle.verilog_ast.specs.declared.module.Module.{Module}
-use Rattle.verilog_ast.specs.Names.{names_of_modules}
+use Rattle.verilog_ast.specs.NamesWithin.{names_in_modules}
 use Rattle.verilog_expr.specs.declared.fault.ParseFault.{ParseFault}
 use Rattle.verilog_expr.specs.declared.fault.ParseFault.TheVariants.{Stuck, Heavy}
 use Rattle.verilog_expr.specs.Shown.{Refuses, at_fault, names_of, text_of, token_at, left_at}
@@ -77,9 +77,9 @@ module _ (names new : List (List ℕ)) (files : List SourceFile) (s : List Token
       (parsed_spelled names files are.reads.0 s ms.items are.reads.1 are.named are.ends stands)
   modules_spelled (Err e) stands = tt
 
-  pub modules_named : (r : Result (Vec Module Global) Refusal) → IfOk r (λ ms. AreNamed (length names) (names_of_modules ms.items))
-      → IfOk r (λ ms. AreNamed (length new) (names_of_modules ms.items))
-  modules_named (Ok ms) named = subst (λ (t : List (List ℕ)). AreNamed (length t) (names_of_modules ms.items)) (sym table) named
+  pub modules_named : (r : Result (Vec Module Global) Refusal) → IfOk r (λ ms. AreNamed (length names) (names_in_modules ms.items))
+      → IfOk r (λ ms. AreNamed (length new) (names_in_modules ms.items))
+  modules_named (Ok ms) named = subst (λ (t : List (List ℕ)). AreNamed (length t) (names_in_modules ms.items)) (sym table) named
   modules_named (Err e) named = tt
 
   pub parse_refused : (r : Result (Vec Module Global) Refusal) → IfErr r (Refuses file s) → IfErr r (IsReadRefusal new files)

@@ -13,6 +13,7 @@ use Rattle.verilog_ast.specs.Renaming.{declaration_as}
 use Rattle.unit_ir.specs.declared.instance.Instance.{Instance}
 use Rattle.unit_ir.specs.declared.port_shape.PortShape.{PortShape}
 use Rattle.gen_unroll.specs.Values.{ConstantValue, constant_of}
+use Rattle.gen_unroll.proofs.Answered.{ok_same}
 use Rattle.clock_rules.specs.Views.{clock_view}
 use Rattle.elaborate.specs.Elaborated.{Standing, elaborated}
 use Rattle.elaborate.specs.Ports.{PortOutline}
@@ -25,7 +26,6 @@ use Rattle.design_laws.proofs.RenamedDesigns.{same_elaborated}
 use Rattle.design_laws.proofs.RenamedTrees.{same_tree}
 use Rattle.rename_laws.specs.Findings.{port_shape_as}
 use Rattle.rename_laws.specs.Jobs.{instance_as}
-use Rattle.job_laws.proofs.Answered.{ok_same}
 use Rattle.job_laws.proofs.KnownInstances.{same_first, same_others}
 use Rattle.unit_laws.proofs.Parts.{constant_same, port_same}
 use Rattle.version_swap.proofs.AlikeModules.{id_is}

@@ -8,11 +8,9 @@ use Rattle.ls_text.specs.declared.fault.Fault.{Fault}
 use Rattle.ls_text.specs.declared.name_id.NameId.{NameId}
 use Rattle.verilog_ast.specs.declared.module.Module.{Module}
 use Rattle.verilog_ast.specs.Items.{ModuleDeclaration}
-use Rattle.verilog_ast.specs.Names.{names_of_body, names_of_modules}
-use Rattle.verilog_ast.specs.NamesWithin.{names_in_declaration}
+use Rattle.verilog_ast.specs.NamesWithin.{names_in_declaration, names_in_modules}
 use Rattle.verilog_ast.specs.Renaming.{declaration_as}
 use Rattle.verilog_ast.specs.Views.{declaration_of, declarations_of}
-use Rattle.verilog_ast.proofs.ViewedItemNames.{declaration_named}
 use Rattle.width_rules.specs.Renaming.{fault_as}
 use Rattle.unit_ir.specs.declared.child_shape.ChildShape.{ChildShape}
 use Rattle.unit_ir.specs.declared.port_shape.PortShape.{PortShape}
@@ -80,10 +78,10 @@ module _ (count : ℕ) where
   fixed [] all = tt
   fixed (n ∷ ns) all = (stays n (All-head IsBelow n ns all), fixed ns (All-tail IsBelow n ns all))
 
-  module_stays : (x : Module) → All IsBelow (names_of_body x.body) → declaration_as moved (declaration_of x.body) ≡ declaration_of x.body
+  module_stays : (x : Module) → All IsBelow (names_in_declaration (declaration_of x.body)) → declaration_as moved (declaration_of x.body) ≡ declaration_of x.body
   module_stays x all =
       fixed_declaration moved (declaration_of x.body)
-      (fixed (names_in_declaration (declaration_of x.body)) (subst (All IsBelow) (declaration_named x.body) all))
+      (fixed (names_in_declaration (declaration_of x.body)) all)
 
   front : (ns ms : List NameId) → All IsBelow (ns ++ ms) → All IsBelow ns
   front [] ms all = All-nil IsBelow
@@ -93,12 +91,12 @@ module _ (count : ℕ) where
   back [] ms all = all
   back (n ∷ ns) ms all = back ns ms (All-tail IsBelow n (ns ++ ms) all)
 
-  modules_stay : (ms : List Module) → All IsBelow (names_of_modules ms) → map (declaration_as moved) (declarations_of ms) ≡ declarations_of ms
+  modules_stay : (ms : List Module) → All IsBelow (names_in_modules ms) → map (declaration_as moved) (declarations_of ms) ≡ declarations_of ms
   modules_stay [] all = refl
   modules_stay (m ∷ ms) all =
       ap₂ (λ (d : ModuleDeclaration) (ds : List ModuleDeclaration). d ∷ ds)
-      (module_stays m (front (names_of_body m.body) (names_of_modules ms) all))
-      (modules_stay ms (back (names_of_body m.body) (names_of_modules ms) all))
+      (module_stays m (front (names_in_declaration (declaration_of m.body)) (names_in_modules ms) all))
+      (modules_stay ms (back (names_in_declaration (declaration_of m.body)) (names_in_modules ms) all))
 
   -- ---- so their faults show names below
 
@@ -115,7 +113,7 @@ module _ (count : ℕ) where
       let fault : f ≡ fault_as moved f = cc in
       all_below f.names (sym (ap (λ (x : Fault). x.names) fault))
 
-  pub tree_shows : (l : Limits) (ms : List Module) (top clock : ℕ) (f : Fault) → All IsBelow (names_of_modules ms) → top < count → clock < count
+  pub tree_shows : (l : Limits) (ms : List Module) (top clock : ℕ) (f : Fault) → All IsBelow (names_in_modules ms) → top < count → clock < count
       → elaborated l (declarations_of ms) top clock ≡ Err f → All IsBelow f.names
   tree_shows l ms top clock f all top_in clock_in is =
       let ds = declarations_of ms in
@@ -167,7 +165,7 @@ module _ (count : ℕ) where
   names_stay (n ∷ ns) all =
       ap₂ (λ (m : NameId) (ms : List NameId). m ∷ ms) (sym (stays n (All-head IsBelow n ns all))) (names_stay ns (All-tail IsBelow n ns all))
 
-  job_shows : (job : BuildJob) (f : Fault) → All IsBelow (names_of_body job.module.value.body) → IsClockBelow job.clock
+  job_shows : (job : BuildJob) (f : Fault) → All IsBelow (names_in_declaration (declaration_of job.module.value.body)) → IsClockBelow job.clock
       → All IsChildBelow job.children
       → All IsBelow job.names → built job ≡ Err f → All IsBelow f.names
   job_shows job f all clock children names is =
@@ -190,7 +188,7 @@ module _ (names : List (List ℕ)) where
     All-weaker (IsPortTold names) (λ (p : PortShape). p.name.0 < length names) (λ p told. told.within) c.ports is.ports,
   )
 
-  pub unit_shows : (job : BuildJob) (f : Fault) → IsJobUnder names job → All IsInTable (names_of_body job.module.value.body) → built job ≡ Err f
+  pub unit_shows : (job : BuildJob) (f : Fault) → IsJobUnder names job → All IsInTable (names_in_declaration (declaration_of job.module.value.body)) → built job ≡ Err f
       → All IsInTable f.names
   unit_shows job f under all is =
       job_shows (length names) job f all (clock_below job.clock under.clock)

@@ -2,7 +2,7 @@
 use Rattle.std.proofs.Common.{Global, ◌≡◌, ◌<◌, ℕ, true, List, [], ◌∷◌, ◌++◌, All, map, length, take, refl, sym, ◌∙◌, ap, subst, arith, inl, inr}
 use Rattle.std.specs.Prelude.{Option, Result, Ok, Err}
 use Rattle.std.specs.declared.sync.Arc.{Arc}
-use Rattle.std.proofs.lemmas.List.{append-nil, take-append-le}
+use Rattle.std.proofs.lemmas.List.{take-append-le}
 use Rattle.std.proofs.Math.Path.{fun_ext}
 use Rattle.std.proofs.Math.Seq.{take-length}
 use Rattle.std.proofs.lemmas.List.Elements.{All-nil, All-cons, All-head, All-tail, All-weaker}
@@ -15,6 +15,7 @@ use Rattle.ls_text.specs.declared.refusal.Refusal.TheVariants as refusal
 use Rattle.ls_text.specs.declared.source_file.SourceFile.{SourceFile}
 use Rattle.ls_text.specs.Readings.{CanShow, TextFault, fault_view}
 use Rattle.ls_text.specs.Texts.{Grows, text_at}
+use Rattle.ls_text.proofs.Growth.{grows_none}
 use Rattle.typed_ir.specs.Cycles.{Flat}
 use Rattle.unit_ir.specs.declared.instance.Instance.{Instance}
 use Rattle.unit_ir.specs.declared.unit.Unit.{Unit as ModuleUnit}
@@ -88,9 +89,6 @@ keys_grown old new grows (k ∷ ks) keys jobs =
     let job = All-head (IsJobUnder old) k.job (jobs_of ks) jobs in
     All-cons (IsKeyUnder new) k ks (record { text = key.text ∙ sym (text_kept old new grows k.job job); digest = key.digest })
     (keys_grown old new grows ks (All-tail (IsKeyUnder old) k ks keys) (All-tail (IsJobUnder old) k.job (jobs_of ks) jobs))
-
-grows_none : (names : List (List ℕ)) → Grows names names
-grows_none names = record { more = []; begins = sym (append-nil names) }
 
 -- what is found of files, with the keys of its jobs and the first of these
 pub record HasKeys (words : List (List ℕ)) (files : List SourceFile) (name : Option NameId) (clock : NameId) (xs : List Instance) (js : List BuildJob)

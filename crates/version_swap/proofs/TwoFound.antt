@@ -10,6 +10,7 @@ use Rattle.verilog_ast.specs.declared.module.Module.{Module}
 use Rattle.verilog_ast.specs.Items.{ModuleDeclaration}
 use Rattle.verilog_ast.specs.Renaming.{declaration_as}
 use Rattle.verilog_ast.specs.Views.{declaration_of, declarations_of}
+use Rattle.gen_unroll.proofs.Answered.{ok_same}
 use Rattle.unit_ir.specs.declared.instance.Instance.{Instance}
 use Rattle.elaborate.specs.Elaborated.{Standing, elaborated}
 use Rattle.elaborate.specs.Trees.{all_seen}
@@ -22,7 +23,6 @@ use Rattle.design_laws.specs.Renaming.{KeepsApart, SpellsSame, number_as}
 use Rattle.design_laws.proofs.RenamedNames.{same_test}
 use Rattle.rename_laws.specs.Jobs.{IsModuleAs, instance_as, IsJobAs, AreJobsAs}
 use Rattle.rename_laws.proofs.RenamedJobs.{same_jobs}
-use Rattle.job_laws.proofs.Answered.{ok_same}
 use Rattle.job_laws.proofs.KnownInstances.{same_first, same_others}
 use Rattle.unit_laws.specs.InstancesTold.{IsInstanceTold}
 use Rattle.unit_laws.specs.JobsUnder.{IsIn, IsJobUnder}

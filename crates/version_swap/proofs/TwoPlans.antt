@@ -10,7 +10,7 @@ use Rattle.ls_text.specs.declared.refusal.Refusal.TheVariants as refusal
 use Rattle.ls_text.specs.declared.source_file.SourceFile.{SourceFile}
 use Rattle.ls_text.specs.Readings.{TextFault, fault_view}
 use Rattle.ls_text.specs.Texts.{Grows, HasEachOnce}
-use Rattle.ls_text.proofs.Growth.{grown_id, grown_text, grows_on}
+use Rattle.ls_text.proofs.Growth.{grown_id, grown_text, grows_on, grows_none}
 use Rattle.typed_ir.specs.Cycles.{Signal, Flat}
 use Rattle.verilog_lex.specs.declared.token.Token.{Token}
 use Rattle.verilog_lex.specs.Tokens.{Said}
@@ -54,7 +54,7 @@ use Rattle.version_swap.proofs.FlatAlike.{IsSignalIn, flat_alike, flat_in}
 use Rattle.version_swap.proofs.GrownCopies.{copies_grown}
 use Rattle.version_swap.proofs.GrownFirsts.{first_grown, first_under, texts_grown}
 use Rattle.version_swap.proofs.GrownFound.{FoundIn, tokens_of, found_here, found_grown}
-use Rattle.version_swap.proofs.JointTable.{Joint, begins_once, grows_none, joint}
+use Rattle.version_swap.proofs.JointTable.{Joint, begins_once, joint}
 use Rattle.version_swap.proofs.LinkAlike.{names_grown, names_spelled, own_grown, own_spelled, node_grown, node_spelled, one_fault, not_linked}
 use Rattle.version_swap.proofs.MovedNames.{moved, IsBelow, stay, moved_apart, shown_below, view_grown, view_spelled}
 use Rattle.version_swap.proofs.NamedTokens.{are_tokens}

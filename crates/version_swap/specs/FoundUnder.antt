@@ -4,7 +4,8 @@ use Rattle.std.specs.List.{All}
 use Rattle.ls_text.specs.declared.name_id.NameId.{NameId}
 use Rattle.ls_text.specs.declared.source_file.SourceFile.{SourceFile}
 use Rattle.ls_text.specs.Texts.{text_at}
-use Rattle.verilog_ast.specs.Names.{names_of_body}
+use Rattle.verilog_ast.specs.NamesWithin.{names_in_declaration}
+use Rattle.verilog_ast.specs.Views.{declaration_of}
 use Rattle.unit_ir.specs.declared.instance.Instance.{Instance}
 use Rattle.elaborate.specs.Trees.{all_seen}
 use Rattle.elaborate.specs.TreeViews.{instance_view}
@@ -20,7 +21,7 @@ IsNumberOf names None n = (n < length names) × (text_at names n ≡ [])
 
 -- the names in the module of a job are names of the table
 abbrev pub HasModuleIn : (names : List (List ℕ)) → BuildJob → Type 0
-HasModuleIn names job = All (IsIn names) (names_of_body job.module.value.body)
+HasModuleIn names job = All (IsIn names) (names_in_declaration (declaration_of job.module.value.body))
 
 pub record IsFoundUnder (names : List (List ℕ)) (files : List SourceFile) (name : Option NameId) (clock : NameId) (xs : List Instance)
     (js : List BuildJob) : Type 0 where

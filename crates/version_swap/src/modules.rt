@@ -3,7 +3,7 @@ ghost use Rattle.std.specs.Prelude.{◌≡◌, ◌≤◌, ◌<◌, length, IfOk,
 ghost use Rattle.std.specs.List.{All};
 ghost use Rattle.ls_text.specs.Texts.{Grows};
 ghost use Rattle.ls_text.specs.Readings.{CanShow};
-ghost use Rattle.verilog_ast.specs.Names.{names_of_modules};
+ghost use Rattle.verilog_ast.specs.NamesWithin.{names_in_modules};
 ghost use Rattle.unit_laws.specs.Spelled.{IsSpelledUnder};
 ghost use Rattle.version_swap.specs.Founds.{AreModules, IsReadRefusal};
 
@@ -23,7 +23,7 @@ pub fn modules_of(
     requires texts { All (λ f. length f.text ≤ 4194304) files.now }
     ensures modules { IfOk result (λ ms. AreModules names.new files.now ms.items) }
     ensures spelled { IfOk result (λ ms. All (IsSpelledUnder names.new) ms.items) }
-    ensures named { IfOk result (λ ms. All (λ id. id.0 < length names.new) (names_of_modules ms.items)) }
+    ensures named { IfOk result (λ ms. All (λ id. id.0 < length names.new) (names_in_modules ms.items)) }
     ensures refused { IfErr result (IsReadRefusal names.new files.now) }
     ensures known { IfErr result (CanShow (length names.new)) }
     ensures grows { Grows names.old names.new }

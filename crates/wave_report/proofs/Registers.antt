@@ -1,14 +1,13 @@
 -- The lines of a table, register by register.
-use Rattle.std.proofs.Common.{◌≡◌, ℕ, zero, suc, ◌+◌, ◌<◌, ◌≤◌, List, [], ◌∷◌, ◌++◌, map, length, get_or, drop, append_assoc, append-nil, IsTrue, sym, ◌∙◌, ap, ap₂, arith}
+use Rattle.std.proofs.Common.{◌≡◌, ℕ, zero, suc, ◌+◌, ◌<◌, ◌≤◌, List, [], ◌∷◌, ◌++◌, length, get_or, drop, append_assoc, append-nil, IsTrue, sym, ◌∙◌, ap, ap₂, arith}
 use Rattle.std.specs.Prelude.{slice_get, Some}
 use Rattle.std.proofs.lemmas.List.{length-map, drop_all, get_or_default}
 use Rattle.typed_ir.specs.Cycles.{Signal, Flat, width_at}
 use Rattle.typed_ir.specs.Flats.{are_below}
 use Rattle.typed_ir.specs.Orders.{at_or}
-use Rattle.typed_ir.proofs.Lists.{drop_read}
+use Rattle.typed_ir.proofs.Lists.{drop_read, below_read}
 use Rattle.cycle_eval.specs.Kits.{Fits}
 use Rattle.reg_transform.specs.States.{state_values}
-use Rattle.cycle_eval.proofs.Loads.{below_read}
 use Rattle.wave_report.specs.Tables.{signal_line, signal_lines}
 
 -- a state that fits has as many values as there are registers
@@ -22,13 +21,6 @@ register_there rs count many i r place below same h is at =
     let listed : get_or rs i 0 < count = below_read rs count i below h in
     let here : r ≡ get_or rs i 0 = is ∙ get_or_default rs i r 0 h in
     omega (arith, listed, here, same, at)
-
--- the k-th of signals that are seen by a view
-pub at_map : {X Y A : Type 0} (f : Y → A) (d : A) (g : X → Y) (xs : List X) (k : ℕ) (x : X) → k < length xs
-    → x ≡ get_or xs k x → at_or f d (map g xs) k ≡ f (g x)
-at_map f d g [] k x h is = absurd (omega (arith, h))
-at_map f d g (y ∷ ys) zero x h is = ap (λ z. f (g z)) (sym is)
-at_map f d g (y ∷ ys) (suc k) x h is = at_map f d g ys k x (omega (arith, h)) is
 
 -- the values of a state from an element on
 pub values_from : (xs : List (ℕ × ℕ)) (i : ℕ) (p : ℕ × ℕ) → slice_get xs i ≡ Some p → drop i (state_values xs) ≡ p.1 ∷ drop (i + 1) (state_values xs)

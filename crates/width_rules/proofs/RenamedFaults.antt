@@ -32,7 +32,7 @@ if_so f b c x y bs xs = ap₂ fault_if bs xs ∙ one_so f c y
 
 -- ---- places and names
 
-same_place : (f : NameId → NameId) (e : Expression) → expression_place (expression_as f e) ≡ expression_place e
+pub same_place : (f : NameId → NameId) (e : Expression) → expression_place (expression_as f e) ≡ expression_place e
 same_place f (Literal at x) = refl
 same_place f (Whole n) = refl
 same_place f (BitSelect n x) = refl

@@ -18,16 +18,16 @@ use Rattle.width_rules.proofs.RenamedFaults.{both_so, run_so, part_so, width_so,
 
 -- ---- the bits
 
-abbrev bit_part : ℕ → Meaning → Bool → Operand → Operand → SizedTarget
+abbrev pub bit_part : ℕ → Meaning → Bool → Operand → Operand → SizedTarget
 bit_part shift m b x y = part_at m shift 1 0 b (worth x) x.sign (alone x)
 
-abbrev fixed_part : ℕ → Meaning → Bool → Operand → Operand → SizedTarget
+abbrev pub fixed_part : ℕ → Meaning → Bool → Operand → Operand → SizedTarget
 fixed_part shift m b x y = part_from m shift (worth y) (bits_between (worth x) (worth y))
 
-abbrev upward_part : ℕ → Meaning → Bool → Operand → Operand → SizedTarget
+abbrev pub upward_part : ℕ → Meaning → Bool → Operand → Operand → SizedTarget
 upward_part shift m b x y = part_at m shift (count_of (worth y)) 0 b (worth x) x.sign (alone x)
 
-abbrev downward_part : ℕ → Meaning → Bool → Operand → Operand → SizedTarget
+abbrev pub downward_part : ℕ → Meaning → Bool → Operand → Operand → SizedTarget
 downward_part shift m b x y = part_at m shift (count_of (worth y)) (count_of (worth y) - 1) b (worth x) x.sign (alone x)
 
 pub same_reference : (f : NameId → NameId) (scope other : Scope) (shift : ℕ) (x : Expression) → MeansSame f scope other → reference_part other shift (expression_as f x) ≡ reference_part scope shift x

@@ -33,7 +33,7 @@ same_sign f scope other (Parts x xs) same = refl
 no_signal : (f : NameId → NameId) (scope other : Scope) (n : NameId) → MeansSame f scope other → not (is_signal (other (f n).0)) ≡ not (is_signal (scope n.0))
 no_signal f scope other n same = ap (λ (m : Meaning). not (is_signal m)) (same n)
 
-and_so : (a b c d : Bool) → a ≡ b → c ≡ d → (a && c) ≡ (b && d)
+pub and_so : (a b c d : Bool) → a ≡ b → c ≡ d → (a && c) ≡ (b && d)
 and_so a b c d = ap₂ (λ (x y : Bool). x && y)
 
 pub same_fixed : (f : NameId → NameId) (scope other : Scope) (e : Expression) → MeansSame f scope other → is_constant other (expression_as f e) ≡ is_constant scope e
@@ -64,7 +64,7 @@ seen_as sign own at = record { own = own; sign = sign; at = at }
 abbrev pub seen : Scope → Expression → Operand
 seen scope x = seen_as (is_signed scope x) (length scope x) (push scope x)
 
-seen_so : (a b : Bool) (m n : ℕ) (p q : ℕ → Bool → Sized) → a ≡ b → m ≡ n → p ≡ q → seen_as a m p ≡ seen_as b n q
+pub seen_so : (a b : Bool) (m n : ℕ) (p q : ℕ → Bool → Sized) → a ≡ b → m ≡ n → p ≡ q → seen_as a m p ≡ seen_as b n q
 seen_so a b m n p q signs lengths forms =
     ap (λ (z : Bool). seen_as z m p) signs ∙ ap₂ (seen_as b) lengths forms
 
@@ -85,19 +85,19 @@ pub parts_so : {A : Type 0} (F : Meaning → Bool → Operand → Operand → A)
     → m ≡ n → b ≡ c → x ≡ p → y ≡ q → F m b x y ≡ F n c p q
 parts_so {A} F m n b c x p y q ms bs xs ys = ap₂ (λ (i : Meaning) (d : Bool). F i d x y) ms bs ∙ ap₂ (F n c) xs ys
 
-abbrev fixed_part : ℕ → Bool → Meaning → Bool → Operand → Operand → Sized
+abbrev pub fixed_part : ℕ → Bool → Meaning → Bool → Operand → Operand → Sized
 fixed_part l t m b x y = extended (bits_from m (worth y) (bits_between (worth x) (worth y))) l t
 
-abbrev upward_part : ℕ → Bool → Meaning → Bool → Operand → Operand → Sized
+abbrev pub upward_part : ℕ → Bool → Meaning → Bool → Operand → Operand → Sized
 upward_part l t m b x y = extended (bits_at m (count_of (worth y)) 0 b (worth x) x.sign (alone x)) l t
 
-abbrev downward_part : ℕ → Bool → Meaning → Bool → Operand → Operand → Sized
+abbrev pub downward_part : ℕ → Bool → Meaning → Bool → Operand → Operand → Sized
 downward_part l t m b x y = extended (bits_at m (count_of (worth y)) (count_of (worth y) - 1) b (worth x) x.sign (alone x)) l t
 
-abbrev one_bit : ℕ → Bool → Meaning → Bool → Operand → Operand → Sized
+abbrev pub one_bit : ℕ → Bool → Meaning → Bool → Operand → Operand → Sized
 one_bit l t m b x y = extended (bits_at m 1 0 b (worth x) x.sign (alone x)) l t
 
-abbrev repeated : ℕ → Bool → ℕ → ℕ → Sized → Sized
+abbrev pub repeated : ℕ → Bool → ℕ → ℕ → Sized → Sized
 repeated l t count width x = extended (s.Repeat (count * width) count x) l t
 
 mutual

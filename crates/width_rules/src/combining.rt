@@ -12,11 +12,11 @@ use crate::opened::{Open, close};
 use crate::operators::comparison_with;
 use crate::self_determined::Own;
 use no_memory::NoMemory;
-use sqlite_items::Boxed;
 use std::alloc::Global;
 use typed_ir::{
     ArithmeticOperator, BinaryOperator, Comparison, LogicalOperator, ShiftOperator, Typed,
 };
+use verilog_ast::Child;
 
 /// What gives one bit.
 pub fn one_bit(alloc: Global, typed: Typed, constant: bool) -> Result<Measured, NoMemory>
@@ -25,12 +25,12 @@ pub fn one_bit(alloc: Global, typed: Typed, constant: bool) -> Result<Measured, 
     ensures constant { IfOk result (λ m. m.constant ≡ constant) }
     ensures form { IfOk result (λ m. opened m.form ≡ Simple (sized typed.form)) }
 {
-    let typed = Boxed::new(alloc, typed)?;
+    let typed = Child::new(alloc, typed)?;
     Ok(Measured {
         length: 1,
         signed: false,
         constant,
-        form: Boxed::new(alloc, Open::Simple(typed))?,
+        form: Child::new(alloc, Open::Simple(typed))?,
     })
 }
 
@@ -51,7 +51,7 @@ pub fn calculated(
         length: a.length.max(b.length),
         signed: all_signed,
         constant: a.constant && b.constant,
-        form: Boxed::new(alloc, Open::Calculation(op, a.form, b.form))?,
+        form: Child::new(alloc, Open::Calculation(op, a.form, b.form))?,
     })
 }
 
@@ -66,7 +66,7 @@ pub fn shifted(alloc: Global, op: ShiftOperator, a: Measured, by: Own) -> Result
         length: a.length,
         signed: a.signed,
         constant: a.constant && by.constant,
-        form: Boxed::new(alloc, Open::Shifted(op, a.form, by.typed))?,
+        form: Child::new(alloc, Open::Shifted(op, a.form, by.typed))?,
     })
 }
 
@@ -112,11 +112,11 @@ pub fn chosen(alloc: Global, c: Measured, a: Measured, b: Measured) -> Result<Me
     ensures constant { IfOk result (λ m. m.constant ≡ (c.constant && (a.constant && b.constant))) }
     ensures form { IfOk result (λ m. opened m.form ≡ Choice (closed (opened c.form) c.length c.signed) (opened a.form) (opened b.form)) }
 {
-    let condition = Boxed::new(alloc, close(alloc, c.form, c.length, c.signed)?)?;
+    let condition = Child::new(alloc, close(alloc, c.form, c.length, c.signed)?)?;
     Ok(Measured {
         length: a.length.max(b.length),
         signed: a.signed && b.signed,
         constant: c.constant && (a.constant && b.constant),
-        form: Boxed::new(alloc, Open::Choice(condition, a.form, b.form))?,
+        form: Child::new(alloc, Open::Choice(condition, a.form, b.form))?,
     })
 }

@@ -7,9 +7,9 @@ use crate::joined::Joined;
 use crate::joined_bits::JoinedBits;
 use crate::self_determined::Own;
 use no_memory::NoMemory;
-use sqlite_items::Boxed;
 use std::alloc::Global;
 use typed_ir::Typed;
+use verilog_ast::Child;
 
 /// One more part, right of those so far.
 pub fn beside(alloc: Global, before: Joined, part: Own) -> Result<Joined, NoMemory>
@@ -25,7 +25,7 @@ pub fn beside(alloc: Global, before: Joined, part: Own) -> Result<Joined, NoMemo
             }
             let typed = Typed::concat(alloc, left, right)?;
             Ok(Joined::Bits(JoinedBits {
-                typed: Boxed::new(alloc, typed)?,
+                typed: Child::new(alloc, typed)?,
             }))
         }
         Joined::TooWide => Ok(Joined::TooWide),

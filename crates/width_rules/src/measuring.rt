@@ -34,11 +34,11 @@ use crate::whole::{count_of, whole_number};
 use bits::Bits;
 use ls_text::{Place, Refusal};
 use no_memory::NoMemory;
-use sqlite_items::Boxed;
 use std::alloc::Global;
 use typed_ir::{BinaryOperator, Const, Typed, UnaryOperator};
 use verilog_ast::{
-    BinaryOperator as Written, Expr, Identifier, Number, Reference, UnaryOperator as WrittenBefore,
+    BinaryOperator as Written, Child, Expr, Identifier, Number, Reference,
+    UnaryOperator as WrittenBefore,
 };
 
 /// What an expression is before its context's length and sign go down; or its first fault, or want of memory. `due` says that a
@@ -81,7 +81,7 @@ pub fn own(alloc: Global, scope: &Scope, due: Due, e: &Expr) -> Result<Own, Refu
     let m = measure(alloc, scope, due, e)?;
     let typed = close(alloc, m.form, m.length, m.signed)?;
     Ok(Own {
-        typed: Boxed::new(alloc, typed)?,
+        typed: Child::new(alloc, typed)?,
         signed: m.signed,
         constant: m.constant,
     })
@@ -128,7 +128,7 @@ fn literal(
         length,
         signed: number.signed,
         constant: true,
-        form: Boxed::new(alloc, Open::Number(Bits::new(length, number.value)))?,
+        form: Child::new(alloc, Open::Number(Bits::new(length, number.value)))?,
     })
 }
 
@@ -158,7 +158,7 @@ fn unary(
                 length: a.length,
                 signed: a.signed,
                 constant: a.constant,
-                form: Boxed::new(alloc, Open::Negative(a.form))?,
+                form: Child::new(alloc, Open::Negative(a.form))?,
             })
         }
         UnaryKind::Inverted => {
@@ -167,7 +167,7 @@ fn unary(
                 length: a.length,
                 signed: a.signed,
                 constant: a.constant,
-                form: Boxed::new(alloc, Open::Inverse(a.form))?,
+                form: Child::new(alloc, Open::Inverse(a.form))?,
             })
         }
         UnaryKind::OneBit(op) => {
@@ -398,7 +398,7 @@ fn concatenation(
             length: bits.typed.get().width,
             signed: false,
             constant,
-            form: Boxed::new(alloc, Open::Simple(bits.typed))?,
+            form: Child::new(alloc, Open::Simple(bits.typed))?,
         }),
     }
 }
@@ -441,7 +441,7 @@ fn replication(
                 length: repeated.width,
                 signed: false,
                 constant,
-                form: Boxed::new(alloc, Open::Simple(Boxed::new(alloc, repeated)?))?,
+                form: Child::new(alloc, Open::Simple(Child::new(alloc, repeated)?))?,
             })
         }
     }

@@ -7,9 +7,9 @@ ghost use Rattle.width_rules.specs.Opened.{opened, closed};
 use crate::operators::{arithmetic_with, shift_with};
 use bits::Bits;
 use no_memory::NoMemory;
-use sqlite_items::Boxed;
 use std::alloc::Global;
 use typed_ir::{ArithmeticOperator, BinaryOperator, ShiftOperator, Typed, UnaryOperator};
+use verilog_ast::Child;
 
 /// An expression whose length and sign its context may still change. Only operators whose operands the context decides are left
 /// open; all else is sized already.
@@ -17,14 +17,14 @@ use typed_ir::{ArithmeticOperator, BinaryOperator, ShiftOperator, Typed, UnaryOp
 pub enum Open {
     Number(Bits),
     /// Sized at its own length.
-    Simple(Boxed<Typed>),
-    Negative(Boxed<Open>),
-    Inverse(Boxed<Open>),
-    Calculation(ArithmeticOperator, Boxed<Open>, Boxed<Open>),
+    Simple(Child<Typed>),
+    Negative(Child<Open>),
+    Inverse(Child<Open>),
+    Calculation(ArithmeticOperator, Child<Open>, Child<Open>),
     /// A shift by what is sized already.
-    Shifted(ShiftOperator, Boxed<Open>, Boxed<Typed>),
+    Shifted(ShiftOperator, Child<Open>, Child<Typed>),
     /// `c ? a : b`
-    Choice(Boxed<Typed>, Boxed<Open>, Boxed<Open>),
+    Choice(Child<Typed>, Child<Open>, Child<Open>),
 }
 
 // A simple operand at the length and the sign of its context.
@@ -41,7 +41,7 @@ fn extend(alloc: Global, e: Typed, length: u8, signed: bool) -> Result<Typed, No
 }
 
 /// The expression at a length of 1 to 128 bits and a sign, which go down to its simple operands. Want of memory is `NoMemory`.
-pub fn close(alloc: Global, form: Boxed<Open>, length: u8, signed: bool) -> Result<Typed, NoMemory>
+pub fn close(alloc: Global, form: Child<Open>, length: u8, signed: bool) -> Result<Typed, NoMemory>
     requires at_least_one { 1 ≤ length }
     requires at_most_128 { length ≤ 128 }
     ensures width { IfOk result (λ e. e.width ≡ length) }

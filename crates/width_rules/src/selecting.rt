@@ -26,10 +26,9 @@ use crate::target_part::TargetPart;
 use crate::whole::{Whole, bits_between, count_of, low_bit, whole_number};
 use ls_text::Refusal;
 use no_memory::NoMemory;
-use sqlite_items::Boxed;
 use std::alloc::Global;
 use typed_ir::{Const, Lane, Reach, SignalId, Span, Target, Typed};
-use verilog_ast::{Expr, Identifier};
+use verilog_ast::{Child, Expr, Identifier};
 
 /// What a name is that an expression may use: else 29, or 25 where a constant is due.
 pub fn known(alloc: Global, scope: &Scope, due: Due, name: Identifier) -> Result<Entry, Refusal>
@@ -63,12 +62,12 @@ pub fn whole(alloc: Global, scope: &Scope, due: Due, name: Identifier) -> Result
     match scope.find(name.name) {
         Entry::Signal(x) => match due {
             Due::AnyValue => {
-                let typed = Boxed::new(alloc, Typed::name(x.signal, x.width))?;
+                let typed = Child::new(alloc, Typed::name(x.signal, x.width))?;
                 Ok(Measured {
                     length: x.width,
                     signed: x.signed,
                     constant: false,
-                    form: Boxed::new(alloc, Open::Simple(typed))?,
+                    form: Child::new(alloc, Open::Simple(typed))?,
                 })
             }
             Due::ConstantOnly => Err(refused_at(alloc, 25, name)),
@@ -77,7 +76,7 @@ pub fn whole(alloc: Global, scope: &Scope, due: Due, name: Identifier) -> Result
             length: x.bits.width,
             signed: x.signed,
             constant: true,
-            form: Boxed::new(alloc, Open::Number(x.bits))?,
+            form: Child::new(alloc, Open::Number(x.bits))?,
         }),
         Entry::Genvar | Entry::Unknown => Err(refused_at(alloc, 29, name)),
     }
@@ -92,7 +91,7 @@ pub fn selected(alloc: Global, part: TargetPart) -> Result<Measured, NoMemory>
 {
     let TargetPart { target, width } = part;
     let typed = match target {
-        Target::Fixed(lane) => Boxed::new(alloc, Typed::part(lane.span))?,
+        Target::Fixed(lane) => Child::new(alloc, Typed::part(lane.span))?,
         Target::Moving { reach, index } => {
             let picked = Typed::pick(
                 alloc,
@@ -102,14 +101,14 @@ pub fn selected(alloc: Global, part: TargetPart) -> Result<Measured, NoMemory>
                 reach.signed,
                 index,
             )?;
-            Boxed::new(alloc, picked)?
+            Child::new(alloc, picked)?
         }
     };
     Ok(Measured {
         length: width,
         signed: false,
         constant: false,
-        form: Boxed::new(alloc, Open::Simple(typed))?,
+        form: Child::new(alloc, Open::Simple(typed))?,
     })
 }
 

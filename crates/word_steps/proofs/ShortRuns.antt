@@ -1,23 +1,12 @@
 -- Runs of bits of a word of 64 bits that are written by a mask.
-use Rattle.std.proofs.Common.{◌≡◌, ℕ, ◌+◌, ◌-◌, ◌*◌, ◌%◌, ◌^◌, ◌<◌, ◌≤◌, min, max, ◌∙◌, ap, ap₂, arith, lt_of_lt_of_le}
+use Rattle.std.proofs.Common.{◌≡◌, ℕ, ◌+◌, ◌-◌, ◌*◌, ◌%◌, ◌^◌, ◌<◌, ◌≤◌, ◌∙◌, ap, ap₂, arith}
 use Rattle.std.specs.Prelude.{bit_and, bit_or}
 use Rattle.std.specs.Int.{bit_at, w64}
-use Rattle.std.proofs.lemmas.Nat.{shl_below, shl_whole, and_mask}
-use Rattle.std.proofs.Math.Pow.{pow_mono, ones_lt}
-use Rattle.std.proofs.lemmas.Nat.Bits.{bit_at_above, bit_at_not, bit_at_ones, bit_at_ones_above, bit_at-lt, bit_at_and, bit_at_or, same_from_bits}
+use Rattle.std.proofs.lemmas.Nat.{shl_whole, and_mask}
+use Rattle.std.proofs.Math.Pow.{ones_lt}
+use Rattle.std.proofs.lemmas.Nat.Bits.{bit_at_above, bit_at_not, bit_at_ones, bit_at_ones_above, bit_at-lt, same_from_bits}
 use Rattle.bits.specs.Runs.{replaced}
-use Rattle.bits.proofs.Runs.{below_pow, bit_at-mod_in, bit_at-mod_out, bit_at-shl_low, bit_at-shl_high, replaced-below, replaced-inside, replaced-above, by_order}
-
--- a run of ones, and a value cut to the run, fit
-shifted_fits : (a low width total : ℕ) → a < 2 ^ width → low + width ≤ total → a * 2 ^ low < 2 ^ total
-shifted_fits a low width total h few =
-    let below : a * 2 ^ low < 2 ^ (width + low) = shl_below a width low h in
-    let more : 2 ^ (width + low) ≤ 2 ^ total = pow_mono {i = width + low} {j = total} (omega (arith, few)) in
-    lt_of_lt_of_le below more
-
--- by a mask of 64 bits
-masked_bit : (n m y i : ℕ) → bit_at (bit_or (bit_and n m) y) i ≡ max (min (bit_at n i) (bit_at m i)) (bit_at y i)
-masked_bit n m y i = bit_at_or (bit_and n m) y i ∙ ap (λ z. max z (bit_at y i)) (bit_at_and n m i)
+use Rattle.bits.proofs.Runs.{below_pow, bit_at-mod_in, bit_at-mod_out, bit_at-shl_low, bit_at-shl_high, replaced-below, replaced-inside, replaced-above, by_order, shifted_fits, masked_bit}
 
 pub masked : (n low width x : ℕ) → n < 2 ^ 64 → low + width ≤ 64
     → bit_or (bit_and n (2 ^ 64 - 1 - (2 ^ width - 1) * 2 ^ low)) (x % 2 ^ width * 2 ^ low) ≡ replaced n low width x

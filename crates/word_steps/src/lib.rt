@@ -9,8 +9,6 @@ mod op;
 mod short;
 mod soundness;
 mod step;
-#[cfg(test)]
-mod tests;
 mod walking;
 mod wide;
 

@@ -1,9 +1,10 @@
 use Rattle.std.proofs.Common.{arith, ap, ◌∙◌, min, ◌+◌, ◌*◌}
 use Rattle.book_history.specs.Readers.{links_in}
+use Rattle.checkpoint_book.proofs.Draws.{when_err}
 use Rattle.book_turn.specs.Passes.{known}
 use Rattle.turn_settle.specs.Seen.{book_seen}
 use Rattle.turn_settle.proofs.Passing.{passed_start, passed_behind, passed_open, passed_room, passed_opened}
-use Rattle.turn_settle.proofs.Settling.{settled_by, tried_behind, whatever}
+use Rattle.turn_settle.proofs.Settling.{settled_by, tried_behind}
 use Rattle.turn_settle.proofs.settle.Goals as goal
 
 pub make_passes-requires-clause-own : goal.make_passes-requires-clause-own
@@ -42,7 +43,7 @@ returns-clause-ok g c =
 
 pub returns-in_err-make_passes-clause-err : goal.returns-in_err-make_passes-clause-err
 returns-in_err-make_passes-clause-err g c =
-    whatever _
+    when_err _
     (tried_behind _ _ _ _ _ (c.min-most.ensures ∙ ap (λ n. min c.args.passes n) c.links.ensures.links) c.links.ensures.visit.added c.in_err-make_passes.ensures.err)
 
 pub returns-clause-legal : goal.returns-clause-legal

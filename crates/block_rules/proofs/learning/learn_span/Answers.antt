@@ -1,7 +1,7 @@
 use Rattle.std.proofs.Common.{◌&&◌, ◌||◌, ◌==◌, ap}
+use Rattle.std.proofs.lemmas.Result.{IfOk-weaker}
 use Rattle.typed_ir.specs.Valuations.{within}
 use Rattle.typed_ir.specs.Touches.{has_bit}
-use Rattle.typed_ir.proofs.Listed.{if_ok}
 use Rattle.block_rules.specs.Tables.{bits_of, Leads}
 use Rattle.block_rules.proofs.Leading.{leads_as}
 use Rattle.block_rules.proofs.learning.learn_span.Goals as goal
@@ -13,7 +13,7 @@ returns c =
     let after = c.learn.new.table in
     let old = c.args.learned.now.items in
     let new = c.learn.new.learned.items in
-    if_ok c.learn.result
+    IfOk-weaker c.learn.result
     (λ _. Leads before after old new (bits_of after) (λ s i. bits_of before s i || ((s == span.signal) && has_bit c.run_mask-mask.result i)))
     (λ _. Leads before after old new (bits_of after) (λ s i. bits_of before s i || within span s i))
     (λ _ h. leads_as before after old new (bits_of after) (λ s i. bits_of before s i || ((s == span.signal) && has_bit c.run_mask-mask.result i))

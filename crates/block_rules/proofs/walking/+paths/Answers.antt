@@ -1,9 +1,10 @@
 use Rattle.std.proofs.Common.{Bool, List, ◌≡◌, ◌++◌, ◌||◌, ◌&&◌, ◌<◌, ◌∙◌, ◌+◌, map, drop, ap, ap₂, sym, subst}
+use Rattle.std.proofs.lemmas.Result.{IfOk-weaker}
 use Rattle.typed_ir.specs.Stmts.{Assign, Later, If, Case, certain, known_after, known_after_arms}
 use Rattle.typed_ir.specs.Forms.{sized}
 use Rattle.typed_ir.specs.Targets.{targets_of}
 use Rattle.typed_ir.specs.Statements.{stmt_of, arm_of, item_of, sequence_of, arms_before}
-use Rattle.typed_ir.proofs.Listed.{if_ok, if_is}
+use Rattle.typed_ir.proofs.Listed.{if_is}
 use Rattle.block_rules.specs.Paths.{item_leaves, flags_of, reads_early, arms_early}
 use Rattle.block_rules.specs.Tables.{size, bits_of, Leads, common_of}
 use Rattle.typed_ir.specs.Touches.{touched}
@@ -25,7 +26,7 @@ walk-returns-in_ok-flag_form-in-Assign-clause-known t c =
     let kind : st ≡ Assign parts (sized node.value.form) =
     ap stmt_of node.is ∙ assign_is node.targets node.value
     ∙ ap (λ ts. Assign (targets_of ts) (sized node.value.form)) (sym c.deref-in-Assign.ensures.value) in
-    if_ok c.learn_parts.result (λ _. Leads k1 k2 old new (bits_of k2) (λ s i. bits_of k1 s i || certain parts s i))
+    IfOk-weaker c.learn_parts.result (λ _. Leads k1 k2 old new (bits_of k2) (λ s i. bits_of k1 s i || certain parts s i))
     (λ _. Leads k0 k2 old new (bits_of k2) (known_after st (bits_of k0)))
     (λ _ h. assign_leads k0 k1 k2 old new parts (sized node.value.form) st kind
     c.in_ok-flag_parts-in-Assign.ensures.known c.in_ok-flag_parts-in-Assign.ensures.size h)
@@ -44,7 +45,7 @@ walk-returns-in_ok-flag_form-in-Assign-clause-flags t c =
     let whole : c.flag_form.new.flags.items ≡ c.args.flags.now.items ++ reads_early w st (bits_of k0) =
     assign_reads w k0 c.flag_parts.new.known c.args.flags.now.items c.flag_parts.new.flags.items c.flag_form.new.flags.items parts (sized node.value.form) st kind
     c.in_ok-flag_parts-in-Assign.ensures.known c.in_ok-flag_parts-in-Assign.ensures.flags c.in_ok-flag_form-in-Assign.ensures in
-    if_ok c.learn_parts.result (λ _. Leads c.flag_parts.new.known c.learn_parts.new.table c.args.learned.now.items c.learn_parts.new.learned.items (bits_of c.learn_parts.new.table)
+    IfOk-weaker c.learn_parts.result (λ _. Leads c.flag_parts.new.known c.learn_parts.new.table c.args.learned.now.items c.learn_parts.new.learned.items (bits_of c.learn_parts.new.table)
     (λ s i. bits_of c.flag_parts.new.known s i || certain (targets_of c.deref-in-Assign.result.now) s i))
     (λ _. c.flag_form.new.flags.items ≡ c.args.flags.now.items ++ reads_early w st (bits_of k0)) (λ _ _. whole) c.learn_parts.ensures
 
@@ -58,7 +59,7 @@ walk-returns-in_ok-flag_indices-in-Later-clause-flags t c =
     let kind : st ≡ Later parts (sized node.value.form) =
     ap stmt_of node.is ∙ later_is node.targets node.value
     ∙ ap (λ ts. Later (targets_of ts) (sized node.value.form)) (sym c.deref-in-Later.ensures.value) in
-    if_ok c.flag_form-in-Later.result _ (λ _. c.flag_form-in-Later.new.flags.items ≡ c.args.flags.now.items ++ reads_early w st known)
+    IfOk-weaker c.flag_form-in-Later.result _ (λ _. c.flag_form-in-Later.new.flags.items ≡ c.args.flags.now.items ++ reads_early w st known)
     (λ _ more. later_reads w known c.args.flags.now.items c.flag_indices.new.flags.items c.flag_form-in-Later.new.flags.items parts (sized node.value.form) st kind
     c.in_ok-flag_indices-in-Later.ensures more)
     c.flag_form-in-Later.ensures
@@ -81,7 +82,7 @@ walk-returns-in_ok-both-in-If-clause-known t c =
     let kind : st ≡ If condition one two =
     ap stmt_of node.is ∙ if_is node.condition node.consequent node.alternative
     ∙ ap₂ (λ x y. If condition (stmt_of x) (stmt_of y)) (sym c.deref-in-If.ensures) (sym c.deref-in-If-2.ensures) in
-    if_ok c.learn_all.result (λ _. Leads k2 k3 old new (bits_of k3) (λ s i. bits_of k2 s i || touched c.deref-in-If-3.result.now s i))
+    IfOk-weaker c.learn_all.result (λ _. Leads k2 k3 old new (bits_of k3) (λ s i. bits_of k2 s i || touched c.deref-in-If-3.result.now s i))
     (λ _. Leads k0 k3 old new (bits_of k3) (known_after st (bits_of k0)))
     (λ _ h. if_leads k0 k1 k2 k3 old new first both condition one two st kind
     c.in_ok-first-in-If.ensures.size c.in_ok-first-in-If.ensures.known c.in_ok-both-in-If.ensures.size c.in_ok-both-in-If.ensures.known
@@ -106,7 +107,7 @@ walk-returns-in_ok-both-in-If-clause-flags t c =
     let whole : c.branch-alloc-in-If.new.flags.items ≡ c.args.flags.now.items ++ reads_early w st (bits_of k0) =
     if_reads w k0 c.branch-alloc.new.known c.args.flags.now.items c.flag_form-in-If.new.flags.items c.branch-alloc.new.flags.items c.branch-alloc-in-If.new.flags.items
     condition one two st kind c.in_ok-first-in-If.ensures.known c.in_ok-flag_form-in-If.ensures c.in_ok-first-in-If.ensures.flags c.in_ok-both-in-If.ensures.flags in
-    if_ok c.learn_all.result
+    IfOk-weaker c.learn_all.result
     (λ _. Leads k2 k3 c.args.learned.now.items c.learn_all.new.learned.items (bits_of k3) (λ s i. bits_of k2 s i || touched c.deref-in-If-3.result.now s i))
     (λ _. c.branch-alloc-in-If.new.flags.items ≡ c.args.flags.now.items ++ reads_early w st (bits_of k0)) (λ _ _. whole) c.learn_all.ensures
 
@@ -123,7 +124,7 @@ walk-returns-in_ok-flag_form-in-Case-clause-flags t c =
     let kind : st ≡ Case subject arms =
     ap stmt_of node.is ∙ case_is node.subject node.arms node.otherwise
     ∙ ap₂ (λ xs y. Case subject (arms_before (map arm_of xs) (stmt_of y))) (sym c.deref-in-Case.ensures.value) (sym c.deref-in-Case-2.ensures) in
-    if_ok c.walk_arms.result (λ _. f2 ≡ f1 ++ arms_early w arms known) (λ _. f2 ≡ c.args.flags.now.items ++ reads_early w st known)
+    IfOk-weaker c.walk_arms.result (λ _. f2 ≡ f1 ++ arms_early w arms known) (λ _. f2 ≡ c.args.flags.now.items ++ reads_early w st known)
     (λ _ more. case_reads w known c.args.flags.now.items f1 f2 subject arms st kind c.in_ok-flag_form-in-Case.ensures more)
     c.walk_arms.ensures.flags
 
@@ -188,7 +189,7 @@ walk_arms-returns-clause-known t c =
     let common = common_of c.loop-arm.common in
     let all = arms_before (map arm_of arms) otherwise in
     let same = c.loop-arm.invariant.1 in
-    if_ok c.learn_all.result (λ _. Leads k2 k3 old new (bits_of k3) (λ s i. bits_of k2 s i || touched c.deref-2.result.now s i))
+    IfOk-weaker c.learn_all.result (λ _. Leads k2 k3 old new (bits_of k3) (λ s i. bits_of k2 s i || touched c.deref-2.result.now s i))
     (λ _. Leads k0 k3 old new (bits_of k3) (known_after_arms all (bits_of k0)))
     (λ _ h. arms_lead k0 k1 k2 k3 old new both common (known_after_arms all (bits_of k0)) (known_after otherwise (bits_of k0))
     c.loop-arm.invariant.0 same c.in_ok-all.ensures.size c.in_ok-all.ensures.known (known_arms_keep all (bits_of k0))

@@ -1,7 +1,7 @@
 use Rattle.std.proofs.Common.{◌≡◌, ◌+◌, ◌∙◌, get_or, length, refl, ap, arith}
 use Rattle.std.specs.List.{swap}
 use Rattle.std.proofs.lemmas.List.{get_or_default}
-use Rattle.design_steps.proofs.Copied.{below_read}
+use Rattle.typed_ir.proofs.Lists.{below_read}
 use Rattle.design_steps.proofs.Gathered.{both_swapped, both_long, gather_more}
 use Rattle.design_steps.proofs.gathering.gather.Goals as goal
 

@@ -1,4 +1,5 @@
 use Rattle.std.proofs.Common.{◌≡◌, ◌++◌, ◌∙◌, ℕ, List, [], Result, Ok, Err, OnOk, IfErr, map, length, ap, ap₂, sym, subst}
+use Rattle.std.proofs.lemmas.Result.{IfErr-weaker, on_ok_weaker}
 use Rattle.ls_text.specs.declared.fault.Fault.{Fault}
 use Rattle.ls_text.specs.declared.refusal.Refusal.{Refusal}
 use Rattle.typed_ir.specs.Statements.{stmt_of}
@@ -10,7 +11,6 @@ use Rattle.block_rules.specs.Paths.{is_member, unwritten, AreHere}
 use Rattle.driver_rules.specs.Mentioned.{earliest, shown_faults}
 use Rattle.driver_rules.specs.Blocks.{first_declared, latched, read_faults, latch_faults}
 use Rattle.driver_rules.proofs.Declared.{unwritten_here, first_same}
-use Rattle.driver_rules.proofs.Lists.{if_err, on_ok}
 use Rattle.driver_rules.proofs.pathing.check_block.Goals as goal
 
 pub paths_of-requires : goal.paths_of-requires
@@ -37,8 +37,8 @@ returns-clause-faultless c =
     ap (latched signals at) (c.first_declared-latch.ensures
     ∙ first_same ds (λ s. is_member s c.deref-3.result.now) (unwritten st) (length ds)
     (λ s. ap (is_member s) c.deref-3.ensures.value ∙ c.in_ok-paths.ensures.unwritten s)) in
-    on_ok c.check_latch.result (latched signals at c.first_declared-latch.result ≡ [])
-    (read_faults c.args.places.now.reads.items at st ++ latch_faults signals ds at st ≡ [])
+    on_ok_weaker {P = latched signals at c.first_declared-latch.result ≡ []} {Q = read_faults c.args.places.now.reads.items at st ++ latch_faults signals ds at st ≡ []}
+    c.check_latch.result
     (λ none. neither (read_faults c.args.places.now.reads.items at st) (latch_faults signals ds at st) (sym reads ∙ c.in_ok-check_shown.ensures.faultless) (sym latch ∙ none))
     c.check_latch.ensures.faultless
 
@@ -55,7 +55,7 @@ returns-clause-fault c =
     ap (latched signals at) (c.first_declared-latch.ensures
     ∙ first_same ds (λ s. is_member s c.deref-3.result.now) (unwritten st) (length ds)
     (λ s. ap (is_member s) c.deref-3.ensures.value ∙ c.in_ok-paths.ensures.unwritten s)) in
-    if_err c.check_latch.result (IsFirst (latched signals at c.first_declared-latch.result))
+    IfErr-weaker c.check_latch.result (IsFirst (latched signals at c.first_declared-latch.result))
     (IsFirst (read_faults c.args.places.now.reads.items at st ++ latch_faults signals ds at st))
     (λ r first. later (read_faults c.args.places.now.reads.items at st) (latch_faults signals ds at st) r (sym reads ∙ c.in_ok-check_shown.ensures.faultless)
     (subst (λ (fs : List Fault). IsFirst fs r) latch first))

@@ -1,6 +1,6 @@
 use Rattle.std.proofs.Common.{◌+◌, ℕ, List, Some, take, subst, sym}
+use Rattle.std.proofs.lemmas.List.{take_all}
 use Rattle.block_rules.specs.Paths.{is_member}
-use Rattle.driver_rules.proofs.Doubles.{take_past}
 use Rattle.driver_rules.proofs.Declared.{IsBest, listed_next, listed_all}
 use Rattle.driver_rules.proofs.pathing.first_declared.Goals as goal
 
@@ -16,4 +16,4 @@ pub returns : goal.returns
 returns c =
     listed_all c.args.declarations.now c.args.signals.now c.loop-signal.found c.requires
     (subst (λ (xs : List ℕ). IsBest c.args.declarations.now (λ t. is_member t xs) c.loop-signal.found)
-    (take_past c.args.signals.now c.loop-signal.signal-index c.loop-signal-test.false) c.loop-signal.invariant)
+    (take_all c.loop-signal.signal-index c.args.signals.now c.loop-signal-test.false) c.loop-signal.invariant)

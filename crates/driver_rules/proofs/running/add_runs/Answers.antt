@@ -1,7 +1,7 @@
 use Rattle.std.proofs.Common.{◌≡◌, ◌+◌, ◌==◌, ◌&&◌, ◌||◌, ◌∙◌, not, nat_le, nat_lt, ap, sym, arith}
+use Rattle.std.proofs.lemmas.Result.{IfOk-weaker}
 use Rattle.typed_ir.specs.Valuations.{Places, within}
 use Rattle.typed_ir.specs.Touches.{has_bit}
-use Rattle.typed_ir.proofs.Listed.{if_ok}
 use Rattle.driver_rules.specs.Told.{free_run, Puts}
 use Rattle.driver_rules.proofs.Runs.{puts_same, puts_two, puts_none, free_none, free_apart, free_joined, run_apart, runs_done}
 use Rattle.driver_rules.proofs.running.add_runs.Goals as goal
@@ -50,7 +50,7 @@ returns c =
     let was = c.loop-i.invariant in
     let last : Places = λ s i. (s == span.signal) && (nat_le low i && nat_lt i end) in
     let all : Places = λ s i. within span s i && not (has_bit mask i) in
-    if_ok c.add_run.result (λ _. Puts by mid new last) (λ _. Puts by old new all)
+    IfOk-weaker c.add_run.result (λ _. Puts by mid new last) (λ _. Puts by old new all)
     (λ x puts. puts_same by old new (λ s i. free_run span.signal mask span.low low s i || last s i) all
     (puts_two by old mid new (free_run span.signal mask span.low low) last was.puts puts
     (λ s i small. run_apart span.signal mask span.low low end s i))

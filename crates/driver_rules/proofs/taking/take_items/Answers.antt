@@ -1,5 +1,5 @@
 use Rattle.std.proofs.Common.{◌≡◌, ◌<◌, ◌+◌, ◌∙◌, ℕ, List, [], ◌∷◌, ◌++◌, map, drop, take, length, refl, ap, sym, subst}
-use Rattle.std.proofs.lemmas.List.{at_drop_all}
+use Rattle.std.proofs.lemmas.List.{at_drop_all, take_all}
 use Rattle.typed_ir.specs.Valuations.{nowhere}
 use Rattle.unit_ir.specs.declared.typed_item.TypedItem.{TypedItem}
 use Rattle.unit_ir.specs.Items.{PlacedItem, item_of, body_of}
@@ -11,7 +11,6 @@ use Rattle.driver_rules.specs.Doubles.{double_faults}
 use Rattle.driver_rules.specs.Told.{marked, Grows, AreTold, numbers_after}
 use Rattle.driver_rules.proofs.Lists.{take_next, map_more}
 use Rattle.driver_rules.proofs.Walks.{each_item}
-use Rattle.driver_rules.proofs.Doubles.{take_past}
 use Rattle.driver_rules.proofs.Taken.{State, no_items, next_item, all_told, double_same, double_ahead, item_apart}
 use Rattle.driver_rules.proofs.taking.take_items.Goals as goal
 
@@ -59,4 +58,4 @@ pub returns-clause-told : goal.returns-clause-told
 returns-clause-told c =
     all_told (map item_of c.args.items.now) c.loop-item.numbers c.loop-item.taken c.loop-item.drivers.items
     (subst (λ (xs : List TypedItem). State (map item_of xs) c.loop-item.numbers c.loop-item.taken c.loop-item.drivers.items)
-    (take_past c.args.items.now c.loop-item.item-index c.loop-item-test.false) c.loop-item.invariant.state)
+    (take_all c.loop-item.item-index c.args.items.now c.loop-item-test.false) c.loop-item.invariant.state)

@@ -3,9 +3,10 @@ use Rattle.std.specs.Prelude.{codes}
 use Rattle.ls_text.specs.Texts.{text_at}
 use Rattle.typed_ir.specs.declared.instance_name.InstanceName.{InstanceName}
 use Rattle.typed_ir.specs.Paths.{path_above, paths_of}
+use Rattle.typed_ir.proofs.Paths.{path_beyond, path_of}
 use Rattle.link.specs.Copies.{path_at}
 use Rattle.link.specs.Names.{dotted}
-use Rattle.link.proofs.Spelled.{dotted_push, path_beyond, path_of, three_pieces}
+use Rattle.link.proofs.Spelled.{dotted_push, two_then_one}
 use Rattle.link.proofs.naming.+push_path.Goals as goal
 
 pub returns-then-at-rows : goal.returns-then-at-rows
@@ -29,7 +30,7 @@ returns t c =
     let name = text_at texts x.name.0 in
     let whole : path_above (paths_of rows) c.args.instance ≡ above ++ x.name.0 ∷ [] =
     ap (λ (o : Option ℕ). path_above (paths_of rows) o) c.in-Some.is ∙ ap (path_at rows) (sym c.index-at.ensures) ∙ path_of rows at x near c.index-rows-at.is in
-    three_pieces out (dotted texts above) name (codes ".") c.push_path.new.out.items c.extend_from_slice.new.self.items c.push.new.self.items
+    two_then_one out (dotted texts above) name (codes ".") c.push_path.new.out.items c.extend_from_slice.new.self.items c.push.new.self.items
     (c.in_ok-push_path.ensures ∙ ap (λ (zs : List InstanceName). out ++ dotted texts (path_above (paths_of zs) x.parent)) c.split_at.ensures.front)
     (c.in_ok-extend_from_slice.ensures.items ∙ ap (λ zs. c.push_path.new.out.items ++ zs) c.text.ensures.text)
     c.in_ok-push.ensures.items

@@ -3,9 +3,10 @@ use Rattle.ls_text.specs.Texts.{text_at}
 use Rattle.typed_ir.specs.Cycles.{Signal}
 use Rattle.typed_ir.specs.Flats.{signal_of}
 use Rattle.typed_ir.specs.Orders.{at_or}
+use Rattle.typed_ir.proofs.Lists.{at_map, at_beyond}
 use Rattle.link.specs.Copies.{path_at}
 use Rattle.link.specs.Names.{dotted, joined, select_text, target_text}
-use Rattle.link.proofs.Spelled.{joined_push, at_map, at_beyond, three_pieces}
+use Rattle.link.proofs.Spelled.{joined_push, two_then_one}
 use Rattle.link.proofs.naming.push_target.Goals as goal
 
 pub returns-then-at-signals : goal.returns-then-at-signals
@@ -34,7 +35,7 @@ returns c =
     ap (target_text texts (map (signal_of rows) c.args.signals.now) c.args.form) c.in-Some.is
     ∙ ap (at_or F [] (map (signal_of rows) c.args.signals.now)) (sym c.index-at.ensures)
     ∙ at_map F [] (signal_of rows) c.args.signals.now at x near c.index-signals-at.is in
-    three_pieces out (dotted texts (path_at rows x.instance)) (text_at texts x.name.0) (select_text c.args.form x.lsb c.in-Some.span)
+    two_then_one out (dotted texts (path_at rows x.instance)) (text_at texts x.name.0) (select_text c.args.form x.lsb c.in-Some.span)
     c.push_path.new.out.items c.extend_from_slice.new.self.items c.push_select.new.out.items
     c.in_ok-push_path.ensures
     (c.in_ok-extend_from_slice.ensures.items ∙ ap (λ zs. c.push_path.new.out.items ++ zs) c.text.ensures.text)

@@ -9,8 +9,8 @@ use Rattle.typed_ir.specs.FlatNodes.{node_of}
 use Rattle.typed_ir.specs.Linkeds.{flat}
 use Rattle.typed_ir.specs.Nodes.{FlatNode}
 use Rattle.typed_ir.specs.Orders.{at_or}
+use Rattle.typed_ir.proofs.Lists.{at_map, at_beyond}
 use Rattle.link.specs.Names.{first_target, form_of, node_text, target_text}
-use Rattle.link.proofs.Spelled.{at_map, at_beyond}
 use Rattle.link.proofs.naming.text_of_node.Goals as goal
 
 pub returns-then-at-nodes : goal.returns-then-at-nodes

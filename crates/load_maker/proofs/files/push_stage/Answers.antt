@@ -1,6 +1,6 @@
 use Rattle.std.proofs.Common.{◌++◌, ◌∙◌, ap}
+use Rattle.ls_text.proofs.Pieces.{five_pieces}
 use Rattle.load_maker.proofs.Lines.{stage_pieces}
-use Rattle.load_maker.proofs.Pieces.{five_pieces}
 use Rattle.load_maker.proofs.files.push_stage.Goals as goal
 
 pub returns : goal.returns

@@ -1,6 +1,6 @@
 use Rattle.std.proofs.Common.{◌++◌, ◌∙◌, ap}
+use Rattle.ls_text.proofs.Pieces.{three_pieces}
 use Rattle.load_maker.proofs.Lines.{stage_file_pieces}
-use Rattle.load_maker.proofs.Pieces.{three_pieces}
 use Rattle.load_maker.proofs.files.push_stage_file.Goals as goal
 
 pub returns : goal.returns

@@ -1,6 +1,6 @@
 use Rattle.std.proofs.Common.{arith}
+use Rattle.ls_text.proofs.Pieces.{one_more}
 use Rattle.load_maker.proofs.Lines.{one_stage}
-use Rattle.load_maker.proofs.Pieces.{one_more}
 use Rattle.load_maker.proofs.files.push_stages.Goals as goal
 
 pub loop-stage-preserved : goal.loop-stage-preserved

@@ -1,6 +1,6 @@
 use Rattle.std.proofs.Common.{◌++◌, ◌∙◌, ap}
+use Rattle.ls_text.proofs.Pieces.{four_pieces}
 use Rattle.load_maker.proofs.Lines.{top_file_pieces}
-use Rattle.load_maker.proofs.Pieces.{four_pieces}
 use Rattle.load_maker.proofs.files.push_top_file.Goals as goal
 
 pub returns : goal.returns

@@ -1,7 +1,7 @@
 use Rattle.std.proofs.Common.{[], ◌∷◌, ◌++◌, ◌∙◌, ap, sym, codes}
+use Rattle.ls_text.proofs.Pieces.{four_pieces}
 use Rattle.load_maker.specs.Scripts.{closing, first_edit, lines, script_of, second_edit}
 use Rattle.load_maker.proofs.Lines.{four_parts}
-use Rattle.load_maker.proofs.Pieces.{four_pieces}
 use Rattle.load_maker.proofs.script.make.Goals as goal
 
 pub returns : goal.returns

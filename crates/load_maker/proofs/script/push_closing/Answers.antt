@@ -1,6 +1,6 @@
 use Rattle.std.proofs.Common.{◌++◌, ◌∙◌, ap}
+use Rattle.ls_text.proofs.Pieces.{two_pieces}
 use Rattle.load_maker.proofs.Lines.{closing_pieces}
-use Rattle.load_maker.proofs.Pieces.{two_pieces}
 use Rattle.load_maker.proofs.script.push_closing.Goals as goal
 
 pub returns : goal.returns

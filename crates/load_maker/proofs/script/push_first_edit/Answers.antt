@@ -1,7 +1,7 @@
 use Rattle.std.proofs.Common.{[], ◌∷◌, ◌++◌, ◌∙◌, ap, sym, codes}
+use Rattle.ls_text.proofs.Pieces.{four_pieces}
 use Rattle.load_maker.specs.Scripts.{stage_file, top_file}
 use Rattle.load_maker.proofs.Lines.{four_parts}
-use Rattle.load_maker.proofs.Pieces.{four_pieces}
 use Rattle.load_maker.proofs.script.push_first_edit.Goals as goal
 
 pub returns : goal.returns

@@ -1,7 +1,7 @@
 use Rattle.std.proofs.Common.{◌≡◌, ◌≤◌, ◌+◌, ◌%◌, ◌^◌, ◌++◌, ◌<◌, ◌∷◌, [], ◌∙◌, ℕ, List, length, get_or, take, drop, set, refl, sym, ap, ap₂, arith}
 use Rattle.std.specs.Prelude.{slice_index}
 use Rattle.std.proofs.Math.ListN.{drop_of_length-le}
-use Rattle.std.proofs.lemmas.List.{append-nil, length-map, take_more_set}
+use Rattle.std.proofs.lemmas.List.{append-nil, length-map, take_more_set, take_all}
 use Rattle.typed_ir.specs.Paths.{paths_of}
 use Rattle.state_layout.specs.Slots.{state_widths}
 use Rattle.state_layout.proofs.Splices.{written_widths}
@@ -11,7 +11,7 @@ use Rattle.reg_transform.specs.Found.{created_in, renamed_in, value_in, name_of}
 use Rattle.reg_transform.specs.Numbers.{carried_by, number_at, numbers_in}
 use Rattle.reg_transform.specs.Registers.{widths_of}
 use Rattle.reg_transform.specs.Regs.{register_of, registers_in}
-use Rattle.reg_transform.proofs.Values.{all_taken, carried_step, pair, place_past, place_there, taken_by, taken_is, width_got}
+use Rattle.reg_transform.proofs.Values.{carried_step, pair, place_past, place_there, taken_by, taken_is, width_got}
 use Rattle.reg_transform.proofs.carrying.carried_into.Goals as goal
 
 pub loop-place-init : goal.loop-place-init
@@ -79,7 +79,7 @@ returns c =
     let past : length ns ≤ j = omega (arith, long, c.loop-place-test.false) in
     let few : length s ≤ j =
     place_past s paths regs.signals.now regs.registers.now j c.loop-place.invariant.kept (omega (arith, c.loop-place-test.false)) in
-    sym (all_taken s j few)
+    sym (take_all j s few)
     ∙ sym (append-nil (take j s))
     ∙ sym (ap (λ (zs : List ℕ). take j s ++ carried_by ops old zs (drop j rs) (drop j xs)) (drop_of_length-le ns past))
     ∙ c.loop-place.invariant.written

@@ -2,11 +2,11 @@ use Rattle.std.proofs.Common.{◌≡◌, ◌≤◌, ◌+◌, ◌++◌, ◌∙◌
 use Rattle.std.specs.Prelude.{slice_get, Some}
 use Rattle.std.proofs.Math.ListN.{drop_of_length-le}
 use Rattle.std.proofs.lemmas.List.{append-nil, length-map, map_push}
+use Rattle.std.proofs.lemmas.Result.{IfOk-weaker}
 use Rattle.bits.specs.declared.Bits.{Bits}
 use Rattle.typed_ir.specs.Paths.{paths_of}
 use Rattle.typed_ir.specs.States.{sized_value}
 use Rattle.typed_ir.specs.Views.{widths}
-use Rattle.typed_ir.proofs.Listed.{if_ok}
 use Rattle.reg_transform.specs.Registers.{Register, widths_of}
 use Rattle.reg_transform.specs.Regs.{register_at, registers_in}
 use Rattle.state_layout.specs.Slots.{state_widths}
@@ -60,4 +60,4 @@ returns c =
     let past : length rs ≤ c.loop-place.place = omega (arith, length-map regs.registers.now (register_at paths regs.signals.now), c.loop-place-test.false) in
     let whole : state_widths (map sized_value c.deref.result.now) ≡ widths_of rs =
     ap (λ xs. state_widths (map sized_value xs)) c.deref.ensures.value ∙ all_widths rs items c.loop-place.place past c.loop-place.invariant in
-    if_ok c.filled.result (λ s. s ≡ map sized_value c.deref.result.now) (λ s. state_widths s ≡ widths_of rs) (λ s e. ap state_widths e ∙ whole) c.filled.ensures
+    IfOk-weaker c.filled.result (λ s. s ≡ map sized_value c.deref.result.now) (λ s. state_widths s ≡ widths_of rs) (λ s e. ap state_widths e ∙ whole) c.filled.ensures

@@ -3,8 +3,9 @@ use Rattle.std.specs.Prelude.{Some, slice_index}
 use Rattle.std.proofs.lemmas.List.{get_or_default}
 use Rattle.typed_ir.specs.declared.signal.Signal.{Signal}
 use Rattle.typed_ir.specs.Paths.{paths_of}
+use Rattle.typed_ir.proofs.Lists.{below_read}
 use Rattle.reg_transform.specs.Regs.{register_of}
-use Rattle.reg_transform.proofs.Elements.{below_read, initial_read, register_read, within_read}
+use Rattle.reg_transform.proofs.Elements.{initial_read, register_read, within_read}
 use Rattle.reg_transform.proofs.reading.signal_at.Goals as goal
 
 pub offset_bounds-regs-register : goal.offset_bounds-regs-register

@@ -1,7 +1,8 @@
 use Rattle.std.proofs.Common.{rules, ◌≡◌, ◌<◌, ◌++◌, ◌∷◌, [], ◌∙◌, length, map, get_or, refl, arith}
 use Rattle.std.proofs.lemmas.List.{get_or_default}
+use Rattle.typed_ir.proofs.Lists.{below_read}
 use Rattle.state_layout.specs.Words.{words_of, width_in}
-use Rattle.state_layout.proofs.Layouts.{below_read, more_widths, where_handed_on, too_many_all}
+use Rattle.state_layout.proofs.Layouts.{more_widths, where_handed_on, too_many_all}
 use Rattle.state_layout.proofs.laying_out.laid_out.Goals as goal
 
 pub bounds-signals-place : goal.bounds-signals-place

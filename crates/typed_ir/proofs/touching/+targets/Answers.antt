@@ -1,9 +1,10 @@
 use Rattle.std.proofs.Common.{◌≡◌, ◌++◌, ◌∙◌, map, ap, ap₂, refl, sym, subst}
+use Rattle.std.proofs.lemmas.Result.{IfOk-weaker}
 use Rattle.typed_ir.specs.Valuations.{any_within}
 use Rattle.typed_ir.specs.Stmts.{SizedStmt, SizedArms, targets, arm_targets}
 use Rattle.typed_ir.specs.Statements.{stmt_of, arm_of, arms_before}
 use Rattle.typed_ir.specs.Touches.{Adds}
-use Rattle.typed_ir.proofs.Listed.{if_ok, if_is, adds_targets, targets_next, arm_targets_next, arms_done}
+use Rattle.typed_ir.proofs.Listed.{if_is, adds_targets, targets_next, arm_targets_next, arms_done}
 use Rattle.typed_ir.proofs.touching.+targets.Goals as goal
 
 pub note_targets-returns-in_ok-note_targets-in-If : goal.note_targets-returns-in_ok-note_targets-in-If
@@ -17,7 +18,7 @@ note_targets-returns-in_ok-note_targets-in-If t c =
     let whole : targets (stmt_of c.args.st.now) ≡ targets one ++ targets two =
     ap targets (ap stmt_of node.is ∙ if_is node.condition node.consequent node.alternative)
     ∙ ap₂ (λ x y. targets (stmt_of x) ++ targets (stmt_of y)) (sym c.deref-in-If.ensures) (sym c.deref-in-If-2.ensures) in
-    if_ok c.note_targets-in-If.result (λ _. Adds mid new (any_within (targets two))) (λ _. Adds old new (any_within (targets (stmt_of c.args.st.now))))
+    IfOk-weaker c.note_targets-in-If.result (λ _. Adds mid new (any_within (targets two))) (λ _. Adds old new (any_within (targets (stmt_of c.args.st.now))))
     (λ x adds. subst (λ spans. Adds old new (any_within spans)) (sym whole)
     (adds_targets old mid new one two c.in_ok-note_targets-in-If.ensures adds))
     c.note_targets-in-If.ensures
@@ -43,6 +44,6 @@ note_targets_of_arms-returns t c =
     let old = c.args.touches.now.items in
     let mid = c.loop-arm.touches.items in
     let new = c.note_targets-2.new.touches.items in
-    if_ok c.note_targets-2.result (λ _. Adds mid new (places otherwise)) (λ _. Adds old new (arm_places (arms_before (map arm_of arms) otherwise)))
+    IfOk-weaker c.note_targets-2.result (λ _. Adds mid new (places otherwise)) (λ _. Adds old new (arm_places (arms_before (map arm_of arms) otherwise)))
     (λ x adds. arms_done places arm_places arms otherwise c.loop-arm.arm-index old mid new c.loop-arm-test.false c.loop-arm.invariant (λ s i. refl) adds)
     c.note_targets-2.ensures

@@ -1,7 +1,7 @@
 use Rattle.std.proofs.Common.{◌<◌, length, All, Vec, Global, sym, subst}
 use Rattle.ls_text.specs.declared.name_id.NameId.{NameId}
 use Rattle.verilog_ast.specs.declared.module.Module.{Module}
-use Rattle.verilog_ast.specs.Names.{names_of_modules}
+use Rattle.verilog_ast.specs.NamesWithin.{names_in_modules}
 use Rattle.verilog_expr.specs.Shown.{no_memory, at_fault}
 use Rattle.verilog_expr.proofs.Refusals.{run_at}
 use Rattle.verilog_parse.proofs.NamedModules.{all_named}
@@ -11,7 +11,7 @@ use Rattle.verilog_parse.proofs.parsing.parse.Goals as goal
 pub returns-in-Ok-clause-names : goal.returns-in-Ok-clause-names
 returns-in-Ok-clause-names c =
     let count = length c.args.names.now in
-    let Named : Vec Module Global → Type 0 = λ all. All (λ (id : NameId). id.0 < count) (names_of_modules all.items) in
+    let Named : Vec Module Global → Type 0 = λ all. All (λ (id : NameId). id.0 < count) (names_in_modules all.items) in
     subst Named (sym c.in-Ok.all-is) (all_named count c.args.names.now c.in-Ok.all.items c.args.tokens.now c.in-Ok.ensures.tree c.requires.named)
 
 pub returns-in-Err-NoMemory-clause-fault : goal.returns-in-Err-NoMemory-clause-fault

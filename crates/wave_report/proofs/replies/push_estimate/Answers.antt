@@ -1,6 +1,6 @@
 use Rattle.std.specs.Prelude.{codes}
+use Rattle.ls_text.proofs.Pieces.{four_pieces}
 use Rattle.wave_report.specs.Replies.{counted}
-use Rattle.wave_report.proofs.Pieces.{four_pieces}
 use Rattle.wave_report.proofs.replies.push_estimate.Goals as goal
 
 pub returns : goal.returns

@@ -3,10 +3,11 @@ use Rattle.typed_ir.specs.declared.instance_name.InstanceName.{InstanceName}
 use Rattle.typed_ir.specs.declared.signal.Signal.{Signal}
 use Rattle.typed_ir.specs.Flats.{signal_of}
 use Rattle.typed_ir.specs.Orders.{at_or}
+use Rattle.typed_ir.proofs.Lists.{at_map}
 use Rattle.cycle_eval.specs.Designs.{instances_of, signals_of}
 use Rattle.reg_transform.specs.States.{state_values}
 use Rattle.wave_report.specs.Tables.{joined, shown_line, signal_line, signal_lines, table_text}
-use Rattle.wave_report.proofs.Registers.{all_lines, at_map, line_step, register_there, values_from}
+use Rattle.wave_report.proofs.Registers.{all_lines, line_step, register_there, values_from}
 use Rattle.wave_report.proofs.tables.table.Goals as goal
 
 pub bounds-signals-place : goal.bounds-signals-place

@@ -2,10 +2,10 @@ use Rattle.std.proofs.Common.{◌≡◌, ◌<◌, ◌∙◌, ℕ, List, length, 
 use Rattle.std.proofs.lemmas.Bool.{eqb-true, eqb-false}
 use Rattle.std.proofs.lemmas.List.{get_or_default}
 use Rattle.typed_ir.specs.Cycles.{width_at}
+use Rattle.typed_ir.proofs.Lists.{below_read}
 use Rattle.cycle_eval.specs.Designs.{design_flat}
 use Rattle.cycle_eval.specs.Inputs.{name_at}
 use Rattle.cycle_eval.proofs.Driving.{read_name, signal_width, width_here, width_step}
-use Rattle.cycle_eval.proofs.Loads.{below_read}
 use Rattle.cycle_eval.proofs.design.Design.input_width.Goals as goal
 
 pub index-signal-requires : goal.index-signal-requires

@@ -2,10 +2,11 @@ use Rattle.std.proofs.Common.{◌≡◌, ◌<◌, ◌^◌, ◌∙◌, length, ge
 use Rattle.std.proofs.lemmas.List.{get_or_default, get_or-map}
 use Rattle.typed_ir.specs.Valuations.{put}
 use Rattle.typed_ir.specs.Cycles.{width_at}
+use Rattle.typed_ir.proofs.Lists.{below_read}
 use Rattle.design_steps.specs.Programs.{values_in}
 use Rattle.state_layout.specs.Words.{register_widths}
 use Rattle.cycle_eval.specs.Designs.{design_flat}
-use Rattle.cycle_eval.proofs.Loads.{below_read, got_width, got_value, rs_there, state_there}
+use Rattle.cycle_eval.proofs.Loads.{got_width, got_value, rs_there, state_there}
 use Rattle.cycle_eval.proofs.Widths.{width_is}
 use Rattle.cycle_eval.proofs.design.Design.load_register.Goals as goal
 

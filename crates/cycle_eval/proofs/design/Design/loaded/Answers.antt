@@ -6,10 +6,11 @@ use Rattle.typed_ir.specs.Cycles.{fill, width_at}
 use Rattle.typed_ir.specs.Valuations.{look}
 use Rattle.typed_ir.proofs.Lists.{written_back}
 use Rattle.design_steps.specs.Programs.{IsAt, values_in}
+use Rattle.design_steps.proofs.Beginning.{fill_none}
 use Rattle.reg_transform.specs.States.{state_values}
 use Rattle.cycle_eval.specs.Designs.{design_flat}
 use Rattle.cycle_eval.proofs.Laws.{fill_back}
-use Rattle.cycle_eval.proofs.Loads.{fill_look, fill_none}
+use Rattle.cycle_eval.proofs.Loads.{fill_look}
 use Rattle.cycle_eval.proofs.design.Design.loaded.Goals as goal
 
 pub load-requires-clause-long : goal.load-requires-clause-long

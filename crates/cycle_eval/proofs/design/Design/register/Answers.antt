@@ -4,11 +4,11 @@ use Rattle.std.proofs.lemmas.List.{get_or_default}
 use Rattle.bits.proofs.Modulo.{small}
 use Rattle.typed_ir.specs.Cycles.{width_at}
 use Rattle.typed_ir.specs.Flats.{signal_widths}
+use Rattle.typed_ir.proofs.Lists.{below_read}
 use Rattle.design_steps.specs.Programs.{values_in}
 use Rattle.cycle_eval.specs.Designs.{design_flat}
 use Rattle.cycle_eval.proofs.Carries.{width_read}
 use Rattle.cycle_eval.proofs.Driving.{signal_width}
-use Rattle.cycle_eval.proofs.Loads.{below_read}
 use Rattle.cycle_eval.proofs.design.Design.register.Goals as goal
 
 pub index-signal-requires : goal.index-signal-requires

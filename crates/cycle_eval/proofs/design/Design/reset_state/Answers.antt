@@ -1,9 +1,9 @@
 use Rattle.std.proofs.Common.{◌≡◌, ◌∙◌, ℕ, List, map, ap₂, subst, sym}
 use Rattle.std.specs.Prelude.{IfOk}
+use Rattle.std.proofs.lemmas.Result.{IfOk-weaker}
 use Rattle.typed_ir.specs.declared.signal.Signal.{Signal}
 use Rattle.typed_ir.specs.declared.flat.Flat.{Flat}
 use Rattle.typed_ir.specs.Linkeds.{flat}
-use Rattle.typed_ir.proofs.Listed.{if_ok}
 use Rattle.cycle_eval.specs.Designs.{design_flat}
 use Rattle.cycle_eval.specs.Kits.{Fits, reset_of}
 use Rattle.cycle_eval.specs.DesignLaws.{reset_fits}
@@ -31,5 +31,5 @@ returns-clause-value c = subst (λ z. IfOk c.beginnings.result (λ s. s ≡ z)) 
 pub returns-clause-fits : goal.returns-clause-fits
 returns-clause-fits c =
     let design = design_flat c.args.self.now in
-    if_ok c.beginnings.result (λ s. s ≡ values c.deref.result.now c.deref-2.result.now) (Fits design)
+    IfOk-weaker c.beginnings.result (λ s. s ≡ values c.deref.result.now c.deref-2.result.now) (Fits design)
     (λ s e. subst (Fits design) (sym (e ∙ are_reset c.args.self.now.linked.design c.deref.result.now c.deref-2.result.now c.deref.ensures.value c.deref-2.ensures.value)) (reset_fits design)) c.beginnings.ensures

@@ -1,12 +1,11 @@
 use Rattle.std.proofs.Common.{rules, ◌≡◌, ◌<◌, ◌≤◌, ◌∙◌, ℕ, length, get_or, map, set, refl, sym, ap, arith}
-use Rattle.std.proofs.lemmas.List.{get_or-map}
+use Rattle.std.proofs.lemmas.List.{get_or-map, take_all}
 use Rattle.typed_ir.specs.Cycles.{width_at}
 use Rattle.design_steps.specs.Programs.{values_in}
 use Rattle.state_layout.specs.Slots.{state_widths}
 use Rattle.state_layout.specs.Words.{register_widths}
 use Rattle.state_layout.proofs.Splices.{written_widths}
 use Rattle.state_layout.proofs.Views.{width_at as state_width}
-use Rattle.reg_transform.proofs.Values.{all_taken}
 use Rattle.cycle_eval.specs.Designs.{design_flat}
 use Rattle.cycle_eval.proofs.Loads.{pairs_of, rs_few, rs_there, state_few, state_there, written_step}
 use Rattle.cycle_eval.proofs.design.Design.state_of.Goals as goal
@@ -65,4 +64,4 @@ returns c =
     let past : length rs ≤ p = omega (arith, c.loop-place-test.false, many) in
     let now_widths : state_widths s ≡ register_widths flat = c.loop-place.invariant.kept ∙ c.requires.fits in
     let few : length s ≤ p = state_few s (register_widths flat) p now_widths (rs_few (width_at flat) rs p past) in
-    sym (all_taken s p few) ∙ c.loop-place.invariant.written ∙ ap (map (λ (r : ℕ). (width_at flat r, v r))) (all_taken rs p past) ∙ pairs_of (width_at flat) v rs
+    sym (take_all p s few) ∙ c.loop-place.invariant.written ∙ ap (map (λ (r : ℕ). (width_at flat r, v r))) (take_all p rs past) ∙ pairs_of (width_at flat) v rs

@@ -14,11 +14,12 @@ use Rattle.live_session.specs.Turns.{Accepts}
 use Rattle.live_session.specs.declared.running.Running.{Running}
 use Rattle.live_session.proofs.AscendingRows.{AreWithin}
 use Rattle.cycle_eval.proofs.DesignsShared.{design_send, design_sync}
+use Rattle.checkpoint_book.proofs.Draws.{when_err}
 use Rattle.live_session.proofs.Judged.{stops_still, world_with}
 use Rattle.live_session.proofs.JudgedRuns.{RunsOn, no_code, ran_on, room_there, run_accepted, run_refused, run_stands}
 use Rattle.live_session.proofs.KeptRuns.{kept_on}
 use Rattle.live_session.proofs.RefusedRuns.{refused_late, refused_long, refused_none}
-use Rattle.live_session.proofs.RefusedShows.{refused_stops, stopped}
+use Rattle.live_session.proofs.RefusedShows.{refused_stops}
 use Rattle.live_session.proofs.RunRows.{cut_back, length_run}
 use Rattle.live_session.proofs.ShownTables.{cycle_there, opened_there}
 use Rattle.live_session.proofs.Standing.{adds_none, adds_nothing, stands_back, stands_still}
@@ -84,7 +85,7 @@ returns-in_err-code-clause-stops g c =
       in_range = subst (λ (rs : List InputRow). length rs ≤ 2 ^ 40) (sym before) r.in_range;
       rows_ascend = subst (All AreAscending) (sym before) r.rows_ascend;
     } in
-    stopped c.from_residual-in_err-code.result
+    when_err c.from_residual-in_err-code.result
     (stops_still c.args.names.now c.args.limits (Runs c.args.line c.args.cycles) r new c.args.book.now c.args.book.now (adds_nothing c.args.book.now)
     (λ (entries : List Entry) (grid : List ℕ). ap (world_with c.args.names.now entries grid r) c.in_err-code.ensures.before))
 
@@ -127,7 +128,7 @@ returns-in-Some-clause-stops g c =
       in_range = subst (λ (rs : List InputRow). length rs ≤ 2 ^ 40) (sym rows) r.in_range;
       rows_ascend = subst (All AreAscending) (sym rows) r.rows_ascend;
     } in
-    stopped c.refused_line-in-Some.result
+    when_err c.refused_line-in-Some.result
     (stops_still names c.args.limits (Runs c.args.line c.args.cycles) r new c.args.book.now c.args.book.now (adds_nothing c.args.book.now)
     (λ (entries : List Entry) (grid : List ℕ). ap (world_with names entries grid r) rows))
 

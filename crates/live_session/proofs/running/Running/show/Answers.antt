@@ -1,6 +1,7 @@
 use Rattle.std.proofs.Common.{◌∙◌, ◌+◌, ◌≤◌, ◌<◌, List, [], false, refl, sym, ap, arith}
 use Rattle.checkpoint_book.specs.Answers.{shown_to}
 use Rattle.checkpoint_book.specs.Views.{shown_in}
+use Rattle.checkpoint_book.proofs.Draws.{when_err}
 use Rattle.command_read.specs.Asking.{Shows}
 use Rattle.module_registry.specs.Entries.{Entry}
 use Rattle.version_swap.specs.Behind.{design_of}
@@ -12,7 +13,7 @@ use Rattle.live_session.specs.Turns.{lost_at}
 use Rattle.live_session.specs.declared.reply.Reply.{Reply}
 use Rattle.live_session.specs.declared.running.Running.{Running}
 use Rattle.live_session.proofs.KeptRuns.{kept_on}
-use Rattle.live_session.proofs.RefusedShows.{refused_stops, show_refused, stopped}
+use Rattle.live_session.proofs.RefusedShows.{refused_stops, show_refused}
 use Rattle.live_session.proofs.ShownBeside.{book_shown, show_done, show_runs, show_stands}
 use Rattle.live_session.proofs.ShownTables.{opened_there}
 use denote.Param.Send.{sendable}
@@ -79,7 +80,7 @@ returns-in_err-text-clause-stops c =
     let lines = display_lines (world_of names [] [] r) c.args.prefix.now (spelled names (design_of r.version.value.machine.value r.keys))
     (shown_to c.show-shown.result) (last_values (book_in c.show-shown.new.self)) in
     let reply : Reply = record { lines = lines; refused = false; quit = false } in
-    stopped c.from_residual.result (λ (entries : List Entry). lost_at reply
+    when_err c.from_residual.result (λ (entries : List Entry). lost_at reply
     (show_done names c.has_each_once.ensures c.args.limits r new c.requires.kept c.args.line c.args.book.now c.show-shown.new.self c.legal.ensures
     c.requires.stands c.args.prefix.now (shown_to c.show-shown.result)
     (record { settings = c.show-shown.ensures.settings; events = c.show-shown.ensures.events })

@@ -2,12 +2,13 @@ use Rattle.std.proofs.Common.{map, sym, subst, arith}
 use Rattle.std.specs.Prelude.{Ok, Option}
 use Rattle.command_read.specs.Spoken.{edited}
 use Rattle.module_registry.specs.Views.{entries_of}
+use Rattle.checkpoint_book.proofs.Draws.{when_err}
 use Rattle.live_session.specs.Begins.{Begins}
 use Rattle.live_session.specs.Beside.{Stands, settings_in, world_in}
 use Rattle.live_session.specs.Files.{text_file}
 use Rattle.live_session.specs.Logs.{marks_of}
 use Rattle.live_session.specs.declared.running.Running.{Running}
-use Rattle.live_session.proofs.SessionCalls.{always, fresh_accepted, fresh_behind, fresh_refused, is_refused, stands_none}
+use Rattle.live_session.proofs.SessionCalls.{fresh_accepted, fresh_behind, fresh_refused, is_refused, stands_none}
 use Rattle.live_session.proofs.SessionSteps.{fresh_world, no_running}
 use Rattle.live_session.proofs.session.Session.begin.Goals as goal
 
@@ -24,7 +25,7 @@ returns-in_err-begun-clause-loses g c =
     let s = c.args.self.now in
     let was = c.args.book.now in
     let is = c.begin.new.book in
-    always _ (fresh_behind (settings_in s was) (edited s.names c.args.edit.now) (Ok (map (text_file s.names) c.args.loaded.now)) _ _ was is
+    when_err _ (fresh_behind (settings_in s was) (edited s.names c.args.edit.now) (Ok (map (text_file s.names) c.args.loaded.now)) _ _ was is
     (fresh_world s.names (entries_of s.registry) (marks_of was) s.running c.requires.none)
     (fresh_world c.begin.new.names (entries_of c.begin.new.registry) (marks_of is) s.running c.requires.none)
     c.in_err-begun.ensures.settings c.in_err-begun.ensures.before)

@@ -3,7 +3,8 @@ use Rattle.std.specs.Prelude.{false, true}
 use Rattle.command_read.specs.Asking.{AsksStatus, Edits, Quits, Runs, Sets, Shows}
 use Rattle.command_read.specs.Spoken.{edited, setting, spoken}
 use Rattle.command_read.specs.declared.port_value.PortValue.{PortValue}
-use Rattle.live_session.proofs.SessionCalls.{always, loses_as, quit_at, quits_as, status_at, steps_as, stops_as}
+use Rattle.checkpoint_book.proofs.Draws.{when_err}
+use Rattle.live_session.proofs.SessionCalls.{loses_as, quit_at, quits_as, status_at, steps_as, stops_as}
 use Rattle.live_session.proofs.SessionSteps.{command_stops, commanded, given_short, none_lost, stops_still}
 use Rattle.live_session.proofs.session.Session.carry_out.Goals as goal
 
@@ -65,7 +66,7 @@ pub returns-in-Set-clause-lost : goal.returns-in-Set-clause-lost
 returns-in-Set-clause-lost g c = none_lost c.args.self.now (spoken c.args.self.now.names c.args.command) (g.F.Shelf.answers c.args.shelf.now) c.set.result
 
 pub returns-in-Set-clause-cause : goal.returns-in-Set-clause-cause
-returns-in-Set-clause-cause g c = always c.set.result (inl refl)
+returns-in-Set-clause-cause g c = when_err c.set.result (inl refl)
 
 pub returns-in-Run-clause-steps : goal.returns-in-Run-clause-steps
 returns-in-Run-clause-steps g c =
@@ -93,7 +94,7 @@ pub returns-in-Run-clause-lost : goal.returns-in-Run-clause-lost
 returns-in-Run-clause-lost g c = none_lost c.args.self.now (spoken c.args.self.now.names c.args.command) (g.F.Shelf.answers c.args.shelf.now) c.run.result
 
 pub returns-in-Run-clause-cause : goal.returns-in-Run-clause-cause
-returns-in-Run-clause-cause g c = always c.run.result (inl refl)
+returns-in-Run-clause-cause g c = when_err c.run.result (inl refl)
 
 pub returns-in-Show-clause-steps : goal.returns-in-Show-clause-steps
 returns-in-Show-clause-steps g c =
@@ -124,7 +125,7 @@ pub returns-in-Show-clause-lost : goal.returns-in-Show-clause-lost
 returns-in-Show-clause-lost g c = none_lost c.args.self.now (spoken c.args.self.now.names c.args.command) (g.F.Shelf.answers c.args.shelf.now) c.show.result
 
 pub returns-in-Show-clause-cause : goal.returns-in-Show-clause-cause
-returns-in-Show-clause-cause g c = always c.show.result (inl refl)
+returns-in-Show-clause-cause g c = when_err c.show.result (inl refl)
 
 pub returns-in-Status-clause-steps : goal.returns-in-Status-clause-steps
 returns-in-Status-clause-steps g c =
@@ -153,7 +154,7 @@ pub returns-in-Status-clause-lost : goal.returns-in-Status-clause-lost
 returns-in-Status-clause-lost g c = none_lost c.args.self.now (spoken c.args.self.now.names c.args.command) (g.F.Shelf.answers c.args.shelf.now) c.status.result
 
 pub returns-in-Status-clause-cause : goal.returns-in-Status-clause-cause
-returns-in-Status-clause-cause g c = always c.status.result (inl refl)
+returns-in-Status-clause-cause g c = when_err c.status.result (inl refl)
 
 pub returns-clause-steps : goal.returns-clause-steps
 returns-clause-steps g c =
@@ -180,4 +181,4 @@ pub returns-clause-lost : goal.returns-clause-lost
 returns-clause-lost g c = none_lost c.args.self.now (spoken c.args.self.now.names c.args.command) (g.F.Shelf.answers c.args.shelf.now) c.quit.result
 
 pub returns-clause-cause : goal.returns-clause-cause
-returns-clause-cause g c = always c.quit.result (inl refl)
+returns-clause-cause g c = when_err c.quit.result (inl refl)

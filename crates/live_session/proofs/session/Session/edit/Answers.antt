@@ -8,7 +8,8 @@ use Rattle.live_session.specs.Loads.{is_broken}
 use Rattle.live_session.specs.Logs.{marks_of}
 use Rattle.live_session.specs.Sessions.{world}
 use Rattle.command_read.specs.Asking.{Edits}
-use Rattle.live_session.proofs.SessionCalls.{always, block_stops, loses_loads}
+use Rattle.checkpoint_book.proofs.Draws.{when_err}
+use Rattle.live_session.proofs.SessionCalls.{block_stops, loses_loads}
 use Rattle.live_session.proofs.SessionSteps.{all_lost, all_steps, all_stops, failed_or, full_steps, none_lost, stops_before}
 use Rattle.live_session.proofs.session.Session.edit.Goals as goal
 
@@ -30,7 +31,7 @@ returns-then-charge-self-clause-lost g c =
     none_lost c.args.self.now (Edits (edited c.args.self.now.names c.args.edit.now)) (g.F.Shelf.answers c.args.shelf.now) c.refused_line.result
 
 pub returns-then-charge-self-clause-cause : goal.returns-then-charge-self-clause-cause
-returns-then-charge-self-clause-cause g c = always c.refused_line.result (inl refl)
+returns-then-charge-self-clause-cause g c = when_err c.refused_line.result (inl refl)
 
 pub take-requires-clause-room : goal.take-requires-clause-room
 take-requires-clause-room g c κs within = omega (arith, c.if-charge-self.false, c.charge.ensures (marks_of c.args.book.now))
@@ -43,7 +44,7 @@ take-requires-clause-usable g c κs within =
 pub returns-in_err-loads-clause-stops : goal.returns-in_err-loads-clause-stops
 returns-in_err-loads-clause-stops g c =
     let s = c.args.self.now in
-    always _ (stops_before (edited s.names c.args.edit.now) s c.args.book.now (g.F.Shelf.answers c.args.shelf.now)
+    when_err _ (stops_before (edited s.names c.args.edit.now) s c.args.book.now (g.F.Shelf.answers c.args.shelf.now)
     (g.F.Shelf.answers c.loaded.new.shelf)
     (g.F.Shelf.faults c.args.shelf.now) (g.F.Shelf.faults c.loaded.new.shelf))
 
@@ -51,7 +52,7 @@ pub returns-in_err-loads-clause-lost : goal.returns-in_err-loads-clause-lost
 returns-in_err-loads-clause-lost g c =
     let s = c.args.self.now in
     let room : (grid : List ℕ) → (world s grid).charge < s.limits.rooms.session = λ grid. omega (arith, c.if-charge-self.false, c.charge.ensures grid) in
-    always _ (loses_loads s s.names c.args.edit.now c.as_slice.result.now (g.F.Shelf.answers c.args.shelf.now)
+    when_err _ (loses_loads s s.names c.args.edit.now c.as_slice.result.now (g.F.Shelf.answers c.args.shelf.now)
     (g.F.Shelf.answers c.loaded.new.shelf)
     room c.as_slice.ensures c.in_err-loads.ensures.lost)
 
@@ -92,4 +93,4 @@ returns-clause-lost g c =
 pub returns-clause-cause : goal.returns-clause-cause
 returns-clause-cause g c =
     let h = c.in_ok-loads.ensures.comes in
-    always c.take.result (failed_or (list_any is_broken h.answers) (g.F.Shelf.faults c.args.shelf.now) (g.F.Shelf.faults c.loaded.new.shelf) h.cause)
+    when_err c.take.result (failed_or (list_any is_broken h.answers) (g.F.Shelf.faults c.args.shelf.now) (g.F.Shelf.faults c.loaded.new.shelf) h.cause)

@@ -6,7 +6,7 @@ use Rattle.book_turn.specs.Passes.{known}
 use Rattle.turn_settle.specs.Settled.{HasSettledBeside, HasTriedBeside}
 use Rattle.live_session.specs.Logs.{kit}
 use Rattle.cycle_eval.proofs.DesignsShared.{design_send, design_sync}
-use Rattle.live_session.proofs.RefusedShows.{stopped}
+use Rattle.checkpoint_book.proofs.Draws.{when_err}
 use Rattle.live_session.proofs.SettledAtTurn.{book_is, goes_by, opened_here, own_open, room_here, settled_at, tried_at}
 use Rattle.live_session.proofs.session.Session.settle.Goals as goal
 
@@ -30,7 +30,7 @@ settle-requires-clause-room g c κs within =
 pub returns-in_err-shown-clause-tried : goal.returns-in_err-shown-clause-tried
 returns-in_err-shown-clause-tried g c =
     let v = known c.args.pass.now in
-    stopped c.from_residual.result
+    when_err c.from_residual.result
     (subst (λ b. HasTriedBeside v (known c.settle.new.pass) (min c.args.passes (links_in b))) (book_is c.args.self.now v c.requires.at)
     c.in_err-shown.ensures.err)
 

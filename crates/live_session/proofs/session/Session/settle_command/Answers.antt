@@ -10,8 +10,8 @@ use Rattle.live_session.specs.Sessions.{world_of}
 use Rattle.live_session.specs.SettleAnswers.{settled_up_to}
 use Rattle.live_session.specs.Shown.{settle_text}
 use Rattle.cycle_eval.proofs.DesignsShared.{design_send, design_sync}
+use Rattle.checkpoint_book.proofs.Draws.{when_err}
 use Rattle.live_session.proofs.KeptRuns.{charged_kept}
-use Rattle.live_session.proofs.RefusedShows.{stopped}
 use Rattle.live_session.proofs.SessionCalls.{kept_there, stands_there}
 use Rattle.live_session.proofs.SettleCommands.{cut_stops, settled_steps, settled_stops}
 use Rattle.live_session.proofs.SettledAtTurn.{goes_by}
@@ -99,7 +99,7 @@ returns-in_err-answer-in-Some-charged-clause-stops g c =
     let kept = kept_there s.names s.limits s.running r c.in-Some.is s.kept in
     let marked = looked_links s v u c.requires.at c.links-links.ensures.free visit c.links-links.result c.links-links.ensures.links in
     let charge = c.in-Some-charged.ensures in
-    stopped c.from_residual.result
+    when_err c.from_residual.result
     (cut_stops s _ r x c.in-Some.is (λ grid. refl) refl c.has_each_once.ensures kept v u (known c.settle.new.pass)
     visit.added c.requires.at at c.settle.ensures.at c.args.line c.args.passes c.links-links.result marked there c.in-Some-charged.most charge.0 charge.1 c.in_err-answer-in-Some-charged.ensures.tried)
 

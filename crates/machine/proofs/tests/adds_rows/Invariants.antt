@@ -1,4 +1,0 @@
-use Rattle.machine.proofs.tests.adds_rows.Given as goal
-
-abbrev pub ghosts-tallies : goal.ghosts-tallies
-ghosts-tallies g a = record { name = a.blank.name; parts = a.blank.parts }

@@ -1,5 +1,0 @@
-use Rattle.machine.specs.Rows.{IsGapless}
-use Rattle.machine.proofs.tests.equal_rows.Given as goal
-
-abbrev pub invariant-loop-cycle : goal.invariant-loop-cycle
-invariant-loop-cycle l = IsGapless 0 l.runs.items l.cycle
