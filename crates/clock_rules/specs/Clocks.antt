@@ -13,7 +13,7 @@ use Rattle.width_rules.specs.declared.writer.Writer.TheVariants as writer
 use Rattle.width_rules.specs.Faults.{fault_at}
 use Rattle.width_rules.specs.Scopes.{Meaning, Signal, Constant, Turn, Genvar, Unknown, Scope}
 use Rattle.module_names.specs.Modules.{module_named, header_ports, is_input_of}
-use Rattle.clock_rules.specs.Answers.{◌>>=◌}
+use Rattle.ls_text.specs.Answers.{◌>>=◌}
 
 -- ---- the clock among the names in reach: a signal with a number of its own, which a declaration in a block hides
 

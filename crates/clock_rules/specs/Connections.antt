@@ -6,7 +6,7 @@ use Rattle.verilog_ast.specs.declared.identifier.Identifier.{Identifier}
 use Rattle.verilog_ast.specs.Expressions.{Expression}
 use Rattle.verilog_ast.specs.Items.{ConnectionByName, ConnectionByOrder, ConnectionList, ByName, ByOrder}
 use Rattle.width_rules.specs.Faults.{fault, fault_at, fault_of}
-use Rattle.clock_rules.specs.Answers.{◌>>=◌}
+use Rattle.ls_text.specs.Answers.{◌>>=◌}
 use Rattle.module_names.specs.Listings.{is_listed}
 
 -- a connection to no port (27), or to one that is connected already (28)

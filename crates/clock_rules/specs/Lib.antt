@@ -1,4 +1,3 @@
-pub mod Answers
 pub mod Views
 pub mod Clocks
 pub mod Connections

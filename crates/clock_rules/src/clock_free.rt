@@ -4,7 +4,7 @@ ghost use Rattle.std.specs.Option.{option_map};
 ghost use Rattle.verilog_ast.specs.Views.{expression_of, reference_of, parts_of, target_of, targets_of, label_of, statement_of, statements_of, arm_of};
 ghost use Rattle.width_rules.specs.Entries.{scope_of};
 ghost use Rattle.width_rules.specs.Found.{meaning_of};
-ghost use Rattle.clock_rules.specs.Answers.{Answers};
+ghost use Rattle.ls_text.specs.Answers.{Answers};
 ghost use Rattle.clock_rules.specs.Clocks as k;
 
 use ls_text::Refusal;

@@ -5,7 +5,7 @@ ghost use Rattle.verilog_ast.specs.Views.{expression_of, reference_of, by_name_o
 ghost use Rattle.width_rules.specs.Entries.{scope_of};
 ghost use Rattle.module_names.specs.Modules.{module_named};
 ghost use Rattle.module_names.specs.Views.{modules_of};
-ghost use Rattle.clock_rules.specs.Answers.{Answers, Leads};
+ghost use Rattle.ls_text.specs.Answers.{Answers, Leads};
 ghost use Rattle.clock_rules.specs.Clocks as k;
 ghost use Rattle.clock_rules.specs.Views.{clock_view, clocks_view};
 

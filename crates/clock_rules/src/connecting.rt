@@ -3,9 +3,8 @@ ghost use Rattle.std.specs.Prelude.{◌≡◌, ◌∷◌, [], map};
 ghost use Rattle.std.specs.Option.{option_map};
 ghost use Rattle.verilog_ast.specs.Views.{expression_of, by_name_of, by_order_of, connections_of};
 ghost use Rattle.width_rules.specs.Faults.{IsFirst};
-ghost use Rattle.clock_rules.specs.Answers.{Answers};
+ghost use Rattle.ls_text.specs.Answers.{Answers, Leads};
 ghost use Rattle.clock_rules.specs.Connections as k;
-ghost use Rattle.clock_rules.specs.Answers.{Leads};
 
 use ls_text::Refusal;
 use module_names::NameOrder;

@@ -13,7 +13,8 @@ use Rattle.gen_unroll.specs.Reaches.{Reach, reach_in, innermost, in_reach}
 use Rattle.gen_unroll.specs.Steps.{ModuleStep, Listed, Port, Parameter, Item, Labelled, Opened, Closed}
 use Rattle.gen_unroll.specs.Told.{Told}
 use Rattle.gen_unroll.specs.Unrolled.{State}
-use Rattle.gen_unroll.specs.Values.{ConstantValue, ◌>>=◌}
+use Rattle.ls_text.specs.Answers.{◌>>=◌}
+use Rattle.gen_unroll.specs.Values.{ConstantValue}
 use Rattle.module_names.specs.Modules.{module_named, parameters_of, header_ports}
 use Rattle.elaborate.specs.declared.declaration_kind.DeclarationKind.TheVariants as kind
 use Rattle.elaborate.specs.Checks.{Checked, ModuleChild, nothing_checked, declaration, or_no_module, one_instance, instances, check_item, check_step, check_steps, is_declared_port, ports_declared, ended, check_told, checked}

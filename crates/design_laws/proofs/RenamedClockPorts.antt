@@ -15,7 +15,7 @@ use Rattle.width_rules.specs.Renaming.{MeansSame}
 use Rattle.width_rules.specs.Scopes.{Scope}
 use Rattle.gen_unroll.specs.Reaches.{Reach, in_reach}
 use Rattle.gen_unroll.specs.Steps.{ModuleStep, Listed, Port, Parameter, Item, Labelled, Opened, Closed}
-use Rattle.gen_unroll.specs.Values.{◌>>=◌}
+use Rattle.ls_text.specs.Answers.{◌>>=◌}
 use Rattle.module_names.specs.Listings.{is_listed}
 use Rattle.module_names.specs.Modules.{module_named, port_name, header_ports}
 use Rattle.clock_rules.specs.Clocks.{clock_free, declared_free, reg_free, assignment_free, take_clock, connect, connection, clock_by_name, next_port, ports_behind, clock_by_order, clock_of, clocks_of, clocks_in, unless_misused, clock_item}

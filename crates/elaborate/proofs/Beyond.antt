@@ -4,7 +4,7 @@ use Rattle.ls_text.specs.declared.refusal.Refusal.{Refusal}
 use Rattle.verilog_ast.specs.declared.module.Module.{Module}
 use Rattle.verilog_ast.specs.Views.{declaration_of, declarations_of}
 use Rattle.width_rules.specs.Faults.{IsFirst, fault_at}
-use Rattle.gen_unroll.specs.Values.{Answers}
+use Rattle.ls_text.specs.Answers.{Answers}
 use Rattle.gen_unroll.proofs.Values.{is_first}
 use Rattle.elaborate.specs.Elaborated.{none_more, few_modules}
 use Rattle.elaborate.proofs.Dropping.{from_place_viewed, past_end}

@@ -9,8 +9,7 @@ use Rattle.gen_unroll.specs.Reaches.{reach_in}
 use Rattle.gen_unroll.specs.Steps.{ModuleStep}
 use Rattle.gen_unroll.specs.Told.{Told, fault_in}
 use Rattle.gen_unroll.specs.Unrolled.{State}
-use Rattle.gen_unroll.specs.Values.{◌>>=◌, Answers}
-use Rattle.clock_rules.specs.Answers.{Leads}
+use Rattle.ls_text.specs.Answers.{◌>>=◌, Answers, Leads}
 use Rattle.elaborate.specs.Checks.{Checked, check_steps, check_told, ended, nothing_checked, ports_declared}
 use Rattle.module_names.specs.Modules.{header_ports}
 

@@ -8,11 +8,11 @@ use Rattle.typed_ir.specs.declared.constant.Const.{Const}
 use Rattle.verilog_ast.specs.declared.identifier.Identifier.{Identifier}
 use Rattle.verilog_ast.specs.Items.{ConnectionList, ModuleInstance, ModuleDeclaration}
 use Rattle.gen_unroll.specs.Reaches.{Reach}
-use Rattle.gen_unroll.specs.Values.{ConstantValue, ◌>>=◌, Answers}
+use Rattle.ls_text.specs.Answers.{◌>>=◌, Answers, Leads}
+use Rattle.gen_unroll.specs.Values.{ConstantValue}
 use Rattle.gen_unroll.specs.Views.{override_view}
 use Rattle.elaborate.specs.Checks.{Checked, each, one_instance, instances, or_no_module}
 use Rattle.elaborate.specs.Overrides.{overridden}
-use Rattle.clock_rules.specs.Answers.{Leads}
 use Rattle.module_names.specs.Modules.{module_named, parameters_of}
 
 abbrev pub overrides_view : Vec (Option Const) Global → List (Option ConstantValue)

@@ -3,7 +3,7 @@ use Rattle.std.proofs.Common.{◌≡◌, ℕ, zero, suc, ◌-◌, nat_le, if◌t
 use Rattle.std.specs.Prelude.{Option}
 use Rattle.verilog_ast.specs.Items.{ModuleDeclaration}
 use Rattle.width_rules.specs.Faults.{fault_at}
-use Rattle.gen_unroll.specs.Values.{◌>>=◌}
+use Rattle.ls_text.specs.Answers.{◌>>=◌}
 use Rattle.elaborate.specs.declared.limits.Limits.{Limits}
 use Rattle.elaborate.specs.Checks.{ModuleChild, or_no_module}
 use Rattle.elaborate.specs.Elaborated.{Standing, child_at, of_module, is_on}

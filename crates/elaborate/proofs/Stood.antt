@@ -10,7 +10,8 @@ use Rattle.ls_text.specs.declared.refusal.Refusal.TheVariants as refusal
 use Rattle.typed_ir.specs.declared.constant.Const.{Const}
 use Rattle.verilog_ast.specs.declared.identifier.Identifier.{Identifier}
 use Rattle.verilog_ast.specs.Items.{ModuleDeclaration}
-use Rattle.gen_unroll.specs.Values.{ConstantValue, ◌>>=◌, Answers}
+use Rattle.ls_text.specs.Answers.{◌>>=◌, Answers, Leads}
+use Rattle.gen_unroll.specs.Values.{ConstantValue}
 use Rattle.gen_unroll.specs.Views.{here_of, override_view}
 use Rattle.elaborate.specs.declared.child_instance.ChildInstance.{ChildInstance}
 use Rattle.elaborate.specs.declared.job.Job.{Job}
@@ -18,7 +19,6 @@ use Rattle.elaborate.specs.declared.limits.Limits.{Limits}
 use Rattle.elaborate.specs.declared.standing.StandingInstance.{StandingInstance}
 use Rattle.elaborate.specs.Elaborated.{Standing, standing, top_standing, within, of_module, child_at, from_top}
 use Rattle.elaborate.specs.Jobs.{IsOf, job_view, standing_of}
-use Rattle.clock_rules.specs.Answers.{Leads}
 use Rattle.clock_rules.specs.Views.{clock_view, id_of}
 use Rattle.elaborate.specs.Views.{child_of, visited_of}
 use Rattle.elaborate.specs.Visits.{Visited, visited}

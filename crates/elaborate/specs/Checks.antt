@@ -17,7 +17,8 @@ use Rattle.gen_unroll.specs.Reaches.{Reach, reach_in, innermost, in_reach}
 use Rattle.gen_unroll.specs.Steps.{ModuleStep, Listed, Port, Parameter, Item, Labelled, Opened, Closed}
 use Rattle.gen_unroll.specs.Told.{Told}
 use Rattle.gen_unroll.specs.Unrolled.{State, unrolled_module}
-use Rattle.gen_unroll.specs.Values.{ConstantValue, ◌>>=◌}
+use Rattle.ls_text.specs.Answers.{◌>>=◌}
+use Rattle.gen_unroll.specs.Values.{ConstantValue}
 use Rattle.elaborate.specs.declared.declaration_kind.DeclarationKind.{DeclarationKind}
 use Rattle.elaborate.specs.declared.declaration_kind.DeclarationKind.TheVariants as kind
 use Rattle.clock_rules.specs.Connections.{connected}

@@ -9,7 +9,7 @@ use Rattle.width_rules.specs.Scopes.{Scope, with_name}
 use Rattle.gen_unroll.specs.Declarations.{BitRange}
 use Rattle.gen_unroll.specs.Reaches.{Reach, in_reach}
 use Rattle.gen_unroll.specs.Steps.{ModuleStep, Listed, Port, Item}
-use Rattle.gen_unroll.specs.Values.{◌>>=◌}
+use Rattle.ls_text.specs.Answers.{◌>>=◌}
 use Rattle.module_names.specs.Listings.{is_listed}
 use Rattle.module_names.specs.Modules.{port_name, header_ports}
 use Rattle.clock_rules.specs.Clocks.{clock_net, all_free, port_free, unless_misused, clock_item}

@@ -7,7 +7,8 @@ use Rattle.verilog_ast.specs.Expressions.{Expression}
 use Rattle.verilog_ast.specs.Items.{ConnectionByName, ConnectionByOrder, ConnectionList, ByName, ByOrder}
 use Rattle.width_rules.specs.Faults.{fault, fault_of}
 use Rattle.width_rules.specs.Scopes.{Scope}
-use Rattle.gen_unroll.specs.Values.{ConstantValue, ◌>>=◌, evaluated}
+use Rattle.ls_text.specs.Answers.{◌>>=◌}
+use Rattle.gen_unroll.specs.Values.{ConstantValue, evaluated}
 use Rattle.module_names.specs.Listings.{is_listed}
 
 -- ---- by order

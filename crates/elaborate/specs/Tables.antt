@@ -8,7 +8,7 @@ use Rattle.verilog_ast.specs.declared.port_net.PortNet.TheVariants as net
 use Rattle.verilog_ast.specs.Expressions.{Expression}
 use Rattle.width_rules.specs.Faults.{fault_at}
 use Rattle.gen_unroll.specs.Declarations.{BitRange}
-use Rattle.gen_unroll.specs.Values.{◌>>=◌}
+use Rattle.ls_text.specs.Answers.{◌>>=◌}
 use Rattle.elaborate.specs.declared.declaration_kind.DeclarationKind.{DeclarationKind}
 use Rattle.elaborate.specs.declared.declaration_kind.DeclarationKind.TheVariants as kind
 

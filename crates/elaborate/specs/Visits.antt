@@ -7,7 +7,8 @@ use Rattle.width_rules.specs.Faults.{fault_at}
 use Rattle.gen_unroll.specs.Reaches.{reach_in}
 use Rattle.gen_unroll.specs.Steps.{GenerateBlock, ModuleStep, blocks_in}
 use Rattle.gen_unroll.specs.Unrolled.{unrolled_module}
-use Rattle.gen_unroll.specs.Values.{ConstantValue, ◌>>=◌}
+use Rattle.ls_text.specs.Answers.{◌>>=◌}
+use Rattle.gen_unroll.specs.Values.{ConstantValue}
 use Rattle.elaborate.specs.Checks.{Checked, checked}
 use Rattle.elaborate.specs.Clocks.{with_clock, clock_steps, own_clock}
 use Rattle.elaborate.specs.Ports.{PortOutline, port_outlines}

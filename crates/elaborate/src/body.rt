@@ -6,7 +6,7 @@ ghost use Rattle.gen_unroll.specs.ReachViews.{reach_of};
 ghost use Rattle.gen_unroll.specs.Values.{constant_of};
 ghost use Rattle.gen_unroll.specs.Views.{override_view, step_of};
 ghost use Rattle.elaborate.specs.Checks as c;
-ghost use Rattle.clock_rules.specs.Answers.{Leads};
+ghost use Rattle.ls_text.specs.Answers.{Leads};
 ghost use Rattle.elaborate.specs.Views.{declaration_of, checked_of};
 ghost use Rattle.module_names.specs.Views.{modules_of};
 

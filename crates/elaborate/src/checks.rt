@@ -5,11 +5,10 @@ ghost use Rattle.verilog_ast.specs.Views.{declaration_of as plain_module};
 ghost use Rattle.gen_unroll.specs.Reaches.{reach_in, IsEven};
 ghost use Rattle.gen_unroll.specs.Told.{fault_in};
 ghost use Rattle.gen_unroll.specs.Unrolled.{unrolled_module};
-ghost use Rattle.gen_unroll.specs.Values.{Answers};
+ghost use Rattle.ls_text.specs.Answers.{Answers, Leads};
 ghost use Rattle.gen_unroll.specs.ReachViews.{reach_of};
 ghost use Rattle.gen_unroll.specs.Views.{override_view, step_of};
 ghost use Rattle.elaborate.specs.Checks as c;
-ghost use Rattle.clock_rules.specs.Answers.{Leads};
 ghost use Rattle.elaborate.specs.Views.{checked_of, declaration_of, table_of};
 ghost use Rattle.module_names.specs.Views.{modules_of};
 

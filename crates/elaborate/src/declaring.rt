@@ -2,10 +2,9 @@
 ghost use Rattle.std.specs.Prelude.{◌≡◌};
 ghost use Rattle.std.specs.Option.{option_map};
 ghost use Rattle.verilog_ast.specs.Views.{expression_of};
-ghost use Rattle.gen_unroll.specs.Values.{Answers};
+ghost use Rattle.ls_text.specs.Answers.{Answers, Leads};
 ghost use Rattle.gen_unroll.specs.Views.{bit_range_of, here_of};
 ghost use Rattle.elaborate.specs.Tables as t;
-ghost use Rattle.clock_rules.specs.Answers.{Leads};
 ghost use Rattle.elaborate.specs.Views.{declaration_of, table_of};
 
 use crate::declaration::Declaration;

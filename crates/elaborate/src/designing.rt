@@ -3,12 +3,11 @@ ghost use Rattle.std.specs.Prelude.{◌≡◌, [], ◌++◌, None, Some, Ok, IfO
 ghost use Rattle.ls_text.specs.declared.at.At.TheVariants.{Edit};
 ghost use Rattle.ls_text.specs.declared.refusal.Refusal.TheVariants as refusal;
 ghost use Rattle.verilog_ast.specs.Views.{declaration_of as plain_module, declarations_of};
-ghost use Rattle.gen_unroll.specs.Values.{Answers};
+ghost use Rattle.ls_text.specs.Answers.{Answers, Leads};
 ghost use Rattle.module_names.specs.Views.{modules_of};
 ghost use Rattle.elaborate.specs.Clocks.{top_clock};
 ghost use Rattle.elaborate.specs.Elaborated as e;
 ghost use Rattle.elaborate.specs.Jobs.{all_view};
-ghost use Rattle.clock_rules.specs.Answers.{Leads};
 ghost use Rattle.clock_rules.specs.Views.{clock_view};
 
 use crate::elaborating::from_top;

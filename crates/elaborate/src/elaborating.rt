@@ -1,13 +1,12 @@
 // From the top of a design down to its instances, depth first.
 ghost use Rattle.std.specs.Prelude.{◌≡◌, [], ◌∷◌, ◌++◌, length, map, nat_le, if◌then◌else◌, None, Some, Ok, OnOk};
 ghost use Rattle.verilog_ast.specs.Views.{declaration_of as plain_module};
-ghost use Rattle.gen_unroll.specs.Values.{Answers};
+ghost use Rattle.ls_text.specs.Answers.{Answers, Leads};
 ghost use Rattle.module_names.specs.Modules as m;
 ghost use Rattle.module_names.specs.Views.{modules_of};
 ghost use Rattle.elaborate.specs.Elaborated as e;
 ghost use Rattle.elaborate.specs.Jobs.{AreJobs, IsOf, Keeps, standing_of, all_view, job_view};
 ghost use Rattle.elaborate.specs.Visits.{visited};
-ghost use Rattle.clock_rules.specs.Answers.{Leads};
 ghost use Rattle.clock_rules.specs.Views.{clock_view, clocks_view, id_of};
 ghost use Rattle.elaborate.specs.Views.{child_of, visited_of};
 

@@ -3,12 +3,11 @@ ghost use Rattle.std.specs.Prelude.{◌≡◌, map};
 ghost use Rattle.std.specs.Option.{option_map};
 ghost use Rattle.verilog_ast.specs.Views.{expression_of, range_of as range_view, kind_of, port_of};
 ghost use Rattle.width_rules.specs.Entries.{scope_of};
-ghost use Rattle.gen_unroll.specs.Values.{Answers};
+ghost use Rattle.ls_text.specs.Answers.{Answers, Leads};
 ghost use Rattle.gen_unroll.specs.ReachViews.{reach_of};
 ghost use Rattle.gen_unroll.specs.Views.{bit_range_of};
 ghost use Rattle.elaborate.specs.Checks as c;
 ghost use Rattle.elaborate.specs.Tables as t;
-ghost use Rattle.clock_rules.specs.Answers.{Leads};
 ghost use Rattle.elaborate.specs.Views.{declaration_of, checked_of};
 
 use crate::checking::Checking;

@@ -1,7 +1,7 @@
 // Visits of modules, each made once.
 ghost use Rattle.std.specs.Prelude.{◌≡◌, map, None, Some, IfOk, OnOk, ⊤};
 ghost use Rattle.std.specs.Bool.{MatchBool};
-ghost use Rattle.gen_unroll.specs.Values.{Answers};
+ghost use Rattle.ls_text.specs.Answers.{Answers};
 ghost use Rattle.gen_unroll.specs.Views.{override_view};
 ghost use Rattle.verilog_ast.specs.Views.{declaration_of as plain_module};
 ghost use Rattle.module_names.specs.Modules as m;

@@ -3,10 +3,10 @@ ghost use Rattle.std.specs.Prelude.{◌≡◌, ◌++◌, ◌∷◌, [], map, IfO
 ghost use Rattle.std.specs.Option.{option_map};
 ghost use Rattle.verilog_ast.specs.Views.{expression_of, by_name_of, by_order_of, connections_of};
 ghost use Rattle.width_rules.specs.Entries.{scope_of};
-ghost use Rattle.gen_unroll.specs.Values.{Answers, constant_of};
+ghost use Rattle.ls_text.specs.Answers.{Answers, Leads};
+ghost use Rattle.gen_unroll.specs.Values.{constant_of};
 ghost use Rattle.gen_unroll.specs.Views.{override_view};
 ghost use Rattle.elaborate.specs.Overrides as o;
-ghost use Rattle.clock_rules.specs.Answers.{Leads};
 ghost use Rattle.elaborate.specs.Views.{given_of};
 
 use crate::given_parameters::GivenParameters;

@@ -2,7 +2,7 @@
 ghost use Rattle.std.specs.Prelude.{◌≡◌, ◌<◌, length, map, All, IfOk};
 ghost use Rattle.verilog_ast.specs.Views.{declarations_of};
 ghost use Rattle.ls_text.specs.Texts.{Grows};
-ghost use Rattle.gen_unroll.specs.Values.{Answers};
+ghost use Rattle.ls_text.specs.Answers.{Answers};
 ghost use Rattle.gen_unroll.specs.Views.{block_of};
 ghost use Rattle.elaborate.specs.Jobs.{standing_of};
 ghost use Rattle.elaborate.specs.TreeViews.{IsSeen, instance_view, language_limits, text_items, tree_view};

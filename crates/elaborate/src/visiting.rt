@@ -5,7 +5,7 @@ ghost use Rattle.verilog_ast.specs.Views.{declaration_of as plain_module};
 ghost use Rattle.gen_unroll.specs.Steps.{blocks_in};
 ghost use Rattle.gen_unroll.specs.Told.{fault_in};
 ghost use Rattle.gen_unroll.specs.Unrolled.{unrolled_module};
-ghost use Rattle.gen_unroll.specs.Values.{Answers};
+ghost use Rattle.ls_text.specs.Answers.{Answers};
 ghost use Rattle.gen_unroll.specs.Views.{bit_range_of, block_of, override_view, step_of};
 ghost use Rattle.elaborate.specs.Clocks as k;
 ghost use Rattle.elaborate.specs.Visits as v;

@@ -1,7 +1,7 @@
 -- Steps that gave a value, and tests that let pass.
 use Rattle.std.proofs.Common.{◌≡◌, Bool, true, false, if◌then◌else◌, Result, Ok, Err, refl, ap, subst}
 use Rattle.ls_text.specs.declared.fault.Fault.{Fault}
-use Rattle.gen_unroll.specs.Values.{◌>>=◌}
+use Rattle.ls_text.specs.Answers.{◌>>=◌}
 
 pub err_or_ok : {A P : Type 0} (f : Fault) (y : A) → Err f ≡ Ok y → P
 err_or_ok {A} f y h = absurd (subst is_err h tt)

@@ -17,7 +17,7 @@ use Rattle.width_rules.specs.Scopes.{Scope}
 use Rattle.width_rules.specs.Sizes.{bits_between}
 use Rattle.gen_unroll.specs.declared.bit_range.BitRange.{BitRange as Bounds}
 use Rattle.gen_unroll.specs.Declarations.{BitRange, ParameterType, is_range, lower_bound, range_faults, range_value, typed_by, parameter_type}
-use Rattle.gen_unroll.specs.Values.{◌>>=◌, Answers}
+use Rattle.ls_text.specs.Answers.{◌>>=◌, Answers}
 use Rattle.gen_unroll.specs.Views.{bit_range_of, parameter_type_of}
 use Rattle.width_rules.proofs.Firsts.{earlier, later, neither}
 use Rattle.gen_unroll.proofs.Values.{is_first, no_fault}

@@ -7,7 +7,7 @@ use Rattle.gen_unroll.specs.declared.walk.Walk.{Walk}
 use Rattle.gen_unroll.specs.Steps.{ModuleStep}
 use Rattle.gen_unroll.specs.Told.{Told, go_on, ◌>>=◌, say, say_all, quiet}
 use Rattle.gen_unroll.specs.Unrolled.{State}
-use Rattle.gen_unroll.specs.Values.{Answers}
+use Rattle.ls_text.specs.Answers.{Answers}
 use Rattle.gen_unroll.specs.Views.{Comes, Goes, steps_of}
 
 -- a step and the next one

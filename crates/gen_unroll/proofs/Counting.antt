@@ -8,7 +8,8 @@ use Rattle.ls_text.specs.declared.refusal.Refusal.TheVariants as refusal
 use Rattle.width_rules.specs.Faults.{IsFirst, fault}
 use Rattle.width_rules.specs.Scopes.{Scope, Turn, Genvar}
 use Rattle.gen_unroll.specs.Declarations.{declared}
-use Rattle.gen_unroll.specs.Values.{ConstantValue, evaluated, ◌>>=◌, unless, Answers}
+use Rattle.ls_text.specs.Answers.{◌>>=◌, Answers}
+use Rattle.gen_unroll.specs.Values.{ConstantValue, evaluated, unless}
 use Rattle.gen_unroll.specs.Unrolled.{holds, in_turn, genvar_value, turns_from, turns, assigned, loop_turns}
 use Rattle.gen_unroll.proofs.Scoping.{DiffersAt}
 use Rattle.gen_unroll.proofs.Values.{is_first}

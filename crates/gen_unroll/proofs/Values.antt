@@ -12,7 +12,8 @@ use Rattle.width_rules.specs.Faults.{IsFirst, faults, first}
 use Rattle.width_rules.specs.Scopes.{Scope}
 use Rattle.width_rules.specs.Signs.{is_signed}
 use Rattle.width_rules.specs.Sizes.{length, read_as}
-use Rattle.gen_unroll.specs.Values.{ConstantValue, constant_of, ◌>>=◌, unless, evaluated, Answers}
+use Rattle.ls_text.specs.Answers.{◌>>=◌, Answers}
+use Rattle.gen_unroll.specs.Values.{ConstantValue, constant_of, unless, evaluated}
 
 abbrev pub err_or : {A : Type 0} → A → Option Fault → Result A Fault
 err_or x None = Ok x

@@ -13,7 +13,8 @@ use Rattle.width_rules.specs.Constants.{integer}
 use Rattle.width_rules.specs.Faults.{faults, fault_if, fault_of}
 use Rattle.width_rules.specs.Scopes.{Meaning, Signal, Constant, Genvar, Unknown, Scope, with_name}
 use Rattle.width_rules.specs.Sizes.{bits_between}
-use Rattle.gen_unroll.specs.Values.{ConstantValue, ◌>>=◌, unless}
+use Rattle.ls_text.specs.Answers.{◌>>=◌}
+use Rattle.gen_unroll.specs.Values.{ConstantValue, unless}
 
 -- ---- ranges (3.3.1, 4.3.1)
 

@@ -12,7 +12,8 @@ use Rattle.width_rules.specs.Faults.{fault, fault_at}
 use Rattle.width_rules.specs.Scopes.{Meaning, Signal, Constant, Turn, Genvar, Unknown, Scope}
 use Rattle.gen_unroll.specs.declared.parameter_sort.ParameterSort.{ParameterSort}
 use Rattle.gen_unroll.specs.declared.parameter_sort.ParameterSort.TheVariants as sort
-use Rattle.gen_unroll.specs.Values.{ConstantValue, evaluated, ◌>>=◌ as ◌>>>◌}
+use Rattle.ls_text.specs.Answers.{◌>>=◌ as ◌>>>◌}
+use Rattle.gen_unroll.specs.Values.{ConstantValue, evaluated}
 use Rattle.gen_unroll.specs.Declarations.{ParameterType, parameter_type, as_declared, declared, valued, item_names, port_names}
 use Rattle.gen_unroll.specs.Steps.{LoopTurn, ModuleStep, Listed, Port, Parameter, Item, Labelled, Opened, Closed}
 use Rattle.gen_unroll.specs.Told.{Told, ◌>>=◌, done, say, say_all, quiet}

@@ -2,7 +2,8 @@
 ghost use Rattle.std.specs.Prelude.{◌≡◌};
 ghost use Rattle.verilog_ast.specs.Views.{expression_of};
 ghost use Rattle.width_rules.specs.Entries.{scope_of};
-ghost use Rattle.gen_unroll.specs.Values.{constant_of, evaluated, Answers};
+ghost use Rattle.ls_text.specs.Answers.{Answers};
+ghost use Rattle.gen_unroll.specs.Values.{constant_of, evaluated};
 
 use ls_text::Refusal;
 use std::alloc::Global;

@@ -3,7 +3,8 @@ ghost use Rattle.std.specs.Prelude.{◌≡◌, ◌≤◌, ◌==◌, not, map, le
 ghost use Rattle.verilog_ast.specs.Views.{expression_of, head_of};
 ghost use Rattle.width_rules.specs.Entries.{scope_of, around};
 ghost use Rattle.gen_unroll.specs.Unrolled.{assignable, assigned, in_turn, turns_from, turns, loop_turns, holds};
-ghost use Rattle.gen_unroll.specs.Values.{constant_of, Answers};
+ghost use Rattle.ls_text.specs.Answers.{Answers};
+ghost use Rattle.gen_unroll.specs.Values.{constant_of};
 
 use crate::constants::evaluated;
 use crate::naming::declare;

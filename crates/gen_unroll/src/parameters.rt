@@ -4,7 +4,8 @@ ghost use Rattle.verilog_ast.specs.Views.{kind_of};
 ghost use Rattle.width_rules.specs.Entries.{scope_of};
 ghost use Rattle.gen_unroll.specs.Declarations.{parameter_type, as_declared};
 ghost use Rattle.gen_unroll.specs.Unrolled.{genvar_value};
-ghost use Rattle.gen_unroll.specs.Values.{constant_of, Answers};
+ghost use Rattle.ls_text.specs.Answers.{Answers};
+ghost use Rattle.gen_unroll.specs.Values.{constant_of};
 ghost use Rattle.gen_unroll.specs.Views.{parameter_type_of};
 
 use crate::parameter_type::ParameterType;

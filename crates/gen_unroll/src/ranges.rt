@@ -8,7 +8,7 @@ ghost use Rattle.width_rules.specs.Faults.{IsFirst, faults};
 ghost use Rattle.width_rules.specs.Sizes.{bits_between};
 ghost use Rattle.width_rules.specs.Wholes.{whole_of};
 ghost use Rattle.gen_unroll.specs.Declarations.{is_range, lower_bound, range_value};
-ghost use Rattle.gen_unroll.specs.Values.{Answers};
+ghost use Rattle.ls_text.specs.Answers.{Answers};
 ghost use Rattle.gen_unroll.specs.Views.{bit_range_of};
 
 use crate::bit_range::BitRange;

@@ -6,7 +6,8 @@ ghost use Rattle.width_rules.specs.Entries.{scope_of, around};
 ghost use Rattle.gen_unroll.specs.Steps.{Listed, Port, Labelled, Opened, blocks_in};
 ghost use Rattle.gen_unroll.specs.Told.{fault_in};
 ghost use Rattle.gen_unroll.specs.Unrolled as u;
-ghost use Rattle.gen_unroll.specs.Values.{constant_of, evaluated, Answers};
+ghost use Rattle.ls_text.specs.Answers.{Answers};
+ghost use Rattle.gen_unroll.specs.Values.{constant_of, evaluated};
 ghost use Rattle.gen_unroll.specs.Views.{state_of, steps_of, step_of, block_of, turn_of, here_of, parameter_type_of, override_view, Goes};
 
 use crate::block::Block;

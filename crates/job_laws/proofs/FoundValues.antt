@@ -15,7 +15,8 @@ use Rattle.gen_unroll.specs.declared.parameter_sort.ParameterSort.{ParameterSort
 use Rattle.gen_unroll.specs.Declarations.{BitRange, declared_name}
 use Rattle.gen_unroll.specs.Reaches.{Reach, innermost, blocks_around, in_reach}
 use Rattle.gen_unroll.specs.Steps.{ModuleStep, Listed, Port, Parameter, Item, Labelled, Opened, Closed}
-use Rattle.gen_unroll.specs.Values.{ConstantValue, ◌>>=◌}
+use Rattle.ls_text.specs.Answers.{◌>>=◌}
+use Rattle.gen_unroll.specs.Values.{ConstantValue}
 use Rattle.clock_rules.specs.Connections.{connected}
 use Rattle.module_names.specs.Listings.{is_listed}
 use Rattle.module_names.specs.Modules.{module_named, parameters_of, header_ports}

@@ -14,7 +14,8 @@ use Rattle.gen_unroll.specs.declared.parameter_sort.ParameterSort.{ParameterSort
 use Rattle.gen_unroll.specs.Declarations.{BitRange}
 use Rattle.gen_unroll.specs.Reaches.{Reach, innermost, in_reach}
 use Rattle.gen_unroll.specs.Steps.{ModuleStep, Listed, Port, Parameter}
-use Rattle.gen_unroll.specs.Values.{ConstantValue, ◌>>=◌}
+use Rattle.ls_text.specs.Answers.{◌>>=◌}
+use Rattle.gen_unroll.specs.Values.{ConstantValue}
 use Rattle.gen_unroll.proofs.Answered.{ok_same, first_step, past_test}
 use Rattle.module_names.specs.Listings.{is_listed}
 use Rattle.module_names.specs.Modules.{port_name}

@@ -20,7 +20,8 @@ use Rattle.unit_ir.specs.Trees.{unit_widths}
 use Rattle.unit_ir.specs.Units.{signal_within, sized_unit}
 use Rattle.gen_unroll.specs.Steps.{ModuleStep}
 use Rattle.gen_unroll.specs.Unrolled.{unrolled_module, turn_limit}
-use Rattle.gen_unroll.specs.Values.{ConstantValue, constant_of, ◌>>=◌, unless}
+use Rattle.ls_text.specs.Answers.{◌>>=◌}
+use Rattle.gen_unroll.specs.Values.{ConstantValue, constant_of, unless}
 use Rattle.gen_unroll.proofs.Answered.{err_or_ok, ok_same, first_step}
 use Rattle.elaborate.specs.declared.limits.Limits.{Limits}
 use Rattle.elaborate.specs.Elaborated.{Standing, elaborated}

@@ -10,7 +10,8 @@ use Rattle.std.proofs.lemmas.List.Elements.{All-head, All-nil, All-tail, All-con
 use Rattle.sha2.specs.Sha256.{sha256}
 use Rattle.ls_text.specs.declared.fault.Fault.{Fault}
 use Rattle.module_registry.specs.declared.build_job.BuildJob.{BuildJob}
-use Rattle.module_registry.specs.Building.{Built, built_all, ◌>>=◌}
+use Rattle.ls_text.specs.Answers.{◌>>=◌}
+use Rattle.module_registry.specs.Building.{Built, built_all}
 use Rattle.module_registry.specs.Entries.{Entry, ensured, entries as entries_with, if_missing, is_among, keys_of, missing}
 use Rattle.module_registry.specs.Keys.{KeyData, jobs_of, same}
 use Rattle.unit_laws.specs.Held.{AreHeldUnder, IsHeldUnder, IsKeyUnder}

@@ -7,7 +7,8 @@ use Rattle.ls_text.specs.declared.fault.Fault.{Fault}
 use Rattle.module_registry.specs.declared.build_job.BuildJob.{BuildJob}
 use Rattle.module_registry.specs.Keys.{KeyData, same, jobs_of}
 use Rattle.module_registry.specs.KeyLaws.{same_laws}
-use Rattle.module_registry.specs.Building.{Built, built_all, ◌>>=◌}
+use Rattle.ls_text.specs.Answers.{◌>>=◌}
+use Rattle.module_registry.specs.Building.{Built, built_all}
 use Rattle.module_registry.specs.Entries.{Entry, keys_of, is_among, if_missing, missing, entries, unit_under, Holds}
 use Rattle.module_registry.proofs.News.{among_both, missing_within}
 

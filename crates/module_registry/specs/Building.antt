@@ -1,5 +1,6 @@
 -- What building gives: a unit for a job, or its fault.
 use Rattle.std.specs.Prelude.{◌≡◌, List, [], ◌∷◌, Result, Ok, Err, ⊤}
+use Rattle.ls_text.specs.Answers.{◌>>=◌}
 use Rattle.ls_text.specs.declared.fault.Fault.{Fault}
 use Rattle.ls_text.specs.declared.refusal.Refusal.{Refusal}
 use Rattle.ls_text.specs.declared.refusal.Refusal.TheVariants as refusal
@@ -11,11 +12,6 @@ use Rattle.module_registry.specs.declared.build_job.BuildJob.{BuildJob}
 pub record Built : Type 0 where
   pub unit : SizedUnit
   pub shapes : List ChildShape
-
-infixl 10 ◌>>=◌
-abbrev pub ◌>>=◌ : {A B : Type 0} → Result A Fault → (A → Result B Fault) → Result B Fault
-(Ok x) >>= f = f x
-(Err e) >>= f = Err e
 
 -- the units of jobs, in their order, or the fault of the first job that has one
 abbrev pub built_all : (BuildJob → Result Built Fault) → List BuildJob → Result (List Built) Fault

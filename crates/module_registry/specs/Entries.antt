@@ -6,7 +6,8 @@ use Rattle.ls_text.specs.declared.refusal.Refusal.{Refusal}
 use Rattle.ls_text.specs.declared.refusal.Refusal.TheVariants as refusal
 use Rattle.module_registry.specs.declared.build_job.BuildJob.{BuildJob}
 use Rattle.module_registry.specs.Keys.{KeyData, same, jobs_of}
-use Rattle.module_registry.specs.Building.{Built, built_all, ◌>>=◌}
+use Rattle.ls_text.specs.Answers.{◌>>=◌}
+use Rattle.module_registry.specs.Building.{Built, built_all}
 
 pub record Entry : Type 0 where
   pub key : KeyData

@@ -1,7 +1,8 @@
 -- Steps of which the first with a fault gives it, without places.
 use Rattle.std.proofs.Common.{◌≡◌, Bool, true, false, if◌then◌else◌, List, [], ◌∷◌, map, Result, Ok, Err, ◌∙◌, refl, ap, ap₂}
 use Rattle.ls_text.specs.declared.fault.Fault.{Fault}
-use Rattle.gen_unroll.specs.Values.{◌>>=◌, unless}
+use Rattle.ls_text.specs.Answers.{◌>>=◌}
+use Rattle.gen_unroll.specs.Values.{unless}
 use Rattle.place_laws.specs.Findings.{fault_unplaced, found_unplaced, answer_unplaced}
 
 -- ---- steps

@@ -16,7 +16,7 @@ use Rattle.gen_unroll.specs.Overriding.{constant_sorts, overrides_of}
 use Rattle.gen_unroll.specs.Reaches.{Reach}
 use Rattle.gen_unroll.specs.Steps.{ModuleStep}
 use Rattle.gen_unroll.specs.Unrolled.{State, unrolled_module, turn_limit}
-use Rattle.gen_unroll.specs.Values.{◌>>=◌}
+use Rattle.ls_text.specs.Answers.{◌>>=◌}
 use Rattle.unit_names.specs.Numbers.{SignalTable}
 use Rattle.unit_names.specs.UnitLists.{unit_signals, declarations_of, data_inputs, registers}
 use Rattle.unit_names.specs.UnitReaches.{unit_reach_in, writer_of, is_settled}

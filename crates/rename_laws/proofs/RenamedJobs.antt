@@ -17,7 +17,7 @@ use Rattle.width_rules.specs.Renaming.{fault_as}
 use Rattle.gen_unroll.specs.Declarations.{declared_name, declared_reg_name}
 use Rattle.gen_unroll.specs.Reaches.{innermost, blocks_around}
 use Rattle.gen_unroll.specs.Steps.{GenerateBlock, ModuleStep, Listed, Port, Parameter, Item, Labelled, Opened, Closed, blocks_in}
-use Rattle.gen_unroll.specs.Values.{◌>>=◌}
+use Rattle.ls_text.specs.Answers.{◌>>=◌}
 use Rattle.unit_jobs.specs.BlockNames.{declared_by, called_in, item_texts, texts_within}
 use Rattle.unit_jobs.specs.Jobs.{InstanceJob, module_called, or_no_module, steps_under, job_with, instance_job, jobs_from, tree_jobs}
 use Rattle.design_laws.specs.Renaming.{KeepsApart, SpellsSame, found_as, block_as, step_as}

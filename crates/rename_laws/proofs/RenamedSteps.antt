@@ -12,7 +12,7 @@ use Rattle.gen_unroll.specs.Overriding.{sort_of_each, item_sorts, constant_sorts
 use Rattle.gen_unroll.specs.Steps.{ModuleStep}
 use Rattle.gen_unroll.specs.Told.{Told}
 use Rattle.gen_unroll.specs.Unrolled.{State, unrolled_module, turn_limit}
-use Rattle.gen_unroll.specs.Values.{◌>>=◌}
+use Rattle.ls_text.specs.Answers.{◌>>=◌}
 use Rattle.unit_build.specs.Building.{steps_told}
 use Rattle.design_laws.specs.Renaming.{KeepsApart, found_as, step_as}
 use Rattle.design_laws.proofs.RenamedTold.{SameTold, SameEnd}

@@ -6,7 +6,8 @@ use Rattle.ls_text.specs.declared.fault.Fault.{Fault}
 use Rattle.gen_unroll.specs.Steps.{ModuleStep}
 use Rattle.gen_unroll.specs.Told.{Told, fault_in}
 use Rattle.gen_unroll.specs.Unrolled.{State, unrolled_module, turn_limit}
-use Rattle.gen_unroll.specs.Values.{ConstantValue, ◌>>=◌}
+use Rattle.ls_text.specs.Answers.{◌>>=◌}
+use Rattle.gen_unroll.specs.Values.{ConstantValue}
 use Rattle.module_registry.specs.declared.build_job.BuildJob.{BuildJob}
 use Rattle.unit_names.specs.Numbers.{SignalTable, module_table}
 use Rattle.unit_build.specs.Building.{module_of, steps_told, job_steps, settled_signals, unit_with, built}

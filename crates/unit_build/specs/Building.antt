@@ -8,7 +8,8 @@ use Rattle.verilog_ast.specs.Views.{declaration_of}
 use Rattle.gen_unroll.specs.Steps.{ModuleStep}
 use Rattle.gen_unroll.specs.Told.{Told}
 use Rattle.gen_unroll.specs.Unrolled.{State, unrolled_module, turn_limit}
-use Rattle.gen_unroll.specs.Values.{◌>>=◌, unless}
+use Rattle.ls_text.specs.Answers.{◌>>=◌}
+use Rattle.gen_unroll.specs.Values.{unless}
 use Rattle.unit_names.specs.Numbers.{SignalTable, module_table}
 use Rattle.unit_names.specs.UnitLists.{unit_signals, declarations_of, data_inputs, registers}
 use Rattle.unit_names.specs.UnitReaches.{unit_reach_in, writer_of, is_settled}

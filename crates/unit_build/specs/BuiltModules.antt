@@ -9,7 +9,8 @@ use Rattle.verilog_ast.specs.Items.{ModuleDeclaration}
 use Rattle.gen_unroll.specs.Overriding.{constant_sorts, overrides_of}
 use Rattle.gen_unroll.specs.Steps.{ModuleStep}
 use Rattle.gen_unroll.specs.Unrolled.{unrolled_module, turn_limit}
-use Rattle.gen_unroll.specs.Values.{◌>>=◌, unless}
+use Rattle.ls_text.specs.Answers.{◌>>=◌}
+use Rattle.gen_unroll.specs.Values.{unless}
 use Rattle.unit_names.specs.Numbers.{SignalTable, module_table}
 use Rattle.unit_names.specs.UnitLists.{unit_signals, declarations_of, data_inputs, registers}
 use Rattle.unit_names.specs.UnitReaches.{unit_reach_in, writer_of, is_settled}

@@ -2,7 +2,7 @@
 use Rattle.std.specs.Prelude.{List, Result}
 use Rattle.ls_text.specs.declared.fault.Fault.{Fault}
 use Rattle.gen_unroll.specs.Steps.{ModuleStep}
-use Rattle.gen_unroll.specs.Values.{◌>>=◌}
+use Rattle.ls_text.specs.Answers.{◌>>=◌}
 use Rattle.module_registry.specs.declared.build_job.BuildJob.{BuildJob}
 use Rattle.module_registry.specs.Building.{Built}
 use Rattle.unit_names.specs.Numbers.{module_table}

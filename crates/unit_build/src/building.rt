@@ -1,7 +1,7 @@
 // The unit of a job.
 ghost use Rattle.std.specs.Prelude.{◌≡◌, [], map, Ok, IfOk, IfErr};
 ghost use Rattle.driver_rules.specs.Driven.{AreNarrowItems, HasRoles, IsDriven};
-ghost use Rattle.gen_unroll.specs.Values.{Answers};
+ghost use Rattle.ls_text.specs.Answers.{Answers};
 ghost use Rattle.gen_unroll.specs.Views.{step_of};
 ghost use Rattle.module_registry.specs.UnitViews.{built_of};
 ghost use Rattle.unit_ir.specs.Items.{items_of, unit_of};

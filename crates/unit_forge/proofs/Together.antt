@@ -7,7 +7,8 @@ use Rattle.ls_text.specs.declared.refusal.Refusal.{Refusal}
 use Rattle.ls_text.specs.declared.refusal.Refusal.TheVariants as refusal
 use Rattle.unit_ir.specs.declared.unit.Unit.{Unit as ModuleUnit}
 use Rattle.module_registry.specs.declared.build_job.BuildJob.{BuildJob}
-use Rattle.module_registry.specs.Building.{Built, built_all, Refuses, ◌>>=◌}
+use Rattle.ls_text.specs.Answers.{◌>>=◌}
+use Rattle.module_registry.specs.Building.{Built, built_all, Refuses}
 use Rattle.module_registry.specs.Keys.{KeyData, jobs_of}
 use Rattle.module_registry.specs.UnitViews.{built_of}
 use Rattle.unit_forge.specs.Results.{IsResultOf, before, all_of, RefusesFirst}

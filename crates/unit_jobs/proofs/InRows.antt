@@ -9,7 +9,7 @@ use Rattle.unit_ir.specs.declared.instance.Instance.{Instance}
 use Rattle.unit_ir.specs.Shapes.{children_of, shape_of}
 use Rattle.verilog_ast.specs.declared.module.Module.{Module}
 use Rattle.verilog_ast.specs.Views.{declaration_of}
-use Rattle.gen_unroll.specs.Values.{Answers, ◌>>=◌}
+use Rattle.ls_text.specs.Answers.{Answers, ◌>>=◌}
 use Rattle.unit_jobs.specs.FirstModules.{first_modules}
 use Rattle.unit_jobs.specs.Jobs.{InstanceJob, instance_job, job_with, jobs_from, module_called, or_no_module, steps_under, tree_jobs}
 use Rattle.unit_jobs.specs.Rows.{jobs_behind, jobs_in_rows, rows_from}

@@ -17,7 +17,8 @@ use Rattle.gen_unroll.specs.Overriding.{constant_sorts, overrides_of}
 use Rattle.gen_unroll.specs.Steps.{GenerateBlock, ModuleStep, Listed, Port, Parameter, Item, Labelled, Opened, Closed, blocks_in}
 use Rattle.gen_unroll.specs.Told.{Told, fault_in}
 use Rattle.gen_unroll.specs.Unrolled.{State, unrolled_module, turn_limit}
-use Rattle.gen_unroll.specs.Values.{ConstantValue, ◌>>=◌}
+use Rattle.ls_text.specs.Answers.{◌>>=◌}
+use Rattle.gen_unroll.specs.Values.{ConstantValue}
 use Rattle.gen_unroll.specs.Views.{step_of}
 use Rattle.unit_jobs.specs.BlockNames.{item_texts, texts_within}
 use Rattle.unit_jobs.specs.Jobs.{told_steps}

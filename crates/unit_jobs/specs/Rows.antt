@@ -7,7 +7,7 @@ use Rattle.unit_ir.specs.declared.child_shape.ChildShape.{ChildShape}
 use Rattle.unit_ir.specs.declared.instance.Instance.{Instance}
 use Rattle.unit_ir.specs.Shapes.{children_of, shape_of, stands_in}
 use Rattle.verilog_ast.specs.declared.module.Module.{Module}
-use Rattle.gen_unroll.specs.Values.{◌>>=◌}
+use Rattle.ls_text.specs.Answers.{◌>>=◌}
 use Rattle.unit_jobs.specs.Jobs.{InstanceJob, instance_job}
 
 -- the shapes of those that stand in the k-th, one after another

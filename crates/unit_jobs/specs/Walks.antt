@@ -5,7 +5,7 @@ use Rattle.typed_ir.specs.declared.constant.Const.{Const}
 use Rattle.verilog_ast.specs.Items.{ModuleDeclaration}
 use Rattle.gen_unroll.specs.Reaches.{innermost, blocks_around}
 use Rattle.gen_unroll.specs.Steps.{GenerateBlock, ModuleStep, Item, Opened, Closed, blocks_in}
-use Rattle.gen_unroll.specs.Values.{◌>>=◌}
+use Rattle.ls_text.specs.Answers.{◌>>=◌}
 use Rattle.unit_jobs.specs.BlockNames.{item_texts, texts_within}
 use Rattle.unit_jobs.specs.Jobs.{steps_under}
 

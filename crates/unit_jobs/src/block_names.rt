@@ -4,7 +4,7 @@ ghost use Rattle.verilog_ast.specs.Views.{declaration_of, declared_of, declared_
 ghost use Rattle.gen_unroll.specs.Declarations.{declared_name, declared_reg_name};
 ghost use Rattle.gen_unroll.specs.Reaches.{innermost};
 ghost use Rattle.gen_unroll.specs.Spoken.{spoken};
-ghost use Rattle.gen_unroll.specs.Values.{Answers};
+ghost use Rattle.ls_text.specs.Answers.{Answers};
 ghost use Rattle.gen_unroll.specs.Views.{block_of, here_of, number_of, step_of};
 ghost use Rattle.unit_jobs.specs.BlockNames.{called_in, item_texts, texts_within};
 ghost use Rattle.unit_jobs.specs.UnnamedViews.{text_items};

@@ -1,7 +1,7 @@
 // Instances to their jobs, with names that are texts.
 ghost use Rattle.std.specs.Prelude.{◌≡◌, ◌∷◌, [], map, IfOk};
 ghost use Rattle.ls_text.specs.declared.at.At.TheVariants.{Edit};
-ghost use Rattle.gen_unroll.specs.Values.{Answers};
+ghost use Rattle.ls_text.specs.Answers.{Answers};
 ghost use Rattle.unit_jobs.specs.Jobs.{instance_job, module_called, or_no_module};
 ghost use Rattle.unit_jobs.specs.Rows.{jobs_in_rows, row_of};
 ghost use Rattle.unit_jobs.specs.TableViews.{modules_of, shared_module};

@@ -6,7 +6,7 @@ use Rattle.verilog_lex.specs.declared.token.Token.{Token}
 use Rattle.verilog_lex.specs.declared.kind.Kind.{Kind}
 use Rattle.verilog_lex.specs.declared.kind.Kind.TheVariants as k
 use Rattle.unplaced_trees.specs.Unplaced.{unplaced_name}
-use Rattle.unit_laws.specs.Bare.{bare_expression, bare_range, bare_shape, bare_variable, bare_reg_variable, bare_parameter, bare_named, bare_ordered, bare_connections, bare_instance, bare_tokens}
+use Rattle.unit_laws.proofs.BareForms.{bare_expression, bare_range, bare_shape, bare_variable, bare_reg_variable, bare_parameter, bare_named, bare_ordered, bare_connections, bare_instance, bare_tokens}
 use Rattle.verilog_expr.specs.Grammar.{begins_expression}
 use Rattle.unit_laws.proofs.BareTokens.{at_next, takes_so, same_place}
 use Rattle.unit_laws.proofs.BareSpells.{spells_so}

@@ -7,7 +7,7 @@ use Rattle.verilog_ast.specs.Places.{no_place}
 use Rattle.verilog_ast.specs.declared.generate_item.Branch.{Branch}
 use Rattle.verilog_ast.specs.declared.generate_item.GenerateItem.{GenerateItem}
 use Rattle.unplaced_trees.specs.Unplaced.{unplaced_name}
-use Rattle.unit_laws.specs.Bare.{bare_loop, bare_generate_item, bare_branch, bare_tokens}
+use Rattle.unit_laws.proofs.BareForms.{bare_loop, bare_generate_item, bare_branch, bare_tokens}
 use Rattle.verilog_expr.specs.Grammar.{begins_generate_item}
 use Rattle.unit_laws.proofs.BareTokens.{at_next, takes_so}
 use Rattle.unit_laws.proofs.BareSpells.{spells_so}

@@ -12,7 +12,7 @@ use Rattle.verilog_ast.specs.declared.generate_item.GenerateItem.TheVariants as 
 use Rattle.verilog_ast.specs.declared.generate_item.GenerateItem.TheOpen.{GenerateItem-F}
 use Rattle.verilog_ast.specs.declared.generate_item.GenerateItem.TheFolds.{fold-roll-GenerateItem, fold_out-Branch}
 use Rattle.unplaced_trees.specs.Unplaced.{unplaced_name}
-use Rattle.unit_laws.specs.Bare.{bare_expression, bare_plain_item, bare_loop, generate_item_step, branch_step, bare_generate_item, bare_branch}
+use Rattle.unit_laws.proofs.BareForms.{bare_expression, bare_plain_item, bare_loop, generate_item_step, branch_step, bare_generate_item, bare_branch}
 
 pub plain_so : (x : PlainItem) → bare_generate_item (generate.Plain x) ≡ generate.Plain (bare_plain_item x)
 plain_so x =

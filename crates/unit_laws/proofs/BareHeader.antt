@@ -3,7 +3,7 @@ use Rattle.std.proofs.Common.{◌≡◌, ◌≢◌, List, map}
 use Rattle.verilog_lex.specs.declared.token.Token.{Token}
 use Rattle.verilog_lex.specs.declared.kind.Kind.{Kind}
 use Rattle.verilog_lex.specs.declared.kind.Kind.TheVariants as k
-use Rattle.unit_laws.specs.Bare.{bare_header_parameter, bare_header_port, bare_ports, bare_tokens}
+use Rattle.unit_laws.proofs.BareForms.{bare_header_parameter, bare_header_port, bare_ports, bare_tokens}
 use Rattle.unit_laws.proofs.BareTokens.{at_next, takes_so}
 use Rattle.verilog_header.specs.Headers.{Phrase, Spells, AHeader, ParameterHeader, AShapedParameter, AHeaderParameter, HeaderParametersBehind, OtherHeaderParameters, PortHeader, PortList, DeclaredPorts, HeaderPortsBehind, OtherHeaderPorts, AHeaderPort, NextHeaderPort, header, no_parameters, some_parameters, shaped, with_shape, without_shape, header_parameters_behind, no_header_parameter, another_header_parameter, no_ports, some_ports, empty_list, name_list, input_list, output_list, declared, header_ports_behind, no_header_port, another_header_port, input_port, output_port, next_name, next_port}
 use Rattle.unit_laws.proofs.BareDeclaration.{declaration_so}

@@ -4,7 +4,7 @@ use Rattle.verilog_lex.specs.declared.token.Token.{Token}
 use Rattle.verilog_lex.specs.declared.kind.Kind.{Kind}
 use Rattle.verilog_lex.specs.declared.kind.Kind.TheVariants as k
 use Rattle.verilog_ast.specs.Places.{no_place}
-use Rattle.unit_laws.specs.Bare.{bare_continuous, bare_plain_item, bare_tokens}
+use Rattle.unit_laws.proofs.BareForms.{bare_continuous, bare_plain_item, bare_tokens}
 use Rattle.unit_laws.proofs.BareTokens.{at_next, takes_so}
 use Rattle.unit_laws.proofs.BareSpells.{spells_so}
 use Rattle.verilog_item.specs.Items.{Phrase, Spells, APlainItem, AnEvent, Trigger, EdgeEnd, Assignments, AssignmentsBehind, OtherAssignments, AContinuous, wire_item, reg_item, local_item, genvar_item, assign_item, always_item, instances_item, at_all, at_bracket, at_inputs, at_edge, edge_end, assignments, assignments_behind, no_assignment, another_assignment, continuous}

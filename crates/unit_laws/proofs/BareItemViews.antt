@@ -35,7 +35,7 @@ use Rattle.verilog_ast.specs.Declarations as d
 use Rattle.verilog_ast.specs.Declarations.{RangeBounds, Kind, Declared, DeclaredReg, ParameterAssignment, HeaderParameterDeclaration, PortDeclaration, PortList}
 use Rattle.verilog_ast.specs.Items as i
 use Rattle.verilog_ast.specs.Items.{ConnectionByName, ConnectionByOrder, ConnectionList, ModuleInstance, ContinuousAssignment, LoopHead, ModuleItem, ModuleDeclaration}
-use Rattle.unit_laws.specs.Bare.{bare_expression, bare_range, bare_shape, bare_variable, bare_reg_variable, bare_parameter, bare_header_parameter, bare_header_port, bare_ports, bare_named, bare_ordered, bare_connections, bare_instance, bare_continuous, bare_plain_item, bare_loop, generate_item_step, branch_step, bare_generate_item, bare_branch, bare_item, bare_body}
+use Rattle.unit_laws.proofs.BareForms.{bare_expression, bare_range, bare_shape, bare_variable, bare_reg_variable, bare_parameter, bare_header_parameter, bare_header_port, bare_ports, bare_named, bare_ordered, bare_connections, bare_instance, bare_continuous, bare_plain_item, bare_loop, generate_item_step, branch_step, bare_generate_item, bare_branch, bare_item, bare_body}
 use Rattle.verilog_ast.specs.Views.{expression_of, range_of, kind_of, declared_of, declared_reg_of, parameter_of, header_parameter_of, port_of, ports_of, by_name_of, by_order_of, connections_of, instance_of, assignment_of, plain_item_of, head_of, items_of, generate_item_view, branch_view, generate_item_of, branch_of, item_of, declaration_of}
 use Rattle.unplaced_trees.specs.Unplaced.{unplaced_name, unplaced_expression, unplaced_range, unplaced_kind, unplaced_declared, unplaced_declared_reg, unplaced_parameter, unplaced_header_parameter, unplaced_port, unplaced_ports, unplaced_by_name, unplaced_by_order, unplaced_connections, unplaced_instance, unplaced_assignment, unplaced_head, unplaced_item, unplaced_declaration}
 use Rattle.verilog_ast.proofs.Equal.{ap₃}

@@ -3,7 +3,7 @@ use Rattle.std.proofs.Common.{◌≡◌, ◌≢◌, List, map, true, false}
 use Rattle.verilog_lex.specs.declared.token.Token.{Token}
 use Rattle.verilog_lex.specs.declared.kind.Kind.{Kind}
 use Rattle.verilog_lex.specs.declared.kind.Kind.TheVariants as k
-use Rattle.unit_laws.specs.Bare.{bare_item, bare_body, bare_tokens}
+use Rattle.unit_laws.proofs.BareForms.{bare_item, bare_body, bare_tokens}
 use Rattle.verilog_expr.specs.Grammar.{begins_item}
 use Rattle.unit_laws.proofs.BareTokens.{at_next, takes_so}
 use Rattle.verilog_parse.specs.Modules.{Phrase, Spells, AModule, Items, AnItem, module_, no_item, another_item, input_item, output_item, parameter_item, region, other_item}

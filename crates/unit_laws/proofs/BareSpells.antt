@@ -7,7 +7,7 @@ use Rattle.verilog_ast.specs.Places.{no_place}
 use Rattle.verilog_ast.specs.declared.expression.Expr.{Expr}
 use Rattle.verilog_ast.specs.declared.expression.Reference.{Reference}
 use Rattle.unplaced_trees.specs.Unplaced.{unplaced_name}
-use Rattle.unit_laws.specs.Bare.{bare_expression, bare_reference, bare_range, bare_tokens}
+use Rattle.unit_laws.proofs.BareForms.{bare_expression, bare_reference, bare_range, bare_tokens}
 use Rattle.verilog_expr.specs.Tokens.{binary_operator, number_of}
 use Rattle.verilog_expr.specs.Spells.{Phrase, Spells, AnExpression, AChain, AnOperand, ASelect, APart, ABraced, Behind, Others, ARange, plain, conditional, one, binary, number, unary, read, bracketed, braced, concatenation, replication, behind, no_other, another, whole, select, bit, part, upward, downward, range}
 use Rattle.unit_laws.proofs.BareTokens.{at_next, takes_so}

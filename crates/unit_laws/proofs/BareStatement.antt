@@ -9,7 +9,7 @@ use Rattle.verilog_ast.specs.declared.target.Lhs.{Lhs}
 use Rattle.verilog_ast.specs.declared.statement.Stmt.{Stmt}
 use Rattle.verilog_ast.specs.declared.statement.Arm.{Arm}
 use Rattle.unplaced_trees.specs.Unplaced.{unplaced_name}
-use Rattle.unit_laws.specs.Bare.{bare_expression, bare_target, bare_label, bare_statement, bare_arm, bare_tokens}
+use Rattle.unit_laws.proofs.BareForms.{bare_expression, bare_target, bare_label, bare_statement, bare_arm, bare_tokens}
 use Rattle.verilog_expr.specs.Grammar.{begins_statement, begins_arm}
 use Rattle.unit_laws.proofs.BareTokens.{at_next, takes_so}
 use Rattle.unit_laws.proofs.BareSpells.{spells_so}

@@ -19,7 +19,7 @@ use Rattle.verilog_ast.specs.declared.statement.Arm.TheVariants as arm
 use Rattle.verilog_ast.specs.declared.statement.Arm.TheOpen.{Stmt-F, Arm-F}
 use Rattle.verilog_ast.specs.declared.statement.Arm.TheFolds.{fold-roll-Stmt, fold-roll-Arm}
 use Rattle.unplaced_trees.specs.Unplaced.{unplaced_name}
-use Rattle.unit_laws.specs.Bare.{bare_expression, bare_reference, target_step, bare_target, bare_label, arm_step, statement_step, bare_statement, bare_arm}
+use Rattle.unit_laws.proofs.BareForms.{bare_expression, bare_reference, target_step, bare_target, bare_label, arm_step, statement_step, bare_statement, bare_arm}
 
 pub target_reference_so : (x : Reference) → bare_target (target.Reference x) ≡ target.Reference (bare_reference x)
 target_reference_so x =

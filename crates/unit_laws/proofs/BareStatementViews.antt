@@ -11,7 +11,7 @@ use Rattle.verilog_ast.specs.declared.statement.Arm.TheVariants as a
 use Rattle.verilog_ast.specs.declared.statement.Arm.TheOpen.{Stmt-F, Arm-F}
 use Rattle.verilog_ast.specs.declared.statement.Arm.TheFolds.{fold-roll-Stmt, fold-roll-Arm, ind-Stmt, map-Stmt, map-Arm}
 use Rattle.verilog_ast.specs.Statements.{Compared, Statement, Block, If, IfElse, Case, Assignment, Default, Match, Statements}
-use Rattle.unit_laws.specs.Bare.{bare_expression, bare_target, bare_label, statement_step, arm_step, bare_statement, bare_arm}
+use Rattle.unit_laws.proofs.BareForms.{bare_expression, bare_target, bare_label, statement_step, arm_step, bare_statement, bare_arm}
 use Rattle.verilog_ast.specs.Views.{label_of, statements_of, statement_view, arm_view, statement_of, arm_of}
 use Rattle.unplaced_trees.specs.Unplaced.{unplaced_name, unplaced_label, unplaced_statement}
 use Rattle.verilog_ast.proofs.Equal.{ap₃}

@@ -3,7 +3,7 @@ use Rattle.std.proofs.Common.{◌≡◌, List, [], ◌∷◌, refl, sym, ap, sub
 use Rattle.verilog_lex.specs.declared.token.Token.{Token}
 use Rattle.verilog_lex.specs.declared.kind.Kind.{Kind}
 use Rattle.verilog_ast.specs.Places.{no_place}
-use Rattle.unit_laws.specs.Bare.{bare_token, bare_tokens}
+use Rattle.unit_laws.proofs.BareForms.{bare_token, bare_tokens}
 use Rattle.verilog_expr.specs.Tokens.{next, place_at, Takes, taken}
 
 same_next : (s : List Token) → next (bare_tokens s) ≡ next s

@@ -13,7 +13,7 @@ use Rattle.verilog_ast.specs.declared.expression.Expr.TheFolds.{fold-roll-Expr, 
 use Rattle.verilog_ast.specs.declared.expression.Reference.{Reference}
 use Rattle.verilog_ast.specs.declared.expression.Reference.TheVariants as ref
 use Rattle.unplaced_trees.specs.Unplaced.{unplaced_name}
-use Rattle.unit_laws.specs.Bare.{expression_step, reference_step, bare_expression, bare_reference}
+use Rattle.unit_laws.proofs.BareForms.{expression_step, reference_step, bare_expression, bare_reference}
 
 pub number_so : (at : Place) (x : Number) → bare_expression (e.Number at x) ≡ e.Number no_place x
 number_so at x =

@@ -12,7 +12,7 @@ use Rattle.verilog_ast.specs.declared.target.Lhs.TheOpen.{Lhs-F}
 use Rattle.verilog_ast.specs.declared.target.Lhs.TheFolds.{fold-roll-Lhs, ind-Lhs, map-Lhs}
 use Rattle.verilog_ast.specs.declared.target.Lhs.TheVariants as t
 use Rattle.verilog_ast.specs.Expressions.{Expression, Target, Unary, Binary, Conditional, Concatenation, Replication, Bracketed, Parts, BitSelect, PartSelect, UpwardSelect, DownwardSelect, Reference as Single, Joined, Targets}
-use Rattle.unit_laws.specs.Bare.{reference_step, expression_step, bare_reference, bare_expression, target_step, bare_target}
+use Rattle.unit_laws.proofs.BareForms.{reference_step, expression_step, bare_reference, bare_expression, target_step, bare_target}
 use Rattle.verilog_ast.specs.Views.{parts_of, expression_view, reference_view, expression_of, reference_of, targets_of, target_view, target_of}
 use Rattle.unplaced_trees.specs.Unplaced.{unplaced_name, unplaced_expression, unplaced_target}
 use Rattle.verilog_ast.proofs.Equal.{ap₃}

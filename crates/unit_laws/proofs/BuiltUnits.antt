@@ -10,7 +10,8 @@ use Rattle.width_rules.proofs.Reading.{left_none}
 use Rattle.gen_unroll.specs.Overriding.{constant_sorts, overrides_of}
 use Rattle.gen_unroll.specs.Steps.{ModuleStep}
 use Rattle.gen_unroll.specs.Unrolled.{State, unrolled_module, turn_limit}
-use Rattle.gen_unroll.specs.Values.{◌>>=◌, unless}
+use Rattle.ls_text.specs.Answers.{◌>>=◌}
+use Rattle.gen_unroll.specs.Values.{unless}
 use Rattle.module_registry.specs.declared.build_job.BuildJob.{BuildJob}
 use Rattle.module_registry.specs.Building.{Built}
 use Rattle.driver_rules.specs.DriverFaults.{driver_faults}

@@ -13,7 +13,8 @@ use Rattle.gen_unroll.specs.Overriding.{sort_of_each, item_sorts, constant_sorts
 use Rattle.gen_unroll.specs.Reaches.{reach_in}
 use Rattle.gen_unroll.specs.Steps.{ModuleStep, Parameter, Opened, Closed}
 use Rattle.gen_unroll.specs.Unrolled.{unrolled_module, turn_limit}
-use Rattle.gen_unroll.specs.Values.{ConstantValue, constant_of, ◌>>=◌}
+use Rattle.ls_text.specs.Answers.{◌>>=◌}
+use Rattle.gen_unroll.specs.Values.{ConstantValue, constant_of}
 use Rattle.gen_unroll.proofs.Answered.{first_step, ok_same}
 use Rattle.module_names.specs.Modules.{header_ports}
 use Rattle.module_registry.specs.Constants.{assigned_name, header_name, item_constants, constants_of}

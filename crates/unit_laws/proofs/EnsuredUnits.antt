@@ -6,7 +6,8 @@ use Rattle.std.proofs.lemmas.List.Elements.{All-head, All-tail}
 use Rattle.ls_text.specs.declared.fault.Fault.{Fault}
 use Rattle.ls_text.specs.Texts.{HasEachOnce}
 use Rattle.module_registry.specs.declared.build_job.BuildJob.{BuildJob}
-use Rattle.module_registry.specs.Building.{Built, built_all, ◌>>=◌}
+use Rattle.ls_text.specs.Answers.{◌>>=◌}
+use Rattle.module_registry.specs.Building.{Built, built_all}
 use Rattle.module_registry.specs.Entries.{Entry, keys_of, is_among, missing, entries, ensured, unit_under}
 use Rattle.module_registry.specs.KeyLaws.{same_laws}
 use Rattle.module_registry.specs.Keys.{KeyData, same, jobs_of}

@@ -15,7 +15,8 @@ use Rattle.ls_text.specs.Texts.{Grows, HasEachOnce}
 use Rattle.unit_ir.specs.declared.unit.Unit.{Unit as ModuleUnit}
 use Rattle.link.specs.Listings.{all_parts}
 use Rattle.module_registry.specs.declared.build_job.BuildJob.{BuildJob}
-use Rattle.module_registry.specs.Building.{Built, built_all, ◌>>=◌}
+use Rattle.ls_text.specs.Answers.{◌>>=◌}
+use Rattle.module_registry.specs.Building.{Built, built_all}
 use Rattle.module_registry.specs.Entries.{Entry, keys_of, is_among, if_missing, missing, entries, ensured, unit_under}
 use Rattle.module_registry.specs.Jobs.{job_text}
 use Rattle.module_registry.specs.Keys.{KeyData, same, jobs_of}

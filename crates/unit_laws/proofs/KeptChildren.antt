@@ -16,7 +16,8 @@ use Rattle.gen_unroll.specs.declared.parameter_sort.ParameterSort.{ParameterSort
 use Rattle.gen_unroll.specs.Declarations.{BitRange, declared_name}
 use Rattle.gen_unroll.specs.Reaches.{Reach, innermost}
 use Rattle.gen_unroll.specs.Steps.{ModuleStep, Listed, Port, Parameter, Item, Labelled, Opened, Closed}
-use Rattle.gen_unroll.specs.Values.{ConstantValue, ◌>>=◌}
+use Rattle.ls_text.specs.Answers.{◌>>=◌}
+use Rattle.gen_unroll.specs.Values.{ConstantValue}
 use Rattle.module_names.specs.Listings.{is_listed}
 use Rattle.elaborate.specs.declared.declaration_kind.DeclarationKind.{DeclarationKind}
 use Rattle.elaborate.specs.declared.declaration_kind.DeclarationKind.TheVariants as kind

@@ -1,3 +1,4 @@
+pub mod BareForms
 pub mod BareViews
 pub mod BareStatementViews
 pub mod BareItemViews

@@ -12,7 +12,8 @@ use Rattle.width_rules.specs.Scopes.{Scope}
 use Rattle.gen_unroll.specs.Reaches.{Reach, innermost, in_reach, reach_in}
 use Rattle.gen_unroll.specs.Steps.{GenerateBlock, ModuleStep, Listed, Port, Parameter, Item, Labelled, Opened, Closed, blocks_in}
 use Rattle.gen_unroll.specs.Unrolled.{unrolled_module}
-use Rattle.gen_unroll.specs.Values.{ConstantValue, ◌>>=◌}
+use Rattle.ls_text.specs.Answers.{◌>>=◌}
+use Rattle.gen_unroll.specs.Values.{ConstantValue}
 use Rattle.gen_unroll.proofs.Answered.{err_or_ok, ok_same, first_step}
 use Rattle.module_names.specs.Modules.{module_named, parameters_of, header_ports}
 use Rattle.clock_rules.specs.Clocks.{all_free, declared_free, reg_free, assignment_free, statement_free, posedge, clock_of, clocks_of, clocks_in, unless_misused, clock_item}

@@ -7,7 +7,7 @@ use Rattle.verilog_ast.specs.Views.{declaration_of}
 use Rattle.verilog_parse.specs.Modules.{Spells, AModule, module_}
 use Rattle.grammar_laws.proofs.OneModule.{one_module}
 use Rattle.unplaced_trees.specs.Unplaced.{unplaced_declaration}
-use Rattle.unit_laws.specs.Bare.{bare_body, bare_tokens}
+use Rattle.unit_laws.proofs.BareForms.{bare_body, bare_tokens}
 use Rattle.unit_laws.proofs.BareItemViews.{same_declaration}
 use Rattle.unit_laws.proofs.BareModule.{module_so}
 use Rattle.unit_laws.proofs.Behind.{Behind, token_behind, token_last}

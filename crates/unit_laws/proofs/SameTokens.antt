@@ -11,7 +11,7 @@ use Rattle.verilog_ast.specs.Places.{no_place}
 use Rattle.verilog_ast.proofs.Equal.{ap₃, ap₄}
 use Rattle.verilog_spelling.specs.Spellings.{number_text, pattern_text, text_of_kind, token_text, spaced, spelling}
 use Rattle.unit_laws.specs.Proper.{IsFreeOf, text_kind, IsWritten, IsNumber, IsPattern, IsToken, IsProper}
-use Rattle.unit_laws.specs.Bare.{bare_token, bare_tokens}
+use Rattle.unit_laws.proofs.BareForms.{bare_token, bare_tokens}
 use Rattle.unit_laws.proofs.Texts.{EndsHere, cut_first}
 use Rattle.unit_laws.proofs.Patterns.{number_tells, no_pattern, pattern_tells, number_free, pattern_free}
 use Rattle.unit_laws.proofs.SpellingWords.{other_text, begins_number, written_begins, number_begins, pattern_begins}

@@ -14,7 +14,8 @@ use Rattle.gen_unroll.specs.Overriding.{constant_sorts, overrides_of}
 use Rattle.gen_unroll.specs.Steps.{LoopTurn, ModuleStep, Listed, Port, Parameter, Item, Labelled, Opened, Closed}
 use Rattle.gen_unroll.specs.Told.{Told, go_on, ◌>>=◌, say, say_all, quiet}
 use Rattle.gen_unroll.specs.Unrolled.{State, each, override_of, given_or, known, parameter, parameters, next_type, header_parameters, port_steps, is_taken, loop_turns, labelled, inside, outside, block_with, turn_with, loop_with, taken_with, unrolled, chosen, branch, beginning, untyped, module_told, unrolled_module, turn_limit}
-use Rattle.gen_unroll.specs.Values.{ConstantValue, evaluated, ◌>>=◌ as ◌>>>◌}
+use Rattle.ls_text.specs.Answers.{◌>>=◌ as ◌>>>◌}
+use Rattle.gen_unroll.specs.Values.{ConstantValue, evaluated}
 use Rattle.module_registry.specs.declared.build_job.BuildJob.{BuildJob}
 use Rattle.unit_jobs.specs.BlockNames.{declared_by}
 use Rattle.unit_build.specs.Building.{module_of, job_steps}

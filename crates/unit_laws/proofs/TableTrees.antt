@@ -8,7 +8,7 @@ use Rattle.unit_ir.specs.Trees as t
 use Rattle.unit_ir.specs.Trees.{Instances}
 use Rattle.link.specs.Listings.{Entry, entries_of, instances_in, listed, IsTreeOf}
 use Rattle.gen_unroll.specs.Steps.{ModuleStep}
-use Rattle.gen_unroll.specs.Values.{◌>>=◌}
+use Rattle.ls_text.specs.Answers.{◌>>=◌}
 use Rattle.module_registry.specs.declared.build_job.BuildJob.{BuildJob}
 use Rattle.module_registry.specs.Building.{Built}
 use Rattle.unit_names.specs.Numbers.{SignalTable, module_table}

@@ -1,4 +1,3 @@
-pub mod Bare
 pub mod Proper
 pub mod Spelled
 pub mod Told

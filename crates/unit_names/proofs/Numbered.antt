@@ -13,7 +13,7 @@ use Rattle.unit_ir.specs.Shapes.{is_clock}
 use Rattle.verilog_ast.specs.Items.{ModuleDeclaration}
 use Rattle.gen_unroll.specs.Reaches.{reach_in}
 use Rattle.gen_unroll.specs.Steps.{ModuleStep}
-use Rattle.gen_unroll.specs.Values.{◌>>=◌}
+use Rattle.ls_text.specs.Answers.{◌>>=◌}
 use Rattle.unit_names.specs.Numbers.{SignalTable, place_where, has_order, if_any, numbers_from, numbered, header_names, table_of, module_table}
 use Rattle.unit_names.specs.Signals.{NamedSignal, declared_in}
 use Rattle.unit_names.specs.Sound.{IsOrdered, AreApart}

@@ -14,7 +14,7 @@ use Rattle.unit_ir.specs.declared.signal_kind.SignalKind.TheVariants as kind
 use Rattle.gen_unroll.specs.Declarations.{BitRange, declared_name, declared_reg_name}
 use Rattle.gen_unroll.specs.Reaches.{Reach, innermost, in_reach}
 use Rattle.gen_unroll.specs.Steps.{ModuleStep, Listed, Port, Parameter, Item, Labelled, Opened, Closed}
-use Rattle.gen_unroll.specs.Values.{◌>>=◌}
+use Rattle.ls_text.specs.Answers.{◌>>=◌}
 use Rattle.unit_names.specs.Signals.{NamedSignal, completes, completed, put, kind_of_net, header_net, with_port, with_ports, with_next, with_net, with_nets, last_of, range_in, header_port, item_signals, step_signals, declared_in}
 
 -- so many were declared before the first of these, and one more before each further one

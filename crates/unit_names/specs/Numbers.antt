@@ -8,7 +8,7 @@ use Rattle.verilog_ast.specs.Items.{ModuleDeclaration}
 use Rattle.gen_unroll.specs.Declarations.{port_name}
 use Rattle.gen_unroll.specs.Reaches.{reach_in}
 use Rattle.gen_unroll.specs.Steps.{ModuleStep}
-use Rattle.gen_unroll.specs.Values.{◌>>=◌}
+use Rattle.ls_text.specs.Answers.{◌>>=◌}
 use Rattle.unit_names.specs.Signals.{NamedSignal, is_outermost, is_port, is_port_named, declared_in}
 
 -- the names that a header lists or declares

@@ -14,7 +14,7 @@ use Rattle.width_rules.specs.Scopes.{Scope}
 use Rattle.gen_unroll.specs.Declarations.{BitRange, range_value, declared_name, declared_reg_name}
 use Rattle.gen_unroll.specs.Reaches.{Reach, innermost, in_reach}
 use Rattle.gen_unroll.specs.Steps.{ModuleStep, Listed, Port, Parameter, Item, Labelled, Opened, Closed}
-use Rattle.gen_unroll.specs.Values.{◌>>=◌}
+use Rattle.ls_text.specs.Answers.{◌>>=◌}
 
 pub record NamedSignal : Type 0 where
   -- the block that declares it, none for the module itself

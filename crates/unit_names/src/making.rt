@@ -1,7 +1,7 @@
 // The signals of an unrolled module, and one of them by its name.
 ghost use Rattle.std.specs.Prelude.{◌≡◌, map, length, IfOk};
 ghost use Rattle.verilog_ast.specs.Views.{ports_of, declaration_of};
-ghost use Rattle.gen_unroll.specs.Values.{Answers};
+ghost use Rattle.ls_text.specs.Answers.{Answers};
 ghost use Rattle.gen_unroll.specs.Views.{step_of};
 ghost use Rattle.unit_names.specs.ModuleViews.{signals_in, table_in};
 ghost use Rattle.unit_names.specs.Numbers as n;

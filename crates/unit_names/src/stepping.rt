@@ -5,10 +5,10 @@ ghost use Rattle.verilog_ast.specs.Views.{range_of, kind_of, declared_of, declar
 ghost use Rattle.width_rules.specs.Entries.{scope_of};
 ghost use Rattle.gen_unroll.specs.Reaches.{reach_in, IsEven};
 ghost use Rattle.gen_unroll.specs.ReachViews.{reach_of};
-ghost use Rattle.gen_unroll.specs.Values.{Answers};
+ghost use Rattle.ls_text.specs.Answers.{Answers, Leads};
 ghost use Rattle.gen_unroll.specs.Views.{bit_range_of, step_of};
 ghost use Rattle.unit_names.specs.Signals as s;
-ghost use Rattle.unit_names.specs.TableViews.{signals_of, IsPlaced, Leads};
+ghost use Rattle.unit_names.specs.TableViews.{signals_of, IsPlaced};
 
 use crate::declaring::{declare_next, declare_port, kind_of_net, no_signals};
 use crate::naming::{declare_inputs, declare_outputs, declare_regs, declare_wires};

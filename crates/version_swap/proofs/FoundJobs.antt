@@ -20,7 +20,7 @@ use Rattle.unit_ir.specs.declared.instance.Instance.{Instance}
 use Rattle.elaborate.specs.Elaborated.{Standing, elaborated}
 use Rattle.elaborate.specs.Trees.{TreeInstance, all_seen, tree}
 use Rattle.elaborate.specs.TreeViews.{instance_view, language_limits}
-use Rattle.gen_unroll.specs.Values.{Answers, ◌>>=◌}
+use Rattle.ls_text.specs.Answers.{Answers, ◌>>=◌}
 use Rattle.module_registry.specs.declared.build_job.BuildJob.{BuildJob}
 use Rattle.unit_jobs.specs.Jobs.{InstanceJob, tree_jobs}
 use Rattle.unit_jobs.specs.JobViews.{job_view}

@@ -15,7 +15,7 @@ use Rattle.unit_ir.specs.declared.child_shape.ChildShape.{ChildShape}
 use Rattle.unit_ir.specs.declared.instance.Instance.{Instance}
 use Rattle.unit_ir.specs.Shapes.{children_of, shape_of}
 use Rattle.gen_unroll.specs.Steps.{ModuleStep, blocks_in}
-use Rattle.gen_unroll.specs.Values.{◌>>=◌}
+use Rattle.ls_text.specs.Answers.{◌>>=◌}
 use Rattle.elaborate.specs.Elaborated.{Standing, elaborated}
 use Rattle.elaborate.specs.Trees.{all_seen, tree}
 use Rattle.elaborate.specs.TreeViews.{instance_view, language_limits}

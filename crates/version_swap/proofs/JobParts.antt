@@ -18,7 +18,7 @@ use Rattle.gen_unroll.specs.Reaches.{innermost, blocks_around as blocks_left}
 use Rattle.gen_unroll.specs.Steps.{GenerateBlock, ModuleStep, Listed, Port, Parameter, Item, Labelled, Opened, Closed, blocks_in}
 use Rattle.gen_unroll.specs.Told.{Told}
 use Rattle.gen_unroll.specs.Unrolled.{State, unrolled_module, turn_limit}
-use Rattle.gen_unroll.specs.Values.{◌>>=◌}
+use Rattle.ls_text.specs.Answers.{◌>>=◌}
 use Rattle.unit_jobs.specs.BlockNames.{called_in, declared_by, item_texts, texts_within}
 use Rattle.unit_jobs.specs.Jobs.{InstanceJob, module_called, or_no_module, told_steps, steps_under, job_with, instance_job, jobs_from, tree_jobs}
 use Rattle.unit_jobs.specs.JobViews.{text_of}

@@ -7,7 +7,8 @@ use Rattle.ls_text.specs.declared.name_id.NameId.{NameId}
 use Rattle.ls_text.specs.declared.refusal.Refusal.TheVariants as refusal
 use Rattle.typed_ir.specs.Cycles.{Flat}
 use Rattle.module_registry.specs.declared.build_job.BuildJob.{BuildJob}
-use Rattle.module_registry.specs.Building.{Built, built_all, ◌>>=◌}
+use Rattle.ls_text.specs.Answers.{◌>>=◌}
+use Rattle.module_registry.specs.Building.{Built, built_all}
 use Rattle.unit_build.specs.Building.{built}
 use Rattle.unit_laws.specs.JobsUnder.{IsJobUnder}
 use Rattle.link.specs.Faults.{IsLinkFault, too_many, loop_of}

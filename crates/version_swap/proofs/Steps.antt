@@ -24,7 +24,8 @@ use Rattle.unit_ir.specs.Shapes.{AreOf}
 use Rattle.unit_ir.specs.Trees.{flat_of_tree}
 use Rattle.link.specs.Listings.{all_parts}
 use Rattle.module_registry.specs.declared.build_job.BuildJob.{BuildJob}
-use Rattle.module_registry.specs.Building.{Built, built_all, Refuses, ◌>>=◌}
+use Rattle.ls_text.specs.Answers.{◌>>=◌}
+use Rattle.module_registry.specs.Building.{Built, built_all, Refuses}
 use Rattle.module_registry.specs.Entries.{Entry, keys_of, is_among, missing, entries, ensured, MadeAt}
 use Rattle.module_registry.specs.Jobs.{job_text}
 use Rattle.module_registry.specs.Keys.{KeyData, jobs_of}

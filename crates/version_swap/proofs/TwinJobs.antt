@@ -19,7 +19,8 @@ use Rattle.verilog_spelling.specs.Spellings.{hex_text}
 use Rattle.unit_ir.specs.declared.child_shape.ChildShape.{ChildShape}
 use Rattle.unit_ir.specs.declared.port_shape.PortShape.{PortShape}
 use Rattle.module_registry.specs.declared.build_job.BuildJob.{BuildJob}
-use Rattle.module_registry.specs.Building.{Built, built_all, ◌>>=◌}
+use Rattle.ls_text.specs.Answers.{◌>>=◌}
+use Rattle.module_registry.specs.Building.{Built, built_all}
 use Rattle.module_registry.specs.Constants.{assigned_name, header_name, item_constants, constants_of}
 use Rattle.module_registry.specs.Jobs.{job_text}
 use Rattle.module_registry.specs.KeyTexts.{line_end, shape_text, parameter_lines, clock_text, clock_line, port_line, child_lines, key_text}

@@ -3,7 +3,7 @@ use Rattle.std.specs.Option.{option_map}
 use Rattle.verilog_ast.specs.declared.expression.Expr.{Expr}
 use Rattle.verilog_ast.specs.Views.{expression_of}
 use Rattle.width_rules.specs.Entries.{scope_of}
-use Rattle.clock_rules.specs.Answers.{Answers}
+use Rattle.ls_text.specs.Answers.{Answers}
 use Rattle.clock_rules.specs.Clocks.{clock_free, value_free}
 use Rattle.clock_rules.proofs.clock_free.value_free.Goals as goal
 

@@ -3,7 +3,7 @@ use Rattle.std.specs.Option.{option_map}
 use Rattle.verilog_ast.specs.declared.expression.Expr.{Expr}
 use Rattle.verilog_ast.specs.Views.{expression_of, declaration_of}
 use Rattle.width_rules.specs.Entries.{scope_of}
-use Rattle.clock_rules.specs.Answers.{Answers}
+use Rattle.ls_text.specs.Answers.{Answers}
 use Rattle.clock_rules.specs.Clocks.{connect, connection}
 use Rattle.clock_rules.specs.Views.{clock_view}
 use Rattle.clock_rules.proofs.clocking.connection.Goals as goal

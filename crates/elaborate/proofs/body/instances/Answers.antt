@@ -5,7 +5,7 @@ use Rattle.verilog_ast.specs.Views.{connections_of, declaration_of, instance_of}
 use Rattle.gen_unroll.specs.ReachViews.{reach_of}
 use Rattle.gen_unroll.specs.Views.{override_view}
 use Rattle.elaborate.specs.Checks.{each, one_instance}
-use Rattle.clock_rules.specs.Answers.{Leads}
+use Rattle.ls_text.specs.Answers.{Leads}
 use Rattle.elaborate.specs.Views.{checked_of}
 use Rattle.module_names.specs.Views.{module_of, modules_of}
 use Rattle.elaborate.proofs.Instantiated.{overrides_refused, overrides_known}

@@ -2,7 +2,7 @@ use Rattle.std.proofs.Common.{◌≡◌, List, map, Result, refl, sym, subst, ru
 use Rattle.ls_text.specs.declared.fault.Fault.{Fault}
 use Rattle.verilog_ast.specs.Views.{declaration_of as plain_module}
 use Rattle.module_names.specs.Views.{modules_of}
-use Rattle.clock_rules.specs.Answers.{Leads}
+use Rattle.ls_text.specs.Answers.{Leads}
 use Rattle.elaborate.specs.Elaborated.{Standing}
 use Rattle.elaborate.specs.Jobs.{standing_of}
 use Rattle.elaborate.proofs.Stood.{top_into}

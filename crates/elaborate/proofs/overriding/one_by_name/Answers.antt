@@ -4,7 +4,7 @@ use Rattle.verilog_ast.specs.declared.expression.Expr.{Expr}
 use Rattle.verilog_ast.specs.Views.{expression_of}
 use Rattle.width_rules.specs.Entries.{scope_of}
 use Rattle.elaborate.specs.Overrides.{value_by_name, one_by_name}
-use Rattle.clock_rules.specs.Answers.{Leads}
+use Rattle.ls_text.specs.Answers.{Leads}
 use Rattle.elaborate.specs.Views.{given_of}
 use Rattle.elaborate.proofs.overriding.one_by_name.Goals as goal
 

@@ -3,7 +3,7 @@ use Rattle.std.specs.Option.{option_map}
 use Rattle.verilog_ast.specs.declared.expression.Expr.{Expr}
 use Rattle.verilog_ast.specs.Views.{expression_of}
 use Rattle.width_rules.specs.Entries.{scope_of}
-use Rattle.gen_unroll.specs.Values.{Answers}
+use Rattle.ls_text.specs.Answers.{Answers}
 use Rattle.gen_unroll.specs.Views.{override_view}
 use Rattle.elaborate.specs.Overrides.{value_by_order, one_by_order}
 use Rattle.elaborate.proofs.overriding.one_by_order.Goals as goal

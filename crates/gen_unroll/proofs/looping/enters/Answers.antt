@@ -4,7 +4,7 @@ use Rattle.verilog_ast.specs.Views.{expression_of}
 use Rattle.width_rules.specs.Entries.{scope_of}
 use Rattle.width_rules.specs.Scopes.{Scope}
 use Rattle.gen_unroll.specs.Unrolled.{holds}
-use Rattle.gen_unroll.specs.Values.{Answers}
+use Rattle.ls_text.specs.Answers.{Answers}
 use Rattle.gen_unroll.proofs.Values.{if_ok}
 use Rattle.gen_unroll.proofs.looping.enters.Goals as goal
 

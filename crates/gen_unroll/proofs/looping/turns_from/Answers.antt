@@ -5,7 +5,8 @@ use Rattle.verilog_ast.specs.declared.expression.Expr.{Expr}
 use Rattle.verilog_ast.specs.Views.{expression_of, head_of}
 use Rattle.width_rules.specs.Entries.{scope_of}
 use Rattle.gen_unroll.specs.Unrolled.{genvar_value, turns_from}
-use Rattle.gen_unroll.specs.Values.{constant_of, evaluated, Answers}
+use Rattle.ls_text.specs.Answers.{Answers}
+use Rattle.gen_unroll.specs.Values.{constant_of, evaluated}
 use Rattle.gen_unroll.proofs.Counting.{before, goes_more, ends_here, passes_limit, limit_refused, condition_refused, step_refused}
 use Rattle.gen_unroll.proofs.Scoping.{differs_more}
 use Rattle.gen_unroll.proofs.looping.turns_from.Goals as goal

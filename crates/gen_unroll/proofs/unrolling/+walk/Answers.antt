@@ -5,7 +5,8 @@ use Rattle.width_rules.specs.Scopes.{Scope}
 use Rattle.verilog_ast.specs.declared.generate_item.GenerateItem.{GenerateItem}
 use Rattle.verilog_ast.specs.Views.{expression_of, head_of, generate_item_of, branch_of, items_of}
 use Rattle.gen_unroll.specs.Unrolled.{State, each, turn_with, block_with, loop_with, taken_with, is_taken, unrolled, chosen}
-use Rattle.gen_unroll.specs.Values.{constant_of, Answers}
+use Rattle.ls_text.specs.Answers.{Answers}
+use Rattle.gen_unroll.specs.Values.{constant_of}
 use Rattle.gen_unroll.specs.Views.{Goes, state_of, here_of}
 use Rattle.gen_unroll.proofs.Blocks.{goes_from, goes_as, nothing_told, taken_through, loop_through, turns_gone, item_loop}
 use Rattle.gen_unroll.proofs.Comings.{quiet_refused}

@@ -4,7 +4,7 @@ use Rattle.verilog_ast.specs.declared.expression.Expr.{Expr}
 use Rattle.verilog_ast.specs.Views.{expression_of}
 use Rattle.width_rules.specs.Entries.{scope_of}
 use Rattle.gen_unroll.specs.Unrolled.{holds, is_taken}
-use Rattle.gen_unroll.specs.Values.{Answers}
+use Rattle.ls_text.specs.Answers.{Answers}
 use Rattle.gen_unroll.proofs.unrolling.is_taken.Goals as goal
 
 pub returns-in-Some : goal.returns-in-Some

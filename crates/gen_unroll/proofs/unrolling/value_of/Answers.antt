@@ -4,7 +4,8 @@ use Rattle.verilog_ast.specs.Views.{expression_of}
 use Rattle.width_rules.specs.Entries.{scope_of}
 use Rattle.width_rules.specs.Scopes.{Scope}
 use Rattle.gen_unroll.specs.Unrolled.{given_or}
-use Rattle.gen_unroll.specs.Values.{ConstantValue, constant_of, evaluated, Answers}
+use Rattle.ls_text.specs.Answers.{Answers}
+use Rattle.gen_unroll.specs.Values.{ConstantValue, constant_of, evaluated}
 use Rattle.gen_unroll.proofs.unrolling.value_of.Goals as goal
 
 pub returns-in-None-clause-value : goal.returns-in-None-clause-value

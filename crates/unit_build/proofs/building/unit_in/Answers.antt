@@ -1,6 +1,6 @@
 use Rattle.std.proofs.Common.{◌≡◌, Result, Ok, map, sym, subst, rules}
 use Rattle.ls_text.specs.declared.fault.Fault.{Fault}
-use Rattle.gen_unroll.specs.Values.{Answers}
+use Rattle.ls_text.specs.Answers.{Answers}
 use Rattle.gen_unroll.specs.Views.{step_of}
 use Rattle.module_registry.specs.Building.{Built}
 use Rattle.module_registry.specs.UnitViews.{built_of}

@@ -3,7 +3,7 @@ use Rattle.std.specs.Option.{option_map}
 use Rattle.verilog_ast.specs.declared.range.Range.{Range}
 use Rattle.verilog_ast.specs.Views.{range_of as range_view}
 use Rattle.width_rules.specs.Entries.{scope_of}
-use Rattle.gen_unroll.specs.Values.{Answers}
+use Rattle.ls_text.specs.Answers.{Answers}
 use Rattle.gen_unroll.specs.Views.{bit_range_of}
 use Rattle.unit_names.specs.Signals.{range_or_none}
 use Rattle.unit_names.proofs.stepping.range_or_none.Goals as goal

@@ -1,5 +1,4 @@
--- Steps of which the first with a fault gives it, and calls that answer as a definition does. The same text as in `gen_unroll/specs/Values`,
--- which stands beside this crate: abbreviations of one text are one.
+-- Steps of which the first with a fault gives it, and calls that answer as a definition does.
 use Rattle.std.specs.Prelude.{◌≡◌, ⊤, Result, Ok, Err}
 use Rattle.ls_text.specs.declared.fault.Fault.{Fault}
 use Rattle.ls_text.specs.declared.refusal.Refusal.{Refusal}
