@@ -35,7 +35,7 @@ fn ends_of(entries: &[Entry], ticket: u64) -> u64 {
 }
 
 /// Whether these entries end with a close, but for ends of workers' tickets, and each claimed ticket has one end.
-pub(crate) fn are_over(entries: &[Entry]) -> bool {
+pub fn are_over(entries: &[Entry]) -> bool {
     for entry in entries {
         if let Entry::Claim { ticket, .. } = *entry {
             if ends_of(entries, ticket) != 1 {

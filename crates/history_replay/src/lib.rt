@@ -8,47 +8,22 @@
 //
 // `is_over` says whether a history ends with a close and no ticket is out (`ending`).
 //
-// The tests take histories (`histories`) as entries beside what is `given`: settings, rows, and versions that come (`coming`), of designs that add
-// (`adders`).
+// What the entries make of a book is open to `replay_tests`, which looks at its marks.
 #![tactic(auto)]
 
-#[cfg(test)]
-mod adders;
-#[cfg(test)]
-mod carry_tests;
-#[cfg(test)]
-mod coming;
 mod counts;
 mod drawn;
-mod ending;
-#[cfg(test)]
-mod ending_tests;
-#[cfg(test)]
-mod given;
-#[cfg(test)]
-mod histories;
-#[cfg(test)]
-mod history_tests;
+pub mod ending;
 mod links;
-#[cfg(test)]
-mod load_tests;
-mod mark;
-#[cfg(test)]
-mod mark_tests;
-mod own_state;
+pub mod mark;
+pub mod own_state;
 mod reloading;
-mod replay;
-mod replaying;
-#[cfg(test)]
-mod room_tests;
+pub mod replay;
+pub mod replaying;
 mod running;
-mod settings;
-mod states;
-#[cfg(test)]
-mod ticket_tests;
-mod truth;
-#[cfg(test)]
-mod truth_tests;
+pub mod settings;
+pub mod states;
+pub mod truth;
 
 pub use ending::is_over;
 pub use replaying::is_right;

@@ -12,7 +12,7 @@ use std::alloc::Global;
 use stimulus::Row;
 
 /// What these entries make of a book, with these versions and rows; none where one of them isn't right where it stands.
-pub(crate) fn replayed(
+pub fn replayed(
     alloc: Global,
     settings: Settings,
     entries: &[Entry],
@@ -29,7 +29,7 @@ pub(crate) fn replayed(
 }
 
 /// Whether these entries are right with these versions and rows, each where it stands, and nothing is left of them.
-pub(crate) fn are_right(
+pub fn are_right(
     alloc: Global,
     settings: Settings,
     entries: &[Entry],

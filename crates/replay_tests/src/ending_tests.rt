@@ -1,7 +1,7 @@
 // Entries of which it is worked out by hand whether they are over.
-use crate::ending::are_over;
 use crate::histories::{OTHER, SESSION, WORKER, claim, install, open, release, reload, run, show};
 use book_history::entry::Entry;
+use history_replay::ending::are_over;
 use std::test::Fail;
 
 // Each with the reason for which it isn't over.

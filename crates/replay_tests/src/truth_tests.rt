@@ -2,12 +2,12 @@
 use crate::adders::{Adder, design};
 use crate::given::rows_of;
 use crate::histories::{D, FIVE, Q};
-use crate::mark::Mark;
-use crate::states::{advanced, reset};
-use crate::truth::are_true;
 use book_history::link::Link;
 use book_history::version::Version;
 use cycle_eval::Design;
+use history_replay::mark::Mark;
+use history_replay::states::{advanced, reset};
+use history_replay::truth::are_true;
 use machine::row_runs::RowRuns;
 use no_memory::NoMemory;
 use std::alloc::Global;

@@ -2,10 +2,10 @@
 use crate::adders::Adder;
 use crate::coming::Coming;
 use crate::given::Given;
-use crate::settings::Settings;
 use book_history::entry::Entry;
 use book_history::rooms::Rooms;
 use book_history::who::Who;
+use history_replay::settings::Settings;
 use no_memory::NoMemory;
 use std::alloc::Global;
 

@@ -7,12 +7,12 @@ use crate::histories::{
     D, FIVE, Q, ROOMS, SESSION, WORKER, claim, given, install, long, opened, reload, reloaded,
     settled, show, stale, thinned, with,
 };
-use crate::{is_over, is_right};
 use book_history::entry::Entry;
 use book_history::history::History;
 use book_history::history_writer::HistoryWriter;
 use book_history::version::Version;
 use cycle_eval::Design;
+use history_replay::{is_over, is_right};
 use ls_text::NameId;
 use machine::row_run::RowRun;
 use machine::row_runs::RowRuns;

@@ -1,7 +1,7 @@
 use denote.Param.Send.{sendable}
 use Rattle.std.proofs.Crossing.{crosses}
 use Rattle.cycle_eval.proofs.DesignsShared.{design_send, design_sync}
-use Rattle.history_replay.proofs.history_tests.ran.Goals as goal
+use Rattle.replay_tests.proofs.history_tests.ran.Goals as goal
 
 pub new-requires-3-send-M : goal.new-requires-3-send-M
 new-requires-3-send-M g c κs = search (design_send, sendable, crosses) depth 40 fits 20000

@@ -1,13 +1,13 @@
 // What histories of tests have beside their entries, and what the entries make of it.
 use crate::coming::{Coming, load};
 use crate::histories::{D, OTHER_D};
-use crate::mark::Mark;
-use crate::replaying::{are_right, replayed};
-use crate::settings::Settings;
 use book_history::entry::Entry;
 use book_history::link::Link;
 use book_history::load::Load;
 use cycle_eval::Design;
+use history_replay::mark::Mark;
+use history_replay::replaying::{are_right, replayed};
+use history_replay::settings::Settings;
 use ls_text::NameId;
 use machine::row_runs::RowRuns;
 use no_memory::NoMemory;
