@@ -2,28 +2,24 @@
 // entry (`histories`).
 //
 // `rows.txt` has a line `STATUS NAME WORDS` for each row: NAME.live is the script, NAME.out are the lines, STATUS is how the run
-// ends, and WORDS are those of the command line, where there are any, but for the workers (`row`): each row runs without one and with two, where the
-// lines of those that print an estimate aren't compared. `FAULTS.md` is the page of faults (`page`): each of its examples is a row, and shows the fault by the line that the page
+// ends, and WORDS are those of the command line, where there are any, but for the workers: each row runs without one and with two, where the
+// lines of those that print an estimate aren't compared. `FAULTS.md` is the page of faults: each of its examples is a row, and shows the fault by the line that the page
 // tells; each fault that a row shows is on the page. `fresh.txt` has a line `NAME FRESH` for each row whose last display is settled: FRESH.live has its last design
-// alone, with the inputs and cycles that were recorded, and the registers are the same (`fresh`). What differs is named, with the first line that does. `script_tests`
-// has rows and pages that don't agree.
+// alone, with the inputs and cycles that were recorded, and the registers are the same. What differs is named, with the first line that does. How rows, the page and
+// displays are read is of script_lines.
 #![tactic(auto)]
 
 mod counts;
-mod fresh;
 mod histories;
-mod page;
-mod row;
-#[cfg(test)]
-mod script_tests;
 
 use crate::counts::Counts;
-use crate::fresh::last_settled;
 use crate::histories::fault_of;
-use crate::page::{example_of, has, row_of};
-use crate::row::{Row, are_of_every_schedule};
 use livesim::live_run;
 use ls_port::{FileShelf, OpenGate, Shelf, SolidSink, SolidSource};
+use script_lines::displays::last_settled;
+use script_lines::page;
+use script_lines::page::{example_of, has, row_of};
+use script_lines::row::{Row, are_of_every_schedule};
 use std::alloc::Global;
 use std::sync::Wait;
 use std::thread::Threads;

@@ -1,7 +1,7 @@
 use denote.Param.Send.{sendable}
 use Rattle.std.proofs.Crossing.{crosses}
 use Rattle.cycle_eval.proofs.DesignsShared.{design_send, design_sync}
-use Rattle.script_rows.proofs.script_tests.other_words_are_refused.Goals as goal
+use Rattle.script_tests.proofs.script_tests.other_words_are_refused.Goals as goal
 
 pub entries-requires-send-M : goal.entries-requires-send-M
 entries-requires-send-M g c κs = search (design_send, sendable, crosses) depth 40 fits 20000

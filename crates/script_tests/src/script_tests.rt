@@ -1,5 +1,4 @@
-// What no script can reach: reads and writes that fail, scripts that are cut, and limits; and the reading of displays.
-use crate::fresh::last_settled;
+// What no script can reach: reads and writes that fail, scripts that are cut, and limits.
 use history_replay::{is_over, is_right};
 use livesim::{Outcome, live_run};
 use ls_port::{MemShelf, MemSink, MemSource, NamedText, OpenGate, Shelf, SolidShelf};
@@ -503,22 +502,5 @@ fn options_are_taken(rt: HostRuntime) -> Result<(), Fail> {
         assert!(rt; is_right(alloc, &outcome.history)?);
         assert!(rt; is_over(&outcome.history));
     }
-    Ok(())
-}
-
-// The registers of the last display, where that is settled: the replies, and the lines of these.
-#[test]
-fn displays_that_are_settled(rt: HostRuntime) -> Result<(), Fail> {
-    let alloc = rt.alloc();
-    let settled =
-        "show cycle=1 estimate v=2 settled_to=0\na.r 00\nsettled cycle=1 v=2\nshow cycle=1 settled v=2\na.r 01\nb.s 1\nok quit\n";
-    let lines = last_settled(alloc, settled)?;
-    assert!(rt; lines == Some(vec![in alloc; "a.r 01", "b.s 1"]?));
-    let none = "show cycle=1 settled v=1\nok run cycle=2\n";
-    assert!(rt; last_settled(alloc, none)? == Some(Vec::new(alloc)));
-    let estimate =
-        "show cycle=1 settled v=1\na.r 01\nshow cycle=1 estimate v=2 settled_to=0\na.r 00\n";
-    assert!(rt; last_settled(alloc, estimate)? == None);
-    assert!(rt; last_settled(alloc, "ok run cycle=2\n")? == None);
     Ok(())
 }

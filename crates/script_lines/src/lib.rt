@@ -1,0 +1,8 @@
+// What texts about scripts say: a row of the table of scripts (`row`), the page of faults (`page`), and the displays in what a script writes (`displays`).
+#![tactic(auto)]
+
+pub mod displays;
+#[cfg(test)]
+mod line_tests;
+pub mod page;
+pub mod row;
