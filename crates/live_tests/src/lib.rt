@@ -4,6 +4,8 @@
 // what. `asking_source` and `watched_sink` ask until a display is settled; `held_source` and `held_sink` go on as a gate holds workers, by `held`,
 // `passing_gate` has one ticket let others go, and `install_gate` holds them later.
 // `replay`, `mark` and `drawn` take the history that is left, entry by entry.
+// The tests ask who settles (`settling_tests`), what edits do beside workers (`edit_tests`), how many workers there are (`number_tests`), what the
+// session does about its own tickets (`own_ticket_tests`), and what comes of workers at work as a run ends (`ending_tests`).
 #![tactic(auto)]
 
 #[cfg(test)]

@@ -1,4 +1,5 @@
-// What texts about scripts say: a row of the table of scripts (`row`), the page of faults (`page`), and the displays in what a script writes (`displays`).
+// What texts about scripts say: a row of the table of scripts (`row`), the page of faults (`page`), and the displays in what a script writes
+// (`displays`). `line_tests` has texts that agree, and some that don't.
 #![tactic(auto)]
 
 pub mod displays;

@@ -1,5 +1,5 @@
 // Where the words of a small design stand, worked out by hand.
-use crate::orders::{bit, copies, design_of, join, signal};
+use crate::order_tests::{bit, copies, design_of, join, signal};
 use comb_order::{Parts, linked};
 use design_steps::{layout_of, places_of, program_of};
 use ls_text::NameId;

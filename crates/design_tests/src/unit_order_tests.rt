@@ -1,8 +1,8 @@
 // Orders of instances of one unit, worked out by hand, where what one of them drives leads back to it.
-use crate::instance_orders::{
+use crate::instance_order_tests::{
     STAGE_STEPS, STAGES, bits_in, expect_order, expect_order_of, nodes_of, put,
 };
-use crate::orders::{inverses, tied};
+use crate::order_tests::{inverses, tied};
 use ls_text::NameId;
 use std::test::Fail;
 
