@@ -3,21 +3,37 @@ ghost use Rattle.std.specs.Prelude.{◌≡◌, ◌≤◌, ◌∷◌, [], IfOk};
 ghost use Rattle.std.specs.Arc.{arc_value};
 
 use bits::Bits;
-use ls_text::Refusal;
+use ls_text::{NameId, Refusal};
 use no_memory::NoMemory;
-use state_layout::{Layout, SlotState};
+use state_layout::{Layout, SlotState, laid_out};
 use std::alloc::Global;
 use std::sync::Arc;
 use std::test::Fail;
-use typed_ir::RegisterId;
+use typed_ir::{InstanceId, RegisterId, Signal, SignalId};
+
+/// A register of so many bits.
+fn register(width: u8) -> Signal
+    requires at_least_one { 1 ≤ width }
+    requires at_most_128 { width ≤ 128 }
+    ensures { result.width ≡ width }
+{
+    Signal {
+        in_module: NameId(0),
+        instance: InstanceId(0),
+        name: NameId(0),
+        lsb: 0,
+        signed: false,
+        width,
+        initial: 0,
+    }
+}
 
 /// A register of 65 bits, and one of 1 bit.
 fn two_registers(alloc: Global) -> Result<Arc<Layout, Global>, Refusal>
     ensures { IfOk result (λ l. arc_value l ≡ 65 ∷ 1 ∷ []) }
 {
-    let mut layout = Layout::new(alloc);
-    layout.add(alloc, 65)?;
-    layout.add(alloc, 1)?;
+    let signals = [register(65), register(1)];
+    let layout = laid_out(alloc, &signals, &[SignalId(0), SignalId(1)])?;
     Ok(Arc::new(alloc, layout)?)
 }
 
@@ -63,18 +79,14 @@ fn words(layout: &Layout) -> [u32; 3]
     ]
 }
 
-/// How many registers of a width have room, of 65,537.
-fn registers_with_room(alloc: Global, width: u8) -> usize
+/// Whether so many registers of a width have room.
+#[tactic(auto, using(crate::proofs::Firsts::firsts_below))]
+fn have_room(alloc: Global, width: u8, count: usize) -> Result<bool, NoMemory>
     requires at_least_one { 1 ≤ width }
     requires at_most_128 { width ≤ 128 }
 {
-    let mut layout = Layout::new(alloc);
-    for _register in 0..65_537 {
-        if layout.add(alloc, width).is_err() {
-            break;
-        }
-    }
-    layout.len()
+    let registers = vec![in alloc; SignalId(0); count]?;
+    Ok(laid_out(alloc, &[register(width)], &registers).is_ok())
 }
 
 fn crossed<T: Send + Sync>(value: T) -> T {
@@ -94,8 +106,11 @@ fn states_by_hand(rt: HostRuntime) -> Result<(), Fail> {
 
 #[test]
 fn limit_by_hand(rt: HostRuntime) -> Result<(), Fail> {
-    assert_eq!(rt; registers_with_room(rt.alloc(), 64), 65_536);
-    assert_eq!(rt; registers_with_room(rt.alloc(), 65), 32_768);
+    let alloc = rt.alloc();
+    assert!(rt; have_room(alloc, 64, 65_536)?);
+    assert!(rt; !have_room(alloc, 64, 65_537)?);
+    assert!(rt; have_room(alloc, 65, 32_768)?);
+    assert!(rt; !have_room(alloc, 65, 32_769)?);
     Ok(())
 }
 
