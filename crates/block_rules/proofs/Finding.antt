@@ -2,7 +2,7 @@
 use Rattle.std.proofs.Common.{◌≡◌, ℕ, zero, suc, ◌+◌, ◌-◌, ◌^◌, ◌<◌, ◌≤◌, Bool, true, false, ◌||◌, ◌&&◌, not, ◌==◌, nat_le, nat_lt, List, [], ◌∷◌, ◌++◌, length, get_or, drop, refl, sym, ◌∙◌, ap, ap₂, arith, true≢false}
 use Rattle.std.specs.Prelude.{bit_and, slice_index}
 use Rattle.std.specs.Int.{bit_at}
-use Rattle.std.proofs.Math.Bool.{or-false, or_assoc, and-false}
+use Rattle.std.proofs.Math.Bool.{or-false, or_assoc, and-false, and-true}
 use Rattle.std.proofs.lemmas.Bool.{eqb-true, eq-eqb, ne_eqb, or_parts, or_from, and_from, not-true, not_from_false, and_left as still_closed}
 use Rattle.bits.proofs.Runs.{by_order}
 use Rattle.std.proofs.lemmas.List.{at_drop_all}
@@ -16,7 +16,8 @@ use Rattle.typed_ir.proofs.Cases.{by_cases, and_left, and_right, turned}
 use Rattle.typed_ir.proofs.Lists.{drop_read}
 use Rattle.typed_ir.proofs.Masks.{adds_one, whole_mask, has_both, no_bit}
 use Rattle.block_rules.specs.declared.bit_table.BitTable.{BitTable}
-use Rattle.block_rules.specs.Paths.{some_below, early, is_member, are_distinct, is_open}
+use Rattle.typed_ir.specs.Orders.{is_member, are_distinct}
+use Rattle.block_rules.specs.Paths.{some_below, early, is_open}
 use Rattle.block_rules.specs.Tables.{bits_of, is_named, AreTaken}
 use Rattle.block_rules.proofs.Masks.{low_bit, high_bit}
 use Rattle.block_rules.proofs.Knowing.{some_same}
@@ -157,11 +158,7 @@ forget_next touches k x mid new s i less is took =
 pub forget_done : (touches : List Touch) (k : ℕ) (table : BitTable) (whole : Bool) (s i : ℕ) → length touches ≤ k
     → (bits_of table s i && not (touched (drop k touches) s i)) ≡ whole → bits_of table s i ≡ whole
 forget_done touches k table whole s i h left =
-    sym (all_of (bits_of table s i)) ∙ sym (at_drop_all (λ (ts : List Touch). bits_of table s i && not (touched ts s i)) touches k h) ∙ left
-  where
-    all_of : (b : Bool) → (b && not false) ≡ b
-    all_of true = refl
-    all_of false = refl
+    sym (and-true (bits_of table s i)) ∙ sym (at_drop_all (λ (ts : List Touch). bits_of table s i && not (touched ts s i)) touches k h) ∙ left
 
 -- ---- signals that are found
 
@@ -179,11 +176,7 @@ pub found_open : (old : List ℕ) (signal : ℕ) (w k : Places) (s : ℕ) → is
     → is_member s (old ++ signal ∷ []) ≡ (is_member s old || ((s == signal) && is_open w k s))
 found_open old signal w k s has =
     found_push s signal old
-    ∙ ap (λ b. is_member s old || b) (sym (ap (λ b. (s == signal) && b) has ∙ all_of (s == signal)) ∙ same_signal s signal w k)
-  where
-    all_of : (b : Bool) → (b && true) ≡ b
-    all_of true = refl
-    all_of false = refl
+    ∙ ap (λ b. is_member s old || b) (sym (ap (λ b. (s == signal) && b) has ∙ and-true (s == signal)) ∙ same_signal s signal w k)
 
 -- and one that has none doesn't
 pub found_none : (old : List ℕ) (signal : ℕ) (w k : Places) (s : ℕ) → is_open w k signal ≡ false
@@ -199,10 +192,6 @@ unfolding some_below
 none_some zero test h = refl
 none_some (suc n) test h = ap₂ (λ a b. a || b) (h n (omega arith)) (none_some n test (λ i k. h i (omega (arith, k))))
 
-kept_all : (b : Bool) → (b && not false) ≡ b
-kept_all true = refl
-kept_all false = refl
-
 pub cleared : (old new : BitTable) (signal : ℕ)
     → ((s i : ℕ) → bits_of new s i ≡ (bits_of old s i && not ((s == signal) && has_bit (2 ^ 128 - 1) i)))
     → (s i : ℕ) → bits_of new s i ≡ (bits_of old s i && not (s == signal))
@@ -217,8 +206,8 @@ open_cleared old new signal k h s = by_cases (s == signal)
     (λ i less. ap (λ b. b && not (k s i)) (h s i ∙ ap (λ b. bits_of old s i && not b) same ∙ and-false (bits_of old s i)))
     ∙ sym (ap (λ b. is_open (bits_of old) k s && not b) same ∙ and-false (is_open (bits_of old) k s)))
     (λ other. some_same 128 (λ i. bits_of new s i && not (k s i)) (λ i. bits_of old s i && not (k s i))
-    (λ i less. ap (λ b. b && not (k s i)) (h s i ∙ ap (λ b. bits_of old s i && not b) other ∙ kept_all (bits_of old s i)))
-    ∙ sym (ap (λ b. is_open (bits_of old) k s && not b) other ∙ kept_all (is_open (bits_of old) k s)))
+    (λ i less. ap (λ b. b && not (k s i)) (h s i ∙ ap (λ b. bits_of old s i && not b) other ∙ and-true (bits_of old s i)))
+    ∙ sym (ap (λ b. is_open (bits_of old) k s && not b) other ∙ and-true (is_open (bits_of old) k s)))
 
 distinct_push : (x : ℕ) (xs : List ℕ) → are_distinct xs ≡ true → is_member x xs ≡ false → are_distinct (xs ++ x ∷ []) ≡ true
 distinct_push x [] h out = refl

@@ -1,34 +1,27 @@
 -- A block that is legal over signals writes bits of these signals.
-use Rattle.std.proofs.Common.{◌≡◌, ℕ, zero, suc, ◌+◌, ◌<◌, ◌≤◌, true, ◌&&◌, ◌==◌, nat_le, nat_lt, List, [], ◌∷◌, map, length, All, arith}
+use Rattle.std.proofs.Common.{◌≡◌, ℕ, ◌+◌, ◌<◌, ◌≤◌, true, ◌&&◌, ◌==◌, nat_le, nat_lt, List, [], ◌∷◌, map, length, All, arith}
 use Rattle.std.specs.Prelude.{slice_index}
 use Rattle.std.proofs.lemmas.Bool.{ltb-true, leb-true}
-use Rattle.std.proofs.lemmas.List.Elements.{All-append}
+use Rattle.std.proofs.lemmas.List.Elements.{All-append, All-nil, All-cons}
 use Rattle.typed_ir.specs.declared.span.Span.{Span}
 use Rattle.typed_ir.specs.Sized.{is_signal, is_span, is_width}
 use Rattle.typed_ir.specs.Stmts.{SizedTarget, Fixed, Moving, SizedStmt, SizedArms, Skip, Assign, Later, Then, If, Case, Arm, Default, span_of, targets, arm_targets, is_sized, is_target, are_targets, are_items, is_legal, are_legal_arms}
 use Rattle.typed_ir.proofs.Cases.{and_left, and_right}
 use Rattle.block_rules.specs.Paths.{AreNarrow, AreHere}
 
-all_none : (P : Span → Type 0) → All P []
-all_none P k d less = absurd (omega (arith, less))
-
-all_cons : (P : Span → Type 0) (x : Span) (xs : List Span) → P x → All P xs → All P (x ∷ xs)
-all_cons P x xs h g zero d less = h
-all_cons P x xs h g (suc k) d less = g k d (omega (arith, less))
-
 parts_all : (P : Span → Type 0) (ts : List SizedTarget) (widths : List ℕ) → ((t : SizedTarget) → is_target t widths ≡ true → P (span_of t))
     → are_targets ts widths ≡ true → All P (map span_of ts)
-parts_all P [] widths each legal = all_none P
+parts_all P [] widths each legal = All-nil P
 parts_all P (t ∷ ts) widths each legal =
-    all_cons P (span_of t) (map span_of ts) (each t (and_left (is_target t widths) (are_targets ts widths) legal))
+    All-cons P (span_of t) (map span_of ts) (each t (and_left (is_target t widths) (are_targets ts widths) legal))
     (parts_all P ts widths each (and_right (is_target t widths) (are_targets ts widths) legal))
 
 mutual
   block_all : (P : Span → Type 0) (st : SizedStmt) (widths : List ℕ) → ((t : SizedTarget) → is_target t widths ≡ true → P (span_of t))
       → is_legal st widths ≡ true → All P (targets st)
-  block_all P Skip widths each legal = all_none P
+  block_all P Skip widths each legal = All-nil P
   block_all P (Assign parts e) widths each legal = parts_all P parts widths each (and_left (are_targets parts widths) (is_sized e widths) legal)
-  block_all P (Later parts e) widths each legal = all_none P
+  block_all P (Later parts e) widths each legal = All-nil P
   block_all P (Then a b) widths each legal =
       All-append P (targets a) (targets b) (block_all P a widths each (and_left (is_legal a widths) (is_legal b widths) legal))
       (block_all P b widths each (and_right (is_legal a widths) (is_legal b widths) legal))

@@ -1,6 +1,6 @@
 mod Masks
 pub mod Knowing
-mod Whole
+pub mod Whole
 mod Legal
 mod Leading
 pub mod Finding

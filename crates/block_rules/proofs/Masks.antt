@@ -2,7 +2,7 @@
 use Rattle.std.proofs.Common.{◌≡◌, ℕ, zero, suc, ◌+◌, ◌%◌, ◌<◌, ◌≤◌, Bool, true, false, ◌||◌, ◌&&◌, not, ◌==◌, nat_lt, List, length, get_or, set, refl, sym, ◌∙◌, ap, ap₂, arith, true≢false}
 use Rattle.std.specs.Prelude.{bit_and, bit_or, bit_xor, slice_index}
 use Rattle.std.specs.Int.{bit_at}
-use Rattle.std.proofs.Math.Bool.{and-false}
+use Rattle.std.proofs.Math.Bool.{and-false, and-true}
 use Rattle.std.proofs.lemmas.Bool.{eqb-true, eqb-false, lt-ltb, le-ltb}
 use Rattle.std.proofs.lemmas.List.{get_or-set_same, get_or-set_other, get_or_past, get_or_default}
 use Rattle.std.proofs.lemmas.Nat.Bits.{bit_at_xor, bit_at-lt}
@@ -41,10 +41,6 @@ but_new false false h = refl
 pub out_of : (low x t : Bool) → (low && (x && not t)) ≡ ((low && x) && not t)
 out_of true x t = refl
 out_of false x t = refl
-
-pub in_all : (x : Bool) → (x && not false) ≡ x
-in_all true = refl
-in_all false = refl
 
 -- ---- masks of a table
 
@@ -104,7 +100,7 @@ less_at masks place mask old s i inside is =
     ∙ ap (λ z. has_bit z i && not (has_bit mask i)) (is ∙ ap (slice_index masks) (sym e))
     ∙ sym (ap (λ b. has_bit (slice_index masks s) i && not (b && has_bit mask i)) yes))
     (λ no. ap (λ z. has_bit z i) (get_or-set_other masks place s new 0 (eqb-false s place no))
-    ∙ sym (ap (λ b. has_bit (slice_index masks s) i && not (b && has_bit mask i)) no ∙ in_all (has_bit (slice_index masks s) i)))
+    ∙ sym (ap (λ b. has_bit (slice_index masks s) i && not (b && has_bit mask i)) no ∙ and-true (has_bit (slice_index masks s) i)))
 
 pub less_bits : (masks : List ℕ) (place mask old s i : ℕ) → place < length masks → old ≡ slice_index masks place
     → bit_of (set masks place (bit_xor old (bit_and old mask))) s i ≡ (bit_of masks s i && not ((s == place) && has_bit mask i))

@@ -1,6 +1,6 @@
 -- A block of which no read comes too early and no signal has a latch.
-use Rattle.std.proofs.Common.{◌≡◌, ℕ, zero, suc, ◌+◌, ◌<◌, ◌≤◌, Bool, true, false, ◌||◌, ◌&&◌, not, ◌==◌, nat_le, nat_lt, List, [], ◌∷◌, ◌++◌, length, All, refl, sym, ◌∙◌, ap, ap₂, arith, true≢false}
-use Rattle.std.proofs.Math.Bool.{or-false}
+use Rattle.std.proofs.Common.{◌≡◌, ℕ, zero, suc, ◌+◌, ◌<◌, ◌≤◌, Bool, true, false, ◌||◌, ◌&&◌, not, ◌==◌, nat_le, nat_lt, List, [], ◌∷◌, ◌++◌, All, refl, sym, ◌∙◌, ap, ap₂, arith, true≢false}
+use Rattle.std.proofs.Math.Bool.{or-false, and-true}
 use Rattle.std.proofs.lemmas.Bool.{eqb-true, eq-eqb, ltb-true, lt-ltb, le-leb, or_parts, or_from}
 use Rattle.bits.proofs.Runs.{by_order}
 use Rattle.typed_ir.specs.declared.span.Span.{Span}
@@ -9,6 +9,7 @@ use Rattle.typed_ir.specs.Sized.{Sized, Constant, Name, Part, Pick, Unary, Binar
 use Rattle.typed_ir.specs.Stmts.{SizedTarget, Fixed, Moving, SizedItem, SizedStmt, SizedArms, Skip, Assign, Later, Then, If, Case, Arm, Default, targets, known_after, index_reads, open_indices, item_reads, open_reads, open_arm_reads}
 use Rattle.typed_ir.proofs.Cases.{by_cases, and_left, and_right, only_right}
 use Rattle.typed_ir.proofs.Locals.{any_within-append}
+use Rattle.typed_ir.proofs.Lists.{none_is_some}
 use Rattle.block_rules.specs.Paths.{whole_signal, leaves, index_leaves, item_leaves, some_below, early, flags_of, index_flags, reads_early, arms_early, true_from, flags_of_block, BlocksAreWhole}
 
 -- ---- no flag
@@ -19,10 +20,7 @@ none_true (flag ∷ flags) = not flag && none_true flags
 
 none_from : (k : ℕ) (flags : List Bool) → true_from k flags ≡ [] → none_true flags ≡ true
 none_from k [] h = refl
-none_from k (true ∷ flags) h = absurd (not_empty k (true_from (suc k) flags) h)
-  where
-    not_empty : (x : ℕ) (xs : List ℕ) → (x ∷ xs) ≡ [] → ⊥
-    not_empty x xs e = let long : length (x ∷ xs) ≡ 0 = ap length e in omega (arith, long)
+none_from k (true ∷ flags) h = none_is_some k (true_from (suc k) flags) (sym h)
 none_from k (false ∷ flags) h = none_from (suc k) flags h
 
 none_left : (xs ys : List Bool) → none_true (xs ++ ys) ≡ true → none_true xs ≡ true
@@ -63,11 +61,7 @@ both_known false b k h x y = absurd (true≢false (sym x))
 
 name_reads : (s signal i : ℕ) → i < 128 → any_within (whole_signal signal ∷ []) s i ≡ (s == signal)
 name_reads s signal i small =
-    or-false ((s == signal) && (nat_le 0 i && nat_lt i 128)) ∙ ap₂ (λ a b. (s == signal) && (a && b)) (le-leb 0 i (omega arith)) (lt-ltb i 128 small) ∙ and_true (s == signal)
-  where
-    and_true : (b : Bool) → (b && true) ≡ b
-    and_true true = refl
-    and_true false = refl
+    or-false ((s == signal) && (nat_le 0 i && nat_lt i 128)) ∙ ap₂ (λ a b. (s == signal) && (a && b)) (le-leb 0 i (omega arith)) (lt-ltb i 128 small) ∙ and-true (s == signal)
 
 two_reads : (xs ys : List Span) (s i : ℕ) (a b : Bool) → any_within xs s i ≡ a → any_within ys s i ≡ b → any_within (xs ++ ys) s i ≡ (a || b)
 two_reads xs ys s i a b h k = any_within-append xs ys s i ∙ ap₂ (λ x y. x || y) h k

@@ -1,6 +1,6 @@
 -- Combinational blocks bit by bit: the reads of bits that a block writes later, and the signals that it doesn't write on every path
 -- (IEEE Std 1364-2005, 9.2.1, 9.4, 9.5).
-use Rattle.std.specs.Prelude.{true, ◌≡◌, ◌≤◌, ◌<◌, ◌+◌, ℕ, zero, suc, Bool, false, not, ◌&&◌, ◌||◌, ◌==◌, if◌then◌else◌, List, [], ◌∷◌, ◌++◌, map, All}
+use Rattle.std.specs.Prelude.{◌≡◌, ◌≤◌, ◌<◌, ◌+◌, ℕ, zero, suc, Bool, false, not, ◌&&◌, ◌||◌, if◌then◌else◌, List, [], ◌∷◌, ◌++◌, map, All}
 use Rattle.typed_ir.specs.declared.span.Span.{Span}
 use Rattle.typed_ir.specs.Valuations.{Places, within, any_within, nowhere}
 use Rattle.typed_ir.specs.Sized.{Sized, Constant, Name, Part, Pick, Unary, Binary, Choice, Concat, Repeat, Resized}
@@ -87,15 +87,6 @@ abbrev pub places_of_true : List Bool → List ℕ
 places_of_true flags = true_from 0 flags
 
 -- ---- signals with a latch
-
-abbrev pub is_member : ℕ → List ℕ → Bool
-is_member n [] = false
-is_member n (x ∷ xs) = (n == x) || is_member n xs
-
--- no number stands twice
-abbrev pub are_distinct : List ℕ → Bool
-are_distinct [] = true
-are_distinct (x ∷ xs) = not (is_member x xs) && are_distinct xs
 
 -- some bit of the signal is among the first and not among the second
 abbrev pub is_open : Places → Places → ℕ → Bool

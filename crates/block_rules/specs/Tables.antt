@@ -7,7 +7,8 @@ use Rattle.typed_ir.specs.Valuations.{Places, nowhere}
 use Rattle.typed_ir.specs.Touches.{has_bit, touched, Adds}
 use Rattle.block_rules.specs.declared.bit_table.BitTable.{BitTable}
 use Rattle.block_rules.specs.declared.path_tables.PathTables.{PathTables}
-use Rattle.block_rules.specs.Paths.{is_member, are_distinct, is_open}
+use Rattle.typed_ir.specs.Orders.{is_member, are_distinct}
+use Rattle.block_rules.specs.Paths.{is_open}
 
 -- for so many signals
 abbrev pub size : BitTable → ℕ

@@ -1,7 +1,8 @@
 // A combinational block to the reads that come before it has written what they read, and the signals with a latch.
 ghost use Rattle.std.specs.Prelude.{◌++◌, ◌∷◌, [], ◌≡◌, ◌&&◌, ◌||◌, ◌==◌, ℕ, IsTrue, IfOk, not};
 ghost use Rattle.typed_ir.specs.Statements.{stmt_of};
-ghost use Rattle.block_rules.specs.Paths.{flags_of_block, places_of_true, true_from, is_member, are_distinct, is_open, unwritten, AreHere};
+ghost use Rattle.typed_ir.specs.Orders.{is_member, are_distinct};
+ghost use Rattle.block_rules.specs.Paths.{flags_of_block, places_of_true, true_from, is_open, unwritten, AreHere};
 ghost use Rattle.block_rules.specs.Tables.{size, bits_of, is_named, signals_of, AreBlank, AreTaken};
 
 use crate::bit_table::BitTable;

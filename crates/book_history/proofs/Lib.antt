@@ -14,6 +14,7 @@ pub mod Bridge
 pub mod Weaves
 pub mod Prefixes
 pub mod Outlines
+pub mod Owned
 pub mod Others
 pub mod Leading
 pub mod Writings

@@ -51,6 +51,10 @@ pub count-snoc : {D R O : Type 0} (n : Counts) (h : List (Event D R O)) (e : Eve
 count-snoc n [] e = refl
 count-snoc n (x ∷ xs) e = count-snoc (count n x) xs e
 
+pub count-append : {D R O : Type 0} (n : Counts) (xs ys : List (Event D R O)) → count_all n (xs ++ ys) ≡ count_all (count_all n xs) ys
+count-append n [] ys = refl
+count-append n (x ∷ xs) ys = count-append (count n x) xs ys
+
 abbrev pub total : Counts → ℕ
 total n = n.session + n.workers + one_if n.closed
 

@@ -1,6 +1,6 @@
 -- What passes of a settle, a whole one and an unfinished one leave of a book, and how they are counted.
 use Rattle.std.proofs.Common.{◌≡◌, ℕ, ◌+◌, ◌*◌, ◌≤◌, List, [], ◌∷◌, ◌++◌, length, refl, sym, ◌∙◌, ap, subst, arith, append_assoc}
-use Rattle.std.specs.Prelude.{Option, Some, None, Bool, true, false, if◌then◌else◌}
+use Rattle.std.specs.Prelude.{Option, Some, None}
 use Rattle.std.proofs.lemmas.List.{length-append}
 use Rattle.machine.specs.Kit.{Kit}
 use Rattle.book_history.specs.declared.who.Who.TheVariants.{Session}
@@ -8,12 +8,13 @@ use Rattle.book_history.specs.Book.{Book, Settings, Event, Claims, Installs, Sho
 use Rattle.book_history.specs.Legal.{Legal}
 use Rattle.book_history.specs.Moments.{Moment, moments_from}
 use Rattle.book_history.specs.Outline.{Outline, outline_in, outline_from}
-use Rattle.book_history.specs.Owned.{is_owned, owned}
+use Rattle.book_history.specs.Owned.{owned}
 use Rattle.book_history.specs.Readers.{links_in}
 use Rattle.book_history.specs.Rooms.{Counts, count, count_all}
 use Rattle.book_history.proofs.Outlines.{length-cycles, outline-append, outline_more}
+use Rattle.book_history.proofs.Owned.{owned_append}
 use Rattle.book_history.proofs.Places.{moments-append, replay-append}
-use Rattle.book_history.proofs.Prefixes.{legal_first}
+use Rattle.book_history.proofs.Prefixes.{count-append, legal_first}
 use Rattle.book_settle.specs.Passes.{ArePasses, no_pass, one_more, IsSettle, IsGivenUp, no_ticket, one_ticket, IsUnfinished}
 use Rattle.book_settle.specs.Counted.{with_more}
 
@@ -38,22 +39,9 @@ with_one c n =
     ap (λ (m : ℕ). record { session = m; workers = c.workers; closed = c.closed }) same
 
 module _ {D R O : Type 0} where
-  pub count-append : (n : Counts) (xs ys : List (Event D R O)) → count_all n (xs ++ ys) ≡ count_all (count_all n xs) ys
-  count-append n [] ys = refl
-  count-append n (x ∷ xs) ys = count-append (count n x) xs ys
-
-  pub owned-append : (xs ys : List (Event D R O)) → owned (xs ++ ys) ≡ owned xs ++ owned ys
-  owned-append [] ys = refl
-  owned-append (x ∷ xs) ys = go (is_owned x) (owned-append xs ys)
-    where
-      go : (t : Bool) → owned (xs ++ ys) ≡ owned xs ++ owned ys
-          → (if t then x ∷ owned (xs ++ ys) else owned (xs ++ ys)) ≡ (if t then x ∷ owned xs else owned xs) ++ owned ys
-      go true ih = ap (λ (l : List (Event D R O)). x ∷ l) ih
-      go false ih = ih
-
   -- behind entries that are all the session's own
   owned_behind : (xs ys : List (Event D R O)) → owned xs ≡ xs → owned (xs ++ ys) ≡ xs ++ owned ys
-  owned_behind xs ys own = owned-append xs ys ∙ ap (λ (l : List (Event D R O)). l ++ owned ys) own
+  owned_behind xs ys own = owned_append xs ys ∙ ap (λ (l : List (Event D R O)). l ++ owned ys) own
 
   -- passes
 

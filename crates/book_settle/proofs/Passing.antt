@@ -10,14 +10,14 @@ use Rattle.book_history.specs.Legal.{Legal}
 use Rattle.book_history.specs.Readers.{IsOpened}
 use Rattle.book_history.specs.Rooms.{Counts, count_all, no_entry}
 use Rattle.book_history.proofs.Places.{replay-append, still_opened}
-use Rattle.book_history.proofs.Prefixes.{count-snoc}
+use Rattle.book_history.proofs.Prefixes.{count-snoc, count-append}
 use Rattle.checkpoint_book.specs.Claims.{IsDrawn}
 use Rattle.checkpoint_book.specs.Views.{book_of, counts_of, HasSessionRoom, shown_in}
 use Rattle.book_settle.specs.Counted.{with_more}
 use Rattle.book_settle.specs.Passes.{no_pass, one_more, no_ticket, one_ticket}
 use Rattle.book_settle.specs.Rises.{IsRise, HasPassed, HasGivenUp}
 use Rattle.book_settle.specs.Settles.{HasTried}
-use Rattle.book_settle.proofs.Counting.{count-append, passes_counts}
+use Rattle.book_settle.proofs.Counting.{passes_counts}
 
 module _ {D R O : Type 0} where
   -- the session's claim leaves room for its install

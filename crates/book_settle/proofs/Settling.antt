@@ -10,19 +10,24 @@ use Rattle.book_history.specs.Legal.{Legal}
 use Rattle.book_history.specs.Readers.{links_in}
 use Rattle.book_history.proofs.Places.{lead_all}
 use Rattle.book_history.specs.Rooms.{Counts, count, count_all, no_entry}
-use Rattle.book_history.proofs.Prefixes.{count-snoc, replay-snoc}
+use Rattle.book_history.proofs.Prefixes.{count-snoc, replay-snoc, count-append}
 use Rattle.checkpoint_book.specs.Views.{book_of, counts_of, shown_in}
 use Rattle.book_settle.specs.Rises.{HasPassed}
 use Rattle.book_settle.specs.Settles.{HasSettled, HasTried}
 use Rattle.book_settle.specs.Counted.{with_more}
-use Rattle.book_settle.proofs.Counting.{count-append, passes_links, settle_counts, unfinished_counts, unfinished_long}
+use Rattle.book_settle.proofs.Counting.{passes_links, settle_counts, unfinished_counts, unfinished_long}
+
+-- where as many links lead as there are, a show answers settled
+pub all_settled : {D S R : Type 0} (b : Option (Book D S R)) → links_in b ≤ lead_in b → shown_in b ≡ None
+all_settled None le = refl
+all_settled (Some c) le = cond-true _ None (Some (settled_to 0 c.segs)) (lead_all c.segs le)
+
+-- fewer passes than were allowed, or enough for all links
+pub enough : (n most passes links : ℕ) → most ≡ min passes links → n ≤ most → most ≤ n → (n < passes) ⊎ (links ≤ passes) → links ≤ n
+enough n most passes links is few all (inl fewer) = omega (arith, is, few, all, fewer)
+enough n most passes links is few all (inr each) = omega (arith, is, few, all, each)
 
 module _ {D S R O : Type 0} (k : Kit D S R O) where
-  -- where as many links lead as there are, a show answers settled
-  all_settled : (b : Option (Book D S R)) → links_in b ≤ lead_in b → shown_in b ≡ None
-  all_settled None le = refl
-  all_settled (Some c) le = cond-true _ None (Some (settled_to 0 c.segs)) (lead_all c.segs le)
-
   -- a show leaves the book
   shows_nothing : (st : Settings) (b : Option (Book D S R)) (answer : Option ℕ) → apply k st b (Shows answer) ≡ b
   shows_nothing st None answer = refl
@@ -34,11 +39,6 @@ module _ {D S R O : Type 0} (k : Kit D S R O) where
       ∙ ap (λ (x : Settings). replay k x (j.events ++ Shows answer ∷ [])) settings
       ∙ replay-snoc k j.settings None j.events (Shows answer)
       ∙ shows_nothing j.settings (book_of k j) answer
-
-  -- fewer passes than were allowed, or enough for all links
-  enough : (n most passes links : ℕ) → most ≡ min passes links → n ≤ most → most ≤ n → (n < passes) ⊎ (links ≤ passes) → links ≤ n
-  enough n most passes links is few all (inl fewer) = omega (arith, is, few, all, fewer)
-  enough n most passes links is few all (inr each) = omega (arith, is, few, all, each)
 
   module _ (valid : D → D → O → Type 0) (j m : Journal D R O) (n : ℕ) (h : HasPassed k j m n) (legal : Legal k valid m.settings m.events) where
     passed_links : links_in (book_of k m) ≡ links_in (book_of k j)

@@ -52,14 +52,6 @@ module _ {E : Type 0} where
       go false t = let l = leb-false _ _ t in absurd (omega (arith, ap length e, ap length q.1, length-append ys q.0))
 
 module _ {D R O : Type 0} where
-  first_owned : (b : Bool) (x : Event D R O) (a c d : List (Event D R O)) → a ≡ c ++ d → (if b then x ∷ a else a) ≡ (if b then x ∷ c else c) ++ d
-  first_owned true x a c d e = ap (λ l. x ∷ l) e
-  first_owned false x a c d e = e
-
-  pub owned_append : (xs ys : List (Event D R O)) → owned (xs ++ ys) ≡ owned xs ++ owned ys
-  owned_append [] ys = refl
-  owned_append (x ∷ xs) ys = first_owned (is_owned x) x (owned (xs ++ ys)) (owned xs) (owned ys) (owned_append xs ys)
-
   not_owned : (b : Bool) (x : Event D R O) (a : List (Event D R O)) → b ≡ false → a ≡ [] → (if b then x ∷ a else a) ≡ []
   not_owned true x a f e = absurd (true≢false f)
   not_owned false x a f e = e
@@ -67,11 +59,3 @@ module _ {D R O : Type 0} where
   pub none_owned : (es : List (Event D R O)) → AllOwned false es → owned es ≡ []
   none_owned [] h = refl
   none_owned (e ∷ es) h = not_owned (is_owned e) e (owned es) h.0 (none_owned es h.1)
-
-  is_kept : (b : Bool) (x : Event D R O) (a c : List (Event D R O)) → b ≡ true → a ≡ c → (if b then x ∷ a else a) ≡ x ∷ c
-  is_kept true x a c t e = ap (λ l. x ∷ l) e
-  is_kept false x a c t e = absurd (true≢false (sym t))
-
-  pub all_owned : (es : List (Event D R O)) → AllOwned true es → owned es ≡ es
-  all_owned [] h = refl
-  all_owned (e ∷ es) h = is_kept (is_owned e) e (owned es) es h.0 (all_owned es h.1)

@@ -11,7 +11,8 @@ use Rattle.book_history.specs.Owned.{owned, AllOwned, IsPrefix, added}
 use Rattle.book_history.specs.Tickets.{is_among, IsOut, AreOut}
 use Rattle.book_turn.specs.Known.{Known, opening, begun, entered, left, after_split, worker_of, joined, spent}
 use Rattle.book_turn.specs.Rule.{IsAt, Fits, Apart, EachFits, EachApart, EachBegins, HasBook, HasSession, MayLeave, Learned, Ruled}
-use Rattle.book_turn.proofs.Histories.{prefix_refl, prefix_trans, added_is, longer_prefix, longer_whole, longer_begins, owned_append, all_owned, none_owned}
+use Rattle.book_history.proofs.Owned.{owned_append, all_owned}
+use Rattle.book_turn.proofs.Histories.{prefix_refl, prefix_trans, added_is, longer_prefix, longer_whole, longer_begins, none_owned}
 use Rattle.book_turn.proofs.Holdings.{all_mine, all_theirs, all_once}
 
 module _ {A : Type 0} where

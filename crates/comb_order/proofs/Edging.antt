@@ -15,6 +15,7 @@ use Rattle.typed_ir.specs.Orders.{Each, at_or, Precedes}
 use Rattle.typed_ir.specs.Flats.{NodeWritesFirst}
 use Rattle.typed_ir.specs.Touches.{has_bit, touched, mentions}
 use Rattle.typed_ir.proofs.Cases.{by_cases, left_or, right_or, and_left, and_right, only_right}
+use Rattle.typed_ir.proofs.Numbered.{drives_number}
 use Rattle.typed_ir.proofs.Mentions.{reads_foreign, reads_mentioned, drive_reads, block_apart, drives_small}
 use Rattle.comb_order.specs.declared.drivers.Driver.{Driver}
 use Rattle.comb_order.specs.Graphs.{times, row_at, HasEdge}
@@ -165,11 +166,6 @@ at_small (n ∷ ns) widths most legal zero s i d =
 at_small (n ∷ ns) widths most legal (suc a) s i d =
     at_small ns widths most (and_right (is_legal_node n widths) (are_legal ns widths) legal) a s i d
 
-driver_there : (nodes : List FlatNode) (a s i : ℕ) → drives_at nodes a s i ≡ true → a < length nodes
-driver_there [] a s i d = absurd (true≢false (sym d))
-driver_there (n ∷ ns) zero s i d = omega arith
-driver_there (n ∷ ns) (suc a) s i d = let h : a < length ns = driver_there ns a s i d in omega (arith, h)
-
 -- ---- edges
 
 abbrev Before : List FlatNode → ℕ → ℕ → Type 0
@@ -247,7 +243,7 @@ edges_step nodes table old new b ts is plain same long eq was = record {
             (not-true (block_at nodes b && (a == b)) (and_right (drives_any table ts a) (not (block_at nodes b && (a == b))) both))),
       )));
   whole = λ a t small p.
-      (let there : a < length nodes = driver_there nodes a p.0 p.1 p.2 in
+      (let there : a < length nodes = drives_number nodes a p.0 p.1 p.2 in
       let count : length old ≡ length nodes = was.size in
       ltb-true 0 (times t (row_at new a)) (eq a t (omega (arith, there, count))
       ∙ by_cases (t == b)

@@ -8,7 +8,7 @@ use Rattle.typed_ir.specs.declared.span.Span.{Span}
 use Rattle.typed_ir.specs.Stmts.{SizedStmt, later_targets}
 use Rattle.typed_ir.specs.Valuations.{Places}
 use Rattle.typed_ir.specs.Nodes.{FlatNode, Drive, Block, node_drives, drives_at, IsComplete}
-use Rattle.typed_ir.specs.Orders.{Member, Each, Distinct, any_drives}
+use Rattle.typed_ir.specs.Orders.{Member, Each, Distinct, any_drives, is_member, are_distinct}
 use Rattle.typed_ir.specs.Cycles.{Flat, WritesRegisters, OneWriter}
 use Rattle.typed_ir.specs.Flats.{NodeWritesFirst, IsFlat}
 use Rattle.typed_ir.specs.Touches.{has_bit, is_block}
@@ -17,7 +17,7 @@ use Rattle.typed_ir.proofs.Numbered.{driver_index}
 use Rattle.typed_ir.proofs.Masks.{has_either}
 use Rattle.comb_order.specs.declared.drivers.Driver.{Driver}
 use Rattle.comb_order.specs.Driving.{row_in, drives_in, common, IsTableOf, IsTable}
-use Rattle.comb_order.specs.Parts.{is_member, spans_in, none_in, are_distinct, are_apart, rows_apart, are_idle, are_undriven, blocks_in, has_block}
+use Rattle.comb_order.specs.Parts.{spans_in, none_in, are_apart, rows_apart, are_idle, are_undriven, blocks_in, has_block}
 use Rattle.comb_order.proofs.Edging.{common_of}
 use Rattle.comb_order.proofs.Idle.{idle_drives}
 

@@ -9,7 +9,7 @@ use Rattle.typed_ir.specs.Stmts.{SizedStmt, later_targets}
 use Rattle.typed_ir.specs.FlatNodes.{node_of}
 use Rattle.typed_ir.specs.Valuations.{Places}
 use Rattle.typed_ir.specs.Nodes.{FlatNode, node_drives, drives_at, are_legal}
-use Rattle.typed_ir.specs.Orders.{Member, Each, Distinct, any_drives}
+use Rattle.typed_ir.specs.Orders.{Member, Each, Distinct, any_drives, is_member, are_distinct}
 use Rattle.typed_ir.specs.Cycles.{Flat, WritesRegisters}
 use Rattle.typed_ir.specs.Flats.{IsFlat, signal_widths, are_clocked, are_below}
 use Rattle.typed_ir.specs.Touches.{has_bit}
@@ -18,7 +18,7 @@ use Rattle.typed_ir.proofs.Masks.{has_either, no_bit}
 use Rattle.comb_order.specs.declared.drivers.Driver.{Driver}
 use Rattle.comb_order.specs.declared.parts.Parts.{Parts}
 use Rattle.comb_order.specs.Driving.{row_in, drives_in, common, Rises, AllRise, IsTableOf, IsTable}
-use Rattle.comb_order.specs.Parts.{IsDesign, is_member, spans_in, none_in, are_distinct, are_apart, rows_apart, are_idle, are_undriven, blocks_in}
+use Rattle.comb_order.specs.Parts.{IsDesign, spans_in, none_in, are_apart, rows_apart, are_idle, are_undriven, blocks_in}
 use Rattle.comb_order.proofs.Tables.{row_past}
 use Rattle.comb_order.proofs.Edging.{common_bit}
 use Rattle.comb_order.proofs.Flatten.{member_of, is_of}

@@ -1,9 +1,9 @@
 -- Sets of the numbers of a list.
 use Rattle.std.proofs.Common.{◌≡◌, ℕ, zero, suc, ◌+◌, ◌<◌, Bool, true, false, not, ◌&&◌, ◌||◌, ◌==◌, cond, List, [], ◌∷◌, length, get_or, drop, refl, sym, ◌∙◌, ap, ap₂}
 use Rattle.std.proofs.lemmas.Bool.{and_right}
-use Rattle.typed_ir.proofs.Cases.{turned}
+use Rattle.typed_ir.proofs.Cases.{turned, cond_or}
 use Rattle.typed_ir.proofs.Lists.{drop_split}
-use Rattle.comb_order.specs.Parts.{is_member, are_distinct}
+use Rattle.typed_ir.specs.Orders.{is_member, are_distinct}
 
 mix : (b c m : Bool) → (cond b true c || m) ≡ (c || (b || m))
 mix true true m = refl
@@ -18,14 +18,10 @@ one_more xs i q d c h =
     ∙ ap (λ b. c || (b || is_member q (drop (i + 1) xs))) (turned (get_or xs i d) q)
     ∙ ap (λ zs. c || is_member q zs) (sym (drop_split xs i d h))
 
-joined : (b m : Bool) → cond b true m ≡ (b || m)
-joined true m = refl
-joined false m = refl
-
 -- from the end
 pub one_before : (xs : List ℕ) (i q d : ℕ) → i < length xs → cond (get_or xs i d == q) true (is_member q (drop (i + 1) xs)) ≡ is_member q (drop i xs)
 one_before xs i q d h =
-    joined (get_or xs i d == q) (is_member q (drop (i + 1) xs))
+    cond_or (get_or xs i d == q) (is_member q (drop (i + 1) xs))
     ∙ ap (λ b. b || is_member q (drop (i + 1) xs)) (turned (get_or xs i d) q)
     ∙ ap (is_member q) (sym (drop_split xs i d h))
 

@@ -4,11 +4,11 @@ use Rattle.std.proofs.Math.Bool.{or-false, or_assoc}
 use Rattle.std.specs.declared.vec.Vec.{Vec}
 use Rattle.std.specs.Global.{Global}
 use Rattle.std.specs.Prelude.{bit_or}
-use Rattle.std.proofs.lemmas.Bool.{eqb-true, eqb-false, eq-eqb, ne_eqb}
+use Rattle.std.proofs.lemmas.Bool.{eqb-true, eqb-false, ne_eqb}
 use Rattle.typed_ir.specs.Valuations.{Places, nowhere}
 use Rattle.typed_ir.specs.Orders.{at_or}
 use Rattle.typed_ir.specs.Touches.{has_bit}
-use Rattle.typed_ir.proofs.Cases.{by_cases}
+use Rattle.typed_ir.proofs.Cases.{by_cases, same_suc}
 use Rattle.typed_ir.proofs.Masks.{has_either, or_nothing}
 use Rattle.comb_order.specs.declared.drivers.Driver.{Driver}
 use Rattle.comb_order.specs.Graphs.{row_at, rows_of}
@@ -100,11 +100,6 @@ at_more {A} f g xs k x a s i h is =
     let more : k + 1 ≡ suc k = omega arith in
     ap (λ n. at_or f nowhere (map g (take n xs)) a s i) more ∙ go xs k a h is
   where
-    same_suc : (a k : ℕ) → (suc a == suc k) ≡ (a == k)
-    same_suc a k = by_cases (a == k)
-        (λ same. eq-eqb (suc a) (suc k) (ap suc (eqb-true a k same)) ∙ sym same)
-        (λ out. ne_eqb (suc a) (suc k) (λ e. eqb-false a k out (omega (arith, e))) ∙ sym out)
-
     go : (ys : List A) (k a : ℕ) → k < length ys → x ≡ get_or ys k x
         → at_or f nowhere (map g (take (suc k) ys)) a s i ≡ (at_or f nowhere (map g (take k ys)) a s i || ((a == k) && f (g x) s i))
     go [] k a h is = absurd (omega (arith, h))

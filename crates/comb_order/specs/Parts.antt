@@ -7,6 +7,7 @@ use Rattle.typed_ir.specs.Stmts.{SizedStmt, later_targets}
 use Rattle.typed_ir.specs.Nodes.{FlatNode, are_legal}
 use Rattle.typed_ir.specs.FlatNodes.{node_of}
 use Rattle.typed_ir.specs.Flats.{signal_widths, are_clocked, are_below, are_within, flat_from, IsFlat}
+use Rattle.typed_ir.specs.Orders.{is_member}
 use Rattle.typed_ir.specs.Touches.{is_block}
 use Rattle.comb_order.specs.declared.drivers.Driver.{Driver}
 use Rattle.comb_order.specs.declared.parts.Parts.{Parts}
@@ -21,10 +22,6 @@ pub record IsDesign (parts : Parts) : Type 0 where
   pub inputs_there : IsTrue (are_below parts.inputs.items (length parts.signals.items))
   pub flat : IsFlat (flat_from parts.instances.rows.items parts.signals.items parts.registers.items parts.inputs.items parts.nodes.items parts.clocked.items)
 
-abbrev pub is_member : ℕ → List ℕ → Bool
-is_member x [] = false
-is_member x (y ∷ ys) = (x == y) || is_member x ys
-
 -- all spans are of signals of the list
 abbrev pub spans_in : List ℕ → List Span → Bool
 spans_in all [] = true
@@ -34,10 +31,6 @@ spans_in all (p ∷ ps) = is_member p.signal all && spans_in all ps
 abbrev pub none_in : List ℕ → List ℕ → Bool
 none_in all [] = true
 none_in all (x ∷ xs) = not (is_member x all) && none_in all xs
-
-abbrev pub are_distinct : List ℕ → Bool
-are_distinct [] = true
-are_distinct (x ∷ xs) = not (is_member x xs) && are_distinct xs
 
 -- the masks share no bit with those that are taken, nor with each other
 abbrev pub are_apart : ℕ → List Driver → Bool

@@ -2,7 +2,8 @@
 ghost use Rattle.std.specs.Prelude.{◌≡◌, ℕ, IfOk, map, nat_eq};
 ghost use Rattle.indexmap.specs.IndexSet.{contains};
 ghost use Rattle.typed_ir.specs.Statements.{stmt_of};
-ghost use Rattle.comb_order.specs.Parts.{is_member, spans_in, none_in, are_distinct, blocks_in};
+ghost use Rattle.typed_ir.specs.Orders.{is_member, are_distinct};
+ghost use Rattle.comb_order.specs.Parts.{spans_in, none_in, blocks_in};
 
 use crate::members::Members;
 use indexmap::IndexSet;

@@ -2,7 +2,7 @@
 ghost use Rattle.std.specs.Prelude.{◌≡◌, ℕ};
 ghost use Rattle.indexmap.specs.IndexSet.{contains};
 ghost use Rattle.std.specs.Prelude.{nat_eq};
-ghost use Rattle.comb_order.specs.Parts.{is_member};
+ghost use Rattle.typed_ir.specs.Orders.{is_member};
 
 use indexmap::IndexSet;
 use typed_ir::SignalId;

@@ -6,9 +6,9 @@ ghost use Rattle.typed_ir.specs.FlatNodes.{node_of};
 ghost use Rattle.typed_ir.specs.Linkeds.{flat};
 ghost use Rattle.typed_ir.specs.Nodes.{IsComplete, are_legal};
 ghost use Rattle.typed_ir.specs.Statements.{stmt_of};
-ghost use Rattle.typed_ir.specs.Orders.{Each};
+ghost use Rattle.typed_ir.specs.Orders.{Each, are_distinct};
 ghost use Rattle.typed_ir.specs.Views.{widths};
-ghost use Rattle.comb_order.specs.Parts.{has_block, are_distinct, none_in, blocks_in, rows_apart, are_undriven, IsDesign};
+ghost use Rattle.comb_order.specs.Parts.{has_block, none_in, blocks_in, rows_apart, are_undriven, IsDesign};
 
 use crate::belonging::{are_distinct, members_of, none_in, write_registers};
 use crate::drivers::{Driver, drivers_of, writers_of};

@@ -84,10 +84,6 @@ halted_so (Some s) ended from xs kept new is lost still none =
     let same : new ≡ xs = is ∙ ap (λ k. xs ++ k) (lost stopped) ∙ append-nil xs in
     inr (ap (λ l. script_lines false (drop from l)) same ∙ no_line (drop from xs) none, still stopped)
 
-pub going_from : (s : Option Stop) → is_some s ≡ false → s ≡ None
-going_from None is = refl
-going_from (Some s) is = absurd (true≢false is)
-
 pub stopped_from : (s : Option Stop) → is_some s ≡ true → s ≡ None → ⊥
 stopped_from None is none = true≢false (sym is)
 stopped_from (Some s) is none = none-some s (sym none)

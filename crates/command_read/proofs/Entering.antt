@@ -1,13 +1,13 @@
 -- Which files a block names already, and what a line adds to a block.
-use Rattle.std.proofs.Common.{◌≡◌, ℕ, ◌<◌, Bool, true, false, eqb, cond, ◌||◌, List, [], ◌∷◌, ◌++◌, map, length, Ok, Err, Option, Some, None, refl, sym, ap, ◌∙◌, subst, eqb-true, eq-eqb}
+use Rattle.std.proofs.Common.{◌≡◌, ℕ, ◌<◌, Bool, true, false, eqb, cond, ◌||◌, List, [], ◌∷◌, ◌++◌, map, length, Ok, Err, Option, Some, None, refl, sym, ap, ◌∙◌, subst}
 use Rattle.std.proofs.lemmas.List.Elements.{All-head, All-tail}
 use Rattle.std.proofs.lemmas.List.{map-append}
 use Rattle.std.specs.Option.{option_map}
 use Rattle.std.specs.List.{list_any}
 use Rattle.std.specs.Str.{bytes_eq}
-use Rattle.std.specs.Cmp.Lexicographic.{bytes_decides}
 use Rattle.ls_text.specs.Texts.{HasEachOnce, text_at}
 use Rattle.ls_text.specs.declared.name_id.NameId.{NameId}
+use Rattle.ls_text.proofs.Tables.{one_text}
 use Rattle.command_read.specs.declared.file_line.FileLine.{FileLine}
 use Rattle.command_read.specs.declared.load_line.LoadLine.{LoadLine}
 use Rattle.command_read.specs.declared.block_line.BlockLine.{BlockLine}
@@ -21,25 +21,12 @@ use Rattle.command_read.specs.Known.{is_known}
 use Rattle.command_read.specs.Spoken.{given_file, loaded_file, drafted, entry, open_file, reading, AreFilesWithin, AreLoadsWithin, IsDraftWithin, IsEntryWithin}
 
 module _ (names : List (List ℕ)) (once : HasEachOnce names) where
-  -- two names are the same where their texts are
-  same_name : (i j : ℕ) → i < length names → j < length names → bytes_eq (text_at names i) (text_at names j) ≡ eqb i j
-  same_name i j within other =
-      by (bytes_eq (text_at names i) (text_at names j)) refl
-    where
-      by : (b : Bool) → bytes_eq (text_at names i) (text_at names j) ≡ b → b ≡ eqb i j
-      by true h = sym (eq-eqb i j (once i j within other ((bytes_decides (text_at names i) (text_at names j)).0 h)))
-      by false h = differ (eqb i j) refl
-        where
-          differ : (d : Bool) → eqb i j ≡ d → false ≡ d
-          differ false e = refl
-          differ true e = sym h ∙ (bytes_decides (text_at names i) (text_at names j)).1 (ap (text_at names) (eqb-true i j e))
-
   given_same : (id : ℕ) (fs : List FileLine) → id < length names → AreFilesWithin (length names) fs
       → list_any (λ (f : GivenFile). bytes_eq (text_at names id) f.name) (map (given_file names) fs) ≡ list_any (λ (f : FileLine). eqb id f.file.name.0) fs
   given_same id [] within all = refl
   given_same id (f ∷ fs) within all =
       ap (λ b. b || list_any (λ (g : GivenFile). bytes_eq (text_at names id) g.name) (map (given_file names) fs))
-      (same_name id f.file.name.0 within (All-head (λ (g : FileLine). g.file.name.0 < length names) f fs all))
+      (one_text names once id f.file.name.0 within (All-head (λ (g : FileLine). g.file.name.0 < length names) f fs all))
       ∙ ap (λ b. eqb id f.file.name.0 || b) (given_same id fs within (All-tail (λ (g : FileLine). g.file.name.0 < length names) f fs all))
 
   loaded_same : (id : ℕ) (ls : List LoadLine) → id < length names → AreLoadsWithin (length names) ls
@@ -47,7 +34,7 @@ module _ (names : List (List ℕ)) (once : HasEachOnce names) where
   loaded_same id [] within all = refl
   loaded_same id (f ∷ fs) within all =
       ap (λ b. b || list_any (λ (g : LoadedFile). bytes_eq (text_at names id) g.name) (map (loaded_file names) fs))
-      (same_name id f.name.0 within (All-head (λ (g : LoadLine). g.name.0 < length names) f fs all))
+      (one_text names once id f.name.0 within (All-head (λ (g : LoadLine). g.name.0 < length names) f fs all))
       ∙ ap (λ b. eqb id f.name.0 || b) (loaded_same id fs within (All-tail (λ (g : LoadLine). g.name.0 < length names) f fs all))
 
   names_known : (d : Draft) (id : ℕ) → id < length names → IsDraftWithin (length names) d

@@ -1,6 +1,6 @@
 -- What commands and blocks say by a table of names that has grown.
 use Rattle.std.proofs.Common.{◌≡◌, ℕ, ◌<◌, List, [], ◌∷◌, map, length, Option, Some, None, IfSome, refl, ap, ◌∙◌}
-use Rattle.std.proofs.lemmas.List.Elements.{All-head, All-tail, All-nil, All-cons}
+use Rattle.std.proofs.lemmas.List.Elements.{All-head, All-tail, All-weaker}
 use Rattle.std.specs.List.{All}
 use Rattle.std.specs.Option.{option_map}
 use Rattle.ls_text.specs.Texts.{Grows, text_at}
@@ -26,8 +26,7 @@ same_map P f g (x ∷ xs) same all =
 
 -- what follows for each element follows for all
 pub all_so : {X : Type 0} (P Q : X → Type 0) (xs : List X) → ((x : X) → P x → Q x) → All P xs → All Q xs
-all_so P Q [] so all = All-nil Q
-all_so P Q (x ∷ xs) so all = All-cons Q x xs (so x (All-head P x xs all)) (all_so P Q xs so (All-tail P x xs all))
+all_so P Q xs so all = All-weaker P Q so xs all
 
 module _ (old new : List (List ℕ)) (g : Grows old new) where
   pub grown_settings : (vs : List PortValue) → All (λ (v : PortValue). v.port.0 < length old) vs → map (setting new) vs ≡ map (setting old) vs
@@ -61,7 +60,7 @@ module _ (old new : List (List ℕ)) (g : Grows old new) where
   grown_some None within = refl
   grown_some (Some id) within = ap Some (grown_text old new id.0 g within)
 
-  still_some : (name : Option NameId) → IsWithin (length old) name → IsWithin (length new) name
+  pub still_some : (name : Option NameId) → IsWithin (length old) name → IsWithin (length new) name
   still_some None within = tt
   still_some (Some id) within = grown_id old new id.0 g within
 

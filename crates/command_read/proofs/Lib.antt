@@ -20,4 +20,5 @@ pub mod Soon
 mod Still
 pub mod SmallValues
 pub mod Forms
+pub mod HandedOut
 pub mod FormedEdits

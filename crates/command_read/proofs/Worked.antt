@@ -1,8 +1,9 @@
 -- Scripts whose commands are worked out by hand.
 use Rattle.std.proofs.Common.{◌≡◌, true, false, [], ◌∷◌, Some, None, Ok, Err, refl}
 use Rattle.std.specs.Prelude.{codes}
+use Rattle.ls_text.specs.FileNames.{is_file_name}
 use Rattle.command_read.specs.Lines.{script_lines, words}
-use Rattle.command_read.specs.Values.{is_identifier, is_file_name, number_in, count_of, hex_of, parted_at, setting_of, shown_of}
+use Rattle.command_read.specs.Values.{is_identifier, number_in, count_of, hex_of, parted_at, setting_of, shown_of}
 use Rattle.command_read.specs.Asking.{Edits, Sets, Runs, Shows, Quits, fault_on}
 use Rattle.command_read.specs.LineCommands.{run_command, line_command}
 use Rattle.command_read.specs.Blocks.{block_entry, block_command}

@@ -2,10 +2,11 @@
 use Rattle.std.specs.Prelude.{ℕ, ◌+◌, ◌||◌, ◌==◌, nat_lt, Bool, if◌then◌else◌, List, [], ◌∷◌, ◌++◌, length, codes, slice_index, Option, Some, None, Result, Ok, Err}
 use Rattle.std.specs.List.{list_any}
 use Rattle.std.specs.Str.{bytes_eq}
+use Rattle.ls_text.specs.FileNames.{is_file_name}
 use Rattle.ls_text.specs.Readings.{TextFault, ◌>>=◌}
 use Rattle.reg_ops.specs.Operations.{Operation, Renames, Creates, Deletes}
 use Rattle.command_read.specs.Lines.{words, both}
-use Rattle.command_read.specs.Values.{is_identifier, is_file_name, register_of, created_of}
+use Rattle.command_read.specs.Values.{is_identifier, register_of, created_of}
 use Rattle.command_read.specs.Asking.{GivenFile, LoadedFile, LineOperation, Block, Asked, Edits, fault_on, bad_command, bad_value, of_form, of_number}
 use Rattle.command_read.specs.LineCommands.{just_one}
 

@@ -1,5 +1,5 @@
--- The forms of the values that words of a script have: identifiers, files, numbers, registers.
-use Rattle.std.specs.Prelude.{ℕ, ◌+◌, ◌^◌, Bool, false, ◌==◌, ◌&&◌, ◌||◌, not, nat_le, nat_lt, if◌then◌else◌, List, [], ◌∷◌, length, take, drop, Option, Some, None}
+-- The forms of the values that words of a script have: identifiers, numbers, registers. That of a file's name is of ls_text.
+use Rattle.std.specs.Prelude.{ℕ, ◌+◌, ◌^◌, Bool, false, ◌==◌, ◌&&◌, not, nat_le, nat_lt, if◌then◌else◌, List, [], ◌∷◌, length, take, drop, Option, Some, None}
 use Rattle.std.specs.List.{prefix_len, list_all}
 use Rattle.std.specs.Char.{is_digit}
 use Rattle.std.specs.Str.Parse.{digits_value}
@@ -10,13 +10,6 @@ use Rattle.ls_text.specs.Options.{guard, ◌>>=◌}
 unfoldable pub is_identifier : List ℕ → Bool
 is_identifier [] = false
 is_identifier (b ∷ bs) = is_letter b && (prefix_len is_word_byte bs == length bs)
-
--- FILE: 1 to 255 bytes of letters, digits, `_`, `-`, `.` and `/`
-abbrev pub is_file_byte : ℕ → Bool
-is_file_byte c = (is_word_byte c && not (c == 36)) || ((c == 45) || ((c == 46) || (c == 47)))
-
-unfoldable pub is_file_name : List ℕ → Bool
-is_file_name word = nat_le 1 (length word) && (nat_le (length word) 255 && (prefix_len is_file_byte word == length word))
 
 -- the number that digits of a base spell, where there is a digit and it is below 2 ^ 128
 unfoldable pub number_in : (base : ℕ) → List ℕ → Option ℕ

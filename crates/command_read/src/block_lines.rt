@@ -12,10 +12,8 @@ ghost use Rattle.command_read.specs.Spoken.{entry, name_of, IsEntryWithin};
 use crate::block_line::BlockLine;
 use crate::faults::{showing, wordless};
 use crate::numbers::hex_of;
-use crate::scan::{
-    is_file_name, is_identifier, next_word, only_word, parted_at, register_of, two_words,
-};
-use ls_text::{NameId, Names, NoMemory, Refusal, byte_at};
+use crate::scan::{is_identifier, next_word, only_word, parted_at, register_of, two_words};
+use ls_text::{NameId, Names, NoMemory, Refusal, byte_at, is_file_name};
 use reg_ops::RegOp;
 use std::alloc::Global;
 

@@ -1,8 +1,12 @@
 // The commands of a script: what they ask for, as plain types, and what reads them from a source.
 //
-// A `Reader` (`reader`) takes bytes of a source (`filling`), finds the first line or block that is complete (`finding`), and reads it
-// (`reading`). Of a line, `scan` and `numbers` have its words and the forms of its values, `line_commands` the commands of one line and
-// `block_lines` what the lines of a block say, which `drafts` puts together. What is wrong with a line is made in `faults`.
+// A `reader` takes bytes of a source (`filling`), finds what stands complete at their front (`finding`: an `item`, a line or a block, by where lines
+// end, `line_end`), and reads that (`reading`) to a `command`, a refused line or the end (`read_end`); why it stopped it keeps (`stop`). Of a line,
+// `scan` and `numbers` have its words and the forms of its values, `line_commands` the commands of one line (with the `port_values` of a `set`), and
+// `block_lines` what a line of a block says (`block_line`). `drafts` goes over the `lines` of a block and keeps a `draft` of it, with the files that
+// it names (`named_files`) and the one whose text is open (`open_text`), until it is an `edit`: lists of files, loads and operations (`file_lines`,
+// `load_lines`, `op_lines`). What is wrong with a line is made in `faults`. `laws` says that readers tell what the bytes ask for, however these are
+// cut.
 #![tactic(auto)]
 
 mod block_line;

@@ -4,9 +4,9 @@ ghost use Rattle.std.specs.List.{prefix_len};
 ghost use Rattle.std.specs.Option.{option_map};
 ghost use Rattle.std.specs.Str.Lines.{strip_carriage_return};
 ghost use Rattle.command_read.specs.Lines.{is_blank, words, is_skipped, are_just, begin_with, only, both};
-ghost use Rattle.command_read.specs.Values.{is_identifier, is_file_byte, is_file_name, parted_at, number_in, count_of, hex_of, register_of, shown_of};
+ghost use Rattle.command_read.specs.Values.{is_identifier, parted_at, number_in, count_of, hex_of, register_of, shown_of};
 
-use ls_text::{byte_at, is_letter, is_word_byte, word_len};
+use ls_text::{byte_at, is_letter, word_len};
 
 /// Whether a byte parts words.
 fn is_blank(byte: u8) -> bool
@@ -102,27 +102,6 @@ pub fn is_identifier(word: &[u8]) -> bool
         [first, rest @ ..] => is_letter(*first) && word_len(rest) == rest.len(),
         [] => false,
     }
-}
-
-fn is_file_byte(byte: u8) -> bool
-    ensures { result ≡ is_file_byte byte }
-{
-    (is_word_byte(byte) && byte != b'$') || matches!(byte, b'-' | b'.' | b'/')
-}
-
-fn file_bytes(word: &[u8]) -> usize
-    ensures value { result ≡ prefix_len is_file_byte word.now }
-    ensures within { result ≤ length word.now }
-{
-    word.iter().take_while(|b| is_file_byte(**b)).count()
-}
-
-/// Whether a word may name a file.
-#[tactic(auto, unfolding(crate::specs::Values::is_file_name))]
-pub fn is_file_name(word: &[u8]) -> bool
-    ensures { result ≡ is_file_name word.now }
-{
-    1 <= word.len() && word.len() <= 255 && file_bytes(word) == word.len()
 }
 
 fn len_before(byte: u8, word: &[u8]) -> usize

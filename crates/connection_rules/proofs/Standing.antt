@@ -13,7 +13,7 @@ use Rattle.unit_ir.specs.Items.{PlacedItem, SizedBody, Node, Clocked, Initial, n
 use Rattle.unit_ir.specs.OwnWidths.{names_child}
 use Rattle.unit_ir.specs.Shapes.{is_clock, is_data_input, are_inputs_of, goes_into_input}
 use Rattle.unit_ir.specs.Trees.{UnitNode, count, port_drives}
-use Rattle.unit_ir.proofs.Counted.{count_append}
+use Rattle.unit_ir.proofs.Counted.{count_append, one_at_most}
 use Rattle.verilog_ast.specs.Expressions.{Expression}
 use Rattle.verilog_ast.specs.Items.{ConnectionByName, ConnectionByOrder, ConnectionList, ByName, ByOrder, ModuleInstance}
 use Rattle.width_rules.specs.Scopes.{Scope}
@@ -64,13 +64,9 @@ other_port c s i d scope x h = by_input x.shape.input
         ap (λ b. (d == c) && (b && (nat_le 0 i && nat_lt i (0 + x.shape.width)) || false)) (ne_eqb s x.port h) ∙ and-false (d == c)
     by_input false = refl
 
-single : (b : Bool) → cond b 1 0 + 0 ≤ 1
-single true = omega arith
-single false = omega arith
-
 one_of : (c s i d : ℕ) (scope : Scope) (o : Option Connected) → count (port_drives c s i) (nodes_in (item_if scope d o)) ≤ 1
 one_of c s i d scope None = omega arith
-one_of c s i d scope (Some x) = single (port_drives c s i (connection_node scope d x))
+one_of c s i d scope (Some x) = one_at_most (port_drives c s i (connection_node scope d x))
 
 none_of : (c s i d : ℕ) (scope : Scope) (o : Option Connected) → ((x : Connected) → o ≡ Some x → port_drives c s i (connection_node scope d x) ≡ false)
     → count (port_drives c s i) (nodes_in (item_if scope d o)) ≡ 0

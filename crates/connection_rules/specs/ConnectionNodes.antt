@@ -14,7 +14,8 @@ use Rattle.width_rules.specs.Sizes.{extended}
 use Rattle.statement_rules.specs.Statements.{assigned}
 use Rattle.statement_rules.specs.Targets.{target_length, parts}
 use Rattle.connection_rules.specs.Connections.{Connected}
-use Rattle.connection_rules.specs.Outputs.{as_target, output_form, output_mentions, known_lanes}
+use Rattle.typed_ir.specs.Nodes.{known_lanes}
+use Rattle.connection_rules.specs.Outputs.{as_target, output_form, output_mentions}
 
 abbrev pub target_or_none : Option Target → Target
 target_or_none None = NoTarget

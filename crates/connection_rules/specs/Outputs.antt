@@ -1,10 +1,8 @@
 -- What an output connection drives: it stands there as an expression (IEEE Std 1364-2005, 12.3.9, A.4.1).
 use Rattle.std.specs.Prelude.{Bool, true, false, ◌&&◌, if◌then◌else◌, List, [], ◌∷◌, ◌++◌, Option, Some, None}
 use Rattle.ls_text.specs.declared.fault.Fault.{Fault}
-use Rattle.typed_ir.specs.declared.lane.Lane.{Lane}
 use Rattle.typed_ir.specs.declared.target_form.TargetForm.{TargetForm}
 use Rattle.typed_ir.specs.declared.target_form.TargetForm.TheVariants.{Name, Bit, Range}
-use Rattle.typed_ir.specs.Stmts.{SizedTarget, Fixed, Moving}
 use Rattle.unit_ir.specs.declared.mention.Mention.{Mention}
 use Rattle.verilog_ast.specs.Expressions as e
 use Rattle.verilog_ast.specs.Expressions.{Expression, Target, Reference, Joined, NoTarget, Targets}
@@ -115,10 +113,3 @@ output_form (Targets t ts) = output_form t
 
 abbrev pub output_mentions : Expression → List Mention
 output_mentions x = if is_target x then numbered 0 (expression_targets x) else []
-
--- ---- its lanes: the bits of all parts are known where its indices are constant
-
-abbrev pub known_lanes : List SizedTarget → List Lane
-known_lanes [] = []
-known_lanes (Fixed lane ∷ ts) = lane ∷ known_lanes ts
-known_lanes (Moving reach index ∷ ts) = known_lanes ts

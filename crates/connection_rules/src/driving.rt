@@ -15,7 +15,8 @@ ghost use Rattle.statement_rules.specs.Targets.{target_length, parts, target_fau
 ghost use Rattle.item_mentions.specs.Mentions.{numbered};
 ghost use Rattle.item_mentions.specs.Names.{expression_targets};
 ghost use Rattle.connection_rules.specs.ConnectionNodes.{target_or_none};
-ghost use Rattle.connection_rules.specs.Outputs.{is_target, as_target, target_at, part_faults, output_faults, output_form, output_mentions, known_lanes};
+ghost use Rattle.typed_ir.specs.Nodes.{known_lanes};
+ghost use Rattle.connection_rules.specs.Outputs.{is_target, as_target, target_at, part_faults, output_faults, output_form, output_mentions};
 
 use crate::shaping::{form_of, is_target};
 use crate::sized_output::SizedOutput;

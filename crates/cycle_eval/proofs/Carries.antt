@@ -5,13 +5,7 @@ use Rattle.typed_ir.specs.declared.signal.Signal.{Signal as Signal'}
 use Rattle.typed_ir.specs.States.{sized_value}
 use Rattle.typed_ir.proofs.Lists.{drop_split}
 use Rattle.std.proofs.lemmas.List.{map_push}
-use Rattle.state_layout.specs.Words.{width_in}
 use Rattle.reg_transform.specs.Beginnings.{initial_in}
-
-pub width_read : (signals : List Signal') (r : ℕ) (x : Signal') → r < length signals → x ≡ get_or signals r x → x.width ≡ width_in signals r
-width_read [] r x h is = absurd (omega (arith, h))
-width_read (y ∷ ys) zero x h is = ap (λ (z : Signal'). z.width) is
-width_read (y ∷ ys) (suc r) x h is = width_read ys r x (omega (arith, h)) is
 
 pub initial_read : (signals : List Signal') (r : ℕ) (x : Signal') → r < length signals → x ≡ get_or signals r x → x.initial ≡ initial_in signals r
 initial_read [] r x h is = absurd (omega (arith, h))

@@ -10,8 +10,9 @@ use Rattle.typed_ir.proofs.Cases.{by_cases}
 use Rattle.typed_ir.proofs.Members.{map_same}
 use Rattle.cycle_eval.specs.Kits.{driven, run_of}
 use Rattle.state_layout.specs.Words.{register_widths}
-use Rattle.reg_transform.specs.States.{paired, state_values, are_alike}
-use Rattle.cycle_eval.specs.DesignLaws.{alike_is}
+use Rattle.reg_transform.specs.States.{paired, state_values}
+use Rattle.stimulus.specs.Rows.{are_same as are_alike}
+use Rattle.stimulus.specs.SameRows.{same_is as alike_is}
 
 -- a run of at least one row
 pub run_is : (design : Flat) (rows : List (List (ℕ × ℕ))) (s : List (ℕ × ℕ)) → 0 < length rows

@@ -1,7 +1,7 @@
 -- Runs over a part of a record, and the true states of a record.
 use Rattle.std.proofs.Common.{◌≡◌, ◌∙◌, ℕ, zero, suc, ◌-◌, ◌≤◌, List, [], ◌∷◌, ◌++◌, Result, Ok, Err, length, take, drop, refl, sym, ap, subst, zero-add, arith}
 use Rattle.std.specs.Prelude.{IfOk}
-use Rattle.std.proofs.lemmas.List.{length-append, length-drop, length-take, take-append-drop, take-append-le}
+use Rattle.std.proofs.lemmas.List.{length-append, length-drop, length-take, take-append-drop, take-append-le, length-take-le}
 use Rattle.machine.specs.Rows.{between, slice, Covers}
 use Rattle.typed_ir.specs.RunLaws.{seg_more}
 use Rattle.typed_ir.specs.Cycles.{Flat, initial_at, input, reset, seg, step, truth, width_at}
@@ -92,14 +92,9 @@ true_before design rows more a within =
 pub true_cut : (design : Flat) (rows : List (List (ℕ × ℕ))) (a len : ℕ) → a ≤ len → len ≤ length rows
     → truth design (values_at design (take len rows)) a ≡ truth design (values_at design rows) a
 true_cut design rows a len within there =
-    let count : length (take len rows) ≡ len = length_taken len rows there in
+    let count : length (take len rows) ≡ len = length-take-le len rows there in
     sym (true_before design (take len rows) (drop len rows) a (omega (arith, within, count)))
     ∙ ap (λ xs. truth design (values_at design xs) a) (take-append-drop len rows)
-  where
-    length_taken : {R : Type 0} (n : ℕ) (xs : List R) → n ≤ length xs → length (take n xs) ≡ n
-    length_taken zero xs le = refl
-    length_taken (suc n) [] le = absurd (omega (arith, le))
-    length_taken (suc n) (x ∷ xs) le = ap suc (length_taken n xs (omega (arith, le)))
 
 -- ---- the answer of a run over a part of a record
 

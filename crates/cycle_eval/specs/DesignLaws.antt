@@ -1,8 +1,7 @@
 -- The laws of a design as a machine.
-use Rattle.std.proofs.Common.{◌≡◌, ℕ, zero, suc, ◌+◌, true, ◌&&◌, ◌==◌, List, [], ◌∷◌, ◌++◌, length, map, refl, sym, ◌∙◌, ap, ap₂, ◌↔◌, true≢false}
+use Rattle.std.proofs.Common.{◌≡◌, ℕ, zero, suc, ◌+◌, List, [], ◌∷◌, ◌++◌, length, map, refl, sym, ◌∙◌, ap, ap₂}
 use Rattle.std.proofs.Math.Nat.{suc-add}
 use Rattle.std.proofs.Math.Numerals.{one-add}
-use Rattle.std.proofs.lemmas.Bool.{eqb-true, eq-eqb, and_from, and_parts}
 use Rattle.std.proofs.lemmas.List.{append-nil}
 use Rattle.std.specs.Prelude.{slice_index, Option}
 use Rattle.reg_ops.specs.declared.reg_op.RegOp.{RegOp}
@@ -15,7 +14,7 @@ use Rattle.typed_ir.specs.Cycles.{Signal, Flat, width_at, initial_at, wires, all
 use Rattle.cycle_eval.specs.Inputs.{row_values, values_at}
 use Rattle.cycle_eval.specs.Kits.{run_of, driven, Fits, reset_of, carried_of, register_of, register_at, regs_of}
 use Rattle.state_layout.specs.Words.{register_widths}
-use Rattle.reg_transform.specs.States.{paired, state_values, are_alike}
+use Rattle.reg_transform.specs.States.{paired, state_values}
 use Rattle.state_layout.specs.Slots.{state_widths}
 
 -- each register's width with its value
@@ -105,27 +104,3 @@ each_width ops old design (r ∷ rs) = ap₂ (λ (w : ℕ) (ws : List ℕ). w �
 
 pub carried_fits : (ops : List RegOp) (old new : Flat) (s : List (ℕ × ℕ)) → Fits new (carried_of ops old new s)
 carried_fits ops old new s = each_width ops (value_of (regs_of old) (state_values s)) new new.registers
-
-pub alike_is : (x y : List (ℕ × ℕ)) → (are_alike x y ≡ true) ↔ (x ≡ y)
-alike_is x y = (same x y, λ e. ap (are_alike x) (sym e) ∙ itself x)
-  where
-    make : ℕ → ℕ → ℕ × ℕ
-    make w x = (w, x)
-
-    pair_same : (x y : ℕ × ℕ) → x.0 ≡ y.0 → x.1 ≡ y.1 → x ≡ y
-    pair_same x y e f = ap₂ make e f
-
-    same : (x y : List (ℕ × ℕ)) → are_alike x y ≡ true → x ≡ y
-    same [] [] h = refl
-    same [] (y ∷ ys) h = absurd (true≢false (sym h))
-    same (x ∷ xs) [] h = absurd (true≢false (sym h))
-    same (x ∷ xs) (y ∷ ys) h =
-        let both : ((x.0 == y.0) && (x.1 == y.1)) ≡ true = (and_parts ((x.0 == y.0) && (x.1 == y.1)) (are_alike xs ys) h).0 in
-        ap₂ (λ (z : ℕ × ℕ) (zs : List (ℕ × ℕ)). z ∷ zs)
-        (pair_same x y (eqb-true x.0 y.0 (and_parts (x.0 == y.0) (x.1 == y.1) both).0) (eqb-true x.1 y.1 (and_parts (x.0 == y.0) (x.1 == y.1) both).1))
-        (same xs ys (and_parts ((x.0 == y.0) && (x.1 == y.1)) (are_alike xs ys) h).1)
-
-    itself : (x : List (ℕ × ℕ)) → are_alike x x ≡ true
-    itself [] = refl
-    itself (x ∷ xs) = and_from ((x.0 == x.0) && (x.1 == x.1)) (are_alike xs xs)
-        (and_from (x.0 == x.0) (x.1 == x.1) (eq-eqb x.0 x.0 refl) (eq-eqb x.1 x.1 refl)) (itself xs)

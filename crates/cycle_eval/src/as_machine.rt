@@ -2,8 +2,9 @@
 ghost use Rattle.std.specs.Prelude.{◌≡◌, refl, true};
 ghost use Rattle.cycle_eval.specs.Designs.{design_flat, work_of};
 ghost use Rattle.cycle_eval.specs.Kits.{Fits, IsValid, reset_of, run_of, carried_of};
-ghost use Rattle.reg_transform.specs.States.{are_alike};
-ghost use Rattle.cycle_eval.specs.DesignLaws.{run_more, run_fits, reset_fits, carried_fits, alike_is};
+ghost use Rattle.stimulus.specs.Rows.{are_same as are_alike};
+ghost use Rattle.stimulus.specs.SameRows.{same_is as alike_is};
+ghost use Rattle.cycle_eval.specs.DesignLaws.{run_more, run_fits, reset_fits, carried_fits};
 
 use crate::design::Design;
 use machine::Machine;

@@ -7,19 +7,19 @@ use Rattle.ls_text.specs.declared.name_id.NameId.{NameId}
 use Rattle.verilog_ast.specs.declared.identifier.Identifier.{Identifier}
 use Rattle.verilog_ast.specs.declared.port_net.PortNet.{PortNet}
 use Rattle.verilog_ast.specs.declared.port_net.PortNet.TheVariants as net
-use Rattle.verilog_ast.specs.Declarations.{RangeBounds, Kind, Declared, DeclaredReg, PortDeclaration, InputPort, OutputPort, NextPort}
+use Rattle.verilog_ast.specs.Declarations.{RangeBounds, Kind, Declared, DeclaredReg, PortDeclaration, InputPort, OutputPort, NextPort, header_net}
 use Rattle.verilog_ast.specs.Expressions.{Expression}
 use Rattle.verilog_ast.specs.Renamed.{renamed_identifier}
 use Rattle.verilog_ast.specs.Renaming.{expression_as, range_as, kind_as, declared_as, declared_reg_as, port_as}
 use Rattle.width_rules.specs.Renaming.{MeansSame}
 use Rattle.width_rules.specs.Scopes.{Scope}
 use Rattle.gen_unroll.specs.declared.parameter_sort.ParameterSort.{ParameterSort}
-use Rattle.gen_unroll.specs.Declarations.{BitRange, declared_name}
+use Rattle.gen_unroll.specs.Declarations.{BitRange, declared_name, range_or_none}
 use Rattle.gen_unroll.specs.Reaches.{Reach, innermost}
 use Rattle.gen_unroll.specs.Values.{ConstantValue}
 use Rattle.elaborate.specs.declared.declaration_kind.DeclarationKind.{DeclarationKind}
 use Rattle.elaborate.specs.declared.declaration_kind.DeclarationKind.TheVariants as kind
-use Rattle.elaborate.specs.Checks.{Checked, declaration, each, range_or_none, range_of_kind, plain, list_port, header_net, declare_port, header_port, body_port, variable, wire, reg, inputs, outputs, wires, regs, genvar, with_parameter, parameter}
+use Rattle.elaborate.specs.Checks.{Checked, declaration, each, range_of_kind, plain, list_port, declare_port, header_port, body_port, variable, wire, reg, inputs, outputs, wires, regs, genvar, with_parameter, parameter}
 use Rattle.elaborate.specs.Tables.{Declaration, declare, declare_net, kind_of_net}
 use Rattle.design_laws.specs.Findings.{table_as, checked_as}
 use Rattle.design_laws.specs.Renaming.{KeepsApart, SameReach, found_as, answer_as}

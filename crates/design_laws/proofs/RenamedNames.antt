@@ -3,6 +3,8 @@ use Rattle.std.proofs.Common.{◌≡◌, ℕ, ◌==◌, Bool, true, if◌then◌
 use Rattle.std.proofs.lemmas.Bool.{eqb-true, eq-eqb}
 use Rattle.std.specs.Option.{option_map}
 use Rattle.ls_text.specs.declared.name_id.NameId.{NameId}
+use Rattle.ls_text.proofs.Tables.{same_id}
+use Rattle.ls_text.proofs.Lists.{map_so}
 use Rattle.typed_ir.proofs.Cases.{by_cases}
 use Rattle.verilog_ast.specs.declared.identifier.Identifier.{Identifier}
 use Rattle.verilog_ast.specs.Declarations.{PortDeclaration, InputPort, OutputPort, NextPort, PortList, NoPorts, NamedPorts, DeclaredPorts}
@@ -21,18 +23,15 @@ use Rattle.design_laws.specs.Renaming.{KeepsApart, MeanSame, SameReach, number_a
 
 -- ---- names
 
-same_name : (m n : NameId) → m.0 ≡ n.0 → m ≡ n
-same_name m n is = ap (λ (k : ℕ). record { 0 = k }) is
-
 found_so : (f : NameId → NameId) (m n : NameId) → (m.0 == n.0) ≡ true → (f m).0 ≡ (f n).0
-found_so f m n t = ap (λ (x : NameId). (f x).0) (same_name m n (eqb-true m.0 n.0 t))
+found_so f m n t = ap (λ (x : NameId). (f x).0) (same_id m n (eqb-true m.0 n.0 t))
 
 -- names are compared alike
 pub same_test : (f : NameId → NameId) (m n : NameId) → KeepsApart f → ((f m).0 == (f n).0) ≡ (m.0 == n.0)
 same_test f m n apart = by_cases (m.0 == n.0)
     (λ t. eq-eqb (f m).0 (f n).0 (found_so f m n t) ∙ sym t)
     (λ u. by_cases ((f m).0 == (f n).0)
-    (λ t. absurd (true≢false (sym (eq-eqb m.0 n.0 (ap (λ (x : NameId). x.0) (apart m n (same_name (f m) (f n) (eqb-true (f m).0 (f n).0 t))))) ∙ u)))
+    (λ t. absurd (true≢false (sym (eq-eqb m.0 n.0 (ap (λ (x : NameId). x.0) (apart m n (same_id (f m) (f n) (eqb-true (f m).0 (f n).0 t))))) ∙ u)))
     (λ g. g ∙ sym u))
 
 pub same_number : (f : NameId → NameId) (m n : ℕ) → KeepsApart f → (number_as f m == number_as f n) ≡ (m == n)
@@ -63,8 +62,7 @@ all_declared_so f scope other m (n ∷ ns) apart same =
 -- names of parts that are renamed
 pub names_so : {A : Type 0} (f : NameId → NameId) (name : A → Identifier) (moved : A → A) → ((x : A) → name (moved x) ≡ renamed_identifier f (name x))
     → (xs : List A) → map name (map moved xs) ≡ map (renamed_identifier f) (map name xs)
-names_so f name moved is [] = refl
-names_so f name moved is (x ∷ xs) = ap₂ (λ (n : Identifier) (ns : List Identifier). n ∷ ns) (is x) (names_so f name moved is xs)
+names_so f name moved is xs = map_so name moved (renamed_identifier f) is xs
 
 pub parts_so : {A : Type 0} (f : NameId → NameId) (scope other : Scope) (m : Meaning) (name : A → Identifier) (moved : A → A) → ((x : A) → name (moved x) ≡ renamed_identifier f (name x))
     → (xs : List A) → KeepsApart f → MeansSame f scope other → MeansSame f (all_declared m (map name xs) scope) (all_declared m (map name (map moved xs)) other)

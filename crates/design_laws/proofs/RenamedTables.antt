@@ -8,7 +8,8 @@ use Rattle.verilog_ast.specs.Expressions.{Expression}
 use Rattle.verilog_ast.specs.Renamed.{renamed_identifier}
 use Rattle.verilog_ast.specs.Renaming.{expression_as}
 use Rattle.elaborate.specs.declared.declaration_kind.DeclarationKind.{DeclarationKind}
-use Rattle.elaborate.specs.Tables.{NameIn, Declaration, Table, same_block, is_same_name, declared_as, with_declaration, name_in, once, declare, is_input, completes, net_over, initial, declare_net}
+use Rattle.gen_unroll.specs.Reaches.{same_block}
+use Rattle.elaborate.specs.Tables.{NameIn, Declaration, Table, is_same_name, declared_as, with_declaration, name_in, once, declare, is_input, completes, net_over, initial, declare_net}
 use Rattle.design_laws.specs.Findings.{name_in_as, entry_as, table_as}
 use Rattle.design_laws.specs.Renaming.{KeepsApart, found_as, answer_as}
 use Rattle.design_laws.proofs.RenamedAnswers.{value_so, if_answer}

@@ -1,5 +1,5 @@
 -- Steps depend on where those signals stand alone that what they are laid out of mentions.
-use Rattle.std.proofs.Common.{Bool, true, false, ◌≡◌, ℕ, ◌+◌, ◌<◌, ◌&&◌, ◌||◌, ◌==◌, List, [], ◌∷◌, ◌++◌, max, map, length, refl, ap, ap₂, ◌∙◌, arith}
+use Rattle.std.proofs.Common.{true, false, ◌≡◌, ℕ, ◌+◌, ◌<◌, ◌&&◌, ◌||◌, ◌==◌, List, [], ◌∷◌, ◌++◌, max, map, length, refl, ap, ap₂, ◌∙◌, arith}
 use Rattle.std.specs.Prelude.{if◌then◌else◌}
 use Rattle.std.proofs.lemmas.Bool.{eq-eqb}
 use Rattle.typed_ir.specs.declared.span.Span.{Span}
@@ -8,7 +8,7 @@ use Rattle.typed_ir.specs.Valuations.{Places}
 use Rattle.typed_ir.specs.Sized.{Sized, Constant, Name, Part, Pick, Unary, Binary, Choice, Concat, Repeat, Resized, width_of, copies, reads, agrees, fits_signals, is_signal}
 use Rattle.typed_ir.specs.Stmts.{SizedTarget, Fixed, Moving, SizedItem, SizedStmt, SizedArms, Skip as Nothing, Assign, Later, Then, If, Case, Arm, Default, span_of, targets, arm_targets, index_reads, item_reads, is_sized, is_target, are_targets, are_items, is_legal, are_legal_arms}
 use Rattle.typed_ir.specs.Touches.{all_reads, all_arm_reads}
-use Rattle.typed_ir.proofs.Cases.{left_or, right_or, and_left, and_right}
+use Rattle.typed_ir.proofs.Cases.{left_or, right_or, and_left, and_right, only_left}
 use Rattle.word_steps.specs.declared.step.Step.{Step}
 use Rattle.word_steps.specs.declared.op.Op.TheVariants.{Copy, Select, Choose, Join, Product, Pick as PickStep, Or, SkipIfZero, SkipIfEqual, SkipUnlessEqual}
 use Rattle.step_layout.proofs.Testing.{Asks, asks}
@@ -176,11 +176,7 @@ module _ (l : Plan) (f : ℕ → ℕ) where
 
   index_first : (t : SizedTarget) (ts : List SizedTarget) → Fixes (index_reads (t ∷ ts)) → Fixes (index_reads (t ∷ []))
   index_first (Fixed lane) ts h = λ s i r b. absurd (let none : false ≡ true = r in cc)
-  index_first (Moving reach index) ts h = λ s i r b. h s i (left_or (reads index s i) (index_reads ts s i) (or_none (reads index s i) r)) b
-    where
-      or_none : (a : Bool) → (a || false) ≡ true → a ≡ true
-      or_none true r = refl
-      or_none false r = r
+  index_first (Moving reach index) ts h = λ s i r b. h s i (left_or (reads index s i) (index_reads ts s i) (only_left (reads index s i) false refl r)) b
 
   index_rest : (t : SizedTarget) (ts : List SizedTarget) → Fixes (index_reads (t ∷ ts)) → Fixes (index_reads ts)
   index_rest (Fixed lane) ts h = h

@@ -3,7 +3,8 @@ use Rattle.std.proofs.Common.{true, ◌≡◌, ℕ, zero, suc, ◌+◌, ◌*◌,
 use Rattle.std.specs.Prelude.{if◌then◌else◌}
 use Rattle.std.specs.List.{swap}
 use Rattle.std.proofs.lemmas.Bool.{ltb-true, ltb-false, eqb-true, eqb-false, cond-true, cond-false}
-use Rattle.std.proofs.lemmas.List.{length-set, get_or_default}
+use Rattle.std.proofs.lemmas.List.{length-set, get_or_default, get_or_past}
+use Rattle.std.proofs.lemmas.List.Edits.{length-swap}
 use Rattle.typed_ir.specs.Orders.{Member, Distinct}
 use Rattle.typed_ir.specs.Flats.{are_below}
 use Rattle.typed_ir.proofs.Cases.{by_cases, and_left, and_right}
@@ -17,12 +18,6 @@ use Rattle.design_steps.proofs.Copied.{below_member}
 -- the other one of two places
 abbrev turned : ℕ → ℕ → ℕ → ℕ
 turned a b k = if k == b then a else if k == a then b else k
-
-pub swap_long : (t : List ℕ) (a b : ℕ) → length (swap t a b) ≡ length t
-swap_long [] a b = refl
-swap_long (d ∷ ys) a b =
-    let t = d ∷ ys in
-    length-set (set t a (get_or t b d)) b (get_or t a d) ∙ length-set t a (get_or t b d)
 
 swap_at : (t : List ℕ) (a b k d : ℕ) → a < length t → b < length t → get_or (swap t a b) k d ≡ get_or t (turned a b k) d
 swap_at [] a b k d near far = absurd (omega (arith, near))
@@ -50,12 +45,7 @@ swap_at (e ∷ ys) a b k d near far = by_cases (k == b)
         (λ no. other (eqb-false k a no) ∙ ap (λ i. get_or t i d) (sym (cond-false (k == a) b k no)))
 
 beyond : (t : List ℕ) (k : ℕ) → length t ≤ k → moved t k ≡ k
-beyond t k h = get_or_beyond t k k h
-  where
-    get_or_beyond : (t : List ℕ) (k d : ℕ) → length t ≤ k → get_or t k d ≡ d
-    get_or_beyond [] k d h = refl
-    get_or_beyond (x ∷ xs) zero d h = absurd (omega (arith, h))
-    get_or_beyond (x ∷ xs) (suc k) d h = get_or_beyond xs k d (omega (arith, h))
+beyond t k h = get_or_past t k k h
 
 -- the turn of a place within the table lies there too
 turned_less : (n a b k : ℕ) → a < n → b < n → k < n → turned a b k < n
@@ -94,7 +84,7 @@ pub swap_moved : (t : List ℕ) (a b k : ℕ) → a < length t → b < length t 
 swap_moved t a b k near far = by_cases (nat_lt k (length t))
     (λ yes. let less = ltb-true k (length t) yes in swap_at t a b k k near far ∙ get_or_default t (turned a b k) k (turned a b k) (turned_less (length t) a b k near far less))
     (λ no. let more : length t ≤ k = ltb-false k (length t) no in
-    beyond (swap t a b) k (let e = swap_long t a b in omega (arith, e, more))
+    beyond (swap t a b) k (let e = length-swap t a b in omega (arith, e, more))
     ∙ sym (beyond t k more)
     ∙ ap (moved t) (sym (turned_other a b k (λ e. omega (arith, e, near, more)) (λ e. omega (arith, e, far, more)))))
 
@@ -132,7 +122,7 @@ swap_table t n a b ha hb is =
     let near : a < length t = (let e = is.long in omega (arith, e, ha)) in
     let far : b < length t = (let e = is.long in omega (arith, e, hb)) in
     record {
-      long = swap_long t a b ∙ is.long;
+      long = length-swap t a b ∙ is.long;
       once = λ x y e. sym (turned_twice a b x)
           ∙ ap (turned a b) (is.once (turned a b x) (turned a b y) (sym (swap_moved t a b x near far) ∙ e ∙ swap_moved t a b y near far))
           ∙ turned_twice a b y;
@@ -146,7 +136,7 @@ abbrev pub both_swapped : List ℕ → ℕ → ℕ → ℕ → ℕ → List ℕ
 both_swapped t n own next r = swap (swap t (r + 1) own) (r + 1 + n) next
 
 pub both_long : (t : List ℕ) (n own next r : ℕ) → length (both_swapped t n own next r) ≡ length t
-both_long t n own next r = swap_long (swap t (r + 1) own) (r + 1 + n) next ∙ swap_long t (r + 1) own
+both_long t n own next r = length-swap (swap t (r + 1) own) (r + 1 + n) next ∙ length-swap t (r + 1) own
 
 -- where a register and its next value fit
 record Fits (n own next count room : ℕ) : Type 0 where
@@ -178,7 +168,7 @@ both_other t n own next count room r k f less is first second third fourth =
     let c = f.within in
     let long = is.long in
     let t1 = swap t (r + 1) own in
-    let long1 = swap_long t (r + 1) own in
+    let long1 = length-swap t (r + 1) own in
     swap_moved t1 (r + 1 + n) next k (omega (arith, long, long1, a, b, c, less)) (omega (arith, long, long1, c))
     ∙ ap (moved t1) (turned_other (r + 1 + n) next k second fourth)
     ∙ swap_moved t (r + 1) own k (omega (arith, long, a, b, c, less)) (omega (arith, long, b, c))
@@ -191,7 +181,7 @@ both_own t n own next count room r f less is =
     let c = f.within in
     let long = is.long in
     let t1 = swap t (r + 1) own in
-    let long1 = swap_long t (r + 1) own in
+    let long1 = length-swap t (r + 1) own in
     swap_moved t1 (r + 1 + n) next (r + 1) (omega (arith, long, long1, a, b, c, less)) (omega (arith, long, long1, c))
     ∙ ap (moved t1) (turned_other (r + 1 + n) next (r + 1) (λ e. omega (arith, e, less)) (λ e. omega (arith, e, a, b, c, less)))
     ∙ swap_moved t (r + 1) own (r + 1) (omega (arith, long, a, b, c, less)) (omega (arith, long, b, c))
@@ -204,7 +194,7 @@ both_next t n own next count room r f less is =
     let c = f.within in
     let long = is.long in
     let t1 = swap t (r + 1) own in
-    let long1 = swap_long t (r + 1) own in
+    let long1 = length-swap t (r + 1) own in
     swap_moved t1 (r + 1 + n) next (r + 1 + n) (omega (arith, long, long1, a, b, c, less)) (omega (arith, long, long1, c))
     ∙ ap (moved t1) (turned_first (r + 1 + n) next)
     ∙ swap_moved t (r + 1) own next (omega (arith, long, a, b, c, less)) (omega (arith, long, b, c))

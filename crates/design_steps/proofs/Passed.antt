@@ -1,5 +1,5 @@
 -- The steps of the nodes that are left settle all wires.
-use Rattle.std.proofs.Common.{Bool, true, false, true≢false, ◌≡◌, ◌⊎◌, ℕ, zero, suc, ◌+◌, ◌-◌, ◌*◌, ◌<◌, ◌≤◌, ◌^◌, ◌==◌, nat_lt, List, [], ◌∷◌, ◌++◌, map, length, refl, sym, ap, ◌∙◌, subst, arith, inl, inr}
+use Rattle.std.proofs.Common.{Bool, true, false, true≢false, ◌≡◌, ◌⊎◌, ℕ, ◌+◌, ◌-◌, ◌*◌, ◌<◌, ◌≤◌, ◌^◌, ◌==◌, nat_lt, List, [], ◌∷◌, ◌++◌, map, length, refl, sym, ap, ◌∙◌, subst, arith, inl, inr}
 use Rattle.std.specs.Prelude.{slice_index, if◌then◌else◌}
 use Rattle.std.specs.Int.{bit_at}
 use Rattle.std.proofs.lemmas.Bool.{ltb-true, ltb-false, eqb-true, eqb-false, cond-true, cond-false}
@@ -16,7 +16,7 @@ use Rattle.typed_ir.specs.Linkeds.{flat}
 use Rattle.typed_ir.proofs.Cases.{by_cases}
 use Rattle.typed_ir.proofs.Locals.{node_laws}
 use Rattle.typed_ir.proofs.Mentions.{reads_mentioned}
-use Rattle.typed_ir.proofs.Numbered.{all_complete, at_local, at_outside, at_inside, driver_index, wires_satisfy}
+use Rattle.typed_ir.proofs.Numbered.{all_complete, at_local, at_outside, at_inside, driver_index, drives_number, wires_satisfy}
 use Rattle.typed_ir.proofs.Settled.{round-outside}
 use Rattle.word_steps.specs.declared.step.Step.{Step}
 use Rattle.word_steps.specs.Walks.{walk, at}
@@ -36,11 +36,6 @@ use Rattle.design_steps.proofs.Counting.{below_all}
 use Rattle.design_steps.proofs.Apart.{widths_many, stand, view_few, view_apart, view_own, own_place, own_next, own_mark, alias_at, view_ready}
 use Rattle.design_steps.proofs.Laid.{driven_there, not_alias, one_laid}
 use Rattle.design_steps.proofs.Fronts.{IsFront, IsRest, rest_first, rest_front, rest_next, IsNode, the_node, Before, root_done, own_at, read_done, mention_stands, view_same}
-
-drives_number : (ns : List FlatNode) (k s i : ℕ) → drives_at ns k s i ≡ true → k < length ns
-drives_number [] k s i d = absurd (true≢false (sym d))
-drives_number (n ∷ ns) zero s i d = omega arith
-drives_number (n ∷ ns) (suc k) s i d = let rest = drives_number ns k s i d in omega (arith, rest)
 
 -- words in which each bit is settled of which all drivers are done, at the own places of signals that stand there; those of others hold what
 -- they held

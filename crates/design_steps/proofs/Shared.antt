@@ -14,7 +14,7 @@ use Rattle.typed_ir.specs.Nodes.{FlatNode, Drive, Block, lane_spans, spread, dri
 use Rattle.typed_ir.specs.Sized.{Sized, value_of, reads, Constant, Name, Part, Pick, Unary, Binary, Choice, Concat, Repeat, Resized}
 use Rattle.typed_ir.specs.declared.lane.Lane.{Lane}
 use Rattle.typed_ir.specs.Valuations.{Valuation, put, look, within, any_within}
-use Rattle.typed_ir.proofs.Cases.{by_cases, and_left, and_right, left_or, right_or, or_left, or_right}
+use Rattle.typed_ir.proofs.Cases.{by_cases, and_left, and_right, left_or, right_or, or_left, or_right, only_left}
 use Rattle.typed_ir.proofs.Lists.{drop_split}
 use Rattle.typed_ir.proofs.BitRuns.{placed-inside}
 use Rattle.bits.proofs.Runs.{bit_at-shr}
@@ -150,11 +150,7 @@ gives_alone : (k : FlatNode) (ws : List ℕ) (n : Naming) (s i : ℕ) → Gives 
 unfolding node_drives
 gives_alone (Drive form lanes e) ws n s i g d =
     let one : (within g.lane.span s i || false) ≡ true = ap (λ ls. any_within (lane_spans ls) s i) (sym g.is.0) ∙ d in
-    eqb-true s g.lane.span.signal (and_left (s == g.lane.span.signal) (nat_le g.lane.span.low i && nat_lt i (g.lane.span.low + g.lane.span.width)) (only (within g.lane.span s i) one)) ∙ g.wire
-  where
-    only : (b : Bool) → (b || false) ≡ true → b ≡ true
-    only true h = refl
-    only false h = h
+    eqb-true s g.lane.span.signal (and_left (s == g.lane.span.signal) (nat_le g.lane.span.low i && nat_lt i (g.lane.span.low + g.lane.span.width)) (only_left (within g.lane.span s i) false refl one)) ∙ g.wire
 gives_alone (Block shown body) ws n s i g d = absurd g.is
 
 gives_read : (k : FlatNode) (ws : List ℕ) (n : Naming) (i : ℕ) → Gives k ws n → node_reads k n.signal i ≡ true

@@ -2,14 +2,13 @@
 use Rattle.std.proofs.Common.{◌≡◌, ℕ, ◌+◌, ◌*◌, ◌<◌, ◌≤◌, ◌^◌, ◌&&◌, ◌==◌, nat_lt, inl, inr, List, [], ◌∷◌, ◌++◌, map, length, refl, sym, ap, ◌∙◌, subst, arith, IsTrue}
 use Rattle.std.proofs.Math.Logic.{∥∥₁_elim}
 use Rattle.std.proofs.Props.{props}
-use Rattle.std.proofs.lemmas.Bool.{ltb-true, ltb-false, eqb-true, eqb-false, cond-true, cond-false}
+use Rattle.std.proofs.lemmas.Bool.{ltb-true, ltb-false, eqb-true, eqb-false}
 use Rattle.std.proofs.lemmas.Nat.Bits.{same_from_bits}
 use Rattle.std.specs.Int.{bit_at}
-use Rattle.bits.specs.Runs.{replaced}
 use Rattle.typed_ir.specs.declared.linked.Linked.{Linked}
 use Rattle.typed_ir.specs.declared.stmt.Stmt.{Stmt}
 use Rattle.typed_ir.specs.declared.update.Update.{Update}
-use Rattle.typed_ir.specs.Valuations.{Valuation, placed, look}
+use Rattle.typed_ir.specs.Valuations.{Valuation, look}
 use Rattle.typed_ir.specs.Orders.{Member, Distinct}
 use Rattle.typed_ir.specs.Nodes.{IsOrder}
 use Rattle.typed_ir.specs.Stmts.{exec, pending, all_applied, is_legal, is_clocked}
@@ -30,7 +29,7 @@ use Rattle.step_layout.specs.Statements.{stmt_code}
 use Rattle.step_layout.specs.Nodes.{nodes_code}
 use Rattle.step_layout.specs.Plans.{IsReady, signals, width_at}
 use Rattle.step_layout.specs.Views.{plan_of}
-use Rattle.step_layout.proofs.Doing.{does}
+use Rattle.step_layout.proofs.Doing.{does, all_applied_at}
 use Rattle.design_steps.specs.Namings.{Held, IsAlias}
 use Rattle.design_steps.specs.Layings.{own_plan, clocking_plan, mark_of, signals_of}
 use Rattle.design_steps.specs.Carries.{carried}
@@ -65,16 +64,6 @@ blocks_pending (st ∷ sts) ws env h =
     ap (λ e. pending (stmt_of st) env ++ pending rest e)
     (clocked_still (stmt_of st) (and_right (is_legal (stmt_of st) ws) (is_clocked (stmt_of st)) (and_left own (are_clocked sts ws) h)) env)
     ∙ ap (λ us. pending (stmt_of st) env ++ us) (blocks_pending sts ws env (and_right own (are_clocked sts ws) h))
-
--- updates of a signal depend on what it has alone
-pub applied_at : (us : List Update) (v w : Valuation) (s : ℕ) → v s ≡ w s → all_applied us v s ≡ all_applied us w s
-applied_at [] v w s e = e
-applied_at (u ∷ us) v w s e = applied_at us (placed u.span u.value v) (placed u.span u.value w) s
-    (by_cases (s == u.span.signal)
-    (λ yes. cond-true (s == u.span.signal) (replaced (v u.span.signal) u.span.low u.span.width u.value) (v s) yes
-    ∙ ap (λ x. replaced x u.span.low u.span.width u.value) (subst (λ t. v t ≡ w t) (eqb-true s u.span.signal yes) e)
-    ∙ sym (cond-true (s == u.span.signal) (replaced (w u.span.signal) u.span.low u.span.width u.value) (w s) yes))
-    (λ no. cond-false (s == u.span.signal) _ (v s) no ∙ e ∙ sym (cond-false (s == u.span.signal) _ (w s) no)))
 
 -- the steps by places before they were moved
 abbrev pub settle_code : Program → Linked → List Step
@@ -281,7 +270,7 @@ module _ (p : Program) (l : Linked) (is : IsProgramOf p l) where
         elim (member_or s regs) as (λ _. after (ow.slot s) ≡ all_applied us v s) [
           | inl r ↦ down_at d.after s r ∙ d.later s (listed s r)
               ∙ ap (λ (zs : List Update). all_applied zs (λ u. w (pl.next u)) s) noted
-              ∙ applied_at us (λ u. w (pl.next u)) v s (nexts.same s r ∙ ap w (sym own) ∙ ap (λ e. e s) settled)
+              ∙ all_applied_at us (λ u. w (pl.next u)) v s (nexts.same s r ∙ ap w (sym own) ∙ ap (λ e. e s) settled)
           | inr none ↦ down_other d.after s none ∙ ap d.after (sym own) ∙ still s ∙ sym (others s none)
         ] in
         let kept_words : (s : ℕ) → (pl.slot s ≡ ow.slot s → ⊥) → after (ow.slot s) ≡ w (ow.slot s) = λ s other.

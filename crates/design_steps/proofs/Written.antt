@@ -1,5 +1,5 @@
 -- What is legal writes signals that are there; and the bits that a node writes in place.
-use Rattle.std.proofs.Common.{Bool, true, false, true≢false, ◌≡◌, ◌||◌, ℕ, zero, suc, ◌+◌, ◌<◌, ◌≤◌, ◌&&◌, nat_le, nat_lt, List, [], ◌∷◌, map, length, refl, sym, ap, ◌∙◌, subst, arith}
+use Rattle.std.proofs.Common.{true, false, true≢false, ◌≡◌, ◌||◌, ℕ, zero, suc, ◌+◌, ◌<◌, ◌≤◌, ◌&&◌, nat_le, nat_lt, List, [], ◌∷◌, map, length, refl, sym, ap, ◌∙◌, subst, arith}
 use Rattle.std.specs.Prelude.{slice_index, ◌==◌}
 use Rattle.std.proofs.lemmas.Bool.{ltb-true, lt-ltb, leb-true, le-leb, eqb-true, eq-eqb, and_from}
 use Rattle.typed_ir.specs.declared.span.Span.{Span}
@@ -10,7 +10,7 @@ use Rattle.typed_ir.specs.Sized.{reads, is_span, is_signal, is_width}
 use Rattle.typed_ir.specs.Stmts.{index_reads, SizedTarget, Fixed, Moving, SizedStmt, SizedArms, Skip, Assign, Later, Then, If, Case, Arm, Default, span_of, is_clocked, are_clocked_arms, targets, arm_targets, later_targets, later_arm_targets, is_target, are_targets, are_items, is_sized, is_legal, are_legal_arms}
 use Rattle.typed_ir.specs.Nodes.{FlatNode, Drive, Block, lane_spans, node_drives, drives_at, is_legal_node, are_legal}
 use Rattle.typed_ir.specs.Touches.{all_reads, mentions}
-use Rattle.typed_ir.proofs.Cases.{by_cases, and_left, and_right, only_right, left_or, right_or}
+use Rattle.typed_ir.proofs.Cases.{by_cases, and_left, and_right, only_right, left_or, right_or, only_left}
 use Rattle.typed_ir.proofs.Lists.{each_left, each_right, each_append}
 use Rattle.step_layout.specs.Statements.{stmt_constants}
 use Rattle.step_layout.specs.Nodes.{parts_of, as_statement, node_at}
@@ -132,12 +132,8 @@ pub any_own : (all ps : List Span) → ((s i : ℕ) → any_within ps s i ≡ tr
 any_own all [] more h = tt
 any_own all (p ∷ ps) more h = (
   more p.signal p.low (ap (λ b. b || any_within ps p.signal p.low) (within_own p h.0)),
-  any_own all ps (λ s i e. more s i (or_second (within p s i) (any_within ps s i) e)) h.1,
+  any_own all ps (λ s i e. more s i (right_or (within p s i) (any_within ps s i) e)) h.1,
 )
-  where
-    or_second : (a b : Bool) → b ≡ true → (a || b) ≡ true
-    or_second true b h = refl
-    or_second false b h = h
 
 parts_spans : (lanes : List Lane) → map span_of (parts_of lanes) ≡ lane_spans lanes
 parts_spans [] = refl
@@ -183,10 +179,6 @@ lanes_read (lane ∷ lanes) s i = lanes_read lanes s i
 
 pub read_mentioned : (k : FlatNode) (s i : ℕ) → all_reads (as_statement k) s i ≡ true → mentions k s i ≡ true
 read_mentioned (Drive form lanes e) s i h = only_left (reads e s i) (index_reads (parts_of lanes) s i) (lanes_read lanes s i) h
-  where
-    only_left : (a b : Bool) → b ≡ false → (a || b) ≡ true → a ≡ true
-    only_left true b none h = refl
-    only_left false b none h = absurd (true≢false (sym h ∙ none))
 read_mentioned (Block shown body) s i h = h
 
 -- a node by its number, with what is known of all

@@ -1,5 +1,5 @@
 -- Bits of masks and of tables of masks.
-use Rattle.std.proofs.Common.{◌≡◌, ◌<◌, ◌≤◌, ◌+◌, ◌^◌, ◌==◌, ◌&&◌, ◌||◌, ℕ, zero, suc, Bool, true, false, not, nat_le, nat_lt, List, [], ◌∷◌, length, get_or, set, refl, sym, ◌∙◌, ap, ap₂, arith, true≢false}
+use Rattle.std.proofs.Common.{◌≡◌, ◌<◌, ◌≤◌, ◌+◌, ◌^◌, ◌==◌, ◌&&◌, ◌||◌, ℕ, Bool, true, false, not, nat_le, nat_lt, List, [], ◌∷◌, length, get_or, set, refl, sym, ◌∙◌, ap, ap₂, arith, true≢false}
 use Rattle.std.specs.Prelude.{bit_and, bit_or, slice_index}
 use Rattle.std.specs.Int.{bit_at}
 use Rattle.std.proofs.Math.Bool.{or_assoc, and-false}
@@ -10,23 +10,16 @@ use Rattle.std.proofs.lemmas.Nat.Bits.{bit_at-lt, bit_at-zero, same_from_bits_be
 use Rattle.typed_ir.specs.declared.span.Span.{Span}
 use Rattle.typed_ir.specs.Valuations.{Places, within}
 use Rattle.typed_ir.specs.Touches.{has_bit}
-use Rattle.typed_ir.proofs.Cases.{by_cases, or_left, or_right, or_none}
+use Rattle.typed_ir.proofs.Cases.{by_cases, or_none}
 use Rattle.typed_ir.proofs.Masks.{has_both, has_either, no_bit}
 use Rattle.block_rules.specs.Paths.{some_below}
 use Rattle.block_rules.proofs.Knowing.{some_same}
 use Rattle.block_rules.proofs.Finding.{none_some}
+use Rattle.block_rules.proofs.Whole.{none_below}
 use Rattle.driver_rules.specs.Doubles.{meets}
 use Rattle.driver_rules.specs.Told.{marked, joined}
-use Rattle.driver_rules.proofs.Runs.{by_order}
 
 -- ---- one test of a bit for each
-
-pub none_below : (n : ℕ) (f : ℕ → Bool) → some_below n f ≡ false → (i : ℕ) → i < n → f i ≡ false
-unfolding some_below
-none_below zero f h i k = absurd (omega (arith, k))
-none_below (suc n) f h i k = by_cases (i == n)
-    (λ yes. ap f (eqb-true i n yes) ∙ or_left (f n) (some_below n f) h)
-    (λ no. none_below n f (or_right (f n) (some_below n f) h) i (let apart : i ≡ n → ⊥ = eqb-false i n no in omega (arith, k, apart)))
 
 -- ---- masks
 
@@ -42,7 +35,7 @@ masks_meet m n small = by_cases (bit_and m n == 0)
     found : (bit_and m n == 0) ≡ false → some_below 128 (λ i. has_bit m i && has_bit n i) ≡ true
     found other = by_cases (some_below 128 (λ i. has_bit m i && has_bit n i)) (λ yes. yes)
         (λ none. absurd (eqb-false (bit_and m n) 0 other (same_from_bits_below 128 (bit_and m n) 0 small (pow_pos 128)
-        (λ i k. let bit = eqb-false (bit_at (bit_and m n) i) 1 (has_both m n i ∙ none_below 128 (λ j. has_bit m j && has_bit n j) none i k) in
+        (λ i k. let bit = eqb-false (bit_at (bit_and m n) i) 1 (has_both m n i ∙ none_below 128 i (λ j. has_bit m j && has_bit n j) none k) in
         let two : bit_at (bit_and m n) i < 2 = bit_at-lt (bit_and m n) i in
         let z : bit_at 0 i ≡ 0 = bit_at-zero i in
         omega (arith, bit, two, z)))))

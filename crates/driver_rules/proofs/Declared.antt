@@ -1,19 +1,18 @@
 -- The signal that is declared first.
-use Rattle.std.proofs.Common.{◌≡◌, ◌<◌, ◌≤◌, ◌+◌, ◌==◌, ◌&&◌, ◌||◌, ◌⊎◌, inl, inr, ℕ, zero, suc, Bool, true, false, cond, not, nat_le, nat_lt, List, [], ◌∷◌, ◌++◌, take, length, get_or, Option, Some, None, All, refl, sym, ◌∙◌, ap, ap₂, subst, arith, true≢false}
-use Rattle.std.proofs.Math.Bool.{or-false, or_assoc}
+use Rattle.std.proofs.Common.{◌≡◌, ◌<◌, ◌≤◌, ◌+◌, ◌==◌, ◌&&◌, ◌||◌, ◌⊎◌, inl, inr, ℕ, zero, suc, Bool, true, false, cond, not, nat_le, nat_lt, List, [], ◌∷◌, take, length, get_or, Option, Some, None, All, refl, sym, ◌∙◌, ap, ap₂, subst, arith, true≢false}
+use Rattle.std.proofs.Math.Bool.{or-false, or-true, and-false}
 use Rattle.std.proofs.lemmas.Bool.{eqb-true, eqb-false, eq-eqb, ne_eqb, lt-ltb, le-ltb, ltb-true, ltb-false, le-leb, leb-true, and_from}
 use Rattle.typed_ir.specs.declared.span.Span.{Span}
 use Rattle.typed_ir.specs.Valuations.{within, any_within, nowhere}
-use Rattle.typed_ir.specs.Orders.{Each}
+use Rattle.typed_ir.specs.Orders.{Each, is_member}
 use Rattle.typed_ir.specs.Stmts.{SizedStmt, targets, known_after}
-use Rattle.typed_ir.proofs.Cases.{by_cases, left_or, right_or, only_right, and_left, and_right}
+use Rattle.typed_ir.proofs.Cases.{by_cases, left_or, right_or, only_right, and_left, and_right, by_order}
+use Rattle.typed_ir.proofs.Lists.{take_next}
 use Rattle.unit_ir.specs.declared.signal_declaration.SignalDeclaration.{SignalDeclaration}
-use Rattle.block_rules.specs.Paths.{is_member, unwritten, AreHere}
-use Rattle.block_rules.proofs.Finding.{none_some}
+use Rattle.block_rules.specs.Paths.{unwritten, AreHere}
+use Rattle.block_rules.proofs.Finding.{none_some, found_push}
 use Rattle.driver_rules.specs.Writes.{AreWithin}
 use Rattle.driver_rules.specs.Blocks.{order_at, comes_before, nearer, first_declared}
-use Rattle.driver_rules.proofs.Runs.{by_order}
-use Rattle.driver_rules.proofs.Lists.{take_next}
 
 -- ---- the order
 
@@ -106,10 +105,6 @@ declared_best ds f (suc n) = by_cases (f n)
     (λ out. subst (IsBest ds (λ t. nat_lt t (suc n) && f t)) (sym (ap (λ b. cond b (Some (nearer ds (first_declared ds f n) n)) (first_declared ds f n)) out))
     (best_same ds (λ t. nat_lt t n && f t) (λ t. nat_lt t (suc n) && f t) (first_declared ds f n) (without out) (declared_best ds f n)))
   where
-    or_true : (b : Bool) → (b || true) ≡ true
-    or_true true = refl
-    or_true false = refl
-
     steps : (t : ℕ) → (t ≡ n → ⊥) → nat_lt t n ≡ nat_lt t (suc n)
     steps t other = by_order t n
         (λ h. lt-ltb t n h ∙ sym (lt-ltb t (suc n) (omega (arith, h))))
@@ -118,7 +113,7 @@ declared_best ds f (suc n) = by_cases (f n)
     with_it : f n ≡ true → (t : ℕ) → ((nat_lt t n && f t) || (t == n)) ≡ (nat_lt t (suc n) && f t)
     with_it is_so t = by_cases (t == n)
         (λ e. let is : t ≡ n = eqb-true t n e in
-        ap (λ b. (nat_lt t n && f t) || b) e ∙ or_true (nat_lt t n && f t)
+        ap (λ b. (nat_lt t n && f t) || b) e ∙ or-true (nat_lt t n && f t)
         ∙ sym (ap₂ (λ a b. a && b) (lt-ltb t (suc n) (omega (arith, is))) (ap f is ∙ is_so)))
         (λ e. ap (λ b. (nat_lt t n && f t) || b) e ∙ or-false (nat_lt t n && f t) ∙ ap (λ b. b && f t) (steps t (eqb-false t n e)))
 
@@ -136,15 +131,11 @@ first_same ds f g (suc n) h =
 
 -- ---- a list of signals
 
-member_more : (xs : List ℕ) (x t : ℕ) → is_member t (xs ++ x ∷ []) ≡ (is_member t xs || (t == x))
-member_more [] x t = or-false (t == x)
-member_more (y ∷ ys) x t = ap (λ b. (t == y) || b) (member_more ys x t) ∙ sym (or_assoc (t == y) (is_member t ys) (t == x))
-
 pub listed_next : (ds : List SignalDeclaration) (xs : List ℕ) (k : ℕ) (x : ℕ) (r : Option ℕ) → k < length xs → x ≡ get_or xs k x
     → IsBest ds (λ t. is_member t (take k xs)) r → IsBest ds (λ t. is_member t (take (k + 1) xs)) (Some (nearer ds r x))
 listed_next ds xs k x r h is best =
     best_same ds (λ t. is_member t (take k xs) || (t == x)) (λ t. is_member t (take (k + 1) xs)) (Some (nearer ds r x))
-    (λ t. sym (ap (is_member t) (take_next xs k x h is) ∙ member_more (take k xs) x t))
+    (λ t. sym (ap (is_member t) (take_next xs k x h is) ∙ found_push t x (take k xs)))
     (best_next ds (λ t. is_member t (take k xs)) r x best)
 
 pub listed_all : (ds : List SignalDeclaration) (xs : List ℕ) (r : Option ℕ) → ((s : ℕ) → is_member s xs ≡ true → s < length ds)
@@ -154,14 +145,10 @@ listed_all ds xs r inside best =
     (best_same ds (λ t. nat_lt t (length ds) && is_member t xs) (λ t. is_member t xs) (first_declared ds (λ s. is_member s xs) (length ds))
     only (declared_best ds (λ s. is_member s xs) (length ds)))
   where
-    false_right : (b : Bool) → (b && false) ≡ false
-    false_right true = refl
-    false_right false = refl
-
     only : (t : ℕ) → (nat_lt t (length ds) && is_member t xs) ≡ is_member t xs
     only t = by_cases (is_member t xs)
         (λ yes. ap (λ b. b && is_member t xs) (lt-ltb t (length ds) (inside t yes)))
-        (λ out. ap (λ b. nat_lt t (length ds) && b) out ∙ false_right (nat_lt t (length ds)) ∙ sym out)
+        (λ out. ap (λ b. nat_lt t (length ds) && b) out ∙ and-false (nat_lt t (length ds)) ∙ sym out)
 
 -- ---- what a block leaves open is a signal of its targets
 

@@ -7,7 +7,7 @@ use Rattle.std.specs.Prelude.{bit_or, slice_index}
 use Rattle.std.proofs.lemmas.List.{take_all}
 use Rattle.typed_ir.specs.Touches.{has_bit}
 use Rattle.typed_ir.specs.Orders.{Each}
-use Rattle.typed_ir.proofs.Lists.{drop_read}
+use Rattle.typed_ir.proofs.Lists.{drop_read, take_next}
 use Rattle.typed_ir.proofs.Locals.{any_within-append}
 use Rattle.block_rules.specs.Paths.{true_from}
 use Rattle.block_rules.proofs.Knowing.{some_same}
@@ -16,7 +16,7 @@ use Rattle.driver_rules.specs.declared.driver_id.DriverId.{DriverId}
 use Rattle.driver_rules.specs.Doubles.{meets, overlaps}
 use Rattle.driver_rules.specs.Told.{marked, joined, Puts, Grows}
 use Rattle.driver_rules.proofs.Bits.{marks_part, part_joined}
-use Rattle.driver_rules.proofs.Lists.{flag_next, take_next}
+use Rattle.driver_rules.proofs.Lists.{flag_next}
 use Rattle.driver_rules.proofs.Runs.{puts_two, puts_same, puts_none}
 
 pub each_read : {A : Type 0} (P : A → Type 0) (xs : List A) (k : ℕ) (x : A) → Each P xs → k < length xs → x ≡ get_or xs k x → P x

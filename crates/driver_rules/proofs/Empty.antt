@@ -4,7 +4,7 @@ use Rattle.std.proofs.lemmas.Bool.{lt-ltb, not-false}
 use Rattle.ls_text.specs.declared.fault.Fault.{Fault}
 use Rattle.typed_ir.specs.declared.span.Span.{Span}
 use Rattle.typed_ir.specs.Orders.{Each, at_or}
-use Rattle.typed_ir.proofs.Cases.{and_left}
+use Rattle.typed_ir.proofs.Cases.{and_left, by_order}
 use Rattle.typed_ir.proofs.Lists.{each_weaker}
 use Rattle.unit_ir.specs.declared.signal_declaration.SignalDeclaration.{SignalDeclaration}
 use Rattle.unit_ir.specs.declared.typed_item.TypedItem.{TypedItem}
@@ -12,23 +12,12 @@ use Rattle.unit_ir.specs.Items.{SizedBody, Node, Clocked, Initial, PlacedItem, i
 use Rattle.width_rules.specs.declared.writer.Writer.{Writer}
 use Rattle.width_rules.specs.declared.writer.Writer.TheVariants as writer
 use Rattle.block_rules.specs.Paths.{places_of_true}
+use Rattle.width_rules.proofs.Reading.{left_none, right_none}
 use Rattle.driver_rules.specs.Mentioned.{earliest, shown_faults}
 use Rattle.driver_rules.specs.Writes.{node_spans, spans_of, written, AreWithin, AreItemsWithin}
 use Rattle.driver_rules.specs.Targets.{flag_at, is_settled, is_net_kind, is_variable_kind, is_variable, writer_of, may_write, target_faults, all_target_faults}
 use Rattle.driver_rules.proofs.Sooner.{none_shown}
 use Rattle.driver_rules.proofs.Lists.{all_false, each_mapped, at_or_past}
-use Rattle.driver_rules.proofs.Runs.{by_order}
-
-pub no_first : {A : Type 0} (x : A) (xs : List A) → (x ∷ xs) ≡ [] → ⊥
-no_first x xs h = let long : length (x ∷ xs) ≡ 0 = ap length h in omega (arith, long)
-
-pub empty_left : {A : Type 0} (xs ys : List A) → xs ++ ys ≡ [] → xs ≡ []
-empty_left [] ys h = refl
-empty_left (x ∷ xs) ys h = absurd (no_first x (xs ++ ys) h)
-
-pub empty_right : {A : Type 0} (xs ys : List A) → xs ++ ys ≡ [] → ys ≡ []
-empty_right [] ys h = h
-empty_right (x ∷ xs) ys h = absurd (no_first x (xs ++ ys) h)
 
 pub each_both : {A : Type 0} (P Q : A → Type 0) (xs : List A) → Each P xs → Each Q xs → Each (λ x. P x × Q x) xs
 each_both P Q [] h k = tt
@@ -51,8 +40,8 @@ item_may ds f x none =
 pub items_may : (ds : List SignalDeclaration) (f : ℕ → Bool) (xs : List PlacedItem) → all_target_faults ds f xs ≡ [] → Each (MayWrite ds f) xs
 items_may ds f [] none = tt
 items_may ds f (x ∷ xs) none = (
-  item_may ds f x (empty_left (target_faults ds f x) (all_target_faults ds f xs) none),
-  items_may ds f xs (empty_right (target_faults ds f x) (all_target_faults ds f xs) none),
+  item_may ds f x (left_none (target_faults ds f x) (all_target_faults ds f xs) none),
+  items_may ds f xs (right_none (target_faults ds f x) (all_target_faults ds f xs) none),
 )
 
 -- what may be written is declared

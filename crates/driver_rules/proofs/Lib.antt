@@ -1,4 +1,3 @@
-mod Walked
 mod Sooner
 mod Lists
 mod Walks

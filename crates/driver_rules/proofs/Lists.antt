@@ -1,9 +1,10 @@
 -- Flags and lists by their places.
-use Rattle.std.proofs.Common.{◌≡◌, ◌<◌, ◌≤◌, ◌+◌, ◌==◌, ◌&&◌, ◌||◌, ℕ, zero, suc, Bool, true, false, cond, not, List, [], ◌∷◌, ◌++◌, map, length, drop, take, get_or, refl, sym, ◌∙◌, ap, ap₂, subst, arith, true≢false, append_assoc, Result, Ok, Err, IfOk}
+use Rattle.std.proofs.Common.{◌≡◌, ◌<◌, ◌≤◌, ◌+◌, ◌==◌, ◌&&◌, ◌||◌, ℕ, zero, suc, Bool, true, false, cond, not, List, [], ◌∷◌, ◌++◌, map, length, drop, get_or, refl, sym, ◌∙◌, ap, ap₂, subst, arith, true≢false, append_assoc}
 use Rattle.std.proofs.Math.Bool.{or-false}
-use Rattle.std.proofs.lemmas.Bool.{eq-eqb, ne_eqb, eqb-true, eqb-false}
+use Rattle.std.proofs.lemmas.Bool.{ne_eqb}
+use Rattle.std.proofs.lemmas.List.{get_or_default}
 use Rattle.typed_ir.specs.Orders.{Each, at_or}
-use Rattle.typed_ir.proofs.Cases.{by_cases}
+use Rattle.typed_ir.proofs.Cases.{same_suc}
 use Rattle.typed_ir.proofs.Lists.{drop_read}
 use Rattle.block_rules.specs.Paths.{true_from}
 
@@ -57,11 +58,6 @@ at_or_mapped f g d [] k = refl
 at_or_mapped f g d (x ∷ xs) zero = refl
 at_or_mapped f g d (x ∷ xs) (suc k) = at_or_mapped f g d xs k
 
-same_suc : (a k : ℕ) → (suc a == suc k) ≡ (a == k)
-same_suc a k = by_cases (a == k)
-    (λ same. eq-eqb (suc a) (suc k) (ap suc (eqb-true a k same)) ∙ sym same)
-    (λ out. ne_eqb (suc a) (suc k) (λ e. eqb-false a k out (omega (arith, e))) ∙ sym out)
-
 -- one more behind a list
 pub at_or_more : {A : Type 0} (f : A → Bool) (xs : List A) (x : A) (k : ℕ) → at_or f false (xs ++ x ∷ []) k ≡ (at_or f false xs k || ((k == length xs) && f x))
 at_or_more f [] x zero = refl
@@ -70,28 +66,6 @@ at_or_more f (y ∷ xs) x zero = sym (ap (λ b. f y || (b && f x)) (ne_eqb 0 (su
 at_or_more f (y ∷ xs) x (suc k) =
     at_or_more f xs x k ∙ ap (λ b. at_or f false xs k || (b && f x)) (sym (same_suc k (length xs)))
 
--- one more of the beginning of a list
-pub take_next : {A : Type 0} (xs : List A) (k : ℕ) (x : A) → k < length xs → x ≡ get_or xs k x → take (k + 1) xs ≡ take k xs ++ x ∷ []
-take_next {A} xs k x h is =
-    let more : k + 1 ≡ suc k = omega arith in
-    ap (λ n. take n xs) more ∙ go xs k h is
-  where
-    go : (ys : List A) (k : ℕ) → k < length ys → x ≡ get_or ys k x → take (suc k) ys ≡ take k ys ++ x ∷ []
-    go [] k h is = absurd (omega (arith, h))
-    go (y ∷ ys) zero h is = ap (λ z. z ∷ []) (sym is)
-    go (y ∷ ys) (suc k) h is = ap (λ zs. y ∷ zs) (go ys k (omega (arith, h)) is)
-
-pub map_more : {A B : Type 0} (f : A → B) (xs : List A) (x : A) → map f (xs ++ x ∷ []) ≡ map f xs ++ f x ∷ []
-map_more f [] x = refl
-map_more f (y ∷ ys) x = ap (λ zs. f y ∷ zs) (map_more f ys x)
-
 -- what is read twice is the same
 pub read_same : {A : Type 0} (xs : List A) (k : ℕ) (x y : A) → k < length xs → x ≡ get_or xs k x → y ≡ get_or xs k y → x ≡ y
-read_same [] k x y h is also = absurd (omega (arith, h))
-read_same (z ∷ zs) zero x y h is also = is ∙ sym also
-read_same (z ∷ zs) (suc k) x y h is also = read_same zs k x y (omega (arith, h)) is also
-
--- whatever a call answers
-pub any_ok : {A E : Type 0} (r : Result A E) (P : Type 0) → P → IfOk r (λ _. P)
-any_ok (Ok x) P h = h
-any_ok (Err e) P h = tt
+read_same xs k x y h is also = is ∙ get_or_default xs k x y h ∙ sym also

@@ -1,19 +1,16 @@
 -- What was put to a list of drivers, part by part.
-use Rattle.std.proofs.Common.{◌≡◌, ◌<◌, ◌≤◌, ◌+◌, ◌-◌, ◌==◌, ◌&&◌, ◌||◌, ℕ, Bool, true, false, cond, not, min, max, nat_le, nat_lt, ◌⊎◌, inl, inr, List, [], ◌∷◌, ◌++◌, refl, sym, ◌∙◌, ap, ap₂, subst, arith, true≢false}
-use Rattle.std.proofs.Math.Bool.{or-false, and-false, and_assoc}
-use Rattle.std.proofs.lemmas.Bool.{cases_lt, le-leb, lt-leb, lt-ltb, le-ltb, leb-true, leb-false, ltb-true, ltb-false}
+use Rattle.std.proofs.Common.{◌≡◌, ◌<◌, ◌≤◌, ◌+◌, ◌-◌, ◌==◌, ◌&&◌, ◌||◌, ℕ, Bool, true, false, cond, not, min, max, nat_le, nat_lt, ◌⊎◌, List, [], ◌∷◌, ◌++◌, refl, sym, ◌∙◌, ap, ap₂, subst, arith, true≢false}
+use Rattle.std.proofs.Math.Bool.{or-false, and-false, and_assoc, and-true}
+use Rattle.std.proofs.lemmas.Bool.{le-leb, lt-leb, lt-ltb, le-ltb, leb-true, leb-false, ltb-true, ltb-false}
 use Rattle.typed_ir.specs.Valuations.{Places, within}
 use Rattle.typed_ir.specs.declared.span.Span.{Span}
 use Rattle.typed_ir.specs.Orders.{Each}
 use Rattle.typed_ir.specs.Touches.{has_bit}
-use Rattle.typed_ir.proofs.Cases.{by_cases}
+use Rattle.typed_ir.proofs.Cases.{by_cases, by_order}
 use Rattle.unit_ir.specs.Trees.{count}
 use Rattle.driver_rules.specs.declared.driver.Driver.{Driver}
 use Rattle.driver_rules.specs.declared.driver_id.DriverId.{DriverId}
 use Rattle.driver_rules.specs.Told.{covers, IsRange, Puts, free_run}
-
-pub by_order : {P : Type 0} (m n : ℕ) → (m < n → P) → (n ≤ m → P) → P
-by_order {P} m n f g = elim (cases_lt m n) as (λ _. P) [ inl h ↦ f h | inr h ↦ g h ]
 
 pub count_more : {A : Type 0} (f : A → Bool) (xs : List A) (x : A) → count f (xs ++ x ∷ []) ≡ count f xs + cond (f x) 1 0
 count_more f [] x = omega arith
@@ -97,14 +94,10 @@ pub free_all : (signal mask low end s i : ℕ) → ((b : ℕ) → low ≤ b → 
 free_all signal mask low end s i free = ap (λ t. (s == signal) && t) (by_order i low
     (λ h. ap (λ t. t && nat_lt i end) (lt-leb low i h) ∙ sym (ap (λ t. (t && nat_lt i end) && not (has_bit mask i)) (lt-leb low i h)))
     (λ h. by_order i end
-    (λ k. sym (ap (λ t. (nat_le low i && nat_lt i end) && not t) (free i h k) ∙ unit (nat_le low i && nat_lt i end)))
+    (λ k. sym (ap (λ t. (nat_le low i && nat_lt i end) && not t) (free i h k) ∙ and-true (nat_le low i && nat_lt i end)))
     (λ k. let e = le-ltb i end k in
     ap (λ t. nat_le low i && t) e ∙ and-false (nat_le low i)
     ∙ sym (ap (λ t. (nat_le low i && t) && not (has_bit mask i)) e ∙ ap (λ t. t && not (has_bit mask i)) (and-false (nat_le low i))))))
-  where
-    unit : (b : Bool) → (b && not false) ≡ b
-    unit true = refl
-    unit false = refl
 
 -- a run that ends before a bit that the mask has
 pub free_next : (signal mask low i s b : ℕ) → low ≤ i → has_bit mask i ≡ true

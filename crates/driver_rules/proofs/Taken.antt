@@ -5,13 +5,14 @@ use Rattle.std.proofs.lemmas.Bool.{eqb-true}
 use Rattle.std.proofs.lemmas.List.{length-append}
 use Rattle.ls_text.specs.declared.fault.Fault.{Fault}
 use Rattle.ls_text.specs.declared.refusal.Refusal.{Refusal}
+use Rattle.ls_text.proofs.Lists.{same_map}
 use Rattle.typed_ir.specs.declared.span.Span.{Span}
 use Rattle.typed_ir.specs.Valuations.{Places, within, any_within, nowhere}
 use Rattle.typed_ir.specs.Nodes.{FlatNode, Drive, Block, node_drives}
 use Rattle.typed_ir.specs.Stmts.{SizedStmt}
 use Rattle.typed_ir.specs.Cycles.{block_writes}
 use Rattle.typed_ir.specs.Orders.{Each, at_or}
-use Rattle.typed_ir.proofs.Cases.{by_cases, and_left, and_right, or_left, or_right, only_right}
+use Rattle.typed_ir.proofs.Cases.{by_cases, and_left, and_right, or_left, or_right, only_right, or_none}
 use Rattle.unit_ir.specs.declared.typed_item.TypedItem.{TypedItem}
 use Rattle.unit_ir.specs.Trees.{UnitNode, Own, Into, From, count, own_drives}
 use Rattle.unit_ir.specs.Items.{SizedBody, Node, Clocked, Initial, PlacedItem, item_of, node_in, block_in, nodes_in, blocks_in}
@@ -20,6 +21,7 @@ use Rattle.width_rules.specs.declared.writer.Writer.TheVariants as writer
 use Rattle.width_rules.specs.Faults.{IsFirst}
 use Rattle.width_rules.proofs.Firsts.{earlier}
 use Rattle.block_rules.specs.Paths.{places_of_true}
+use Rattle.block_rules.proofs.Whole.{none_below}
 use Rattle.driver_rules.specs.declared.driver.Driver.{Driver}
 use Rattle.driver_rules.specs.declared.driver_id.DriverId.{DriverId}
 use Rattle.driver_rules.specs.declared.driver_id.DriverId.TheVariants as id
@@ -30,9 +32,8 @@ use Rattle.driver_rules.specs.Writes.{node_spans, spans_of, writes}
 use Rattle.driver_rules.specs.Doubles.{meets, overlaps, doubles, item_doubles, double_faults}
 use Rattle.driver_rules.specs.Told.{is_by, covers, drives_by, IsRange, AreTold, marked, driver_id, numbers_after, Puts, joined, Grows}
 use Rattle.driver_rules.proofs.Sooner.{none_shown}
-use Rattle.driver_rules.proofs.Lists.{all_false, each_mapped, at_or_more, at_or_past, take_next, map_more}
+use Rattle.driver_rules.proofs.Lists.{all_false, each_mapped, at_or_more, at_or_past}
 use Rattle.driver_rules.proofs.Walks.{items_next, refused_here}
-use Rattle.driver_rules.proofs.Bits.{none_below}
 use Rattle.driver_rules.proofs.Doubles.{meets_same, overlaps_same}
 
 -- ---- what an item drives, by its number
@@ -60,9 +61,6 @@ driven_is : (items : List PlacedItem) (by : DriverId) (s i : ℕ) → drives_by 
 driven_is items (id.Node n) s i = refl
 driven_is items (id.Clocked n) s i = refl
 
-or_no : (a b : Bool) → b ≡ false → a ≡ (a || b)
-or_no a b h = sym (ap (λ t. a || t) h ∙ or-false a)
-
 driven_more : (body : SizedBody) (nodes : List UnitNode) (blocks : List SizedStmt) (k : Numbers) (by : DriverId) (s i : ℕ)
     → k.nodes ≡ length nodes → k.blocks ≡ length blocks
     → driven (nodes ++ node_in body) (blocks ++ block_in body) by s i
@@ -79,7 +77,7 @@ driven_more (Clocked st) nodes blocks k (id.Clocked n) s i one two =
     ∙ ap (λ m. at_or (λ z. block_writes z s i) false blocks n || ((n == m) && block_writes st s i)) (sym two)
 driven_more (Initial signal) nodes blocks k (id.Node n) s i one two =
     ap (λ zs. at_or (own_drives s i) false zs n) (append-nil nodes)
-    ∙ or_no (at_or (own_drives s i) false nodes n) ((n == k.nodes) && false) (and-false (n == k.nodes))
+    ∙ sym (or_none (at_or (own_drives s i) false nodes n) ((n == k.nodes) && false) (and-false (n == k.nodes)))
 driven_more (Initial signal) nodes blocks k (id.Clocked n) s i one two =
     ap (λ zs. at_or (λ st. block_writes st s i) false zs n) (append-nil blocks) ∙ sym (or-false (at_or (λ st. block_writes st s i) false blocks n))
 
@@ -115,7 +113,7 @@ meets_false : (taken : Places) (p : Span) (s i : ℕ) → meets taken p ≡ fals
 meets_false taken p s i none small in_it =
     let e : s ≡ p.signal = eqb-true s p.signal (and_left (s == p.signal) (nat_le p.low i && nat_lt i (p.low + p.width)) in_it) in
     let here : within p p.signal i ≡ true = ap (λ z. within p z i) (sym e) ∙ in_it in
-    let no_bit : (within p p.signal i && taken p.signal i) ≡ false = none_below 128 (λ j. within p p.signal j && taken p.signal j) none i small in
+    let no_bit : (within p p.signal i && taken p.signal i) ≡ false = none_below 128 i (λ j. within p p.signal j && taken p.signal j) none small in
     ap (λ z. taken z i) e ∙ sym (ap (λ b. b && taken p.signal i) here) ∙ no_bit
 
 all_apart : (taken : Places) (spans : List Span) (s i : ℕ) → Each (λ (p : Span). meets taken p ≡ false) spans → i < 128
@@ -149,15 +147,11 @@ item_apart taken x s i none =
 
 -- ---- the same bits
 
-map_same : {A B : Type 0} (f g : A → B) (xs : List A) → ((x : A) → f x ≡ g x) → map f xs ≡ map g xs
-map_same f g [] h = refl
-map_same f g (x ∷ xs) h = ap₂ (λ y ys. y ∷ ys) (h x) (map_same f g xs h)
-
 doubles_same : (p q : Places) (w : Writer) (spans : List Span) → ((s i : ℕ) → i < 128 → p s i ≡ q s i) → doubles p w spans ≡ doubles q w spans
-doubles_same p q writer.Nothing spans h = map_same (meets p) (meets q) spans (λ x. meets_same p q x h)
+doubles_same p q writer.Nothing spans h = same_map (meets p) (meets q) (λ x. meets_same p q x h) spans
 doubles_same p q writer.Continuous spans h = overlaps_same p q spans h
-doubles_same p q writer.Clocked spans h = map_same (meets p) (meets q) spans (λ x. meets_same p q x h)
-doubles_same p q writer.Combinational spans h = map_same (meets p) (meets q) spans (λ x. meets_same p q x h)
+doubles_same p q writer.Clocked spans h = same_map (meets p) (meets q) (λ x. meets_same p q x h) spans
+doubles_same p q writer.Combinational spans h = same_map (meets p) (meets q) (λ x. meets_same p q x h) spans
 
 pub double_same : (p q : Places) (xs : List PlacedItem) → ((s i : ℕ) → i < 128 → p s i ≡ q s i) → double_faults p xs ≡ double_faults q xs
 double_same p q [] h = refl

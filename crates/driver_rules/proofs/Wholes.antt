@@ -11,7 +11,7 @@ use Rattle.typed_ir.specs.Nodes.{FlatNode, Drive, Block, node_drives, IsComplete
 use Rattle.typed_ir.specs.Orders.{Each, Member, at_or}
 use Rattle.typed_ir.specs.Cycles.{Signal, WritesRegisters, block_writes}
 use Rattle.typed_ir.specs.Flats.{NodeWritesFirst}
-use Rattle.typed_ir.proofs.Cases.{by_cases, and_left, and_right, or_left, or_right, left_or, right_or, only_right}
+use Rattle.typed_ir.proofs.Cases.{by_cases, and_left, and_right, or_left, or_right, left_or, right_or, only_right, by_order}
 use Rattle.typed_ir.proofs.Lists.{each_append, each_weaker}
 use Rattle.unit_ir.specs.declared.mention.Mention.{Mention}
 use Rattle.unit_ir.specs.declared.signal_declaration.SignalDeclaration.{SignalDeclaration}
@@ -23,6 +23,7 @@ use Rattle.unit_ir.proofs.Counted.{count_append}
 use Rattle.width_rules.specs.declared.writer.Writer.{Writer}
 use Rattle.width_rules.specs.declared.writer.Writer.TheVariants as writer
 use Rattle.block_rules.specs.Paths.{flags_of_block, unwritten, places_of_true, BlocksAreWhole}
+use Rattle.width_rules.proofs.Reading.{left_none, right_none}
 use Rattle.driver_rules.specs.Mentioned.{earliest, shown_faults}
 use Rattle.driver_rules.specs.Writes.{node_spans, spans_of, writes, written, node_blocks, blocks_of, AreWithin, AreItemsWithin}
 use Rattle.driver_rules.specs.Targets.{is_net_kind, is_variable_kind, is_net, is_variable, names, block_names, is_settled, node_writer, writer_of, may_write, all_target_faults}
@@ -31,10 +32,9 @@ use Rattle.driver_rules.specs.Blocks.{first_declared, latched, read_faults, latc
 use Rattle.driver_rules.specs.DriverFaults.{driver_faults}
 use Rattle.driver_rules.specs.Driven.{AreNarrowItems, is_input_kind, is_input, HasRoles, IsDriven}
 use Rattle.driver_rules.proofs.Sooner.{none_shown}
-use Rattle.driver_rules.proofs.Runs.{by_order}
 use Rattle.driver_rules.proofs.Taken.{own_is, item_apart, flag_number, sum_flags, at_most_one}
 use Rattle.driver_rules.proofs.Declared.{IsBest, declared_best, each_all, unwritten_here}
-use Rattle.driver_rules.proofs.Empty.{empty_left, empty_right, each_both, each_signal, MayWrite, items_may, all_within}
+use Rattle.driver_rules.proofs.Empty.{each_both, each_signal, MayWrite, items_may, all_within}
 
 -- ---- no bit twice
 
@@ -44,10 +44,10 @@ items_once taken [] s i none small = let one : cond (taken s i) 1 0 ≤ 1 = at_m
 items_once taken (x ∷ xs) s i none small =
     let after : Places = λ t j. taken t j || writes x t j in
     let rest : count (λ (y : PlacedItem). writes y s i) xs + cond (after s i) 1 0 ≤ 1 =
-    items_once after xs s i (empty_right (item_doubles taken x) (double_faults after xs) none) small in
+    items_once after xs s i (right_none (item_doubles taken x) (double_faults after xs) none) small in
     let both : flag_number (taken s i) + flag_number (writes x s i) ≡ flag_number (after s i) =
     sum_flags (taken s i) (writes x s i) (λ held. by_cases (writes x s i)
-    (λ w. absurd (true≢false (sym held ∙ item_apart taken x s i (empty_left (item_doubles taken x) (double_faults after xs) none) small w)))
+    (λ w. absurd (true≢false (sym held ∙ item_apart taken x s i (left_none (item_doubles taken x) (double_faults after xs) none) small w)))
     (λ out. out)) in
     omega (arith, rest, both)
 
@@ -210,12 +210,12 @@ block_whole : BlocksAreWhole → (signals : List Signal) (ds : List SignalDeclar
     → read_faults reads at st ++ latch_faults signals ds at st ≡ [] → IsWhole st × WritesFirst st
 block_whole law signals ds reads at st here narrow none =
     law st (each_all (λ (p : Span). p.low + p.width ≤ 128) (targets st) narrow)
-    (none_shown 36 (places_of_true (flags_of_block st)) reads at (empty_left (read_faults reads at st) (latch_faults signals ds at st) none))
+    (none_shown 36 (places_of_true (flags_of_block st)) reads at (left_none (read_faults reads at st) (latch_faults signals ds at st) none))
     closed
   where
     best : (t : ℕ) → (nat_lt t (length ds) && unwritten st t) ≡ false
     best = subst (IsBest ds (λ t. nat_lt t (length ds) && unwritten st t))
-        (none_latched signals at (first_declared ds (unwritten st) (length ds)) (empty_right (read_faults reads at st) (latch_faults signals ds at st) none))
+        (none_latched signals at (first_declared ds (unwritten st) (length ds)) (right_none (read_faults reads at st) (latch_faults signals ds at st) none))
         (declared_best ds (unwritten st) (length ds))
 
     closed : (t : ℕ) → unwritten st t ≡ false
@@ -231,7 +231,7 @@ unfolding IsComplete
 node_sound law signals ds x (Own (Drive form lanes e)) here narrow none = (tt, tt)
 node_sound law signals ds x (Own (Block shown body)) here narrow none =
     block_whole law signals ds x.reads x.at body here narrow
-    (empty_left (read_faults x.reads x.at body ++ latch_faults signals ds x.at body) [] none)
+    (left_none (read_faults x.reads x.at body ++ latch_faults signals ds x.at body) [] none)
 node_sound law signals ds x (Into child form lanes e) here narrow none = tt
 node_sound law signals ds x (From child form lanes e) here narrow none = tt
 
@@ -248,8 +248,8 @@ items_sound : BlocksAreWhole → (signals : List Signal) (ds : List SignalDeclar
 items_sound law signals ds [] here narrow none = tt
 items_sound law signals ds (x ∷ xs) here narrow none =
     each_append IsNodeSound (node_in x.body) (nodes_in xs)
-    (body_sound law signals ds x x.body here.0 narrow.0 (empty_left (path_faults signals ds x (blocks_of x.body)) (block_faults signals ds xs) none))
-    (items_sound law signals ds xs here.1 narrow.1 (empty_right (path_faults signals ds x (blocks_of x.body)) (block_faults signals ds xs) none))
+    (body_sound law signals ds x x.body here.0 narrow.0 (left_none (path_faults signals ds x (blocks_of x.body)) (block_faults signals ds xs) none))
+    (items_sound law signals ds xs here.1 narrow.1 (right_none (path_faults signals ds x (blocks_of x.body)) (block_faults signals ds xs) none))
 
 -- ---- clocked blocks
 
@@ -280,10 +280,10 @@ unit_driven law p none narrow roles =
     let targets_of = all_target_faults ds settled p.items in
     let doubles_of = double_faults nowhere p.items in
     let blocks = block_faults p.signals ds p.items in
-    let no_targets : targets_of ≡ [] = empty_left targets_of (doubles_of ++ blocks) none in
-    let others : doubles_of ++ blocks ≡ [] = empty_right targets_of (doubles_of ++ blocks) none in
-    let no_doubles : doubles_of ≡ [] = empty_left doubles_of blocks others in
-    let no_blocks : blocks ≡ [] = empty_right doubles_of blocks others in
+    let no_targets : targets_of ≡ [] = left_none targets_of (doubles_of ++ blocks) none in
+    let others : doubles_of ++ blocks ≡ [] = right_none targets_of (doubles_of ++ blocks) none in
+    let no_doubles : doubles_of ≡ [] = left_none doubles_of blocks others in
+    let no_blocks : blocks ≡ [] = right_none doubles_of blocks others in
     let may_all : Each (MayWrite ds settled) p.items = items_may ds settled p.items no_targets in
     record {
       own = λ s i. omega (arith, nodes_le p.items s i, at_most p s i no_doubles narrow);

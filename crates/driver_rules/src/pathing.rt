@@ -1,7 +1,8 @@
 // Combinational blocks to the first read of a bit that the block writes only later (36), or to its first latch (35).
 ghost use Rattle.std.specs.Prelude.{◌≡◌, ◌++◌, ◌<◌, ℕ, [], true, IfErr, OnOk, length, map};
 ghost use Rattle.typed_ir.specs.Statements.{stmt_of};
-ghost use Rattle.block_rules.specs.Paths.{is_member, unwritten, AreHere};
+ghost use Rattle.typed_ir.specs.Orders.{is_member};
+ghost use Rattle.block_rules.specs.Paths.{unwritten, AreHere};
 ghost use Rattle.block_rules.specs.Tables.{signals_of, AreBlank};
 ghost use Rattle.unit_ir.specs.Items.{item_of};
 ghost use Rattle.unit_ir.specs.Units.{signal_within};

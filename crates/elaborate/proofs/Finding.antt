@@ -8,7 +8,8 @@ use Rattle.gen_unroll.specs.declared.block_id.BlockId.{BlockId}
 use Rattle.gen_unroll.specs.Views.{here_of}
 use Rattle.elaborate.specs.declared.declared_name.DeclaredName.{DeclaredName}
 use Rattle.elaborate.specs.declared.declaration.Declaration.{Declaration as Declared}
-use Rattle.elaborate.specs.Tables.{NameIn, Declaration, Table, same_block, is_same_name, declared_as, with_declaration}
+use Rattle.gen_unroll.specs.Reaches.{same_block}
+use Rattle.elaborate.specs.Tables.{NameIn, Declaration, Table, is_same_name, declared_as, with_declaration}
 use Rattle.elaborate.specs.Views.{declaration_of, key_of, entry_of}
 
 -- two keys of the code are compared as they are by the definition

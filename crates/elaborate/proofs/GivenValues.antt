@@ -4,6 +4,7 @@ use Rattle.std.specs.Prelude.{Option, Some, None}
 use Rattle.std.specs.Map.{lookup}
 use Rattle.indexmap.specs.IndexMap.{insert_entry}
 use Rattle.ls_text.specs.declared.name_id.NameId.{NameId}
+use Rattle.ls_text.proofs.Options.{not_first}
 use Rattle.typed_ir.specs.declared.constant.Const.{Const}
 use Rattle.gen_unroll.specs.Values.{ConstantValue, constant_of}
 use Rattle.gen_unroll.specs.Views.{override_view}
@@ -21,14 +22,6 @@ found_given n test same (e ∷ es) =
     chosen (test e.0) e.1 (lookup test es)
     ∙ ap₂ (λ (b : Bool) (o : Option ConstantValue). cond b (Some (constant_of e.1)) o) (same e.0) (found_given n test same es)
 
-abbrev is_given : Option ConstantValue → Bool
-is_given None = false
-is_given (Some v) = true
-
-same_end : (b : Bool) (v : ConstantValue) (o : Option ConstantValue) → cond b (Some v) o ≡ None → (b ≡ false) × (o ≡ None)
-same_end true v o h = absurd (let z : true ≡ false = ap is_given h in true≢false z)
-same_end false v o h = (refl, h)
-
 kept : (b : Bool) (xs ys : List (NameId × Const)) → b ≡ false → map given_entry (cond b xs ys) ≡ map given_entry ys
 kept true xs ys h = absurd (true≢false h)
 kept false xs ys h = refl
@@ -38,6 +31,6 @@ pub given_more : (E : NameId → NameId → Bool) → ((x y : NameId) → E x y 
     → map given_entry (insert_entry E es k v) ≡ map given_entry es ++ given_entry (k, v) ∷ []
 given_more E same [] k v new = refl
 given_more E same (e ∷ es) k v new =
-    let ends = same_end (k.0 == e.0.0) (constant_of e.1) (given_to k.0 (map given_entry es)) new in
+    let ends = not_first (k.0 == e.0.0) (constant_of e.1) (given_to k.0 (map given_entry es)) new in
     kept (E k e.0) ((e.0, v) ∷ es) (e ∷ insert_entry E es k v) (same k e.0 ∙ ends.0)
     ∙ ap (λ zs. given_entry e ∷ zs) (given_more E same es k v ends.1)

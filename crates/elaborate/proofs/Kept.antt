@@ -5,7 +5,7 @@ use Rattle.std.specs.Option.{option_copied}
 use Rattle.std.specs.Map.{lookup}
 use Rattle.std.specs.declared.sync.Arc.{Arc}
 use Rattle.std.proofs.lemmas.List.Elements.{All-nil, All-cons, All-head, All-tail}
-use Rattle.std.proofs.lemmas.Option.{none-some}
+use Rattle.std.proofs.lemmas.Option.{none-some, same_Some}
 use Rattle.indexmap.specs.IndexMap.{insert_entry}
 use Rattle.ls_text.specs.declared.name_id.NameId.{NameId}
 use Rattle.typed_ir.specs.declared.constant.Const.{Const}
@@ -22,17 +22,10 @@ use Rattle.elaborate.specs.Visits.{visited}
 abbrev pub Entries : Type 0
 Entries = List (VisitKey × Arc Job Global)
 
-some_same : {A : Type 0} (x y : A) → Some x ≡ Some y → x ≡ y
-some_same {A} x y h = ap (or_else x) h
-  where
-    or_else : A → Option A → A
-    or_else x None = x
-    or_else x (Some z) = z
-
 -- ---- one that is kept
 
 here_or_later : (P : Job → Type 0) (b : Bool) (x v : Arc Job Global) (o : Option (Arc Job Global)) → P x.value → (o ≡ Some v → P v.value) → cond b (Some x) o ≡ Some v → P v.value
-here_or_later P true x v o h later is = subst (λ (z : Arc Job Global). P z.value) (some_same x v is) h
+here_or_later P true x v o h later is = subst (λ (z : Arc Job Global). P z.value) (same_Some x v is) h
 here_or_later P false x v o h later is = later is
 
 -- what holds of all visits holds of one that is looked up
@@ -80,7 +73,7 @@ job_more turns ms E es new k job are one is = subst (AreJobs turns ms) (sym is) 
 pub new_job : (turns : ℕ) (ms : List ModuleDeclaration) (job : Job) (m : ModuleDeclaration) → module_named job.instantiated.0 ms ≡ Some m
     → visited turns ms None m (map override_view job.overrides.items) (clock_view job.clock) ≡ Ok (visited_of job.visited) → IsJob turns ms job
 new_job turns ms job m there is = record {
-  found = λ n same. ap (λ x. visited turns ms None x (map override_view job.overrides.items) (clock_view job.clock)) (some_same n m (sym same ∙ there)) ∙ is;
+  found = λ n same. ap (λ x. visited turns ms None x (map override_view job.overrides.items) (clock_view job.clock)) (same_Some n m (sym same ∙ there)) ∙ is;
 }
 
 -- the one that is kept behind its visit

@@ -5,14 +5,14 @@ use Rattle.verilog_ast.specs.declared.identifier.Identifier.{Identifier}
 use Rattle.verilog_ast.specs.declared.port_net.PortNet.{PortNet}
 use Rattle.verilog_ast.specs.declared.port_net.PortNet.TheVariants as net
 use Rattle.verilog_ast.specs.Expressions.{Expression}
-use Rattle.verilog_ast.specs.Declarations.{RangeBounds, Kind, Declared, DeclaredReg, PortDeclaration, InputPort, OutputPort, NextPort}
+use Rattle.verilog_ast.specs.Declarations.{Kind, Declared, DeclaredReg, PortDeclaration, InputPort, OutputPort, NextPort, header_net}
 use Rattle.verilog_ast.specs.Items as i
 use Rattle.verilog_ast.specs.Items.{ConnectionList, ModuleInstance, ModuleItem, ModuleDeclaration}
 use Rattle.verilog_ast.specs.Places.{no_place}
 use Rattle.width_rules.specs.Faults.{fault_at}
 use Rattle.width_rules.specs.Scopes.{Scope}
 use Rattle.gen_unroll.specs.declared.parameter_sort.ParameterSort.{ParameterSort}
-use Rattle.gen_unroll.specs.Declarations.{BitRange, range_value, declared_name}
+use Rattle.gen_unroll.specs.Declarations.{BitRange, range_or_none, declared_name}
 use Rattle.gen_unroll.specs.Reaches.{Reach, reach_in, innermost, in_reach}
 use Rattle.gen_unroll.specs.Steps.{ModuleStep, Listed, Port, Parameter, Item, Labelled, Opened, Closed}
 use Rattle.gen_unroll.specs.Told.{Told}
@@ -60,14 +60,6 @@ abbrev pub each : {A : Type 0} → (A → Checked → Result Checked Fault) → 
 each step [] c = Ok c
 each step (x ∷ xs) c = step x c >>= λ next. each step xs next
 
--- the range of a declaration, if it has one
-abbrev pub range_of : Scope → RangeBounds → Result (Option BitRange) Fault
-range_of scope r = range_value scope r >>= λ b. Ok (Some b)
-
-abbrev pub range_or_none : Scope → Option RangeBounds → Result (Option BitRange) Fault
-range_or_none scope None = Ok None
-range_or_none scope (Some r) = range_of scope r
-
 abbrev pub range_of_kind : Scope → Kind → Result (Option BitRange) Fault
 range_of_kind scope k = range_or_none scope k.range
 
@@ -80,12 +72,6 @@ plain here n d c = declare (innermost here.blocks) n d c.declared >>= λ t. Ok (
 -- a port in the list of ports, where it stands once (28)
 unfoldable pub list_port : Identifier → Checked → Result Checked Fault
 list_port n c = if is_listed n.name.0 c.ports then Err (fault_at 28 n) else Ok (record c { ports = c.ports ++ n ∷ [] })
-
--- a port that the header declares is complete
-abbrev pub header_net : PortNet → PortNet
-header_net net.Nothing = net.Wire
-header_net net.Wire = net.Wire
-header_net net.Reg = net.Reg
 
 unfoldable pub declare_port : Reach → Identifier → Declaration → Option Expression → Checked → Result Checked Fault
 declare_port here n d value c =

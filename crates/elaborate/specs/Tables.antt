@@ -8,6 +8,7 @@ use Rattle.verilog_ast.specs.declared.port_net.PortNet.TheVariants as net
 use Rattle.verilog_ast.specs.Expressions.{Expression}
 use Rattle.width_rules.specs.Faults.{fault_at}
 use Rattle.gen_unroll.specs.Declarations.{BitRange}
+use Rattle.gen_unroll.specs.Reaches.{same_block}
 use Rattle.ls_text.specs.Answers.{◌>>=◌}
 use Rattle.elaborate.specs.declared.declaration_kind.DeclarationKind.{DeclarationKind}
 use Rattle.elaborate.specs.declared.declaration_kind.DeclarationKind.TheVariants as kind
@@ -27,12 +28,6 @@ pub record Declaration : Type 0 where
 -- the names in the order of their declarations
 abbrev pub Table : Type 0
 Table = List (NameIn × Declaration)
-
-abbrev pub same_block : Option ℕ → Option ℕ → Bool
-same_block None None = true
-same_block None (Some n) = false
-same_block (Some m) None = false
-same_block (Some m) (Some n) = m == n
 
 abbrev pub is_same_name : NameIn → NameIn → Bool
 is_same_name a b = same_block a.block b.block && (a.name == b.name)

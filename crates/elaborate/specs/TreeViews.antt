@@ -1,6 +1,5 @@
 -- What the tree of the code means, with the texts of its names.
 use Rattle.std.specs.Prelude.{◌≡◌, ℕ, List, map}
-use Rattle.std.proofs.Common.{Global, Vec}
 use Rattle.ls_text.specs.declared.name_id.NameId.{NameId}
 use Rattle.ls_text.specs.Texts.{text_at}
 use Rattle.unit_ir.specs.declared.instance.Instance.{Instance}
@@ -11,9 +10,6 @@ use Rattle.elaborate.specs.Elaborated.{Standing}
 use Rattle.elaborate.specs.Trees.{TreeInstance, seen_as}
 use Rattle.clock_rules.specs.Views.{clock_view}
 use Rattle.elaborate.specs.Views.{port_of}
-
-abbrev pub text_items : Vec ℕ Global → List ℕ
-text_items t = t.items
 
 abbrev pub instance_view : (texts : List (List ℕ)) → Instance → TreeInstance
 instance_view texts i = record {

@@ -1,9 +1,11 @@
 // The ports of a header, and ports that the body declares.
 ghost use Rattle.std.specs.Prelude.{◌≡◌, map};
 ghost use Rattle.std.specs.Option.{option_map};
+ghost use Rattle.verilog_ast.specs.Declarations.{header_net};
 ghost use Rattle.verilog_ast.specs.Views.{expression_of, range_of as range_view, kind_of, port_of};
 ghost use Rattle.width_rules.specs.Entries.{scope_of};
 ghost use Rattle.ls_text.specs.Answers.{Answers, Leads};
+ghost use Rattle.gen_unroll.specs.Declarations as d;
 ghost use Rattle.gen_unroll.specs.ReachViews.{reach_of};
 ghost use Rattle.gen_unroll.specs.Views.{bit_range_of};
 ghost use Rattle.elaborate.specs.Checks as c;
@@ -21,7 +23,7 @@ use verilog_ast::{Child, Expr, HeaderPort, Identifier, PortNet, Range, Shape};
 use width_rules::{Scope, refused_at};
 
 fn range_of(alloc: Global, scope: &Scope, range: &Range) -> Result<Option<BitRange>, Refusal>
-    ensures { Answers result (option_map bit_range_of) (c.range_of (scope_of scope.now) (range_view range.now)) }
+    ensures { Answers result (option_map bit_range_of) (d.range_of (scope_of scope.now) (range_view range.now)) }
 {
     let range = range_value(alloc, scope, range)?;
     Ok(Some(range))
@@ -32,7 +34,7 @@ fn range_or_none(
     scope: &Scope,
     range: &Option<Range>,
 ) -> Result<Option<BitRange>, Refusal>
-    ensures { Answers result (option_map bit_range_of) (c.range_or_none (scope_of scope.now) (option_map range_view range.now)) }
+    ensures { Answers result (option_map bit_range_of) (d.range_or_none (scope_of scope.now) (option_map range_view range.now)) }
 {
     match range {
         None => Ok(None),
@@ -79,7 +81,7 @@ pub fn list_port(check: &mut Checking, name: Identifier) -> Result<(), Refusal>
 
 // A port that the header declares is complete.
 fn header_net(net: PortNet) -> PortNet
-    ensures { result ≡ c.header_net net }
+    ensures { result ≡ header_net net }
 {
     match net {
         PortNet::Nothing | PortNet::Wire => PortNet::Wire,

@@ -1,10 +1,11 @@
 // Modules to the tree of instances of a design, or its first fault.
 //
-// `designing` has the modules by their names and finds the top, `elaborating` goes from the top down to its instances, depth first, and
-// `jobs` has each module visited once under the same overrides and with the same clock. `visiting` is such a visit: `checks` goes over the
-// steps of the unrolled module with the names in reach, where `header` and `body` declare names (`declaring`, in `tables`) and give
-// instances their overrides (`overriding`, `giving`) and connections (`clock_rules`); `clocking` goes over them once more for the clock: where
-// it may stand, and which port of an instance it reaches, is of `clock_rules`. `tree` is what the designs above see of it.
+// `designing` has the modules by their names and finds the top, `elaborating` goes from the top down to its instances (`standing`), depth first and
+// within `limits`, and `jobs` has each module visited once under the same overrides and with the same clock (`job`, found by its `visit_key`).
+// `visiting` is such a visit: `checks` goes over the steps of the unrolled module with the names in reach, where `header` and `body` declare names
+// (`declaring`, in `tables` of `declarations`) and give instances their overrides (`overriding`, `giving`) and connections (`clock_rules`);
+// `clocking` goes over them once more for the clock: where it may stand, and which port of an instance it reaches, is of `clock_rules`. `tree` is
+// what the designs above see of it.
 #![tactic(auto)]
 
 mod body;

@@ -5,7 +5,8 @@ ghost use Rattle.ls_text.specs.Texts.{Grows};
 ghost use Rattle.ls_text.specs.Answers.{Answers};
 ghost use Rattle.gen_unroll.specs.Views.{block_of};
 ghost use Rattle.elaborate.specs.Jobs.{standing_of};
-ghost use Rattle.elaborate.specs.TreeViews.{IsSeen, instance_view, language_limits, text_items, tree_view};
+ghost use Rattle.ls_text.specs.TextViews.{text_items};
+ghost use Rattle.elaborate.specs.TreeViews.{IsSeen, instance_view, language_limits, tree_view};
 ghost use Rattle.elaborate.specs.Trees as t;
 
 use crate::designing::elaborate_within;

@@ -1,7 +1,12 @@
--- Steps that gave a value, and tests that let pass.
-use Rattle.std.proofs.Common.{◌≡◌, Bool, true, false, if◌then◌else◌, Result, Ok, Err, refl, ap, subst}
+-- Steps that gave a value, tests that let pass, and what unrolling ends with.
+use Rattle.std.proofs.Common.{◌≡◌, Bool, true, false, if◌then◌else◌, List, Result, Ok, Err, refl, sym, ap, subst}
+use Rattle.std.specs.Prelude.{Some, None}
+use Rattle.std.proofs.lemmas.Option.{none-some, same_Some}
 use Rattle.ls_text.specs.declared.fault.Fault.{Fault}
 use Rattle.ls_text.specs.Answers.{◌>>=◌}
+use Rattle.gen_unroll.specs.Steps.{ModuleStep}
+use Rattle.gen_unroll.specs.Told.{fault_in}
+use Rattle.gen_unroll.specs.Unrolled.{State}
 
 pub err_or_ok : {A P : Type 0} (f : Fault) (y : A) → Err f ≡ Ok y → P
 err_or_ok {A} f y h = absurd (subst is_err h tt)
@@ -39,3 +44,12 @@ past_test false f r y h = (refl, h)
 pub past_need : {A : Type 0} (b : Bool) (f : Fault) (r : Result A Fault) (y : A) → (if b then r else Err f) ≡ Ok y → (b ≡ true) × (r ≡ Ok y)
 past_need true f r y h = (refl, h)
 past_need false f r y h = err_or_ok f y h
+
+-- what was said, where unrolling ends without a fault, and its fault where it ends with one
+pub ended : (said : List ModuleStep) (r : Result State Fault) → None ≡ fault_in r → (r >>= λ st. Ok said) ≡ Ok said
+ended said (Ok st) none = refl
+ended said (Err f) none = absurd (none-some f none)
+
+pub stopped : (said : List ModuleStep) (r : Result State Fault) (f : Fault) → Some f ≡ fault_in r → (r >>= λ st. Ok said) ≡ Err f
+stopped said (Ok st) f some = absurd (none-some f (sym some))
+stopped said (Err g) f some = ap (λ (h : Fault). Err h) (sym (same_Some f g some))

@@ -1,12 +1,6 @@
 -- Lists and choices of which each part is moved.
-use Rattle.std.proofs.Common.{◌≡◌, Bool, true, false, if◌then◌else◌, List, [], ◌∷◌, ◌++◌, map, refl, sym, ◌∙◌, ap₂}
+use Rattle.std.proofs.Common.{◌≡◌, Bool, true, false, if◌then◌else◌, List, ◌++◌, map, sym, ◌∙◌, ap₂}
 use Rattle.std.proofs.lemmas.List.{map-append}
-
--- what a function makes of moved parts
-pub map_so : {A B : Type 0} (f : A → B) (moved : A → A) (made : B → B) → ((x : A) → f (moved x) ≡ made (f x)) → (xs : List A)
-    → map f (map moved xs) ≡ map made (map f xs)
-map_so f moved made is [] = refl
-map_so {A} {B} f moved made is (x ∷ xs) = ap₂ (λ (y : B) (ys : List B). y ∷ ys) (is x) (map_so f moved made is xs)
 
 pub append_so : {A : Type 0} (moved : A → A) (ps qs xs ys : List A) → ps ≡ map moved xs → qs ≡ map moved ys → (ps ++ qs) ≡ map moved (xs ++ ys)
 append_so {A} moved ps qs xs ys first rest = ap₂ (λ (a b : List A). a ++ b) first rest ∙ sym (map-append moved xs ys)

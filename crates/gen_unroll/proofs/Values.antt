@@ -1,5 +1,5 @@
 -- Values of constants, and their first fault.
-use Rattle.std.proofs.Common.{◌≡◌, ℕ, Bool, true, List, [], ◌∷◌, IfOk, IsErrAnd, Result, Ok, Err, refl, sym, ◌∙◌, ap, subst}
+use Rattle.std.proofs.Common.{◌≡◌, ℕ, Bool, true, List, [], ◌∷◌, IsErrAnd, Result, Ok, Err, refl, sym, ◌∙◌, ap, subst}
 use Rattle.std.specs.Prelude.{Option, Some, None, ℤ}
 use Rattle.ls_text.specs.declared.fault.Fault.{Fault}
 use Rattle.ls_text.specs.declared.refusal.Refusal.{Refusal}
@@ -65,10 +65,5 @@ handed_on (Ok x) e view d is h = absurd is
 -- a step that gave a value goes on
 pub goes_on : {B D : Type 0} (d : Result B Fault) (x : B) (f : B → Result D Fault) (y : Result D Fault) → d ≡ Ok x → f x ≡ y → (d >>= f) ≡ y
 goes_on d x f y is next = ap (λ z. z >>= f) is ∙ next
-
--- whatever the answer is
-pub if_ok : {A E P : Type 0} (r : Result A E) → P → IfOk r (λ _. P)
-if_ok (Ok x) h = h
-if_ok (Err e) h = tt
 
 pub ruleset answers = (is_first, refused_on, goes_on, no_fault)

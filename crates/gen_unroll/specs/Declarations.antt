@@ -48,6 +48,14 @@ range_value scope r =
     unless (range_faults scope r)
     (record { width = bits_between (integer scope r.high) (integer scope r.low); low = lower_bound (integer scope r.low) })
 
+-- the range of a declaration, if it has one
+abbrev pub range_of : Scope → RangeBounds → Result (Option BitRange) Fault
+range_of scope r = range_value scope r >>= λ b. Ok (Some b)
+
+abbrev pub range_or_none : Scope → Option RangeBounds → Result (Option BitRange) Fault
+range_or_none scope None = Ok None
+range_or_none scope (Some r) = range_of scope r
+
 -- ---- parameters (4.10.1)
 
 -- the width that a declaration gives, none without a range, and whether it has `signed`

@@ -1,5 +1,5 @@
 -- The names in reach behind each step (IEEE Std 1364-2005, 12.7).
-use Rattle.std.specs.Prelude.{◌≡◌, ℕ, List, [], ◌∷◌, length, Option, Some, None}
+use Rattle.std.specs.Prelude.{◌≡◌, ℕ, ◌==◌, Bool, true, false, List, [], ◌∷◌, length, Option, Some, None}
 use Rattle.verilog_ast.specs.declared.identifier.Identifier.{Identifier}
 use Rattle.verilog_ast.specs.Items.{ModuleItem, ModuleDeclaration}
 use Rattle.width_rules.specs.Scopes.{Meaning, Constant, Unknown, Scope}
@@ -21,6 +21,12 @@ reach_in m = record { scope = own_names m; around = []; blocks = [] }
 abbrev pub innermost : List ℕ → Option ℕ
 innermost [] = None
 innermost (b ∷ bs) = Some b
+
+abbrev pub same_block : Option ℕ → Option ℕ → Bool
+same_block None None = true
+same_block None (Some n) = false
+same_block (Some m) None = false
+same_block (Some m) (Some n) = m == n
 
 abbrev pub blocks_around : List ℕ → List ℕ
 blocks_around [] = []

@@ -1,10 +1,10 @@
 // A module with its loops and branches unrolled in place.
 //
-// `unrolling` walks the tree of a module and answers `unrolled`: `step`s in the order of the text, which refer to the tree, and the
-// table of the `block`s that were opened, up to the first fault. It goes by the names in reach: `naming` declares those of a block
-// where it is opened, `parameters` gives parameters their values (by `ranges` and `constants`), `looping` counts the turns of a loop
-// before its first block. `speaking` says what a name within a block is called, and `telling` adds a step to what was told. `reaching`
-// follows the steps with the names in reach, for whoever checks them. `overriding` has the overrides under which a module unrolls to given values.
+// `unrolling` walks the tree of a module (`walk`) and answers `unrolled`: `step`s in the order of the text, which refer to the tree, and the table of
+// the `block`s that were opened (`block_id`), up to the first fault. It goes by the names in reach: `naming` declares those of a block where it is
+// opened, `parameters` gives parameters their values (by `ranges` and `constants`), `looping` counts the turns of a loop before its first block.
+// `speaking` says what a name within a block is called, and `telling` adds a step to what was told. `reaching` follows the steps with the names in
+// reach (`reach`), for whoever checks them. `overriding` has the overrides under which a module unrolls to given values.
 #![tactic(auto)]
 
 mod bit_range;

@@ -8,7 +8,7 @@ use Rattle.std.proofs.lemmas.List.Elements.{filter-append}
 use Rattle.verilog_ast.specs.declared.identifier.Identifier.{Identifier}
 use Rattle.verilog_ast.specs.declared.port_net.PortNet.{PortNet}
 use Rattle.verilog_ast.specs.declared.port_net.PortNet.TheVariants as net
-use Rattle.verilog_ast.specs.Declarations.{PortDeclaration, InputPort, OutputPort, NextPort}
+use Rattle.verilog_ast.specs.Declarations.{PortDeclaration, InputPort, OutputPort, NextPort, header_net}
 use Rattle.verilog_ast.specs.Items as i
 use Rattle.verilog_ast.specs.Items.{ModuleItem, ModuleDeclaration}
 use Rattle.unit_ir.specs.declared.signal_kind.SignalKind.{SignalKind}
@@ -19,7 +19,7 @@ use Rattle.gen_unroll.specs.Steps.{GenerateBlock, ModuleStep, Listed, Port, Para
 use Rattle.gen_unroll.proofs.Answered.{ok_same, first_step}
 use Rattle.unit_names.specs.Numbers.{SignalTable, header_names, first_where, if_any, with_header_port, ports_onto, is_no_port, numbered, table_of}
 use Rattle.unit_names.specs.Numbers.{module_table}
-use Rattle.unit_names.specs.Signals.{NamedSignal, is_outermost, is_port, is_port_named, header_net, kind_of_net, with_port, with_ports, with_next}
+use Rattle.unit_names.specs.Signals.{NamedSignal, is_outermost, is_port, is_port_named, kind_of_net, with_port, with_ports, with_next}
 use Rattle.unit_names.specs.Signals.{last_of, completed, completes}
 use Rattle.unit_names.specs.Signals.{put, with_net, with_nets, range_in, header_port, item_signals, declared_in}
 use Rattle.unit_jobs.specs.BlockNames.{declared_by, called_in, item_texts, texts_within}

@@ -38,7 +38,6 @@ use Rattle.unit_names.specs.UnitLists as lists
 use Rattle.job_laws.specs.Outer.{is_item_outside, are_ports_outside}
 use Rattle.job_laws.proofs.Agreeing.{IsSame, Agrees, other_agrees, port_agrees, net_agrees, port_signal}
 use Rattle.job_laws.proofs.Ported.{InputsArePorts, inputs_put, inputs_last, net_no_input}
-use Rattle.job_laws.proofs.Ranges.{range_there}
 
 -- what is known of the checks and the signals so far
 pub record IsKnown (c : Checked) (xs : List NamedSignal) : Type 0 where
@@ -136,7 +135,7 @@ inputs_go here at by k ns c e xs outside so h =
     record {
       signals = with_ports (innermost here.blocks) kinds.Input by first.value k.signed ns xs;
       told = ap (λ z. z >>= λ (r : Option BitRange). Ok (with_ports (innermost here.blocks) kinds.Input by r k.signed ns xs))
-          (range_there here k first.value first.first);
+          first.first;
       known = ports_go here (kind.Input by) kinds.Input by first.value k.signed ns c e xs outside so refl refl first.second;
     }
 
@@ -150,7 +149,7 @@ outputs_go here at by k ps c e xs outside so h =
       signals = with_ports (innermost here.blocks) (signals.kind_of_net by) by first.value k.signed (map declared_name ps) xs;
       told = ap (λ z. z >>= λ (r : Option BitRange).
           Ok (with_ports (innermost here.blocks) (signals.kind_of_net by) by r k.signed (map declared_name ps) xs))
-          (range_there here k first.value first.first);
+          first.first;
       known = ports_go here (kind.Output by) (signals.kind_of_net by) by first.value k.signed (map declared_name ps) c e xs outside so refl
           (net_no_input by) first.second;
     }
@@ -191,7 +190,7 @@ wires_go here at k all c e xs so h =
     record {
       signals = with_nets (innermost here.blocks) net.Wire first.value k.signed (map declared_name all) xs;
       told = ap (λ z. z >>= λ (r : Option BitRange). Ok (with_nets (innermost here.blocks) net.Wire r k.signed (map declared_name all) xs))
-          (range_there here k first.value first.first);
+          first.first;
       known = nets_known here net.Wire first.value k.signed declared_name (wire here first.value k.signed)
           (λ x d f ys known is. variable_known here net.Wire first.value k.signed x.name x.value d f ys known is) all c e xs so first.second;
     }
@@ -204,7 +203,7 @@ regs_go here at k all c e xs so h =
     record {
       signals = with_nets (innermost here.blocks) net.Reg first.value k.signed (map declared_reg_name all) xs;
       told = ap (λ z. z >>= λ (r : Option BitRange). Ok (with_nets (innermost here.blocks) net.Reg r k.signed (map declared_reg_name all) xs))
-          (range_there here k first.value first.first);
+          first.first;
       known = nets_known here net.Reg first.value k.signed declared_reg_name (reg here first.value k.signed)
           (λ x d f ys known is. variable_known here net.Reg first.value k.signed x.name x.value d f ys known is) all c e xs so first.second;
     }

@@ -7,7 +7,8 @@ use Rattle.verilog_ast.specs.declared.port_net.PortNet.{PortNet}
 use Rattle.verilog_ast.specs.Expressions.{Expression}
 use Rattle.ls_text.specs.Answers.{◌>>=◌}
 use Rattle.gen_unroll.proofs.Answered.{err_or_ok, ok_same, first_step, past_need}
-use Rattle.elaborate.specs.Tables.{NameIn, Declaration, Table, same_block, is_same_name, declared_as, with_declaration, name_in, once, declare}
+use Rattle.gen_unroll.specs.Reaches.{same_block}
+use Rattle.elaborate.specs.Tables.{NameIn, Declaration, Table, is_same_name, declared_as, with_declaration, name_in, once, declare}
 use Rattle.elaborate.specs.Tables.{completes, completed_kind, net_over, initial, declare_net}
 
 -- ---- names

@@ -7,7 +7,7 @@ use Rattle.ls_text.specs.declared.fault.Fault.{Fault}
 use Rattle.verilog_ast.specs.declared.identifier.Identifier.{Identifier}
 use Rattle.verilog_ast.specs.declared.port_net.PortNet.{PortNet}
 use Rattle.verilog_ast.specs.declared.port_net.PortNet.TheVariants as net
-use Rattle.verilog_ast.specs.Declarations.{PortDeclaration, InputPort, OutputPort, NextPort}
+use Rattle.verilog_ast.specs.Declarations.{PortDeclaration, InputPort, OutputPort, NextPort, header_net}
 use Rattle.verilog_ast.specs.Expressions.{Expression}
 use Rattle.verilog_ast.specs.Items as i
 use Rattle.verilog_ast.specs.Items.{ConnectionList, ModuleInstance, ModuleItem, ModuleDeclaration}
@@ -22,7 +22,7 @@ use Rattle.module_names.specs.Listings.{is_listed}
 use Rattle.module_names.specs.Modules.{module_named, parameters_of, header_ports}
 use Rattle.elaborate.specs.declared.declaration_kind.DeclarationKind.{DeclarationKind}
 use Rattle.elaborate.specs.declared.declaration_kind.DeclarationKind.TheVariants as kind
-use Rattle.elaborate.specs.Checks.{Checked, declaration, each, range_of_kind, plain, list_port, header_net, declare_port, header_port, body_port}
+use Rattle.elaborate.specs.Checks.{Checked, declaration, each, range_of_kind, plain, list_port, declare_port, header_port, body_port}
 use Rattle.elaborate.specs.Checks.{variable, wire, reg, genvar, or_no_module, one_instance, instances, with_parameter, parameter, check_item}
 use Rattle.elaborate.specs.Checks.{check_steps}
 use Rattle.elaborate.specs.Overrides.{overridden}

@@ -6,7 +6,7 @@ use Rattle.verilog_ast.specs.declared.identifier.Identifier.{Identifier}
 use Rattle.verilog_ast.specs.declared.port_net.PortNet.{PortNet}
 use Rattle.verilog_ast.specs.declared.port_net.PortNet.TheVariants as net
 use Rattle.verilog_ast.specs.Expressions.{Expression}
-use Rattle.verilog_ast.specs.Declarations.{PortDeclaration, InputPort, OutputPort, NextPort}
+use Rattle.verilog_ast.specs.Declarations.{PortDeclaration, InputPort, OutputPort, NextPort, header_net}
 use Rattle.verilog_ast.specs.Items.{ModuleDeclaration}
 use Rattle.unit_ir.specs.declared.signal_kind.SignalKind.{SignalKind}
 use Rattle.unit_ir.specs.declared.signal_kind.SignalKind.TheVariants as kinds
@@ -20,7 +20,6 @@ use Rattle.gen_unroll.proofs.Answered.{ok_same, first_step, past_test}
 use Rattle.module_names.specs.Listings.{is_listed}
 use Rattle.module_names.specs.Modules.{port_name}
 use Rattle.elaborate.specs.declared.declaration_kind.DeclarationKind.TheVariants as kind
-use Rattle.elaborate.specs.Checks as checks
 use Rattle.elaborate.specs.Checks.{Checked, declaration, plain, list_port, declare_port, header_port, range_of_kind, with_parameter, parameter}
 use Rattle.elaborate.specs.Checks.{check_steps}
 use Rattle.elaborate.specs.Tables.{Declaration, initial}
@@ -29,7 +28,6 @@ use Rattle.unit_names.specs.Signals.{NamedSignal, with_port, with_next, last_of,
 use Rattle.job_laws.specs.Outer.{are_ports_outside}
 use Rattle.job_laws.proofs.Agreeing.{IsSame, port_signal}
 use Rattle.job_laws.proofs.Ported.{net_no_input, last_new}
-use Rattle.job_laws.proofs.Ranges.{range_there}
 use Rattle.job_laws.proofs.Bodies.{IsKnown, StepsGo, plain_so, port_known, parameter_known, quietly, outermost, go_on, first_check, body_goes}
 use Rattle.job_laws.proofs.Headed.{IsHeaded, body, parameter_ahead, listed, declared}
 
@@ -112,27 +110,27 @@ port_goes : (here : Reach) (p : PortDeclaration) (c e : Checked) (xs : List Name
     → PortGoes here p c e xs
 port_goes here (InputPort at by k n) c e xs outside so h =
     let first = first_step (range_of_kind here.scope k)
-    (λ (r : Option BitRange). declare_port here n (declaration (kind.Input (checks.header_net by)) r k.signed n) None c) e h in
+    (λ (r : Option BitRange). declare_port here n (declaration (kind.Input (header_net by)) r k.signed n) None c) e h in
     record {
-      signals = with_port None kinds.Input (signals.header_net by) first.value k.signed n xs;
-      told = ap (λ z. z >>= λ (r : Option BitRange). Ok (with_port (innermost here.blocks) kinds.Input (signals.header_net by) r k.signed n xs))
-          (range_there here k first.value first.first)
-          ∙ ap (λ (b : Option ℕ). Ok (with_port b kinds.Input (signals.header_net by) first.value k.signed n xs)) outside;
-      taken = port_taken here n (declaration (kind.Input (checks.header_net by)) first.value k.signed n) None
-          kinds.Input (signals.header_net by) first.value k.signed c e xs outside so.known
+      signals = with_port None kinds.Input (header_net by) first.value k.signed n xs;
+      told = ap (λ z. z >>= λ (r : Option BitRange). Ok (with_port (innermost here.blocks) kinds.Input (header_net by) r k.signed n xs))
+          first.first
+          ∙ ap (λ (b : Option ℕ). Ok (with_port b kinds.Input (header_net by) first.value k.signed n xs)) outside;
+      taken = port_taken here n (declaration (kind.Input (header_net by)) first.value k.signed n) None
+          kinds.Input (header_net by) first.value k.signed c e xs outside so.known
           (record { port = refl; input = refl; range_so = refl; signed_so = refl }) first.second;
     }
 port_goes here (OutputPort at by k x) c e xs outside so h =
     let first = first_step (range_of_kind here.scope k)
-    (λ (r : Option BitRange). declare_port here x.name (declaration (kind.Output (checks.header_net by)) r k.signed x.name) x.value c) e h in
+    (λ (r : Option BitRange). declare_port here x.name (declaration (kind.Output (header_net by)) r k.signed x.name) x.value c) e h in
     record {
-      signals = with_port None (signals.kind_of_net by) (signals.header_net by) first.value k.signed x.name xs;
+      signals = with_port None (signals.kind_of_net by) (header_net by) first.value k.signed x.name xs;
       told = ap (λ z. z >>= λ (r : Option BitRange).
-          Ok (with_port (innermost here.blocks) (signals.kind_of_net by) (signals.header_net by) r k.signed x.name xs))
-          (range_there here k first.value first.first)
-          ∙ ap (λ (b : Option ℕ). Ok (with_port b (signals.kind_of_net by) (signals.header_net by) first.value k.signed x.name xs)) outside;
-      taken = port_taken here x.name (declaration (kind.Output (checks.header_net by)) first.value k.signed x.name) x.value
-          (signals.kind_of_net by) (signals.header_net by) first.value k.signed c e xs
+          Ok (with_port (innermost here.blocks) (signals.kind_of_net by) (header_net by) r k.signed x.name xs))
+          first.first
+          ∙ ap (λ (b : Option ℕ). Ok (with_port b (signals.kind_of_net by) (header_net by) first.value k.signed x.name xs)) outside;
+      taken = port_taken here x.name (declaration (kind.Output (header_net by)) first.value k.signed x.name) x.value
+          (signals.kind_of_net by) (header_net by) first.value k.signed c e xs
           outside so.known (record { port = refl; input = net_no_input by; range_so = refl; signed_so = refl }) first.second;
     }
 port_goes here (NextPort x) c e xs outside so h = record {

@@ -1,10 +1,11 @@
 -- What is known of the instances of a tree: their modules in the code, and what a visit of each found.
-use Rattle.std.proofs.Common.{◌≡◌, ℕ, ◌==◌, Bool, true, false, if◌then◌else◌, List, [], ◌∷◌, map, Ok, refl, sym, ◌∙◌, ap, subst}
+use Rattle.std.proofs.Common.{◌≡◌, ℕ, ◌==◌, Bool, true, false, if◌then◌else◌, List, [], ◌∷◌, map, Ok, refl, sym, ◌∙◌, ap}
 use Rattle.std.specs.Prelude.{Option, Some, None}
 use Rattle.std.specs.List.{All, AllZip}
 use Rattle.std.specs.Option.{option_map}
 use Rattle.std.proofs.lemmas.List.Elements.{All-head, All-tail}
 use Rattle.std.proofs.lemmas.Option.{none-some, same_Some}
+use Rattle.ls_text.proofs.Lists.{none_is_some, same_first, same_others}
 use Rattle.typed_ir.specs.Orders.{Each}
 use Rattle.verilog_ast.specs.declared.module.Module.{Module}
 use Rattle.verilog_ast.specs.Items.{ModuleDeclaration}
@@ -22,31 +23,10 @@ use Rattle.job_laws.specs.InstanceModules.{IsVisited}
 
 -- ---- lists that are the same seen from two sides
 
-none_left : {A P : Type 0} (x : A) (xs : List A) → [] ≡ x ∷ xs → P
-none_left {A} x xs h = absurd (subst is_none h tt)
-  where
-    is_none : List A → Type 0
-    is_none [] = Unit {0}
-    is_none (y ∷ ys) = ⊥
-
-pub same_first : {A : Type 0} (x y : A) (xs ys : List A) → x ∷ xs ≡ y ∷ ys → x ≡ y
-same_first {A} x y xs ys h = ap first_or h
-  where
-    first_or : List A → A
-    first_or [] = x
-    first_or (z ∷ zs) = z
-
-pub same_others : {A : Type 0} (x y : A) (xs ys : List A) → x ∷ xs ≡ y ∷ ys → xs ≡ ys
-same_others {A} x y xs ys h = ap others h
-  where
-    others : List A → List A
-    others [] = []
-    others (z ∷ zs) = zs
-
 pub side_by_side : {A B C : Type 0} (f : A → C) (g : B → C) (xs : List A) (ys : List B) → map f xs ≡ map g ys → AllZip (λ x y. f x ≡ g y) xs ys
 side_by_side f g [] [] h = tt
-side_by_side f g [] (y ∷ ys) h = none_left (g y) (map g ys) h
-side_by_side f g (x ∷ xs) [] h = none_left (f x) (map f xs) (sym h)
+side_by_side f g [] (y ∷ ys) h = none_is_some (g y) (map g ys) h
+side_by_side f g (x ∷ xs) [] h = none_is_some (f x) (map f xs) (sym h)
 side_by_side f g (x ∷ xs) (y ∷ ys) h =
     (same_first (f x) (g y) (map f xs) (map g ys) h, side_by_side f g xs ys (same_others (f x) (g y) (map f xs) (map g ys) h))
 

@@ -10,7 +10,6 @@ pub mod VisitedAgain
 pub mod Declared
 pub mod Ported
 pub mod Agreeing
-pub mod Ranges
 pub mod Bodies
 pub mod Headed
 pub mod Headers

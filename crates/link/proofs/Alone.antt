@@ -1,5 +1,6 @@
 -- A table of instances is that of one tree alone.
-use Rattle.std.proofs.Common.{◌≡◌, ℕ, suc, ◌+◌, ◌≤◌, List, [], ◌∷◌, ◌++◌, length, get_or, drop, Option, Some, None, is_some, true≢false, append_assoc, append-nil, refl, sym, ◌∙◌, ap, ap₂, arith}
+use Rattle.std.proofs.Common.{◌≡◌, ℕ, suc, ◌+◌, ◌≤◌, List, [], ◌∷◌, ◌++◌, length, get_or, drop, Option, Some, None, append_assoc, append-nil, refl, sym, ◌∙◌, ap, ap₂, arith}
+use Rattle.std.proofs.lemmas.Option.{none-some}
 use Rattle.unit_ir.specs.Trees.{Instances, Nothing, One}
 use Rattle.link.specs.Listings.{Entry, instances_in, listed}
 
@@ -65,7 +66,4 @@ same index parent (One name u within after) (One name2 u2 within2 after2) xs ys 
 pub one_tree : (s t : Instances) → listed None 0 s ≡ listed None 0 t → s ≡ t
 unfolding number
 one_tree s t is =
-    (same 0 None s t [] [] (λ q h e. none_some q e) tt tt (append-nil (listed None 0 s) ∙ is ∙ sym (append-nil (listed None 0 t)))).tree
-  where
-    none_some : (q : ℕ) → None ≡ Some q → ⊥
-    none_some q e = true≢false (sym (ap is_some e))
+    (same 0 None s t [] [] (λ q h e. none-some q e) tt tt (append-nil (listed None 0 s) ∙ is ∙ sym (append-nil (listed None 0 t)))).tree

@@ -1,12 +1,11 @@
 -- Faults, from what the calls below say.
-use Rattle.std.proofs.Common.{◌≡◌, ℕ, ◌<◌, ◌≤◌, true, false, nat_le, List, [], map, length, All, Result, Ok, Err, MatchResult, IfOk, inl, inr, ◌⊎◌, true≢false, append-nil, sym, ◌∙◌, ap, subst, leb-true, le-leb}
+use Rattle.std.proofs.Common.{◌≡◌, ℕ, ◌<◌, ◌≤◌, true, false, nat_le, List, [], map, length, All, Result, Ok, Err, MatchResult, IfOk, inl, inr, ◌⊎◌, true≢false, sym, ◌∙◌, ap, subst, leb-true, le-leb}
 use Rattle.std.proofs.lemmas.Bool.{cases_lt}
 use Rattle.ls_text.specs.declared.at.At.TheVariants.{Edit}
 use Rattle.ls_text.specs.declared.fault.Fault.{Fault as Fault'}
 use Rattle.ls_text.specs.declared.name_id.NameId.{NameId}
 use Rattle.ls_text.specs.declared.refusal.Refusal.{Refusal}
 use Rattle.ls_text.specs.declared.refusal.Refusal.TheVariants.{Fault, NoMemory}
-use Rattle.ls_text.specs.Texts.{Grows}
 use Rattle.typed_ir.specs.declared.flat.Flat.{Flat as Flat'}
 use Rattle.typed_ir.specs.declared.linked.Linked.{Linked}
 use Rattle.typed_ir.specs.Cycles.{Flat}
@@ -20,12 +19,10 @@ use Rattle.unit_ir.specs.Trees.{Instances, flat_of_tree}
 use Rattle.link.specs.Copies.{all_sized, nodes_in}
 use Rattle.link.specs.Faults.{HasNoLinkFault, IsLinkFault, too_many, loop_of, no_memory}
 use Rattle.link.specs.Listings.{IsTreeOf}
-use Rattle.link.specs.Names.{node_text, text_of}
+use Rattle.ls_text.specs.TextViews.{text_of}
+use Rattle.link.specs.Names.{node_text}
 use Rattle.link.proofs.Making.{nodes_of_tree}
 use Rattle.link.proofs.Spelled.{IsNamed}
-
-pub grows_none : (texts : List (List ℕ)) → Grows texts texts
-grows_none texts = record { more = []; begins = sym (append-nil texts) }
 
 pub is_loop_fault : (most : ℕ) (old new : List (List ℕ)) (design : Flat) (f : Fault') (circle : List ℕ)
     → f ≡ record { code = 39; at = Edit; names = f.names } → map (text_of new) f.names ≡ map (node_text old design) circle → All (IsNamed (length new)) f.names

@@ -1,28 +1,12 @@
 -- Names of instances, signals and nodes, piece by piece.
-use Rattle.std.proofs.Common.{◌≡◌, ℕ, ◌<◌, List, [], ◌∷◌, ◌++◌, map, length, get_or, All, append_assoc, refl, sym, ◌∙◌, ap, ap₂, subst}
-use Rattle.std.specs.Prelude.{codes}
+use Rattle.std.proofs.Common.{◌≡◌, ℕ, ◌<◌, List, [], ◌∷◌, ◌++◌, map, length, get_or, All, refl, sym, ◌∙◌, ap, ap₂, subst}
 use Rattle.std.proofs.lemmas.List.{map_push}
 use Rattle.std.proofs.lemmas.List.Elements.{All-head, All-tail, All-push}
 use Rattle.ls_text.specs.declared.name_id.NameId.{NameId}
-use Rattle.ls_text.specs.Texts.{Grows, IsIdOf, text_at}
+use Rattle.ls_text.specs.Texts.{Grows, IsIdOf}
 use Rattle.ls_text.proofs.Growth.{grown_text, grown_id}
 use Rattle.ls_text.proofs.Pieces.{two_pieces}
-use Rattle.link.specs.Names.{dotted, joined, text_of}
-
--- ---- names, one more
-
-pub dotted_push : (texts : List (List ℕ)) (p : List ℕ) (n : ℕ) → dotted texts (p ++ n ∷ []) ≡ dotted texts p ++ (text_at texts n ++ codes ".")
-dotted_push texts [] n = refl
-dotted_push texts (m ∷ p) n =
-    ap (λ zs. text_at texts m ++ (codes "." ++ zs)) (dotted_push texts p n)
-    ∙ sym (append_assoc (text_at texts m) (codes "." ++ dotted texts p) (text_at texts n ++ codes "."))
-
-pub joined_push : (texts : List (List ℕ)) (p : List ℕ) (n : ℕ) → joined texts (p ++ n ∷ []) ≡ dotted texts p ++ text_at texts n
-joined_push texts [] n = refl
-joined_push texts (m ∷ []) n = sym (append_assoc (text_at texts m) (codes ".") (text_at texts n))
-joined_push texts (m ∷ k ∷ p) n =
-    ap (λ zs. text_at texts m ++ (codes "." ++ zs)) (joined_push texts (k ∷ p) n)
-    ∙ sym (append_assoc (text_at texts m) (codes "." ++ dotted texts (k ∷ p)) (text_at texts n))
+use Rattle.ls_text.specs.TextViews.{text_of}
 
 -- ---- pieces behind one another
 

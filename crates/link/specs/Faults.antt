@@ -7,7 +7,8 @@ use Rattle.ls_text.specs.declared.refusal.Refusal.TheVariants.{Fault, NoMemory}
 use Rattle.typed_ir.specs.Cycles.{Flat}
 use Rattle.comb_order.specs.Loops.{IsLoop, HasNoLoop}
 use Rattle.comb_order.specs.Refusals.{NodeBefore}
-use Rattle.link.specs.Names.{node_text, text_of}
+use Rattle.ls_text.specs.TextViews.{text_of}
+use Rattle.link.specs.Names.{node_text}
 
 -- at most so many nodes, and no loop of them
 pub record HasNoLinkFault (most : ℕ) (design : Flat) : Type 0 where

@@ -1,28 +1,14 @@
 -- What a node is called: by its first target, with the path of its signal (IEEE Std 1364-2005, 12.4); how a select is shown is this project's own.
 use Rattle.std.specs.Prelude.{◌≡◌, true, ◌<◌, length, ℕ, ◌+◌, ◌-◌, codes, decimal, Bool, is_some, List, [], ◌∷◌, ◌++◌, Option, Some, None, slice_get}
-use Rattle.std.specs.Global.{Global}
-use Rattle.std.specs.declared.vec.Vec.{Vec}
-use Rattle.ls_text.specs.declared.name_id.NameId.{NameId}
-use Rattle.ls_text.specs.Texts.{text_at}
 use Rattle.typed_ir.specs.declared.span.Span.{Span}
 use Rattle.typed_ir.specs.declared.target_form.TargetForm.{TargetForm}
 use Rattle.typed_ir.specs.declared.target_form.TargetForm.TheVariants.{Name, Bit, Range}
 use Rattle.typed_ir.specs.Cycles.{Signal, Flat}
 use Rattle.typed_ir.specs.Nodes.{FlatNode, Drive, Block, lane_spans}
 use Rattle.typed_ir.specs.Orders.{at_or}
+use Rattle.typed_ir.specs.Paths.{joined}
 use Rattle.typed_ir.specs.Stmts.{targets}
 use Rattle.typed_ir.specs.Valuations.{any_within}
-
--- names with dots between
-abbrev pub joined : List (List ℕ) → List ℕ → List ℕ
-joined texts [] = []
-joined texts (n ∷ []) = text_at texts n
-joined texts (n ∷ m ∷ ns) = text_at texts n ++ (codes "." ++ joined texts (m ∷ ns))
-
--- names, each with a dot behind it
-abbrev pub dotted : List (List ℕ) → List ℕ → List ℕ
-dotted texts [] = []
-dotted texts (n ∷ ns) = text_at texts n ++ (codes "." ++ dotted texts ns)
 
 -- bits of a signal, counted with the lower bound of its range
 abbrev pub select_text : TargetForm → ℕ → Span → List ℕ
@@ -59,11 +45,3 @@ form_of (Block shown body) = shown.form
 -- what the k-th node is called
 unfoldable pub node_text : List (List ℕ) → Flat → ℕ → List ℕ
 node_text texts design k = at_or (λ n. target_text texts design.signals (form_of n) (first_target n)) [] design.nodes k
-
--- ---- texts and names of the code
-
-abbrev pub text_items : Vec ℕ Global → List ℕ
-text_items t = t.items
-
-abbrev pub text_of : List (List ℕ) → NameId → List ℕ
-text_of texts name = text_at texts name.0

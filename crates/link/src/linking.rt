@@ -9,7 +9,8 @@ ghost use Rattle.comb_order.specs.Loops.{HasNoLoop};
 ghost use Rattle.comb_order.specs.Refusals.{NodeBefore};
 ghost use Rattle.link.specs.Faults.{HasNoLinkFault, IsLinkFault};
 ghost use Rattle.link.specs.Listings.{IsTreeOf, all_parts};
-ghost use Rattle.link.specs.Names.{node_text, text_of};
+ghost use Rattle.ls_text.specs.TextViews.{text_of};
+ghost use Rattle.link.specs.Names.{node_text};
 
 use crate::flattening::{are_few, flattened};
 use crate::naming::{named, texts_of};
@@ -25,7 +26,7 @@ use unit_ir::{InstanceTree, Unit};
 pub const NODE_LIMIT: usize = 1_048_576;
 
 // The fault of a loop of these nodes.
-#[tactic(auto, using(crate::proofs::Faulty::grows_none))]
+#[tactic(auto, using(ls_text::proofs::Growth::grows_none))]
 fn loop_fault(
     alloc: Global,
     names: &mut Names,
@@ -47,7 +48,7 @@ fn loop_fault(
 }
 
 // The design with an order of its nodes, or the fault of their loop.
-#[tactic(auto, using(crate::proofs::Faulty::grows_none, crate::proofs::Faulty::no_memory_left))]
+#[tactic(auto, using(ls_text::proofs::Growth::grows_none, crate::proofs::Faulty::no_memory_left))]
 fn in_order(alloc: Global, names: &mut Names, design: Flat) -> Result<Linked, Refusal>
     ensures design { IfOk result (λ linked. linked.design ≡ design) }
     ensures exactly { MatchResult result (λ _. HasNoLoop (NodeBefore (flat design).nodes) (length (flat design).nodes))
@@ -67,7 +68,7 @@ fn in_order(alloc: Global, names: &mut Names, design: Flat) -> Result<Linked, Re
 }
 
 /// The same as `link`, with at most so many nodes.
-#[tactic(auto, using(crate::proofs::Faulty::grows_none, crate::proofs::Faulty::no_memory_left))]
+#[tactic(auto, using(ls_text::proofs::Growth::grows_none, crate::proofs::Faulty::no_memory_left))]
 pub fn link_within(
     alloc: Global,
     names: &mut Names,

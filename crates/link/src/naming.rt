@@ -4,8 +4,9 @@ ghost use Rattle.ls_text.specs.Texts.{Grows};
 ghost use Rattle.typed_ir.specs.FlatNodes.{node_of};
 ghost use Rattle.typed_ir.specs.Flats.{signal_of};
 ghost use Rattle.typed_ir.specs.Linkeds.{flat};
-ghost use Rattle.typed_ir.specs.Paths.{path_above, paths_of};
-ghost use Rattle.link.specs.Names.{dotted, form_of, node_text, select_text, target_text, text_items, text_of};
+ghost use Rattle.typed_ir.specs.Paths.{path_above, paths_of, dotted};
+ghost use Rattle.ls_text.specs.TextViews.{text_items, text_of};
+ghost use Rattle.link.specs.Names.{form_of, node_text, select_text, target_text};
 
 use crate::targeting::first_target;
 use ls_text::{NameId, Names, push_decimal};

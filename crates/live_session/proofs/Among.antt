@@ -1,5 +1,6 @@
 -- A session beside a book to which others added entries since its pass last saw it.
 use Rattle.std.proofs.Common.{◌≡◌, ◌∙◌, Bool, true, false, cond, List, [], ◌∷◌, ◌++◌, Option, None, refl, sym, ap, ap₂, subst, true≢false, arith, append_assoc, append-nil}
+use Rattle.std.proofs.lemmas.List.{append_cancel_left}
 use Rattle.book_history.specs.Book.{Book, Settings as BookSettings, apply, replay, replay_from}
 use Rattle.book_history.specs.Kind.{Kind, SessionsOwn, DrawsTicket, UsesTicket, EndsClaims, kind_of}
 use Rattle.book_history.specs.Moments.{is_spoken, is_spoken_kind, moments_from}
@@ -9,7 +10,7 @@ use Rattle.book_history.specs.Rooms.{count_all, no_entry}
 use Rattle.book_history.proofs.Outlines.{legal_outline, owned_counts}
 use Rattle.book_history.proofs.Places.{moments-append, replay-append}
 use Rattle.book_turn.specs.Rule.{Learned}
-use Rattle.book_turn.proofs.Histories.{owned_append}
+use Rattle.book_history.proofs.Owned.{owned_append}
 use Rattle.cycle_eval.specs.declared.design.Design.{Design}
 use Rattle.live_session.specs.AtTurn.{Sight, StandsAt, carried_settings, log_of}
 use Rattle.live_session.specs.Beside.{IsOutlined, Stands, StandsBeside, settings_by, world_in}
@@ -22,13 +23,8 @@ use Rattle.live_session.proofs.Standing.{IsLegal}
 
 -- ---- entries of others
 
-abbrev rest_of : List LogEvent → List LogEvent
-rest_of [] = []
-rest_of (z ∷ zs) = zs
-
 pub none_by : (xs ys : List LogEvent) → xs ++ ys ≡ xs → ys ≡ []
-none_by [] ys e = e
-none_by (x ∷ xs) ys e = none_by xs ys (ap rest_of e)
+none_by xs ys e = append_cancel_left xs ys [] (e ∙ sym (append-nil xs))
 
 abbrev is_some_entry : List LogEvent → Bool
 is_some_entry [] = false

@@ -1,12 +1,11 @@
 -- A row by numbers, which ascend: what it has tells which row it is.
-use Rattle.std.proofs.Common.{◌≡◌, ◌∙◌, ℕ, suc, ◌<◌, Bool, true, false, eqb, ltb, cond, ◌&&◌, List, [], ◌∷◌, length, All, inl, inr, ◌⊎◌, refl, sym, ap, ap₂, subst, arith, eqb-true, eq-eqb, true≢false}
+use Rattle.std.proofs.Common.{◌≡◌, ◌∙◌, ℕ, suc, ◌<◌, Bool, true, false, eqb, ltb, cond, List, [], ◌∷◌, length, All, inl, inr, ◌⊎◌, refl, sym, ap, ap₂, subst, arith, eqb-true, eq-eqb}
 use Rattle.std.specs.Prelude.{Option, Some, None}
-use Rattle.std.specs.Bool.{Decides}
 use Rattle.std.specs.Option.{unwrap_or}
-use Rattle.std.proofs.lemmas.Bool.{and_parts, and_from, cases_order, ne_eqb}
+use Rattle.std.proofs.lemmas.Bool.{cases_order, ne_eqb}
 use Rattle.std.proofs.lemmas.List.Elements.{All-cons, All-head, All-tail, All-from_get_or, All-weaker}
 use Rattle.std.proofs.lemmas.Option.{none-some, same_Some}
-use Rattle.stimulus.specs.Rows.{AreAscending, value_in, are_same, with_value}
+use Rattle.stimulus.specs.Rows.{AreAscending, value_in, with_value}
 
 -- ---- what it has
 
@@ -114,26 +113,3 @@ row_within count (x ∷ xs) id value within lt =
     by true before rest = All-cons (λ (p : ℕ × ℕ). p.0 < count) (id, value) xs lt (All-tail (λ (p : ℕ × ℕ). p.0 < count) x xs within)
     by false true rest = All-cons (λ (p : ℕ × ℕ). p.0 < count) (id, value) (x ∷ xs) lt within
     by false false rest = All-cons (λ (p : ℕ × ℕ). p.0 < count) x (with_value xs id value) here rest
-
--- two rows are the same where they are one
-pub decides_numbers : (x y : List (ℕ × ℕ)) → Decides (are_same x y) (x ≡ y)
-decides_numbers x y = (one x y, other x y)
-  where
-    one : (x y : List (ℕ × ℕ)) → are_same x y ≡ true → x ≡ y
-    one [] [] h = refl
-    one [] (y ∷ ys) h = absurd (true≢false (sym h))
-    one (x ∷ xs) [] h = absurd (true≢false (sym h))
-    one (x ∷ xs) (y ∷ ys) h =
-        let parts = and_parts (eqb x.0 y.0 && eqb x.1 y.1) (are_same xs ys) h in
-        let heads = and_parts (eqb x.0 y.0) (eqb x.1 y.1) parts.0 in
-        ap₂ (λ (p : ℕ × ℕ) (ps : List (ℕ × ℕ)). p ∷ ps)
-        (ap₂ (λ (t v : ℕ). (t, v)) (eqb-true x.0 y.0 heads.0) (eqb-true x.1 y.1 heads.1)) (one xs ys parts.1)
-
-    itself : (x : List (ℕ × ℕ)) → are_same x x ≡ true
-    itself [] = refl
-    itself (x ∷ xs) =
-        and_from (eqb x.0 x.0 && eqb x.1 x.1) (are_same xs xs)
-        (and_from (eqb x.0 x.0) (eqb x.1 x.1) (eq-eqb x.0 x.0 refl) (eq-eqb x.1 x.1 refl)) (itself xs)
-
-    other : (x y : List (ℕ × ℕ)) → x ≡ y → are_same x y ≡ true
-    other x y is = ap (are_same x) (sym is) ∙ itself x

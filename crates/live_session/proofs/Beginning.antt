@@ -6,7 +6,7 @@ use Rattle.std.proofs.lemmas.List.Elements.{All-nil}
 use Rattle.book_history.specs.Book.{Book, Settings as BookSettings, Opens}
 use Rattle.book_history.specs.Outline.{Outline, blank, outline_in}
 use Rattle.book_history.specs.Rooms.{Counts, count_all, no_entry}
-use Rattle.book_settle.proofs.Counting.{count-append}
+use Rattle.book_history.proofs.Prefixes.{count-append}
 use Rattle.checkpoint_book.specs.Views.{HasSessionRoom}
 use Rattle.command_read.specs.Spoken.{IsEditWithin, IsWithin, edited}
 use Rattle.command_read.specs.declared.edit.Edit.{Edit}

@@ -1,7 +1,7 @@
 -- Loads that gave texts, and what comes behind them.
 use Rattle.std.proofs.Common.{◌≡◌, ◌∙◌, ℕ, suc, ◌+◌, ◌<◌, ◌≤◌, ◌||◌, Bool, true, false, cond, ltb, List, [], ◌∷◌, ◌++◌, map, take, drop, length, get_or, Result, Ok, Err, refl, sym, ap, ap₂, subst, append_assoc}
 use Rattle.std.specs.Global.{Global}
-use Rattle.std.specs.Prelude.{Vec, OnErr}
+use Rattle.std.specs.Prelude.{Vec}
 use Rattle.std.specs.List.{All, AllZip, list_any}
 use Rattle.std.specs.declared.option.Option.{Option}
 use Rattle.std.specs.declared.option.Option.TheVariants.{Some, None}
@@ -79,10 +79,6 @@ failed_rose faults count r x is which cause =
     let h : HasShelfCause faults count (Err refusal.Failed) =
     subst (λ (q : Result (Vec ℕ Global) ShelfRefusal). HasShelfCause faults count q) (is ∙ ap Err which) cause in
     h.failed refl
-
-pub on_error : {T E : Type 0} {P : Type 0} (r : Result T E) → P → OnErr r P
-on_error (Ok x) p = tt
-on_error (Err e) p = p
 
 -- ---- lists of loads
 

@@ -10,6 +10,7 @@ use Rattle.ls_text.specs.declared.source_file.SourceFile.{SourceFile}
 use Rattle.ls_text.specs.Texts.{Grows, HasEachOnce, text_at}
 use Rattle.ls_text.proofs.Growth.{grown_id, grown_text, grows_on}
 use Rattle.command_read.specs.Spoken.{IsWithin}
+use Rattle.command_read.proofs.Grown.{still_some}
 use Rattle.module_registry.specs.Entries.{Entry}
 use Rattle.stimulus.specs.Records.{rows_of}
 use Rattle.version_swap.specs.Behind.{design_of}
@@ -131,16 +132,12 @@ module _ (old new : List (List ℕ)) (grows : Grows old new) where
   named_grown r h = record {
     files = All-weaker (λ (f : SourceFile). f.name.0 < length old) (λ (f : SourceFile). f.name.0 < length new)
         (λ (f : SourceFile) (lt : f.name.0 < length old). grown_id old new f.name.0 grows lt) r.texts.files h.files;
-    top = top_within r.texts.top h.top;
+    top = still_some old new grows r.texts.top h.top;
     clock = grown_id old new r.texts.clock.0 grows h.clock;
     row = row_stays r.row.value h.row;
     rows = All-weaker (AreWithin (length old)) (AreWithin (length new)) row_stays (rows_of r.record_) h.rows;
   }
     where
-      top_within : (top : Option NameId) → IsWithin (length old) top → IsWithin (length new) top
-      top_within None within = tt
-      top_within (Some id) within = grown_id old new id.0 grows within
-
       row_stays : (row : List (ℕ × ℕ)) → AreWithin (length old) row → AreWithin (length new) row
       row_stays row within =
           All-weaker (λ (p : ℕ × ℕ). p.0 < length old) (λ (p : ℕ × ℕ). p.0 < length new)

@@ -8,6 +8,7 @@ use Rattle.std.proofs.Math.Seq.{take-append_seam}
 use Rattle.std.proofs.lemmas.List.{length-map, map-append}
 use Rattle.std.proofs.lemmas.List.Elements.{All-head, All-nil, All-tail, All-cons}
 use Rattle.sha2.specs.Sha256.{sha256}
+use Rattle.std.proofs.Math.Bool.{and-false}
 use Rattle.ls_text.specs.declared.fault.Fault.{Fault}
 use Rattle.module_registry.specs.declared.build_job.BuildJob.{BuildJob}
 use Rattle.ls_text.specs.Answers.{◌>>=◌}
@@ -34,11 +35,7 @@ same_text x y p q = by (bytes_eq x.text y.text) refl
     by true is =
         ap (λ (d : Bool). d && true)
         ((bytes_decides x.digest y.digest).1 (p ∙ ap sha256 ((bytes_decides x.text y.text).0 is) ∙ sym q))
-    by false is = none (bytes_eq x.digest y.digest)
-      where
-        none : (d : Bool) → (d && false) ≡ false
-        none true = refl
-        none false = refl
+    by false is = and-false (bytes_eq x.digest y.digest)
 
 among_texts : (k : KeyData) (held : List KeyData) → IsDigested k → All IsDigested held
     → is_among k held ≡ list_any (bytes_eq k.text) (map text_of held)

@@ -11,7 +11,8 @@ use Rattle.book_history.specs.Tickets.{MayAddAll, MayAddKind, kept_all, kept_by}
 use Rattle.book_settle.specs.Passes.{IsUnfinished}
 use Rattle.book_turn.specs.Known.{entered, left}
 use Rattle.book_turn.specs.Rule.{Learned, MayLeave}
-use Rattle.book_turn.proofs.Histories.{added_append, all_owned, owned_append}
+use Rattle.book_history.proofs.Owned.{all_owned, owned_append}
+use Rattle.book_turn.proofs.Histories.{added_append}
 use Rattle.command_read.specs.Asking.{Asked, AsksStatus, Edits, Quits, Runs, Sets, Settles, Shows}
 use Rattle.live_session.specs.AtTurn.{Sight, StandsAt, log_of}
 use Rattle.live_session.specs.Beside.{StandsBeside, settings_in, world_in}

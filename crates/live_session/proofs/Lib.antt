@@ -21,6 +21,7 @@ pub mod OneTurn
 pub mod OneHistory
 pub mod DesignNames
 pub mod Standing
+pub mod StandingAtTurn
 pub mod Judged
 pub mod HeldTexts
 pub mod BlockTexts

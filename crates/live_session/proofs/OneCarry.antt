@@ -7,6 +7,7 @@ use Rattle.std.proofs.lemmas.List.Elements.{All-head, All-tail}
 use Rattle.command_read.specs.Asking.{LineOperation}
 use Rattle.ls_text.specs.declared.name_id.NameId.{NameId}
 use Rattle.ls_text.specs.Texts.{HasEachOnce}
+use Rattle.ls_text.proofs.Lists.{none_is_some, same_first, same_others}
 use Rattle.reg_ops.specs.Operations.{Operation, Renames, Creates, Deletes, HasNames, operation}
 use Rattle.reg_ops.specs.declared.reg_op.RegOp.{RegOp}
 use Rattle.reg_ops.specs.declared.reg_op.RegOp.TheVariants.{Rename, Create, Delete}
@@ -22,7 +23,7 @@ use Rattle.cycle_eval.specs.declared.design.Design.{Design}
 use Rattle.live_session.specs.Logs.{State, Ops, kit}
 use Rattle.live_session.specs.Scripts.{AreOperations}
 use Rattle.live_session.proofs.OneNames.{IsOneName, AreOneNames, IsOneMaybe, both_none, both_some, AreOneSignals, no_signals, more_signals}
-use Rattle.live_session.proofs.OneNames.{none_is_some, first_is, rest_is, one_own, one_instance, same_number, same_paths}
+use Rattle.live_session.proofs.OneNames.{one_own, one_instance, same_number, same_paths}
 use Rattle.live_session.proofs.OneRun.{IsOneDesign, below_first, below_rest, one_registers, registers_below, start_alike}
 
 -- ---- operations
@@ -92,14 +93,14 @@ module _ (names others : List (List ℕ)) where
       → All (HasNames (length others)) ys → AreOneOperations names others xs ys
   operations_from [] [] same here there = no_operations
   operations_from [] (y ∷ ys) same here there =
-      none_is_some (AreOneOperations names others [] (y ∷ ys)) (operation others y) (map (operation others) ys) same
+      none_is_some (operation others y) (map (operation others) ys) same
   operations_from (x ∷ xs) [] same here there =
-      none_is_some (AreOneOperations names others (x ∷ xs) []) (operation names x) (map (operation names) xs) (sym same)
+      none_is_some (operation names x) (map (operation names) xs) (sym same)
   operations_from (x ∷ xs) (y ∷ ys) same here there =
       more_operations
-      (one_operation x y (first_is (operation names x) (operation others y) (map (operation names) xs) (map (operation others) ys) same)
+      (one_operation x y (same_first (operation names x) (operation others y) (map (operation names) xs) (map (operation others) ys) same)
       (All-head (HasNames (length names)) x xs here) (All-head (HasNames (length others)) y ys there))
-      (operations_from xs ys (rest_is (operation names x) (operation others y) (map (operation names) xs) (map (operation others) ys) same)
+      (operations_from xs ys (same_others (operation names x) (operation others y) (map (operation names) xs) (map (operation others) ys) same)
       (All-tail (HasNames (length names)) x xs here) (All-tail (HasNames (length others)) y ys there))
 
   -- those of one block

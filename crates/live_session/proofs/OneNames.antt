@@ -1,16 +1,17 @@
 -- Numbers of names in two tables in which each text stands once: what compares the numbers of the one says the same of those of the other.
-use Rattle.std.proofs.Common.{◌≡◌, ◌∙◌, ℕ, ◌<◌, ◌&&◌, eqb, List, [], ◌∷◌, map, length, drop, All, refl, sym, ap, ap₂, arith}
+use Rattle.std.proofs.Common.{◌≡◌, ◌∙◌, ℕ, ◌<◌, ◌&&◌, eqb, List, [], ◌∷◌, map, length, All, refl, sym, ap, ap₂, arith}
 use Rattle.std.specs.Prelude.{Option, Some, None}
 use Rattle.std.specs.Str.{bytes_eq}
 use Rattle.std.proofs.lemmas.List.Elements.{All-head, All-tail}
 use Rattle.ls_text.specs.Texts.{HasEachOnce, text_at}
+use Rattle.ls_text.proofs.Tables.{one_text}
+use Rattle.ls_text.proofs.Lists.{none_is_some, same_first, same_others}
 use Rattle.typed_ir.specs.Cycles.{Signal}
 use Rattle.cycle_eval.specs.Inputs.{own_name}
 use Rattle.cycle_eval.specs.Kits.{instance_path}
-use Rattle.reg_transform.specs.Registers.{same_path}
+use Rattle.typed_ir.specs.Paths.{same_path}
 use Rattle.version_swap.specs.OnePlan.{nameless, module_text, path_texts}
 use Rattle.live_session.specs.Scripts.{IsNamedIn}
-use Rattle.live_session.proofs.TextRows.{same_text}
 
 -- two numbers of one text
 pub record IsOneName (names others : List (List ℕ)) (m n : ℕ) : Type 0 where
@@ -28,36 +29,21 @@ pub data IsOneMaybe (names others : List (List ℕ)) : Option ℕ → Option ℕ
   both_none : IsOneMaybe names others None None
   both_some : {m n : ℕ} → IsOneName names others m n → IsOneMaybe names others (Some m) (Some n)
 
-abbrev first_or : {A : Type 0} → A → List A → A
-first_or a [] = a
-first_or a (x ∷ xs) = x
-
-module _ {A : Type 0} where
-  -- lists that are mapped to one list, taken apart
-  pub none_is_some : (P : Type 0) (x : A) (xs : List A) → [] ≡ x ∷ xs → P
-  none_is_some P x xs e = let more : 0 ≡ length (x ∷ xs) = ap length e in absurd (omega (arith, more))
-
-  pub first_is : (x y : A) (xs ys : List A) → x ∷ xs ≡ y ∷ ys → x ≡ y
-  first_is x y xs ys e = ap (first_or x) e
-
-  pub rest_is : (x y : A) (xs ys : List A) → x ∷ xs ≡ y ∷ ys → xs ≡ ys
-  rest_is x y xs ys e = ap (drop 1) e
-
 module _ (names others : List (List ℕ)) where
   -- names of one list of texts
   pub one_names : (xs ys : List ℕ) → map (text_at names) xs ≡ map (text_at others) ys → All (λ (n : ℕ). n < length names) xs
       → All (λ (n : ℕ). n < length others) ys → AreOneNames names others xs ys
   one_names [] [] same here there = no_names
-  one_names [] (y ∷ ys) same here there = none_is_some (AreOneNames names others [] (y ∷ ys)) (text_at others y) (map (text_at others) ys) same
-  one_names (x ∷ xs) [] same here there = none_is_some (AreOneNames names others (x ∷ xs) []) (text_at names x) (map (text_at names) xs) (sym same)
+  one_names [] (y ∷ ys) same here there = none_is_some (text_at others y) (map (text_at others) ys) same
+  one_names (x ∷ xs) [] same here there = none_is_some (text_at names x) (map (text_at names) xs) (sym same)
   one_names (x ∷ xs) (y ∷ ys) same here there =
       more_names
       (record {
         here = All-head (λ (n : ℕ). n < length names) x xs here;
         there = All-head (λ (n : ℕ). n < length others) y ys there;
-        text = first_is (text_at names x) (text_at others y) (map (text_at names) xs) (map (text_at others) ys) same;
+        text = same_first (text_at names x) (text_at others y) (map (text_at names) xs) (map (text_at others) ys) same;
       })
-      (one_names xs ys (rest_is (text_at names x) (text_at others y) (map (text_at names) xs) (map (text_at others) ys) same)
+      (one_names xs ys (same_others (text_at names x) (text_at others y) (map (text_at names) xs) (map (text_at others) ys) same)
       (All-tail (λ (n : ℕ). n < length names) x xs here) (All-tail (λ (n : ℕ). n < length others) y ys there))
 
   -- ---- paths
@@ -79,7 +65,7 @@ module _ (names others : List (List ℕ)) where
   module _ (once : HasEachOnce names) (also : HasEachOnce others) where
     pub same_number : {m n i j : ℕ} → IsOneName names others m n → IsOneName names others i j → eqb m i ≡ eqb n j
     same_number {m} {n} {i} {j} h k =
-        sym (same_text names once m i h.here k.here) ∙ ap₂ bytes_eq h.text k.text ∙ same_text others also n j h.there k.there
+        sym (one_text names once m i h.here k.here) ∙ ap₂ bytes_eq h.text k.text ∙ one_text others also n j h.there k.there
 
     pub same_paths : {ms ns is js : List ℕ} → AreOneNames names others ms ns → AreOneNames names others is js → same_path ms is ≡ same_path ns js
     same_paths no_names no_names = refl
@@ -117,18 +103,18 @@ module _ (names others : List (List ℕ)) where
       → All (λ (x : Signal). 0 < length x.path) xs → AreOneSignals names others xs ys
   one_signals [] [] signals paths modules here there called = no_signals
   one_signals [] (y ∷ ys) signals paths modules here there called =
-      none_is_some (AreOneSignals names others [] (y ∷ ys)) (nameless y) (map nameless ys) signals
+      none_is_some (nameless y) (map nameless ys) signals
   one_signals (x ∷ xs) [] signals paths modules here there called =
-      none_is_some (AreOneSignals names others (x ∷ xs) []) (nameless x) (map nameless xs) (sym signals)
+      none_is_some (nameless x) (map nameless xs) (sym signals)
   one_signals (x ∷ xs) (y ∷ ys) signals paths modules here there called =
       more_signals
-      (one_signal x y (first_is (nameless x) (nameless y) (map nameless xs) (map nameless ys) signals)
-      (first_is (path_texts names x) (path_texts others y) (map (path_texts names) xs) (map (path_texts others) ys) paths)
-      (first_is (module_text names x) (module_text others y) (map (module_text names) xs) (map (module_text others) ys) modules)
+      (one_signal x y (same_first (nameless x) (nameless y) (map nameless xs) (map nameless ys) signals)
+      (same_first (path_texts names x) (path_texts others y) (map (path_texts names) xs) (map (path_texts others) ys) paths)
+      (same_first (module_text names x) (module_text others y) (map (module_text names) xs) (map (module_text others) ys) modules)
       (All-head (IsNamedIn (length names)) x xs here) (All-head (IsNamedIn (length others)) y ys there)
       (All-head (λ (z : Signal). 0 < length z.path) x xs called))
-      (one_signals xs ys (rest_is (nameless x) (nameless y) (map nameless xs) (map nameless ys) signals)
-      (rest_is (path_texts names x) (path_texts others y) (map (path_texts names) xs) (map (path_texts others) ys) paths)
-      (rest_is (module_text names x) (module_text others y) (map (module_text names) xs) (map (module_text others) ys) modules)
+      (one_signals xs ys (same_others (nameless x) (nameless y) (map nameless xs) (map nameless ys) signals)
+      (same_others (path_texts names x) (path_texts others y) (map (path_texts names) xs) (map (path_texts others) ys) paths)
+      (same_others (module_text names x) (module_text others y) (map (module_text names) xs) (map (module_text others) ys) modules)
       (All-tail (IsNamedIn (length names)) x xs here) (All-tail (IsNamedIn (length others)) y ys there)
       (All-tail (λ (z : Signal). 0 < length z.path) x xs called))

@@ -7,6 +7,7 @@ use Rattle.std.proofs.lemmas.Bool.{and_parts}
 use Rattle.std.proofs.lemmas.List.{length-append, length-map}
 use Rattle.std.proofs.lemmas.List.Elements.{All-nil, All-cons, All-head, All-tail}
 use Rattle.ls_text.specs.Texts.{HasEachOnce}
+use Rattle.ls_text.proofs.Lists.{none_is_some, same_first, same_others}
 use Rattle.machine.specs.Rows.{slice}
 use Rattle.reg_transform.specs.States.{paired, state_values}
 use Rattle.stimulus.specs.Rows.{value_in}
@@ -28,8 +29,8 @@ use Rattle.live_session.specs.Scripts.{IsDesign}
 use Rattle.live_session.specs.Spelled.{Spelled, nameless_flat, spelled}
 use Rattle.live_session.proofs.AscendingRows.{AreWithin}
 use Rattle.live_session.proofs.TextRows.{row_look}
-use Rattle.live_session.proofs.OneNames.{IsOneName, AreOneNames, no_names, more_names, AreOneSignals, no_signals, more_signals, none_is_some}
-use Rattle.live_session.proofs.OneNames.{first_is, rest_is, one_own, one_signals}
+use Rattle.live_session.proofs.OneNames.{IsOneName, AreOneNames, no_names, more_names, AreOneSignals, no_signals, more_signals}
+use Rattle.live_session.proofs.OneNames.{one_own, one_signals}
 
 -- ---- designs
 
@@ -109,16 +110,16 @@ module _ (names others : List (List ℕ)) where
   pub one_rows : (xs ys : List InputRow) → map (row_of names) xs ≡ map (row_of others) ys → All (AreWithin (length names)) xs
       → All (AreWithin (length others)) ys → AreOneRows names others xs ys
   one_rows [] [] same here there = no_rows
-  one_rows [] (y ∷ ys) same here there = none_is_some (AreOneRows names others [] (y ∷ ys)) (row_of others y) (map (row_of others) ys) same
-  one_rows (x ∷ xs) [] same here there = none_is_some (AreOneRows names others (x ∷ xs) []) (row_of names x) (map (row_of names) xs) (sym same)
+  one_rows [] (y ∷ ys) same here there = none_is_some (row_of others y) (map (row_of others) ys) same
+  one_rows (x ∷ xs) [] same here there = none_is_some (row_of names x) (map (row_of names) xs) (sym same)
   one_rows (x ∷ xs) (y ∷ ys) same here there =
       more_rows
       (record {
         here = All-head (AreWithin (length names)) x xs here;
         there = All-head (AreWithin (length others)) y ys there;
-        text = first_is (row_of names x) (row_of others y) (map (row_of names) xs) (map (row_of others) ys) same;
+        text = same_first (row_of names x) (row_of others y) (map (row_of names) xs) (map (row_of others) ys) same;
       })
-      (one_rows xs ys (rest_is (row_of names x) (row_of others y) (map (row_of names) xs) (map (row_of others) ys) same)
+      (one_rows xs ys (same_others (row_of names x) (row_of others y) (map (row_of names) xs) (map (row_of others) ys) same)
       (All-tail (AreWithin (length names)) x xs here) (All-tail (AreWithin (length others)) y ys there))
 
   pub rows_many : {xs ys : List InputRow} → AreOneRows names others xs ys → length xs ≡ length ys

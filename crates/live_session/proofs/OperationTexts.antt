@@ -8,6 +8,7 @@ use Rattle.std.proofs.lemmas.Bool.{and_parts, ltb-true}
 use Rattle.std.proofs.lemmas.List.{length-map}
 use Rattle.std.proofs.lemmas.List.Elements.{All-nil, All-cons, All-head, All-tail}
 use Rattle.ls_text.specs.Texts.{HasEachOnce, text_at}
+use Rattle.ls_text.proofs.Tables.{one_text}
 use Rattle.command_read.specs.Spoken.{AreOpsWithin, line_operation}
 use Rattle.command_read.specs.declared.op_line.OpLine.{OpLine}
 use Rattle.cycle_eval.specs.Designs.{design_flat}
@@ -33,7 +34,6 @@ use Rattle.live_session.specs.Operations.{misses, new_of, old_of, operation_faul
 use Rattle.live_session.specs.Scripts.{IsCurrent, IsNamedIn}
 use Rattle.live_session.specs.Spelled.{Spelled, spelled}
 use Rattle.live_session.specs.Worlds.{Refused, refused_at, refused_text}
-use Rattle.live_session.proofs.TextRows.{same_text}
 use Rattle.live_session.proofs.TextTables.{last_named, last_within}
 
 -- ---- by the texts of a table
@@ -110,7 +110,7 @@ module _ (names : List (List ℕ)) (once : HasEachOnce names) where
   one_name : (x y : NumberedName) → IsNameIn (length names) x → IsNameIn (length names) y
       → is_same (text_name names x) (text_name names y) ≡ is_one x y
   one_name x y within also =
-      ap₂ (λ (a b : Bool). a && b) (same_text names once x.in_module y.in_module within.0 also.0) (same_text names once x.name y.name within.1 also.1)
+      ap₂ (λ (a b : Bool). a && b) (one_text names once x.in_module y.in_module within.0 also.0) (one_text names once x.name y.name within.1 also.1)
 
   one_maybe : (x y : Option NumberedName) → IfSome x (IsNameIn (length names)) → IfSome y (IsNameIn (length names))
       → are_one (option_map (text_name names) x) (option_map (text_name names) y) ≡ numbered.are_one x y

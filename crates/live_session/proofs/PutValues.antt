@@ -7,6 +7,7 @@ use Rattle.std.specs.Str.{bytes_eq}
 use Rattle.std.specs.Cmp.Lexicographic.{bytes_decides}
 use Rattle.std.proofs.lemmas.Bool.{and_parts, and_from, false_from_ne_true}
 use Rattle.std.proofs.lemmas.Option.{none-some}
+use Rattle.ls_text.proofs.Tables.{same_bytes}
 use Rattle.live_session.specs.Rows.{Row, is_before, value_of, with_value, are_same}
 use Rattle.live_session.proofs.TextOrder.{AreInOrder, before_on, before_or, differs_too, in_order}
 
@@ -42,20 +43,17 @@ put_behind s ss t v differ behind =
     ap (λ b. cond b ((t, v) ∷ ss) (cond (is_before t s.0) ((t, v) ∷ s ∷ ss) (s ∷ with_value ss t v))) differ
     ∙ ap (λ b. cond b ((t, v) ∷ s ∷ ss) (s ∷ with_value ss t v)) behind
 
-is_itself : (t : List ℕ) → bytes_eq t t ≡ true
-is_itself t = (bytes_decides t t).1 refl
-
 -- the later value of a name replaces the earlier one
 pub overwrites : (row : Row) (t : List ℕ) (v w : ℕ) → with_value (with_value row t v) t w ≡ with_value row t w
-overwrites [] t v w = put_here (t, v) [] t w (is_itself t)
+overwrites [] t v w = put_here (t, v) [] t w (same_bytes t)
 overwrites (s ∷ ss) t v w = by (stands s.0 t) (overwrites ss t v w)
   where
     by : Stands s.0 t → with_value (with_value ss t v) t w ≡ with_value ss t w
         → with_value (with_value (s ∷ ss) t v) t w ≡ with_value (s ∷ ss) t w
     by (is_it same) rest =
-        ap (λ (r : Row). with_value r t w) (put_here s ss t v same) ∙ put_here (t, v) ss t w (is_itself t) ∙ sym (put_here s ss t w same)
+        ap (λ (r : Row). with_value r t w) (put_here s ss t v same) ∙ put_here (t, v) ss t w (same_bytes t) ∙ sym (put_here s ss t w same)
     by (before_it differ h) rest =
-        ap (λ (r : Row). with_value r t w) (put_before s ss t v differ h) ∙ put_here (t, v) (s ∷ ss) t w (is_itself t)
+        ap (λ (r : Row). with_value r t w) (put_before s ss t v differ h) ∙ put_here (t, v) (s ∷ ss) t w (same_bytes t)
         ∙ sym (put_before s ss t w differ h)
     by (behind_it differ h) rest =
         ap (λ (r : Row). with_value r t w) (put_behind s ss t v differ h) ∙ put_behind s (with_value ss t v) t w differ h
@@ -194,7 +192,7 @@ decides_texts x y = (one x y, other x y)
     itself [] = refl
     itself (x ∷ xs) =
         and_from (bytes_eq x.0 x.0 && eqb x.1 x.1) (are_same xs xs)
-        (and_from (bytes_eq x.0 x.0) (eqb x.1 x.1) (is_itself x.0) (eq-eqb x.1 x.1 refl)) (itself xs)
+        (and_from (bytes_eq x.0 x.0) (eqb x.1 x.1) (same_bytes x.0) (eq-eqb x.1 x.1 refl)) (itself xs)
 
     other : (x y : Row) → x ≡ y → are_same x y ≡ true
     other x y is = ap (are_same x) (sym is) ∙ itself x

@@ -10,6 +10,7 @@ use Rattle.ls_port.specs.Causes.{Rose}
 use Rattle.ls_port.specs.declared.shelf_answer.ShelfAnswer.{ShelfAnswer}
 use Rattle.ls_text.specs.Readings.{TextFault}
 use Rattle.ls_text.specs.Texts.{Grows, HasEachOnce}
+use Rattle.ls_text.proofs.Options.{no_value}
 use Rattle.command_read.specs.Asking.{Asked, Block, Edits, GivenFile, LoadedFile, Quits}
 use Rattle.command_read.specs.Formed.{IsFormed}
 use Rattle.command_read.specs.Spoken.{edited, given_file, spoken}
@@ -275,13 +276,9 @@ module _ {E : Type 0} (st : Settings) (block : Block) (given : Result (List Text
       (subst (λ (w : World). OnErr result (LosesBlock st block given x w was is)) (sym also) h)
 
 -- no design runs
-pub no_running : (running : Option Running) → is_some running ≡ false → running ≡ None
-no_running None is = refl
-no_running (Some r) is = absurd (true≢false is)
-
 pub fresh_world : (names : List (List ℕ)) (entries : List Entry) (grid : List ℕ) (running : Option Running) → is_some running ≡ false
     → running_world names entries grid running ≡ fresh
-fresh_world names entries grid running is = ap (running_world names entries grid) (no_running running is)
+fresh_world names entries grid running is = ap (running_world names entries grid) (no_value running is)
 
 -- a fault of its loads
 pub refused_loads : {E : Type 0} (block : Block) (s : Session) (j : Log) (refused : Refused) (result : Result Reply E) → IfOk result (Refuses refused)

@@ -4,12 +4,12 @@ use Rattle.std.proofs.lemmas.List.{map-append, take-map, drop-map}
 use Rattle.std.proofs.lemmas.List.Elements.{All-nil, All-cons, All-head, All-tail, All-append, All-take, All-drop}
 use Rattle.ls_text.specs.Texts.{HasEachOnce}
 use Rattle.ls_text.specs.declared.source_file.SourceFile.{SourceFile}
+use Rattle.ls_text.proofs.Tables.{one_text}
 use Rattle.command_read.specs.declared.file_line.FileLine.{FileLine}
 use Rattle.command_read.specs.declared.load_line.LoadLine.{LoadLine}
 use Rattle.command_read.specs.Spoken.{given_file, loaded_file, AreFilesWithin}
 use Rattle.version_swap.specs.Files as numbered
 use Rattle.live_session.specs.Files.{TextFile, text_file, loads_before, in_line_order, with_file, with_files, files_behind}
-use Rattle.live_session.proofs.TextRows.{same_text}
 
 -- the names of files are among so many
 abbrev pub AreSourcesWithin : ℕ → List SourceFile → Type 0
@@ -93,7 +93,7 @@ module _ (names : List (List ℕ)) (once : HasEachOnce names) where
       by (eqb file.name.0 x.name.0) (same_put xs file (All-tail (λ (f : SourceFile). f.name.0 < length names) x xs within) lt)
       ∙ ap (λ b. cond b (text_file names file ∷ map (text_file names) xs)
       (text_file names x ∷ with_file (map (text_file names) xs) (text_file names file)))
-      (sym (same_text names once file.name.0 x.name.0 lt (All-head (λ (f : SourceFile). f.name.0 < length names) x xs within)))
+      (sym (one_text names once file.name.0 x.name.0 lt (All-head (λ (f : SourceFile). f.name.0 < length names) x xs within)))
     where
       by : (b : Bool) → map (text_file names) (numbered.with_file xs file) ≡ with_file (map (text_file names) xs) (text_file names file)
           → map (text_file names) (cond b (file ∷ xs) (x ∷ numbered.with_file xs file))

@@ -1,15 +1,15 @@
 -- Rows by the numbers of names are rows by their texts: what is put, looked up, compared and counted is the same.
-use Rattle.std.proofs.Common.{◌≡◌, ◌∙◌, ℕ, suc, ◌+◌, ◌<◌, Bool, true, false, eqb, ltb, cond, List, [], ◌∷◌, map, length, All, refl, sym, ap, ap₂, eqb-true, eq-eqb}
+use Rattle.std.proofs.Common.{◌≡◌, ◌∙◌, ℕ, suc, ◌+◌, ◌<◌, Bool, true, false, eqb, ltb, cond, List, [], ◌∷◌, map, length, All, refl, sym, ap, ap₂, eqb-true}
 use Rattle.std.specs.Prelude.{Option, Some, None}
 use Rattle.std.specs.Option.{unwrap_or}
-use Rattle.std.specs.Str.{bytes_eq}
-use Rattle.std.specs.Cmp.Lexicographic.{bytes_decides}
 use Rattle.std.proofs.lemmas.Bool.Decides.{same_from_decides, Decides-like}
 use Rattle.std.proofs.lemmas.List.Elements.{All-head, All-tail}
 use Rattle.ls_text.specs.Texts.{HasEachOnce, text_at}
+use Rattle.ls_text.proofs.Tables.{one_text}
 use Rattle.stimulus.specs.Rows.{AreAscending, names_set, names_set_behind, value_in, are_same as same_numbers, with_value as put_number}
+use Rattle.stimulus.specs.SameRows.{same_is}
 use Rattle.live_session.specs.Rows.{Row, value_of, with_value, are_same, row_of}
-use Rattle.live_session.proofs.AscendingRows.{AreWithin, ascends_above, ascends_on, decides_numbers, found_in, found_number, none_above, one_row}
+use Rattle.live_session.proofs.AscendingRows.{AreWithin, ascends_above, ascends_on, found_in, found_number, none_above, one_row}
 use Rattle.live_session.proofs.PutValues.{commutes, count_put, decides_texts, found_of, found_put, found_value, overwrites}
 
 -- the names of these rows are among so many, and ascend
@@ -27,16 +27,6 @@ rows_first : (count : ℕ) (x : List (ℕ × ℕ)) (xs : List (List (ℕ × ℕ)
 rows_first count x xs h = (All-head (AreWithin count) x xs h.within, All-head AreAscending x xs h.ascend)
 
 module _ (names : List (List ℕ)) (once : HasEachOnce names) where
-  -- two texts of the table are one where their numbers are
-  pub same_text : (i j : ℕ) → i < length names → j < length names → bytes_eq (text_at names i) (text_at names j) ≡ eqb i j
-  same_text i j within other = by (bytes_eq (text_at names i) (text_at names j)) refl (eqb i j) refl
-    where
-      by : (b : Bool) → bytes_eq (text_at names i) (text_at names j) ≡ b → (d : Bool) → eqb i j ≡ d → b ≡ d
-      by true h true e = refl
-      by true h false e = sym (eq-eqb i j (once i j within other ((bytes_decides (text_at names i) (text_at names j)).0 h))) ∙ e
-      by false h true e = sym h ∙ (bytes_decides (text_at names i) (text_at names j)).1 (ap (text_at names) (eqb-true i j e))
-      by false h false e = refl
-
   pub row_put : (row : List (ℕ × ℕ)) (id value : ℕ) → All (λ (p : ℕ × ℕ). p.0 < length names) row → id < length names
       → row_of names (put_number row id value) ≡ with_value (row_of names row) (text_at names id) value
   row_put [] id value within lt = refl
@@ -56,14 +46,14 @@ module _ (names : List (List ℕ)) (once : HasEachOnce names) where
       by false is true rest = refl
       by false is false rest =
           ap (λ (r : Row). with_value r (text_at names x.0) x.1) rest
-          ∙ sym (commutes (row_of names xs) (text_at names x.0) (text_at names id) x.1 value (same_text x.0 id here lt ∙ is))
+          ∙ sym (commutes (row_of names xs) (text_at names x.0) (text_at names id) x.1 value (one_text names once x.0 id here lt ∙ is))
 
   found_row : (row : List (ℕ × ℕ)) (id : ℕ) → AreWithin (length names) row → id < length names
       → found_of (row_of names row) (text_at names id) ≡ found_in row id
   found_row [] id within lt = refl
   found_row (x ∷ xs) id within lt =
       found_put (row_of names xs) (text_at names x.0) (text_at names id) x.1
-      ∙ ap₂ (λ b rest. cond b (Some x.1) rest) (same_text x.0 id (All-head (λ (p : ℕ × ℕ). p.0 < length names) x xs within) lt)
+      ∙ ap₂ (λ b rest. cond b (Some x.1) rest) (one_text names once x.0 id (All-head (λ (p : ℕ × ℕ). p.0 < length names) x xs within) lt)
       (found_row xs id (All-tail (λ (p : ℕ × ℕ). p.0 < length names) x xs within) lt)
 
   pub row_look : (row : List (ℕ × ℕ)) (id : ℕ) → All (λ (p : ℕ × ℕ). p.0 < length names) row → id < length names
@@ -95,7 +85,7 @@ module _ (names : List (List ℕ)) (once : HasEachOnce names) where
   same_rows x y within also ascends too =
       same_from_decides (are_same (row_of names x) (row_of names y)) (same_numbers x y)
       (decides_texts (row_of names x) (row_of names y))
-      (Decides-like (same_numbers x y) (ap (row_of names)) (row_back x y within also ascends too) (decides_numbers x y))
+      (Decides-like (same_numbers x y) (ap (row_of names)) (row_back x y within also ascends too) (same_is x y))
 
   -- ---- records
 

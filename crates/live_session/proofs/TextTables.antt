@@ -8,6 +8,7 @@ use Rattle.std.proofs.lemmas.List.Elements.{All-nil, All-cons, All-head, All-tai
 use Rattle.ls_text.specs.declared.name_id.NameId.{NameId}
 use Rattle.ls_text.specs.declared.source_file.SourceFile.{SourceFile}
 use Rattle.ls_text.specs.Texts.{HasEachOnce, text_at}
+use Rattle.ls_text.proofs.Tables.{one_text}
 use Rattle.stimulus.specs.Rows.{value_in}
 use Rattle.typed_ir.specs.Cycles.{Signal, Flat, width_at, cut_to, input, reset, seg, step, truth, wires}
 use Rattle.typed_ir.specs.Orders.{at_or}
@@ -16,13 +17,14 @@ use Rattle.version_swap.specs.OnePlan.{nameless, last_text, own_text, path_texts
 use Rattle.version_swap.specs.Plans.{DesignOfTexts, Plans}
 use Rattle.version_swap.proofs.FlatAlike.{IsSignalIn}
 use Rattle.version_swap.proofs.PlanNames.{HasNames, IsCalled, plan_names}
-use Rattle.wave_report.specs.Tables.{joined, shown_line, signal_line, signal_lines, table_text}
+use Rattle.typed_ir.specs.Paths.{joined}
+use Rattle.wave_report.specs.Tables.{shown_line, signal_line, signal_lines, table_text}
 use Rattle.live_session.specs.Tables.{table_lines, true_registers}
 use Rattle.live_session.specs.Rows.{given_at, row_of, value_of}
 use Rattle.live_session.specs.Spelled.{dotted, nameless_flat, spelled, input_texts}
 use Rattle.live_session.specs.Verdicts.{width_in, input_width}
 use Rattle.live_session.proofs.AscendingRows.{AreWithin}
-use Rattle.live_session.proofs.TextRows.{same_text, row_look}
+use Rattle.live_session.proofs.TextRows.{row_look}
 
 -- ---- runs
 
@@ -186,7 +188,7 @@ module _ (names : List (List ℕ)) (d : DesignOfTexts) (named : HasNames names d
     widths_named (s ∷ ss) id all lt =
         ap₂ (λ (b : Bool) (ws : List ℕ). cond b (Some (slice_index ws s))
         (width_in (map (text_at names) (map (name_at d.design) ss)) (map (width_at (spelled names d).flat) ss) (text_at names id)))
-        (same_text names once (name_at d.design s) id (name_within s (All-head IsThere s ss all)) lt) (same_widths d.design.signals)
+        (one_text names once (name_at d.design s) id (name_within s (All-head IsThere s ss all)) lt) (same_widths d.design.signals)
         ∙ ap (cond (eqb (name_at d.design s) id) (Some (width_at d.design s))) (widths_named ss id (All-tail IsThere s ss all) lt)
 
     width_named : (id : ℕ) → id < length names → input_width (spelled names d) (text_at names id) ≡ input_width_of d.design id

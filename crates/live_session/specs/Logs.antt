@@ -7,7 +7,7 @@ use Rattle.book_history.specs.Moments.{Moment, moments_from}
 use Rattle.book_history.specs.Outline.{Outline, outline_in}
 use Rattle.cycle_eval.specs.Designs.{design_flat}
 use Rattle.cycle_eval.specs.Kits.{IsValid, carried_of, reset_of, run_of}
-use Rattle.reg_transform.specs.States.{are_alike}
+use Rattle.stimulus.specs.Rows.{are_same as are_alike}
 use Rattle.cycle_eval.specs.declared.design.Design.{Design}
 use Rattle.reg_ops.specs.declared.reg_op.RegOp.{RegOp}
 

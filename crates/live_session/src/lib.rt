@@ -2,11 +2,12 @@
 //
 // A session stands beside the checkpoint book of its versions: what runs, its marks and its history are the book's, and each command is a call of it.
 //
-// `session` has the calls and the table of names, the units and what makes them. `loading` reads the files that a block loads from a shelf,
-// `planning` makes the first version of a block, which opens the book, or the next one, with which it is reloaded, and `running` is the design that
-// runs, with its stimulus: `setting` changes the row, `advancing` runs cycles, `showing` is a display, `settling` verifies segments, and `telling` says
-// what the session is at. `refusing` writes refusals. `laws` says that commands have one output, whatever is told
-// of their texts and whatever legal history without workers has their entries, and that displays tell the truth.
+// `session` has the calls and the table of names, the units and what makes them. `loading` reads the files that a block loads from a shelf (`loads`),
+// `planning` makes the first version of a block, which opens the book (`begun`), or the next one, with which it is reloaded, and `running` is the
+// design that runs, with its stimulus: `setting` changes the row, `advancing` runs cycles, `showing` is a display, `settling` verifies segments
+// (`settle_answer`), and `telling` says what the session is at. `refusing` writes refusals. What a command comes to is a `reply`, and what a session
+// may use stands in `limits`. `laws` says that commands have one output, whatever is told of their texts and whatever legal history without workers
+// has their entries, and that displays tell the truth.
 #![tactic(auto)]
 
 mod advancing;

@@ -1,8 +1,8 @@
 -- Entries that are all the session's own.
-use Rattle.std.proofs.Common.{◌≡◌, ℕ, Bool, true, List, [], ◌∷◌, ◌++◌, cond, refl, sym, ap, ◌∙◌, subst}
+use Rattle.std.proofs.Common.{ℕ, true, List, [], ◌∷◌, ◌++◌, refl, sym, subst}
 use Rattle.book_history.specs.declared.who.Who.TheVariants.{Session}
 use Rattle.book_history.specs.Book.{Event, Claims, Installs}
-use Rattle.book_history.specs.Owned.{AllOwned, owned}
+use Rattle.book_history.specs.Owned.{AllOwned}
 use Rattle.book_settle.specs.Passes.{ArePasses, no_pass, one_more, IsGivenUp, no_ticket, one_ticket, IsUnfinished}
 
 module _ {D R O : Type 0} where
@@ -13,12 +13,6 @@ module _ {D R O : Type 0} where
   pub alone_front : (xs ys : List (Event D R O)) → AllOwned true (xs ++ ys) → AllOwned true xs
   alone_front [] ys all = tt
   alone_front (x ∷ xs) ys all = (all.0, alone_front xs ys all.1)
-
-  -- then none is left out of the session's
-  pub owned_alone : (es : List (Event D R O)) → AllOwned true es → owned es ≡ es
-  owned_alone [] all = refl
-  owned_alone (e ∷ es) all =
-      ap (λ (b : Bool). cond b (e ∷ owned es) (owned es)) all.0 ∙ ap (λ (rest : List (Event D R O)). e ∷ rest) (owned_alone es all.1)
 
   -- the entries of a settle for which memory ran out
 

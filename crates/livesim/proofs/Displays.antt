@@ -1,7 +1,8 @@
 -- A display whose entry says that all is settled tells its truth.
-use Rattle.std.proofs.Common.{◌≡◌, ℕ, ◌+◌, ◌<◌, ltb, Bool, false, cond, List, [], ◌∷◌, ◌++◌, length, Option, Some, None, Result, Ok, Err, refl, sym, ap, ◌∙◌, append_assoc, arith}
+use Rattle.std.proofs.Common.{◌≡◌, ℕ, ◌+◌, ◌<◌, ltb, Bool, false, cond, List, [], ◌∷◌, ◌++◌, Option, Some, None, Result, Ok, Err, refl, sym, ap, ◌∙◌, append_assoc, arith}
 use Rattle.std.proofs.lemmas.Bool.Decides.{nat_tests}
 use Rattle.ls_text.specs.Readings.{TextFault}
+use Rattle.ls_text.proofs.Lists.{none_is_some}
 use Rattle.command_read.specs.Asking.{Asked, Edits, Sets, Runs, Shows, Settles, AsksStatus, Quits}
 use Rattle.live_session.specs.Judging.{after, verdict_on, world_after}
 use Rattle.live_session.specs.Logs.{LogMoment}
@@ -37,9 +38,6 @@ left_none st (x ∷ xs) w =
     ap (λ (ms : List LogMoment). entries_left st xs (after st x w) ms) (answer_none st x.asked w (verdict_on st x w))
     ∙ left_none st xs (after st x w)
 
-some_left : (m : LogMoment) (ms : List LogMoment) → [] ≡ m ∷ ms → ⊥
-some_left m ms is = omega (arith, ap length is)
-
 -- the lines of all are those of the first commands and then those of the others, with the entries that are left
 lines_split : (st : Settings) (xs ys : List Told) (w : World) (ms : List LogMoment) (m : LogMoment) (rest : List LogMoment) → entries_left st xs w ms ≡ m ∷ rest
     → lines st (xs ++ ys) w ms ≡ lines st xs w ms ++ lines st ys (world_after st xs w) (m ∷ rest)
@@ -51,7 +49,7 @@ lines_split st (x ∷ xs) ys w ms m rest is = by (reply st x w ms) is (lines_spl
         → lines st (xs ++ ys) (after st x w) ns ≡ lines st xs (after st x w) ns ++ lines st ys (world_after st xs (after st x w)) (n ∷ more))
         → text_then r (λ (ns : List LogMoment). lines st (xs ++ ys) (after st x w) ns)
         ≡ text_then r (λ (ns : List LogMoment). lines st xs (after st x w) ns) ++ lines st ys (world_after st xs (after st x w)) (m ∷ rest)
-    by None left more = absurd (some_left m rest (sym (left_none st xs (after st x w)) ∙ left))
+    by None left more = none_is_some m rest (sym (left_none st xs (after st x w)) ∙ left)
     by (Some r) left more =
         ap (λ (text : List ℕ). r.0 ++ text) (more r.1 m rest left)
         ∙ sym (append_assoc r.0 (lines st xs (after st x w) r.1) (lines st ys (world_after st xs (after st x w)) (m ∷ rest)))

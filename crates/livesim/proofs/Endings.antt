@@ -28,7 +28,7 @@ use Rattle.livesim.specs.declared.ending.Ending.{Ending}
 use Rattle.livesim.specs.Writing.{Writes}
 use Rattle.livesim.proofs.Displays.{shown_truth}
 use Rattle.livesim.proofs.Histories.{IsHistory}
-use Rattle.livesim.proofs.OneTurn.{may_end}
+use Rattle.command_read.proofs.HandedOut.{may_end}
 use Rattle.livesim.proofs.Quits.{counted, commands_are, commands_then, few_front}
 use Rattle.livesim.proofs.Steps.{lines_front}
 use Rattle.livesim.proofs.Turns.{Done, adds_more}

@@ -6,7 +6,7 @@ use Rattle.book_history.specs.Moments.{moments_from}
 use Rattle.book_history.specs.Owned.{owned}
 use Rattle.book_history.proofs.Places.{moments-append}
 use Rattle.book_settle.specs.Passes.{IsUnfinished}
-use Rattle.book_settle.proofs.Counting.{owned-append}
+use Rattle.book_history.proofs.Owned.{owned_append}
 use Rattle.command_read.specs.Asking.{Asked}
 use Rattle.ls_text.specs.Readings.{TextFault}
 use Rattle.live_session.specs.Done.{IsDone}
@@ -63,7 +63,7 @@ module _ (now h : Log) (e : EndsFrom now h) where
 
   pub owned_ended : owned h.events ≡ owned now.events ++ Closes ∷ []
   owned_ended =
-      ap owned e.events ∙ owned-append now.events e.rest ∙ ap (λ (es : List LogEvent). owned now.events ++ es) e.closes
+      ap owned e.events ∙ owned_append now.events e.rest ∙ ap (λ (es : List LogEvent). owned now.events ++ es) e.closes
 
 -- one more
 module _ (alone : Bool) (st : Settings) (j k : Log) (told : List Told) (t : Told) (text more : List ℕ) (new : World) (refused : Bool) (d : IsRecorded st j told text)
@@ -89,7 +89,7 @@ module _ (alone : Bool) (st : Settings) (j k : Log) (told : List Told) (t : Told
   more_recorded = record {
     has = settings_kept st j k p.settings d.has;
     script = subst (λ (es : List LogEvent). IsScript st (told ++ t ∷ []) fresh es (moments_of k))
-        (sym (ap (λ (es : List LogEvent). owned es) p.events ∙ owned-append j.events p.added))
+        (sym (ap (λ (es : List LogEvent). owned es) p.events ∙ owned_append j.events p.added))
         (subst (λ (ms : List LogMoment). IsScript st (told ++ t ∷ []) fresh (owned j.events ++ owned p.added) ms) (sym moments_more)
         (script-append st told (owned j.events) (owned p.added) (moments_of j) (moments_after j p.added) t fresh d.script p.part));
     tells = lines_more;
@@ -102,7 +102,7 @@ stayed_recorded st j k told text added same events none d =
     let moments : moments_of k ≡ moments_of j = moments_behind j k added same events
     ∙ ap (λ (ms : List LogMoment). moments_of j ++ ms) (unspoken_among j.settings (book_in j) added (subst AreQuiet (sym none) tt))
     ∙ append-nil (moments_of j) in
-    let its_own : owned k.events ≡ owned j.events = ap owned events ∙ owned-append j.events added
+    let its_own : owned k.events ≡ owned j.events = ap owned events ∙ owned_append j.events added
     ∙ ap (λ (es : List LogEvent). owned j.events ++ es) none ∙ append-nil (owned j.events) in
     record {
       has = settings_kept st j k same d.has;
@@ -150,7 +150,7 @@ unfinished_history st j k h e told rest text status added five d same events unf
     unspoken_among j.settings (book_in j) added (unfinished_quiet (owned added) unfinished) in
     let moments : moments_of h ≡ moments_of j = moments_ended k h e ∙ moments_behind j k added same events
     ∙ ap (λ (ms : List LogMoment). moments_of j ++ ms) none ∙ append-nil (moments_of j) in
-    let its_own : owned k.events ≡ owned j.events ++ owned added = ap owned events ∙ owned-append j.events added in
+    let its_own : owned k.events ≡ owned j.events ++ owned added = ap owned events ∙ owned_append j.events added in
     record {
       has = inl (settings_kept st j h (e.settings ∙ same) d.has);
       legal = legal;

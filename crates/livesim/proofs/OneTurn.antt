@@ -1,17 +1,14 @@
 -- What a turn does, by what is read.
-use Rattle.std.proofs.Common.{◌≡◌, ◌⊎◌, inl, inr, ℕ, ◌<◌, Bool, true, false, List, [], ◌∷◌, ◌++◌, Option, Some, None, Result, Ok, Err, refl, sym, ap, subst, append-nil, arith}
+use Rattle.std.proofs.Common.{◌≡◌, ◌⊎◌, inl, inr, ℕ, ◌<◌, Bool, true, false, List, [], ◌∷◌, Option, Some, None, Result, Ok, Err, refl, sym, ap, subst, append-nil, arith}
 use Rattle.std.specs.Prelude.{IfOk, OnErr}
 use Rattle.ls_text.specs.Readings.{TextFault}
 use Rattle.ls_port.specs.Causes.{Rose}
 use Rattle.ls_port.specs.declared.shelf_answer.ShelfAnswer.{ShelfAnswer}
 use Rattle.command_read.specs.Asking.{Asked}
-use Rattle.command_read.specs.Formed.{IsFormed}
-use Rattle.command_read.specs.Leading.{MayFollow}
-use Rattle.command_read.specs.Readers.{left, next_number, has_ended, stopped, still_of, asked_of, HandsOut}
+use Rattle.command_read.specs.Readers.{stopped, still_of}
 use Rattle.command_read.specs.Scripts.{is_quit}
 use Rattle.command_read.specs.declared.reader.Reader.{Reader}
 use Rattle.command_read.specs.declared.stop.Stop.TheVariants as stop
-use Rattle.command_read.proofs.Forms.{asks_formed_first}
 use Rattle.live_session.specs.Beside.{StandsBeside}
 use Rattle.live_session.specs.Loads.{AddsAnswers, LosesAnswers}
 use Rattle.live_session.specs.Logs.{Log}
@@ -25,16 +22,6 @@ use Rattle.livesim.specs.Turns.{Sources, Shelves, Reads, RunsOut, in_nothing, in
 use Rattle.livesim.specs.declared.ending.Ending.{Ending}
 use Rattle.livesim.specs.declared.ending.Ending.TheVariants.{Whole, Failed, TooMuch, NoMemory}
 use Rattle.livesim.specs.declared.turn.Turn.{Turn}
-
--- nothing may come behind any bytes, which then end
-pub may_end : (ended : Bool) → MayFollow ended [] true
-may_end true = (refl, refl)
-may_end false = tt
-
--- a command that is handed out is of its form
-pub formed_first : (old new : Reader) (kept : List ℕ) (asked : Asked) → HandsOut old new (Ok asked ∷ []) kept → IsFormed asked
-formed_first old new kept asked hands =
-    asks_formed_first true (next_number old) (left old ++ (kept ++ [])) asked (asked_of new [] true) (hands [] true (may_end (has_ended new)))
 
 pub adds_none : (answers : Option (List ShelfAnswer)) → AddsAnswers answers answers []
 adds_none None = tt

@@ -22,7 +22,8 @@ use Rattle.live_session.specs.Worlds.{World, fresh}
 use Rattle.livesim.specs.Histories.{IsLegal}
 use Rattle.livesim.specs.Outputs.{WritesAll}
 use Rattle.livesim.specs.Runs.{HasEntries, all_entries, unfinished_settle, no_entries, HasSettings}
-use Rattle.livesim.proofs.Alone.{alone_front, owned_alone}
+use Rattle.book_history.proofs.Owned.{all_owned}
+use Rattle.livesim.proofs.Alone.{alone_front}
 
 -- ---- the history of a run for which memory was enough
 
@@ -39,7 +40,7 @@ pub record HasScript (st : Settings) (told : List Told) (bs : BookSettings) (all
 pub has_script : (st : Settings) (told : List Told) (rest : List (Result Asked TextFault)) (status : ℕ) (h : Log) → status ≢ 5 → IsLegal h
     → HasEntries st told rest status (owned h.events) (moments_of h) → AllOwned true h.events → HasScript st told h.settings h.events (moments_of h)
 has_script st told rest status h enough legal (all_entries entries is script) alone =
-    let all : h.events ≡ entries ++ Closes ∷ [] = sym (owned_alone h.events alone) ∙ is in
+    let all : h.events ≡ entries ++ Closes ∷ [] = sym (all_owned h.events alone) ∙ is in
     let moments : moments_of h ≡ moments_from kit h.settings None entries = ap (λ (es : List LogEvent). moments_from kit h.settings None es) all
     ∙ moments-append kit h.settings None entries (Closes ∷ []) ∙ append-nil (moments_from kit h.settings None entries) in
     record {

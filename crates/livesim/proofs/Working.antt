@@ -1,22 +1,23 @@
 -- The history that a book comes back with behind a session's work and its workers.
-use Rattle.std.proofs.Common.{◌≡◌, ◌∙◌, ℕ, Bool, true, false, List, [], ◌∷◌, ◌++◌, length, Option, None, refl, sym, ap, subst}
+use Rattle.std.proofs.Common.{◌≡◌, ◌∙◌, ℕ, Bool, true, false, List, [], ◌∷◌, ◌++◌, length, Option, None, sym, ap, subst}
 use Rattle.book_history.specs.Book.{Closes}
 use Rattle.book_history.specs.Owned.{AllOwned, IsPrefix, owned}
-use Rattle.book_history.specs.Legal.{Legal}
 use Rattle.book_turn.specs.Known.{apart_from_splits, begun}
 use Rattle.book_turn.specs.Rule.{Learned}
-use Rattle.book_turn.proofs.Histories.{added_append, owned_append, prefix_trans}
+use Rattle.book_history.proofs.Owned.{owned_append}
+use Rattle.book_turn.proofs.Histories.{added_append, prefix_trans}
 use Rattle.book_turn.specs.Turns.{GoesOn, HasAdded}
 use Rattle.command_read.specs.Readers.{count_taken, has_ended, left, next_number, stopped}
 use Rattle.command_read.specs.declared.reader.Reader.{Reader}
 use Rattle.live_session.specs.AtTurn.{Sight, StandsAt, carried_settings, log_of}
 use Rattle.live_session.specs.Beside.{StandsBeside}
-use Rattle.live_session.specs.Logs.{Log, LogEvent, kit, valid}
+use Rattle.live_session.specs.Logs.{Log, LogEvent}
 use Rattle.live_session.specs.Sessions.{world}
 use Rattle.live_session.specs.Worlds.{fresh}
 use Rattle.live_session.specs.declared.session.Session.{Session}
 use Rattle.live_session.proofs.SharedSettles.{cancel}
 use Rattle.live_session.proofs.Standing.{are_owned}
+use Rattle.live_session.proofs.StandingAtTurn.{made_at}
 use Rattle.ls_port.specs.declared.shelf_answer.ShelfAnswer.{ShelfAnswer}
 use Rattle.live_options.specs.Words.{OptionsOf}
 use Rattle.live_session.specs.Settings.{Settings}
@@ -141,19 +142,6 @@ alone_all v after last h blank none alone goes closed own seen =
     are_owned h.events (own ∙ all_own ∙ sym all_seen ∙ sym seen)
 
 -- ---- the beginning
-
-begun_stands : (s : Session) (j : Log) → j.events ≡ [] → StandsBeside s j → StandsAt s (begun j)
-begun_stands s j blank beside = record {
-  free = record { outside = refl; no_ticket = refl };
-  carries = refl;
-  sees = refl;
-  legal = subst (Legal kit valid j.settings) (sym blank) (record { follows = tt; in_rooms = tt });
-  stands = beside;
-}
-
--- so at the pass of a book that was just made
-pub made_at : (s : Session) (v : Sight) (j : Log) → v ≡ begun j → j.events ≡ [] → StandsBeside s j → StandsAt s v
-made_at s v j is blank beside = subst (StandsAt s) (sym is) (begun_stands s j blank beside)
 
 -- a session without a design, beside a book that was just made
 pub made_ready : (s : Session) (r : Reader) (v : Sight) (j : Log) → v ≡ begun j → j.events ≡ [] → StandsBeside s j

@@ -1,6 +1,7 @@
 // The script of a load: a design of so many stages, run, edited in one module and settled.
 //
-// `make` puts it together from the files of a stage and of the top (`files`), the commands between and behind them standing in `script`.
+// `files` adds the files of a stage and of the top to a text, `script` puts them between the commands of a load (`make`), and `laws` says how long a
+// script is at most.
 #![tactic(auto)]
 
 mod files;

@@ -1,9 +1,11 @@
 // The outside: where bytes come from and go to, how often that failed, and where threads pause.
 //
-// `Source` and `Sink` are the traits that the program is written over. `MemSource`, `MemSink`, `SolidSource` and `SolidSink`
-// stand for them in memory, `StdSource` and `StdSink` on the streams of std. `Shelf` gives files by their names: `MemShelf` and
-// `SolidShelf` from memory, `FileShelf` from the folder that the program is run in. `Gate` is a pause point of threads. `failing_tests` and
-// `shelf_tests` have the order of calls.
+// `Source` and `Sink` are the traits that the program is written over. `MemSource`, `MemSink`, `SolidSource` and `SolidSink` stand for them in
+// memory, `StdSource` and `StdSink` on the streams of std. `Shelf` gives files by their names: `MemShelf` and `SolidShelf` from memory, `FileShelf`
+// from the folder that the program is run in. A shelf in memory has texts (`named_text`), of which `given_text` gives the one that is asked for and
+// writes that down (`shelf_answer`). For the folder `file_names` tells which names stay below it, and `whole_text` reads what was opened. A source
+// that fails answers `failed`, a sink `sink_refusal`, a shelf `shelf_refusal`. `Gate` is a pause point of threads before a step (`gate_step`); at
+// `open_gate` nobody waits. `failing_tests` and `shelf_tests` have the order of calls.
 #![tactic(auto)]
 
 mod failed;

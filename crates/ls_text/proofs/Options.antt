@@ -1,6 +1,7 @@
 -- Readings that may give nothing keep what each step gives.
-use Rattle.std.proofs.Common.{◌≡◌, Bool, true, false, Option, Some, None, refl}
+use Rattle.std.proofs.Common.{◌≡◌, Bool, true, false, Option, Some, None, refl, cond, is_some, true≢false, sym}
 use Rattle.std.specs.Prelude.{IfSome}
+use Rattle.std.proofs.lemmas.Option.{none-some}
 use Rattle.ls_text.specs.Options.{guard, ◌>>=◌}
 
 pub then_some : {A B : Type 0} (P : A → Type 0) (Q : B → Type 0) (o : Option A) (f : A → Option B) → IfSome o P → ((x : A) → P x → IfSome (f x) Q) → IfSome (o >>= f) Q
@@ -15,3 +16,13 @@ any_some Q None f next = tt
 pub guarded : {A : Type 0} (P : A → Type 0) (b : Bool) (x : A) → (b ≡ true → P x) → IfSome (guard b x) P
 guarded P true x h = h refl
 guarded P false x h = tt
+
+-- where the first isn't taken and there is none behind it
+pub not_first : {A : Type 0} (b : Bool) (x : A) (o : Option A) → cond b (Some x) o ≡ None → (b ≡ false) × (o ≡ None)
+not_first true x o h = absurd (none-some _ (sym h))
+not_first false x o h = (refl, h)
+
+-- what isn't some is none
+pub no_value : {A : Type 0} (o : Option A) → is_some o ≡ false → o ≡ None
+no_value None h = refl
+no_value (Some x) h = absurd (true≢false h)

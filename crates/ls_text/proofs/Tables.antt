@@ -1,5 +1,5 @@
--- Tables of names, as the texts of a set of keys.
-use Rattle.std.proofs.Common.{Vec, Global, ◌≡◌, ℕ, zero, suc, ◌<◌, Bool, true, false, cond, ◌||◌, List, [], ◌∷◌, ◌++◌, map, length, get_or, slice_get, position, Some, refl, sym, ap, ◌∙◌, subst, arith, true≢false}
+-- Tables of names: their numbers and texts, and tables that are the texts of a set of keys.
+use Rattle.std.proofs.Common.{Vec, Global, ◌≡◌, ℕ, zero, suc, ◌<◌, Bool, true, false, cond, ◌||◌, List, [], ◌∷◌, ◌++◌, map, length, get_or, slice_get, position, Some, refl, sym, ap, ◌∙◌, subst, arith, true≢false, eqb, eqb-true, eq-eqb}
 use Rattle.std.proofs.lemmas.Option.{slice_get-map, slice_get_within, slice_get-get_or, get_or_from_slice_get, same_Some, none-some}
 use Rattle.std.proofs.lemmas.List.{length-map}
 use Rattle.std.proofs.lemmas.List.Quantifiers.{position-Some}
@@ -12,6 +12,27 @@ use Rattle.std.specs.Cmp.Lexicographic.{bytes_decides}
 use Rattle.std.proofs.lemmas.List.Elements.{same_from_all_zip}
 use Rattle.indexmap.specs.IndexSet.{insert_key}
 use Rattle.ls_text.specs.Texts.{HasEachOnce, IsIdOf, interned, text_at}
+use Rattle.ls_text.specs.declared.name_id.NameId.{NameId}
+
+-- ids are one where their numbers are
+pub same_id : (m n : NameId) → m.0 ≡ n.0 → m ≡ n
+same_id m n number = λ i. record { 0 = number i }
+
+pub same_bytes : (text : List ℕ) → bytes_eq text text ≡ true
+same_bytes text = (bytes_decides text text).1 refl
+
+-- two texts of a table are one where their numbers are
+pub one_text : (names : List (List ℕ)) → HasEachOnce names → (i j : ℕ) → i < length names → j < length names
+    → bytes_eq (text_at names i) (text_at names j) ≡ eqb i j
+one_text names each i j within other = by (bytes_eq (text_at names i) (text_at names j)) refl (eqb i j) refl
+  where
+    by : (b : Bool) → bytes_eq (text_at names i) (text_at names j) ≡ b → (d : Bool) → eqb i j ≡ d → b ≡ d
+    by true h true e = refl
+    by true h false e = sym (eq-eqb i j (each i j within other ((bytes_decides (text_at names i) (text_at names j)).0 h))) ∙ e
+    by false h true e = sym h ∙ (bytes_decides (text_at names i) (text_at names j)).1 (ap (text_at names) (eqb-true i j e))
+    by false h false e = refl
+
+-- ---- the texts of a set of keys
 
 abbrev Text : Type 0
 Text = Vec ℕ Global

@@ -11,6 +11,10 @@ is_digit c = nat_le 48 c && nat_le c 57
 abbrev pub is_word_byte : ℕ → Bool
 is_word_byte c = is_letter c || (is_digit c || (c == 36))
 
+-- a byte of a file's name: a letter, a digit, `_`, `-`, `.` or `/`
+abbrev pub is_file_byte : ℕ → Bool
+is_file_byte c = is_letter c || (is_digit c || ((c == 45) || ((c == 46) || (c == 47))))
+
 -- white space within a line
 abbrev pub is_blank : ℕ → Bool
 is_blank c = (c == 32) || ((c == 9) || ((c == 12) || (c == 13)))

@@ -1,7 +1,7 @@
 // Classes of bytes, and runs of them at the front of a text.
 ghost use Rattle.std.specs.Prelude.{◌≡◌, ◌==◌, ◌+◌, ◌≤◌, not, length, false, IfSome};
 ghost use Rattle.std.specs.List.{prefix_len, suffix_len};
-ghost use Rattle.ls_text.specs.Bytes.{is_letter, is_digit, is_word_byte, is_blank, is_space, through_pair};
+ghost use Rattle.ls_text.specs.Bytes.{is_letter, is_digit, is_word_byte, is_file_byte, is_blank, is_space, through_pair};
 
 /// Whether a byte may begin a word: a letter or `_`.
 pub fn is_letter(byte: u8) -> bool
@@ -22,6 +22,13 @@ pub fn is_word_byte(byte: u8) -> bool
     ensures { result ≡ is_word_byte byte }
 {
     is_letter(byte) || is_digit(byte) || byte == b'$'
+}
+
+/// Whether a byte may stand in a file's name: a letter, a digit, `_`, `-`, `.` or `/`.
+pub fn is_file_byte(byte: u8) -> bool
+    ensures { result ≡ is_file_byte byte }
+{
+    is_letter(byte) || is_digit(byte) || matches!(byte, b'-' | b'.' | b'/')
 }
 
 // Whether a byte is white space within a line.

@@ -1,15 +1,16 @@
 // What all that reads texts stands on, from the bytes of a file to the line that shows what is wrong with them.
 //
-// A file is a name and a text (`source_file`, `text_bytes`). Over its bytes, `bytes` has classes and the lengths of runs, `stretch`
-// parts by their lengths, `place` lines and columns. A `piece` is a stretch of a file by its offsets, and `files` gives its bytes
-// again. `names` gives equal texts one number, a `name_id`; `name_list` is a list of them. What is wrong is a `fault` with where it
-// stands (`at`); a call answers it as a `refusal`, and `fault_lines` writes its line.
+// A file is a name, whose form `file_names` tells, and a text (`source_file`, `text_bytes`). Over its bytes, `bytes` has classes and the
+// lengths of runs, `stretch` parts by their lengths, `place` lines and columns. A `piece` is a stretch of a file by its offsets, and
+// `files` gives its bytes again. `names` gives equal texts one number, a `name_id`; `name_list` is a list of them. What is wrong is a
+// `fault` with where it stands (`at`); a call answers it as a `refusal`, and `fault_lines` writes its line.
 #![tactic(auto)]
 
 mod at;
 mod bytes;
 mod fault;
 mod fault_lines;
+mod file_names;
 mod files;
 mod name_id;
 mod name_list;
@@ -23,11 +24,12 @@ mod text_bytes;
 
 pub use at::At;
 pub use bytes::{
-    blank_len, is_digit, is_letter, is_space, is_word_byte, line_len, space_len, through_pair,
+    blank_len, is_digit, is_letter, is_space, line_len, space_len, through_pair,
     trailing_space_len, word_len,
 };
 pub use fault::{Fault, text_fault};
 pub use fault_lines::{fault_line, push_decimal};
+pub use file_names::is_file_name;
 pub use files::{text_between, text_of};
 pub use name_id::NameId;
 pub use name_list::NameList;

@@ -1,11 +1,10 @@
 -- Among the targets of a statement is the first one in its text, where no case has a second default.
-use Rattle.std.proofs.Common.{◌≡◌, ℕ, suc, ◌+◌, ◌≤◌, ◌==◌, Bool, true, false, cond, List, [], ◌∷◌, ◌++◌, length, refl, sym, ◌∙◌, ap, ap₂, subst, append_assoc, true≢false, arith}
+use Rattle.std.proofs.Common.{◌≡◌, ℕ, suc, ◌+◌, ◌≤◌, ◌==◌, Bool, true, false, cond, List, [], ◌∷◌, ◌++◌, length, refl, sym, ◌∙◌, ap, ap₂, subst, append_assoc, arith}
 use Rattle.std.specs.Prelude.{Option, Some, None, slice_get}
 use Rattle.std.specs.List.{find}
 use Rattle.std.proofs.lemmas.List.Folds.{find_at}
 use Rattle.std.proofs.lemmas.Bool.{eq-eqb, ne_eqb, cond-true, cond-false}
 use Rattle.std.proofs.lemmas.Option.{none-some}
-use Rattle.ls_text.specs.declared.fault.Fault.{Fault}
 use Rattle.typed_ir.specs.Orders.{Each}
 use Rattle.unit_ir.specs.declared.mention.Mention.{Mention}
 use Rattle.verilog_ast.specs.declared.identifier.Identifier.{Identifier}
@@ -16,6 +15,7 @@ use Rattle.width_rules.specs.Scopes.{Scope}
 use Rattle.width_rules.proofs.Reading.{left_none, right_none}
 use Rattle.statement_rules.specs.Statements.{item_faults, arm_faults}
 use Rattle.size_laws.specs.Written.{IsReference, IsTargetWritten, AreTargetsWritten, IsStatementWritten}
+use Rattle.size_laws.proofs.Bounds.{nothing_first}
 use Rattle.item_mentions.specs.Forms.{first_number}
 use Rattle.item_mentions.specs.Mentions.{writing, numbered, labels_names, count, mentions, arm_mentions, default_mentions}
 use Rattle.item_mentions.specs.Names.{reference_name, target_names}
@@ -164,13 +164,6 @@ no_labels (Compared x ∷ ls) = no_labels ls
 labels_begin : (k : ℕ) (ls : List CaseLabel) → Begins k (length (labels_names writing ls)) (numbered k (labels_names writing ls)) None
 labels_begin k ls = numbered_begin k (labels_names writing ls) None (no_name (no_labels ls) refl)
 
-pub some_fault : (f : Fault) (fs : List Fault) → f ∷ fs ≡ [] → ⊥
-some_fault f fs h = true≢false (ap is_some h)
-  where
-    is_some : List Fault → Bool
-    is_some [] = false
-    is_some (x ∷ xs) = true
-
 mutual
   pub statement_begins : (scope : Scope) (by : Writer) (k : ℕ) (x : Statement) → AreStatements x → IsStatementWritten x → item_faults scope by x ≡ []
       → Begins k (count writing x) (mentions writing k x) (first_written x)
@@ -251,7 +244,7 @@ mutual
       None (first_written body) (labels_begin k ls)
       (statement_begins scope by (k + labels) body p.0 q.0.1 (left_none (item_faults scope by body) (arm_faults scope by true xs) h)))
       (arms_begin scope by (k + n) xs p.1 q.1 (right_none (item_faults scope by body) (arm_faults scope by true xs) h))
-  arms_begin scope by k (Statements (Default at body) xs) p q h = absurd (some_fault _ _ h)
+  arms_begin scope by k (Statements (Default at body) xs) p q h = nothing_first _ _ h
   arms_begin scope by k (Statements (Block at label body) xs) p q h = absurd p.0
   arms_begin scope by k (Statements (If at c x) xs) p q h = absurd p.0
   arms_begin scope by k (Statements (IfElse at c x y) xs) p q h = absurd p.0

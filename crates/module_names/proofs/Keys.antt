@@ -5,9 +5,9 @@ use Rattle.std.specs.Option.{option_map, option_copied}
 use Rattle.std.specs.Map.{lookup}
 use Rattle.std.proofs.lemmas.Bool.{cond-false}
 use Rattle.std.proofs.lemmas.List.{map_push}
-use Rattle.std.proofs.lemmas.Option.{none-some}
 use Rattle.indexmap.specs.IndexMap.{insert_entry}
 use Rattle.ls_text.specs.declared.name_id.NameId.{NameId}
+use Rattle.ls_text.proofs.Options.{not_first}
 use Rattle.verilog_ast.specs.Items.{ModuleDeclaration}
 use Rattle.verilog_ast.specs.Views.{declaration_of}
 use Rattle.module_names.specs.declared.module_names.ModuleNames.{ModuleNames}
@@ -53,10 +53,6 @@ looked_up n test same (e ∷ es) named =
     (same e.0 ∙ ap (λ (m : ℕ). n == m) (ap first_of named)) (looked_up n test same es (ap rest_of named))
 
 -- ---- one module more
-
-not_first : (b : Bool) (m : ModuleDeclaration) (o : Option ModuleDeclaration) → cond b (Some m) o ≡ None → (b ≡ false) × (o ≡ None)
-not_first true m o h = absurd (none-some _ (sym h))
-not_first false m o h = (refl, h)
 
 -- where no module of the name stands there, it goes behind the others
 pub put_last : (E : NameId → NameId → Bool) → ((x y : NameId) → E x y ≡ (x.0 == y.0)) → (es : Entries) (k : NameId) (v : ModuleNames) → AreNamed es

@@ -1,12 +1,9 @@
 -- The names of a module's parameters and localparams outside of its generate blocks (IEEE Std 1364-2005, 4.10).
 use Rattle.std.specs.Prelude.{List, [], ◌++◌, map}
 use Rattle.verilog_ast.specs.declared.identifier.Identifier.{Identifier}
-use Rattle.verilog_ast.specs.Declarations.{ParameterAssignment, HeaderParameterDeclaration}
+use Rattle.verilog_ast.specs.Declarations.{HeaderParameterDeclaration, assigned_name}
 use Rattle.verilog_ast.specs.Items as i
 use Rattle.verilog_ast.specs.Items.{ModuleItem, ModuleDeclaration}
-
-abbrev pub assigned_name : ParameterAssignment → Identifier
-assigned_name p = p.name
 
 abbrev pub header_name : HeaderParameterDeclaration → Identifier
 header_name p = p.parameter.name

@@ -26,7 +26,8 @@ use Rattle.item_mentions.specs.Names.{expression_targets}
 use Rattle.connection_rules.specs.Connections.{Connected, port_number, connection_if, connection_at, to_port, to_found, connected_by_name, connected_by_order, connected_to, all_connection_faults, all_connection_kinds}
 use Rattle.connection_rules.specs.ConnectionNodes.{target_or_none, driven_by, port_lane, port_value, output_node, connection_node, connected_mentions, connection_item}
 use Rattle.connection_rules.specs.Instances.{instance_faults, instance_kinds, item_faults, first_to, item_if, port_items, child_items, instance_items}
-use Rattle.connection_rules.specs.Outputs.{is_target, target_at, as_target, part_faults, written_faults, output_faults, part_kinds, written_kinds, output_kinds, reference_form, output_form, output_mentions, known_lanes}
+use Rattle.typed_ir.specs.Nodes.{known_lanes}
+use Rattle.connection_rules.specs.Outputs.{is_target, target_at, as_target, part_faults, written_faults, output_faults, part_kinds, written_kinds, output_kinds, reference_form, output_form, output_mentions}
 use Rattle.unplaced_trees.specs.Unplaced.{unplaced_expression, unplaced_target, unplaced_by_name, unplaced_by_order, unplaced_connections, unplaced_instance}
 use Rattle.place_laws.specs.Findings.{fault_unplaced, mention_unplaced, connected_unplaced, placed_unplaced}
 use Rattle.gen_unroll.proofs.MovedLists.{append_so, if_moved}

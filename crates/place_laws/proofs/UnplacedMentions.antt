@@ -8,6 +8,7 @@ use Rattle.verilog_ast.specs.Places.{no_place}
 use Rattle.verilog_ast.specs.Statements.{CaseLabel, DontCare, Compared, Statement, Block, If, IfElse, Case, Assignment, Default, Match, Statements}
 use Rattle.width_rules.specs.Scopes.{Scope, is_signal}
 use Rattle.width_rules.specs.Sizes.{is_constant}
+use Rattle.width_rules.proofs.RenamedSizes.{sum_so}
 use Rattle.item_mentions.specs.Mentions.{numbered, Listing, reading, writing, labels_names, label_names, count, match_or, default_or, mentions, arm_mentions, default_mentions, statement_reads, statement_targets}
 use Rattle.item_mentions.specs.Names.{signal_name, run_time, expression_names, index_of, index_names, reference_name, target_names, expression_targets}
 use Rattle.unplaced_trees.specs.Unplaced.{unplaced_name, unplaced_expression, unplaced_target, unplaced_label, unplaced_statement}
@@ -109,9 +110,6 @@ labels_so w (l ∷ ls) is = two_so _ _ _ _ (label_so w l is) (labels_so w ls is)
 
 many_so : (ms ns : List Identifier) → ms ≡ map unplaced_name ns → length ms ≡ length ns
 many_so ms ns same = ap length same ∙ length-map ns unplaced_name
-
-sum_so : (a b c d : ℕ) → a ≡ b → c ≡ d → (a + c) ≡ (b + d)
-sum_so a b c d = ap₂ (λ (m n : ℕ). m + n)
 
 same_count : (w : Listing) (x : Statement) → IsBlind w → count w (unplaced_statement x) ≡ count w x
 same_count w (Block at label body) is = same_count w body is

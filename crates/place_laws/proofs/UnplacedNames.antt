@@ -1,6 +1,7 @@
 -- The names in reach without places: these go by numbers of names.
 use Rattle.std.proofs.Common.{◌≡◌, List, [], ◌∷◌, map, Option, Some, None, refl, ◌∙◌, ap}
 use Rattle.std.specs.Option.{option_map}
+use Rattle.ls_text.proofs.Lists.{map_so}
 use Rattle.verilog_ast.specs.declared.identifier.Identifier.{Identifier}
 use Rattle.verilog_ast.specs.Declarations.{PortDeclaration, NextPort, PortList, NoPorts, NamedPorts, DeclaredPorts}
 use Rattle.verilog_ast.specs.Items as i
@@ -13,7 +14,6 @@ use Rattle.gen_unroll.specs.Unrolled.{with_turn, nowhere, own_names}
 use Rattle.unit_names.specs.UnitReaches.{hidden, hidden_ports, hidden_module}
 use Rattle.unplaced_trees.specs.Unplaced.{unplaced_name, unplaced_declared, unplaced_declared_reg, unplaced_instance, unplaced_port, unplaced_ports, unplaced_item, unplaced_declaration}
 use Rattle.place_laws.specs.Findings.{turn_unplaced, step_unplaced}
-use Rattle.gen_unroll.proofs.MovedLists.{map_so}
 
 -- ---- names
 

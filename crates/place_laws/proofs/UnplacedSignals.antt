@@ -4,23 +4,24 @@ use Rattle.std.proofs.lemmas.List.{map-append, length-map}
 use Rattle.std.proofs.lemmas.Option.{slice_get-map}
 use Rattle.std.specs.Option.{option_map}
 use Rattle.ls_text.specs.declared.fault.Fault.{Fault}
+use Rattle.ls_text.proofs.Lists.{map_so}
 use Rattle.verilog_ast.specs.declared.identifier.Identifier.{Identifier}
 use Rattle.verilog_ast.specs.declared.port_net.PortNet.{PortNet}
 use Rattle.verilog_ast.specs.declared.port_net.PortNet.TheVariants as net
-use Rattle.verilog_ast.specs.Declarations.{RangeBounds, Kind, PortDeclaration, InputPort, OutputPort, NextPort}
+use Rattle.verilog_ast.specs.Declarations.{RangeBounds, Kind, PortDeclaration, InputPort, OutputPort, NextPort, header_net}
 use Rattle.verilog_ast.specs.Items as i
 use Rattle.verilog_ast.specs.Items.{ModuleItem}
 use Rattle.unit_ir.specs.declared.signal_kind.SignalKind.{SignalKind}
 use Rattle.unit_ir.specs.declared.signal_kind.SignalKind.TheVariants as kind
 use Rattle.width_rules.specs.Scopes.{Scope}
-use Rattle.gen_unroll.specs.Declarations.{BitRange, declared_name, declared_reg_name}
+use Rattle.gen_unroll.specs.Declarations.{BitRange, declared_name, declared_reg_name, range_or_none}
 use Rattle.gen_unroll.specs.Reaches.{Reach, innermost, in_reach}
 use Rattle.gen_unroll.specs.Steps.{ModuleStep, Port, Item}
-use Rattle.unit_names.specs.Signals.{NamedSignal, kind_of_net, with_port, with_ports, header_net, with_next, last_of, completes, completed, put, with_net, with_nets, range_or_none, range_in, complete_port, header_port, item_signals, step_signals, declared_in}
+use Rattle.unit_names.specs.Signals.{NamedSignal, kind_of_net, with_port, with_ports, with_next, last_of, completes, completed, put, with_net, with_nets, range_in, complete_port, header_port, item_signals, step_signals, declared_in}
 use Rattle.unplaced_trees.specs.Unplaced.{unplaced_name, unplaced_range, unplaced_kind, unplaced_declared, unplaced_declared_reg, unplaced_port, unplaced_item}
 use Rattle.place_laws.specs.Findings.{found_unplaced, answer_unplaced, step_unplaced, signal_unplaced}
 use Rattle.place_laws.proofs.UnplacedAnswers.{found_so, value_so, bind_so}
-use Rattle.gen_unroll.proofs.MovedLists.{map_so, if_moved}
+use Rattle.gen_unroll.proofs.MovedLists.{if_moved}
 use Rattle.place_laws.proofs.UnplacedNames.{same_reach}
 use Rattle.place_laws.proofs.UnplacedValues.{same_range_value}
 

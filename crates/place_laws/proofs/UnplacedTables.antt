@@ -5,6 +5,7 @@ use Rattle.std.proofs.lemmas.List.{map-append, length-map}
 use Rattle.std.proofs.lemmas.Option.{slice_get-map}
 use Rattle.std.specs.Option.{option_map}
 use Rattle.ls_text.specs.declared.name_id.NameId.{NameId}
+use Rattle.ls_text.proofs.Lists.{map_so}
 use Rattle.typed_ir.specs.Cycles.{Signal}
 use Rattle.unit_ir.specs.declared.signal_declaration.SignalDeclaration.{SignalDeclaration}
 use Rattle.verilog_ast.specs.declared.identifier.Identifier.{Identifier}
@@ -19,7 +20,7 @@ use Rattle.unit_names.specs.UnitLists.{signal_called, called_by, names_behind, u
 use Rattle.unplaced_trees.specs.Unplaced.{unplaced_name, unplaced_port, unplaced_ports, unplaced_declaration}
 use Rattle.place_laws.specs.Findings.{found_unplaced, step_unplaced, signal_unplaced, table_unplaced}
 use Rattle.place_laws.proofs.UnplacedAnswers.{found_so}
-use Rattle.gen_unroll.proofs.MovedLists.{map_so, if_moved}
+use Rattle.gen_unroll.proofs.MovedLists.{if_moved}
 use Rattle.place_laws.proofs.UnplacedNames.{same_port_name, same_beginning}
 use Rattle.place_laws.proofs.UnplacedSignals.{same_declared}
 

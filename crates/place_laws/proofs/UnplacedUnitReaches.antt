@@ -7,10 +7,10 @@ use Rattle.verilog_ast.specs.Items.{ModuleDeclaration}
 use Rattle.width_rules.specs.declared.writer.Writer.{Writer}
 use Rattle.width_rules.specs.Scopes.{Scope}
 use Rattle.gen_unroll.specs.Declarations.{declared}
-use Rattle.gen_unroll.specs.Reaches.{Reach, reach_in, in_reach}
+use Rattle.gen_unroll.specs.Reaches.{Reach, reach_in, in_reach, same_block}
 use Rattle.gen_unroll.specs.Steps.{ModuleStep, Opened}
 use Rattle.unit_names.specs.Signals.{NamedSignal}
-use Rattle.unit_names.specs.Numbers.{NumberedSignal, same_block, in_block_from}
+use Rattle.unit_names.specs.Numbers.{NumberedSignal, in_block_from}
 use Rattle.unit_names.specs.UnitReaches.{meaning_of_signal, all_signals, with_signals, hidden, hidden_module, unit_reach_in, with_opened, unit_in_reach, writer_at, writer_of}
 use Rattle.unplaced_trees.specs.Unplaced.{unplaced_declaration}
 use Rattle.place_laws.specs.Findings.{step_unplaced, signal_unplaced}

@@ -3,6 +3,7 @@ use Rattle.std.proofs.Common.{◌≡◌, ℕ, ◌+◌, ◌-◌, List, [], ◌∷
 use Rattle.std.specs.Option.{option_map}
 use Rattle.ls_text.specs.declared.fault.Fault.{Fault}
 use Rattle.ls_text.specs.declared.place.Place.{Place}
+use Rattle.ls_text.proofs.Lists.{map_so}
 use Rattle.verilog_ast.specs.declared.identifier.Identifier.{Identifier}
 use Rattle.verilog_ast.specs.Declarations.{Kind, ParameterAssignment, HeaderParameterDeclaration, PortList, NoPorts, NamedPorts, DeclaredPorts}
 use Rattle.verilog_ast.specs.Items as i
@@ -19,7 +20,6 @@ use Rattle.gen_unroll.specs.Unrolled.{State, each, override_of, given_or, parame
 use Rattle.gen_unroll.specs.Values.{ConstantValue}
 use Rattle.unplaced_trees.specs.Unplaced.{unplaced_name, unplaced_kind, unplaced_parameter, unplaced_header_parameter, unplaced_port, unplaced_ports, unplaced_head, unplaced_item, unplaced_declaration}
 use Rattle.place_laws.specs.Findings.{answer_unplaced, turn_unplaced, step_unplaced, told_unplaced}
-use Rattle.gen_unroll.proofs.MovedLists.{map_so}
 use Rattle.place_laws.proofs.UnplacedLoops.{same_taken, same_loop_turns}
 use Rattle.place_laws.proofs.UnplacedNames.{same_inner, same_own_names}
 use Rattle.place_laws.proofs.UnplacedTold.{step_so, said_so, quiet_so, each_so, if_told}

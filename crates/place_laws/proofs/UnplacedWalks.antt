@@ -1,6 +1,7 @@
 -- The items of a module step by step, without places: the same items, and the same faults (IEEE 1364-2005, 12.1.2 and 12.4).
 use Rattle.std.proofs.Common.{◌≡◌, ℕ, ◌+◌, Bool, false, List, [], ◌∷◌, ◌++◌, map, length, take, drop, refl, ◌∙◌, ap, ap₂}
 use Rattle.std.proofs.lemmas.List.{length-map}
+use Rattle.ls_text.proofs.Lists.{map_so}
 use Rattle.typed_ir.specs.declared.shown_target.ShownTarget.{ShownTarget}
 use Rattle.typed_ir.specs.Nodes.{Block}
 use Rattle.typed_ir.specs.Stmts.{SizedStmt}
@@ -30,7 +31,7 @@ use Rattle.statement_rules.specs.Statements.{sized_statement}
 use Rattle.item_mentions.specs.Forms.{statement_shown}
 use Rattle.unplaced_trees.specs.Unplaced.{unplaced_statement, unplaced_assignment, unplaced_instance, unplaced_item}
 use Rattle.place_laws.specs.Findings.{fault_unplaced, step_unplaced, signal_unplaced, mention_unplaced, value_unplaced, placed_unplaced}
-use Rattle.gen_unroll.proofs.MovedLists.{map_so, append_so}
+use Rattle.gen_unroll.proofs.MovedLists.{append_so}
 use Rattle.place_laws.proofs.UnplacedConnections.{same_instance_faults, same_instance_items}
 use Rattle.place_laws.proofs.UnplacedFaults.{both_so}
 use Rattle.place_laws.proofs.UnplacedForms.{same_shown}

@@ -5,10 +5,9 @@ use Rattle.std.specs.List.{list_any}
 use Rattle.std.specs.Option.{option_or}
 use Rattle.std.proofs.Math.Bool.{or_comm, or-false}
 use Rattle.std.proofs.Math.Path.{fun_ext}
-use Rattle.std.proofs.Math.Seq.{take-suc}
 use Rattle.std.proofs.lemmas.List.{get_or_default}
 use Rattle.std.proofs.lemmas.List.Folds.{list_any-append}
-use Rattle.typed_ir.proofs.Lists.{drop_read}
+use Rattle.typed_ir.proofs.Lists.{drop_read, take_next}
 use Rattle.reg_ops.specs.declared.reg_op.RegOp.{RegOp}
 use Rattle.reg_transform.specs.Greatest.{greatest, misses_by, twice_by}
 use Rattle.reg_transform.specs.OperationFaults.{OperationFault, RefusedOperation, are_one, first_refused, new_of, old_of, operation_fault, operations_fault}
@@ -16,15 +15,10 @@ use Rattle.reg_transform.specs.Registers.{RegisterName, Register}
 use Rattle.reg_transform.proofs.Limits.{misses_greatest}
 
 -- one more operation done
-pub take_more : (ops : List RegOp) (i : ℕ) (op : RegOp) → i < length ops → op ≡ get_or ops i op → take (i + 1) ops ≡ take i ops ++ op ∷ []
-take_more ops i op h is =
-    let more : i + 1 ≡ suc i = omega arith in
-    ap (λ k. take k ops) more ∙ take-suc ops i op h ∙ ap (λ z. take i ops ++ z ∷ []) (sym is)
-
 pub noted : (test : RegOp → Bool) (ops : List RegOp) (i : ℕ) (op : RegOp) → i < length ops → op ≡ get_or ops i op
     → list_any test (take (i + 1) ops) ≡ (test op || list_any test (take i ops))
 noted test ops i op h is =
-    ap (list_any test) (take_more ops i op h is)
+    ap (list_any test) (take_next ops i op h is)
     ∙ list_any-append test (take i ops) (op ∷ [])
     ∙ ap (λ b. list_any test (take i ops) || b) (or-false (test op))
     ∙ or_comm (list_any test (take i ops)) (test op)
@@ -33,7 +27,7 @@ pub goes_on : (old new : List Register) (ops : List RegOp) (i : ℕ) (op : RegOp
     → operation_fault old new (take i ops) op ≡ None
     → operations_fault old new (take (i + 1) ops) (drop (i + 1) ops) ≡ operations_fault old new (take i ops) (drop i ops)
 goes_on old new ops i op h is none =
-    ap (λ zs. operations_fault old new zs (drop (i + 1) ops)) (take_more ops i op h is)
+    ap (λ zs. operations_fault old new zs (drop (i + 1) ops)) (take_next ops i op h is)
     ∙ sym (ap (operations_fault old new (take i ops)) (drop_read ops i op h is)
     ∙ ap (λ f. first_refused (length (take i ops)) f (operations_fault old new (take i ops ++ op ∷ []) (drop (i + 1) ops))) none)
 

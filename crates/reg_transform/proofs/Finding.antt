@@ -12,7 +12,8 @@ use Rattle.ls_text.specs.declared.name_id.NameId.{NameId}
 use Rattle.typed_ir.proofs.Cases.{by_cases, and_left, and_right}
 use Rattle.reg_transform.specs.declared.qualified_name.QualifiedName.{QualifiedName}
 use Rattle.reg_transform.specs.declared.register_key.RegisterKey.{RegisterKey}
-use Rattle.reg_transform.specs.Registers.{RegisterName, is_same, same_path}
+use Rattle.typed_ir.specs.Paths.{same_path}
+use Rattle.reg_transform.specs.Registers.{RegisterName, is_same}
 use Rattle.reg_transform.specs.Found.{Key, name_of, key_of, same_key, found, is_among}
 
 -- ---- paths
@@ -23,10 +24,6 @@ same_is [] (y ∷ ys) h = absurd (true≢false (sym h))
 same_is (x ∷ xs) [] h = absurd (true≢false (sym h))
 same_is (x ∷ xs) (y ∷ ys) h =
     ap₂ (λ (n : ℕ) (ns : List ℕ). n ∷ ns) (eqb-true x y (and_left (x == y) (same_path xs ys) h)) (same_is xs ys (and_right (x == y) (same_path xs ys) h))
-
-pub same_own : (xs : List ℕ) → same_path xs xs ≡ true
-same_own [] = refl
-same_own (x ∷ xs) = and_from (x == x) (same_path xs xs) (eq-eqb x x refl) (same_own xs)
 
 -- ---- names and keys
 

@@ -5,6 +5,7 @@ use Rattle.std.specs.Option.{is_some, option_or}
 use Rattle.std.proofs.Math.Path.{fun_ext}
 use Rattle.std.proofs.lemmas.Nat.{pow_pos}
 use Rattle.std.proofs.lemmas.Bool.{cond-true, cond-false}
+use Rattle.std.proofs.Math.Bool.{or-false}
 use Rattle.typed_ir.proofs.Cases.{by_cases}
 use Rattle.reg_ops.specs.declared.reg_op.RegOp.{RegOp}
 use Rattle.reg_ops.specs.declared.reg_op.RegOp.TheVariants.{Rename, Create, Delete}
@@ -46,11 +47,7 @@ over w v = let positive : 0 < 2 ^ w = pow_pos w in by_size (2 ^ w) v positive
     by_size p v h = grind arith
 
 either_passed : (g v : ℕ) (rest : Option ℕ) → is_passed (Some (lesser g rest)) v ≡ (nat_lt g v || is_passed rest v)
-either_passed g v None = sym (falsely (nat_lt g v))
-  where
-    falsely : (b : Bool) → (b || false) ≡ b
-    falsely true = refl
-    falsely false = refl
+either_passed g v None = sym (or-false (nat_lt g v))
 either_passed g v (Some h) = grind arith
 
 -- a value is too large for one of the registers just where it passes the greatest one

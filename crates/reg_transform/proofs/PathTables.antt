@@ -10,13 +10,13 @@ use Rattle.std.proofs.lemmas.List.Folds.{list_any_at}
 use Rattle.std.proofs.lemmas.Option.{same_Some, none-some, slice_get_within, get_or_from_slice_get}
 use Rattle.indexmap.specs.IndexSet.{insert_key}
 use Rattle.typed_ir.specs.declared.instance_name.InstanceName.{InstanceName}
-use Rattle.typed_ir.specs.Paths.{path_above, path_next, paths_from, paths_of, parents_of, parents_before, stands}
+use Rattle.typed_ir.specs.Paths.{path_above, path_next, paths_from, paths_of, parents_of, parents_before, stands, same_path}
 use Rattle.typed_ir.proofs.Cases.{by_cases, and_left, and_right}
 use Rattle.typed_ir.proofs.Lists.{drop_read}
+use Rattle.typed_ir.proofs.Paths.{path_itself}
 use Rattle.reg_transform.specs.declared.path_step.PathStep.{PathStep}
-use Rattle.reg_transform.specs.Registers.{same_path}
 use Rattle.reg_transform.specs.PathNumbers.{row_of, step_paths, path_at, goes_on, number_above, IsPathTable, Grows, IsNext, IsNumbered, NumberPaths}
-use Rattle.reg_transform.proofs.Finding.{same_is, same_own}
+use Rattle.reg_transform.proofs.Finding.{same_is}
 
 -- ---- paths of lists
 
@@ -277,16 +277,12 @@ pub walk_step : (steps new : List PathStep) (numbers : List ℕ) (rows : List In
     → paths_from (map (path_at new) (numbers ++ n ∷ [])) (drop (i + 1) rows) ≡ all
 walk_step steps new numbers rows i n x all h is small goes next so_far =
     ap (λ ps. paths_from ps (drop (i + 1) rows))
-    (appended (path_at new) numbers n
+    (map_push (path_at new) numbers n
     ∙ ap₂ (λ (ps : List (List ℕ)) (p : List ℕ). ps ++ p ∷ [])
     (paths_kept (path_at new) (path_at steps) numbers (length steps) next.grows.same small)
     (next.path ∙ ap (λ p. p ++ x.name.0 ∷ []) (above x.parent goes)))
     ∙ sym (ap (paths_from (map (path_at steps) numbers)) (drop_read rows i x h is)) ∙ so_far
   where
-    appended : (f : ℕ → List ℕ) (ns : List ℕ) (n : ℕ) → map f (ns ++ n ∷ []) ≡ map f ns ++ f n ∷ []
-    appended f [] n = refl
-    appended f (m ∷ ms) n = ap (λ ps. f m ∷ ps) (appended f ms n)
-
     above : (p : Option ℕ) → IsTrue (goes_on (length numbers) p) → path_above (step_paths steps) (number_above numbers p) ≡ path_above (map (path_at steps) numbers) p
     above None g = refl
     above (Some p) g = sym (got_path (path_at steps) numbers p (ltb-true p (length numbers) g))
@@ -316,7 +312,7 @@ two_tables steps old new old_rows new_rows table one other = record {
 
     alike : (a b : ℕ) → a < length steps → b < length steps → (a == b) ≡ same_path (path_at steps a) (path_at steps b)
     alike a b h k = by_cases (a == b)
-        (λ t. t ∙ sym (ap (λ n. same_path (path_at steps a) (path_at steps n)) (sym (eqb-true a b t)) ∙ same_own (path_at steps a)))
+        (λ t. t ∙ sym (ap (λ n. same_path (path_at steps a) (path_at steps n)) (sym (eqb-true a b t)) ∙ path_itself (path_at steps a)))
         (λ f. by_cases (same_path (path_at steps a) (path_at steps b))
         (λ t. absurd (true≢false (sym (eq-eqb a b (table.once a b h k (same_is (path_at steps a) (path_at steps b) t))) ∙ f)))
         (λ g. f ∙ sym g))

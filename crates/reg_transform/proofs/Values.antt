@@ -11,7 +11,7 @@ use Rattle.reg_ops.specs.declared.reg_op.RegOp.{RegOp}
 use Rattle.typed_ir.specs.declared.instance_name.InstanceName.{InstanceName}
 use Rattle.typed_ir.specs.declared.signal.Signal.{Signal}
 use Rattle.typed_ir.specs.Flats.{are_below, are_within}
-use Rattle.typed_ir.specs.Paths.{paths_of}
+use Rattle.typed_ir.specs.Paths.{paths_of, same_path}
 use Rattle.typed_ir.specs.States.{sized_value}
 use Rattle.typed_ir.specs.Views.{widths}
 use Rattle.typed_ir.proofs.Cases.{and_left, and_right}
@@ -22,7 +22,7 @@ use Rattle.reg_transform.specs.Carrying.{created, renamed, first_given, taken, v
 use Rattle.reg_transform.specs.Found.{Key}
 use Rattle.reg_transform.specs.Numbers.{number_at, value_by, carried_by}
 use Rattle.reg_transform.specs.PathNumbers.{NumberPaths}
-use Rattle.reg_transform.specs.Registers.{RegisterName, Register, called, is_same, same_path, widths_of}
+use Rattle.reg_transform.specs.Registers.{RegisterName, Register, called, is_same, widths_of}
 use Rattle.reg_transform.specs.Regs.{register_of, register_at}
 use Rattle.reg_transform.specs.States.{paired, state_values}
 use Rattle.reg_transform.proofs.Elements.{dropped, at_signal}

@@ -3,7 +3,8 @@ use Rattle.std.specs.Prelude.{ℕ, ◌%◌, ◌^◌, ◌&&◌, if◌then◌else�
 use Rattle.std.specs.Option.{option_or, unwrap_or}
 use Rattle.reg_ops.specs.declared.reg_op.RegOp.{RegOp}
 use Rattle.reg_ops.specs.declared.reg_op.RegOp.TheVariants.{Rename, Create, Delete}
-use Rattle.reg_transform.specs.Registers.{RegisterName, Register, called, is_same, same_path}
+use Rattle.typed_ir.specs.Paths.{same_path}
+use Rattle.reg_transform.specs.Registers.{RegisterName, Register, called, is_same}
 use Rattle.reg_transform.specs.States.{state_values}
 
 -- the value that an operation creates a register with, and the old name that it renames to it

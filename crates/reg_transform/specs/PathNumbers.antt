@@ -1,9 +1,8 @@
 -- Numbers of paths: a list of steps in which each path stands once, and the numbers that the instances of tables have by it.
 use Rattle.std.specs.Prelude.{◌≡◌, ℕ, ◌<◌, ◌≤◌, ◌==◌, Bool, true, nat_lt, List, [], map, length, get_or, slice_get, slice_index, Option, Some, None, IsTrue}
 use Rattle.typed_ir.specs.declared.instance_name.InstanceName.{InstanceName}
-use Rattle.typed_ir.specs.Paths.{path_next, paths_of}
+use Rattle.typed_ir.specs.Paths.{path_next, paths_of, same_path}
 use Rattle.reg_transform.specs.declared.path_step.PathStep.{PathStep}
-use Rattle.reg_transform.specs.Registers.{same_path}
 
 -- a step is an instance in the one that it goes on from
 abbrev pub row_of : PathStep → InstanceName

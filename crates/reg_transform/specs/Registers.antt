@@ -1,5 +1,5 @@
 -- Registers of a design, by plain numbers.
-use Rattle.std.specs.Prelude.{ℕ, Bool, true, false, ◌&&◌, ◌==◌, List, [], ◌∷◌, map}
+use Rattle.std.specs.Prelude.{ℕ, Bool, ◌&&◌, ◌==◌, List, map}
 
 -- the name of a register: the module that declares it, and what it is called within that, by the numbers of their names
 pub record RegisterName : Type 0 where
@@ -21,9 +21,3 @@ widths_of rs = map (λ (r : Register). r.width) rs
 
 abbrev pub is_same : RegisterName → RegisterName → Bool
 is_same x y = (x.in_module == y.in_module) && (x.name == y.name)
-
-abbrev pub same_path : List ℕ → List ℕ → Bool
-same_path [] [] = true
-same_path [] (y ∷ ys) = false
-same_path (x ∷ xs) [] = false
-same_path (x ∷ xs) (y ∷ ys) = (x == y) && same_path xs ys

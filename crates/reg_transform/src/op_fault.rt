@@ -1,8 +1,10 @@
 // Conditions that operations break.
 use ls_text::NameId;
+use thiserror::Error;
 
 /// The condition that an operation breaks, and the register that breaks it.
-#[derive(Clone, Copy, Debug, PartialEq, Eq)]
+#[derive(Clone, Copy, Debug, PartialEq, Eq, Error)]
+#[error("an operation on registers breaks the condition of code {code}")]
 pub struct OpFault {
     /// The place of the operation in its list, from 0.
     pub index: usize,

@@ -11,7 +11,7 @@ use Rattle.verilog_ast.specs.Statements.{CaseLabel, DontCare, Compared, Statemen
 use Rattle.width_rules.specs.Renaming.{MeansSame}
 use Rattle.width_rules.specs.Scopes.{Meaning, Scope, is_signal}
 use Rattle.width_rules.specs.Sizes.{is_constant}
-use Rattle.width_rules.proofs.RenamedSizes.{same_fixed}
+use Rattle.width_rules.proofs.RenamedSizes.{same_fixed, sum_so}
 use Rattle.item_mentions.specs.Mentions.{numbered, Listing, reading, writing, labels_names, label_names, count, match_or, default_or, mentions, arm_mentions, default_mentions, statement_reads, statement_targets}
 use Rattle.item_mentions.specs.Names.{signal_name, run_time, expression_names, index_of, index_names, reference_name, target_names, expression_targets}
 use Rattle.gen_unroll.proofs.MovedLists.{append_so, if_moved}
@@ -132,9 +132,6 @@ labels_so f w v (l ∷ ls) is = two_so f _ _ _ _ (label_so f w v l is) (labels_s
 
 many_so : (f : NameId → NameId) (ms ns : List Identifier) → ms ≡ map (renamed_identifier f) ns → length ms ≡ length ns
 many_so f ms ns same = ap length same ∙ length-map ns (renamed_identifier f)
-
-sum_so : (a b c d : ℕ) → a ≡ b → c ≡ d → (a + c) ≡ (b + d)
-sum_so a b c d = ap₂ (λ (m n : ℕ). m + n)
 
 same_count : (f : NameId → NameId) (w v : Listing) (x : Statement) → ListsSame f w v → count v (statement_as f x) ≡ count w x
 same_count f w v (Block at label body) is = same_count f w v body is

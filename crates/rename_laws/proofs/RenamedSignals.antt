@@ -7,7 +7,7 @@ use Rattle.ls_text.specs.declared.name_id.NameId.{NameId}
 use Rattle.verilog_ast.specs.declared.identifier.Identifier.{Identifier}
 use Rattle.verilog_ast.specs.declared.port_net.PortNet.{PortNet}
 use Rattle.verilog_ast.specs.declared.port_net.PortNet.TheVariants as net
-use Rattle.verilog_ast.specs.Declarations.{RangeBounds, Kind, PortDeclaration, InputPort, OutputPort, NextPort}
+use Rattle.verilog_ast.specs.Declarations.{RangeBounds, Kind, PortDeclaration, InputPort, OutputPort, NextPort, header_net}
 use Rattle.verilog_ast.specs.Items as i
 use Rattle.verilog_ast.specs.Items.{ModuleItem}
 use Rattle.verilog_ast.specs.Renamed.{renamed_identifier}
@@ -16,10 +16,10 @@ use Rattle.unit_ir.specs.declared.signal_kind.SignalKind.{SignalKind}
 use Rattle.unit_ir.specs.declared.signal_kind.SignalKind.TheVariants as kind
 use Rattle.width_rules.specs.Renaming.{MeansSame}
 use Rattle.width_rules.specs.Scopes.{Scope}
-use Rattle.gen_unroll.specs.Declarations.{BitRange, declared_name, declared_reg_name}
+use Rattle.gen_unroll.specs.Declarations.{BitRange, declared_name, declared_reg_name, range_or_none}
 use Rattle.gen_unroll.specs.Reaches.{Reach, innermost, in_reach}
 use Rattle.gen_unroll.specs.Steps.{ModuleStep, Port, Item}
-use Rattle.unit_names.specs.Signals.{NamedSignal, is_outermost, is_port, kind_of_net, with_port, with_ports, header_net, with_next, last_of, completes, completed, put, with_net, with_nets, range_or_none, range_in, complete_port, header_port, item_signals, step_signals, declared_in}
+use Rattle.unit_names.specs.Signals.{NamedSignal, is_outermost, is_port, kind_of_net, with_port, with_ports, with_next, last_of, completes, completed, put, with_net, with_nets, range_in, complete_port, header_port, item_signals, step_signals, declared_in}
 use Rattle.design_laws.specs.Renaming.{KeepsApart, SameReach, found_as, answer_as, step_as}
 use Rattle.design_laws.proofs.RenamedAnswers.{found_so, value_so, bind_so}
 use Rattle.design_laws.proofs.RenamedNames.{same_test, names_so, same_reach}

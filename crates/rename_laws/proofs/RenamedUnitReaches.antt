@@ -13,10 +13,10 @@ use Rattle.width_rules.specs.declared.writer.Writer.{Writer}
 use Rattle.width_rules.specs.Renaming.{MeansSame}
 use Rattle.width_rules.specs.Scopes.{Unknown, Scope}
 use Rattle.gen_unroll.specs.Declarations.{declared, declared_name, declared_reg_name, port_name}
-use Rattle.gen_unroll.specs.Reaches.{Reach, reach_in, in_reach}
+use Rattle.gen_unroll.specs.Reaches.{Reach, reach_in, in_reach, same_block}
 use Rattle.gen_unroll.specs.Steps.{ModuleStep, Opened}
 use Rattle.unit_names.specs.Signals.{NamedSignal}
-use Rattle.unit_names.specs.Numbers.{NumberedSignal, same_block, in_block_from}
+use Rattle.unit_names.specs.Numbers.{NumberedSignal, in_block_from}
 use Rattle.unit_names.specs.UnitReaches.{meaning_of_signal, all_signals, with_signals, hidden, hidden_ports, hidden_module, unit_reach_in, with_opened, unit_in_reach, writer_at, writer_of}
 use Rattle.design_laws.specs.Renaming.{KeepsApart, SameReach, step_as}
 use Rattle.design_laws.proofs.RenamedNames.{declared_so, all_declared_so, parts_so, port_name_so, same_beginning, same_reach}

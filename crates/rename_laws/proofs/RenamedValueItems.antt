@@ -4,7 +4,7 @@ use Rattle.std.specs.Option.{option_map}
 use Rattle.ls_text.specs.declared.name_id.NameId.{NameId}
 use Rattle.ls_text.specs.declared.place.Place.{Place}
 use Rattle.typed_ir.specs.declared.target_form.TargetForm.{TargetForm}
-use Rattle.typed_ir.specs.Nodes.{Drive}
+use Rattle.typed_ir.specs.Nodes.{Drive, known_lanes}
 use Rattle.typed_ir.specs.Sized.{Sized, value_of}
 use Rattle.unit_ir.specs.declared.mention.Mention.{Mention}
 use Rattle.unit_ir.specs.Items.{PlacedItem, Node, Initial}
@@ -33,7 +33,7 @@ use Rattle.item_mentions.specs.Names.{target_names}
 use Rattle.sized_items.specs.declared.value_kind.ValueKind.{ValueKind}
 use Rattle.sized_items.specs.declared.value_kind.ValueKind.TheVariants as kind
 use Rattle.sized_items.specs.DeclaredValues.{DeclaredValue, InitialValue, kind_of_net, value_if, values_of, reg_values_of, port_values, name_of, as_assignment, is_net, is_net_by, is_net_value, signal_in, due_by, writer_by, all_value_faults, all_value_kinds, declaration_faults, initial_value, declaration_initials}
-use Rattle.sized_items.specs.SizedItems.{fixed_lanes, drive_item, initial_item, value_item}
+use Rattle.sized_items.specs.SizedItems.{drive_item, initial_item, value_item}
 use Rattle.gen_unroll.proofs.MovedLists.{append_so, if_moved}
 use Rattle.rename_laws.specs.Findings.{value_as, placed_as}
 use Rattle.rename_laws.proofs.RenamedForms.{same_form_of}
@@ -121,7 +121,7 @@ same_target_place f NoTarget = refl
 same_target_place f (Targets t ts) = same_target_place f t
 
 abbrev drive_with : TargetForm → SizedDrive → Place → List Mention → PlacedItem
-drive_with form x at targets = record { body = Node (Own (Drive form (fixed_lanes x.parts) x.value)); at = at; targets = targets; reads = [] }
+drive_with form x at targets = record { body = Node (Own (Drive form (known_lanes x.parts) x.value)); at = at; targets = targets; reads = [] }
 
 pub same_drive_item : (f : NameId → NameId) (scope other : Scope) (x : ContinuousAssignment) → MeansSame f scope other
     → drive_item other (assignment_as f x) ≡ placed_as f (drive_item scope x)

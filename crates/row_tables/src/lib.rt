@@ -1,8 +1,8 @@
 // Tables of rows, as the data folders of programs for the gate have them.
 //
-// A `table` has `row`s, each a text and what has to be read of it, in lines in which some bytes are written by `escapes`. A
-// `reader` says what a text is read as, a `property` what holds of a whole table, and `comparing` names what is otherwise in a folder
-// of tables. `texts` has what readers make of texts first, and show of names and faults; `hexadecimal` writes numbers.
+// A `table` has `row`s, each a text and what has to be read of it, in lines in which some bytes are written by `escapes`. A `reader` says what a text
+// is read as, a `property` what holds of a whole table (nothing, for `no_property`), and `comparing` names what is otherwise in a folder of tables.
+// `texts` has what readers make of texts first, and show of names and faults; `hexadecimal` writes numbers.
 #![tactic(auto)]
 
 mod comparing;

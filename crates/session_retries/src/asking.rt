@@ -18,7 +18,7 @@ use std::thread::Threads;
 
 /// The lines that answer a command, none where it isn't read as one, or None where memory runs out as it is carried out, which is counted. The error is that
 /// it runs out outside of that.
-#[tactic(auto, using(crate::proofs::Standing::stands_as))]
+#[tactic(auto, using(live_session::proofs::StandingAtTurn::stands_as))]
 fn ask<R: Threads + Wait + Sync, F: Shelf>(
     rt: &R,
     alloc: Global,

@@ -87,7 +87,7 @@ fn close<R: Wait>(rt: &R, turn: &Turn<Book<Design>>, pass: &mut SessionPass<Book
 
 /// What isn't right of a session that is asked all rows, over a shelf whose call of this number wants memory: the first such command, or its history. How
 /// often memory ran out in a command is added to the count.
-#[tactic(auto, using(crate::proofs::Standing::free_at, live_session::proofs::SettledAtTurn::own_open))]
+#[tactic(auto, using(live_session::proofs::StandingAtTurn::free_at, live_session::proofs::SettledAtTurn::own_open))]
 pub fn run<R: Threads + Wait + Sync>(
     rt: &R,
     alloc: Global,

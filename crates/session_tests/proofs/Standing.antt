@@ -1,50 +1,9 @@
--- A session beside its pass: at the beginning, behind a read, and where the pass was split.
-use Rattle.std.proofs.Common.{◌≡◌, ◌∙◌, ℕ, Bool, true, false, List, [], ◌∷◌, ◌++◌, Ok, refl, sym, ap, subst}
+-- A session beside its pass, where the pass was split.
+use Rattle.std.proofs.Common.{◌≡◌, ◌∙◌, sym, ap, subst}
 use Rattle.book_history.specs.Book.{Settings as BookSettings}
-use Rattle.book_history.specs.Legal.{Legal}
-use Rattle.book_turn.specs.Known.{apart_from_splits, begun}
-use Rattle.command_read.specs.Asking.{Asked}
-use Rattle.command_read.specs.Formed.{IsFormed}
-use Rattle.command_read.specs.Leading.{MayFollow}
-use Rattle.command_read.specs.Readers.{HandsOut, asked_of, has_ended, left, next_number}
-use Rattle.command_read.specs.declared.reader.Reader.{Reader}
-use Rattle.command_read.proofs.Forms.{asks_formed_first}
-use Rattle.segment_verify.specs.Workers.{IsFree}
-use Rattle.live_session.specs.AtTurn.{Sight, StandsAt, log_of}
-use Rattle.live_session.specs.Beside.{StandsBeside}
-use Rattle.live_session.specs.Logs.{Log, kit, valid}
+use Rattle.book_turn.specs.Known.{apart_from_splits}
+use Rattle.live_session.specs.AtTurn.{Sight, StandsAt}
 use Rattle.live_session.specs.declared.session.Session.{Session}
-
--- nothing may come behind any bytes, which then end
-may_end : (ended : Bool) → MayFollow ended [] true
-may_end true = (refl, refl)
-may_end false = tt
-
--- a command that is handed out is of its form
-pub formed_first : (old new : Reader) (kept : List ℕ) (asked : Asked) → HandsOut old new (Ok asked ∷ []) kept → IsFormed asked
-formed_first old new kept asked hands =
-    asks_formed_first true (next_number old) (left old ++ (kept ++ [])) asked (asked_of new [] true) (hands [] true (may_end (has_ended new)))
-
--- a session that has changed, as by reading, and stands beside all that it stood beside
-pub stands_as : (s t : Session) (v : Sight) → StandsAt s v → ((j : Log) → StandsBeside s j → StandsBeside t j) → StandsAt t v
-stands_as s t v h beside = record { free = h.free; carries = h.carries; sees = h.sees; legal = h.legal; stands = beside (log_of v) h.stands }
-
--- its pass is free
-pub free_at : (s : Session) (v : Sight) → StandsAt s v → IsFree v
-free_at s v h = h.free
-
-begun_stands : (s : Session) (j : Log) → j.events ≡ [] → StandsBeside s j → StandsAt s (begun j)
-begun_stands s j blank beside = record {
-  free = record { outside = refl; no_ticket = refl };
-  carries = refl;
-  sees = refl;
-  legal = subst (Legal kit valid j.settings) (sym blank) (record { follows = tt; in_rooms = tt });
-  stands = beside;
-}
-
--- so at the pass of a book that was just made
-pub made_at : (s : Session) (v : Sight) (j : Log) → v ≡ begun j → j.events ≡ [] → StandsBeside s j → StandsAt s v
-made_at s v j is blank beside = subst (StandsAt s) (sym is) (begun_stands s j blank beside)
 
 -- all that a session asks of its pass is apart from its splits
 stands_apart : (s : Session) (u : Sight) → StandsAt s (apart_from_splits u) → StandsAt s u

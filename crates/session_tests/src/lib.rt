@@ -1,8 +1,8 @@
 // Tests of a session, turn by turn, with limits that no script reaches in a test's time, without workers and beside two, in a crate of their own, since a
 // crate with tests is proved twice.
 //
-// `playing` has a session carry out a script in turns of a book, and `scripted` lends that to a scope with workers (`lending`, `lent_script`); `limit_tests` are the tests, over a
-// `held_source` where a worker holds a ticket.
+// `playing` has a session carry out a script in turns of a book (`played`), and `scripted` lends that to a scope with workers (`lending`,
+// `lent_script`), with the history that is left (`ran`); `limit_tests` are the tests, over a `held_source` where a worker holds a ticket.
 #![tactic(auto)]
 
 #[cfg(test)]

@@ -17,7 +17,7 @@ use std::sync::Wait;
 use std::thread::Threads;
 
 /// Reads a command and carries it out: its reply, or None where no command comes.
-#[tactic(auto, using(crate::proofs::Standing::stands_as, book_turn::proofs::Turns::goes_none))]
+#[tactic(auto, using(live_session::proofs::StandingAtTurn::stands_as, book_turn::proofs::Turns::goes_none))]
 fn answer<R: Threads + Wait + Sync, S: Source>(
     rt: &R,
     alloc: Global,

@@ -1,9 +1,10 @@
 -- Numbers of 1 to 128, tests of widths, and tests of faults that are none.
-use Rattle.std.proofs.Common.{◌≡◌, ℕ, zero, suc, ◌≤◌, ◌==◌, max, Bool, true, false, not, List, [], ◌∷◌, ◌++◌, nat_le, nat_lt, refl, sym, ap, subst, true≢false, leb-true, le-leb, arith}
+use Rattle.std.proofs.Common.{◌≡◌, ℕ, zero, suc, ◌≤◌, ◌==◌, max, Bool, true, false, not, List, [], ◌∷◌, ◌++◌, nat_le, nat_lt, refl, sym, subst, true≢false, leb-true, le-leb, arith}
 use Rattle.std.proofs.lemmas.Bool.{and_from, ltb-false, cond-true, cond-false}
 use Rattle.std.proofs.Math.Nat.{le-max_left}
 use Rattle.typed_ir.proofs.Cases.{by_cases, and_left, and_right}
 use Rattle.ls_text.specs.declared.fault.Fault.{Fault}
+use Rattle.ls_text.proofs.Lists.{none_is_some}
 use Rattle.typed_ir.specs.Sized.{is_width}
 use Rattle.width_rules.specs.Faults.{fault_if}
 use Rattle.width_rules.specs.Sizes.{literal_length}
@@ -26,11 +27,7 @@ width_from n l = and_from (nat_le 1 n) (nat_le n 128) (le-leb 1 n l.least) (le-l
 -- ---- faults that are none
 
 pub nothing_first : {P : Type 0} (x : Fault) (xs : List Fault) → x ∷ xs ≡ [] → P
-nothing_first {P} x xs h = absurd (true≢false (ap is_some_list h))
-  where
-    is_some_list : List Fault → Bool
-    is_some_list [] = false
-    is_some_list (y ∷ ys) = true
+nothing_first x xs h = none_is_some x xs (sym h)
 
 pub none_if : (b : Bool) (f : Fault) → fault_if b f ≡ [] → b ≡ false
 none_if true f h = nothing_first f [] h

@@ -1,5 +1,5 @@
 -- An expression without a fault, sized, fits the signals of its scope.
-use Rattle.std.proofs.Common.{◌≡◌, ℕ, zero, suc, ◌+◌, ◌-◌, ◌*◌, ◌%◌, ◌^◌, ◌≤◌, ◌==◌, Bool, true, List, [], ◌++◌, arith}
+use Rattle.std.proofs.Common.{◌≡◌, ℕ, zero, suc, ◌+◌, ◌-◌, ◌*◌, ◌%◌, ◌^◌, ◌≤◌, ◌==◌, Bool, true, List, [], ◌++◌, arith, le_refl}
 use Rattle.std.proofs.Math.Nat.{le-max_left, le-max_right}
 use Rattle.typed_ir.specs.Sized as s
 use Rattle.typed_ir.specs.Sized.{Sized, width_of}
@@ -20,7 +20,7 @@ use Rattle.size_laws.specs.Fitting.{FitsScope}
 use Rattle.size_laws.specs.Written.{IsWritten, ArePartsWritten}
 use Rattle.size_laws.proofs.Bounds.{IsLong, some_if, run_none, third_none}
 use Rattle.size_laws.proofs.Lengths.{one_long, is_long, part_long, part_place, run_long, total_long}
-use Rattle.size_laws.proofs.Operands.{Fits, constant_fits, extended_fits, name_fits, bits_sized, range_sized, alone_fits, unary_fits, binary_fits, choice_fits, above_fits, repeated_sized, same_long}
+use Rattle.size_laws.proofs.Operands.{Fits, constant_fits, extended_fits, name_fits, bits_sized, range_sized, alone_fits, unary_fits, binary_fits, choice_fits, above_fits, repeated_sized}
 
 no_bit : 1 ≤ 0 → ⊥
 no_bit h = omega (arith, h)
@@ -139,7 +139,7 @@ mutual
 pub own_fits : (scope : Scope) (widths : List ℕ) (due : Due) (e : Expression) → FitsScope scope widths → IsWritten e → faults scope due e ≡ []
     → Fits (own scope e) (length scope e) widths
 own_fits scope widths due e ok w h =
-    form_fits scope widths due e (length scope e) (is_signed scope e) ok w h (same_long (length scope e)) (is_long scope widths due e ok w h).most
+    form_fits scope widths due e (length scope e) (is_signed scope e) ok w h (le_refl (length scope e)) (is_long scope widths due e ok w h).most
 
 pub form_sized : (scope : Scope) (widths : List ℕ) (due : Due) (e : Expression) (l : ℕ) (t : Bool) → FitsScope scope widths → IsWritten e → faults scope due e ≡ []
     → length scope e ≤ l → l ≤ 128 → is_sized (push scope e l t) widths ≡ true

@@ -1,5 +1,5 @@
 -- Names, selects and operators whose operands fit the signals fit them.
-use Rattle.std.proofs.Common.{◌≡◌, ℕ, ◌+◌, ◌-◌, ◌*◌, ◌^◌, ◌≤◌, ◌==◌, ◌&&◌, max, Bool, true, false, List, [], slice_index, nat_le, nat_lt, ℤ, pos, negsuc, refl, sym, ◌∙◌, ap, subst, true≢false, leb-true, le-leb, lt-ltb, eqb-true, eq-eqb, arith}
+use Rattle.std.proofs.Common.{◌≡◌, ℕ, ◌+◌, ◌-◌, ◌*◌, ◌^◌, ◌≤◌, ◌==◌, ◌&&◌, max, Bool, true, false, List, [], slice_index, nat_le, nat_lt, ℤ, pos, negsuc, refl, sym, ◌∙◌, ap, subst, true≢false, leb-true, le-leb, lt-ltb, eqb-true, eq-eqb, arith, le_refl}
 use Rattle.std.specs.Prelude.{length as count}
 use Rattle.std.proofs.lemmas.Bool.{and_from, cond-true, cond-false}
 use Rattle.std.proofs.Math.Nat.{le-max_left, le-max_right}
@@ -127,11 +127,8 @@ range_sized Unknown widths low width n fits long none = nothing_first (fault_at 
 abbrev pub FitsAt : Operand → List ℕ → Type 0
 FitsAt x widths = (l : ℕ) (t : Bool) → x.own ≤ l → l ≤ 128 → Fits (x.at l t) l widths
 
-pub same_long : (n : ℕ) → n ≤ n
-same_long n = omega arith
-
 pub alone_fits : (x : Operand) (widths : List ℕ) → IsLong x.own → FitsAt x widths → Fits (self_determined x) x.own widths
-alone_fits x widths long h = h x.own x.sign (same_long x.own) long.most
+alone_fits x widths long h = h x.own x.sign (le_refl x.own) long.most
 
 pub unary_fits : (k : UnaryKind) (x : Operand) (widths : List ℕ) → IsLong x.own → FitsAt x widths → (l : ℕ) (t : Bool) → unary_length k x.own ≤ l → l ≤ 128
     → Fits (unary_at k x l t) l widths

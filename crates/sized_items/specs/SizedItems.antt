@@ -2,9 +2,7 @@
 use Rattle.std.specs.Prelude.{if◌then◌else◌, List, [], ◌∷◌, map}
 use Rattle.ls_text.specs.declared.fault.Fault.{Fault}
 use Rattle.ls_text.specs.declared.place.Place.{Place}
-use Rattle.typed_ir.specs.declared.lane.Lane.{Lane}
-use Rattle.typed_ir.specs.Stmts.{SizedTarget, Fixed, Moving}
-use Rattle.typed_ir.specs.Nodes.{Drive, Block}
+use Rattle.typed_ir.specs.Nodes.{Drive, Block, known_lanes}
 use Rattle.unit_ir.specs.Trees.{Own}
 use Rattle.unit_ir.specs.Items.{PlacedItem, Node, Clocked, Initial}
 use Rattle.verilog_ast.specs.Items as i
@@ -22,17 +20,11 @@ use Rattle.item_mentions.specs.Names.{target_names}
 use Rattle.sized_items.specs.declared.value_kind.ValueKind.TheVariants as kind
 use Rattle.sized_items.specs.DeclaredValues.{kind_of_net, DeclaredValue, InitialValue, values_of, reg_values_of, as_assignment, is_net_value, signal_in, declaration_faults, declaration_initials}
 
--- the parts of a target whose indices are constant
-abbrev pub fixed_lanes : List SizedTarget → List Lane
-fixed_lanes [] = []
-fixed_lanes (Fixed lane ∷ ts) = lane ∷ fixed_lanes ts
-fixed_lanes (Moving reach index ∷ ts) = fixed_lanes ts
-
 -- ---- continuous assignments (6.1)
 
 abbrev pub drive_item : Scope → ContinuousAssignment → PlacedItem
 drive_item scope x = record {
-  body = Node (Own (Drive (target_form scope x.target) (fixed_lanes (parts scope 0 x.target)) (assigned scope (target_length scope x.target) x.value)));
+  body = Node (Own (Drive (target_form scope x.target) (known_lanes (parts scope 0 x.target)) (assigned scope (target_length scope x.target) x.value)));
   at = target_place x.target;
   targets = numbered 0 (target_names x.target);
   reads = [];

@@ -1,8 +1,8 @@
 // Statements and continuous assignments, with their expressions sized.
 //
-// `targeting` walks a target and lays its parts; `assigning` has continuous assignments. `statements` walks a statement once for its
-// expressions, with labels of cases in `labelling`, which `closing` closes when all are known; `checking` walks it for its targets
-// (`target_kinds`) and defaults, and `blocks` does both in turn; `laws` says that other names change nothing.
+// `targeting` walks a target and lays its parts (`sized_target`); `assigning` has continuous assignments (`drive`). `statements` walks a statement
+// once for its expressions, with labels of cases in `labelling` (`open_labels`), which `closing` closes when all of a case (`open_case`) are known;
+// `checking` walks it for its targets (`target_kinds`) and defaults, and `blocks` does both in turn; `laws` says that other names change nothing.
 #![tactic(auto, using(width_rules::proofs::Firsts::earlier, width_rules::proofs::Firsts::later, width_rules::proofs::Firsts::neither))]
 
 mod assigning;

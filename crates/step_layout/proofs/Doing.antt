@@ -3,6 +3,8 @@ use Rattle.std.proofs.Common.{◌≡◌, ℕ, ◌+◌, ◌/◌, ◌^◌, ◌<◌
 use Rattle.std.specs.Prelude.{if◌then◌else◌, bit_or}
 use Rattle.std.specs.Int.Bits.{or_zero_r}
 use Rattle.std.proofs.lemmas.Bool.{eqb-true, eqb-false, leb-true, cond-true, cond-false}
+use Rattle.std.proofs.Math.Bool.{or-false}
+use Rattle.std.proofs.lemmas.List.{append-nil}
 use Rattle.bits.specs.Runs.{replaced}
 use Rattle.bits.proofs.Modulo.{small, fits_wider}
 use Rattle.typed_ir.specs.declared.span.Span.{Span}
@@ -42,17 +44,13 @@ applied_at u f g s same =
     put_at f g u.span.signal _ _ s
     (λ e. ap (λ z. replaced z u.span.low u.span.width u.value) (ap f (sym e) ∙ same ∙ ap g e)) same
 
-all_applied_at : (us : List Update) (f g : Valuation) (s : ℕ) → f s ≡ g s → all_applied us f s ≡ all_applied us g s
+pub all_applied_at : (us : List Update) (f g : Valuation) (s : ℕ) → f s ≡ g s → all_applied us f s ≡ all_applied us g s
 all_applied_at [] f g s same = same
 all_applied_at (u ∷ us) f g s same = all_applied_at us (applied u f) (applied u g) s (applied_at u f g s same)
 
 all_applied-append : (us vs : List Update) (f : Valuation) → all_applied (us ++ vs) f ≡ all_applied vs (all_applied us f)
 all_applied-append [] vs f = refl
 all_applied-append (u ∷ us) vs f = all_applied-append us vs (applied u f)
-
-append_none : (us : List Update) → us ++ [] ≡ us
-append_none [] = refl
-append_none (u ∷ us) = ap (λ vs. u ∷ vs) (append_none us)
 
 -- ---- tests and branches
 
@@ -353,10 +351,6 @@ module _ (l : Plan) (rs : List ℕ) (n : ℕ) (apart : IsApart l rs n) where
             ∙ put-other v (mark + 1) (bit_or (v here) (v P)) k (λ d. omega (arith, d, h)) ∙ s.kept k h;
       }
 
-  or_false : (b : Bool) → b ≡ (b || false)
-  or_false true = refl
-  or_false false = refl
-
   item_fine : (i : SizedItem) (is : List SizedItem) → are_items (i ∷ is) l.widths ≡ true → Each (IsKnown l) (item_constants (i ∷ is)) → Fine l rs n apart i.item × IsKnown l i.ignored
   item_fine i is legal known =
       let sized = and_left (is_sized i.item l.widths) (are_items is l.widths) legal in
@@ -421,7 +415,7 @@ module _ (l : Plan) (rs : List ℕ) (n : ℕ) (apart : IsApart l rs n) where
             let skip = step SkipUnlessEqual 1 0 true 0 (subject_at i here mark) (item_at l i mark) past in
             walk-append ps (skip ∷ []) (at 0 w) ∙ ap (walk (skip ∷ [])) c.ends
             ∙ ap₂ (λ x y. at (if x == y then 0 else past) c.after) c.first c.second
-            ∙ ap (λ b. at (if b then 0 else past) c.after) (or_false (matches_item subject i (signals l w)));
+            ∙ ap (λ b. at (if b then 0 else past) c.after) (sym (or-false (matches_item subject i (signals l w))));
         kept = c.kept;
       }
   tests_right (i ∷ j ∷ is') here mark subject w few near is legal known r =
@@ -582,7 +576,7 @@ module _ (l : Plan) (rs : List ℕ) (n : ℕ) (apart : IsApart l rs n) where
       let ht = and_left (is_target t l.widths) true legal in
       let small_to = r.next_fits s among.0 in
       let g = one_gives t e (l.next s) mark w few (apart.nexts s among.0) f ht (each_left (IsKnown l) (part_constants t) [] known) r small_to in
-      subst (Does (one_code l l.next t e mark) w mark env) (sym (append_none (update_of t x env)))
+      subst (Does (one_code l l.next t e mark) w mark env) (sym (append-nil (update_of t x env)))
       (does_note (one_code l l.next t e mark) w s mark (part_value t x (m s) env) (update_of t x env) few r among.0
       (part_fits l rs n apart t x (m s) env ht small_to) (applied_part t x env m) g)
   assign_note (t ∷ u ∷ ts) e mark w few f legal among known r =

@@ -1,9 +1,9 @@
 // Expressions, statements and nodes laid out as a flat list of steps over words.
 //
-// `layout` says where signals, next values and constants (`constants`) stand. `expressions` lays expressions out by the operators of
-// `operators`, `parts` and `drives` what is assigned; `statements` lays statements out, with `conditions` for that of an `if` and
-// `matching` for the items of a case, and `nodes` nodes, all from the last one to the first, by steps that are put in front of others
-// (`fronting`). `laws` says what the steps do.
+// `layout` says where signals, next values and constants (`constants`) stand. `expressions` lays expressions out by the operators of `operators`,
+// step behind step (`putting`), and tells where a value stands (`operand`); `parts` and `drives` lay out what is assigned, now or later (`home`);
+// `statements` lays statements out, with `conditions` for that of an `if` and `matching` for the items of a case, and `nodes` nodes, all from the
+// last one to the first, by steps that are put in front of others (`fronting`). `laws` says what the steps do.
 #![tactic(auto)]
 
 mod conditions;

@@ -1,7 +1,7 @@
 -- Runs of equal rows: what they say of the rows, and what a record makes of them.
 use Rattle.std.proofs.Common.{◌≡◌, ℕ, zero, suc, ◌+◌, ◌-◌, ◌<◌, ◌≤◌, true, false, not, nat_lt, leb, ◌&&◌, ◌==◌, cond, List, [], ◌∷◌, ◌++◌, length, take, drop, get_or, set, replicate, Option, Some, None, refl, sym, ◌∙◌, ap, ap₂, subst, true≢false, append_assoc, append-nil, zero-add, arith}
 use Rattle.std.proofs.lemmas.Bool.{eqb-true, eq-eqb, ltb-true, ltb-false, leb-true, leb-false, lt-ltb, and_from, and_parts, not-true}
-use Rattle.std.proofs.lemmas.List.{length-append, length-replicate, replicate-append-replicate, take-replicate, take-append-le, get_or-replicate, get_or_append_left, get_or-append_right}
+use Rattle.std.proofs.lemmas.List.{length-append, length-replicate, replicate-append-replicate, take-replicate, take-append-le, get_or-replicate, get_or_append_left, get_or-append_right, length-take, get_or-take}
 use Rattle.std.proofs.Math.Seq.{take-append-add}
 use Rattle.std.specs.Prelude.{slice_get}
 use Rattle.std.specs.List.{AllWithin}
@@ -11,7 +11,7 @@ use Rattle.machine.specs.Rows.{expanded, IsGapless}
 use Rattle.machine.proofs.Runs.{end_at, begins_past, expanded-snoc}
 use Rattle.stimulus.specs.Rows.{are_same, names_set, names_set_behind}
 use Rattle.stimulus.specs.Runs.{differs, are_runs, are_runs_behind, names_in, ends_with, with_end}
-use Rattle.stimulus.proofs.Alike.{same_is, same_itself}
+use Rattle.stimulus.specs.SameRows.{same_is, same_itself}
 
 abbrev Row : Type 0
 Row = List (ℕ × ℕ)
@@ -472,9 +472,9 @@ pub cut_whole : (old new : List (RowRun Row)) (cycle place : ℕ) → are_runs o
     → new ≡ with_end (take place old) cycle → IsCut old new cycle place
 cut_whole old new cycle place h cut within is =
     let before : BeginBefore cycle (take place old) = λ i d lt.
-    let few : length (take place old) ≤ place = take_few place old in
+    let few : length (take place old) ≤ place = omega (arith, length-take place old) in
     let there : i < place = omega (arith, few, lt) in
-    let read : get_or (take place old) i d ≡ get_or old i d = taken_read place old i d there in
+    let read : get_or (take place old) i d ≡ get_or old i d = get_or-take place old i d there in
     omega (arith, ap (λ (r : RowRun Row). r.start) read, cut.before i d (omega arith) there) in
     let runs : are_runs (with_end (take place old) cycle) ≡ true = ended_runs 0 None (take place old) cycle (taken_runs 0 None old place h) before in
     let now : are_runs new ≡ true = ap are_runs is ∙ runs in
@@ -485,14 +485,3 @@ cut_whole old new cycle place h cut within is =
       rows = ap (λ (rs : List (RowRun Row)). expanded rs) is ∙ cut_rows 0 None old cycle place h cut (omega arith) (omega (arith, within)) ∙ ap (λ k. take k (expanded old)) count;
       names = omega (arith, names_are new now, left, names_are old h, names_split old place);
     }
-  where
-    take_few : (n : ℕ) (rs : List (RowRun Row)) → length (take n rs) ≤ n
-    take_few zero rs = omega arith
-    take_few (suc n) [] = omega arith
-    take_few (suc n) (r ∷ rs) = omega (arith, take_few n rs)
-
-    taken_read : (n : ℕ) (rs : List (RowRun Row)) (i : ℕ) (d : RowRun Row) → i < n → get_or (take n rs) i d ≡ get_or rs i d
-    taken_read zero rs i d lt = absurd (omega (arith, lt))
-    taken_read (suc n) [] i d lt = refl
-    taken_read (suc n) (r ∷ rs) zero d lt = refl
-    taken_read (suc n) (r ∷ rs) (suc i) d lt = taken_read n rs i d (omega (arith, lt))

@@ -1,4 +1,5 @@
 pub mod Rows
+pub mod SameRows
 pub mod Places
 pub mod Settings
 pub mod Runs

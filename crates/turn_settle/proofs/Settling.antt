@@ -1,6 +1,6 @@
 -- Passes beside workers, and then a show.
 use Rattle.std.proofs.Common.{◌≡◌, ℕ, ◌+◌, ◌≤◌, ◌<◌, ◌⊎◌, inl, inr, min, Bool, true, false, List, [], ◌∷◌, ◌++◌, length, Option, Some, None, if◌then◌else◌, refl, sym, ◌∙◌, ap, subst, arith}
-use Rattle.std.proofs.lemmas.Bool.{cond-true, cases_lt}
+use Rattle.std.proofs.lemmas.Bool.{cases_lt}
 use Rattle.machine.specs.Kit.{Kit}
 use Rattle.book_history.specs.declared.link.Link.{Link}
 use Rattle.book_history.specs.declared.link.Link.TheVariants.{Open, Out, Joined}
@@ -12,9 +12,9 @@ use Rattle.book_history.specs.Outline.{Outline, blank, outline_from}
 use Rattle.book_history.specs.Owned.{owned, IsPrefix}
 use Rattle.book_history.specs.Readers.{links_in}
 use Rattle.book_history.proofs.Outlines.{legal_outline, outline-append}
-use Rattle.book_history.proofs.Places.{lead_all}
 use Rattle.book_history.proofs.Prefixes.{legal_first}
 use Rattle.book_settle.proofs.Counting.{links_marked, passes_outline}
+use Rattle.book_settle.proofs.Settling.{all_settled, enough}
 use Rattle.book_turn.specs.Known.{Known}
 use Rattle.book_turn.specs.Turns.{HasAdded}
 use Rattle.book_turn.proofs.Turns.{adds_more}
@@ -36,11 +36,7 @@ lead_where_all {S} (g ∷ gs) all = go g.link all (lead_where_all gs)
     go Joined all ih = let rest = ih all in omega (arith, rest)
 
 module _ {D S R O : Type 0} (k : Kit D S R O) where
-  -- a show answers settled exactly where as many links lead as there are
-  settled_if : (b : Option (Book D S R)) → links_in b ≤ lead_in b → shown_in b ≡ None
-  settled_if None le = refl
-  settled_if (Some c) le = cond-true _ None (Some (settled_to 0 c.segs)) (lead_all c.segs le)
-
+  -- where a show answers settled, as many links lead as there are
   all_lead : (b : Option (Book D S R)) → shown_in b ≡ None → links_in b ≤ lead_in b
   all_lead None is = omega arith
   all_lead (Some c) is = go (all_joined c.segs) refl is
@@ -48,11 +44,6 @@ module _ {D S R O : Type 0} (k : Kit D S R O) where
       go : (t : Bool) → all_joined c.segs ≡ t → (if t then None else Some (settled_to 0 c.segs)) ≡ None → length c.segs ≤ lead c.segs
       go true all is = lead_where_all c.segs all
       go false all is = absurd cc
-
-  -- fewer passes than were allowed, or enough for all links
-  enough : (n most passes links : ℕ) → most ≡ min passes links → n ≤ most → most ≤ n → (n < passes) ⊎ (links ≤ passes) → links ≤ n
-  enough n most passes links is few all (inl fewer) = omega (arith, is, few, all, fewer)
-  enough n most passes links is few all (inr each) = omega (arith, is, few, all, each)
 
   module _ (valid : D → D → O → Type 0) where
     first_under : (o : Option Settings) (h g : List (Event D R O)) → IsPrefix h g → IsLegalUnder k valid o g → IsLegalUnder k valid o h
@@ -99,7 +90,7 @@ module _ {D S R O : Type 0} (k : Kit D S R O) where
 
       stopped : (most passes links : ℕ) → links ≡ links_in (book_seen k v) → most ≡ min passes links → n ≤ most → (n < most → shown_in (book_seen k w) ≡ None)
           → (n < passes) ⊎ (links ≤ passes) → shown_in (book_seen k x) ≡ None
-      stopped most passes links are is few stops why = settled_if (book_seen k x) (go (cases_lt n most))
+      stopped most passes links are is few stops why = all_settled (book_seen k x) (go (cases_lt n most))
         where
           go : (n < most) ⊎ (most ≤ n) → links_in (book_seen k x) ≤ lead_in (book_seen k x)
           go (inl lt) = let all = all_lead (book_seen k w) (stops lt) in omega (arith, all, links_now, leads_now)

@@ -1,6 +1,7 @@
 -- What one turn of the session asks of the book, and what it gives.
 use Rattle.std.proofs.Common.{◌≡◌, ℕ, ◌+◌, Bool, true, false, List, [], ◌∷◌, ◌++◌, Option, Some, None, Result, Ok, Err, IfOk, OnErr, refl, sym, ap, ◌∙◌, subst, arith, append-nil}
 use Rattle.std.specs.Prelude.{IfNone}
+use Rattle.std.proofs.lemmas.List.{append_cancel_left}
 use Rattle.machine.specs.Kit.{Kit}
 use Rattle.book_history.specs.declared.who.Who.TheVariants.{Session}
 use Rattle.book_history.specs.Book.{Book, DrawnTicket, Settings, Event, Installs, Shows, replay, replay_from}
@@ -17,23 +18,19 @@ use Rattle.book_turn.specs.Known.{Known, entered, left}
 use Rattle.book_turn.specs.Rule.{MayLeave, Learned}
 use Rattle.book_turn.specs.Turns.{HasAdded}
 use Rattle.book_turn.proofs.Callers.{may_leave_one, may_leave_none, tickets_none}
-use Rattle.book_turn.proofs.Histories.{added_append, owned_append}
+use Rattle.book_history.proofs.Owned.{owned_append}
+use Rattle.book_turn.proofs.Histories.{added_append}
 use Rattle.book_turn.proofs.Turns.{one_turn}
 use Rattle.book_settle.proofs.Passing.{same_book}
 use Rattle.checkpoint_book.specs.Claims.{ClaimIs, claims_nothing}
 use Rattle.checkpoint_book.specs.Views.{book_of, counts_of, shown_in, is_none, HasSessionRoom}
-use Rattle.segment_verify.specs.Workers.{is_closed, IsFree}
+use Rattle.segment_verify.specs.Workers.{IsFree}
 use Rattle.segment_verify.proofs.Turns.{AddsClaim}
 use Rattle.turn_settle.specs.Seen.{book_under, book_seen, IsLegalUnder, FitRoom, HasOwnRoom}
 use Rattle.turn_settle.specs.Visits.{IsVisit, HasInstalled, drawn_first, claim_of}
 
-abbrev behind_one : {E : Type 0} → List E → List E
-behind_one [] = []
-behind_one (x ∷ xs) = xs
-
 none_behind : {E : Type 0} (xs ys : List E) → xs ++ ys ≡ xs → ys ≡ []
-none_behind [] ys e = e
-none_behind (x ∷ xs) ys e = none_behind xs ys (ap (λ l. behind_one l) e)
+none_behind xs ys e = append_cancel_left xs ys [] (e ∙ sym (append-nil xs))
 
 module _ {D R O : Type 0} where
   -- what others have added since
@@ -41,13 +38,6 @@ module _ {D R O : Type 0} where
   others_only v i learned session own =
       none_behind (owned v.seen) (owned learned.begins.0)
       (sym (owned_append v.seen learned.begins.0) ∙ ap (λ (h : List (Event D R O)). owned h) (sym learned.begins.1) ∙ learned.own session ∙ sym own)
-
-  pub open_now : (v : Known D R O) (i j : Journal D R O) → i ≡ j → Learned v j → v.session ≡ true → is_closed v.own ≡ false → (counts_of i).closed ≡ false
-  open_now v i j same learned session is =
-      ap (λ (x : Journal D R O). (counts_of x).closed) same
-      ∙ (owned_counts no_entry no_entry j.events refl refl).1
-      ∙ ap (λ (h : List (Event D R O)). is_closed h) (learned.own session)
-      ∙ is
 
   pub room_now : (v : Known D R O) (i j : Journal D R O) (n : ℕ) → i ≡ j → Learned v j → v.session ≡ true → HasOwnRoom v n → HasSessionRoom i n
   room_now v i j n same learned session room =

@@ -5,6 +5,9 @@ use Rattle.std.proofs.lemmas.Bool.{ltb-true}
 use Rattle.typed_ir.specs.Orders.{Each, at_or}
 use Rattle.typed_ir.specs.Flats.{are_below}
 use Rattle.typed_ir.proofs.Cases.{and_left, and_right}
+pub use Rattle.std.proofs.lemmas.List.{drop_more as drop_split}
+pub use Rattle.ls_text.proofs.Lists.{none_is_some}
+use Rattle.std.proofs.lemmas.List.{take_more}
 
 -- what is left at a place is its element and what is left after it
 pub drop_read : {A : Type 0} (xs : List A) (i : ℕ) (x : A) → i < length xs → x ≡ get_or xs i x → drop i xs ≡ x ∷ drop (i + 1) xs
@@ -12,8 +15,9 @@ drop_read xs i x h is =
     let more : suc i ≡ i + 1 = omega arith in
     drop-cons xs i x h ∙ ap (λ z. z ∷ drop (suc i) xs) (sym is) ∙ ap (λ n. x ∷ drop n xs) more
 
-pub drop_split : {A : Type 0} (xs : List A) (i : ℕ) (d : A) → i < length xs → drop i xs ≡ get_or xs i d ∷ drop (i + 1) xs
-drop_split xs i d h = let more : suc i ≡ i + 1 = omega arith in drop-cons xs i d h ∙ ap (λ n. get_or xs i d ∷ drop n xs) more
+-- and one more of the beginning of a list
+pub take_next : {A : Type 0} (xs : List A) (i : ℕ) (x : A) → i < length xs → x ≡ get_or xs i x → take (i + 1) xs ≡ take i xs ++ x ∷ []
+take_next xs i x h is = take_more xs i x h ∙ ap (λ z. take i xs ++ z ∷ []) (sym is)
 
 -- a vector that was handed to a call as a slice
 pub written_back : {A : Type 0} (n : ℕ) (new old : List A) → length new ≡ length old → length new ≡ n → take n (new ++ drop (length new) old) ≡ new

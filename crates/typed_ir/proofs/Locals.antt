@@ -17,7 +17,7 @@ use Rattle.typed_ir.specs.Sized.{Sized, Constant, Name, Part, Pick, Unary, Binar
 use Rattle.typed_ir.specs.Stmts.{SizedTarget, Fixed, Moving, SizedItem, SizedStmt, SizedArms, Skip, Assign, Later, Then, If, Case, Arm, Default, moved, all_applied, update_of, written, matches_item, matches_any, exec, exec_arms, span_of, targets, arm_targets, certain, known_after, known_after_arms, index_reads, open_indices, item_reads, open_reads, open_arm_reads}
 use Rattle.typed_ir.specs.Nodes.{FlatNode, Drive, Block, spread, lane_spans, copied, drive, node_drives, node_reads, IsComplete}
 use Rattle.typed_ir.specs.Orders.{NodeLaws}
-use Rattle.typed_ir.proofs.Cases.{by_cases, or_left, or_right, left_or, right_or, and_left, and_right, cond_same}
+use Rattle.typed_ir.proofs.Cases.{by_cases, or_left, or_right, left_or, right_or, and_left, and_right, cond_same, only_left}
 use Rattle.typed_ir.proofs.BitRuns.{placed-inside, placed-outside}
 use Rattle.typed_ir.proofs.Settled.{same_valuation}
 
@@ -88,10 +88,6 @@ pub read_same : (A known : Places) (B : Places) (v w : Valuation) → ((s i : �
 read_same A known B v w sub hk hb s i a =
     by_cases (known s i) (hk s i) (λ no. hb s i (sub s i (and_from (A s i) (not (known s i)) a (ap not no))))
 
-or_none : (a : Bool) → (a || false) ≡ true → a ≡ true
-or_none true h = refl
-or_none false h = h
-
 -- the bits of a part become known
 lane_certain : (p : Span) (z : ℕ) (A : Places) (v w : Valuation) → Same A v w
     → Same (λ s i. A s i || within p s i) (placed p z v) (placed p z w)
@@ -107,7 +103,7 @@ lane_certain p z A v w k s i a =
 pub written_local : (ts : List SizedTarget) (x y : ℕ) (known B : Places) (v w : Valuation) → x ≡ y
     → ((s i : ℕ) → open_indices ts known s i ≡ true → B s i ≡ true) → Same known v w → Same B v w
     → Same (λ s i. known s i || certain ts s i) (written ts x v) (written ts y w) × Same B (written ts x v) (written ts y w)
-written_local [] x y known B v w e sub hk hb = (λ s i a. hk s i (or_none (known s i) a), hb)
+written_local [] x y known B v w e sub hk hb = (λ s i a. hk s i (only_left (known s i) false refl a), hb)
 written_local (Fixed lane ∷ ts) x y known B v w e sub hk hb =
     let us = update_of (Fixed lane) x v in
     let more : Places = λ s i. known s i || within lane.span s i in
@@ -125,7 +121,7 @@ written_local (Moving reach index ∷ ts) x y known B v w e sub hk hb =
     let read : Same (reads index) v w = read_same (reads index) known B v w
     (λ s i r. sub s i (left_or (reads index s i && not (known s i)) (open_indices ts known s i) r)) hk hb in
     let same : us ≡ update_of (Moving reach index) y w =
-    update_local (Moving reach index) x y v w e (λ s i r. read s i (or_none (reads index s i) r)) in
+    update_local (Moving reach index) x y v w e (λ s i r. read s i (only_left (reads index s i) false refl r)) in
     let both : Same (λ s i. known s i || certain ts s i) (written ts x (all_applied us v)) (written ts y (all_applied us w))
     × Same B (written ts x (all_applied us v)) (written ts y (all_applied us w)) =
     written_local ts x y known B (all_applied us v) (all_applied us w) e

@@ -46,6 +46,12 @@ driver_index (n ∷ ns) s i h =
     let small : rest.0 < length ns = rest.1 in
     (suc rest.0, omega (arith, small), rest.2))
 
+-- a number that drives something is that of a node
+pub drives_number : (ns : List FlatNode) (k s i : ℕ) → drives_at ns k s i ≡ true → k < length ns
+drives_number [] k s i d = absurd (true≢false (sym d))
+drives_number (n ∷ ns) zero s i d = omega arith
+drives_number (n ∷ ns) (suc k) s i d = let rest : k < length ns = drives_number ns k s i d in omega (arith, rest)
+
 -- some number of the list drives it
 pub any_of_member : (drives : ℕ → Places) (xs : List ℕ) (k s i : ℕ) → Member k xs → drives k s i ≡ true → any_drives drives xs s i ≡ true
 any_of_member drives [] k s i m t = absurd m

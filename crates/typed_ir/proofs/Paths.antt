@@ -1,9 +1,11 @@
 -- Paths of instances, by the table before each.
-use Rattle.std.proofs.Common.{◌≡◌, ℕ, zero, suc, ◌+◌, ◌<◌, ◌≤◌, List, [], ◌∷◌, ◌++◌, length, get_or, take, drop, refl, sym, ◌∙◌, ap, arith}
-use Rattle.std.specs.Prelude.{slice_index_or}
+use Rattle.std.proofs.Common.{◌≡◌, ℕ, zero, suc, ◌+◌, ◌<◌, ◌≤◌, ◌==◌, true, List, [], ◌∷◌, ◌++◌, length, get_or, take, drop, append_assoc, refl, sym, ◌∙◌, ap, arith}
+use Rattle.std.specs.Prelude.{slice_index_or, codes}
+use Rattle.std.proofs.lemmas.Bool.{eq-eqb, and_from}
 use Rattle.std.proofs.lemmas.List.{length-append, length-take-le, take-append-drop, get_or_append_left, get_or-append-add}
+use Rattle.ls_text.specs.Texts.{text_at}
 use Rattle.typed_ir.specs.declared.instance_name.InstanceName.{InstanceName}
-use Rattle.typed_ir.specs.Paths.{path_next, paths_from, paths_of}
+use Rattle.typed_ir.specs.Paths.{path_next, paths_from, paths_of, same_path, joined, dotted}
 use Rattle.typed_ir.proofs.Lists.{drop_read}
 
 paths_cut : (paths : List (List ℕ)) (xs ys : List InstanceName) → paths_from paths (xs ++ ys) ≡ paths_from (paths_from paths xs) ys
@@ -49,3 +51,22 @@ path_of rows k x h is =
     ∙ paths_keep (earlier ++ one ∷ []) rest k inside
     ∙ ap (λ n. slice_index_or (earlier ++ one ∷ []) n []) back
     ∙ get_or-append-add earlier (one ∷ []) 0 []
+
+pub path_itself : (xs : List ℕ) → same_path xs xs ≡ true
+path_itself [] = refl
+path_itself (x ∷ xs) = and_from (x == x) (same_path xs xs) (eq-eqb x x refl) (path_itself xs)
+
+-- ---- texts of paths with one more name
+
+pub dotted_push : (texts : List (List ℕ)) (p : List ℕ) (n : ℕ) → dotted texts (p ++ n ∷ []) ≡ dotted texts p ++ (text_at texts n ++ codes ".")
+dotted_push texts [] n = refl
+dotted_push texts (m ∷ p) n =
+    ap (λ zs. text_at texts m ++ (codes "." ++ zs)) (dotted_push texts p n)
+    ∙ sym (append_assoc (text_at texts m) (codes "." ++ dotted texts p) (text_at texts n ++ codes "."))
+
+pub joined_push : (texts : List (List ℕ)) (p : List ℕ) (n : ℕ) → joined texts (p ++ n ∷ []) ≡ dotted texts p ++ text_at texts n
+joined_push texts [] n = refl
+joined_push texts (m ∷ []) n = sym (append_assoc (text_at texts m) (codes ".") (text_at texts n))
+joined_push texts (m ∷ k ∷ p) n =
+    ap (λ zs. text_at texts m ++ (codes "." ++ zs)) (joined_push texts (k ∷ p) n)
+    ∙ sym (append_assoc (text_at texts m) (codes "." ++ dotted texts (k ∷ p)) (text_at texts n))

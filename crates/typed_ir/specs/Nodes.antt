@@ -6,7 +6,7 @@ use Rattle.typed_ir.specs.declared.shown_target.ShownTarget.{ShownTarget}
 use Rattle.typed_ir.specs.declared.target_form.TargetForm.{TargetForm}
 use Rattle.typed_ir.specs.Valuations.{Valuation, Places, placed, any_within, nowhere}
 use Rattle.typed_ir.specs.Sized.{Sized, value_of, reads, is_span}
-use Rattle.typed_ir.specs.Stmts.{SizedStmt, exec, targets, open_reads, IsWhole, is_legal, is_sized}
+use Rattle.typed_ir.specs.Stmts.{SizedTarget, Fixed, Moving, SizedStmt, exec, targets, open_reads, IsWhole, is_legal, is_sized}
 use Rattle.typed_ir.specs.Orders.{at_or, Precedes, IsOrderOf}
 
 -- what drives some bits at all times, with how its first target is shown
@@ -20,6 +20,12 @@ pub data FlatNode : Type 0 where
 abbrev pub spread : List Lane → ℕ → Valuation → Valuation
 spread [] x env = env
 spread (l ∷ ls) x env = spread ls x (placed l.span (x / 2 ^ l.shift) env)
+
+-- the parts of a target whose indices are constant: their bits are known
+abbrev pub known_lanes : List SizedTarget → List Lane
+known_lanes [] = []
+known_lanes (Fixed lane ∷ ts) = lane ∷ known_lanes ts
+known_lanes (Moving reach index ∷ ts) = known_lanes ts
 
 abbrev pub lane_spans : List Lane → List Span
 lane_spans lanes = map (λ (l : Lane). l.span) lanes

@@ -1,5 +1,5 @@
 -- Nodes that are all applied at once, one after another, and in an order. General in what a node is.
-use Rattle.std.specs.Prelude.{◌≡◌, ℕ, zero, suc, ◌<◌, true, false, ◌||◌, ◌⊎◌, List, [], ◌∷◌, length}
+use Rattle.std.specs.Prelude.{◌≡◌, ℕ, zero, suc, ◌<◌, ◌==◌, Bool, true, false, not, ◌&&◌, ◌||◌, ◌⊎◌, List, [], ◌∷◌, length}
 use Rattle.typed_ir.specs.Valuations.{Valuation, Places, Same, look}
 
 -- all applied at once to v, into env
@@ -52,6 +52,15 @@ Precedes drives reads a b = (s i : ℕ) × (drives a s i ≡ true) × (reads b s
 abbrev pub Distinct : List ℕ → Type 0
 Distinct [] = Unit {0}
 Distinct (k ∷ ks) = (Member k ks → ⊥) × Distinct ks
+
+-- both as tests
+abbrev pub is_member : ℕ → List ℕ → Bool
+is_member n [] = false
+is_member n (x ∷ xs) = (n == x) || is_member n xs
+
+abbrev pub are_distinct : List ℕ → Bool
+are_distinct [] = true
+are_distinct (x ∷ xs) = not (is_member x xs) && are_distinct xs
 
 -- whatever comes before a number of the list stands earlier, or among `done`
 abbrev pub EachAfter : (ℕ → ℕ → Type 0) → List ℕ → List ℕ → Type 0

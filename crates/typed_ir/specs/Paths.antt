@@ -1,5 +1,6 @@
 -- Tables of instances, and the paths that they give: the hierarchical names (IEEE Std 1364-2005, 12.4).
-use Rattle.std.specs.Prelude.{ℕ, suc, Bool, true, ◌&&◌, ◌==◌, nat_lt, List, [], ◌∷◌, ◌++◌, map, Option, Some, None, slice_index_or}
+use Rattle.std.specs.Prelude.{ℕ, suc, Bool, true, false, ◌&&◌, ◌==◌, nat_lt, List, [], ◌∷◌, ◌++◌, map, codes, Option, Some, None, slice_index_or}
+use Rattle.ls_text.specs.Texts.{text_at}
 use Rattle.typed_ir.specs.declared.instance_name.InstanceName.{InstanceName}
 
 -- ---- tables
@@ -39,3 +40,22 @@ paths_of rows = paths_from [] rows
 -- a name in an instance
 abbrev pub path_in : List InstanceName → ℕ → ℕ → List ℕ
 path_in rows instance name = slice_index_or (paths_of rows) instance [] ++ name ∷ []
+
+abbrev pub same_path : List ℕ → List ℕ → Bool
+same_path [] [] = true
+same_path [] (y ∷ ys) = false
+same_path (x ∷ xs) [] = false
+same_path (x ∷ xs) (y ∷ ys) = (x == y) && same_path xs ys
+
+-- ---- their texts
+
+-- names with dots between
+abbrev pub joined : List (List ℕ) → List ℕ → List ℕ
+joined texts [] = []
+joined texts (n ∷ []) = text_at texts n
+joined texts (n ∷ m ∷ ns) = text_at texts n ++ (codes "." ++ joined texts (m ∷ ns))
+
+-- names, each with a dot behind it
+abbrev pub dotted : List (List ℕ) → List ℕ → List ℕ
+dotted texts [] = []
+dotted texts (n ∷ ns) = text_at texts n ++ (codes "." ++ dotted texts ns)

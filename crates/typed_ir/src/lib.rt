@@ -1,10 +1,11 @@
 // Flat designs: sized expressions, statements and nodes, and what they do to a valuation of the signals.
 //
-// Expressions: `typed` builds sized ones, whose widths agree, of the layers of `form`, which evaluates them by `apply`. Statements (`stmt`,
-// `target`, `item`) and nodes (`node`) are data: `specs/` says what they do, and the steps that other crates lay them out as do it. Bits:
-// `writing` lists those that a clocked block may write, `touching` those that a node drives and reads. Whole designs: `rooting` makes a table
-// of instances, `flat` keeps what a design's parts have to be, and `linked` an order of its nodes too. `laws` says of such a design that the
-// order settles its wires.
+// Expressions: `typed` builds sized ones, whose widths agree, of the layers of `form`, which evaluates them by `apply`; operators are
+// `unary_operator` and, in groups, `binary_operator`. Statements (`stmt`, `target`, `item`) and nodes (`node`) are data: `specs/` says what they do,
+// and the steps that other crates lay them out as do it. Bits: `writing` lists those that a clocked block may write, `touching` those that a node
+// drives and reads. Whole designs: `rooting` makes a table of instances, `flat` keeps what a design's parts have to be, and `linked` an order of its
+// nodes too. `laws` says of such a design that the order settles its wires. Numbers that stand for something have types of their own, which contracts
+// see as numbers: `signal_id`, `register_id`, `node_id`, `instance_id`.
 #![tactic(auto)]
 
 mod apply;

@@ -3,7 +3,7 @@ use Rattle.std.proofs.Common.{◌≡◌, ◌≤◌, ℕ, suc, Bool, true, false,
 use Rattle.std.specs.Prelude.{⊤, Option, Some, None}
 use Rattle.std.proofs.lemmas.Bool.{and_from}
 use Rattle.std.proofs.lemmas.List.{length-append}
-use Rattle.typed_ir.specs.Nodes.{are_lanes}
+use Rattle.typed_ir.specs.Nodes.{are_lanes, known_lanes}
 use Rattle.typed_ir.specs.Orders.{Each}
 use Rattle.typed_ir.specs.Stmts.{is_sized}
 use Rattle.unit_ir.specs.declared.child_shape.ChildShape.{ChildShape}
@@ -25,7 +25,7 @@ use Rattle.size_laws.proofs.Statements.{assigned_sized}
 use Rattle.connection_rules.specs.Connections.{Connected, connected_to, connection_faults, connection_kinds, all_connection_faults, all_connection_kinds}
 use Rattle.connection_rules.specs.ConnectionNodes.{driven_by, port_lane, port_value, input_node, output_node, connection_node}
 use Rattle.connection_rules.specs.Instances.{instance_faults, instance_kinds, item_faults, first_to, item_if, port_items, child_items, instance_items}
-use Rattle.connection_rules.specs.Outputs.{target_at, output_faults, output_kinds, known_lanes}
+use Rattle.connection_rules.specs.Outputs.{target_at, output_faults, output_kinds}
 use Rattle.connection_rules.proofs.ChildWidths.{lanes_lie, values_lie}
 use Rattle.connection_rules.proofs.Standing.{first_is}
 use Rattle.unit_build.proofs.ConnectedItems.{each_items}

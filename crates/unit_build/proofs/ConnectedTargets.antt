@@ -2,7 +2,7 @@
 use Rattle.std.proofs.Common.{◌≡◌, ◌≤◌, ℕ, true, ◌&&◌, List, [], ◌∷◌, nat_lt, refl, sym, ◌∙◌, ap, true≢false}
 use Rattle.std.specs.Prelude.{Option, Some, None}
 use Rattle.std.proofs.lemmas.Bool.{and_from, cond-true}
-use Rattle.typed_ir.specs.Nodes.{are_lanes}
+use Rattle.typed_ir.specs.Nodes.{are_lanes, known_lanes}
 use Rattle.typed_ir.specs.Sized.{is_span}
 use Rattle.typed_ir.specs.Stmts.{SizedTarget, Fixed, Moving, is_target as is_part, are_targets}
 use Rattle.typed_ir.proofs.Cases.{and_left, and_right}
@@ -17,7 +17,7 @@ use Rattle.size_laws.specs.Written.{IsWritten, ArePartsWritten, IsTargetWritten,
 use Rattle.size_laws.proofs.Targets.{target_long, target_parts}
 use Rattle.connection_rules.specs.Connections.{Connected}
 use Rattle.connection_rules.specs.ConnectionNodes.{target_or_none, driven_by}
-use Rattle.connection_rules.specs.Outputs.{is_target, target_at, as_target, written_faults, output_faults, written_kinds, output_kinds, known_lanes}
+use Rattle.connection_rules.specs.Outputs.{is_target, target_at, as_target, written_faults, output_faults, written_kinds, output_kinds}
 use Rattle.unit_build.proofs.OutputTargets.{output_is_target}
 
 -- ---- an expression that is a target is written as one

@@ -1,14 +1,12 @@
 -- Items without a fault, sized where all names in reach fit the widths of signals, have widths that agree with theirs.
-use Rattle.std.proofs.Common.{◌≡◌, ℕ, ◌&&◌, Bool, true, false, cond, nat_lt, List, [], ◌∷◌, ◌++◌, map, refl}
+use Rattle.std.proofs.Common.{◌≡◌, ℕ, Bool, true, false, cond, List, [], ◌∷◌, ◌++◌, map, refl}
 use Rattle.std.specs.Prelude.{⊤, Option, Some, None}
 use Rattle.std.specs.Option.{option_map}
 use Rattle.std.proofs.lemmas.Bool.{and_from}
 use Rattle.ls_text.specs.declared.place.Place.{Place}
-use Rattle.typed_ir.specs.Nodes.{are_lanes, is_legal_node}
+use Rattle.typed_ir.specs.Nodes.{are_lanes, is_legal_node, known_lanes}
 use Rattle.typed_ir.specs.Orders.{Each}
-use Rattle.typed_ir.specs.Sized.{is_span}
-use Rattle.typed_ir.specs.Stmts.{SizedTarget, Fixed, Moving, SizedStmt, is_sized, is_target, are_targets, is_legal, is_clocked}
-use Rattle.typed_ir.proofs.Cases.{and_left, and_right}
+use Rattle.typed_ir.specs.Stmts.{SizedStmt, is_sized, is_legal, is_clocked}
 use Rattle.typed_ir.proofs.Lists.{each_append}
 use Rattle.unit_ir.specs.Items.{SizedBody, Node, Clocked, Initial, PlacedItem, node_in, nodes_in, block_in, blocks_in}
 use Rattle.unit_ir.specs.Trees.{UnitNode, is_legal_unit_node, is_legal_block}
@@ -42,8 +40,9 @@ use Rattle.gen_unroll.specs.Views.{step_of}
 use Rattle.sized_items.specs.declared.value_kind.ValueKind.{ValueKind}
 use Rattle.sized_items.specs.declared.value_kind.ValueKind.TheVariants as kind
 use Rattle.sized_items.specs.DeclaredValues.{DeclaredValue, kind_of_net, value_if, values_of, reg_values_of, port_values, as_assignment, is_net_value, declaration_faults}
-use Rattle.sized_items.specs.SizedItems.{fixed_lanes, drive_item, initial_item, value_item, combinational_item, clocked_item, plain_items, plain_faults}
+use Rattle.sized_items.specs.SizedItems.{drive_item, initial_item, value_item, combinational_item, clocked_item, plain_items, plain_faults}
 use Rattle.sized_items.proofs.Driven.{nets_driven}
+use Rattle.unit_build.proofs.ConnectedTargets.{lanes_known}
 
 -- ---- items whose texts are written as a parser writes them
 
@@ -125,18 +124,11 @@ IsLegalItem widths kids x = IsLegalBody widths kids x.body
 abbrev pub AreLegalItems : List ℕ → (ℕ → List ℕ) → List PlacedItem → Type 0
 AreLegalItems widths kids xs = Each (IsLegalItem widths kids) xs
 
-lanes_fit : (ts : List SizedTarget) (widths : List ℕ) → are_targets ts widths ≡ true → are_lanes (fixed_lanes ts) widths ≡ true
-lanes_fit [] widths h = refl
-lanes_fit (Fixed lane ∷ ts) widths h =
-    and_from (nat_lt lane.shift 128 && is_span lane.span widths) (are_lanes (fixed_lanes ts) widths)
-    (and_left (is_target (Fixed lane) widths) (are_targets ts widths) h) (lanes_fit ts widths (and_right (is_target (Fixed lane) widths) (are_targets ts widths) h))
-lanes_fit (Moving reach index ∷ ts) widths h = lanes_fit ts widths (and_right (is_target (Moving reach index) widths) (are_targets ts widths) h)
-
 drive_legal : (scope : Scope) (widths : List ℕ) (kids : ℕ → List ℕ) (x : ContinuousAssignment) → FitsDrive (sized_drive scope x) widths → IsLegalItem widths kids (drive_item scope x)
 unfolding is_legal_node
 drive_legal scope widths kids x fits =
-    and_from (are_lanes (fixed_lanes (parts scope 0 x.target)) widths) (is_sized (sized_drive scope x).value widths)
-    (lanes_fit (parts scope 0 x.target) widths fits.targets) fits.value
+    and_from (are_lanes (known_lanes (parts scope 0 x.target)) widths) (is_sized (sized_drive scope x).value widths)
+    (lanes_known (parts scope 0 x.target) widths fits.targets) fits.value
 
 drives_legal : (scope : Scope) (widths : List ℕ) (kids : ℕ → List ℕ) (xs : List ContinuousAssignment) → FitDrives scope xs widths → AreLegalItems widths kids (map (drive_item scope) xs)
 drives_legal scope widths kids [] fits = tt

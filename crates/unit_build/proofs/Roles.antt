@@ -1,17 +1,16 @@
 -- The registers of a unit are just the variables that no combinational block writes, and its data inputs are declared as inputs.
-use Rattle.std.proofs.Common.{◌≡◌, ℕ, zero, suc, ◌+◌, ◌<◌, ◌&&◌, inl, inr, Bool, true, false, cond, not, filter, List, [], ◌∷◌, length, refl, sym, ◌∙◌, ap, subst, arith, true≢false}
+use Rattle.std.proofs.Common.{◌≡◌, ℕ, zero, suc, ◌<◌, ◌&&◌, inl, inr, Bool, true, false, cond, not, filter, List, [], ◌∷◌, length, refl, sym, ◌∙◌, ap, subst, arith, true≢false}
 use Rattle.std.specs.Prelude.{Option, slice_get}
 use Rattle.ls_text.specs.declared.name_id.NameId.{NameId}
 use Rattle.typed_ir.specs.Orders.{Member, at_or}
-use Rattle.typed_ir.proofs.Cases.{and_left}
 use Rattle.unit_ir.specs.declared.signal_declaration.SignalDeclaration.{SignalDeclaration}
 use Rattle.unit_ir.specs.declared.signal_kind.SignalKind.{SignalKind}
 use Rattle.unit_ir.specs.declared.signal_kind.SignalKind.TheVariants as kind
 use Rattle.unit_ir.specs.Items.{PlacedItem}
-use Rattle.unit_ir.specs.Shapes.{is_clock}
 use Rattle.unit_names.specs.Numbers.{SignalTable}
 use Rattle.unit_names.specs.Signals.{NamedSignal}
-use Rattle.unit_names.specs.UnitLists.{declarations_of, is_input, is_data_input, data_inputs_from, data_inputs, is_variable, is_register_at, is_register}
+use Rattle.unit_names.proofs.Numbered.{input_at, input_from}
+use Rattle.unit_names.specs.UnitLists.{declarations_of, is_input, data_inputs, is_variable, is_register_at, is_register}
 use Rattle.driver_rules.specs.Driven.{is_input_kind, HasRoles}
 use Rattle.driver_rules.specs.Driven.{is_input as is_declared_input}
 use Rattle.driver_rules.specs.Targets.{is_variable_kind, is_settled}
@@ -68,35 +67,17 @@ inputs_same kind.Variable = refl
 abbrev declared_input : List NamedSignal → ℕ → Bool
 declared_input xs s = at_or (λ (d : SignalDeclaration). is_input_kind d.kind) false (declarations_of xs) s
 
--- by its place behind the first one
-record IsInputAt (xs : List NamedSignal) (first s : ℕ) : Type 0 where
-  place : ℕ
-  is : s ≡ first + place
-  seen : declared_input xs place ≡ true
-
-next_input : (x : NamedSignal) (xs : List NamedSignal) (first s : ℕ) → IsInputAt xs (suc first) s → IsInputAt (x ∷ xs) first s
-next_input x xs first s h = let same = h.is in record { place = suc h.place; is = omega (arith, same); seen = h.seen }
-
-input_from : (first : ℕ) (clock : Option NameId) (xs : List NamedSignal) (s : ℕ) → Member s (data_inputs_from first clock xs) → IsInputAt xs first s
-input_from first clock [] s m = absurd m
-input_from first clock (x ∷ xs) s m = by (is_data_input clock x) refl (input_from (suc first) clock xs s) m
-  where
-    by : (b : Bool) → is_data_input clock x ≡ b → (Member s (data_inputs_from (suc first) clock xs) → IsInputAt xs (suc first) s)
-        → Member s (cond b (first ∷ data_inputs_from (suc first) clock xs) (data_inputs_from (suc first) clock xs)) → IsInputAt (x ∷ xs) first s
-    by true is rest (inl e) = record {
-      place = 0;
-      is = omega (arith, e);
-      seen = sym (inputs_same x.kind) ∙ and_left (is_input x.kind) (not (is_clock clock x.name.name)) is;
-    }
-    by true is rest (inr h) = next_input x xs first s (rest h)
-    by false is rest h = next_input x xs first s (rest h)
+at_declared : (xs : List NamedSignal) (k : ℕ) → input_at xs k ≡ true → declared_input xs k ≡ true
+at_declared [] k h = absurd (true≢false (sym h))
+at_declared (x ∷ xs) zero h = sym (inputs_same x.kind) ∙ h
+at_declared (x ∷ xs) (suc k) h = at_declared xs k h
 
 input_declared : (clock : Option NameId) (xs : List NamedSignal) (s : ℕ) → Member s (data_inputs clock xs) → is_declared_input (declarations_of xs) s ≡ true
 input_declared clock xs s m =
     let h = input_from 0 clock xs s m in
     let is = h.is in
     let same : s ≡ h.place = omega (arith, is) in
-    ap (declared_input xs) same ∙ h.seen
+    ap (declared_input xs) same ∙ at_declared xs h.place h.seen
 
 -- ---- both
 

@@ -1,30 +1,18 @@
 -- The steps of a job, by what unrolling tells.
-use Rattle.std.proofs.Common.{◌≡◌, Bool, List, Result, Ok, Err, refl, sym, ◌∙◌, ap}
+use Rattle.std.proofs.Common.{◌≡◌, Bool, List, Result, Ok, Err, sym, ◌∙◌, ap}
 use Rattle.std.specs.Prelude.{Option, Some, None}
-use Rattle.std.proofs.lemmas.Option.{none-some}
 use Rattle.ls_text.specs.declared.fault.Fault.{Fault}
 use Rattle.gen_unroll.specs.Steps.{ModuleStep}
 use Rattle.gen_unroll.specs.Told.{Told, fault_in}
-use Rattle.gen_unroll.specs.Unrolled.{State, unrolled_module, turn_limit}
+use Rattle.gen_unroll.specs.Unrolled.{unrolled_module, turn_limit}
 use Rattle.ls_text.specs.Answers.{◌>>=◌}
 use Rattle.gen_unroll.specs.Values.{ConstantValue}
+use Rattle.gen_unroll.proofs.Answered.{ended, stopped}
 use Rattle.module_registry.specs.declared.build_job.BuildJob.{BuildJob}
 use Rattle.unit_names.specs.Numbers.{SignalTable, module_table}
 use Rattle.unit_build.specs.Building.{module_of, steps_told, job_steps, settled_signals, unit_with, built}
 use Rattle.unit_build.specs.FromSteps.{unit_from}
 use Rattle.gen_unroll.specs.Overriding.{constant_sorts, overrides_of}
-
-abbrev fault_or : Fault → Option Fault → Fault
-fault_or g None = g
-fault_or g (Some f) = f
-
-ended : (said : List ModuleStep) (e : Result State Fault) (f : Fault) → Some f ≡ fault_in e → (e >>= λ st. Ok said) ≡ Err f
-ended said (Ok st) f h = absurd (none-some f (sym h))
-ended said (Err g) f h = ap Err (sym (ap (fault_or g) h))
-
-whole : (said : List ModuleStep) (e : Result State Fault) → None ≡ fault_in e → (e >>= λ st. Ok said) ≡ Ok said
-whole said (Ok st) h = refl
-whole said (Err g) h = absurd (none-some g h)
 
 -- unrolling finds a fault
 pub stops : (job : BuildJob) (os : List (Option ConstantValue)) (f : Fault) → os ≡ overrides_of (constant_sorts (module_of job)) job.parameters
@@ -33,7 +21,7 @@ unfolding built job_steps
 stops job os f is h =
     ap (λ (zs : List (Option ConstantValue)). steps_told (unrolled_module turn_limit zs (module_of job)) >>= unit_from job) (sym is)
     ∙ ap (λ (r : Result (List ModuleStep) Fault). r >>= unit_from job)
-    (ended (unrolled_module turn_limit os (module_of job)).said (unrolled_module turn_limit os (module_of job)).ending f h)
+    (stopped (unrolled_module turn_limit os (module_of job)).said (unrolled_module turn_limit os (module_of job)).ending f h)
 
 -- or it tells all steps
 pub goes : (job : BuildJob) (os : List (Option ConstantValue)) (ss : List ModuleStep) → os ≡ overrides_of (constant_sorts (module_of job)) job.parameters
@@ -43,7 +31,7 @@ unfolding built job_steps
 goes job os ss is h said =
     ap (λ (zs : List (Option ConstantValue)). steps_told (unrolled_module turn_limit zs (module_of job)) >>= unit_from job) (sym is)
     ∙ ap (λ (r : Result (List ModuleStep) Fault). r >>= unit_from job)
-    (whole (unrolled_module turn_limit os (module_of job)).said (unrolled_module turn_limit os (module_of job)).ending h)
+    (ended (unrolled_module turn_limit os (module_of job)).said (unrolled_module turn_limit os (module_of job)).ending h)
     ∙ ap (unit_from job) (sym said)
 
 -- the unit by the table of its signals and by what is settled

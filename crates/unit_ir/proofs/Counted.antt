@@ -20,6 +20,11 @@ pub count_map : {A B : Type 0} (f : B → Bool) (g : A → B) (xs : List A) → 
 count_map f g [] = refl
 count_map f g (x ∷ xs) = ap (λ n. cond (f (g x)) 1 0 + n) (count_map f g xs)
 
+-- of one element at most one is counted
+pub one_at_most : (b : Bool) → cond b 1 0 + 0 ≤ 1
+one_at_most true = omega arith
+one_at_most false = omega arith
+
 one_le : (a b : Bool) (m n : ℕ) → (a ≡ true → b ≡ true) → m ≤ n → cond a 1 0 + m ≤ cond b 1 0 + n
 one_le false false m n h k = omega (arith, k)
 one_le false true m n h k = omega (arith, k)

@@ -1,11 +1,12 @@
 -- That the units of the example are sound, and of widths that agree.
-use Rattle.std.proofs.Common.{◌≡◌, ℕ, suc, ◌+◌, ◌<◌, ◌≤◌, ◌==◌, ◌&&◌, ◌||◌, ap, true≢false, Bool, true, false, inl, inr, [], ◌∷◌, cond, nat_le, nat_lt, refl, sym, ◌∙◌, eqb-true, arith}
+use Rattle.std.proofs.Common.{◌≡◌, ℕ, suc, ◌+◌, ◌<◌, ◌==◌, ◌&&◌, ◌||◌, ap, true≢false, true, false, inl, inr, [], ◌∷◌, nat_le, nat_lt, refl, sym, ◌∙◌, eqb-true, arith}
 use Rattle.typed_ir.specs.Valuations.{any_within}
 use Rattle.typed_ir.specs.Nodes.{lane_spans}
 use Rattle.typed_ir.specs.Orders.{Member}
 use Rattle.unit_ir.specs.Trees.{AreSound, AreLegal}
 use Rattle.unit_ir.specs.Example.{all_of, tree}
 use Rattle.typed_ir.proofs.Cases.{by_cases}
+use Rattle.unit_ir.proofs.Counted.{one_at_most}
 
 zero_there : (n s : ℕ) → Member s (0 ∷ []) → s < suc n
 zero_there n s (inl e) = omega (arith, e)
@@ -20,16 +21,12 @@ differ s (inl e) (inl f) = omega (arith, e, f)
 differ s (inl e) (inr h) = h
 differ s (inr h) k = h
 
-at_most : (b : Bool) → cond b 1 0 + 0 ≤ 1
-at_most true = omega arith
-at_most false = omega arith
-
 pub tree_sound : AreSound tree
 tree_sound = (
   record {
     unit = record {
       own = λ s i. omega arith;
-      ports = λ c s i. at_most _;
+      ports = λ c s i. one_at_most _;
       inputs_held = λ s i h. refl;
       registers_held = λ s i h. absurd h;
       inputs_there = λ s h. zero_there 0 s h;
@@ -53,7 +50,7 @@ tree_sound = (
         inputs_there = λ s h. zero_there 1 s h;
         registers_there = λ s h. one_there s h;
         nodes = tt;
-        writers = λ s i. at_most _;
+        writers = λ s i. one_at_most _;
         registers_only = ((inl refl, tt), tt);
         registers_once = ((λ m. m), tt);
         inputs_once = ((λ m. m), tt);

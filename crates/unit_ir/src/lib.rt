@@ -1,10 +1,10 @@
 // Modules by numbers of their own: the items of a module with their places, its unit, the instances of a design; copies by other
 // numbers, and the law that the design of a tree of sound units is sound.
 //
-// Types alone, of what others make: `typed_items` are the items of a module with their places, `unit_parts` these without, `unit` those that
-// are sound and sized; `shape_list` and `port_list` are a module as it is seen from above, `instance_tree` the instances of a design.
-// `shifting` copies an expression, a statement or a node to other numbers of signals, as linking does for each instance. `laws` says what the
-// definition of linking keeps.
+// Types alone, of what others make: `typed_items` are the items of a module (`typed_item`), each sized (`item_body`) and with its places
+// (`item_places`), `unit_parts` these without, `unit` those that are sound and sized; `shape_list` and `port_list` are instances (`child_shape`) and
+// ports (`port_shape`) as they are seen from above, `instance_tree` the instances of a design. `shifting` copies an expression, a statement or a node
+// to other numbers of signals, as linking does for each instance. `laws` says what the definition of linking keeps.
 #![tactic(auto)]
 
 mod child_id;

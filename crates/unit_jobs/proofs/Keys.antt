@@ -6,9 +6,9 @@ use Rattle.std.specs.Map.{lookup}
 use Rattle.std.specs.declared.sync.Arc.{Arc}
 use Rattle.std.proofs.lemmas.Bool.{cond-false}
 use Rattle.std.proofs.lemmas.List.{map_push}
-use Rattle.std.proofs.lemmas.Option.{none-some}
 use Rattle.indexmap.specs.IndexMap.{insert_entry}
 use Rattle.ls_text.specs.declared.name_id.NameId.{NameId}
+use Rattle.ls_text.proofs.Options.{not_first}
 use Rattle.verilog_ast.specs.declared.module.Module.{Module}
 use Rattle.unit_jobs.specs.FirstModules.{one_if_none, with_module}
 use Rattle.unit_jobs.specs.Jobs.{module_called}
@@ -51,10 +51,6 @@ looked_up n test same (e ∷ es) named =
     (same e.0 ∙ ap (λ (m : ℕ). n == m) (ap first_of named)) (looked_up n test same es (ap rest_of named))
 
 -- ---- one module more
-
-not_first : (b : Bool) (m : Module) (o : Option Module) → cond b (Some m) o ≡ None → (b ≡ false) × (o ≡ None)
-not_first true m o h = absurd (none-some _ (sym h))
-not_first false m o h = (refl, h)
 
 -- where no module of the name stands there, it goes behind the others
 put_last : (E : NameId → NameId → Bool) → ((x y : NameId) → E x y ≡ (x.0 == y.0)) → (es : Entries) (k : NameId) (v : Arc Module Global) → AreNamed es

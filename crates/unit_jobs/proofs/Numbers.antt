@@ -10,8 +10,9 @@ use Rattle.typed_ir.proofs.Lists.{drop_read}
 use Rattle.module_registry.specs.declared.build_job.BuildJob.{BuildJob}
 use Rattle.unit_jobs.specs.declared.unnamed_job.UnnamedJob.{UnnamedJob}
 use Rattle.unit_jobs.specs.Jobs.{InstanceJob}
-use Rattle.unit_jobs.specs.JobViews.{job_view, text_of}
-use Rattle.unit_jobs.specs.UnnamedViews.{text_items, unnamed_view}
+use Rattle.unit_jobs.specs.JobViews.{job_view}
+use Rattle.ls_text.specs.TextViews.{text_items, text_of}
+use Rattle.unit_jobs.specs.UnnamedViews.{unnamed_view}
 
 -- the table has the name
 abbrev pub IsKnown : ℕ → NameId → Type 0

@@ -2,7 +2,6 @@
 use Rattle.std.proofs.Common.{◌≡◌, ℕ, ◌+◌, ◌<◌, ◌≤◌, List, [], ◌∷◌, ◌++◌, map, length, get_or, drop, refl, sym, ◌∙◌, ap, append_assoc, append-nil}
 use Rattle.std.specs.Prelude.{Option, Some, None, Result, Ok, Err}
 use Rattle.std.proofs.lemmas.List.{at_drop_all}
-use Rattle.std.proofs.lemmas.Option.{none-some, same_Some}
 use Rattle.ls_text.specs.declared.fault.Fault.{Fault}
 use Rattle.ls_text.specs.declared.place.Place.{Place}
 use Rattle.typed_ir.specs.declared.constant.Const.{Const}
@@ -20,6 +19,7 @@ use Rattle.gen_unroll.specs.Unrolled.{State, unrolled_module, turn_limit}
 use Rattle.ls_text.specs.Answers.{◌>>=◌}
 use Rattle.gen_unroll.specs.Values.{ConstantValue}
 use Rattle.gen_unroll.specs.Views.{step_of}
+use Rattle.gen_unroll.proofs.Answered.{ended, stopped}
 use Rattle.unit_jobs.specs.BlockNames.{item_texts, texts_within}
 use Rattle.unit_jobs.specs.Jobs.{told_steps}
 use Rattle.unit_jobs.specs.Walks.{module_texts, open_behind, step_texts}
@@ -77,14 +77,6 @@ step_none texts blocks before whole around all k h so_far =
     ∙ so_far
 
 -- ---- a module
-
-ended : (said : List ModuleStep) (r : Result State Fault) → None ≡ fault_in r → (r >>= λ st. Ok said) ≡ Ok said
-ended said (Ok st) none = refl
-ended said (Err f) none = absurd (none-some f none)
-
-stopped : (said : List ModuleStep) (r : Result State Fault) (f : Fault) → Some f ≡ fault_in r → (r >>= λ st. Ok said) ≡ Err f
-stopped said (Ok st) f some = absurd (none-some f (sym some))
-stopped said (Err g) f some = ap (λ (h : Fault). Err h) (sym (same_Some f g some))
 
 abbrev texts_told : (texts : List (List ℕ)) → Told State → Result (List (List ℕ)) Fault
 texts_told texts t = told_steps t >>= λ steps. Ok (texts_within texts (blocks_in steps) [] steps)

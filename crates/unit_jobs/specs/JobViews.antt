@@ -1,12 +1,8 @@
 -- What jobs of the code mean, with the texts of their names.
 use Rattle.std.specs.Prelude.{ℕ, List, map}
-use Rattle.ls_text.specs.declared.name_id.NameId.{NameId}
-use Rattle.ls_text.specs.Texts.{text_at}
+use Rattle.ls_text.specs.TextViews.{text_of}
 use Rattle.module_registry.specs.declared.build_job.BuildJob.{BuildJob}
 use Rattle.unit_jobs.specs.Jobs.{InstanceJob}
-
-abbrev pub text_of : (texts : List (List ℕ)) → NameId → List ℕ
-text_of texts n = text_at texts n.0
 
 abbrev pub job_view : (texts : List (List ℕ)) → BuildJob → InstanceJob
 job_view texts job = record {

@@ -1,12 +1,8 @@
 -- What jobs of the code mean whose names are texts.
-use Rattle.std.specs.Prelude.{ℕ, List, map}
-use Rattle.std.specs.Global.{Global}
-use Rattle.std.specs.declared.vec.Vec.{Vec}
+use Rattle.std.specs.Prelude.{map}
+use Rattle.ls_text.specs.TextViews.{text_items}
 use Rattle.unit_jobs.specs.declared.unnamed_job.UnnamedJob.{UnnamedJob}
 use Rattle.unit_jobs.specs.Jobs.{InstanceJob}
-
-abbrev pub text_items : Vec ℕ Global → List ℕ
-text_items t = t.items
 
 abbrev pub unnamed_view : UnnamedJob → InstanceJob
 unnamed_view u = record {

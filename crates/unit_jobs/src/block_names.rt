@@ -7,7 +7,7 @@ ghost use Rattle.gen_unroll.specs.Spoken.{spoken};
 ghost use Rattle.ls_text.specs.Answers.{Answers};
 ghost use Rattle.gen_unroll.specs.Views.{block_of, here_of, number_of, step_of};
 ghost use Rattle.unit_jobs.specs.BlockNames.{called_in, item_texts, texts_within};
-ghost use Rattle.unit_jobs.specs.UnnamedViews.{text_items};
+ghost use Rattle.ls_text.specs.TextViews.{text_items};
 ghost use Rattle.unit_jobs.specs.Walks.{module_texts, open_behind, step_texts};
 
 use gen_unroll::{Block, BlockId, Step, Unrolled, full_text, overrides_of, unroll};

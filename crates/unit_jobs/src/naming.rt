@@ -2,8 +2,9 @@
 ghost use Rattle.std.specs.Prelude.{◌≡◌, ◌<◌, All, IfOk, length, map};
 ghost use Rattle.ls_text.specs.Texts.{Grows};
 ghost use Rattle.ls_text.specs.declared.name_id.NameId.{NameId};
-ghost use Rattle.unit_jobs.specs.JobViews.{job_view, text_of};
-ghost use Rattle.unit_jobs.specs.UnnamedViews.{text_items, unnamed_view};
+ghost use Rattle.unit_jobs.specs.JobViews.{job_view};
+ghost use Rattle.ls_text.specs.TextViews.{text_items, text_of};
+ghost use Rattle.unit_jobs.specs.UnnamedViews.{unnamed_view};
 
 use crate::unnamed_job::UnnamedJob;
 use ls_text::{NameId, NameList, Names};

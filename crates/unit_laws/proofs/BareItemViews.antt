@@ -1,6 +1,7 @@
 -- What items and modules without places are as plain data is what they are, without them.
 use Rattle.std.proofs.Common.{◌≡◌, ◌∙◌, List, [], ◌∷◌, Option, map, refl, sym, ap, ap₂, subst}
 use Rattle.std.specs.Option.{option_map}
+use Rattle.ls_text.proofs.Lists.{map_so}
 use Rattle.verilog_ast.specs.Places.{no_place}
 use Rattle.verilog_ast.specs.declared.range.Range.{Range}
 use Rattle.verilog_ast.specs.declared.shape.Shape.{Shape}
@@ -39,7 +40,7 @@ use Rattle.unit_laws.proofs.BareForms.{bare_expression, bare_range, bare_shape, 
 use Rattle.verilog_ast.specs.Views.{expression_of, range_of, kind_of, declared_of, declared_reg_of, parameter_of, header_parameter_of, port_of, ports_of, by_name_of, by_order_of, connections_of, instance_of, assignment_of, plain_item_of, head_of, items_of, generate_item_view, branch_view, generate_item_of, branch_of, item_of, declaration_of}
 use Rattle.unplaced_trees.specs.Unplaced.{unplaced_name, unplaced_expression, unplaced_range, unplaced_kind, unplaced_declared, unplaced_declared_reg, unplaced_parameter, unplaced_header_parameter, unplaced_port, unplaced_ports, unplaced_by_name, unplaced_by_order, unplaced_connections, unplaced_instance, unplaced_assignment, unplaced_head, unplaced_item, unplaced_declaration}
 use Rattle.verilog_ast.proofs.Equal.{ap₃}
-use Rattle.verilog_ast.proofs.RenamedViews.{same_all, same_option}
+use Rattle.verilog_ast.proofs.RenamedViews.{same_option}
 use Rattle.unit_laws.proofs.BareViews.{same_expression, same_target}
 use Rattle.unit_laws.proofs.BareStatementViews.{same_statement}
 
@@ -79,7 +80,7 @@ same_port (port.Next x) = ap d.NextPort (same_declared x)
 same_ports : (x : Ports) → ports_of (bare_ports x) ≡ unplaced_ports (ports_of x)
 same_ports ports.Nothing = refl
 same_ports (ports.Names xs) = refl
-same_ports (ports.Declarations xs) = ap d.DeclaredPorts (same_all port_of bare_header_port unplaced_port same_port xs)
+same_ports (ports.Declarations xs) = ap d.DeclaredPorts (map_so port_of bare_header_port unplaced_port same_port xs)
 
 -- ---- items
 
@@ -90,8 +91,8 @@ same_by_order : (x : OrderedConnection) → by_order_of (bare_ordered x) ≡ unp
 same_by_order x = ap (λ (y : Option Expression). record { at = no_place; value = y }) (same_value x.value)
 
 same_connections : (x : Connections) → connections_of (bare_connections x) ≡ unplaced_connections (connections_of x)
-same_connections (connections.Named xs) = ap i.ByName (same_all by_name_of bare_named unplaced_by_name same_by_name xs)
-same_connections (connections.Ordered xs) = ap i.ByOrder (same_all by_order_of bare_ordered unplaced_by_order same_by_order xs)
+same_connections (connections.Named xs) = ap i.ByName (map_so by_name_of bare_named unplaced_by_name same_by_name xs)
+same_connections (connections.Ordered xs) = ap i.ByOrder (map_so by_order_of bare_ordered unplaced_by_order same_by_order xs)
 
 same_instance : (x : Instance) → instance_of (bare_instance x) ≡ unplaced_instance (instance_of x)
 same_instance x = ap (λ (y : ConnectionList). record { name = unplaced_name x.name; connections = y }) (same_connections x.connections)
@@ -100,18 +101,18 @@ same_assignment : (x : Continuous) → assignment_of (bare_continuous x) ≡ unp
 same_assignment x = ap₂ (λ (y : Target) (z : Expression). record { target = y; value = z }) (same_target x.target) (same_expression x.value)
 
 same_plain_item : (x : PlainItem) → plain_item_of (bare_plain_item x) ≡ unplaced_item (plain_item_of x)
-same_plain_item (plain.Wire at x ys) = ap₂ (i.Wires no_place) (same_kind x) (same_all declared_of bare_variable unplaced_declared same_declared ys)
+same_plain_item (plain.Wire at x ys) = ap₂ (i.Wires no_place) (same_kind x) (map_so declared_of bare_variable unplaced_declared same_declared ys)
 same_plain_item (plain.Reg at x ys) = ap₂ (i.Regs no_place) (same_kind x)
-    (same_all declared_reg_of bare_reg_variable unplaced_declared_reg same_declared_reg ys)
+    (map_so declared_reg_of bare_reg_variable unplaced_declared_reg same_declared_reg ys)
 same_plain_item (plain.LocalParameter at x ys) =
-    ap₂ (i.LocalParameters no_place) (same_kind x) (same_all parameter_of bare_parameter unplaced_parameter same_parameter ys)
+    ap₂ (i.LocalParameters no_place) (same_kind x) (map_so parameter_of bare_parameter unplaced_parameter same_parameter ys)
 same_plain_item (plain.Genvar at xs) = refl
-same_plain_item (plain.Assign at xs) = ap (i.Assigns no_place) (same_all assignment_of bare_continuous unplaced_assignment same_assignment xs)
+same_plain_item (plain.Assign at xs) = ap (i.Assigns no_place) (map_so assignment_of bare_continuous unplaced_assignment same_assignment xs)
 same_plain_item (plain.Combinational at x) = ap (i.Combinational no_place) (same_statement x)
 same_plain_item (plain.Clocked at n x) = ap (i.Clocked no_place (unplaced_name n)) (same_statement x)
 same_plain_item (plain.Instances n x ys) =
     ap₂ (i.Instances (unplaced_name n)) (same_option connections_of bare_connections unplaced_connections same_connections x)
-    (same_all instance_of bare_instance unplaced_instance same_instance ys)
+    (map_so instance_of bare_instance unplaced_instance same_instance ys)
 
 same_head : (x : Loop) → head_of (bare_loop x) ≡ unplaced_head (head_of x)
 same_head x =
@@ -202,9 +203,9 @@ same_region (x ∷ xs) = ap₂ i.Items (same_generate_item x) (same_region xs)
 same_item : (x : Item) → item_of (bare_item x) ≡ unplaced_item (item_of x)
 same_item (item.Input at net x ns) = ap (λ (y : Kind). i.Inputs no_place net y (map unplaced_name ns)) (same_kind x)
 same_item (item.Output at net x ys) = ap₂ (i.Outputs no_place net) (same_kind x)
-    (same_all declared_of bare_variable unplaced_declared same_declared ys)
+    (map_so declared_of bare_variable unplaced_declared same_declared ys)
 same_item (item.Parameter at x ys) = ap₂ (i.Parameters no_place) (same_kind x)
-    (same_all parameter_of bare_parameter unplaced_parameter same_parameter ys)
+    (map_so parameter_of bare_parameter unplaced_parameter same_parameter ys)
 same_item (item.Region at xs) = ap (i.Region no_place) (same_region xs)
 same_item (item.Item x) = same_generate_item x
 
@@ -217,5 +218,5 @@ same_declaration x =
     ap₃
     (λ (a : List HeaderParameterDeclaration) (b : PortList) (c : ModuleItem).
     record { name = unplaced_name x.name; parameters = a; ports = b; items = c })
-    (same_all header_parameter_of bare_header_parameter unplaced_header_parameter same_header_parameter x.parameters)
+    (map_so header_parameter_of bare_header_parameter unplaced_header_parameter same_header_parameter x.parameters)
     (same_ports x.ports) (same_body_items x.items)

@@ -1,6 +1,7 @@
 -- What statements without places are as plain data is what they are, without them.
 use Rattle.std.proofs.Common.{◌≡◌, ◌∙◌, List, [], ◌∷◌, map, refl, sym, ap, ap₂, subst}
 use Rattle.std.specs.Option.{option_map}
+use Rattle.ls_text.proofs.Lists.{map_so}
 use Rattle.verilog_ast.specs.Places.{no_place}
 use Rattle.verilog_ast.specs.declared.label.Label.{Label}
 use Rattle.verilog_ast.specs.declared.label.Label.TheVariants as label
@@ -15,7 +16,6 @@ use Rattle.unit_laws.proofs.BareForms.{bare_expression, bare_target, bare_label,
 use Rattle.verilog_ast.specs.Views.{label_of, statements_of, statement_view, arm_view, statement_of, arm_of}
 use Rattle.unplaced_trees.specs.Unplaced.{unplaced_name, unplaced_label, unplaced_statement}
 use Rattle.verilog_ast.proofs.Equal.{ap₃}
-use Rattle.verilog_ast.proofs.RenamedViews.{same_all}
 use Rattle.unit_laws.proofs.BareViews.{same_expression, same_target}
 
 same_label : (x : Label) → label_of (bare_label x) ≡ unplaced_label (label_of x)
@@ -110,7 +110,7 @@ arm_node : (y : Arm-F ((x : Arm) × SameArm x) ((x : Stmt) × SameStatement x))
     → SameArm (roll-Arm (map-Arm ((x : Arm) × SameArm x) ((x : Stmt) × SameStatement x) Arm Stmt (λ x. x.0) (λ x. x.0) y))
 arm_node (Arm-F.Default at x) = arm_layer (Arm-F.Default at x.0) (ap (Default no_place) x.1)
 arm_node (Arm-F.Match ls x) =
-    arm_layer (Arm-F.Match ls x.0) (ap₂ Match (same_all label_of bare_label unplaced_label same_label ls) x.1)
+    arm_layer (Arm-F.Match ls x.0) (ap₂ Match (map_so label_of bare_label unplaced_label same_label ls) x.1)
 
 pub same_statement : (x : Stmt) → statement_of (bare_statement x) ≡ unplaced_statement (statement_of x)
 same_statement x = ind-Stmt (SameArm) (SameStatement) (λ x y is. subst (λ z. SameArm (roll-Arm z)) is (arm_node y))

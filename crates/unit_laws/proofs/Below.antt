@@ -10,10 +10,10 @@ use Rattle.width_rules.specs.declared.writer.Writer.{Writer}
 use Rattle.width_rules.specs.Scopes.{Meaning, Signal, Constant, Turn, Genvar, Unknown, Scope}
 use Rattle.size_laws.specs.Renumbering.{meaning_as, renumbered}
 use Rattle.gen_unroll.specs.Declarations.{declared}
-use Rattle.gen_unroll.specs.Reaches.{Reach, scope_around, scopes_behind}
+use Rattle.gen_unroll.specs.Reaches.{Reach, scope_around, scopes_behind, same_block}
 use Rattle.gen_unroll.specs.Steps.{LoopTurn, ModuleStep, Listed, Port, Parameter, Item, Labelled, Opened, Closed}
 use Rattle.gen_unroll.specs.Unrolled.{with_turn}
-use Rattle.unit_names.specs.Numbers.{NumberedSignal, same_block, in_block_from, in_block}
+use Rattle.unit_names.specs.Numbers.{NumberedSignal, in_block_from, in_block}
 use Rattle.unit_names.specs.Signals.{NamedSignal}
 use Rattle.unit_names.specs.UnitReaches.{meaning_of_signal, all_signals, with_signals, unit_reach_in, unit_in_reach}
 use Rattle.unit_build.specs.Walks.{Walk, step_items, behind}

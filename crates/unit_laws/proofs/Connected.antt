@@ -6,7 +6,6 @@ use Rattle.typed_ir.specs.declared.lane.Lane.{Lane}
 use Rattle.typed_ir.specs.declared.target_form.TargetForm.TheVariants as form
 use Rattle.typed_ir.specs.Orders.{Each}
 use Rattle.typed_ir.specs.Sized.{Sized}
-use Rattle.typed_ir.specs.Stmts.{SizedTarget, Fixed, Moving}
 use Rattle.unit_ir.specs.declared.child_shape.ChildShape.{ChildShape}
 use Rattle.unit_ir.specs.declared.port_shape.PortShape.{PortShape}
 use Rattle.unit_ir.specs.Items.{PlacedItem}
@@ -20,7 +19,7 @@ use Rattle.width_rules.specs.Faults.{faults, total_faults}
 use Rattle.width_rules.specs.Scopes.{Scope}
 use Rattle.width_rules.proofs.Reading.{left_none, right_none}
 use Rattle.statement_rules.specs.Targets.{parts}
-use Rattle.size_laws.specs.Renumbering.{renumbered, lane_as, target_as}
+use Rattle.size_laws.specs.Renumbering.{renumbered, target_as}
 use Rattle.size_laws.specs.Written.{IsWritten}
 use Rattle.size_laws.proofs.RenumberedFaults.{joined_so, faults_as, target_long_as, target_faults_as, kinds_as}
 use Rattle.size_laws.proofs.RenumberedForms.{long_as}
@@ -29,11 +28,13 @@ use Rattle.size_laws.proofs.RenumberedTargets.{parts_as}
 use Rattle.connection_rules.specs.Connections.{Connected, connected_to, connection_faults, connection_kinds, all_connection_faults, all_connection_kinds}
 use Rattle.connection_rules.specs.ConnectionNodes.{target_or_none, driven_by, port_lane, port_value, input_node, output_node, connection_node, connected_mentions, item_with, connection_item}
 use Rattle.connection_rules.specs.Instances.{instance_faults, instance_kinds, item_faults, first_to, item_if, port_items, child_items, instance_items}
-use Rattle.connection_rules.specs.Outputs.{is_target, target_at, as_target, part_faults, written_faults, output_faults, part_kinds, written_kinds, output_kinds, output_form, known_lanes}
+use Rattle.typed_ir.specs.Nodes.{known_lanes}
+use Rattle.connection_rules.specs.Outputs.{is_target, target_at, as_target, part_faults, written_faults, output_faults, part_kinds, written_kinds, output_kinds, output_form}
 use Rattle.connection_rules.proofs.Standing.{first_is}
 use Rattle.unit_build.proofs.ConnectedTargets.{target_written}
 use Rattle.unit_build.proofs.ConnectedTexts.{AreInstancesWritten, written_to}
 use Rattle.unit_laws.specs.RenumberedItems.{node_as, placed_as}
+use Rattle.unit_laws.proofs.Declared.{known_lanes_as}
 
 -- ---- faults
 
@@ -110,11 +111,6 @@ pub item_faults_as : (g : ℕ → ℕ) (scope : Scope) (ss : List ChildShape) (x
 item_faults_as g scope ss xs = joined_so _ _ _ _ (instance_faults_as g scope ss xs) (instance_kinds_as g scope ss xs)
 
 -- ---- nodes
-
-known_lanes_as : (g : ℕ → ℕ) (ts : List SizedTarget) → known_lanes (map (target_as g) ts) ≡ map (lane_as g) (known_lanes ts)
-known_lanes_as g [] = refl
-known_lanes_as g (Fixed lane ∷ ts) = ap (λ (ls : List Lane). lane_as g lane ∷ ls) (known_lanes_as g ts)
-known_lanes_as g (Moving reach index ∷ ts) = known_lanes_as g ts
 
 -- what is no target has no parts
 driven_as : (g : ℕ → ℕ) (scope : Scope) (x : Expression) → IsWritten x → output_kinds scope x ≡ []

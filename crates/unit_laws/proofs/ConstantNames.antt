@@ -23,7 +23,8 @@ use Rattle.verilog_header.specs.Headers as headers
 use Rattle.verilog_item.specs.Items as items
 use Rattle.verilog_parse.specs.Generates as generates
 use Rattle.verilog_parse.specs.Modules as modules
-use Rattle.module_registry.specs.Constants.{assigned_name, header_name, item_constants, constants_of}
+use Rattle.verilog_ast.specs.Declarations.{assigned_name}
+use Rattle.module_registry.specs.Constants.{header_name, item_constants, constants_of}
 use Rattle.unit_laws.specs.Proper.{IsProper}
 use Rattle.unit_laws.specs.Spelled.{IsSpelledUnder}
 use Rattle.unit_laws.proofs.SameModule.{module_alone}

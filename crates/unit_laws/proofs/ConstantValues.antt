@@ -17,7 +17,8 @@ use Rattle.ls_text.specs.Answers.{◌>>=◌}
 use Rattle.gen_unroll.specs.Values.{ConstantValue, constant_of}
 use Rattle.gen_unroll.proofs.Answered.{first_step, ok_same}
 use Rattle.module_names.specs.Modules.{header_ports}
-use Rattle.module_registry.specs.Constants.{assigned_name, header_name, item_constants, constants_of}
+use Rattle.verilog_ast.specs.Declarations.{assigned_name}
+use Rattle.module_registry.specs.Constants.{header_name, item_constants, constants_of}
 use Rattle.elaborate.specs.Checks.{Checked, nothing_checked, check_steps, ports_declared, checked}
 use Rattle.job_laws.specs.Outer.{outer_values}
 use Rattle.job_laws.proofs.FoundValues.{parameters_found}

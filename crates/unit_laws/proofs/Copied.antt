@@ -3,6 +3,7 @@ use Rattle.std.proofs.Common.{◌≡◌, ℕ, zero, suc, ◌+◌, ◌<◌, Bool,
 use Rattle.std.proofs.lemmas.Simd.{map-map}
 use Rattle.std.specs.Prelude.{Option, slice_get}
 use Rattle.ls_text.specs.declared.name_id.NameId.{NameId}
+use Rattle.ls_text.proofs.Lists.{same_map}
 use Rattle.typed_ir.specs.Nodes.{Drive}
 use Rattle.typed_ir.specs.Orders.{Each}
 use Rattle.unit_ir.specs.declared.child_shape.ChildShape.{ChildShape}
@@ -24,7 +25,7 @@ use Rattle.unit_laws.proofs.Below.{Agree, begins_below, same_items}
 use Rattle.unit_laws.proofs.Kids.{kid_places, unit_inside}
 use Rattle.unit_laws.proofs.Places.{IsStanding, stands_at}
 use Rattle.unit_laws.proofs.Ported.{ports_of, NamesPorts, walk_ports}
-use Rattle.unit_laws.proofs.ShiftedForms.{behind_first, same_map, form_shifted, lanes_shifted, statement_shifted, node_shifted}
+use Rattle.unit_laws.proofs.ShiftedForms.{behind_first, form_shifted, lanes_shifted, statement_shifted, node_shifted}
 
 -- under other numbers, the items of a copy are its items with other numbers
 abbrev pub IsRenumbered : ModuleCopy → Type 0

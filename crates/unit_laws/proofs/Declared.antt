@@ -3,7 +3,7 @@ use Rattle.std.proofs.Common.{◌≡◌, ℕ, ◌%◌, ◌^◌, Bool, true, fals
 use Rattle.std.proofs.lemmas.List.{map-append}
 use Rattle.typed_ir.specs.declared.lane.Lane.{Lane}
 use Rattle.typed_ir.specs.declared.target_form.TargetForm.{TargetForm}
-use Rattle.typed_ir.specs.Nodes.{Drive}
+use Rattle.typed_ir.specs.Nodes.{Drive, known_lanes}
 use Rattle.typed_ir.specs.Sized.{Sized, value_of}
 use Rattle.typed_ir.specs.Stmts.{SizedTarget, Fixed, Moving}
 use Rattle.unit_ir.specs.Trees.{Own}
@@ -32,16 +32,16 @@ use Rattle.item_mentions.specs.Forms.{target_form}
 use Rattle.item_mentions.specs.Mentions.{numbered}
 use Rattle.item_mentions.specs.Names.{target_names}
 use Rattle.sized_items.specs.DeclaredValues.{DeclaredValue, InitialValue, name_of, as_assignment, is_net, is_net_by, is_net_value, signal_in, due_by, writer_by, value_faults, value_kinds, all_value_faults, all_value_kinds, declaration_faults, initial_value, declaration_initials}
-use Rattle.sized_items.specs.SizedItems.{fixed_lanes, drive_item, initial_item, value_item}
+use Rattle.sized_items.specs.SizedItems.{drive_item, initial_item, value_item}
 use Rattle.unit_laws.specs.RenumberedItems.{placed_as, initial_as}
 use Rattle.unit_laws.proofs.Mentioned.{target_form_as}
 
 -- ---- continuous assignments
 
-fixed_lanes_as : (g : ℕ → ℕ) (ts : List SizedTarget) → fixed_lanes (map (target_as g) ts) ≡ map (lane_as g) (fixed_lanes ts)
-fixed_lanes_as g [] = refl
-fixed_lanes_as g (Fixed lane ∷ ts) = ap (λ (ls : List Lane). lane_as g lane ∷ ls) (fixed_lanes_as g ts)
-fixed_lanes_as g (Moving reach index ∷ ts) = fixed_lanes_as g ts
+pub known_lanes_as : (g : ℕ → ℕ) (ts : List SizedTarget) → known_lanes (map (target_as g) ts) ≡ map (lane_as g) (known_lanes ts)
+known_lanes_as g [] = refl
+known_lanes_as g (Fixed lane ∷ ts) = ap (λ (ls : List Lane). lane_as g lane ∷ ls) (known_lanes_as g ts)
+known_lanes_as g (Moving reach index ∷ ts) = known_lanes_as g ts
 
 abbrev driving : ContinuousAssignment → TargetForm → List Lane → Sized → PlacedItem
 driving x form lanes e = record {
@@ -55,9 +55,9 @@ pub drive_item_as : (g : ℕ → ℕ) (scope : Scope) (x : ContinuousAssignment)
     → kind_faults scope writer.Continuous x.target ≡ []
     → drive_item (renumbered g scope) x ≡ placed_as g (drive_item scope x)
 drive_item_as g scope x w h =
-    ap₂ (λ (f : TargetForm) (d : SizedDrive). driving x f (fixed_lanes d.parts) d.value) (target_form_as g scope x.target) (same_drive g scope x w h)
+    ap₂ (λ (f : TargetForm) (d : SizedDrive). driving x f (known_lanes d.parts) d.value) (target_form_as g scope x.target) (same_drive g scope x w h)
     ∙ ap (λ (ls : List Lane). driving x (target_form scope x.target) ls (drive_as g (sized_drive scope x)).value)
-    (fixed_lanes_as g (parts scope 0 x.target))
+    (known_lanes_as g (parts scope 0 x.target))
 
 pub drive_items_as : (g : ℕ → ℕ) (scope : Scope) (xs : List ContinuousAssignment) → AreAssignsWritten xs → all_kind_faults scope xs ≡ []
     → map (drive_item (renumbered g scope)) xs ≡ map (placed_as g) (map (drive_item scope) xs)

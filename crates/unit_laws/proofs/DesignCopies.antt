@@ -5,6 +5,7 @@ use Rattle.std.specs.Option.{option_map}
 use Rattle.std.proofs.lemmas.List.Elements.{All-head, All-tail}
 use Rattle.std.proofs.lemmas.Option.{same_Some}
 use Rattle.ls_text.specs.Texts.{text_at}
+use Rattle.ls_text.proofs.Lists.{same_first, same_others}
 use Rattle.typed_ir.specs.declared.constant.Const.{Const}
 use Rattle.typed_ir.specs.Orders.{Each}
 use Rattle.verilog_ast.specs.declared.module.Module.{Module}
@@ -31,7 +32,8 @@ use Rattle.unit_names.specs.Numbers.{module_table}
 use Rattle.module_registry.specs.declared.build_job.BuildJob.{BuildJob}
 use Rattle.unit_jobs.specs.BlockNames.{texts_within}
 use Rattle.unit_jobs.specs.Jobs.{InstanceJob, steps_under, job_with, tree_jobs}
-use Rattle.unit_jobs.specs.JobViews.{job_view, text_of}
+use Rattle.ls_text.specs.TextViews.{text_of}
+use Rattle.unit_jobs.specs.JobViews.{job_view}
 use Rattle.unit_build.specs.Building.{module_of, job_steps}
 use Rattle.job_laws.specs.InstanceModules.{IsVisited}
 use Rattle.job_laws.specs.JobUnits.{IsUnitOf}
@@ -39,7 +41,7 @@ use Rattle.job_laws.specs.Outer.{are_ports_outside}
 use Rattle.job_laws.proofs.BlockNames.{same_names_within}
 use Rattle.job_laws.proofs.CodeTrees.{code_stands}
 use Rattle.job_laws.proofs.InstanceModules.{all_visited}
-use Rattle.job_laws.proofs.KnownInstances.{IsKnown, same_first, same_others, side_by_side, same_module}
+use Rattle.job_laws.proofs.KnownInstances.{IsKnown, side_by_side, same_module}
 use Rattle.job_laws.proofs.Rerolled.{ports_stand_outside}
 use Rattle.job_laws.proofs.StandingUnits.{units_stand}
 use Rattle.job_laws.proofs.TreeJobs.{known_steps, steps_known, jobs_known, are_jobs_known, tree_known}

@@ -7,13 +7,13 @@ use Rattle.ls_text.specs.declared.fault.Fault.{Fault}
 use Rattle.ls_text.specs.Texts.{HasEachOnce}
 use Rattle.module_registry.specs.declared.build_job.BuildJob.{BuildJob}
 use Rattle.ls_text.specs.Answers.{◌>>=◌}
+use Rattle.ls_text.proofs.Lists.{same_first, same_others}
 use Rattle.module_registry.specs.Building.{Built, built_all}
 use Rattle.module_registry.specs.Entries.{Entry, keys_of, is_among, missing, entries, ensured, unit_under}
 use Rattle.module_registry.specs.KeyLaws.{same_laws}
 use Rattle.module_registry.specs.Keys.{KeyData, same, jobs_of}
 use Rattle.module_registry.proofs.Making.{all_held}
 use Rattle.unit_build.specs.Building.{built}
-use Rattle.job_laws.proofs.KnownInstances.{same_first, same_others}
 use Rattle.unit_laws.specs.Held.{IsKeyUnder, AreHeldUnder, HaveUnits}
 use Rattle.unit_laws.specs.JobsUnder.{IsJobUnder}
 use Rattle.unit_laws.proofs.HeldUnits.{ensured_held, unit_of_job}

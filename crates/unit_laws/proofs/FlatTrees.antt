@@ -1,6 +1,7 @@
 -- What is linked from the units of modules is the flat design of the modules.
 use Rattle.std.proofs.Common.{◌≡◌, ℕ, suc, ◌+◌, List, [], ◌∷◌, ◌++◌, length, refl, sym, ◌∙◌, ap, ap₂, arith}
 use Rattle.std.proofs.lemmas.List.{append-nil, map-id}
+use Rattle.ls_text.proofs.Lists.{same_map}
 use Rattle.typed_ir.specs.Cycles.{Signal, Flat}
 use Rattle.typed_ir.specs.Nodes.{FlatNode}
 use Rattle.typed_ir.specs.Stmts.{SizedStmt}
@@ -13,7 +14,6 @@ use Rattle.unit_laws.specs.Units.{AreUnitsOf}
 use Rattle.unit_laws.proofs.Copied.{AreRenumbered, AreGiven, signals_given, registers_given, nodes_given, blocks_given, inputs_same}
 use Rattle.unit_laws.proofs.Kids.{unit_inside, unit_behind}
 use Rattle.unit_laws.proofs.Places.{IsStanding, stands_at}
-use Rattle.unit_laws.proofs.ShiftedForms.{same_map}
 
 -- ---- what all copies give, side by side with what all units give
 

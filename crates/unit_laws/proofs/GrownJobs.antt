@@ -14,7 +14,7 @@ use Rattle.gen_unroll.specs.Spoken.{index_text, own_text, prefix_in, spoken}
 use Rattle.gen_unroll.specs.Steps.{GenerateBlock, ModuleStep, Listed, Port, Parameter, Item, Labelled, Opened, Closed, blocks_in}
 use Rattle.module_registry.specs.declared.build_job.BuildJob.{BuildJob}
 use Rattle.unit_jobs.specs.BlockNames.{called_in, declared_by, item_texts, texts_within}
-use Rattle.unit_jobs.specs.JobViews.{text_of}
+use Rattle.ls_text.specs.TextViews.{text_of}
 use Rattle.unit_build.specs.Building.{job_steps}
 use Rattle.unit_laws.proofs.GrownSpelling.{grown_spelled}
 use Rattle.unit_laws.specs.JobsUnder.{IsIn, IsJobUnder}

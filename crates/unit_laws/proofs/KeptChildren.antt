@@ -7,7 +7,7 @@ use Rattle.ls_text.specs.declared.fault.Fault.{Fault}
 use Rattle.verilog_ast.specs.declared.identifier.Identifier.{Identifier}
 use Rattle.verilog_ast.specs.declared.port_net.PortNet.{PortNet}
 use Rattle.verilog_ast.specs.declared.port_net.PortNet.TheVariants as net
-use Rattle.verilog_ast.specs.Declarations.{PortDeclaration, InputPort, OutputPort, NextPort}
+use Rattle.verilog_ast.specs.Declarations.{PortDeclaration, InputPort, OutputPort, NextPort, header_net}
 use Rattle.verilog_ast.specs.Expressions.{Expression}
 use Rattle.verilog_ast.specs.Items as i
 use Rattle.verilog_ast.specs.Items.{ModuleItem, ModuleDeclaration}
@@ -21,7 +21,7 @@ use Rattle.gen_unroll.specs.Values.{ConstantValue}
 use Rattle.module_names.specs.Listings.{is_listed}
 use Rattle.elaborate.specs.declared.declaration_kind.DeclarationKind.{DeclarationKind}
 use Rattle.elaborate.specs.declared.declaration_kind.DeclarationKind.TheVariants as kind
-use Rattle.elaborate.specs.Checks.{ModuleChild, Checked, declaration, each, range_of_kind, plain, list_port, header_net, declare_port, header_port}
+use Rattle.elaborate.specs.Checks.{ModuleChild, Checked, declaration, each, range_of_kind, plain, list_port, declare_port, header_port}
 use Rattle.elaborate.specs.Checks.{body_port, variable, wire, reg, genvar, with_parameter, parameter, check_item, check_step}
 use Rattle.elaborate.specs.Tables.{Declaration, declare, declare_net, initial, kind_of_net}
 

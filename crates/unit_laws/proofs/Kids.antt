@@ -25,11 +25,11 @@ begun_many k value [] = refl
 begun_many zero value (x ∷ xs) = refl
 begun_many (suc k) value (x ∷ xs) = ap suc (begun_many k value xs)
 
-initial_many : (vs : List InitialValue) (xs : List Signal) → length (with_initials vs xs) ≡ length xs
+pub initial_many : (vs : List InitialValue) (xs : List Signal) → length (with_initials vs xs) ≡ length xs
 initial_many [] xs = refl
 initial_many (v ∷ vs) xs = initial_many vs (begins_with v.signal v.value xs) ∙ begun_many v.signal v.value xs
 
-signals_many : (m : ℕ) (names : List NameId) (xs : List NamedSignal) → length (unit_signals m names xs) ≡ length xs
+pub signals_many : (m : ℕ) (names : List NameId) (xs : List NamedSignal) → length (unit_signals m names xs) ≡ length xs
 signals_many m names [] = refl
 signals_many m names (x ∷ xs) = ap suc (signals_many m (names_behind names x) xs)
 

@@ -92,6 +92,7 @@ pub mod ShownNodes
 pub mod ShownDesigns
 pub mod DesignCopies
 pub mod OneTable
+pub mod SomeTexts
 pub mod OneDesign
 pub mod HeldDesign
 pub mod RenamedCopiedItems

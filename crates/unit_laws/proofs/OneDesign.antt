@@ -3,21 +3,21 @@
 use Rattle.std.proofs.Common.{◌≡◌, ℕ, suc, Bool, true, false, if◌then◌else◌, List, [], ◌∷◌, All, filter, map, Option, Some, None, Ok}
 use Rattle.std.proofs.Common.{refl, sym, ◌∙◌, ap, ap₂, subst}
 use Rattle.std.specs.List.{AllZip}
-use Rattle.std.proofs.lemmas.List.Elements.{All-nil, All-cons, All-head, All-tail, All-append, All-weaker}
+use Rattle.std.proofs.lemmas.List.Elements.{All-head, All-tail, All-weaker}
 use Rattle.std.proofs.lemmas.Option.{same_Some}
 use Rattle.ls_text.specs.Texts.{HasEachOnce, text_at}
 use Rattle.ls_text.specs.declared.name_id.NameId.{NameId}
+use Rattle.ls_text.proofs.Tables.{same_id}
+use Rattle.ls_text.proofs.Lists.{same_first, same_others}
 use Rattle.typed_ir.specs.Cycles.{Flat}
-use Rattle.verilog_ast.specs.declared.identifier.Identifier.{Identifier}
 use Rattle.verilog_ast.specs.declared.module.Module.{Module}
-use Rattle.verilog_ast.specs.Items.{ModuleItem, ModuleDeclaration}
+use Rattle.verilog_ast.specs.Items.{ModuleDeclaration}
 use Rattle.verilog_ast.specs.Views.{declarations_of}
 use Rattle.unit_ir.specs.declared.child_shape.ChildShape.{ChildShape}
 use Rattle.unit_ir.specs.declared.instance.Instance.{Instance}
 use Rattle.unit_ir.specs.declared.port_shape.PortShape.{PortShape}
 use Rattle.unit_ir.specs.Shapes.{children_of, shape_of, stands_in}
-use Rattle.gen_unroll.specs.Reaches.{innermost, blocks_around as blocks_left}
-use Rattle.gen_unroll.specs.Steps.{GenerateBlock, ModuleStep, Listed, Port, Parameter, Item, Labelled, Opened, Closed, blocks_in}
+use Rattle.gen_unroll.specs.Steps.{ModuleStep, blocks_in}
 use Rattle.gen_unroll.specs.Unrolled.{unrolled_module}
 use Rattle.gen_unroll.proofs.Answered.{ok_same}
 use Rattle.clock_rules.specs.Views.{clock_view}
@@ -27,12 +27,10 @@ use Rattle.elaborate.specs.Trees.{TreeInstance, blocks_around, called as instanc
 use Rattle.elaborate.specs.TreeViews.{instance_view, language_limits}
 use Rattle.elaborate.specs.Views.{port_of}
 use Rattle.unit_names.specs.Numbers.{SignalTable, module_table}
-use Rattle.unit_jobs.specs.BlockNames.{called_in, declared_by, item_texts, texts_within}
-use Rattle.unit_jobs.specs.JobViews.{text_of}
 use Rattle.job_laws.specs.BlockSignals.{is_within_block, called as signal_called}
 use Rattle.job_laws.specs.Outer.{are_ports_outside}
 use Rattle.job_laws.proofs.BlockNames.{same_names_within}
-use Rattle.job_laws.proofs.KnownInstances.{same_first, same_others, side_by_side}
+use Rattle.job_laws.proofs.KnownInstances.{side_by_side}
 use Rattle.job_laws.proofs.Rerolled.{ports_stand_outside}
 use Rattle.unit_laws.specs.Copies.{ModuleCopy, Copies}
 use Rattle.unit_laws.specs.DesignCopies.{IsCopyIn, AreEntriesIn, AreCopiesIn}
@@ -46,29 +44,27 @@ use Rattle.unit_laws.proofs.OneTable.{outer_ports}
 use Rattle.unit_laws.proofs.OwnInstances.{IsOwnStanding, all_own, module_is}
 use Rattle.unit_laws.proofs.Parts.{port_same}
 use Rattle.unit_laws.proofs.SameUnits.{ids_same}
-use Rattle.unit_laws.proofs.StepNames.{IsStepNamed, declared_named, told_go}
+use Rattle.unit_laws.proofs.SomeTexts.{IsSome, ids_in, texts_some}
+use Rattle.unit_laws.proofs.StepNames.{IsStepNamed, told_go}
 use Rattle.unit_laws.proofs.TableAlone.{same_listed}
 use Rattle.unit_laws.proofs.ToldInstances.{modules_named, within_table}
 
 -- ---- what is told by numbers
 
-id_is : (m n : NameId) → m.0 ≡ n.0 → m ≡ n
-id_is m n is = λ i. record { 0 = is i }
-
-clock_same : (c d : Option NameId) → clock_view c ≡ clock_view d → c ≡ d
+pub clock_same : (c d : Option NameId) → clock_view c ≡ clock_view d → c ≡ d
 clock_same None None is = refl
 clock_same None (Some n) is = absurd cc
 clock_same (Some m) None is = absurd cc
-clock_same (Some m) (Some n) is = ap Some (id_is m n (same_Some m.0 n.0 is))
+clock_same (Some m) (Some n) is = ap Some (same_id m n (same_Some m.0 n.0 is))
 
-ports_same : (ps qs : List PortShape) → map port_of ps ≡ map port_of qs → ps ≡ qs
+pub ports_same : (ps qs : List PortShape) → map port_of ps ≡ map port_of qs → ps ≡ qs
 ports_same [] [] is = refl
 ports_same [] (q ∷ qs) is = absurd cc
 ports_same (p ∷ ps) [] is = absurd cc
 ports_same (p ∷ ps) (q ∷ qs) is =
     let here = same_first (port_of p) (port_of q) (map port_of ps) (map port_of qs) is in
     ap₂ (λ (r : PortShape) (rs : List PortShape). r ∷ rs)
-    (port_same p q (id_is p.name q.name (ap (λ (o : PortOutline). o.name) here)) (ap (λ (o : PortOutline). o.input) here)
+    (port_same p q (same_id p.name q.name (ap (λ (o : PortOutline). o.name) here)) (ap (λ (o : PortOutline). o.input) here)
     (ap (λ (o : PortOutline). o.width) here) (ap (λ (o : PortOutline). o.signed) here))
     (ports_same ps qs (same_others (port_of p) (port_of q) (map port_of ps) (map port_of qs) is))
 
@@ -89,54 +85,10 @@ copy_same c d name declaration steps table clock children names = λ i. record {
 
 -- ---- what is told by texts
 
-abbrev IsSome : List ℕ → Type 0
-IsSome text = text ≡ [] → ⊥
-
 module _ (names : List (List ℕ)) (once : HasEachOnce names) where
   number_same : (m n : ℕ) (text : List ℕ) → IsSome text → text_at names m ≡ text → text_at names n ≡ text → m ≡ n
   number_same m n text some is also =
       once m n (within_table names m (λ none. some (sym is ∙ none))) (within_table names n (λ none. some (sym also ∙ none))) (is ∙ sym also)
-
-  ids_in : (ns : List NameId) → All IsSome (map (text_of names) ns) → All (IsIn names) ns
-  ids_in [] all = All-nil (IsIn names)
-  ids_in (n ∷ ns) all =
-      All-cons (IsIn names) n ns (within_table names n.0 (All-head IsSome (text_of names n) (map (text_of names) ns) all))
-      (ids_in ns (All-tail IsSome (text_of names n) (map (text_of names) ns) all))
-
-  -- no name within a block is empty
-  called_some : (bs : List GenerateBlock) (block : ℕ) (ns : List Identifier) → All (IsNameWord names) ns
-      → All IsSome (map (called_in names bs block) ns)
-  called_some bs block [] words = All-nil IsSome
-  called_some bs block (n ∷ ns) words =
-      All-cons IsSome (called_in names bs block n) (map (called_in names bs block) ns)
-      (spoken_some names bs (Some block) n (All-head (IsNameWord names) n ns words))
-      (called_some bs block ns (All-tail (IsNameWord names) n ns words))
-
-  item_some : (bs : List GenerateBlock) (block : Option ℕ) (x : ModuleItem) → All (IsNameWord names) (declared_by x)
-      → All IsSome (item_texts names bs block x)
-  item_some bs None x words = All-nil IsSome
-  item_some bs (Some block) x words = called_some bs block (declared_by x) words
-
-  abbrev AreWords : List ModuleStep → Type 0
-  AreWords steps = All (IsStepNamed (IsNameWord names)) steps
-
-  rest : (step : ModuleStep) (steps : List ModuleStep) → AreWords (step ∷ steps) → AreWords steps
-  rest step steps all = All-tail (IsStepNamed (IsNameWord names)) step steps all
-
-  texts_some : (bs : List GenerateBlock) (around : List ℕ) (steps : List ModuleStep) → AreWords steps
-      → All IsSome (texts_within names bs around steps)
-  texts_some bs around [] all = All-nil IsSome
-  texts_some bs around (Listed n ∷ steps) all = texts_some bs around steps (rest (Listed n) steps all)
-  texts_some bs around (Port p ∷ steps) all = texts_some bs around steps (rest (Port p) steps all)
-  texts_some bs around (Parameter s n v ∷ steps) all = texts_some bs around steps (rest (Parameter s n v) steps all)
-  texts_some bs around (Item x ∷ steps) all =
-      All-append IsSome (item_texts names bs (innermost around) x) (texts_within names bs around steps)
-      (item_some bs (innermost around) x
-      (declared_named (IsNameWord names) x (All-head (IsStepNamed (IsNameWord names)) (Item x) steps all)))
-      (texts_some bs around steps (rest (Item x) steps all))
-  texts_some bs around (Labelled n ∷ steps) all = texts_some bs around steps (rest (Labelled n) steps all)
-  texts_some bs around (Opened b items ∷ steps) all = texts_some bs (b.number ∷ around) steps (rest (Opened b items) steps all)
-  texts_some bs around (Closed ∷ steps) all = texts_some bs (blocks_left around) steps (rest Closed steps all)
 
   -- ---- the instances that stand in one
 
@@ -152,7 +104,7 @@ module _ (names : List (List ℕ)) (once : HasEachOnce names) where
   instance_shape all x y s word is also =
       let same = is ∙ sym also in
       shape_same (shape_of x) (shape_of y)
-      (id_is x.place.name y.place.name
+      (same_id x.place.name y.place.name
       (number_same x.place.name.0 y.place.name.0 (instance_called names all s) (called_so all s word) (ap (λ (i : TreeInstance). i.name) is)
       (ap (λ (i : TreeInstance). i.name) also)))
       (clock_same x.clock y.clock (ap (λ (i : TreeInstance). i.clock) same))
@@ -200,10 +152,10 @@ module _ (names : List (List ℕ)) (once : HasEachOnce names) where
         let named = module_is (IsNameWord names) language_limits (declarations_of ms) words s.instantiated (declarations_of ms) d words h.declared in
         let outside = subst (λ (ss : List ModuleStep). are_ports_outside 0 ss ≡ true) (sym h.unrolled)
         (ports_stand_outside language_limits.turns s.overrides d (outer_ports ms s.instantiated d h.declared)) in
-        let are = subst AreWords (sym h.unrolled) (told_go (IsNameWord names) language_limits.turns s.overrides d named.1) in
-        ids_in e.copy.names
+        let are = subst (All (IsStepNamed (IsNameWord names))) (sym h.unrolled) (told_go (IsNameWord names) language_limits.turns s.overrides d named.1) in
+        ids_in names e.copy.names
         (subst (All IsSome) (same_names_within d steps e.copy.table names outside h.signals ∙ sym h.names)
-        (texts_some (blocks_in steps) [] steps are))
+        (texts_some names (blocks_in steps) [] steps are))
 
     entry_same : (xs ys : List Instance) (all : List Standing) (k : ℕ) (e f : CopyEntry) (s : Standing) → IsWord s
         → map shape_of (children_of k xs) ≡ map shape_of (children_of k ys) → IsCopy xs all k e s → IsCopy ys all k f s → e ≡ f

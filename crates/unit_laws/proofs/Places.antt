@@ -4,14 +4,12 @@ use Rattle.std.proofs.lemmas.Bool.{ne_eqb}
 use Rattle.std.proofs.lemmas.List.{length-append}
 use Rattle.typed_ir.specs.Orders.{Each}
 use Rattle.typed_ir.proofs.Lists.{each_append}
+use Rattle.typed_ir.proofs.Paths.{path_itself}
 use Rattle.unit_names.specs.Signals.{NamedSignal}
-use Rattle.unit_laws.specs.Copies.{ModuleCopy, Copies, Nothing, One, Where, inside, from_each, SignalPlace, places_from, own_places, same_path, place_in}
+use Rattle.typed_ir.specs.Paths.{same_path}
+use Rattle.unit_laws.specs.Copies.{ModuleCopy, Copies, Nothing, One, Where, inside, from_each, SignalPlace, places_from, own_places, place_in}
 
 -- ---- paths
-
-same_self : (at : List ℕ) → same_path at at ≡ true
-same_self [] = refl
-same_self (x ∷ xs) = ap (λ b. b && same_path xs xs) (eq-eqb x x refl) ∙ same_self xs
 
 -- behind the same beginning, other steps make other paths
 steps_apart : (at : List ℕ) (j k : ℕ) (xs ys : List ℕ) → (j ≡ k → ⊥) → same_path (at ++ j ∷ xs) (at ++ k ∷ ys) ≡ false
@@ -60,12 +58,12 @@ place_own : (at : List ℕ) (k i : ℕ) (xs : List NamedSignal) (ps : List Signa
 place_own at k i [] ps h = absurd (omega (arith, h))
 place_own at k zero (x ∷ xs) ps h =
     let first : (k + 0 == k) ≡ true = ap (λ n. n == k) (omega arith) ∙ eq-eqb k k refl in
-    ap (λ b. cond (b && (k + 0 == k)) 0 (suc (place_in (places_from at (suc k) xs ++ ps) at (k + 0)))) (same_self at)
+    ap (λ b. cond (b && (k + 0 == k)) 0 (suc (place_in (places_from at (suc k) xs ++ ps) at (k + 0)))) (path_itself at)
     ∙ ap (λ b. cond b 0 (suc (place_in (places_from at (suc k) xs ++ ps) at (k + 0)))) first
 place_own at k (suc i) (x ∷ xs) ps h =
     let next : k + suc i ≡ suc k + i = omega arith in
     let other : (k + suc i == k) ≡ false = ne_eqb (k + suc i) k (λ e. omega (arith, e)) in
-    ap (λ b. cond (b && (k + suc i == k)) 0 (suc (place_in (places_from at (suc k) xs ++ ps) at (k + suc i)))) (same_self at)
+    ap (λ b. cond (b && (k + suc i == k)) 0 (suc (place_in (places_from at (suc k) xs ++ ps) at (k + suc i)))) (path_itself at)
     ∙ ap (λ b. cond b 0 (suc (place_in (places_from at (suc k) xs ++ ps) at (k + suc i)))) other
     ∙ ap (λ n. suc (place_in (places_from at (suc k) xs ++ ps) at n)) next
     ∙ ap suc (place_own at (suc k) i xs ps (omega (arith, h)))

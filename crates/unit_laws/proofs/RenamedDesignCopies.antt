@@ -13,7 +13,7 @@ use Rattle.clock_rules.specs.Views.{clock_view}
 use Rattle.elaborate.specs.Elaborated.{Standing}
 use Rattle.unit_names.specs.Signals.{NamedSignal}
 use Rattle.unit_names.specs.Numbers.{module_table}
-use Rattle.unit_jobs.specs.JobViews.{text_of}
+use Rattle.ls_text.specs.TextViews.{text_of}
 use Rattle.job_laws.specs.BlockSignals.{is_within_block, called as signal_called}
 use Rattle.design_laws.specs.Findings.{clock_as, standing_as}
 use Rattle.design_laws.specs.Renaming.{KeepsApart, SpellsSame, found_as, block_as, step_as}

@@ -9,7 +9,7 @@ use Rattle.ls_text.specs.Answers.{◌>>=◌}
 use Rattle.module_registry.specs.declared.build_job.BuildJob.{BuildJob}
 use Rattle.module_registry.specs.Building.{Built}
 use Rattle.module_registry.specs.Jobs.{job_text}
-use Rattle.unit_jobs.specs.JobViews.{text_of}
+use Rattle.ls_text.specs.TextViews.{text_of}
 use Rattle.unit_build.specs.Building.{module_of, job_steps, built}
 use Rattle.unit_build.specs.FromSteps.{unit_from}
 use Rattle.unit_laws.proofs.SameSpelling.{same_declaration}

@@ -1,5 +1,6 @@
 -- Numbers that are shifted by that of the first signal are other numbers.
-use Rattle.std.proofs.Common.{◌≡◌, ℕ, ◌+◌, List, [], ◌∷◌, map, refl, ◌∙◌, ap, ap₂}
+use Rattle.std.proofs.Common.{◌≡◌, ℕ, ◌+◌, List, map, refl, ◌∙◌, ap, ap₂}
+use Rattle.ls_text.proofs.Lists.{same_map}
 use Rattle.typed_ir.specs.declared.lane.Lane.{Lane}
 use Rattle.typed_ir.specs.Sized.{Sized, Constant, Name, Part, Pick, Unary, Binary, Choice, Concat, Repeat, Resized}
 use Rattle.typed_ir.specs.Stmts.{SizedTarget, Fixed, Moving, SizedItem, SizedStmt, SizedArms, Skip, Assign, Later, Then, If, Case, Arm, Default}
@@ -10,10 +11,6 @@ use Rattle.unit_laws.specs.RenumberedItems.{flat_node_as}
 
 abbrev pub behind_first : ℕ → ℕ → ℕ
 behind_first first s = first + s
-
-pub same_map : {A B : Type 0} (f g : A → B) → ((x : A) → f x ≡ g x) → (xs : List A) → map f xs ≡ map g xs
-same_map f g same [] = refl
-same_map f g same (x ∷ xs) = ap₂ (λ y ys. y ∷ ys) (same x) (same_map f g same xs)
 
 pub form_shifted : (first : ℕ) (e : Sized) → numbered_as (behind_first first) e ≡ shifted first e
 form_shifted first (Constant width value) = refl

@@ -9,6 +9,7 @@ use Rattle.ls_text.specs.declared.name_id.NameId.{NameId}
 use Rattle.ls_text.specs.Texts.{Grows, text_at}
 use Rattle.ls_text.proofs.Growth.{grown_id, grown_text}
 use Rattle.ls_text.proofs.Cases.{turned}
+use Rattle.ls_text.proofs.Lists.{same_first, same_others}
 use Rattle.verilog_lex.specs.declared.kind.Kind.{Kind}
 use Rattle.verilog_lex.specs.declared.kind.Kind.TheVariants as k
 use Rattle.verilog_lex.specs.declared.literal.Literal.{Literal}
@@ -32,7 +33,7 @@ use Rattle.elaborate.specs.TreeViews.{instance_view}
 use Rattle.elaborate.specs.Views.{port_of}
 use Rattle.job_laws.specs.InstanceModules.{IsVisited}
 use Rattle.job_laws.proofs.InstanceModules.{all_visited}
-use Rattle.job_laws.proofs.KnownInstances.{same_first, same_others, side_by_side}
+use Rattle.job_laws.proofs.KnownInstances.{side_by_side}
 use Rattle.job_laws.proofs.Together.{visit_has}
 use Rattle.job_laws.proofs.TreeJobs.{seen_of}
 use Rattle.unit_laws.specs.InstancesTold.{is_port_name, HasOwnClock, IsInstanceTold}

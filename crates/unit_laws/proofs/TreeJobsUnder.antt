@@ -6,6 +6,8 @@ use Rattle.std.proofs.lemmas.Bool.{eqb-true}
 use Rattle.std.proofs.lemmas.List.Elements.{All-nil, All-cons, All-head, All-tail}
 use Rattle.ls_text.specs.declared.name_id.NameId.{NameId}
 use Rattle.ls_text.specs.Texts.{Grows}
+use Rattle.ls_text.proofs.Tables.{same_id}
+use Rattle.ls_text.proofs.Lists.{same_first, same_others}
 use Rattle.typed_ir.specs.declared.constant.Const.{Const}
 use Rattle.typed_ir.specs.Orders.{Each}
 use Rattle.verilog_ast.specs.declared.identifier.Identifier.{Identifier}
@@ -29,9 +31,10 @@ use Rattle.elaborate.specs.Views.{port_of}
 use Rattle.module_names.specs.Modules.{header_ports}
 use Rattle.unit_jobs.specs.BlockNames.{texts_within}
 use Rattle.unit_jobs.specs.Jobs.{InstanceJob, module_called, steps_under, job_with, tree_jobs}
-use Rattle.unit_jobs.specs.JobViews.{text_of, job_view}
+use Rattle.ls_text.specs.TextViews.{text_of}
+use Rattle.unit_jobs.specs.JobViews.{job_view}
 use Rattle.unit_build.specs.Building.{job_steps}
-use Rattle.job_laws.proofs.KnownInstances.{same_first, same_others, IsKnown}
+use Rattle.job_laws.proofs.KnownInstances.{IsKnown}
 use Rattle.job_laws.proofs.Together.{visit_has}
 use Rattle.job_laws.proofs.TreeJobs.{known_steps, steps_known, jobs_known, are_jobs_known, tree_known, seen_of}
 use Rattle.unit_laws.specs.InstancesTold.{is_port_name, HasOwnClock, IsInstanceTold, HasNamesIn}
@@ -148,9 +151,6 @@ module _ (old new : List (List ℕ)) (grows : Grows old new) (ms : List Module) 
       (All-tail (HasNamesIn new) j js names) (same_others (job_view new j) job (map (job_view new) js) jobs same))
 
 -- ---- instances
-
-same_id : (m n : NameId) → m.0 ≡ n.0 → m ≡ n
-same_id m n number = λ i. record { 0 = number i }
 
 module _ (old new : List (List ℕ)) (grows : Grows old new) where
   abbrev IsPortWord : PortShape → Type 0

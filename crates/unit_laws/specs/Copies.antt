@@ -1,6 +1,7 @@
 -- The modules of a design, each copied out at each of its instances, and the signals of all of them (IEEE Std 1364-2005, 12.1.2 and 12.4).
-use Rattle.std.specs.Prelude.{ℕ, suc, ◌==◌, ◌&&◌, Bool, true, false, if◌then◌else◌, List, [], ◌∷◌, ◌++◌, Option}
+use Rattle.std.specs.Prelude.{ℕ, suc, ◌==◌, ◌&&◌, if◌then◌else◌, List, [], ◌∷◌, ◌++◌, Option}
 use Rattle.ls_text.specs.declared.name_id.NameId.{NameId}
+use Rattle.typed_ir.specs.Paths.{same_path}
 use Rattle.verilog_ast.specs.Items.{ModuleDeclaration}
 use Rattle.unit_ir.specs.declared.child_shape.ChildShape.{ChildShape}
 use Rattle.gen_unroll.specs.Steps.{ModuleStep}
@@ -57,12 +58,6 @@ own_places w c = places_from w.at 0 c.table.signals
 
 abbrev pub all_places : Copies → List SignalPlace
 all_places all = from_each own_places outside 0 all
-
-abbrev pub same_path : List ℕ → List ℕ → Bool
-same_path [] [] = true
-same_path [] (y ∷ ys) = false
-same_path (x ∷ xs) [] = false
-same_path (x ∷ xs) (y ∷ ys) = (x == y) && same_path xs ys
 
 abbrev pub place_in : List SignalPlace → (at : List ℕ) → (signal : ℕ) → ℕ
 place_in [] at signal = 0

@@ -12,7 +12,7 @@ use Rattle.module_names.specs.Modules.{module_named}
 use Rattle.elaborate.specs.Elaborated.{Standing}
 use Rattle.elaborate.specs.Trees.{called as instance_called}
 use Rattle.unit_names.specs.Numbers.{module_table}
-use Rattle.unit_jobs.specs.JobViews.{text_of}
+use Rattle.ls_text.specs.TextViews.{text_of}
 use Rattle.job_laws.specs.BlockSignals.{is_within_block, called as signal_called}
 use Rattle.unit_laws.specs.Copies.{Copies}
 use Rattle.unit_laws.specs.TableCopies.{CopyEntry, copies_listed}

@@ -7,7 +7,7 @@ use Rattle.gen_unroll.specs.Steps.{ModuleStep, blocks_in}
 use Rattle.module_registry.specs.Constants.{constants_of}
 use Rattle.module_registry.specs.declared.build_job.BuildJob.{BuildJob}
 use Rattle.unit_jobs.specs.BlockNames.{texts_within}
-use Rattle.unit_jobs.specs.JobViews.{text_of}
+use Rattle.ls_text.specs.TextViews.{text_of}
 use Rattle.unit_build.specs.Building.{job_steps}
 use Rattle.unit_laws.specs.Spelled.{IsSpelledUnder}
 use Rattle.unit_laws.specs.Told.{IsClockTold, IsChildTold}

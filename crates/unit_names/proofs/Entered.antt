@@ -7,7 +7,8 @@ use Rattle.gen_unroll.specs.Declarations.{declared}
 use Rattle.typed_ir.proofs.Lists.{drop_read}
 use Rattle.unit_names.specs.declared.block_signal.BlockSignal.{BlockSignal}
 use Rattle.unit_names.specs.declared.named_signal.NamedSignal.{NamedSignal as Named}
-use Rattle.unit_names.specs.Numbers.{same_block, in_block_from}
+use Rattle.gen_unroll.specs.Reaches.{same_block}
+use Rattle.unit_names.specs.Numbers.{in_block_from}
 use Rattle.unit_names.specs.Signals.{NamedSignal}
 use Rattle.unit_names.specs.SignalViews.{signal_of, numbered_of}
 use Rattle.unit_names.specs.UnitReaches.{all_signals, meaning_of_signal}

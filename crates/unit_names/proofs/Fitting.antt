@@ -16,7 +16,8 @@ use Rattle.gen_unroll.specs.Views.{bit_range_of}
 use Rattle.unit_names.specs.declared.named_signal.NamedSignal.{NamedSignal as Named}
 use Rattle.unit_names.specs.declared.signal_table.ModuleSignals.{ModuleSignals}
 use Rattle.unit_names.specs.ModuleViews.{signals_in}
-use Rattle.unit_names.specs.Numbers.{NumberedSignal, same_block, in_block_from, in_block}
+use Rattle.gen_unroll.specs.Reaches.{same_block}
+use Rattle.unit_names.specs.Numbers.{NumberedSignal, in_block_from, in_block}
 use Rattle.unit_names.specs.Signals.{NamedSignal}
 use Rattle.unit_names.specs.SignalViews.{signal_of}
 use Rattle.unit_names.specs.Sound.{IsOneOf, has_name, widths_of}

@@ -3,7 +3,8 @@ use Rattle.std.proofs.Common.{◌≡◌, ◌<◌, ◌^◌, ◌+◌, ◌==◌, �
 use Rattle.std.specs.Prelude.{Some}
 use Rattle.std.proofs.lemmas.List.{length-append}
 use Rattle.unit_names.specs.declared.numbering.Numbering.{Numbering}
-use Rattle.unit_names.specs.Numbers.{place_where, has_order, is_own_named, number_of_name, same_block, in_block}
+use Rattle.gen_unroll.specs.Reaches.{same_block}
+use Rattle.unit_names.specs.Numbers.{place_where, has_order, is_own_named, number_of_name, in_block}
 use Rattle.unit_names.specs.NumberingViews.{numbered_in, IsNumbered}
 use Rattle.unit_names.specs.Places.{first_of}
 use Rattle.unit_names.specs.PlaceViews.{place_in}

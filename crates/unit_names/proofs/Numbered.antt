@@ -153,17 +153,17 @@ once_filtered test (k ∷ ks) d = by (test k) (once_filtered test ks d.1)
 
 -- ---- inputs
 
-abbrev input_at : List NamedSignal → ℕ → Bool
+abbrev pub input_at : List NamedSignal → ℕ → Bool
 input_at [] k = false
 input_at (x ∷ xs) zero = is_input x.kind
 input_at (x ∷ xs) (suc k) = input_at xs k
 
 -- an input, by its place behind the first one
-record IsInputAt (xs : List NamedSignal) (first s : ℕ) : Type 0 where
-  place : ℕ
-  is : s ≡ first + place
-  within : place < length xs
-  seen : input_at xs place ≡ true
+pub record IsInputAt (xs : List NamedSignal) (first s : ℕ) : Type 0 where
+  pub place : ℕ
+  pub is : s ≡ first + place
+  pub within : place < length xs
+  pub seen : input_at xs place ≡ true
 
 next_input : (x : NamedSignal) (xs : List NamedSignal) (first s : ℕ) → IsInputAt xs (suc first) s → IsInputAt (x ∷ xs) first s
 next_input x xs first s h =
@@ -171,7 +171,7 @@ next_input x xs first s h =
     let below = h.within in
     record { place = suc h.place; is = omega (arith, same); within = omega (arith, below); seen = h.seen }
 
-input_from : (first : ℕ) (clock : Option NameId) (xs : List NamedSignal) (s : ℕ) → Member s (data_inputs_from first clock xs) → IsInputAt xs first s
+pub input_from : (first : ℕ) (clock : Option NameId) (xs : List NamedSignal) (s : ℕ) → Member s (data_inputs_from first clock xs) → IsInputAt xs first s
 input_from first clock [] s m = absurd m
 input_from first clock (x ∷ xs) s m = by (is_data_input clock x) refl (input_from (suc first) clock xs s) m
   where

@@ -6,7 +6,7 @@ use Rattle.typed_ir.specs.Orders.{Member}
 use Rattle.verilog_ast.specs.declared.identifier.Identifier.{Identifier}
 use Rattle.verilog_ast.specs.declared.port_net.PortNet.{PortNet}
 use Rattle.verilog_ast.specs.declared.port_net.PortNet.TheVariants as net
-use Rattle.verilog_ast.specs.Declarations.{PortDeclaration, InputPort, OutputPort, NextPort}
+use Rattle.verilog_ast.specs.Declarations.{PortDeclaration, InputPort, OutputPort, NextPort, header_net}
 use Rattle.verilog_ast.specs.Items as i
 use Rattle.verilog_ast.specs.Items.{ModuleItem}
 use Rattle.unit_ir.specs.declared.signal_kind.SignalKind.{SignalKind}
@@ -15,7 +15,7 @@ use Rattle.gen_unroll.specs.Declarations.{BitRange, declared_name, declared_reg_
 use Rattle.gen_unroll.specs.Reaches.{Reach, innermost, in_reach}
 use Rattle.gen_unroll.specs.Steps.{ModuleStep, Listed, Port, Parameter, Item, Labelled, Opened, Closed}
 use Rattle.ls_text.specs.Answers.{◌>>=◌}
-use Rattle.unit_names.specs.Signals.{NamedSignal, completes, completed, put, kind_of_net, header_net, with_port, with_ports, with_next, with_net, with_nets, last_of, range_in, header_port, item_signals, step_signals, declared_in}
+use Rattle.unit_names.specs.Signals.{NamedSignal, completes, completed, put, kind_of_net, with_port, with_ports, with_next, with_net, with_nets, last_of, range_in, header_port, item_signals, step_signals, declared_in}
 
 -- so many were declared before the first of these, and one more before each further one
 abbrev pub AreInOrder : ℕ → List NamedSignal → Type 0

@@ -8,7 +8,8 @@ use Rattle.std.proofs.lemmas.List.{map-append}
 use Rattle.typed_ir.proofs.Cases.{by_cases}
 use Rattle.unit_names.specs.declared.block_signal.BlockSignal.{BlockSignal}
 use Rattle.unit_names.specs.Signals.{NamedSignal}
-use Rattle.unit_names.specs.Numbers.{NumberedSignal, same_block, in_block_from}
+use Rattle.gen_unroll.specs.Reaches.{same_block}
+use Rattle.unit_names.specs.Numbers.{NumberedSignal, in_block_from}
 use Rattle.unit_names.specs.Rows.{row_in}
 use Rattle.unit_names.specs.SignalViews.{numbered_of}
 

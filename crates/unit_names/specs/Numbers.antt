@@ -1,12 +1,12 @@
 -- The signals of a module by numbers of their own, its ports first, in the order of the header (IEEE Std 1364-2005, 12.3).
-use Rattle.std.specs.Prelude.{ℕ, zero, suc, Bool, true, false, ◌&&◌, ◌==◌, not, if◌then◌else◌, List, [], ◌∷◌, ◌++◌, map, length, filter, Option, Some, None, is_some, Result, Ok}
+use Rattle.std.specs.Prelude.{ℕ, zero, suc, Bool, ◌&&◌, ◌==◌, not, if◌then◌else◌, List, [], ◌∷◌, ◌++◌, map, length, filter, Option, Some, None, is_some, Result, Ok}
 use Rattle.std.specs.Option.{option_map}
 use Rattle.ls_text.specs.declared.fault.Fault.{Fault}
 use Rattle.verilog_ast.specs.declared.identifier.Identifier.{Identifier}
 use Rattle.verilog_ast.specs.Declarations.{PortList, NoPorts, NamedPorts, DeclaredPorts}
 use Rattle.verilog_ast.specs.Items.{ModuleDeclaration}
 use Rattle.gen_unroll.specs.Declarations.{port_name}
-use Rattle.gen_unroll.specs.Reaches.{reach_in}
+use Rattle.gen_unroll.specs.Reaches.{reach_in, same_block}
 use Rattle.gen_unroll.specs.Steps.{ModuleStep}
 use Rattle.ls_text.specs.Answers.{◌>>=◌}
 use Rattle.unit_names.specs.Signals.{NamedSignal, is_outermost, is_port, is_port_named, declared_in}
@@ -81,12 +81,6 @@ unfoldable pub module_table : ModuleDeclaration → List ModuleStep → Result S
 module_table m steps = declared_in (reach_in m) steps [] >>= λ xs. Ok (table_of (header_names m.ports) xs)
 
 -- ---- those of a block
-
-abbrev pub same_block : Option ℕ → Option ℕ → Bool
-same_block None None = true
-same_block None (Some n) = false
-same_block (Some m) None = false
-same_block (Some m) (Some n) = m == n
 
 -- a signal with its number
 pub record NumberedSignal : Type 0 where

@@ -5,13 +5,12 @@ use Rattle.ls_text.specs.declared.fault.Fault.{Fault}
 use Rattle.verilog_ast.specs.declared.identifier.Identifier.{Identifier}
 use Rattle.verilog_ast.specs.declared.port_net.PortNet.{PortNet}
 use Rattle.verilog_ast.specs.declared.port_net.PortNet.TheVariants as net
-use Rattle.verilog_ast.specs.Declarations.{RangeBounds, Kind, Declared, DeclaredReg, PortDeclaration, InputPort, OutputPort, NextPort}
+use Rattle.verilog_ast.specs.Declarations.{Kind, Declared, DeclaredReg, PortDeclaration, InputPort, OutputPort, NextPort, header_net}
 use Rattle.verilog_ast.specs.Items as i
 use Rattle.verilog_ast.specs.Items.{ModuleItem}
 use Rattle.unit_ir.specs.declared.signal_kind.SignalKind.{SignalKind}
 use Rattle.unit_ir.specs.declared.signal_kind.SignalKind.TheVariants as kind
-use Rattle.width_rules.specs.Scopes.{Scope}
-use Rattle.gen_unroll.specs.Declarations.{BitRange, range_value, declared_name, declared_reg_name}
+use Rattle.gen_unroll.specs.Declarations.{BitRange, range_or_none, declared_name, declared_reg_name}
 use Rattle.gen_unroll.specs.Reaches.{Reach, innermost, in_reach}
 use Rattle.gen_unroll.specs.Steps.{ModuleStep, Listed, Port, Parameter, Item, Labelled, Opened, Closed}
 use Rattle.ls_text.specs.Answers.{◌>>=◌}
@@ -57,12 +56,6 @@ abbrev pub with_ports : Option ℕ → SignalKind → PortNet → Option BitRang
 with_ports here k net range signed [] xs = xs
 with_ports here k net range signed (n ∷ ns) xs = with_ports here k net range signed ns (with_port here k net range signed n xs)
 
--- a port that the header declares is complete
-abbrev pub header_net : PortNet → PortNet
-header_net net.Nothing = net.Wire
-header_net net.Wire = net.Wire
-header_net net.Reg = net.Reg
-
 -- a further name has the declaration of the port before; without one it is an input
 abbrev pub with_next : Option NamedSignal → Option ℕ → Identifier → List NamedSignal → List NamedSignal
 with_next None here n xs = with_port here kind.Input net.Wire None false n xs
@@ -101,13 +94,6 @@ with_nets here by range signed [] xs = xs
 with_nets here by range signed (n ∷ ns) xs = with_nets here by range signed ns (with_net here by range signed n xs)
 
 -- ---- steps; the range of a declaration is evaluated once, in the scope of its step
-
-abbrev pub range_of : Scope → RangeBounds → Result (Option BitRange) Fault
-range_of scope r = range_value scope r >>= λ b. Ok (Some b)
-
-abbrev pub range_or_none : Scope → Option RangeBounds → Result (Option BitRange) Fault
-range_or_none scope None = Ok None
-range_or_none scope (Some r) = range_of scope r
 
 abbrev pub range_in : Reach → Kind → Result (Option BitRange) Fault
 range_in here k = range_or_none here.scope k.range

@@ -1,6 +1,7 @@
 // Signals, each with the next number.
 ghost use Rattle.std.specs.Prelude.{◌≡◌, ◌≤◌, ◌<◌, ◌++◌, ◌∷◌, ◌==◌, ℕ, [], Some, length, if◌then◌else◌, OnOk};
-ghost use Rattle.unit_names.specs.Numbers.{same_block, is_own_named};
+ghost use Rattle.gen_unroll.specs.Reaches.{same_block};
+ghost use Rattle.unit_names.specs.Numbers.{is_own_named};
 ghost use Rattle.unit_names.specs.NumberingViews.{numbered_in, IsNumbered};
 ghost use Rattle.unit_names.specs.Places.{first_of};
 ghost use Rattle.unit_names.specs.PlaceViews.{place_in};

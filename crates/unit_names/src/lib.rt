@@ -1,11 +1,11 @@
 // The nets and variables of an unrolled module by numbers of their own, and the names in reach at each step with these numbers.
 //
-// `stepping` goes over the steps and has a `table` of `named_signal`s in the order of the declarations: `declaring` puts one there, or
-// completes the port that has its name, and `naming` those of one declaration. `heading` gives them their numbers, the ports of the header
-// first, one by one (`adding`, in `numbering`), and `making` puts all together, as `signal_table`; `finding` has the first place of each
-// key, by its hash. `reaching` follows the steps with the names in reach (`unit_reach`), in which `hiding` has each net and variable stand
-// for nothing and then `entering` declares the signals, and `listing` makes the lists that a unit has; `laws` says what it relies on of the
-// numbers.
+// `stepping` goes over the steps and has a `table` of `named_signal`s in the order of the declarations: `declaring` puts one there, or completes the
+// port that has its name, and `naming` those of one declaration. `heading` gives them their numbers, the ports of the header first, one by one
+// (`adding`, in `numbering`), and `making` puts all together, as `signal_table`; `finding` has the first place of each key, by its hash
+// (`first_places`). `reaching` follows the steps with the names in reach (`unit_reach`), in which `hiding` has each net and variable stand for
+// nothing and then `entering` declares the signals (`block_signal`), and `listing` makes the lists that a unit has; `laws` says what it relies on of
+// the numbers.
 #![tactic(auto)]
 
 mod adding;

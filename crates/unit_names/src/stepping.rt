@@ -1,8 +1,10 @@
 // The steps of a module to what they declare, in the order of the text.
 ghost use Rattle.std.specs.Prelude.{◌≡◌, [], map, IfOk, OnOk};
 ghost use Rattle.std.specs.Option.{option_map};
+ghost use Rattle.verilog_ast.specs.Declarations.{header_net};
 ghost use Rattle.verilog_ast.specs.Views.{range_of, kind_of, declared_of, declared_reg_of, port_of, plain_item_of, declaration_of};
 ghost use Rattle.width_rules.specs.Entries.{scope_of};
+ghost use Rattle.gen_unroll.specs.Declarations as d;
 ghost use Rattle.gen_unroll.specs.Reaches.{reach_in, IsEven};
 ghost use Rattle.gen_unroll.specs.ReachViews.{reach_of};
 ghost use Rattle.ls_text.specs.Answers.{Answers, Leads};
@@ -23,7 +25,7 @@ use verilog_ast::{
 use width_rules::Scope;
 
 fn range_of(alloc: Global, scope: &Scope, range: &Range) -> Result<Option<BitRange>, Refusal>
-    ensures { Answers result (option_map bit_range_of) (s.range_of (scope_of scope.now) (range_of range.now)) }
+    ensures { Answers result (option_map bit_range_of) (d.range_of (scope_of scope.now) (range_of range.now)) }
 {
     let range = range_value(alloc, scope, range)?;
     Ok(Some(range))
@@ -34,7 +36,7 @@ fn range_or_none(
     scope: &Scope,
     range: &Option<Range>,
 ) -> Result<Option<BitRange>, Refusal>
-    ensures { Answers result (option_map bit_range_of) (s.range_or_none (scope_of scope.now) (option_map range_of range.now)) }
+    ensures { Answers result (option_map bit_range_of) (d.range_or_none (scope_of scope.now) (option_map range_of range.now)) }
 {
     match range {
         None => Ok(None),
@@ -44,14 +46,14 @@ fn range_or_none(
 
 // The range of a declaration, where it has one, or its first fault.
 fn range_in(alloc: Global, scope: &Scope, shape: &Shape) -> Result<Option<BitRange>, Refusal>
-    ensures { Answers result (option_map bit_range_of) (s.range_or_none (scope_of scope.now) (kind_of shape.now).range) }
+    ensures { Answers result (option_map bit_range_of) (d.range_or_none (scope_of scope.now) (kind_of shape.now).range) }
 {
     range_or_none(alloc, scope, &shape.range)
 }
 
 // A port that the header declares is complete.
 fn header_net(net: PortNet) -> PortNet
-    ensures { result ≡ s.header_net net }
+    ensures { result ≡ header_net net }
 {
     match net {
         PortNet::Nothing | PortNet::Wire => PortNet::Wire,

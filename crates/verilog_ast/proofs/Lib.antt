@@ -3,6 +3,7 @@ pub mod BackItems
 pub mod BackStatements
 pub mod Equal
 pub mod Named
+pub mod PartsShared
 pub mod RenamedItemViews
 pub mod RenamedStatementViews
 pub mod RenamedViews

@@ -2,6 +2,7 @@
 use Rattle.std.proofs.Common.{◌≡◌, ◌∙◌, List, [], ◌∷◌, Option, map, refl, sym, ap, ap₂, subst}
 use Rattle.std.specs.Option.{option_map}
 use Rattle.ls_text.specs.declared.name_id.NameId.{NameId}
+use Rattle.ls_text.proofs.Lists.{map_so}
 use Rattle.verilog_ast.specs.declared.range.Range.{Range}
 use Rattle.verilog_ast.specs.declared.shape.Shape.{Shape}
 use Rattle.verilog_ast.specs.declared.variable.Variable.{Variable}
@@ -39,7 +40,7 @@ use Rattle.verilog_ast.specs.Renamed.{renamed_identifier, renamed_expression, re
 use Rattle.verilog_ast.specs.Views.{expression_of, range_of, kind_of, declared_of, declared_reg_of, parameter_of, header_parameter_of, port_of, ports_of, by_name_of, by_order_of, connections_of, instance_of, assignment_of, plain_item_of, head_of, items_of, generate_item_view, branch_view, generate_item_of, branch_of, item_of, declaration_of}
 use Rattle.verilog_ast.specs.Renaming.{expression_as, range_as, kind_as, declared_as, declared_reg_as, parameter_as, header_parameter_as, port_as, ports_as, by_name_as, by_order_as, connections_as, instance_as, assignment_as, head_as, item_as, declaration_as}
 use Rattle.verilog_ast.proofs.Equal.{ap₃}
-use Rattle.verilog_ast.proofs.RenamedViews.{same_expression, same_target, same_all, same_option}
+use Rattle.verilog_ast.proofs.RenamedViews.{same_expression, same_target, same_option}
 use Rattle.verilog_ast.proofs.RenamedStatementViews.{same_statement}
 
 -- ---- declarations
@@ -77,7 +78,7 @@ same_port f (port.Next x) = ap d.NextPort (same_declared f x)
 same_ports : (f : NameId → NameId) (x : Ports) → ports_of (renamed_ports f x) ≡ ports_as f (ports_of x)
 same_ports f ports.Nothing = refl
 same_ports f (ports.Names xs) = refl
-same_ports f (ports.Declarations xs) = ap d.DeclaredPorts (same_all port_of (renamed_header_port f) (port_as f) (same_port f) xs)
+same_ports f (ports.Declarations xs) = ap d.DeclaredPorts (map_so port_of (renamed_header_port f) (port_as f) (same_port f) xs)
 
 -- ---- items
 
@@ -88,8 +89,8 @@ same_by_order : (f : NameId → NameId) (x : OrderedConnection) → by_order_of 
 same_by_order f x = ap (λ (y : Option Expression). record { at = x.at; value = y }) (same_value f x.value)
 
 same_connections : (f : NameId → NameId) (x : Connections) → connections_of (renamed_connections f x) ≡ connections_as f (connections_of x)
-same_connections f (connections.Named xs) = ap i.ByName (same_all by_name_of (renamed_named f) (by_name_as f) (same_by_name f) xs)
-same_connections f (connections.Ordered xs) = ap i.ByOrder (same_all by_order_of (renamed_ordered f) (by_order_as f) (same_by_order f) xs)
+same_connections f (connections.Named xs) = ap i.ByName (map_so by_name_of (renamed_named f) (by_name_as f) (same_by_name f) xs)
+same_connections f (connections.Ordered xs) = ap i.ByOrder (map_so by_order_of (renamed_ordered f) (by_order_as f) (same_by_order f) xs)
 
 same_instance : (f : NameId → NameId) (x : Instance) → instance_of (renamed_instance f x) ≡ instance_as f (instance_of x)
 same_instance f x = ap (λ (y : ConnectionList). record { name = renamed_identifier f x.name; connections = y }) (same_connections f x.connections)
@@ -98,17 +99,17 @@ same_assignment : (f : NameId → NameId) (x : Continuous) → assignment_of (re
 same_assignment f x = ap₂ (λ (y : Target) (z : Expression). record { target = y; value = z }) (same_target f x.target) (same_expression f x.value)
 
 same_plain_item : (f : NameId → NameId) (x : PlainItem) → plain_item_of (renamed_plain_item f x) ≡ item_as f (plain_item_of x)
-same_plain_item f (plain.Wire at x ys) = ap₂ (i.Wires at) (same_kind f x) (same_all declared_of (renamed_variable f) (declared_as f) (same_declared f) ys)
-same_plain_item f (plain.Reg at x ys) = ap₂ (i.Regs at) (same_kind f x) (same_all declared_reg_of (renamed_reg_variable f) (declared_reg_as f) (same_declared_reg f) ys)
+same_plain_item f (plain.Wire at x ys) = ap₂ (i.Wires at) (same_kind f x) (map_so declared_of (renamed_variable f) (declared_as f) (same_declared f) ys)
+same_plain_item f (plain.Reg at x ys) = ap₂ (i.Regs at) (same_kind f x) (map_so declared_reg_of (renamed_reg_variable f) (declared_reg_as f) (same_declared_reg f) ys)
 same_plain_item f (plain.LocalParameter at x ys) =
-    ap₂ (i.LocalParameters at) (same_kind f x) (same_all parameter_of (renamed_parameter f) (parameter_as f) (same_parameter f) ys)
+    ap₂ (i.LocalParameters at) (same_kind f x) (map_so parameter_of (renamed_parameter f) (parameter_as f) (same_parameter f) ys)
 same_plain_item f (plain.Genvar at xs) = refl
-same_plain_item f (plain.Assign at xs) = ap (i.Assigns at) (same_all assignment_of (renamed_continuous f) (assignment_as f) (same_assignment f) xs)
+same_plain_item f (plain.Assign at xs) = ap (i.Assigns at) (map_so assignment_of (renamed_continuous f) (assignment_as f) (same_assignment f) xs)
 same_plain_item f (plain.Combinational at x) = ap (i.Combinational at) (same_statement f x)
 same_plain_item f (plain.Clocked at n x) = ap (i.Clocked at (renamed_identifier f n)) (same_statement f x)
 same_plain_item f (plain.Instances n x ys) =
     ap₂ (i.Instances (renamed_identifier f n)) (same_option connections_of (renamed_connections f) (connections_as f) (same_connections f) x)
-    (same_all instance_of (renamed_instance f) (instance_as f) (same_instance f) ys)
+    (map_so instance_of (renamed_instance f) (instance_as f) (same_instance f) ys)
 
 same_head : (f : NameId → NameId) (x : Loop) → head_of (renamed_loop f x) ≡ head_as f (head_of x)
 same_head f x =
@@ -194,8 +195,8 @@ same_region f (x ∷ xs) = ap₂ i.Items (same_generate_item f x) (same_region f
 
 same_item : (f : NameId → NameId) (x : Item) → item_of (renamed_item f x) ≡ item_as f (item_of x)
 same_item f (item.Input at net x ns) = ap (λ (y : Kind). i.Inputs at net y (map (renamed_identifier f) ns)) (same_kind f x)
-same_item f (item.Output at net x ys) = ap₂ (i.Outputs at net) (same_kind f x) (same_all declared_of (renamed_variable f) (declared_as f) (same_declared f) ys)
-same_item f (item.Parameter at x ys) = ap₂ (i.Parameters at) (same_kind f x) (same_all parameter_of (renamed_parameter f) (parameter_as f) (same_parameter f) ys)
+same_item f (item.Output at net x ys) = ap₂ (i.Outputs at net) (same_kind f x) (map_so declared_of (renamed_variable f) (declared_as f) (same_declared f) ys)
+same_item f (item.Parameter at x ys) = ap₂ (i.Parameters at) (same_kind f x) (map_so parameter_of (renamed_parameter f) (parameter_as f) (same_parameter f) ys)
 same_item f (item.Region at xs) = ap (i.Region at) (same_region f xs)
 same_item f (item.Item x) = same_generate_item f x
 
@@ -206,5 +207,5 @@ same_body_items f (x ∷ xs) = ap₂ i.Items (same_item f x) (same_body_items f 
 pub same_declaration : (f : NameId → NameId) (x : ModuleBody) → declaration_of (renamed_body f x) ≡ declaration_as f (declaration_of x)
 same_declaration f x =
     ap₃ (λ (a : List HeaderParameterDeclaration) (b : PortList) (c : ModuleItem). record { name = renamed_identifier f x.name; parameters = a; ports = b; items = c })
-    (same_all header_parameter_of (renamed_header_parameter f) (header_parameter_as f) (same_header_parameter f) x.parameters)
+    (map_so header_parameter_of (renamed_header_parameter f) (header_parameter_as f) (same_header_parameter f) x.parameters)
     (same_ports f x.ports) (same_body_items f x.items)

@@ -2,6 +2,7 @@
 use Rattle.std.proofs.Common.{◌≡◌, ◌∙◌, List, [], ◌∷◌, map, refl, sym, ap, ap₂, subst}
 use Rattle.std.specs.Option.{option_map}
 use Rattle.ls_text.specs.declared.name_id.NameId.{NameId}
+use Rattle.ls_text.proofs.Lists.{map_so}
 use Rattle.verilog_ast.specs.declared.label.Label.{Label}
 use Rattle.verilog_ast.specs.declared.label.Label.TheVariants as label
 use Rattle.verilog_ast.specs.declared.statement.Stmt.{Stmt, roll-Stmt}
@@ -15,7 +16,7 @@ use Rattle.verilog_ast.specs.Renamed.{renamed_identifier, renamed_expression, re
 use Rattle.verilog_ast.specs.Views.{label_of, statements_of, statement_view, arm_view, statement_of, arm_of}
 use Rattle.verilog_ast.specs.Renaming.{label_as, statement_as}
 use Rattle.verilog_ast.proofs.Equal.{ap₃}
-use Rattle.verilog_ast.proofs.RenamedViews.{same_expression, same_target, same_all}
+use Rattle.verilog_ast.proofs.RenamedViews.{same_expression, same_target}
 
 same_label : (f : NameId → NameId) (x : Label) → label_of (renamed_label f x) ≡ label_as f (label_of x)
 same_label f (label.Pattern at x) = refl
@@ -108,7 +109,7 @@ arm_node : (f : NameId → NameId) (y : Arm-F ((x : Arm) × SameArm f x) ((x : S
     → SameArm f (roll-Arm (map-Arm ((x : Arm) × SameArm f x) ((x : Stmt) × SameStatement f x) Arm Stmt (λ x. x.0) (λ x. x.0) y))
 arm_node f (Arm-F.Default at x) = arm_layer f (Arm-F.Default at x.0) (ap (Default at) x.1)
 arm_node f (Arm-F.Match ls x) =
-    arm_layer f (Arm-F.Match ls x.0) (ap₂ Match (same_all label_of (renamed_label f) (label_as f) (same_label f) ls) x.1)
+    arm_layer f (Arm-F.Match ls x.0) (ap₂ Match (map_so label_of (renamed_label f) (label_as f) (same_label f) ls) x.1)
 
 pub same_statement : (f : NameId → NameId) (x : Stmt) → statement_of (renamed_statement f x) ≡ statement_as f (statement_of x)
 same_statement f x = ind-Stmt (SameArm f) (SameStatement f) (λ x y is. subst (λ z. SameArm f (roll-Arm z)) is (arm_node f y))

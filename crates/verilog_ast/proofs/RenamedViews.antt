@@ -18,11 +18,7 @@ use Rattle.verilog_ast.specs.Views.{parts_of, expression_view, reference_view, e
 use Rattle.verilog_ast.specs.Renaming.{expression_as, target_as}
 use Rattle.verilog_ast.proofs.Equal.{ap₃}
 
--- what holds of each element holds of a list, and of what may be absent
-pub same_all : {A B : Type 0} (view : A → B) (f : A → A) (g : B → B) → ((x : A) → view (f x) ≡ g (view x)) → (xs : List A) → map view (map f xs) ≡ map g (map view xs)
-same_all view f g same [] = refl
-same_all view f g same (x ∷ xs) = ap₂ (λ y ys. y ∷ ys) (same x) (same_all view f g same xs)
-
+-- what holds of an element holds of what may be absent
 pub same_option : {A B : Type 0} (view : A → B) (f : A → A) (g : B → B) → ((x : A) → view (f x) ≡ g (view x)) → (x : Option A)
     → option_map view (option_map f x) ≡ option_map g (option_map view x)
 same_option view f g same None = refl

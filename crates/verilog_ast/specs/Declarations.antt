@@ -3,6 +3,7 @@ use Rattle.std.specs.Prelude.{Bool, List, Option}
 use Rattle.ls_text.specs.declared.place.Place.{Place}
 use Rattle.verilog_ast.specs.declared.identifier.Identifier.{Identifier}
 use Rattle.verilog_ast.specs.declared.port_net.PortNet.{PortNet}
+use Rattle.verilog_ast.specs.declared.port_net.PortNet.TheVariants as net
 use Rattle.verilog_ast.specs.Expressions.{Expression}
 
 -- `[high:low]`
@@ -30,6 +31,9 @@ pub record ParameterAssignment : Type 0 where
   pub name : Identifier
   pub value : Expression
 
+abbrev pub assigned_name : ParameterAssignment → Identifier
+assigned_name p = p.name
+
 -- a parameter of a header; without a kind it has that of the one before
 pub record HeaderParameterDeclaration : Type 0 where
   pub kind : Option Kind
@@ -46,3 +50,9 @@ pub data PortList : Type 0 where
   NoPorts : PortList
   NamedPorts : (names : List Identifier) → PortList
   DeclaredPorts : (ports : List PortDeclaration) → PortList
+
+-- a port that the header declares is complete
+abbrev pub header_net : PortNet → PortNet
+header_net net.Nothing = net.Wire
+header_net net.Wire = net.Wire
+header_net net.Reg = net.Reg

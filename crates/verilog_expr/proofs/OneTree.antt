@@ -1,5 +1,6 @@
 -- A row of operands and operators has one tree.
 use Rattle.std.proofs.Common.{◌≡◌, ◌≤◌, ◌+◌, ℕ, List, [], ◌∷◌, ◌++◌, refl, sym, ap, subst, arith}
+use Rattle.ls_text.proofs.Lists.{same_first, same_others}
 use Rattle.verilog_ast.specs.declared.binary_operator.BinaryOperator.{BinaryOperator}
 use Rattle.verilog_ast.specs.declared.expression.Expr.{Expr}
 use Rattle.verilog_ast.specs.declared.expression.Expr.TheVariants as e
@@ -18,18 +19,12 @@ longer_cuts a b us vs xs ys u y q (together p r t) = together (cc) r t
 longer_cuts a b us vs xs ys u y q (before mid p r) = before mid (cc) r
 longer_cuts a b us vs xs ys u y q (after mid p r) = after mid (cc) r
 
-head_is : {A : Type 0} (a b : A) (us xs : List A) → a ∷ us ≡ b ∷ xs → a ≡ b
-head_is a b us xs q = cc
-
-tail_is : {A : Type 0} (a b : A) (us xs : List A) → a ∷ us ≡ b ∷ xs → us ≡ xs
-tail_is a b us xs q = cc
-
 pub cuts : {A : Type 0} (us vs xs ys : List A) (u y : A) → us ++ u ∷ vs ≡ xs ++ y ∷ ys → Cuts us u vs xs y ys
-cuts [] vs [] ys u y q = together refl (head_is u y vs ys q) (tail_is u y vs ys q)
-cuts [] vs (x ∷ xs) ys u y q = before xs (ap (λ z. z ∷ xs) (sym (head_is u x vs (xs ++ y ∷ ys) q))) (tail_is u x vs (xs ++ y ∷ ys) q)
-cuts (a ∷ us) vs [] ys u y q = after us (ap (λ z. z ∷ us) (head_is a y (us ++ u ∷ vs) ys q)) (sym (tail_is a y (us ++ u ∷ vs) ys q))
+cuts [] vs [] ys u y q = together refl (same_first u y vs ys q) (same_others u y vs ys q)
+cuts [] vs (x ∷ xs) ys u y q = before xs (ap (λ z. z ∷ xs) (sym (same_first u x vs (xs ++ y ∷ ys) q))) (same_others u x vs (xs ++ y ∷ ys) q)
+cuts (a ∷ us) vs [] ys u y q = after us (ap (λ z. z ∷ us) (same_first a y (us ++ u ∷ vs) ys q)) (sym (same_others a y (us ++ u ∷ vs) ys q))
 cuts (a ∷ us) vs (x ∷ xs) ys u y q =
-    longer_cuts a x us vs xs ys u y (head_is a x (us ++ u ∷ vs) (xs ++ y ∷ ys) q) (cuts us vs xs ys u y (tail_is a x (us ++ u ∷ vs) (xs ++ y ∷ ys) q))
+    longer_cuts a x us vs xs ys u y (same_first a x (us ++ u ∷ vs) (xs ++ y ∷ ys) q) (cuts us vs xs ys u y (same_others a x (us ++ u ∷ vs) (xs ++ y ∷ ys) q))
 
 -- ---- the tree of a row
 

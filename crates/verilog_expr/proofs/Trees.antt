@@ -1,6 +1,7 @@
 -- The rules by which an expression stands for tokens.
 use Rattle.std.proofs.Common.{◌≡◌, ◌≢◌, ◌<◌, ◌≤◌, ◌+◌, ℕ, List, [], ◌∷◌, ◌++◌, Option, Some, None, subst, sym, ap, ◌∙◌, append_assoc}
 use Rattle.std.proofs.lemmas.List.{append-nil}
+use Rattle.std.proofs.lemmas.Option.{same_Some}
 use Rattle.verilog_lex.specs.declared.token.Token.{Token}
 use Rattle.verilog_lex.specs.declared.kind.Kind.{Kind}
 use Rattle.verilog_lex.specs.declared.kind.Kind.TheVariants as k
@@ -12,12 +13,9 @@ use Rattle.verilog_expr.specs.Spells.{Spells, AnExpression, AChain, Others, Behi
 
 pub ruleset trees = (plain, conditional, one, binary, number, unary, read, bracketed, braced, concatenation, replication, behind, no_other, another, whole, select, bit, part, upward, downward, range)
 
-some_is : (x y : BinaryOperator) → Some x ≡ Some y → x ≡ y
-some_is x y h = cc
-
 pub looser_is : (n : ℕ) (o : Option BinaryOperator) (op : BinaryOperator) → IsLooser n o → o ≡ Some op → level op < n
 looser_is n None op h h' = absurd cc
-looser_is n (Some x) op h h' = subst (λ (y : BinaryOperator). level y < n) (some_is x op h') h
+looser_is n (Some x) op h h' = subst (λ (y : BinaryOperator). level y < n) (same_Some x op h') h
 
 pub longer : (p n : ℕ) (op : BinaryOperator) (x y bx by : Expr) (s a b r : List Token) (kind : Kind) (t : Token) → bx ≡ x → by ≡ y → n ≡ level op → p ≤ level op → Spells (AChain (level op) x) s a → binary_operator kind ≡ Some op → Takes kind a b t
     → Spells (AChain (n + 1) y) b r → Spells (AChain p (e.Binary op bx by)) s r

@@ -1,9 +1,9 @@
 // Expressions of a Verilog text, read exactly as the grammar says; the cursor and the grammar machine of the whole
 // language.
 //
-// `parser` is the cursor over tokens, `parsing` reads one expression from a token on by `expression` (`operators`, `leaf`), and `showing`
-// makes a fault of what the machine refuses (`error`, `fault`, `stop`). The machine stands in `specs/`; `laws` says that it reads a
-// text in one way, that its trees have places, and that names may change.
+// `parser` is the cursor over tokens, `parsing` reads one expression from a token on (`parsed_expr`) by `expression` (`operators`, `leaf`), and
+// `showing` makes a fault of what the machine refuses (`error`, `fault`, `stop`). The machine stands in `specs/`; `laws` says that it reads a text in
+// one way, that its trees have places, and that names may change.
 #![tactic(auto)]
 
 mod error;

@@ -3,6 +3,7 @@ use Rattle.std.proofs.Common.{◌≡◌, ℕ, ◌+◌, ◌-◌, ◌≤◌, ◌==
 use Rattle.std.proofs.Math.Bool.{and-false, or-true}
 use Rattle.std.proofs.lemmas.Bool.{eqb-true, and_from, not-true, or_parts, and_parts}
 use Rattle.std.proofs.lemmas.Option.{none-some}
+use Rattle.ls_text.proofs.Lists.{none_is_some}
 use Rattle.verilog_pre.specs.Bodies.{begins_cut, lines_len, comment_len, run_len}
 use Rattle.verilog_pre.specs.Shapes.{HasNo, BeginsWith, AllAre, StopsAt, ends_comment}
 use Rattle.verilog_pre.specs.BodyStretches.{ends_line, begins_stretch, last_of}
@@ -58,16 +59,9 @@ line_ends a (b ∷ bs) = at (ends_line a b) refl (line_ends b bs)
     at true e more = inr e
     at false e more = more
 
-cons_nil : (b : ℕ) (bs : List ℕ) → b ∷ bs ≡ [] → ⊥
-cons_nil b bs e = true≢false (sym (ap is_nil e))
-  where
-    is_nil : List ℕ → Bool
-    is_nil [] = true
-    is_nil (x ∷ xs) = false
-
 pub line_is : (a : ℕ) (line rest : List ℕ) → HasNo ends_line (a ∷ line) → EndsAfter a line rest → line_of a (line ++ rest) ≡ line
 line_is a [] [] has ends = refl
-line_is a [] (b ∷ bs) has (inl none) = absurd (cons_nil b bs none)
+line_is a [] (b ∷ bs) has (inl none) = none_is_some b bs (sym none)
 line_is a [] (b ∷ bs) has (inr ends) = ap (λ t. cond t [] (b ∷ line_of b bs)) ends
 line_is a (c ∷ cs) rest has ends = ap (λ t. cond t [] (c ∷ line_of c (cs ++ rest))) has.0 ∙ ap (λ xs. c ∷ xs) (line_is c cs rest has.1 ends)
 
@@ -90,7 +84,7 @@ open_plain a n (b ∷ bs) none = at ((a == 42) && (b == 47)) refl none (open_pla
 
 pub open_is : (a n : ℕ) (line rest : List ℕ) → HasNo ends_comment (a ∷ line) → HasNo ends_line (a ∷ line) → EndsAfter a line rest → comment_len a n (line ++ rest) ≡ None
 open_is a n [] [] has on ends = refl
-open_is a n [] (b ∷ bs) has on (inl none) = absurd (cons_nil b bs none)
+open_is a n [] (b ∷ bs) has on (inl none) = none_is_some b bs (sym none)
 open_is a n [] (b ∷ bs) has on (inr ends) = at ((a == 42) && (b == 47)) refl
   where
     not_both : (b : ℕ) → (b == 10) ≡ true → (b == 47) ≡ true → ⊥

@@ -1,5 +1,5 @@
 -- One step of an expansion.
-use Rattle.std.proofs.Common.{◌≡◌, ℕ, suc, ◌-◌, List, [], ◌∷◌, map, Result, Ok, Err, refl, sym, ap, subst, ◌∙◌, arith}
+use Rattle.std.proofs.Common.{◌≡◌, ℕ, ◌-◌, List, [], ◌∷◌, map, Result, Ok, Err, refl, sym, ap, subst, ◌∙◌, arith}
 use Rattle.std.specs.List.{All}
 use Rattle.ls_text.specs.declared.place.Place.{Place}
 use Rattle.ls_text.specs.declared.refusal.Refusal.{Refusal}
@@ -90,6 +90,3 @@ use_is old new at word text nest out items table parts same none no_work =
 
 pub head_of : {A : Type 0} (P : A → Type 0) (x : A) (xs all : List A) → all ≡ x ∷ xs → All P all → P x
 head_of P x xs all is has = (subst (All P) is has) 0 x (omega arith)
-
-pub tail_of : {A : Type 0} (P : A → Type 0) (x : A) (xs all : List A) → all ≡ x ∷ xs → All P all → All P xs
-tail_of P x xs all is has = λ k d within. (subst (All P) is has) (suc k) d (omega arith)

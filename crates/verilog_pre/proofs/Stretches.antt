@@ -6,6 +6,7 @@ use Rattle.std.specs.List.{prefix_len}
 use Rattle.std.proofs.lemmas.Bool.{eqb-true, and_parts}
 use Rattle.std.proofs.lemmas.Option.{none-some}
 use Rattle.ls_text.specs.Bytes.{is_letter, is_digit, is_word_byte, through_pair}
+use Rattle.ls_text.proofs.Lists.{none_is_some}
 use Rattle.verilog_pre.specs.Bodies.{begins_cut}
 use Rattle.verilog_pre.specs.Heads.{plain_len}
 use Rattle.verilog_pre.specs.Shapes.{HasNo, BeginsWith, AllAre, StopsAt, ends_comment, IsWord}
@@ -184,18 +185,11 @@ run_count a n (b ∷ bs) more = at (begins_cut a b) (run_count b (n + 1) bs (ome
     at true rest = omega (arith, more)
     at false rest = omega (arith, rest)
 
-nil_cons : (b : ℕ) (bs : List ℕ) → [] ≡ b ∷ bs → ⊥
-nil_cons b bs e = true≢false (ap is_nil e)
-  where
-    is_nil : List ℕ → Bool
-    is_nil [] = true
-    is_nil (x ∷ xs) = false
-
 pub run_is : (a : ℕ) (cs rest : List ℕ) → HasNo begins_cut (a ∷ (cs ++ take 1 rest)) → (rest ≡ []) ⊎ BeginsWith begins_cut rest → run_of a (cs ++ rest) ≡ a ∷ cs
 run_is a [] [] has ends = refl
-run_is a [] (b ∷ []) has (inl none) = absurd (nil_cons b [] (sym none))
+run_is a [] (b ∷ []) has (inl none) = none_is_some b [] (sym none)
 run_is a [] (b ∷ []) has (inr begins) = absurd begins
-run_is a [] (b ∷ c ∷ bs) has (inl none) = absurd (nil_cons b (c ∷ bs) (sym none))
+run_is a [] (b ∷ c ∷ bs) has (inl none) = none_is_some b (c ∷ bs) (sym none)
 run_is a [] (b ∷ c ∷ bs) has (inr begins) =
     ap (λ t. cond t [] (a ∷ cond (begins_cut b c) [] (b ∷ run_of c bs))) has.0
     ∙ ap (λ t. a ∷ cond t [] (b ∷ run_of c bs)) begins

@@ -3,7 +3,7 @@ use Rattle.std.proofs.Common.{◌≡◌, ℕ, zero, suc, ◌+◌, ◌-◌, ◌<�
 use Rattle.std.proofs.Math.Seq.{take-append_seam, drop-append_seam}
 use Rattle.std.specs.Prelude.{nat_lt, slice_get}
 use Rattle.std.proofs.lemmas.Bool.{ltb-true, ltb-false, lt-ltb, le-ltb}
-use Rattle.std.proofs.lemmas.List.{append-nil, take-append-drop, take-append-le, length-append}
+use Rattle.std.proofs.lemmas.List.{append-nil, take-append-drop, take-append-le, length-append, length-take-le}
 use Rattle.ls_text.specs.declared.place.Place.{Place}
 use Rattle.ls_text.specs.Readings.{TextFault, fault_at, ◌>>=◌}
 use Rattle.ls_text.specs.Places.{step, place_after}
@@ -70,7 +70,7 @@ word_turned at offset st word left is_word =
     told (Ok t) is carries =
         let m : ℕ = t.1 in
         let within : m ≤ length left = directive_within at here word st left t is in
-        let size : length (take m left) ≡ m = length_take m left within in
+        let size : length (take m left) ≡ m = length-take-le m left within in
         let sum : length (word ++ take m left) ≡ length word + length (take m left) = length-append word (take m left) in
         went at offset st (96 ∷ (word ++ left)) (96 ∷ (word ++ take m left)) (drop m left) t.0 (1 + length word + m)
         (ap (λ xs. 96 ∷ xs) (ap (λ xs. word ++ xs) (sym (take-append-drop m left)) ∙ sym (append_assoc word (take m left) (drop m left))))
@@ -79,11 +79,6 @@ word_turned at offset st word left is_word =
         (subst (λ k. Carries at here word st left (Ok (t.0, k))) (sym size) carries)))
         (omega arith)
         (let same : length (96 ∷ (word ++ take m left)) ≡ 1 + length word + m = omega (arith, sum, size) in same)
-      where
-        length_take : (m : ℕ) (xs : List ℕ) → m ≤ length xs → length (take m xs) ≡ m
-        length_take zero xs h = refl
-        length_take (suc m) [] h = absurd (omega arith)
-        length_take (suc m) (x ∷ xs) h = let more : length (take m xs) ≡ m = length_take m xs (omega arith) in omega (arith, more)
 
 run_turned : (at : Place) (offset : ℕ) (st : State) (text cut rest : List ℕ) → text ≡ cut ++ rest → IsRun cut rest
     → Turned at offset st text (run_read at offset st text (length cut))

@@ -7,6 +7,7 @@ use Rattle.std.proofs.lemmas.List.Elements.{All-push}
 use Rattle.std.specs.Str.{bytes_eq}
 use Rattle.std.specs.Cmp.Lexicographic.{bytes_decides}
 use Rattle.ls_text.specs.Texts.{Grows, IsIdOf, text_at}
+use Rattle.ls_text.proofs.Tables.{same_bytes}
 use Rattle.verilog_pre.specs.declared.macro_body.Macro.{Macro}
 use Rattle.verilog_pre.specs.Tables.{found, with_macro}
 
@@ -38,9 +39,6 @@ found_none (w ∷ ws) (m ∷ ms) word = ap (cond (bytes_eq w word) m) (found_non
 
 pub table_none : (words : List (List ℕ)) (known : List (Option Macro)) → found words (known ++ None ∷ []) ≡ found words known
 table_none words known = fun_ext (found_none words known)
-
-same_bytes : (w : List ℕ) → bytes_eq w w ≡ true
-same_bytes w = (bytes_decides w w).1 refl
 
 abbrev IsOnly : List (List ℕ) → List ℕ → ℕ → Type 0
 IsOnly words text id = (other : ℕ) → other < length words → text_at words other ≡ text → other ≡ id

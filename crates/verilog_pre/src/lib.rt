@@ -1,9 +1,9 @@
 // From source files to the pieces of text that hold their tokens.
 //
-// `files` reads file after file; `reading` goes on from what stands at the head of a text (`heads`, `head`): a comment, a run of
-// bytes, or a directive (`directives`). `define` and `body` read a macro into the `table`, `conditionals` keep the nest of open
-// conditionals (`branches` obeys their directives, `left_open` tells where one stays open), and `expand` works off a use into pieces
-// of the `output`. `laws` says the same by relations on whole texts.
+// `files` reads file after file into a `reader`; `reading` goes on from what stands at the head of a text (`heads`, `head`): a comment, a run of
+// bytes, or a directive (`directives`). `define` and `body` read a macro, cut by cut (`body_cut`), into the `table` of `macros`, `conditionals` keep
+// the nest of open conditionals (`branches` obeys their directives, `left_open` tells where one stays open), and `expand` works off a use, with those
+// that are open in it (`nest`), into pieces of the `output`. `laws` says the same by relations on whole texts.
 #![tactic(auto)]
 
 mod body;

@@ -6,7 +6,8 @@ use Rattle.std.proofs.lemmas.List.Elements.{All-head, All-tail}
 use Rattle.ls_text.specs.declared.name_id.NameId.{NameId}
 use Rattle.ls_text.specs.Texts.{Grows, text_at}
 use Rattle.ls_text.proofs.Growth.{grown_id, grown_text, grows_on}
-use Rattle.job_laws.proofs.KnownInstances.{same_first, same_others}
+use Rattle.ls_text.proofs.Tables.{same_id}
+use Rattle.ls_text.proofs.Lists.{same_first, same_others}
 use Rattle.verilog_lex.specs.declared.kind.Kind.{Kind}
 use Rattle.verilog_lex.specs.declared.kind.Kind.TheVariants as k
 use Rattle.verilog_lex.specs.declared.literal.Literal.{Literal}
@@ -28,9 +29,6 @@ use Rattle.grammar_laws.proofs.RenamedModule.{module_so}
 use Rattle.grammar_laws.proofs.RenamedText.{same_declarations}
 use Rattle.version_swap.proofs.FixedNames.{AreFixed, fixed_declaration}
 use Rattle.version_swap.proofs.JointTable.{Joint}
-
-pub id_is : (m n : NameId) → m.0 ≡ n.0 → m ≡ n
-id_is m n is = λ i. record { 0 = is i }
 
 -- ---- names that stay what they are
 
@@ -146,7 +144,7 @@ module _ {names others : List (List ℕ)} (j : Joint names others) (old new : Li
   pub name_same : (m n : NameId) → m.0 < length old → n.0 < length new → text_at old m.0 ≡ text_at new n.0 → m ≡ j.name n
   name_same m n here there same =
       let grown = grows_on old names j.table left j.grows in
-      id_is m (j.name n)
+      same_id m (j.name n)
       (j.once m.0 (j.name n).0 (grown_id old j.table m.0 grown here) (j.within n (grown_id new others n.0 right there))
       (grown_text old j.table m.0 grown here ∙ same ∙ sym (grown_text new others n.0 right there) ∙ sym (j.spells n)))
 

@@ -8,7 +8,7 @@ use Rattle.ls_text.specs.declared.source_file.SourceFile.{SourceFile}
 use Rattle.ls_text.specs.Files.{text_of, text_between}
 use Rattle.ls_text.specs.Places.{place_after, file_start}
 use Rattle.ls_text.specs.Readings.{TextFault, ◌>>=◌}
-use Rattle.job_laws.proofs.KnownInstances.{same_first, same_others}
+use Rattle.ls_text.proofs.Lists.{same_first, same_others}
 use Rattle.verilog_pre.specs.Reading.{file_read, files_from, at_first, pieces}
 use Rattle.verilog_pre.specs.States.{State}
 use Rattle.verilog_lex.specs.declared.kind.Kind.TheVariants as kind

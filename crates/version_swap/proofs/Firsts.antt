@@ -1,5 +1,5 @@
 -- The first of equal keys, and of jobs of one text.
-use Rattle.std.proofs.Common.{◌≡◌, ℕ, Bool, true, false, cond, ◌||◌, List, [], ◌∷◌, ◌++◌, All, map, refl, sym, ◌∙◌, ap, ap₂, true≢false}
+use Rattle.std.proofs.Common.{◌≡◌, ℕ, Bool, true, false, cond, List, [], ◌∷◌, ◌++◌, All, map, refl, sym, ◌∙◌, ap, ap₂, true≢false}
 use Rattle.std.proofs.lemmas.List.{map_push}
 use Rattle.std.proofs.lemmas.List.Elements.{All-nil, All-cons, All-head, All-tail, All-push}
 use Rattle.std.proofs.lemmas.Slice.Eq.{bytes_eq-Decides}
@@ -7,6 +7,7 @@ use Rattle.std.specs.Str.{bytes_eq}
 use Rattle.std.specs.List.{list_any}
 use Rattle.indexmap.specs.IndexSet.{insert_key}
 use Rattle.sha2.specs.Sha256.{sha256}
+use Rattle.ls_text.proofs.Cases.{cond_or}
 use Rattle.typed_ir.proofs.Cases.{and_told}
 use Rattle.module_registry.specs.declared.build_job.BuildJob.{BuildJob}
 use Rattle.module_registry.specs.Entries.{is_among}
@@ -17,22 +18,15 @@ use Rattle.version_swap.specs.FirstKeys.{is_text_among, with_job, first_jobs, ke
 
 -- ---- a key that a set takes in
 
-either_so : (a b : Bool) → (a || b) ≡ cond a true b
-either_so true b = refl
-either_so false b = refl
-
 among_any : (k : KeyData) (ks : List KeyData) → list_any (same k) ks ≡ is_among k ks
 among_any k [] = refl
-among_any k (h ∷ hs) = either_so (same k h) (list_any (same k) hs) ∙ ap (λ (b : Bool). cond (same k h) true b) (among_any k hs)
+among_any k (h ∷ hs) = sym (cond_or (same k h) (list_any (same k) hs)) ∙ ap (λ (b : Bool). cond (same k h) true b) (among_any k hs)
 
 pub taken_in : (k copy : KeyData) (ks new : List KeyData) → copy ≡ k → new ≡ insert_key same ks copy → new ≡ with_key ks k
 taken_in k copy ks new is_copy is =
     is ∙ ap (insert_key same ks) is_copy ∙ ap (λ (b : Bool). cond b ks (ks ++ k ∷ [])) (among_any k ks)
 
 -- ---- keys of jobs are the same where the jobs have one text
-
-itself : (xs : List ℕ) → bytes_eq xs xs ≡ true
-itself xs = (bytes_eq-Decides xs xs).1 refl
 
 same_digest : (a b : List ℕ) → bytes_eq a b ≡ true → bytes_eq (sha256 a) (sha256 b) ≡ true
 same_digest a b is = (bytes_eq-Decides (sha256 a) (sha256 b)).1 (ap sha256 ((bytes_eq-Decides a b).0 is))

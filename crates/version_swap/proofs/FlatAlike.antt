@@ -4,6 +4,8 @@ use Rattle.std.proofs.Common.{◌≡◌, ◌∙◌, ℕ, ◌<◌, List, [], ◌�
 use Rattle.std.proofs.lemmas.List.Elements.{All-nil, All-cons}
 use Rattle.ls_text.specs.declared.name_id.NameId.{NameId}
 use Rattle.ls_text.specs.Texts.{HasEachOnce}
+use Rattle.ls_text.proofs.Tables.{same_id}
+use Rattle.ls_text.proofs.Lists.{same_first, same_others}
 use Rattle.typed_ir.specs.Cycles.{Signal, Flat}
 use Rattle.verilog_ast.specs.declared.module.Module.{Module}
 use Rattle.verilog_ast.specs.Items.{ModuleDeclaration}
@@ -19,7 +21,6 @@ use Rattle.design_laws.specs.Findings.{standing_as}
 use Rattle.design_laws.specs.Renaming.{KeepsApart, SpellsSame, number_as, found_as}
 use Rattle.rename_laws.specs.Findings.{unit_signal_as}
 use Rattle.rename_laws.specs.Jobs.{instance_as}
-use Rattle.job_laws.proofs.KnownInstances.{same_first, same_others}
 use Rattle.unit_laws.specs.Copies.{Copies}
 use Rattle.unit_laws.specs.DesignCopies.{AreCopiesIn}
 use Rattle.unit_laws.specs.Flat.{flat}
@@ -28,7 +29,6 @@ use Rattle.unit_laws.specs.TreeJobs.{one_table, IsFlatIn}
 use Rattle.unit_laws.proofs.OneDesign.{one_design}
 use Rattle.unit_laws.proofs.RenamedDesignCopies.{same_copies}
 use Rattle.unit_laws.proofs.RenamedFlat.{same_flat}
-use Rattle.version_swap.proofs.AlikeModules.{id_is}
 use Rattle.version_swap.proofs.GrownFound.{FoundIn}
 use Rattle.version_swap.proofs.MovedNames.{moved, moved_apart, moved_spells, is_below}
 use Rattle.version_swap.proofs.RenamedInstances.{listed_as}
@@ -75,7 +75,7 @@ pub record IsSignalIn (names : List (List ℕ)) (x : Signal) : Type 0 where
   pub path : All (λ (n : ℕ). n < length names) x.path
 
 number_below : (count n : ℕ) → number_as (moved count) n ≡ n → n < count
-number_below count n is = is_below count (record { 0 = n }) (id_is (moved count (record { 0 = n })) (record { 0 = n }) is)
+number_below count n is = is_below count (record { 0 = n }) (same_id (moved count (record { 0 = n })) (record { 0 = n }) is)
 
 numbers_below : (count : ℕ) (ns : List ℕ) → map (number_as (moved count)) ns ≡ ns → All (λ (n : ℕ). n < count) ns
 numbers_below count [] same = All-nil (λ (n : ℕ). n < count)

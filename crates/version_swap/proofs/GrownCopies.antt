@@ -12,7 +12,7 @@ use Rattle.gen_unroll.specs.Steps.{ModuleStep, blocks_in}
 use Rattle.elaborate.specs.Elaborated.{Standing}
 use Rattle.elaborate.specs.TreeViews.{language_limits}
 use Rattle.module_registry.specs.declared.build_job.BuildJob.{BuildJob}
-use Rattle.unit_jobs.specs.JobViews.{text_of}
+use Rattle.ls_text.specs.TextViews.{text_of}
 use Rattle.job_laws.specs.Outer.{are_ports_outside}
 use Rattle.job_laws.proofs.BlockNames.{same_names_within}
 use Rattle.job_laws.proofs.Rerolled.{ports_stand_outside}
@@ -27,7 +27,7 @@ use Rattle.unit_laws.proofs.OwnInstances.{module_is}
 use Rattle.unit_laws.proofs.StepNames.{IsStepNamed, told_go}
 use Rattle.unit_laws.proofs.ToldInstances.{modules_named}
 use Rattle.version_swap.proofs.GrownFound.{FoundIn}
-use Rattle.version_swap.proofs.JobParts.{IsSome, ids_in, texts_some}
+use Rattle.unit_laws.proofs.SomeTexts.{IsSome, ids_in, texts_some}
 
 module _ {old new : List (List ℕ)} {ms : List Module} {top clock : ℕ} {xs : List Instance} {js : List BuildJob} {all : List Standing}
     (grows : Grows old new) (h : FoundIn old ms top clock xs js all) where

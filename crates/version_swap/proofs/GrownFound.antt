@@ -21,7 +21,8 @@ use Rattle.elaborate.specs.Trees.{all_seen, tree}
 use Rattle.elaborate.specs.TreeViews.{instance_view, language_limits}
 use Rattle.module_registry.specs.declared.build_job.BuildJob.{BuildJob}
 use Rattle.unit_jobs.specs.Jobs.{InstanceJob, module_called, or_no_module, steps_under, job_with, jobs_from, tree_jobs}
-use Rattle.unit_jobs.specs.JobViews.{text_of, job_view}
+use Rattle.ls_text.specs.TextViews.{text_of}
+use Rattle.unit_jobs.specs.JobViews.{job_view}
 use Rattle.unit_laws.specs.InstancesTold.{IsInstanceTold, HasNamesIn}
 use Rattle.unit_laws.specs.JobsUnder.{IsIn, IsJobUnder}
 use Rattle.unit_laws.specs.Spelled.{IsSpelledUnder}
@@ -34,7 +35,8 @@ use Rattle.unit_laws.proofs.Parsed.{parsed_spelled}
 use Rattle.unit_laws.proofs.ToldInstances.{instances_told, modules_named}
 use Rattle.unit_laws.proofs.TreeNames.{IsModuleNamed, IsNameIn, tree_in}
 use Rattle.version_swap.specs.Founds.{AreModules, AreFound}
-use Rattle.version_swap.proofs.JobParts.{IsJobFrom, jobs_are_from, steps_are_named, ids_in, texts_some}
+use Rattle.unit_laws.proofs.SomeTexts.{ids_in, texts_some}
+use Rattle.version_swap.proofs.JobParts.{IsJobFrom, jobs_are_from, steps_are_named}
 use Rattle.version_swap.proofs.ModulesRead.{AreTokens}
 use Rattle.version_swap.proofs.NamedTokens.{are_tokens}
 

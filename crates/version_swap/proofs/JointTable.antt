@@ -8,6 +8,7 @@ use Rattle.std.proofs.lemmas.Slice.Eq.{bytes_eq-Decides}
 use Rattle.ls_text.specs.Texts.{Grows, HasEachOnce, text_at}
 use Rattle.ls_text.specs.declared.name_id.NameId.{NameId}
 use Rattle.ls_text.proofs.Growth.{grown_id, grown_text, grows_on, grows_none}
+use Rattle.ls_text.proofs.Tables.{same_id}
 use Rattle.design_laws.specs.Renaming.{KeepsApart, SpellsSame}
 
 -- what a table begins has each text once where the table does
@@ -189,15 +190,12 @@ module _ (names others : List (List ℕ)) (once : HasEachOnce names) (also : Has
   apart_so : KeepsApart moved
   apart_so m n is = cases (nat_lt m.0 (length others)) (nat_lt n.0 (length others)) refl refl is
     where
-      by_number : (a b : NameId) → a.0 ≡ b.0 → a ≡ b
-      by_number a b same = λ i. record { 0 = same i }
-
       cases : (b c : Bool) → nat_lt m.0 (length others) ≡ b → nat_lt n.0 (length others) ≡ c
           → id_if b (place_of all (text_at others m.0)) (length all + m.0) ≡ id_if c (place_of all (text_at others n.0)) (length all + n.0) → m ≡ n
       cases true true here there same =
           let first = ltb-true m.0 (length others) here in
           let second = ltb-true n.0 (length others) there in
-          by_number m n (also m.0 n.0 first second
+          same_id m n (also m.0 n.0 first second
           (sym (is_place m.0 first).1 ∙ ap (λ (k : NameId). text_at all k.0) same ∙ (is_place n.0 second).1))
       cases true false here there same =
           let low = (is_place m.0 (ltb-true m.0 (length others) here)).0 in
@@ -205,7 +203,7 @@ module _ (names others : List (List ℕ)) (once : HasEachOnce names) (also : Has
       cases false true here there same =
           let low = (is_place n.0 (ltb-true n.0 (length others) there)).0 in
           absurd (omega (arith, low, ap (λ (k : NameId). k.0) same))
-      cases false false here there same = by_number m n (omega (arith, ap (λ (k : NameId). k.0) same))
+      cases false false here there same = same_id m n (omega (arith, ap (λ (k : NameId). k.0) same))
 
   spells_so : SpellsSame moved others all
   spells_so n = cases (nat_lt n.0 (length others)) refl

@@ -10,10 +10,11 @@ use Rattle.ls_text.specs.declared.name_id.NameId.{NameId}
 use Rattle.ls_text.specs.Readings.{fault_view}
 use Rattle.ls_text.specs.Texts.{Grows, text_at}
 use Rattle.ls_text.proofs.Growth.{grown_text}
-use Rattle.job_laws.proofs.KnownInstances.{same_first, same_others}
+use Rattle.ls_text.proofs.Tables.{same_id}
+use Rattle.ls_text.proofs.Lists.{same_first, same_others}
 use Rattle.width_rules.specs.Renaming.{fault_as}
 use Rattle.design_laws.specs.Renaming.{KeepsApart, SpellsSame, found_as}
-use Rattle.version_swap.proofs.AlikeModules.{Stay, id_is}
+use Rattle.version_swap.proofs.AlikeModules.{Stay}
 
 module _ (count : ℕ) where
   abbrev pub moved : NameId → NameId
@@ -52,7 +53,7 @@ module _ (count : ℕ) where
           absurd (omega (arith, ap (λ (k : NameId). k.0) same, ltb-true m.0 count here, ltb-false n.0 count there))
       cases false true here there same =
           absurd (omega (arith, ap (λ (k : NameId). k.0) same, ltb-false m.0 count here, ltb-true n.0 count there))
-      cases false false here there same = id_is m n (omega (arith, ap (λ (k : NameId). k.0) same))
+      cases false false here there same = same_id m n (omega (arith, ap (λ (k : NameId). k.0) same))
 
   -- so a fault that is the same under moved names shows names below
   pub shown_below : {A : Type 0} (g : A → A) (r : Result A Fault) (f : Fault) → r ≡ found_as moved g r → r ≡ Err f → All IsBelow f.names

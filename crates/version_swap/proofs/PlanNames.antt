@@ -16,6 +16,7 @@ use Rattle.unit_build.specs.Walks.{walk_initials}
 use Rattle.sized_items.specs.DeclaredValues.{InitialValue}
 use Rattle.unit_laws.specs.Copies.{ModuleCopy, Copies, Nothing, One, Where, inside, outside, from_each, all_places, place_in}
 use Rattle.unit_laws.specs.Flat.{writers_in, beginning_of, signals_of, inputs_of, flat}
+use Rattle.unit_laws.proofs.Kids.{initial_many, signals_many}
 use Rattle.unit_laws.proofs.Places.{IsStanding, stands_at}
 use Rattle.version_swap.specs.Plans as plans
 use Rattle.version_swap.specs.Plans.{DesignOfTexts, Plans, AreCopies}
@@ -69,25 +70,12 @@ all_called w k (One c within after) =
 
 -- ---- the data inputs are signals
 
-begun_many : (k value : ℕ) (xs : List Signal) → length (begins_with k value xs) ≡ length xs
-begun_many k value [] = refl
-begun_many zero value (x ∷ xs) = refl
-begun_many (suc k) value (x ∷ xs) = ap suc (begun_many k value xs)
-
-initials_many : (vs : List InitialValue) (xs : List Signal) → length (with_initials vs xs) ≡ length xs
-initials_many [] xs = refl
-initials_many (v ∷ vs) xs = initials_many vs (begins_with v.signal v.value xs) ∙ begun_many v.signal v.value xs
-
-unit_many : (m : ℕ) (names : List NameId) (xs : List NamedSignal) → length (unit_signals m names xs) ≡ length xs
-unit_many m names [] = refl
-unit_many m names (x ∷ xs) = ap suc (unit_many m (names_behind names x) xs)
-
 own_many : (w : Where) (c : ModuleCopy) → length (signals_of w c) ≡ length c.table.signals
 own_many w c =
     let named = unit_signals c.declaration.name.name.0 c.names c.table.signals in
     let initials = walk_initials (writers_in c) c.table.signals (beginning_of c) c.steps in
-    length-map (with_initials initials named) (signal_there w.path) ∙ initials_many initials named
-    ∙ unit_many c.declaration.name.name.0 c.names c.table.signals
+    length-map (with_initials initials named) (signal_there w.path) ∙ initial_many initials named
+    ∙ signals_many c.declaration.name.name.0 c.names c.table.signals
 
 stands_all : (copies : Copies) → IsStanding (all_places copies) outside 0 0 copies
 stands_all copies = record {

@@ -4,9 +4,10 @@ use Rattle.std.proofs.Common.{◌≡◌, ◌∙◌, ℕ, ◌<◌, List, [], ◌�
 use Rattle.std.specs.Prelude.{Option, Some, None, Ok}
 use Rattle.std.specs.Option.{option_map}
 use Rattle.std.proofs.lemmas.List.Elements.{All-head, All-tail}
-use Rattle.std.proofs.lemmas.Option.{same_Some}
 use Rattle.ls_text.specs.declared.name_id.NameId.{NameId}
 use Rattle.ls_text.specs.Texts.{HasEachOnce, text_at}
+use Rattle.ls_text.proofs.Tables.{same_id}
+use Rattle.ls_text.proofs.Lists.{same_first, same_others}
 use Rattle.typed_ir.specs.declared.constant.Const.{Const}
 use Rattle.verilog_ast.specs.Items.{ModuleDeclaration}
 use Rattle.verilog_ast.specs.Renaming.{declaration_as}
@@ -26,9 +27,8 @@ use Rattle.design_laws.proofs.RenamedDesigns.{same_elaborated}
 use Rattle.design_laws.proofs.RenamedTrees.{same_tree}
 use Rattle.rename_laws.specs.Findings.{port_shape_as}
 use Rattle.rename_laws.specs.Jobs.{instance_as}
-use Rattle.job_laws.proofs.KnownInstances.{same_first, same_others}
-use Rattle.unit_laws.proofs.Parts.{constant_same, port_same}
-use Rattle.version_swap.proofs.AlikeModules.{id_is}
+use Rattle.unit_laws.proofs.OneDesign.{clock_same, ports_same}
+use Rattle.unit_laws.proofs.Parts.{constant_same}
 use Rattle.version_swap.proofs.GrownFound.{tree_of}
 
 -- ---- views of instances under other names
@@ -80,23 +80,6 @@ module _ (f : NameId → NameId) (texts others : List (List ℕ)) (apart : Keeps
 
 -- ---- an instance is told by its view, where its name is in the table
 
-clock_same : (c d : Option NameId) → clock_view c ≡ clock_view d → c ≡ d
-clock_same None None is = refl
-clock_same None (Some n) is = absurd cc
-clock_same (Some m) None is = absurd cc
-clock_same (Some m) (Some n) is = ap Some (id_is m n (same_Some m.0 n.0 is))
-
-ports_same : (ps qs : List PortShape) → map port_of ps ≡ map port_of qs → ps ≡ qs
-ports_same [] [] is = refl
-ports_same [] (q ∷ qs) is = absurd cc
-ports_same (p ∷ ps) [] is = absurd cc
-ports_same (p ∷ ps) (q ∷ qs) is =
-    let here = same_first (port_of p) (port_of q) (map port_of ps) (map port_of qs) is in
-    ap₂ (λ (r : PortShape) (rs : List PortShape). r ∷ rs)
-    (port_same p q (id_is p.name q.name (ap (λ (o : PortOutline). o.name) here)) (ap (λ (o : PortOutline). o.input) here)
-    (ap (λ (o : PortOutline). o.width) here) (ap (λ (o : PortOutline). o.signed) here))
-    (ports_same ps qs (same_others (port_of p) (port_of q) (map port_of ps) (map port_of qs) is))
-
 constants_same : (cs ds : List Const) → map constant_of cs ≡ map constant_of ds → cs ≡ ds
 constants_same [] [] is = refl
 constants_same [] (d ∷ ds) is = absurd cc
@@ -115,9 +98,9 @@ module _ (names : List (List ℕ)) (once : HasEachOnce names) where
   instance_same : (x y : Instance) → HasName x → HasName y → instance_view names x ≡ instance_view names y → x ≡ y
   instance_same x y here there same =
       let parent : x.place.parent ≡ y.place.parent = ap (λ (i : TreeInstance). i.parent) same in
-      let name = id_is x.place.name y.place.name
+      let name = same_id x.place.name y.place.name
       (once x.place.name.0 y.place.name.0 here there (ap (λ (i : TreeInstance). i.name) same)) in
-      let of_module = id_is x.of_module y.of_module (ap (λ (i : TreeInstance). i.instantiated) same) in
+      let of_module = same_id x.of_module y.of_module (ap (λ (i : TreeInstance). i.instantiated) same) in
       let parameters = constants_same x.parameters y.parameters (ap (λ (i : TreeInstance). i.parameters) same) in
       let clock = clock_same x.clock y.clock (ap (λ (i : TreeInstance). i.clock) same) in
       let ports = ports_same x.ports y.ports (ap (λ (i : TreeInstance). i.ports) same) in

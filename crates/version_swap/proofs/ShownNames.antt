@@ -6,6 +6,7 @@ use Rattle.std.proofs.lemmas.Bool.{ltb-true, ltb-false, lt-ltb}
 use Rattle.std.proofs.lemmas.List.Elements.{All-nil, All-cons, All-head, All-tail, All-weaker}
 use Rattle.ls_text.specs.declared.fault.Fault.{Fault}
 use Rattle.ls_text.specs.declared.name_id.NameId.{NameId}
+use Rattle.ls_text.proofs.Tables.{same_id}
 use Rattle.verilog_ast.specs.declared.module.Module.{Module}
 use Rattle.verilog_ast.specs.Items.{ModuleDeclaration}
 use Rattle.verilog_ast.specs.NamesWithin.{names_in_declaration, names_in_modules}
@@ -57,12 +58,6 @@ module _ (count : ℕ) where
   apart : KeepsApart moved
   apart m n is = cases (nat_lt m.0 count) (nat_lt n.0 count) refl refl is
     where
-      by_number : (a b : NameId) → a.0 ≡ b.0 → a ≡ b
-      by_number a b same = ap named same
-        where
-          named : ℕ → NameId
-          named k = record { 0 = k }
-
       cases : (b c : Bool) → nat_lt m.0 count ≡ b → nat_lt n.0 count ≡ c
           → cond b m (record { 0 = m.0 + 1 }) ≡ cond c n (record { 0 = n.0 + 1 }) → m ≡ n
       cases true true here there same = same
@@ -70,7 +65,7 @@ module _ (count : ℕ) where
           absurd (omega (arith, ap (λ (k : NameId). k.0) same, ltb-true m.0 count here, ltb-false n.0 count there))
       cases false true here there same =
           absurd (omega (arith, ap (λ (k : NameId). k.0) same, ltb-false m.0 count here, ltb-true n.0 count there))
-      cases false false here there same = by_number m n (omega (arith, ap (λ (k : NameId). k.0) same))
+      cases false false here there same = same_id m n (omega (arith, ap (λ (k : NameId). k.0) same))
 
   -- ---- trees whose names are below stay
 

@@ -6,6 +6,7 @@ use Rattle.std.specs.Option.{option_map}
 use Rattle.std.proofs.lemmas.List.Elements.{All-nil, All-cons, All-head, All-tail}
 use Rattle.ls_text.specs.declared.fault.Fault.{Fault}
 use Rattle.ls_text.specs.declared.name_id.NameId.{NameId}
+use Rattle.ls_text.proofs.Lists.{same_first, same_others}
 use Rattle.verilog_ast.specs.declared.module.Module.{Module}
 use Rattle.verilog_ast.specs.Renaming.{declaration_as}
 use Rattle.verilog_ast.specs.Views.{declaration_of, declarations_of}
@@ -18,7 +19,6 @@ use Rattle.module_registry.specs.Building.{built_all}
 use Rattle.unit_build.specs.Building.{built}
 use Rattle.rename_laws.specs.Findings.{port_shape_as, shape_as}
 use Rattle.rename_laws.specs.Units.{built_as}
-use Rattle.job_laws.proofs.KnownInstances.{same_first, same_others}
 use Rattle.unit_laws.specs.JobsUnder.{IsIn, IsJobUnder}
 use Rattle.unit_laws.specs.Told.{IsPortTold, IsClockTold, IsChildTold}
 use Rattle.version_swap.specs.FirstKeys.{first_jobs}

@@ -21,11 +21,13 @@ use Rattle.unit_ir.specs.declared.port_shape.PortShape.{PortShape}
 use Rattle.module_registry.specs.declared.build_job.BuildJob.{BuildJob}
 use Rattle.ls_text.specs.Answers.{◌>>=◌}
 use Rattle.module_registry.specs.Building.{Built, built_all}
-use Rattle.module_registry.specs.Constants.{assigned_name, header_name, item_constants, constants_of}
+use Rattle.verilog_ast.specs.Declarations.{assigned_name}
+use Rattle.module_registry.specs.Constants.{header_name, item_constants, constants_of}
 use Rattle.module_registry.specs.Jobs.{job_text}
 use Rattle.module_registry.specs.KeyTexts.{line_end, shape_text, parameter_lines, clock_text, clock_line, port_line, child_lines, key_text}
 use Rattle.unit_build.specs.Building.{built}
 use Rattle.design_laws.specs.Renaming.{KeepsApart, SpellsSame, found_as}
+use Rattle.design_laws.proofs.RenamedNames.{names_so}
 use Rattle.rename_laws.specs.Findings.{port_shape_as, shape_as}
 use Rattle.rename_laws.specs.Units.{built_as}
 use Rattle.rename_laws.proofs.RenamedBuilt.{same_job}
@@ -42,23 +44,18 @@ pub record IsTwin (f : NameId → NameId) (a b : BuildJob) : Type 0 where
 
 -- ---- names of constants
 
-parts_so : {A : Type 0} (f : NameId → NameId) (name : A → Identifier) (moved : A → A) → ((x : A) → name (moved x) ≡ renamed_identifier f (name x))
-    → (xs : List A) → map name (map moved xs) ≡ map (renamed_identifier f) (map name xs)
-parts_so f name moved is [] = refl
-parts_so f name moved is (x ∷ xs) = ap₂ (λ (n : Identifier) (ns : List Identifier). n ∷ ns) (is x) (parts_so f name moved is xs)
-
 item_so : (f : NameId → NameId) (x : ModuleItem) → item_constants (item_as f x) ≡ map (renamed_identifier f) (item_constants x)
 item_so f (i.Items x xs) =
     ap₂ (λ (ns ms : List Identifier). ns ++ ms) (item_so f x) (item_so f xs)
     ∙ sym (map-append (renamed_identifier f) (item_constants x) (item_constants xs))
 item_so f (i.Region at xs) = item_so f xs
-item_so f (i.Parameters at k ps) = parts_so f assigned_name (parameter_as f) (λ p. refl) ps
-item_so f (i.LocalParameters at k ps) = parts_so f assigned_name (parameter_as f) (λ p. refl) ps
+item_so f (i.Parameters at k ps) = names_so f assigned_name (parameter_as f) (λ p. refl) ps
+item_so f (i.LocalParameters at k ps) = names_so f assigned_name (parameter_as f) (λ p. refl) ps
 item_so f other = refl
 
 constants_so : (f : NameId → NameId) (m : ModuleDeclaration) → constants_of (declaration_as f m) ≡ map (renamed_identifier f) (constants_of m)
 constants_so f m =
-    ap₂ (λ (ns ms : List Identifier). ns ++ ms) (parts_so f header_name (header_parameter_as f) (λ p. refl) m.parameters) (item_so f m.items)
+    ap₂ (λ (ns ms : List Identifier). ns ++ ms) (names_so f header_name (header_parameter_as f) (λ p. refl) m.parameters) (item_so f m.items)
     ∙ sym (map-append (renamed_identifier f) (map header_name m.parameters) (item_constants m.items))
 
 -- ---- the text of a job

@@ -6,6 +6,7 @@ use Rattle.std.proofs.lemmas.List.Elements.{All-nil, All-cons, All-head, All-tai
 use Rattle.std.proofs.lemmas.Option.{same_Some}
 use Rattle.ls_text.specs.declared.fault.Fault.{Fault}
 use Rattle.ls_text.specs.declared.name_id.NameId.{NameId}
+use Rattle.ls_text.proofs.Lists.{same_first, same_others}
 use Rattle.verilog_ast.specs.declared.module.Module.{Module}
 use Rattle.verilog_ast.specs.Items.{ModuleDeclaration}
 use Rattle.verilog_ast.specs.Renaming.{declaration_as}
@@ -17,13 +18,13 @@ use Rattle.elaborate.specs.Trees.{all_seen}
 use Rattle.elaborate.specs.TreeViews.{instance_view, language_limits}
 use Rattle.module_registry.specs.declared.build_job.BuildJob.{BuildJob}
 use Rattle.unit_jobs.specs.Jobs.{InstanceJob, module_called, tree_jobs}
-use Rattle.unit_jobs.specs.JobViews.{text_of, job_view}
+use Rattle.ls_text.specs.TextViews.{text_of}
+use Rattle.unit_jobs.specs.JobViews.{job_view}
 use Rattle.design_laws.specs.Findings.{standing_as}
 use Rattle.design_laws.specs.Renaming.{KeepsApart, SpellsSame, number_as}
 use Rattle.design_laws.proofs.RenamedNames.{same_test}
 use Rattle.rename_laws.specs.Jobs.{IsModuleAs, instance_as, IsJobAs, AreJobsAs}
 use Rattle.rename_laws.proofs.RenamedJobs.{same_jobs}
-use Rattle.job_laws.proofs.KnownInstances.{same_first, same_others}
 use Rattle.unit_laws.specs.InstancesTold.{IsInstanceTold}
 use Rattle.unit_laws.specs.JobsUnder.{IsIn, IsJobUnder}
 use Rattle.unit_laws.proofs.SameUnits.{ids_same}

@@ -1,21 +1,10 @@
 -- Tables: the registers of a design by their hierarchical names (IEEE Std 1364-2005, 12.4), a line each; the lines are this project's own.
 use Rattle.std.specs.Prelude.{ℕ, ◌==◌, if◌then◌else◌, List, [], ◌∷◌, ◌++◌, codes}
 use Rattle.std.specs.List.{starts_with}
-use Rattle.ls_text.specs.Texts.{text_at}
 use Rattle.typed_ir.specs.Cycles.{Signal, Flat}
 use Rattle.typed_ir.specs.Orders.{at_or}
+use Rattle.typed_ir.specs.Paths.{joined}
 use Rattle.wave_report.specs.Digits.{hex_text}
-
--- names, each with a dot behind it
-abbrev pub dotted : List (List ℕ) → List ℕ → List ℕ
-dotted texts [] = []
-dotted texts (n ∷ ns) = text_at texts n ++ (codes "." ++ dotted texts ns)
-
--- names with dots between
-abbrev pub joined : List (List ℕ) → List ℕ → List ℕ
-joined texts [] = []
-joined texts (n ∷ []) = text_at texts n
-joined texts (n ∷ m ∷ ns) = text_at texts n ++ (codes "." ++ joined texts (m ∷ ns))
 
 -- the line of a register by its path, its width and its value
 abbrev pub line_text : List ℕ → ℕ → ℕ → List ℕ

@@ -1,8 +1,7 @@
 // Signals to their paths, by the table of names.
 ghost use Rattle.std.specs.Prelude.{◌≡◌, ◌++◌, OnOk};
 ghost use Rattle.typed_ir.specs.Flats.{signal_of};
-ghost use Rattle.typed_ir.specs.Paths.{path_above, paths_of};
-ghost use Rattle.wave_report.specs.Tables.{dotted, joined};
+ghost use Rattle.typed_ir.specs.Paths.{path_above, paths_of, dotted, joined};
 
 use ls_text::Names;
 use no_memory::NoMemory;

@@ -1,5 +1,5 @@
 -- What the walk keeps of the parts of a concatenation is what the definition makes of them.
-use Rattle.std.proofs.Common.{◌≡◌, ◌<◌, ℕ, ◌+◌, List, [], ◌∷◌, refl, sym, ◌∙◌, ap, subst, arith, nat_le}
+use Rattle.std.proofs.Common.{◌≡◌, ◌<◌, ℕ, ◌+◌, List, [], ◌∷◌, refl, sym, ◌∙◌, ap, subst, arith, nat_le, add_assoc}
 use Rattle.std.proofs.lemmas.Bool.{cond-true, cond-false, leb-false}
 use Rattle.typed_ir.proofs.Cases.{by_cases}
 use Rattle.typed_ir.specs.Sized as s
@@ -47,9 +47,6 @@ wide_stays : (scope : Scope) (xs : List Expression) → joins scope TooWide xs �
 wide_stays scope [] = refl
 wide_stays scope (x ∷ xs) = wide_stays scope xs
 
-apart : (w a b : ℕ) → w + a + b ≡ w + (a + b)
-apart w a b = omega arith
-
 pub so_far : (scope : Scope) (w : ℕ) (b : Sized) (xs : List Expression)
     → Told (joins scope (Bits w b) xs) (w + length scope (parts_of xs)) (beside scope w b (parts_of xs))
 so_far scope w b [] = record { long = omega (arith, no_part scope); so = sym (beside_none scope w b) }
@@ -57,7 +54,7 @@ so_far scope w b (x ∷ xs) =
     let v = w + length scope x in
     let c = s.Concat v b (own scope x) in
     let rest = length scope (parts_of xs) in
-    let long : v + rest ≡ w + length scope (e.Parts x (parts_of xs)) = apart w (length scope x) rest ∙ ap (λ n. w + n) (sym (parts_length scope x (parts_of xs))) in
+    let long : v + rest ≡ w + length scope (e.Parts x (parts_of xs)) = add_assoc w (length scope x) rest ∙ ap (λ n. w + n) (sym (parts_length scope x (parts_of xs))) in
     by_cases (nat_le v 128)
     (λ yes. subst (λ z. Told (joins scope z xs) (w + length scope (e.Parts x (parts_of xs))) (beside scope w b (e.Parts x (parts_of xs)))) (sym (cond-true (nat_le v 128) (Bits v c) TooWide yes))
     (subst (λ n. Told (joins scope (Bits v c) xs) n (beside scope w b (e.Parts x (parts_of xs)))) long

@@ -1,8 +1,9 @@
 -- Constant expressions read no signal.
-use Rattle.std.proofs.Common.{◌≡◌, ℕ, Bool, true, false, ◌&&◌, ◌==◌, ◌+◌, ◌-◌, ◌*◌, max, not, List, [], ◌∷◌, ◌++◌, refl, sym, ◌∙◌, ap, true≢false, IsTrue, ℤ, nat_lt}
+use Rattle.std.proofs.Common.{◌≡◌, ℕ, Bool, true, ◌&&◌, ◌==◌, ◌+◌, ◌-◌, ◌*◌, max, not, List, [], ◌∷◌, ◌++◌, refl, sym, ◌∙◌, ap, true≢false, IsTrue, ℤ, nat_lt}
 use Rattle.std.proofs.lemmas.Bool.{and_from, cond-true, cond-false}
 use Rattle.typed_ir.proofs.Cases.{by_cases, and_left, and_right}
 use Rattle.ls_text.specs.declared.fault.Fault.{Fault}
+use Rattle.ls_text.proofs.Lists.{none_is_some}
 use Rattle.typed_ir.specs.Sized as s
 use Rattle.typed_ir.specs.Sized.{Sized, fits_signals, width_of}
 use Rattle.typed_ir.specs.declared.binary_operator.BinaryOperator.{BinaryOperator as Operator}
@@ -135,11 +136,7 @@ own_reads scope x z h is = (ap (λ (p : Sized). fits_signals p []) is ∙ no_rea
 -- ---- where a constant is due
 
 cons_nil : {A : Type 0} (x : A) (xs : List A) → x ∷ xs ≡ [] → ⊥
-cons_nil x xs h = true≢false (ap is_some_list h)
-  where
-    is_some_list : {A : Type 0} → List A → Bool
-    is_some_list [] = false
-    is_some_list (y ∷ ys) = true
+cons_nil x xs h = none_is_some x xs (sym h)
 
 pub left_none : (xs ys : List Fault) → xs ++ ys ≡ [] → xs ≡ []
 left_none [] ys h = refl

@@ -36,6 +36,9 @@ no_signal f scope other n same = ap (λ (m : Meaning). not (is_signal m)) (same 
 pub and_so : (a b c d : Bool) → a ≡ b → c ≡ d → (a && c) ≡ (b && d)
 and_so a b c d = ap₂ (λ (x y : Bool). x && y)
 
+pub sum_so : (a b c d : ℕ) → a ≡ b → c ≡ d → (a + c) ≡ (b + d)
+sum_so a b c d = ap₂ (λ (x y : ℕ). x + y)
+
 pub same_fixed : (f : NameId → NameId) (scope other : Scope) (e : Expression) → MeansSame f scope other → is_constant other (expression_as f e) ≡ is_constant scope e
 same_fixed f scope other (Literal at x) same = refl
 same_fixed f scope other (Whole n) same = no_signal f scope other n.name same

@@ -1,10 +1,10 @@
 // Sizes, signs and constants of expressions.
 //
-// `naming` has the names in reach of a `scope`, with its blocks. `measuring` walks an expression once: its first fault, or what is left
-// open until its context's length and sign are known (`opened`), with operators in `combining`, selects in `selecting` and parts put
-// together in `joining`; `whole` has the whole numbers of counts, widths and indices. `sizing` closes what is open in a context, or
-// takes its value. `referring` has names and selects that are written. `faults` makes a first fault of a code, a place and a name; `laws` says
-// that names may change.
+// `naming` has the names in reach of a `scope`, each with what it stands for (`entry`), and its blocks (`covered`). `measuring` walks an expression
+// once: its first fault, or what is left open until its context's length and sign are known (`opened`), with operators in `combining` (`operators`
+// says what those of a text do), selects in `selecting` and parts put together in `joining`; `whole` has the whole numbers of counts, widths and
+// indices. `sizing` closes what is open in a context, or takes its value. `referring` has names and selects that are written. `faults` makes a first
+// fault of a code, a place and a name; `laws` says that names may change.
 #![tactic(auto, using(crate::proofs::Firsts::earlier, crate::proofs::Firsts::later, crate::proofs::Firsts::neither))]
 
 mod combining;

@@ -1,47 +1,16 @@
 -- What one turn of the session asks and gives, and what joins keep.
-use Rattle.std.proofs.Common.{◌≡◌, ◌+◌, ℕ, arith, true, false, List, [], ◌∷◌, ◌++◌, Some, refl, sym, ap, ◌∙◌, subst}
-use Rattle.book_history.specs.declared.who.Who.TheVariants.{Session, Worker}
-use Rattle.book_history.specs.Book.{Event, Opens, Runs, Reloads, Claims, Installs, Releases, Shows, Closes}
+use Rattle.std.proofs.Common.{◌≡◌, ◌+◌, ℕ, arith, true, false, [], ◌∷◌, ◌++◌, Some, refl, sym, ap, ◌∙◌, subst}
+use Rattle.book_history.specs.Book.{Event}
 use Rattle.book_history.specs.Journal.{Journal}
-use Rattle.book_history.specs.Owned.{is_owned, owned}
-use Rattle.book_history.specs.Rooms.{Counts, counted, count_all, no_entry}
+use Rattle.book_history.specs.Owned.{is_owned}
 use Rattle.book_history.specs.Tickets.{kept, MayAdd}
-use Rattle.book_turn.specs.Known.{Known, begun, entered, left, after_split, apart_from_splits, joined}
+use Rattle.book_turn.specs.Known.{Known, entered, left, after_split, apart_from_splits, joined}
 use Rattle.book_turn.specs.Rule.{MayLeave, Learned}
 use Rattle.book_turn.proofs.Callers.{may_leave_one, tickets_one}
-use Rattle.checkpoint_book.specs.Views.{counts_of}
 use Rattle.segment_verify.specs.Workers.{is_closed, IsFree}
 use Rattle.worker_scope.specs.Scope.{HasSplit}
 
 module _ {D R O : Type 0} where
-  -- a Close is the session's own
-  closed_owned : (n m : Counts) (h : List (Event D R O)) → n.closed ≡ m.closed → (count_all n (owned h)).closed ≡ (count_all m h).closed
-  closed_owned n m [] e = e
-  closed_owned n m (Opens v d ∷ es) e = closed_owned (counted n Session) (counted m Session) es e
-  closed_owned n m (Runs x rows ∷ es) e = closed_owned (counted n Session) (counted m Session) es e
-  closed_owned n m (Reloads v d ops from ∷ es) e = closed_owned (counted n Session) (counted m Session) es e
-  closed_owned n m (Claims i a b Session ∷ es) e = closed_owned (counted n Session) (counted m Session) es e
-  closed_owned n m (Claims i a b (Worker w) ∷ es) e = closed_owned n (counted m (Worker w)) es e
-  closed_owned n m (Installs i j Session ∷ es) e = closed_owned (counted n Session) (counted m Session) es e
-  closed_owned n m (Installs i j (Worker w) ∷ es) e = closed_owned n (counted m (Worker w)) es e
-  closed_owned n m (Releases i Session ∷ es) e = closed_owned (counted n Session) (counted m Session) es e
-  closed_owned n m (Releases i (Worker w) ∷ es) e = closed_owned n (counted m (Worker w)) es e
-  closed_owned n m (Shows s ∷ es) e = closed_owned (counted n Session) (counted m Session) es e
-  closed_owned n m (Closes ∷ es) e =
-      closed_owned (record { session = n.session; workers = n.workers; closed = true }) (record { session = m.session; workers = m.workers; closed = true }) es refl
-
-  -- the book is closed exactly where the session has closed it
-  pub closed_by_own : (h : List (Event D R O)) → is_closed h ≡ is_closed (owned h)
-  closed_by_own h = sym (closed_owned no_entry no_entry h refl)
-
-  pub open_now : (v : Known D R O) (i j : Journal D R O) → i ≡ j → Learned v j → v.session ≡ true → is_closed v.own ≡ false → (counts_of i).closed ≡ false
-  open_now v i j same learned session open' =
-      ap (λ (x : Journal D R O). (counts_of x).closed) same ∙ closed_by_own j.events ∙ ap (λ (h : List (Event D R O)). is_closed h) (learned.own session) ∙ open'
-
-  -- the pass of a turn that was just made
-  pub begun_open : (v : Known D R O) (j : Journal D R O) → v ≡ begun j → (counts_of j).closed ≡ false → is_closed v.own ≡ false
-  begun_open v j is open' = ap (λ (y : Known D R O). is_closed y.own) is ∙ sym (closed_by_own j.events) ∙ open'
-
   -- v is what the pass knew before it entered, w what it then knows, x what it knows after it has left; j is the book that it
   -- was given, i the book behind the reference, and l the book after the call, which added the entry e
   module _ (v w x : Known D R O) (i j l : Journal D R O) (e : Event D R O) (knows : w ≡ entered v j) (same : i ≡ j) (learned : Learned v j) (settings : l.settings ≡ i.settings) (events : l.events ≡ i.events ++ e ∷ []) where

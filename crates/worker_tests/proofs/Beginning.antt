@@ -7,21 +7,19 @@ use Rattle.book_history.specs.Owned.{owned}
 use Rattle.book_history.specs.Readers.{IsOpened, links_in}
 use Rattle.book_history.specs.Rooms.{Counts, count_all, no_entry}
 use Rattle.book_history.proofs.Outlines.{owned_counts}
-use Rattle.book_settle.proofs.Counting.{count-append, settle_counts}
+use Rattle.book_history.proofs.Prefixes.{count-append}
+use Rattle.book_settle.proofs.Counting.{settle_counts}
 use Rattle.book_turn.specs.Known.{Known, begun}
 use Rattle.book_turn.specs.Rule.{Learned}
 use Rattle.checkpoint_book.specs.Views.{book_of, counts_of, HasSessionRoom}
 use Rattle.segment_verify.specs.Workers.{is_closed}
 use Rattle.turn_settle.specs.Seen.{book_seen, HasOwnRoom}
 use Rattle.turn_settle.specs.Settled.{HasSettledBeside}
-use Rattle.turn_settle.proofs.Visiting.{open_now}
+use Rattle.segment_verify.proofs.Openness.{open_now}
 
 module _ {D R O : Type 0} where
   pub begun_own : (v : Known D R O) (j : Journal D R O) → v ≡ begun j → owned v.seen ≡ v.own
   begun_own v j is = ap (λ (y : Known D R O). owned y.seen) is ∙ sym (ap (λ (y : Known D R O). y.own) is)
-
-  pub begun_open : (v : Known D R O) (j : Journal D R O) → v ≡ begun j → (counts_of j).closed ≡ false → is_closed v.own ≡ false
-  begun_open v j is open' = ap (λ (y : Known D R O). is_closed y.own) is ∙ sym (owned_counts no_entry no_entry j.events refl refl).1 ∙ open'
 
   pub begun_room : (v : Known D R O) (j : Journal D R O) (n m : ℕ) → v ≡ begun j → m ≤ n → HasSessionRoom j n → HasOwnRoom v m
   begun_room v j n m is le room =

@@ -7,6 +7,7 @@ use Rattle.book_history.specs.Moments.{is_spoken, is_spoken_kind}
 use Rattle.book_history.specs.Owned.{is_of_session, is_owned, AllOwned, added}
 use Rattle.book_history.specs.Rooms.{Counts, count, count_kind, count_all, no_entry}
 use Rattle.book_history.specs.Tickets.{kept, kept_by, kept_all, MayAdd, MayAddKind, MayAddAll}
+use Rattle.book_history.proofs.Prefixes.{count-append}
 use Rattle.book_turn.specs.Known.{Known, entered, left}
 use Rattle.book_turn.specs.Rule.{MayLeave, Learned}
 use Rattle.book_turn.proofs.Histories.{added_append}
@@ -58,12 +59,8 @@ module _ {D R O : Type 0} where
   all_open [] n p = refl
   all_open (e ∷ es) n p = all_open es (count n e) p.1 ∙ spoken_open e n p.0
 
-  count_more : (xs ys : List (Event D R O)) (n : Counts) → count_all n (xs ++ ys) ≡ count_all (count_all n xs) ys
-  count_more [] ys n = refl
-  count_more (x ∷ xs) ys n = count_more xs ys (count n x)
-
   still_open : (h es : List (Event D R O)) → AllSpoken es → is_closed h ≡ false → is_closed (h ++ es) ≡ false
-  still_open h es p open' = ap (λ (x : Counts). x.closed) (count_more h es no_entry) ∙ all_open es (count_all no_entry h) p ∙ open'
+  still_open h es p open' = ap (λ (x : Counts). x.closed) (count-append no_entry h es) ∙ all_open es (count_all no_entry h) p ∙ open'
 
   -- v is what the pass knew before it entered, w what it then knows, x what it knows after it has left; j is the book that it
   -- was given, i the book behind the reference, and l the book after the calls

@@ -1,8 +1,10 @@
 // Tests of workers in threads beside a session, in a crate of their own, since a crate with tests is proved twice.
 //
-// `asking`, `reloading` and `settling` are work of a session; `watched` sees where threads are, by `watch`, beside the gates of
-// `test_gates`; `replay` and `drawn` take the history that is left, entry by entry. `turn_tests` is a settle
-// through a turn without workers, `settle_tests` one of a book alone.
+// `asking`, `reloading` and `settling` are work of a session. `watched` is a machine that does something as a run begins (`watch`): it meets another
+// thread, wants memory, or has a gate of `test_gates` let its tickets go. `thread_tests` hands such work to a scope of workers, over books of a tally
+// or of a watched machine, and the history that is left to `replay`, which takes it entry by entry and keeps its tickets (`drawn`).
+//
+// Two settle without workers: `turn_tests` through a turn, `settle_tests` a book alone.
 #![tactic(auto)]
 
 #[cfg(test)]

@@ -1,5 +1,6 @@
 use Rattle.std.proofs.Common.{◌≡◌, ◌&&◌, ◌||◌, ◌==◌, ◌∙◌, true, false, sym, subst}
-use Rattle.block_rules.specs.Paths.{is_member, is_open}
+use Rattle.typed_ir.specs.Orders.{is_member}
+use Rattle.block_rules.specs.Paths.{is_open}
 use Rattle.block_rules.specs.Tables.{bits_of, AreTaken}
 use Rattle.block_rules.proofs.Finding.{open_is, cleared, found_open, found_none, taken_open, taken_none}
 use Rattle.block_rules.proofs.paths.take_open.Goals as goal

@@ -1,5 +1,6 @@
 use Rattle.std.proofs.Common.{◌≡◌, ◌&&◌, ◌||◌, ℕ, not, drop}
-use Rattle.block_rules.specs.Paths.{is_member, is_open}
+use Rattle.typed_ir.specs.Orders.{is_member}
+use Rattle.block_rules.specs.Paths.{is_open}
 use Rattle.block_rules.specs.Tables.{size, bits_of, is_named, AreTaken}
 use Rattle.block_rules.proofs.paths.take_signals.Given as goal
 

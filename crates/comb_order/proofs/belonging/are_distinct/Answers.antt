@@ -1,7 +1,7 @@
 use Rattle.std.proofs.Common.{◌≡◌, ◌+◌, ◌-◌, ◌<◌, ◌∙◌, ◌==◌, true, false, cond, length, get_or, drop, sym, ap, arith, nat_eq}
 use Rattle.std.proofs.lemmas.Bool.{not-true, not-false}
 use Rattle.indexmap.specs.IndexSet.{contains}
-use Rattle.comb_order.specs.Parts.{is_member, are_distinct}
+use Rattle.typed_ir.specs.Orders.{is_member, are_distinct}
 use Rattle.comb_order.proofs.Sets.{one_before, still_distinct, twice}
 use Rattle.comb_order.proofs.belonging.are_distinct.Goals as goal
 

@@ -1,6 +1,6 @@
 use Rattle.std.proofs.Common.{◌≡◌, ◌≤◌, ℕ, true, drop, length, nat_eq}
 use Rattle.indexmap.specs.IndexSet.{contains}
-use Rattle.comb_order.specs.Parts.{is_member, are_distinct}
+use Rattle.typed_ir.specs.Orders.{is_member, are_distinct}
 use Rattle.comb_order.proofs.belonging.are_distinct.Given as goal
 
 abbrev pub invariant-loop-left : goal.invariant-loop-left

@@ -2,7 +2,7 @@ use Rattle.std.proofs.Common.{◌||◌, ◌+◌, ◌∙◌, ◌==◌, true, cond
 use Rattle.std.proofs.Math.Bool.{or-false}
 use Rattle.std.proofs.lemmas.List.{at_drop_all}
 use Rattle.indexmap.specs.IndexSet.{contains}
-use Rattle.comb_order.specs.Parts.{is_member}
+use Rattle.typed_ir.specs.Orders.{is_member}
 use Rattle.comb_order.proofs.Sets.{one_more}
 use Rattle.comb_order.proofs.belonging.set_of.Goals as goal
 

@@ -1,6 +1,6 @@
 use Rattle.std.proofs.Common.{◌≡◌, ◌||◌, ℕ, drop, nat_eq}
 use Rattle.indexmap.specs.IndexSet.{contains}
-use Rattle.comb_order.specs.Parts.{is_member}
+use Rattle.typed_ir.specs.Orders.{is_member}
 use Rattle.comb_order.proofs.belonging.set_of.Given as goal
 
 abbrev pub invariant-loop-x : goal.invariant-loop-x

@@ -7,7 +7,8 @@ use Rattle.typed_ir.specs.Nodes.{are_legal, drives_at}
 use Rattle.typed_ir.specs.Views.{widths}
 use Rattle.comb_order.specs.declared.drivers.Driver.{Driver}
 use Rattle.comb_order.specs.Driving.{IsTable}
-use Rattle.comb_order.specs.Parts.{are_distinct, none_in, blocks_in, rows_apart, are_undriven, IsDesign}
+use Rattle.typed_ir.specs.Orders.{are_distinct}
+use Rattle.comb_order.specs.Parts.{none_in, blocks_in, rows_apart, are_undriven, IsDesign}
 use Rattle.comb_order.proofs.Flatten.{All4, all_four, flat_sound}
 use Rattle.comb_order.proofs.Designs.{parts_table}
 use Rattle.comb_order.proofs.Passing.{sized_passes, held_passes, driven_passes}

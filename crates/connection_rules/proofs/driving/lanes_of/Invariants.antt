@@ -2,7 +2,7 @@ use Rattle.std.proofs.Common.{◌≡◌, ◌++◌, IsTrue}
 use Rattle.std.specs.Vec.Iter.{into_iter_items}
 use Rattle.typed_ir.specs.Targets.{targets_of}
 use Rattle.statement_rules.specs.Drives.{are_fixed}
-use Rattle.connection_rules.specs.Outputs.{known_lanes}
+use Rattle.typed_ir.specs.Nodes.{known_lanes}
 use Rattle.connection_rules.proofs.driving.lanes_of.Given as goal
 
 abbrev pub invariant-loop-part : goal.invariant-loop-part

@@ -6,7 +6,8 @@ use Rattle.statement_rules.specs.Drives.{are_fixed}
 use Rattle.statement_rules.specs.Leaves.{leaf_of, leaves, bits_of, laid}
 use Rattle.statement_rules.proofs.Laying.{leaves_bits, leaves_laid}
 use Rattle.statement_rules.proofs.Placing.{fixed}
-use Rattle.connection_rules.specs.Outputs.{target_at, known_lanes}
+use Rattle.typed_ir.specs.Nodes.{known_lanes}
+use Rattle.connection_rules.specs.Outputs.{target_at}
 use Rattle.connection_rules.proofs.Written.{same_length, same_faults}
 use Rattle.connection_rules.proofs.driving.size_written.Goals as goal
 

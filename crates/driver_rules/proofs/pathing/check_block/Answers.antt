@@ -7,7 +7,8 @@ use Rattle.unit_ir.specs.declared.mention.Mention.{Mention}
 use Rattle.unit_ir.specs.Units.{signal_within}
 use Rattle.width_rules.specs.Faults.{IsFirst}
 use Rattle.width_rules.proofs.Firsts.{later, neither}
-use Rattle.block_rules.specs.Paths.{is_member, unwritten, AreHere}
+use Rattle.typed_ir.specs.Orders.{is_member}
+use Rattle.block_rules.specs.Paths.{unwritten, AreHere}
 use Rattle.driver_rules.specs.Mentioned.{earliest, shown_faults}
 use Rattle.driver_rules.specs.Blocks.{first_declared, latched, read_faults, latch_faults}
 use Rattle.driver_rules.proofs.Declared.{unwritten_here, first_same}

@@ -1,6 +1,6 @@
 use Rattle.std.proofs.Common.{◌+◌, ℕ, List, Some, take, subst, sym}
 use Rattle.std.proofs.lemmas.List.{take_all}
-use Rattle.block_rules.specs.Paths.{is_member}
+use Rattle.typed_ir.specs.Orders.{is_member}
 use Rattle.driver_rules.proofs.Declared.{IsBest, listed_next, listed_all}
 use Rattle.driver_rules.proofs.pathing.first_declared.Goals as goal
 

@@ -1,5 +1,5 @@
 use Rattle.std.proofs.Common.{take}
-use Rattle.block_rules.specs.Paths.{is_member}
+use Rattle.typed_ir.specs.Orders.{is_member}
 use Rattle.driver_rules.proofs.Declared.{IsBest}
 use Rattle.driver_rules.proofs.pathing.first_declared.Given as goal
 

@@ -1,8 +1,9 @@
 use Rattle.std.proofs.Common.{◌≡◌, ◌-◌, ◌==◌, ◌&&◌, nat_le, nat_lt, refl, ap, ◌∙◌, arith}
 use Rattle.std.proofs.Math.Bool.{and-false}
 use Rattle.std.proofs.lemmas.Bool.{lt-leb, le-ltb}
+use Rattle.typed_ir.proofs.Cases.{by_order}
 use Rattle.driver_rules.specs.declared.driver.Driver.{Driver}
-use Rattle.driver_rules.proofs.Runs.{by_order, puts_run, puts_none}
+use Rattle.driver_rules.proofs.Runs.{puts_run, puts_none}
 use Rattle.driver_rules.proofs.running.add_run.Goals as goal
 
 pub returns-in_ok-push : goal.returns-in_ok-push

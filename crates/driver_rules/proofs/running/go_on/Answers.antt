@@ -1,7 +1,8 @@
 use Rattle.std.proofs.Common.{◌≡◌, ◌+◌, ◌==◌, ◌&&◌, ◌∙◌, nat_le, nat_lt, ap, sym, arith}
 use Rattle.typed_ir.specs.Touches.{has_bit}
+use Rattle.typed_ir.proofs.Cases.{by_order}
 use Rattle.driver_rules.specs.Told.{free_run}
-use Rattle.driver_rules.proofs.Runs.{by_order, puts_same, puts_none, free_none, free_all, free_next}
+use Rattle.driver_rules.proofs.Runs.{puts_same, puts_none, free_none, free_all, free_next}
 use Rattle.driver_rules.proofs.running.go_on.Goals as goal
 
 pub returns-then-not-has_bit-clause-free : goal.returns-then-not-has_bit-clause-free

@@ -1,5 +1,6 @@
 use Rattle.std.proofs.Common.{◌≡◌, ◌∙◌, ℕ, List, [], length, IfOk, IfErr, ap, ap₂, sym, subst}
 use Rattle.ls_text.specs.declared.fault.Fault.{Fault}
+use Rattle.ls_text.proofs.Cases.{any_ok}
 use Rattle.typed_ir.specs.declared.span.Span.{Span}
 use Rattle.typed_ir.specs.Valuations.{any_within}
 use Rattle.unit_ir.specs.declared.mention.Mention.{Mention}
@@ -9,9 +10,8 @@ use Rattle.width_rules.specs.Faults.{IsFirst}
 use Rattle.block_rules.specs.Paths.{places_of_true}
 use Rattle.driver_rules.specs.Mentioned.{earliest, shown_faults}
 use Rattle.driver_rules.specs.Doubles.{doubles, item_doubles}
-use Rattle.driver_rules.specs.Writes.{spans_of, writes, AreWithin}
+use Rattle.driver_rules.specs.Writes.{spans_of, AreWithin, writes}
 use Rattle.driver_rules.specs.Told.{marked, Grows}
-use Rattle.driver_rules.proofs.Lists.{any_ok}
 use Rattle.driver_rules.proofs.taking.take_item.Goals as goal
 
 pub take_spans-requires : goal.take_spans-requires
@@ -25,7 +25,7 @@ returns-clause-grows c =
     let new = c.take_spans.new.taken in
     let before = c.args.drivers.now.items in
     let after = c.take_spans.new.drivers.items in
-    any_ok c.check_shown.result (Grows by old new before after (writes item))
+    any_ok {P = Grows by old new before after (writes item)} c.check_shown.result
     (subst (λ (ss : List Span). Grows by old new before after (any_within ss)) (c.deref.ensures.value ∙ c.in_ok-spans.ensures) c.in_ok-bad.ensures.grows)
 
 pub returns-clause-faultless : goal.returns-clause-faultless

@@ -1,6 +1,7 @@
 use Rattle.std.proofs.Common.{◌≡◌, ◌<◌, ◌+◌, ◌∙◌, ℕ, List, [], ◌∷◌, ◌++◌, map, drop, take, length, refl, ap, sym, subst}
-use Rattle.std.proofs.lemmas.List.{at_drop_all, take_all}
+use Rattle.std.proofs.lemmas.List.{at_drop_all, take_all, map_push}
 use Rattle.typed_ir.specs.Valuations.{nowhere}
+use Rattle.typed_ir.proofs.Lists.{take_next}
 use Rattle.unit_ir.specs.declared.typed_item.TypedItem.{TypedItem}
 use Rattle.unit_ir.specs.Items.{PlacedItem, item_of, body_of}
 use Rattle.driver_rules.specs.declared.driver.Driver.{Driver}
@@ -9,7 +10,6 @@ use Rattle.driver_rules.specs.declared.numbers.Numbers.{Numbers}
 use Rattle.driver_rules.specs.Writes.{writes, spans_of, AreWithin}
 use Rattle.driver_rules.specs.Doubles.{double_faults}
 use Rattle.driver_rules.specs.Told.{marked, Grows, AreTold, numbers_after}
-use Rattle.driver_rules.proofs.Lists.{take_next, map_more}
 use Rattle.driver_rules.proofs.Walks.{each_item}
 use Rattle.driver_rules.proofs.Taken.{State, no_items, next_item, all_told, double_same, double_ahead, item_apart}
 use Rattle.driver_rules.proofs.taking.take_items.Goals as goal
@@ -45,7 +45,7 @@ loop-item-preserved c =
     record {
       ahead = double_ahead old new items k x c.loop-item-test.true c.item-item.is did.faultless grows.taken ∙ was.ahead;
       state = subst (λ (done : List PlacedItem). State done c.in_ok-numbers.numbers new c.take_item.new.drivers.items)
-          (sym (ap (map item_of) (take_next items k x c.loop-item-test.true c.item-item.is) ∙ map_more item_of (take k items) x))
+          (sym (ap (map item_of) (take_next items k x c.loop-item-test.true c.item-item.is) ∙ map_push item_of (take k items) x))
           (subst (λ (n : Numbers). State (map item_of (take k items) ++ item_of x ∷ []) n new c.take_item.new.drivers.items) (sym c.in_ok-numbers.ensures) next);
     }
 

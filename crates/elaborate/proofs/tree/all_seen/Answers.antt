@@ -2,7 +2,7 @@ use Rattle.std.proofs.Common.{◌≡◌, ℕ, List, ◌∷◌, map, Global, Vec,
 use Rattle.ls_text.specs.Texts.{IsIdOf}
 use Rattle.ls_text.proofs.Growth.{grows_on}
 use Rattle.elaborate.specs.Jobs.{standing_of}
-use Rattle.elaborate.specs.TreeViews.{text_items}
+use Rattle.ls_text.specs.TextViews.{text_items}
 use Rattle.elaborate.proofs.Instances.{left_more, named_more}
 use Rattle.elaborate.proofs.tree.all_seen.Goals as goal
 

@@ -3,7 +3,8 @@ use Rattle.std.specs.List.{All}
 use Rattle.ls_text.specs.Texts.{Grows}
 use Rattle.elaborate.specs.Jobs.{standing_of}
 use Rattle.elaborate.specs.Trees.{seen_under}
-use Rattle.elaborate.specs.TreeViews.{instance_view, text_items}
+use Rattle.ls_text.specs.TextViews.{text_items}
+use Rattle.elaborate.specs.TreeViews.{instance_view}
 use Rattle.elaborate.proofs.Instances.{IsNamed}
 use Rattle.elaborate.proofs.tree.all_seen.Given as goal
 

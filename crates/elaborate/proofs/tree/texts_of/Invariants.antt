@@ -1,7 +1,7 @@
 use Rattle.std.proofs.Common.{◌≡◌, ◌++◌, map, drop}
 use Rattle.elaborate.specs.Jobs.{standing_of}
 use Rattle.elaborate.specs.Trees.{called}
-use Rattle.elaborate.specs.TreeViews.{text_items}
+use Rattle.ls_text.specs.TextViews.{text_items}
 use Rattle.elaborate.proofs.tree.texts_of.Given as goal
 
 abbrev pub invariant-loop-one : goal.invariant-loop-one

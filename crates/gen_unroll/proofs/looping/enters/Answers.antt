@@ -5,7 +5,7 @@ use Rattle.width_rules.specs.Entries.{scope_of}
 use Rattle.width_rules.specs.Scopes.{Scope}
 use Rattle.gen_unroll.specs.Unrolled.{holds}
 use Rattle.ls_text.specs.Answers.{Answers}
-use Rattle.gen_unroll.proofs.Values.{if_ok}
+use Rattle.ls_text.proofs.Cases.{any_ok}
 use Rattle.gen_unroll.proofs.looping.enters.Goals as goal
 
 pub returns-clause-answer : goal.returns-clause-answer
@@ -14,4 +14,4 @@ returns-clause-answer c =
     (subst (λ (e : Expr). Answers c.holds.result (λ b. b) (holds (scope_of c.declare.new.scope) (expression_of e))) c.get.ensures c.holds.ensures)
 
 pub returns-clause-around : goal.returns-clause-around
-returns-clause-around c = if_ok c.holds.result c.in_ok-declare.ensures.around
+returns-clause-around c = any_ok c.holds.result c.in_ok-declare.ensures.around

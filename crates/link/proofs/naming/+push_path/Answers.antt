@@ -2,11 +2,10 @@ use Rattle.std.proofs.Common.{◌≡◌, ◌++◌, ◌<◌, ◌≤◌, ℕ, List
 use Rattle.std.specs.Prelude.{codes}
 use Rattle.ls_text.specs.Texts.{text_at}
 use Rattle.typed_ir.specs.declared.instance_name.InstanceName.{InstanceName}
-use Rattle.typed_ir.specs.Paths.{path_above, paths_of}
-use Rattle.typed_ir.proofs.Paths.{path_beyond, path_of}
+use Rattle.typed_ir.specs.Paths.{path_above, paths_of, dotted}
+use Rattle.typed_ir.proofs.Paths.{path_beyond, path_of, dotted_push}
 use Rattle.link.specs.Copies.{path_at}
-use Rattle.link.specs.Names.{dotted}
-use Rattle.link.proofs.Spelled.{dotted_push, two_then_one}
+use Rattle.link.proofs.Spelled.{two_then_one}
 use Rattle.link.proofs.naming.+push_path.Goals as goal
 
 pub returns-then-at-rows : goal.returns-then-at-rows

@@ -1,7 +1,7 @@
 use Rattle.std.proofs.Common.{◌∷◌, [], ℕ, List, Global, Vec, map, refl, subst}
 use Rattle.ls_text.specs.Texts.{IsIdOf}
 use Rattle.ls_text.proofs.Growth.{grows_on}
-use Rattle.link.specs.Names.{text_items, text_of}
+use Rattle.ls_text.specs.TextViews.{text_items, text_of}
 use Rattle.link.proofs.Spelled.{named_more, texts_more}
 use Rattle.link.proofs.Steps.{stepped}
 use Rattle.link.proofs.naming.named.Goals as goal

@@ -1,6 +1,6 @@
 use Rattle.std.proofs.Common.{◌≡◌, ◌++◌, map, drop, length, All}
 use Rattle.ls_text.specs.Texts.{Grows}
-use Rattle.link.specs.Names.{text_items, text_of}
+use Rattle.ls_text.specs.TextViews.{text_items, text_of}
 use Rattle.link.proofs.Spelled.{IsNamed}
 use Rattle.link.proofs.naming.named.Given as goal
 

@@ -5,8 +5,10 @@ use Rattle.typed_ir.specs.Flats.{signal_of}
 use Rattle.typed_ir.specs.Orders.{at_or}
 use Rattle.typed_ir.proofs.Lists.{at_map, at_beyond}
 use Rattle.link.specs.Copies.{path_at}
-use Rattle.link.specs.Names.{dotted, joined, select_text, target_text}
-use Rattle.link.proofs.Spelled.{joined_push, two_then_one}
+use Rattle.typed_ir.specs.Paths.{dotted, joined}
+use Rattle.link.specs.Names.{select_text, target_text}
+use Rattle.typed_ir.proofs.Paths.{joined_push}
+use Rattle.link.proofs.Spelled.{two_then_one}
 use Rattle.link.proofs.naming.push_target.Goals as goal
 
 pub returns-then-at-signals : goal.returns-then-at-signals

@@ -1,6 +1,7 @@
 use Rattle.std.proofs.Common.{◌≡◌, ◌++◌, map, drop}
 use Rattle.typed_ir.specs.Linkeds.{flat}
-use Rattle.link.specs.Names.{node_text, text_items}
+use Rattle.ls_text.specs.TextViews.{text_items}
+use Rattle.link.specs.Names.{node_text}
 use Rattle.link.proofs.naming.texts_of.Given as goal
 
 abbrev pub invariant-loop-node : goal.invariant-loop-node

@@ -4,7 +4,8 @@ use Rattle.ls_port.specs.declared.shelf_answer.ShelfAnswer.TheVariants as shelf
 use Rattle.ls_text.specs.declared.source_file.SourceFile.{SourceFile}
 use Rattle.ls_text.specs.Texts.{text_at}
 use Rattle.command_read.specs.declared.load_line.LoadLine.{LoadLine}
-use Rattle.live_session.proofs.GivenLoads.{IsLoading, all_given, broke, failed_adds, failed_rose, full_adds, goes_on, lost, lost_before, on_error, too_long}
+use Rattle.checkpoint_book.proofs.Draws.{when_err}
+use Rattle.live_session.proofs.GivenLoads.{IsLoading, all_given, broke, failed_adds, failed_rose, full_adds, goes_on, lost, lost_before, too_long}
 use Rattle.live_session.proofs.loading.loaded.Goals as goal
 
 abbrev no_line : LoadLine
@@ -24,7 +25,7 @@ pub returns-in_err-named_fault-in-Err-Failed-clause-lost : goal.returns-in_err-n
 returns-in_err-named_fault-in-Err-Failed-clause-lost g c =
     let i = c.loop-load.load-index in
     let name = text_at c.args.names.now (get_or c.args.loads.now i no_line).name.0 in
-    on_error c.from_residual.result
+    when_err c.from_residual.result
     (lost c.args.names.now c.args.loads.now i c.loop-load.files.items (g.F.Shelf.answers c.args.shelf.now) (g.F.Shelf.answers c.loop-load.shelf)
     (g.F.Shelf.answers c.read.new.self) (g.F.Shelf.faults c.args.shelf.now) (g.F.Shelf.faults c.loop-load.shelf) (g.F.Shelf.faults c.read.new.self)
     no_line c.loop-load-test.true c.loop-load.invariant (shelf.Failed name) refl
@@ -50,7 +51,7 @@ pub returns-in_err-named_fault-in-Ok-clause-lost : goal.returns-in_err-named_fau
 returns-in_err-named_fault-in-Ok-clause-lost g c =
     let i = c.loop-load.load-index in
     let name = text_at c.args.names.now (get_or c.args.loads.now i no_line).name.0 in
-    on_error c.from_residual-in_err-named_fault-in-Ok.result
+    when_err c.from_residual-in_err-named_fault-in-Ok.result
     (lost c.args.names.now c.args.loads.now i c.loop-load.files.items (g.F.Shelf.answers c.args.shelf.now) (g.F.Shelf.answers c.loop-load.shelf)
     (g.F.Shelf.answers c.read.new.self) (g.F.Shelf.faults c.args.shelf.now) (g.F.Shelf.faults c.loop-load.shelf) (g.F.Shelf.faults c.read.new.self)
     no_line c.loop-load-test.true c.loop-load.invariant (shelf.Given name c.in-Ok.text.items) refl
@@ -69,7 +70,7 @@ pub returns-in_err-push-in-Ok-2-clause-lost : goal.returns-in_err-push-in-Ok-2-c
 returns-in_err-push-in-Ok-2-clause-lost g c =
     let i = c.loop-load.load-index in
     let name = text_at c.args.names.now (get_or c.args.loads.now i no_line).name.0 in
-    on_error c.from_residual-in_err-push-in-Ok-2.result
+    when_err c.from_residual-in_err-push-in-Ok-2.result
     (lost c.args.names.now c.args.loads.now i c.loop-load.files.items (g.F.Shelf.answers c.args.shelf.now) (g.F.Shelf.answers c.loop-load.shelf)
     (g.F.Shelf.answers c.read.new.self) (g.F.Shelf.faults c.args.shelf.now) (g.F.Shelf.faults c.loop-load.shelf) (g.F.Shelf.faults c.read.new.self)
     no_line c.loop-load-test.true c.loop-load.invariant (shelf.Given name c.in-Ok-2.text.items) refl

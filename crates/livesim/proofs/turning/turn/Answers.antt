@@ -6,7 +6,8 @@ use Rattle.command_read.specs.Spoken.{spoken}
 use Rattle.live_session.specs.AtTurn.{log_of}
 use Rattle.live_session.specs.Sessions.{names_of}
 use Rattle.livesim.specs.Turns.{Reads}
-use Rattle.livesim.proofs.OneTurn.{command_turn, formed_first, refused_turn, stopped_turn}
+use Rattle.command_read.proofs.HandedOut.{formed_first}
+use Rattle.livesim.proofs.OneTurn.{command_turn, refused_turn, stopped_turn}
 use Rattle.livesim.proofs.Working.{stands_as}
 use Rattle.livesim.proofs.turning.turn.Goals as goal
 

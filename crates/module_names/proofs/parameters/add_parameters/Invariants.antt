@@ -1,6 +1,6 @@
 use Rattle.std.proofs.Common.{◌≡◌, ◌++◌, map, drop}
 use Rattle.verilog_ast.specs.Views.{parameter_of}
-use Rattle.module_names.specs.Modules.{assigned_name}
+use Rattle.verilog_ast.specs.Declarations.{assigned_name}
 use Rattle.module_names.proofs.parameters.add_parameters.Given as goal
 
 abbrev pub invariant-loop-one : goal.invariant-loop-one

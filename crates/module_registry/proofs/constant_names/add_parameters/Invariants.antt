@@ -1,6 +1,6 @@
 use Rattle.std.proofs.Common.{◌≡◌, ◌++◌, map, drop}
 use Rattle.verilog_ast.specs.Views.{parameter_of}
-use Rattle.module_registry.specs.Constants.{assigned_name}
+use Rattle.verilog_ast.specs.Declarations.{assigned_name}
 use Rattle.module_registry.proofs.constant_names.add_parameters.Given as goal
 
 abbrev pub invariant-loop-one : goal.invariant-loop-one

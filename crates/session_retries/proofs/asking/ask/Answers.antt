@@ -1,4 +1,5 @@
-use Rattle.session_retries.proofs.Standing.{formed_first, stands_as}
+use Rattle.command_read.proofs.HandedOut.{formed_first}
+use Rattle.live_session.proofs.StandingAtTurn.{stands_as}
 use Rattle.session_retries.proofs.asking.ask.Goals as goal
 
 pub step-requires-clause-formed : goal.step-requires-clause-formed

@@ -3,7 +3,8 @@ use denote.Param.Send.{sendable}
 use Rattle.std.proofs.Crossing.{crosses}
 use Rattle.book_turn.specs.Passes.{known}
 use Rattle.cycle_eval.proofs.DesignsShared.{design_send, design_sync, inputs_send, inputs_sync, ops_send, ops_sync, state_send}
-use Rattle.worker_scope.proofs.Sessions.{open_now, may_add, free_after}
+use Rattle.segment_verify.proofs.Openness.{open_now}
+use Rattle.worker_scope.proofs.Sessions.{may_add, free_after}
 use Rattle.session_retries.proofs.running.close.Goals as goal
 
 pub close-requires-clause-open : goal.close-requires-clause-open

@@ -3,7 +3,7 @@ use denote.Param.Send.{sendable}
 use Rattle.std.proofs.Crossing.{crosses}
 use Rattle.book_history.specs.Book.{Settings as BookSettings}
 use Rattle.cycle_eval.proofs.DesignsShared.{design_send, design_sync, inputs_send, inputs_sync, ops_send, ops_sync, state_send}
-use Rattle.session_retries.proofs.Standing.{made_at}
+use Rattle.live_session.proofs.StandingAtTurn.{made_at}
 use Rattle.session_retries.proofs.running.run.Goals as goal
 
 pub new-requires-2-send-M : goal.new-requires-2-send-M

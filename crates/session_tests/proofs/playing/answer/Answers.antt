@@ -1,4 +1,5 @@
-use Rattle.session_tests.proofs.Standing.{formed_first, stands_as}
+use Rattle.command_read.proofs.HandedOut.{formed_first}
+use Rattle.live_session.proofs.StandingAtTurn.{stands_as}
 use Rattle.session_tests.proofs.playing.answer.Goals as goal
 
 pub step-requires-clause-formed : goal.step-requires-clause-formed

@@ -10,7 +10,7 @@ use Rattle.statement_rules.specs.Targets.{target_length, parts}
 use Rattle.item_mentions.specs.Forms.{target_form}
 use Rattle.item_mentions.specs.Mentions.{numbered}
 use Rattle.item_mentions.specs.Names.{target_names}
-use Rattle.sized_items.specs.SizedItems.{fixed_lanes}
+use Rattle.typed_ir.specs.Nodes.{known_lanes}
 use Rattle.sized_items.proofs.Lanes.{lanes_known, value_known}
 use Rattle.sized_items.proofs.Placed.{placed_is, driving, driving_is}
 use Rattle.sized_items.proofs.driving.size_pair.Goals as goal
@@ -22,9 +22,9 @@ returns-clause-item c =
     let x : ContinuousAssignment = record { target = t; value = expression_of c.args.value.now } in
     let d = c.in_ok-drive.drive in
     placed_is (driving c.target_form-form.result d.lanes.items (sized d.value.form))
-    (driving (target_form scope t) (fixed_lanes (parts scope 0 t)) (assigned scope (target_length scope t) x.value))
+    (driving (target_form scope t) (known_lanes (parts scope 0 t)) (assigned scope (target_length scope t) x.value))
     c.place.result (target_place t) c.in_ok-targets.targets.items (numbered 0 (target_names t)) c.new.result.items []
-    (driving_is c.target_form-form.result (target_form scope t) d.lanes.items (fixed_lanes (parts scope 0 t)) (sized d.value.form)
+    (driving_is c.target_form-form.result (target_form scope t) d.lanes.items (known_lanes (parts scope 0 t)) (sized d.value.form)
     (assigned scope (target_length scope t) x.value)
     c.target_form-form.ensures (lanes_known d (sized_drive scope x) c.in_ok-drive.ensures.drive) (value_known d (sized_drive scope x) c.in_ok-drive.ensures.drive))
     c.place.ensures c.in_ok-targets.ensures c.new.ensures.items

@@ -2,7 +2,8 @@ use Rattle.std.proofs.Common.{lit<, sym}
 use Rattle.book_history.specs.declared.who.Who.TheVariants.{Session}
 use Rattle.book_turn.specs.Passes.{known}
 use Rattle.segment_verify.proofs.Turns.{may_claim, has_drawn}
-use Rattle.turn_settle.proofs.Visiting.{open_now, room_now, book_left, asked, claim_adds, claim_owned, all_joined_then, is_visit}
+use Rattle.segment_verify.proofs.Openness.{open_now}
+use Rattle.turn_settle.proofs.Visiting.{room_now, book_left, asked, claim_adds, claim_owned, all_joined_then, is_visit}
 use Rattle.turn_settle.proofs.visits.claim.Goals as goal
 
 pub claim_first-answer-requires-clause-open : goal.claim_first-answer-requires-clause-open

@@ -3,7 +3,7 @@ use Rattle.verilog_ast.specs.Views.{declared_reg_of}
 use Rattle.gen_unroll.specs.Declarations.{declared_reg_name}
 use Rattle.gen_unroll.specs.Views.{block_of}
 use Rattle.unit_jobs.specs.BlockNames.{called_in}
-use Rattle.unit_jobs.specs.UnnamedViews.{text_items}
+use Rattle.ls_text.specs.TextViews.{text_items}
 use Rattle.unit_jobs.proofs.block_names.add_regs.Given as goal
 
 abbrev pub invariant-loop-reg : goal.invariant-loop-reg

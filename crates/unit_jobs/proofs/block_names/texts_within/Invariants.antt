@@ -1,7 +1,7 @@
 use Rattle.std.proofs.Common.{◌≡◌, ◌++◌, [], map, drop}
 use Rattle.gen_unroll.specs.Views.{block_of, number_of, step_of}
 use Rattle.unit_jobs.specs.BlockNames.{texts_within}
-use Rattle.unit_jobs.specs.UnnamedViews.{text_items}
+use Rattle.ls_text.specs.TextViews.{text_items}
 use Rattle.unit_jobs.proofs.block_names.texts_within.Given as goal
 
 -- the texts so far, and those of the steps that are left, within the blocks that are open

@@ -1,7 +1,6 @@
 use Rattle.std.proofs.Common.{◌≡◌, ◌++◌, All, map, drop, length}
 use Rattle.ls_text.specs.Texts.{Grows}
-use Rattle.unit_jobs.specs.JobViews.{text_of}
-use Rattle.unit_jobs.specs.UnnamedViews.{text_items}
+use Rattle.ls_text.specs.TextViews.{text_items, text_of}
 use Rattle.unit_jobs.proofs.Numbers.{IsKnown}
 use Rattle.unit_jobs.proofs.naming.numbers_of.Given as goal
 

@@ -5,7 +5,7 @@ use Rattle.verilog_ast.specs.Views.{range_of as range_view}
 use Rattle.width_rules.specs.Entries.{scope_of}
 use Rattle.ls_text.specs.Answers.{Answers}
 use Rattle.gen_unroll.specs.Views.{bit_range_of}
-use Rattle.unit_names.specs.Signals.{range_or_none}
+use Rattle.gen_unroll.specs.Declarations.{range_or_none}
 use Rattle.unit_names.proofs.stepping.range_or_none.Goals as goal
 
 pub returns-in-Some : goal.returns-in-Some

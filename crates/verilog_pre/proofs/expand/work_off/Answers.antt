@@ -1,15 +1,16 @@
 use Rattle.std.proofs.Common.{ℕ, List, length, sym, subst}
 use Rattle.std.specs.List.{All}
+use Rattle.std.proofs.lemmas.List.Elements.{All-rest}
 use Rattle.ls_text.proofs.Growth.{grows_on}
 use Rattle.verilog_pre.specs.Views.{IsListedItem}
-use Rattle.verilog_pre.proofs.Steps.{keeps_on, stepped, step_refused, head_of, tail_of}
+use Rattle.verilog_pre.proofs.Steps.{keeps_on, stepped, step_refused, head_of}
 use Rattle.verilog_pre.proofs.expand.work_off.Goals as goal
 
 pub carry_out-requires-clause-next : goal.carry_out-requires-clause-next
 carry_out-requires-clause-next c = head_of (IsListedItem _) c.in-Some.next _ _ c.in-Some.ensures.items c.loop-next.invariant.listed
 
 pub carry_out-requires-clause-listed : goal.carry_out-requires-clause-listed
-carry_out-requires-clause-listed c = tail_of (IsListedItem _) c.in-Some.next _ _ c.in-Some.ensures.items c.loop-next.invariant.listed
+carry_out-requires-clause-listed c = All-rest (IsListedItem _) c.in-Some.next _ _ c.in-Some.ensures.items c.loop-next.invariant.listed
 
 pub loop-next-preserved : goal.loop-next-preserved
 loop-next-preserved c = record {

@@ -3,10 +3,8 @@ use Rattle.std.specs.Prelude.{codes, slice_index_or}
 use Rattle.ls_text.specs.Texts.{text_at}
 use Rattle.ls_text.proofs.Pieces.{three_pieces}
 use Rattle.typed_ir.specs.declared.instance_name.InstanceName.{InstanceName}
-use Rattle.typed_ir.specs.Paths.{path_above, paths_of}
-use Rattle.typed_ir.proofs.Paths.{path_beyond, path_of}
-use Rattle.wave_report.specs.Tables.{dotted}
-use Rattle.wave_report.proofs.Spelled.{dotted_push}
+use Rattle.typed_ir.specs.Paths.{path_above, paths_of, dotted}
+use Rattle.typed_ir.proofs.Paths.{path_beyond, path_of, dotted_push}
 use Rattle.wave_report.proofs.naming.+push_instance.Goals as goal
 
 pub returns-then-at-rows : goal.returns-then-at-rows

@@ -2,9 +2,8 @@ use Rattle.std.proofs.Common.{◌++◌, [], sym, ◌∙◌, ap}
 use Rattle.std.specs.Prelude.{slice_index_or}
 use Rattle.ls_text.specs.Texts.{text_at}
 use Rattle.ls_text.proofs.Pieces.{two_pieces}
-use Rattle.typed_ir.specs.Paths.{paths_of}
-use Rattle.wave_report.specs.Tables.{dotted}
-use Rattle.wave_report.proofs.Spelled.{joined_push}
+use Rattle.typed_ir.specs.Paths.{paths_of, dotted}
+use Rattle.typed_ir.proofs.Paths.{joined_push}
 use Rattle.wave_report.proofs.naming.push_path.Goals as goal
 
 pub returns : goal.returns

@@ -6,7 +6,8 @@ use Rattle.typed_ir.specs.Orders.{at_or}
 use Rattle.typed_ir.proofs.Lists.{at_map}
 use Rattle.cycle_eval.specs.Designs.{instances_of, signals_of}
 use Rattle.reg_transform.specs.States.{state_values}
-use Rattle.wave_report.specs.Tables.{joined, shown_line, signal_line, signal_lines, table_text}
+use Rattle.typed_ir.specs.Paths.{joined}
+use Rattle.wave_report.specs.Tables.{shown_line, signal_line, signal_lines, table_text}
 use Rattle.wave_report.proofs.Registers.{all_lines, line_step, register_there, values_from}
 use Rattle.wave_report.proofs.tables.table.Goals as goal
 

@@ -1,7 +1,8 @@
 use Rattle.std.proofs.Common.{lit<, refl}
 use Rattle.book_turn.specs.Passes.{known}
 use Rattle.book_turn.proofs.Turns.{one_turn}
-use Rattle.worker_scope.proofs.Sessions.{open_now, may_add, free_after}
+use Rattle.segment_verify.proofs.Openness.{open_now}
+use Rattle.worker_scope.proofs.Sessions.{may_add, free_after}
 use Rattle.worker_scope.proofs.scope.close.Goals as goal
 
 pub close-requires-clause-open : goal.close-requires-clause-open

@@ -1,4 +1,4 @@
-use Rattle.worker_scope.proofs.Sessions.{begun_open}
+use Rattle.segment_verify.proofs.Openness.{begun_open}
 use Rattle.worker_tests.proofs.thread_tests.beside.Goals as goal
 
 pub with_workers-pass-requires-clause-open : goal.with_workers-pass-requires-clause-open

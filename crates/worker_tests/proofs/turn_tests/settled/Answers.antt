@@ -1,5 +1,6 @@
 use Rattle.std.proofs.Common.{arith, ◌+◌, ◌*◌}
-use Rattle.worker_tests.proofs.Beginning.{begun_own, begun_open, begun_room, begun_opened, finished_open}
+use Rattle.segment_verify.proofs.Openness.{begun_open}
+use Rattle.worker_tests.proofs.Beginning.{begun_own, begun_room, begun_opened, finished_open}
 use Rattle.worker_tests.proofs.turn_tests.settled.Goals as goal
 
 pub settle-requires-clause-own : goal.settle-requires-clause-own

@@ -1,10 +1,11 @@
 use Rattle.std.proofs.Common.{◌≡◌, inl, ◌+◌, ◌-◌, ◌<◌, ◌∙◌, [], take, drop, false, not, sym, ap, refl, subst, append-nil, true≢false, arith}
 use Rattle.std.specs.Prelude.{codes}
+use Rattle.ls_text.proofs.Options.{no_value}
 use Rattle.command_read.specs.Lines.{words, are_just}
 use Rattle.command_read.specs.Scripts.{Within}
 use Rattle.command_read.specs.Scanned.{Scanned}
 use Rattle.command_read.specs.Readers.{left, next_number, has_ended, stopped, asked_of}
-use Rattle.command_read.proofs.Ends.{going_from, stopped_from}
+use Rattle.command_read.proofs.Ends.{stopped_from}
 use Rattle.command_read.proofs.Sources.{takes_nothing, only_same}
 use Rattle.command_read.proofs.Soon.{reads_soon, soon_within}
 use Rattle.command_read.proofs.InBlocks.{before_of, text_behind, begins_block, begins_whole, moved_scan, moved_whole, ends_block, scans_line, whole_on, lines_on, cut_block, open_block, no_more_lines, unread_block}
@@ -141,7 +142,7 @@ returns-then-is_none-clause-found g c =
     let new = c.line_at.new.self in
     let scan = moved_scan c.loop-found.self new second.1 c.args.body c.loop-found.from c.loop-found.lines c.loop-found.in_text second.3 c.line_at.ensures.number so.low so.high
     (λ e. let still = second.2.quiet e in (still.1, still.2)) so.scanned in
-    let ended = c.in_default.ensures.ends (going_from (stopped new) (c.is_none.ensures ∙ ap not c.if-is_none.true)) in
+    let ended = c.in_default.ensures.ends (no_value (stopped new) (c.is_none.ensures ∙ ap not c.if-is_none.true)) in
     (ended, cut_block new _ _ _ c.loop-found.from scan c.in_default.ensures.none ended)
 
 pub returns-then-is_none-clause-unread : goal.returns-then-is_none-clause-unread

@@ -1,11 +1,12 @@
 use Rattle.std.proofs.Common.{◌≡◌, inl, inr, ◌≤◌, ◌++◌, [], None, length, drop, refl, not, sym, ap, ◌∙◌, append-nil, append_assoc, length-append, arith}
 use Rattle.std.proofs.lemmas.Option.{none-some}
+use Rattle.ls_text.proofs.Options.{no_value}
 use Rattle.command_read.specs.declared.stop.Stop.TheVariants.{End}
 use Rattle.command_read.specs.Readers.{left, stopped}
 use Rattle.command_read.proofs.FirstLines.{no_line}
 use Rattle.command_read.proofs.Sources.{takes_nothing, takes_on}
 use Rattle.command_read.proofs.Soon.{soon_read}
-use Rattle.command_read.proofs.Ends.{all_seen, still_none, halted_so, going_from, unread_so}
+use Rattle.command_read.proofs.Ends.{all_seen, still_none, halted_so, unread_so}
 use Rattle.command_read.proofs.reader.Reader.line_at.Goals as goal
 
 pub loop-self-init : goal.loop-self-init
@@ -27,7 +28,7 @@ loop-self-preserved g c =
     let so_far = c.loop-self.invariant in
     let first = so_far.takes in
     let second = c.fill.ensures.takes in
-    let going : stopped old ≡ None = going_from (stopped old) (c.is_none.ensures ∙ ap not c.loop-self-test.true) in
+    let going : stopped old ≡ None = no_value (stopped old) (c.is_none.ensures ∙ ap not c.loop-self-test.true) in
     let from = c.args.from in
     let end = c.newline_from-end.result in
     let place = c.newline_from-end.ensures.value in

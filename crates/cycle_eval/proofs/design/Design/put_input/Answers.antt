@@ -7,9 +7,9 @@ use Rattle.typed_ir.specs.Cycles.{width_at}
 use Rattle.typed_ir.specs.Flats.{signal_widths}
 use Rattle.typed_ir.proofs.Lists.{below_read}
 use Rattle.design_steps.specs.Programs.{values_in}
+use Rattle.state_layout.proofs.Layouts.{width_read}
 use Rattle.cycle_eval.specs.Designs.{design_flat}
 use Rattle.cycle_eval.specs.Inputs.{name_at}
-use Rattle.cycle_eval.proofs.Carries.{width_read}
 use Rattle.cycle_eval.proofs.Driving.{read_name, signal_width}
 use Rattle.cycle_eval.proofs.InputRows.{given_at}
 use Rattle.cycle_eval.proofs.design.Design.put_input.Goals as goal

@@ -6,8 +6,8 @@ use Rattle.typed_ir.specs.Cycles.{width_at}
 use Rattle.typed_ir.specs.Flats.{signal_widths}
 use Rattle.typed_ir.proofs.Lists.{below_read}
 use Rattle.design_steps.specs.Programs.{values_in}
+use Rattle.state_layout.proofs.Layouts.{width_read}
 use Rattle.cycle_eval.specs.Designs.{design_flat}
-use Rattle.cycle_eval.proofs.Carries.{width_read}
 use Rattle.cycle_eval.proofs.Driving.{signal_width}
 use Rattle.cycle_eval.proofs.design.Design.register.Goals as goal
 

@@ -1,5 +1,6 @@
 use Rattle.std.proofs.Common.{map, sym, subst, arith}
 use Rattle.std.specs.Prelude.{Ok, Option}
+use Rattle.ls_text.proofs.Options.{no_value}
 use Rattle.command_read.specs.Spoken.{edited}
 use Rattle.module_registry.specs.Views.{entries_of}
 use Rattle.checkpoint_book.proofs.Draws.{when_err}
@@ -9,7 +10,7 @@ use Rattle.live_session.specs.Files.{text_file}
 use Rattle.live_session.specs.Logs.{marks_of}
 use Rattle.live_session.specs.declared.running.Running.{Running}
 use Rattle.live_session.proofs.SessionCalls.{fresh_accepted, fresh_behind, fresh_refused, is_refused, stands_none}
-use Rattle.live_session.proofs.SessionSteps.{fresh_world, no_running}
+use Rattle.live_session.proofs.SessionSteps.{fresh_world}
 use Rattle.live_session.proofs.session.Session.begin.Goals as goal
 
 pub begin-requires-clause-room : goal.begin-requires-clause-room
@@ -18,7 +19,7 @@ begin-requires-clause-room g c κs within = omega (arith, c.requires.room)
 pub begin-requires-clause-stands : goal.begin-requires-clause-stands
 begin-requires-clause-stands g c κs within =
     let s = c.args.self.now in
-    subst (λ (r : Option Running). Stands s.limits r c.args.book.now) (no_running s.running c.requires.none) c.requires.beside.stands
+    subst (λ (r : Option Running). Stands s.limits r c.args.book.now) (no_value s.running c.requires.none) c.requires.beside.stands
 
 pub returns-in_err-begun-clause-loses : goal.returns-in_err-begun-clause-loses
 returns-in_err-begun-clause-loses g c =
@@ -64,7 +65,7 @@ returns-in-Refused-clause-beside g c =
     (entries_of c.begin.new.registry) c.args.book.now c.begin.new.book c.in_ok-begun.begun c.in-Refused.reply c.in-Refused.is
     c.in_ok-begun.ensures.begins in
     record {
-      stands = subst (λ (r : Option Running). Stands s.limits r c.begin.new.book) (sym (no_running s.running c.requires.none)) so.stands;
+      stands = subst (λ (r : Option Running). Stands s.limits r c.begin.new.book) (sym (no_value s.running c.requires.none)) so.stands;
       held = c.begin.ensures.held;
     }
 

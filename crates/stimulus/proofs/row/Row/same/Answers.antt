@@ -2,7 +2,7 @@ use Rattle.std.proofs.Common.{◌∙◌, List, sym, ap₂}
 use Rattle.stimulus.specs.declared.setting.Setting.{Setting}
 use Rattle.stimulus.specs.Rows.{are_same}
 use Rattle.stimulus.specs.Settings.{pairs_of}
-use Rattle.stimulus.proofs.Alike.{same_is}
+use Rattle.stimulus.specs.SameRows.{same_is}
 use Rattle.stimulus.proofs.row.Row.same.Goals as goal
 
 pub returns-clause-equal : goal.returns-clause-equal

@@ -1,29 +1,12 @@
--- A session beside its pass: at the beginning, and behind a read.
-use Rattle.std.proofs.Common.{◌≡◌, ◌∙◌, ℕ, Bool, true, false, List, [], ◌∷◌, ◌++◌, Ok, refl, sym, ap, subst}
-use Rattle.book_history.specs.Book.{Settings as BookSettings}
+-- A session beside its pass: behind a read, and at the beginning.
+use Rattle.std.proofs.Common.{◌≡◌, [], refl, sym, subst}
 use Rattle.book_history.specs.Legal.{Legal}
 use Rattle.book_turn.specs.Known.{begun}
-use Rattle.command_read.specs.Asking.{Asked}
-use Rattle.command_read.specs.Formed.{IsFormed}
-use Rattle.command_read.specs.Leading.{MayFollow}
-use Rattle.command_read.specs.Readers.{HandsOut, asked_of, has_ended, left, next_number}
-use Rattle.command_read.specs.declared.reader.Reader.{Reader}
-use Rattle.command_read.proofs.Forms.{asks_formed_first}
 use Rattle.segment_verify.specs.Workers.{IsFree}
 use Rattle.live_session.specs.AtTurn.{Sight, StandsAt, log_of}
 use Rattle.live_session.specs.Beside.{StandsBeside}
 use Rattle.live_session.specs.Logs.{Log, kit, valid}
 use Rattle.live_session.specs.declared.session.Session.{Session}
-
--- nothing may come behind any bytes, which then end
-may_end : (ended : Bool) → MayFollow ended [] true
-may_end true = (refl, refl)
-may_end false = tt
-
--- a command that is handed out is of its form
-pub formed_first : (old new : Reader) (kept : List ℕ) (asked : Asked) → HandsOut old new (Ok asked ∷ []) kept → IsFormed asked
-formed_first old new kept asked hands =
-    asks_formed_first true (next_number old) (left old ++ (kept ++ [])) asked (asked_of new [] true) (hands [] true (may_end (has_ended new)))
 
 -- a session that has changed, as by reading, and stands beside all that it stood beside
 pub stands_as : (s t : Session) (v : Sight) → StandsAt s v → ((j : Log) → StandsBeside s j → StandsBeside t j) → StandsAt t v
