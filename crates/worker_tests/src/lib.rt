@@ -4,7 +4,7 @@
 // thread, wants memory, or has a gate of `test_gates` let its tickets go. `thread_tests` hands such work to a scope of workers, over books of a tally
 // or of a watched machine, and the history that is left to `replay`, which takes it entry by entry and keeps its tickets (`drawn`).
 //
-// Two settle without workers: `turn_tests` through a turn, `settle_tests` a book alone.
+// Two settle a book without workers (`tally_book`): `turn_tests` through a turn, `settle_tests` the book alone.
 #![tactic(auto)]
 
 #[cfg(test)]
@@ -19,6 +19,8 @@ mod replay;
 mod settle_tests;
 #[cfg(test)]
 mod settling;
+#[cfg(test)]
+mod tally_book;
 #[cfg(test)]
 mod thread_tests;
 #[cfg(test)]
