@@ -12,6 +12,7 @@ use Rattle.verilog_ast.specs.Items.{ConnectionByName, ConnectionByOrder, Connect
 use Rattle.width_rules.specs.declared.writer.Writer.TheVariants as writer
 use Rattle.width_rules.specs.Faults.{fault_at}
 use Rattle.width_rules.specs.Scopes.{Meaning, Signal, Constant, Turn, Genvar, Unknown, Scope}
+use Rattle.module_names.specs.Listings.{names_behind}
 use Rattle.module_names.specs.Modules.{module_named, header_ports, is_input_of}
 use Rattle.ls_text.specs.Answers.{◌>>=◌}
 
@@ -118,14 +119,10 @@ abbrev pub next_port : List Identifier → Option Identifier
 next_port [] = None
 next_port (p ∷ ps) = Some p
 
-abbrev pub ports_behind : List Identifier → List Identifier
-ports_behind [] = []
-ports_behind (p ∷ ps) = ps
-
 abbrev pub clock_by_order : ModuleDeclaration → Scope → (ports : List Identifier) → List ConnectionByOrder → Option ℕ → Result (Option ℕ) Fault
 clock_by_order m scope ports [] k = Ok k
 clock_by_order m scope ports (x ∷ xs) k =
-    connection m scope (next_port ports) x.value k >>= λ next. clock_by_order m scope (ports_behind ports) xs next
+    connection m scope (next_port ports) x.value k >>= λ next. clock_by_order m scope (names_behind ports) xs next
 
 abbrev pub clock_of : ModuleDeclaration → Scope → ConnectionList → Result (Option ℕ) Fault
 clock_of m scope (ByName xs) = clock_by_name m scope xs None

@@ -3,6 +3,7 @@ ghost use Rattle.std.specs.Prelude.{◌≡◌, map, None};
 ghost use Rattle.std.specs.Option.{option_map};
 ghost use Rattle.verilog_ast.specs.Views.{expression_of, reference_of, by_name_of, by_order_of, connections_of, instance_of, declared_of, declared_reg_of, assignment_of, port_of, plain_item_of, declaration_of};
 ghost use Rattle.width_rules.specs.Entries.{scope_of};
+ghost use Rattle.module_names.specs.Listings.{names_behind};
 ghost use Rattle.module_names.specs.Modules.{module_named};
 ghost use Rattle.module_names.specs.Views.{modules_of};
 ghost use Rattle.ls_text.specs.Answers.{Answers, Leads};
@@ -139,7 +140,7 @@ fn next_port(ports: &[Identifier]) -> Option<Identifier>
 }
 
 fn ports_behind(ports: &[Identifier]) -> &[Identifier]
-    ensures { result.now ≡ k.ports_behind ports.now }
+    ensures { result.now ≡ names_behind ports.now }
 {
     match ports.split_first() {
         Some((_, rest)) => rest,

@@ -1,5 +1,5 @@
 -- What is so of the graph is so of the nodes.
-use Rattle.std.proofs.Common.{◌≡◌, ℕ, zero, suc, ◌<◌, ◌≤◌, ◌^◌, true, ◌&&◌, List, [], ◌∷◌, length, map, refl, sym, ◌∙◌, ap, subst, arith, true≢false, get_or, inl, inr}
+use Rattle.std.proofs.Common.{◌≡◌, ℕ, zero, suc, ◌<◌, ◌≤◌, ◌^◌, true, ◌&&◌, List, [], ◌∷◌, length, map, refl, sym, ◌∙◌, subst, arith, true≢false, get_or, inl, inr}
 use Rattle.std.specs.Prelude.{All, slice_index, Result, Ok, Err, IfOk, IfErr, MatchResult}
 use Rattle.std.specs.declared.vec.Vec.{Vec}
 use Rattle.std.specs.Global.{Global}
@@ -17,6 +17,8 @@ use Rattle.typed_ir.proofs.Mentions.{later_small}
 use Rattle.typed_ir.specs.Linkeds.{flat}
 use Rattle.typed_ir.specs.Nodes.{FlatNode, drives_at, reads_at, IsOrder, are_legal}
 use Rattle.typed_ir.specs.Orders.{Member, EachAfter, IsOrderOf, Precedes}
+use Rattle.typed_ir.specs.Rows.{row_in}
+use Rattle.typed_ir.proofs.Widths.{widths_long, at_most_a_word}
 use Rattle.comb_order.specs.declared.drivers.Driver.{Driver}
 use Rattle.comb_order.specs.declared.refusing.OrderRefusal.{OrderRefusal}
 use Rattle.comb_order.specs.declared.refusing.OrderRefusal.TheVariants.{Loop, NoMemory}
@@ -24,7 +26,7 @@ use Rattle.comb_order.specs.Graphs.{HasEdge, waiting}
 use Rattle.comb_order.specs.Kahn.{IsClosed}
 use Rattle.comb_order.specs.Loops.{Placeable, Place, IsStuck, Next, IsWalk, IsLoop, HasNoLoop}
 use Rattle.comb_order.specs.Refusals.{NodeBefore, IsRefusal, is_loop}
-use Rattle.comb_order.specs.Driving.{row_in, drives_in, AreRows, IsTableOf, IsTable, IsPlain, IsGraph}
+use Rattle.comb_order.specs.Driving.{drives_in, AreRows, IsTableOf, IsTable, IsPlain, IsGraph}
 use Rattle.comb_order.proofs.Loops.{no_loop}
 use Rattle.comb_order.proofs.Stuck.{no_stuck}
 use Rattle.comb_order.proofs.Rows.{few_edges}
@@ -119,15 +121,6 @@ graph_few nodes rows b are g few t =
 
 -- ---- designs
 
-narrow : (signals : List Signal') (k : ℕ) → slice_index (signal_widths signals) k ≤ 128
-narrow [] k = omega arith
-narrow (x ∷ xs) zero = x.at_most_128
-narrow (x ∷ xs) (suc k) = narrow xs k
-
-widths_long : (signals : List Signal') → length (signal_widths signals) ≡ length signals
-widths_long [] = refl
-widths_long (x ∷ xs) = ap suc (widths_long xs)
-
 pub design_plain : (design : Flat') → IsPlain (flat design).nodes
 design_plain design = record {
   one = λ a b s i x y. ∥∥₁_elim design.sound (hlevel props) (λ f. f.sound.one_driver a b s i x y);
@@ -140,7 +133,7 @@ pub parts_table : (signals : List Signal') (nodes : List FlatNode) (table : List
     → IsTable nodes table
 parts_table signals nodes table legal long drives = record {
   inside = λ a s i d.
-      (let h : (s < length (signal_widths signals)) × (i < 128) = at_small nodes (signal_widths signals) (narrow signals) legal a s i d in
+      (let h : (s < length (signal_widths signals)) × (i < 128) = at_small nodes (signal_widths signals) (at_most_a_word signals) legal a s i d in
       let e : length (signal_widths signals) ≡ length signals = widths_long signals in
       let there : s < length (signal_widths signals) = h.0 in
       (omega (arith, there, e, long), h.1));
@@ -164,7 +157,7 @@ pub blocks_table : (signals : List Signal') (blocks : List Stmt) (table : List (
     → IsTableOf (writes_at (map stmt_of blocks)) table
 blocks_table signals blocks table legal long drives = record {
   inside = λ a s i d.
-      (let h : (s < length (signal_widths signals)) × (i < 128) = block_small blocks (signal_widths signals) (narrow signals) legal a s i d in
+      (let h : (s < length (signal_widths signals)) × (i < 128) = block_small blocks (signal_widths signals) (at_most_a_word signals) legal a s i d in
       let e : length (signal_widths signals) ≡ length signals = widths_long signals in
       let there : s < length (signal_widths signals) = h.0 in
       (omega (arith, there, e, long), h.1));

@@ -14,13 +14,14 @@ use Rattle.typed_ir.specs.Nodes.{FlatNode, node_drives, drives_at, reads_at, are
 use Rattle.typed_ir.specs.Orders.{Each, at_or, Precedes}
 use Rattle.typed_ir.specs.Flats.{NodeWritesFirst}
 use Rattle.typed_ir.specs.Touches.{has_bit, touched, mentions}
+use Rattle.typed_ir.specs.Rows.{row_in}
 use Rattle.typed_ir.proofs.Cases.{by_cases, left_or, right_or, and_left, and_right, only_right}
 use Rattle.typed_ir.proofs.Numbered.{drives_number}
 use Rattle.typed_ir.proofs.Mentions.{reads_foreign, reads_mentioned, drive_reads, block_apart, drives_small}
+use Rattle.typed_ir.proofs.Rows.{row_past}
 use Rattle.comb_order.specs.declared.drivers.Driver.{Driver}
 use Rattle.comb_order.specs.Graphs.{times, row_at, HasEdge}
-use Rattle.comb_order.specs.Driving.{row_in, drives_in, common, drives_some, drives_any, edge, block_at, IsTable, IsPlain, IsGraph}
-use Rattle.comb_order.proofs.Tables.{row_past}
+use Rattle.comb_order.specs.Driving.{drives_in, common, drives_some, drives_any, edge, block_at, IsTable, IsPlain, IsGraph}
 
 -- ---- masks
 

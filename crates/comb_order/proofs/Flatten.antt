@@ -3,7 +3,7 @@ use Rattle.std.proofs.Common.{◌≡◌, ℕ, zero, suc, ◌<◌, inl, inr, Bool
 use Rattle.std.specs.Prelude.{bit_or}
 use Rattle.std.specs.declared.vec.Vec.{Vec}
 use Rattle.std.specs.Global.{Global}
-use Rattle.std.proofs.lemmas.Bool.{eqb-true, eq-eqb, not-true}
+use Rattle.std.proofs.lemmas.Bool.{eqb-true, not-true}
 use Rattle.typed_ir.specs.declared.span.Span.{Span}
 use Rattle.typed_ir.specs.Stmts.{SizedStmt, later_targets}
 use Rattle.typed_ir.specs.Valuations.{Places}
@@ -12,11 +12,13 @@ use Rattle.typed_ir.specs.Orders.{Member, Each, Distinct, any_drives, is_member,
 use Rattle.typed_ir.specs.Cycles.{Flat, WritesRegisters, OneWriter}
 use Rattle.typed_ir.specs.Flats.{NodeWritesFirst, IsFlat}
 use Rattle.typed_ir.specs.Touches.{has_bit, is_block}
-use Rattle.typed_ir.proofs.Cases.{by_cases, left_or, right_or, and_left, and_right, or_left, or_right, only_right}
+use Rattle.typed_ir.specs.Rows.{row_in}
+use Rattle.typed_ir.proofs.Cases.{by_cases, and_left, and_right, or_left, or_right, only_right}
 use Rattle.typed_ir.proofs.Numbered.{driver_index}
 use Rattle.typed_ir.proofs.Masks.{has_either}
+use Rattle.typed_ir.proofs.Members.{is_of}
 use Rattle.comb_order.specs.declared.drivers.Driver.{Driver}
-use Rattle.comb_order.specs.Driving.{row_in, drives_in, common, IsTableOf, IsTable}
+use Rattle.comb_order.specs.Driving.{drives_in, common, IsTableOf, IsTable}
 use Rattle.comb_order.specs.Parts.{spans_in, none_in, are_apart, rows_apart, are_idle, are_undriven, blocks_in, has_block}
 use Rattle.comb_order.proofs.Edging.{common_of}
 use Rattle.comb_order.proofs.Idle.{idle_drives}
@@ -26,11 +28,6 @@ use Rattle.comb_order.proofs.Idle.{idle_drives}
 pub member_of : (x : ℕ) (xs : List ℕ) → is_member x xs ≡ true → Member x xs
 member_of x [] h = true≢false (sym h)
 member_of x (y ∷ ys) h = by_cases (x == y) (λ same. inl (eqb-true x y same)) (λ out. inr (member_of x ys (only_right (x == y) (is_member x ys) out h)))
-
-pub is_of : (x : ℕ) (xs : List ℕ) → Member x xs → is_member x xs ≡ true
-is_of x [] m = absurd m
-is_of x (y ∷ ys) (inl e) = left_or (x == y) (is_member x ys) (eq-eqb x y e)
-is_of x (y ∷ ys) (inr m) = right_or (x == y) (is_member x ys) (is_of x ys m)
 
 not_member : (x : ℕ) (xs : List ℕ) → not (is_member x xs) ≡ true → Member x xs → ⊥
 not_member x xs h m = true≢false (sym h ∙ ap not (is_of x xs m))

@@ -13,15 +13,17 @@ use Rattle.typed_ir.specs.Orders.{Member, Each, Distinct, any_drives, is_member,
 use Rattle.typed_ir.specs.Cycles.{Flat, WritesRegisters}
 use Rattle.typed_ir.specs.Flats.{IsFlat, signal_widths, are_clocked, are_below}
 use Rattle.typed_ir.specs.Touches.{has_bit}
+use Rattle.typed_ir.specs.Rows.{row_in}
 use Rattle.typed_ir.proofs.Cases.{by_cases, left_or, right_or, only_right}
 use Rattle.typed_ir.proofs.Masks.{has_either, no_bit}
+use Rattle.typed_ir.proofs.Members.{is_of}
+use Rattle.typed_ir.proofs.Rows.{row_past}
 use Rattle.comb_order.specs.declared.drivers.Driver.{Driver}
 use Rattle.comb_order.specs.declared.parts.Parts.{Parts}
-use Rattle.comb_order.specs.Driving.{row_in, drives_in, common, Rises, AllRise, IsTableOf, IsTable}
+use Rattle.comb_order.specs.Driving.{drives_in, common, Rises, AllRise, IsTableOf, IsTable}
 use Rattle.comb_order.specs.Parts.{IsDesign, spans_in, none_in, are_apart, rows_apart, are_idle, are_undriven, blocks_in}
-use Rattle.comb_order.proofs.Tables.{row_past}
 use Rattle.comb_order.proofs.Edging.{common_bit}
-use Rattle.comb_order.proofs.Flatten.{member_of, is_of}
+use Rattle.comb_order.proofs.Flatten.{member_of}
 use Rattle.comb_order.proofs.Idle.{all_idle}
 use Rattle.comb_order.proofs.Rising.{from_low}
 

@@ -4,10 +4,11 @@ use Rattle.std.specs.declared.vec.Vec.{Vec}
 use Rattle.std.specs.Global.{Global}
 use Rattle.std.proofs.lemmas.Bool.{eqb-true, eqb-false}
 use Rattle.typed_ir.specs.Touches.{has_bit}
+use Rattle.typed_ir.specs.Rows.{row_in}
 use Rattle.typed_ir.proofs.Cases.{by_cases, and_left, only_right}
+use Rattle.typed_ir.proofs.Rows.{row_same, row_other}
 use Rattle.comb_order.specs.declared.drivers.Driver.{Driver}
-use Rattle.comb_order.specs.Driving.{row_in, drives_in, Rises, AllRise}
-use Rattle.comb_order.proofs.Tables.{row_same, row_other}
+use Rattle.comb_order.specs.Driving.{drives_in, Rises, AllRise}
 
 -- ---- a row
 

@@ -6,13 +6,15 @@ use Rattle.std.specs.declared.vec.Vec.{Vec}
 use Rattle.std.specs.Global.{Global}
 use Rattle.std.proofs.lemmas.Bool.{eqb-true, eqb-false, eq-eqb, ne_eqb, ltb-true, lt-ltb, and_from}
 use Rattle.std.proofs.lemmas.List.{length-append, get_or_default}
+use Rattle.typed_ir.specs.Rows.{row_in}
 use Rattle.typed_ir.proofs.Cases.{by_cases, and_left, and_right, left_or, right_or}
 use Rattle.typed_ir.proofs.Masks.{or_nothing}
+use Rattle.typed_ir.proofs.Rows.{row_same, row_other}
 use Rattle.comb_order.specs.Graphs.{times, row_at, rows_of, waiting}
-use Rattle.comb_order.specs.Driving.{row_in, edge, ends_with, IsRow, AreRows}
+use Rattle.comb_order.specs.Driving.{edge, ends_with, IsRow, AreRows}
 use Rattle.comb_order.proofs.Counts.{times-at}
 use Rattle.comb_order.proofs.Released.{times-same, times-other}
-use Rattle.comb_order.proofs.Tables.{rows_row, row_same, row_other}
+use Rattle.comb_order.proofs.Tables.{rows_row}
 
 times_none : (t : ℕ) (row : List ℕ) (b : ℕ) → (t == b) ≡ false → times t (row ++ b ∷ []) ≡ times t row
 times_none t [] b h = times-other t b [] h

@@ -1,5 +1,5 @@
 -- Tables by rows, and the drivers of a signal.
-use Rattle.std.proofs.Common.{◌≡◌, ℕ, zero, suc, ◌+◌, ◌<◌, ◌≤◌, ◌==◌, Bool, true, false, ◌||◌, ◌&&◌, List, [], ◌∷◌, ◌++◌, length, map, take, get_or, set, refl, sym, ◌∙◌, ap, ap₂, arith}
+use Rattle.std.proofs.Common.{◌≡◌, ℕ, zero, suc, ◌+◌, ◌<◌, ◌==◌, Bool, true, false, ◌||◌, ◌&&◌, List, [], ◌∷◌, ◌++◌, length, map, take, get_or, set, refl, sym, ◌∙◌, ap, ap₂, arith}
 use Rattle.std.proofs.Math.Bool.{or-false, or_assoc}
 use Rattle.std.specs.declared.vec.Vec.{Vec}
 use Rattle.std.specs.Global.{Global}
@@ -8,11 +8,13 @@ use Rattle.std.proofs.lemmas.Bool.{eqb-true, eqb-false, ne_eqb}
 use Rattle.typed_ir.specs.Valuations.{Places, nowhere}
 use Rattle.typed_ir.specs.Orders.{at_or}
 use Rattle.typed_ir.specs.Touches.{has_bit}
+use Rattle.typed_ir.specs.Rows.{row_in}
 use Rattle.typed_ir.proofs.Cases.{by_cases, same_suc}
 use Rattle.typed_ir.proofs.Masks.{has_either, or_nothing}
+use Rattle.typed_ir.proofs.Rows.{row_same, row_other}
 use Rattle.comb_order.specs.declared.drivers.Driver.{Driver}
 use Rattle.comb_order.specs.Graphs.{row_at, rows_of}
-use Rattle.comb_order.specs.Driving.{row_in, drives_in}
+use Rattle.comb_order.specs.Driving.{drives_in}
 
 -- ---- rows
 
@@ -20,36 +22,6 @@ pub rows_row : (g : List (Vec ℕ Global)) (k : ℕ) → row_at (rows_of g) k �
 rows_row [] k = refl
 rows_row (r ∷ rs) zero = refl
 rows_row (r ∷ rs) (suc k) = rows_row rs k
-
-pub row_same : {A : Type 0} (table : List (Vec A Global)) (k : ℕ) (r : Vec A Global) → k < length table → row_in (set table k r) k ≡ r.items
-row_same [] k r h = absurd (omega (arith, h))
-row_same (x ∷ xs) zero r h = refl
-row_same (x ∷ xs) (suc k) r h = row_same xs k r (omega (arith, h))
-
-pub row_other : {A : Type 0} (table : List (Vec A Global)) (k s : ℕ) (r : Vec A Global) → (s ≡ k → ⊥) → row_in (set table k r) s ≡ row_in table s
-row_other [] k s r h = refl
-row_other (x ∷ xs) zero zero r h = absurd (h refl)
-row_other (x ∷ xs) zero (suc s) r h = refl
-row_other (x ∷ xs) (suc k) zero r h = refl
-row_other (x ∷ xs) (suc k) (suc s) r h = row_other xs k s r (λ e. h (ap suc e))
-
-pub row_read : {A : Type 0} (table : List (Vec A Global)) (k : ℕ) (r : Vec A Global) → k < length table → row_in table k ≡ (get_or table k r).items
-row_read [] k r h = absurd (omega (arith, h))
-row_read (x ∷ xs) zero r h = refl
-row_read (x ∷ xs) (suc k) r h = row_read xs k r (omega (arith, h))
-
--- past the end there is none
-pub row_past : {A : Type 0} (table : List (Vec A Global)) (k : ℕ) → length table ≤ k → row_in table k ≡ []
-row_past [] k h = refl
-row_past (x ∷ xs) zero h = absurd (omega (arith, h))
-row_past (x ∷ xs) (suc k) h = row_past xs k (omega (arith, h))
-
--- one more empty row
-pub row_more : {A : Type 0} (table : List (Vec A Global)) (r : Vec A Global) → r.items ≡ [] → ((s : ℕ) → row_in table s ≡ []) → (s : ℕ) → row_in (table ++ r ∷ []) s ≡ []
-row_more [] r e h zero = e
-row_more [] r e h (suc s) = refl
-row_more (x ∷ xs) r e h zero = h zero
-row_more (x ∷ xs) r e h (suc s) = row_more xs r e (λ k. h (suc k)) s
 
 -- ---- drivers
 

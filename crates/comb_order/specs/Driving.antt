@@ -1,5 +1,5 @@
 -- The nodes that drive bits of each signal, as the code keeps them, and the edges that they make.
-use Rattle.std.specs.Prelude.{◌≡◌, ℕ, zero, suc, ◌+◌, ◌-◌, ◌<◌, ◌≤◌, ◌%◌, ◌^◌, ◌==◌, Bool, true, false, not, ◌&&◌, ◌||◌, nat_lt, List, [], ◌∷◌, length, bit_and, slice_index}
+use Rattle.std.specs.Prelude.{◌≡◌, ℕ, ◌+◌, ◌-◌, ◌<◌, ◌≤◌, ◌%◌, ◌^◌, ◌==◌, Bool, true, false, not, ◌&&◌, ◌||◌, nat_lt, List, [], ◌∷◌, length, bit_and, slice_index}
 use Rattle.std.specs.declared.vec.Vec.{Vec}
 use Rattle.std.specs.Global.{Global}
 use Rattle.typed_ir.specs.declared.touch.Touch.{Touch}
@@ -7,14 +7,9 @@ use Rattle.typed_ir.specs.Valuations.{Places}
 use Rattle.typed_ir.specs.Nodes.{FlatNode, drives_at, reads_at}
 use Rattle.typed_ir.specs.Orders.{at_or, Precedes}
 use Rattle.typed_ir.specs.Touches.{has_bit, is_block}
+use Rattle.typed_ir.specs.Rows.{row_in}
 use Rattle.comb_order.specs.declared.drivers.Driver.{Driver}
 use Rattle.comb_order.specs.Graphs.{times, row_at, HasEdge}
-
--- a row of a table, empty where there is none
-abbrev pub row_in : {A : Type 0} → List (Vec A Global) → ℕ → List A
-row_in [] k = []
-row_in (r ∷ rs) zero = r.items
-row_in (r ∷ rs) (suc k) = row_in rs k
 
 -- among these drivers of a signal, node a drives its bit i
 abbrev pub drives_in : List Driver → ℕ → ℕ → Bool

@@ -9,9 +9,10 @@ use Rattle.typed_ir.specs.FlatNodes.{node_of}
 use Rattle.typed_ir.specs.Flats.{signal_widths, are_clocked, are_below, are_within, flat_from, IsFlat}
 use Rattle.typed_ir.specs.Orders.{is_member}
 use Rattle.typed_ir.specs.Touches.{is_block}
+use Rattle.typed_ir.specs.Rows.{row_in}
 use Rattle.comb_order.specs.declared.drivers.Driver.{Driver}
 use Rattle.comb_order.specs.declared.parts.Parts.{Parts}
-use Rattle.comb_order.specs.Driving.{row_in, common}
+use Rattle.comb_order.specs.Driving.{common}
 
 -- the parts make a flat design: signals name instances of the table, widths agree, numbers name signals, and all is so that a flat design keeps
 pub record IsDesign (parts : Parts) : Type 0 where

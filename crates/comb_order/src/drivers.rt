@@ -5,7 +5,8 @@ ghost use Rattle.typed_ir.specs.Nodes.{drives_at};
 ghost use Rattle.typed_ir.specs.Touches.{has_bit, touched, Adds};
 ghost use Rattle.typed_ir.specs.Statements.{stmt_of};
 ghost use Rattle.typed_ir.specs.Cycles.{block_writes, writes_at};
-ghost use Rattle.comb_order.specs.Driving.{row_in, drives_in, Rises, AllRise};
+ghost use Rattle.typed_ir.specs.Rows.{row_in};
+ghost use Rattle.comb_order.specs.Driving.{drives_in, Rises, AllRise};
 
 use crate::driver_id::DriverId;
 use no_memory::NoMemory;

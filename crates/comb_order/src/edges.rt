@@ -2,8 +2,9 @@
 ghost use Rattle.std.specs.Prelude.{◌≡◌, ◌<◌, ◌^◌, ◌==◌, ◌&&◌, ◌||◌, not, nat_lt, ℕ, [], IfOk, length, map};
 ghost use Rattle.typed_ir.specs.FlatNodes.{node_of};
 ghost use Rattle.typed_ir.specs.Touches.{is_block};
+ghost use Rattle.typed_ir.specs.Rows.{row_in};
 ghost use Rattle.comb_order.specs.Graphs.{times, rows_of, row_at};
-ghost use Rattle.comb_order.specs.Driving.{row_in, common, drives_some, drives_any, edge, ends_with, IsRow, AreRows, IsTable, IsPlain, IsGraph};
+ghost use Rattle.comb_order.specs.Driving.{common, drives_some, drives_any, edge, ends_with, IsRow, AreRows, IsTable, IsPlain, IsGraph};
 
 use crate::drivers::Driver;
 use no_memory::NoMemory;

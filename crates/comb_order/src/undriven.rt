@@ -1,6 +1,5 @@
 // Whether a bit has two drivers, and whether signals have none.
 ghost use Rattle.std.specs.Prelude.{◌≡◌};
-ghost use Rattle.comb_order.specs.Driving.{row_in};
 ghost use Rattle.comb_order.specs.Parts.{are_apart, rows_apart, is_idle, are_idle, are_undriven};
 
 use crate::drivers::Driver;

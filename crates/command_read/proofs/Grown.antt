@@ -4,6 +4,7 @@ use Rattle.std.proofs.lemmas.List.Elements.{All-head, All-tail, All-weaker}
 use Rattle.std.specs.List.{All}
 use Rattle.std.specs.Option.{option_map}
 use Rattle.ls_text.specs.Texts.{Grows, text_at}
+use Rattle.ls_text.specs.TextViews.{text_of}
 use Rattle.ls_text.proofs.Growth.{grown_id, grown_text}
 use Rattle.ls_text.specs.declared.name_id.NameId.{NameId}
 use Rattle.reg_ops.specs.declared.reg_op.RegOp.{RegOp}
@@ -16,7 +17,7 @@ use Rattle.command_read.specs.declared.op_line.OpLine.{OpLine}
 use Rattle.command_read.specs.declared.open_text.OpenText.{OpenText}
 use Rattle.command_read.specs.declared.draft.Draft.{Draft}
 use Rattle.command_read.specs.Asking.{GivenFile, LoadedFile, LineOperation, Block}
-use Rattle.command_read.specs.Spoken.{name_of, setting, given_file, loaded_file, line_operation, open_file, drafted, IsWithin, AreFilesWithin, AreLoadsWithin, AreOpsWithin, IsDraftWithin}
+use Rattle.command_read.specs.Spoken.{setting, given_file, loaded_file, line_operation, open_file, drafted, IsWithin, AreFilesWithin, AreLoadsWithin, AreOpsWithin, IsDraftWithin}
 
 -- what holds of each element makes two maps the same
 pub same_map : {X Y : Type 0} (P : X → Type 0) (f g : X → Y) (xs : List X) → ((x : X) → P x → g x ≡ f x) → All P xs → map g xs ≡ map f xs
@@ -56,7 +57,7 @@ module _ (old new : List (List ℕ)) (g : Grows old new) where
   grown_names (Create m reg value) within = (grown_id old new m.0 g within.0, grown_id old new reg.0 g within.1)
   grown_names (Delete m reg) within = (grown_id old new m.0 g within.0, grown_id old new reg.0 g within.1)
 
-  grown_some : (name : Option NameId) → IsWithin (length old) name → option_map (name_of new) name ≡ option_map (name_of old) name
+  grown_some : (name : Option NameId) → IsWithin (length old) name → option_map (text_of new) name ≡ option_map (text_of old) name
   grown_some None within = refl
   grown_some (Some id) within = ap Some (grown_text old new id.0 g within)
 
@@ -94,11 +95,11 @@ module _ (old new : List (List ℕ)) (g : Grows old new) where
       = λ t c fs ls os. record { line = d.line; top = t; clock = c; files = fs; loads = ls; ops = os } in
       let fs = d.files.given.items in
       let ls = d.files.loaded.items in
-      ap (λ t. made t (option_map (name_of new) d.clock) (map (given_file new) fs) (map (loaded_file new) ls) (map (line_operation new) d.ops.items)) (grown_some d.top all.tops)
-      ∙ ap (λ c. made (option_map (name_of old) d.top) c (map (given_file new) fs) (map (loaded_file new) ls) (map (line_operation new) d.ops.items)) (grown_some d.clock all.clocks)
-      ∙ ap (λ xs. made (option_map (name_of old) d.top) (option_map (name_of old) d.clock) xs (map (loaded_file new) ls) (map (line_operation new) d.ops.items)) (grown_given fs all.given)
-      ∙ ap (λ xs. made (option_map (name_of old) d.top) (option_map (name_of old) d.clock) (map (given_file old) fs) xs (map (line_operation new) d.ops.items)) (grown_loaded ls all.loaded)
-      ∙ ap (λ xs. made (option_map (name_of old) d.top) (option_map (name_of old) d.clock) (map (given_file old) fs) (map (loaded_file old) ls) xs) (grown_ops d.ops.items all.operations)
+      ap (λ t. made t (option_map (text_of new) d.clock) (map (given_file new) fs) (map (loaded_file new) ls) (map (line_operation new) d.ops.items)) (grown_some d.top all.tops)
+      ∙ ap (λ c. made (option_map (text_of old) d.top) c (map (given_file new) fs) (map (loaded_file new) ls) (map (line_operation new) d.ops.items)) (grown_some d.clock all.clocks)
+      ∙ ap (λ xs. made (option_map (text_of old) d.top) (option_map (text_of old) d.clock) xs (map (loaded_file new) ls) (map (line_operation new) d.ops.items)) (grown_given fs all.given)
+      ∙ ap (λ xs. made (option_map (text_of old) d.top) (option_map (text_of old) d.clock) (map (given_file old) fs) xs (map (line_operation new) d.ops.items)) (grown_loaded ls all.loaded)
+      ∙ ap (λ xs. made (option_map (text_of old) d.top) (option_map (text_of old) d.clock) (map (given_file old) fs) (map (loaded_file old) ls) xs) (grown_ops d.ops.items all.operations)
 
   -- and its names are ones of the later table
   pub grown_within : (d : Draft) → IsDraftWithin (length old) d → IsDraftWithin (length new) d

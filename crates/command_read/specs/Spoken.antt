@@ -3,6 +3,7 @@ use Rattle.std.specs.Prelude.{◌≡◌, ℕ, ◌<◌, List, map, Option, IfSome
 use Rattle.std.specs.Option.{option_map}
 use Rattle.std.specs.List.{All}
 use Rattle.ls_text.specs.Texts.{text_at}
+use Rattle.ls_text.specs.TextViews.{text_of}
 use Rattle.ls_text.specs.Readings.{TextFault, fault_view}
 use Rattle.ls_text.specs.declared.name_id.NameId.{NameId}
 use Rattle.ls_text.specs.declared.refusal.Refusal.{Refusal}
@@ -22,9 +23,6 @@ use Rattle.command_read.specs.declared.draft.Draft.{Draft}
 use Rattle.command_read.specs.Asking.{GivenFile, LoadedFile, LineOperation, Block, Asked, Edits, Sets, Runs, Shows, Settles, AsksStatus, Quits}
 use Rattle.command_read.specs.Blocks.{Entry, Skipped, Top, Clock, Gives, Loads, Operates, Reading}
 
-abbrev pub name_of : List (List ℕ) → NameId → List ℕ
-name_of names id = text_at names id.0
-
 abbrev pub given_file : List (List ℕ) → FileLine → GivenFile
 given_file names f = record { line = f.line; name = text_at names f.file.name.0; text = f.file.text }
 
@@ -40,8 +38,8 @@ setting names v = (text_at names v.port.0, v.value)
 abbrev pub edited : List (List ℕ) → EditBlock → Block
 edited names e = record {
   line = e.line;
-  top = option_map (name_of names) e.top;
-  clock = option_map (name_of names) e.clock;
+  top = option_map (text_of names) e.top;
+  clock = option_map (text_of names) e.clock;
   files = map (given_file names) e.files;
   loads = map (loaded_file names) e.loads;
   ops = map (line_operation names) e.ops;
@@ -96,10 +94,10 @@ IsFault names refusal.NoMemory fault = ⊤
 -- what a line of a block says
 abbrev pub entry : List (List ℕ) → BlockLine → Entry
 entry names said.Skipped = Skipped
-entry names (said.Top name) = Top (name_of names name)
-entry names (said.Clock name) = Clock (name_of names name)
-entry names (said.File name) = Gives (name_of names name)
-entry names (said.Load name) = Loads (name_of names name)
+entry names (said.Top name) = Top (text_of names name)
+entry names (said.Clock name) = Clock (text_of names name)
+entry names (said.File name) = Gives (text_of names name)
+entry names (said.Load name) = Loads (text_of names name)
 entry names (said.Op op) = Operates (operation names op)
 
 abbrev pub IsEntryWithin : ℕ → BlockLine → Type 0
@@ -118,8 +116,8 @@ open_file names t = record { line = t.line; name = text_at names t.name.0; text 
 abbrev pub drafted : List (List ℕ) → Draft → Block
 drafted names d = record {
   line = d.line;
-  top = option_map (name_of names) d.top;
-  clock = option_map (name_of names) d.clock;
+  top = option_map (text_of names) d.top;
+  clock = option_map (text_of names) d.clock;
   files = map (given_file names) d.files.given.items;
   loads = map (loaded_file names) d.files.loaded.items;
   ops = map (line_operation names) d.ops.items;

@@ -2,12 +2,13 @@
 ghost use Rattle.std.specs.Prelude.{◌≡◌, ◌<◌, length, IfOk, IfErr, ℕ, List};
 ghost use Rattle.std.specs.Option.{option_map};
 ghost use Rattle.ls_text.specs.Texts.{Grows, text_at};
+ghost use Rattle.ls_text.specs.TextViews.{text_of};
 ghost use Rattle.ls_text.specs.Readings.{CanShow, Gives};
 ghost use Rattle.reg_ops.specs.Operations.{operation, HasNames, Renames, Creates, Deletes};
 ghost use Rattle.command_read.specs.Lines.{words};
 ghost use Rattle.command_read.specs.Values.{created_of};
 ghost use Rattle.command_read.specs.Blocks.{just_file, just_name, renamed, rename_entry, create_entry, delete_entry, entry_of, block_entry};
-ghost use Rattle.command_read.specs.Spoken.{entry, name_of, IsEntryWithin};
+ghost use Rattle.command_read.specs.Spoken.{entry, IsEntryWithin};
 
 use crate::block_line::BlockLine;
 use crate::faults::{showing, wordless};
@@ -19,7 +20,7 @@ use std::alloc::Global;
 
 // NAME.
 fn read_name(alloc: Global, names: &mut Names, line: u64, rest: &[u8]) -> Result<NameId, Refusal>
-    ensures gives { Gives names.new (name_of names.new) result (just_name line (words rest.now)) }
+    ensures gives { Gives names.new (text_of names.new) result (just_name line (words rest.now)) }
     ensures within { IfOk result (λ id. id.0 < length names.new) }
     ensures named { IfErr result (CanShow (length names.new)) }
     ensures grows { Grows names.old names.new }
@@ -36,7 +37,7 @@ fn read_name(alloc: Global, names: &mut Names, line: u64, rest: &[u8]) -> Result
 
 // FILE.
 fn read_file(alloc: Global, names: &mut Names, line: u64, rest: &[u8]) -> Result<NameId, Refusal>
-    ensures gives { Gives names.new (name_of names.new) result (just_file line (words rest.now)) }
+    ensures gives { Gives names.new (text_of names.new) result (just_file line (words rest.now)) }
     ensures within { IfOk result (λ id. id.0 < length names.new) }
     ensures named { IfErr result (CanShow (length names.new)) }
     ensures grows { Grows names.old names.new }

@@ -5,3 +5,4 @@ pub mod Placed
 pub mod Endings
 pub mod Standing
 pub mod ChildWidths
+pub mod Items

@@ -154,7 +154,7 @@ once c s i first scope (shape ∷ ss) (x ∷ xs) = by_cases (first == c)
 
 -- ---- all nodes of an instance
 
-each_port : (P : UnitNode → Type 0) (Q : Connected → Type 0) (scope : Scope) (d : ℕ) → ((x : Connected) → Q x → P (connection_node scope d x))
+pub each_port : (P : UnitNode → Type 0) (Q : Connected → Type 0) (scope : Scope) (d : ℕ) → ((x : Connected) → Q x → P (connection_node scope d x))
     → (cs : List Connected) → Each Q cs → (k : ℕ) (ps : List PortShape) → Each P (nodes_in (port_items scope d cs k ps))
 each_port P Q scope d node cs all k [] = tt
 each_port P Q scope d node cs all k (p ∷ ps) =

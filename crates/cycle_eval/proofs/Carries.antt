@@ -21,6 +21,3 @@ push_step f rs i old new b h here e =
     ∙ append_assoc (map sized_value old) (sized_value b ∷ []) (map f (drop (i + 1) rs))
     ∙ ap (λ z. map sized_value old ++ z ∷ map f (drop (i + 1) rs)) here
     ∙ sym (ap (λ zs. map sized_value old ++ map f zs) (drop_split rs i 0 h))
-
-abbrev pub pair : ℕ → ℕ → ℕ × ℕ
-pair w x = (w, x)

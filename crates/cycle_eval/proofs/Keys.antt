@@ -6,10 +6,11 @@ use Rattle.typed_ir.specs.declared.flat.Flat.{Flat}
 use Rattle.typed_ir.specs.declared.instance_name.InstanceName.{InstanceName}
 use Rattle.typed_ir.specs.declared.signal.Signal.{Signal}
 use Rattle.typed_ir.specs.Cycles.{Signal as FlatSignal, Flat as FlatDesign, width_at}
-use Rattle.typed_ir.specs.Flats.{signal_of, signal_widths}
+use Rattle.typed_ir.specs.Flats.{signal_of}
 use Rattle.typed_ir.specs.Linkeds.{flat}
 use Rattle.typed_ir.specs.Orders.{at_or}
 use Rattle.typed_ir.specs.Paths.{paths_of}
+use Rattle.typed_ir.proofs.Widths.{widths_stay}
 use Rattle.reg_transform.specs.Registers.{Register, widths_of}
 use Rattle.reg_transform.specs.Regs.{register_of as row_register, register_at as row_register_at}
 use Rattle.reg_transform.specs.States.{paired}
@@ -21,20 +22,16 @@ use Rattle.reg_transform.specs.Beginnings.{initial_in}
 
 -- ---- widths and values at the beginning
 
-widths_are : (rows : List InstanceName) (xs : List Signal) → map (λ (x : FlatSignal). x.width) (map (signal_of rows) xs) ≡ signal_widths xs
-widths_are rows [] = refl
-widths_are rows (x ∷ xs) = ap (λ ws. x.width ∷ ws) (widths_are rows xs)
-
 initials_are : (rows : List InstanceName) (xs : List Signal) → map (λ (x : FlatSignal). x.initial) (map (signal_of rows) xs) ≡ map (λ (x : Signal). x.initial) xs
 initials_are rows [] = refl
 initials_are rows (x ∷ xs) = ap (λ ns. x.initial ∷ ns) (initials_are rows xs)
 
 pub register_widths_are : (f : Flat) → register_widths (flat f) ≡ map (width_in f.signals.items) f.registers.items
-register_widths_are f = ap (λ (ws : List ℕ). map (λ s. slice_index ws s) f.registers.items) (widths_are f.instances.rows.items f.signals.items)
+register_widths_are f = ap (λ (ws : List ℕ). map (λ s. slice_index ws s) f.registers.items) (widths_stay f.instances.rows.items f.signals.items)
 
 pub begun : (f : Flat) → paired (map (width_in f.signals.items) f.registers.items) (map (initial_in f.signals.items) f.registers.items) ≡ reset_of (flat f)
 begun f = sym (ap₂ (λ (ws ns : List ℕ). paired (map (λ s. slice_index ws s) f.registers.items) (map (λ s. slice_index ns s) f.registers.items))
-    (widths_are f.instances.rows.items f.signals.items) (initials_are f.instances.rows.items f.signals.items))
+    (widths_stay f.instances.rows.items f.signals.items) (initials_are f.instances.rows.items f.signals.items))
 
 -- ---- registers
 

@@ -8,8 +8,8 @@ use Rattle.typed_ir.specs.Cycles.{fill}
 use Rattle.typed_ir.proofs.Cases.{by_cases}
 use Rattle.typed_ir.proofs.Lists.{drop_split}
 use Rattle.reg_transform.specs.States.{paired, state_values}
+use Rattle.reg_transform.proofs.Values.{pair}
 use Rattle.state_layout.specs.Slots.{state_widths}
-use Rattle.cycle_eval.proofs.Carries.{pair}
 
 -- one more register filled, from the end
 pub fill_step : (rs xs : List ℕ) (i : ℕ) (start env : Valuation) (r x : ℕ) → i < length rs → i < length xs → r ≡ get_or rs i 0 → x ≡ get_or xs i 0

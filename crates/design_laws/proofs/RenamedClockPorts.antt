@@ -16,16 +16,16 @@ use Rattle.width_rules.specs.Scopes.{Scope}
 use Rattle.gen_unroll.specs.Reaches.{Reach, in_reach}
 use Rattle.gen_unroll.specs.Steps.{ModuleStep, Listed, Port, Parameter, Item, Labelled, Opened, Closed}
 use Rattle.ls_text.specs.Answers.{◌>>=◌}
-use Rattle.module_names.specs.Listings.{is_listed}
+use Rattle.module_names.specs.Listings.{is_listed, names_behind}
 use Rattle.module_names.specs.Modules.{module_named, port_name, header_ports}
-use Rattle.clock_rules.specs.Clocks.{clock_free, declared_free, reg_free, assignment_free, take_clock, connect, connection, clock_by_name, next_port, ports_behind, clock_by_order, clock_of, clocks_of, clocks_in, unless_misused, clock_item}
+use Rattle.clock_rules.specs.Clocks.{clock_free, declared_free, reg_free, assignment_free, take_clock, connect, connection, clock_by_name, next_port, clock_by_order, clock_of, clocks_of, clocks_in, unless_misused, clock_item}
 use Rattle.elaborate.specs.Clocks.{clock_step, clock_steps, is_one_bit_input, own_port, own_clock, declared_port, top_clock}
 use Rattle.elaborate.specs.Tables.{Table}
 use Rattle.design_laws.specs.Findings.{clock_as, table_as}
 use Rattle.design_laws.specs.Renaming.{KeepsApart, SameReach, number_as, found_as, answer_as, step_as}
 use Rattle.design_laws.proofs.RenamedAnswers.{bind_so, found_so, value_so, if_found, if_answer}
 use Rattle.design_laws.proofs.RenamedClocks.{same_clock, same_posedge, same_free, same_all, same_statement, same_value_free, same_assignment, same_port}
-use Rattle.design_laws.proofs.RenamedModules.{same_listed, same_named, same_port_name, same_ports, same_input_of}
+use Rattle.design_laws.proofs.RenamedModules.{same_behind, same_listed, same_named, same_port_name, same_ports, same_input_of}
 use Rattle.design_laws.proofs.RenamedNames.{same_reach, same_number}
 use Rattle.design_laws.proofs.RenamedTables.{same_declared}
 
@@ -74,10 +74,6 @@ next_port_so : (f : NameId → NameId) (ps : List Identifier) → next_port (map
 next_port_so f [] = refl
 next_port_so f (p ∷ ps) = refl
 
-behind_so : (f : NameId → NameId) (ps : List Identifier) → ports_behind (map (renamed_identifier f) ps) ≡ map (renamed_identifier f) (ports_behind ps)
-behind_so f [] = refl
-behind_so f (p ∷ ps) = refl
-
 by_order_so : (f : NameId → NameId) (m : ModuleDeclaration) (scope other : Scope) (ps : List Identifier) (xs : List ConnectionByOrder) (k : Option ℕ) → KeepsApart f → MeansSame f scope other
     → clock_by_order (declaration_as f m) other (map (renamed_identifier f) ps) (map (by_order_as f) xs) (clock_as f k) ≡ found_as f (clock_as f) (clock_by_order m scope ps xs k)
 by_order_so f m scope other ps [] k apart same = refl
@@ -85,8 +81,8 @@ by_order_so f m scope other ps (x ∷ xs) k apart same =
     found_so f (clock_as f) (clock_as f) _ _ _ _
     (ap (λ (p : Option Identifier). connection (declaration_as f m) other p (option_map (expression_as f) x.value) (clock_as f k)) (next_port_so f ps)
     ∙ connection_so f m scope other (next_port ps) x.value k apart same)
-    (λ next. ap (λ (qs : List Identifier). clock_by_order (declaration_as f m) other qs (map (by_order_as f) xs) (clock_as f next)) (behind_so f ps)
-    ∙ by_order_so f m scope other (ports_behind ps) xs next apart same)
+    (λ next. ap (λ (qs : List Identifier). clock_by_order (declaration_as f m) other qs (map (by_order_as f) xs) (clock_as f next)) (same_behind f ps)
+    ∙ by_order_so f m scope other (names_behind ps) xs next apart same)
 
 clock_of_so : (f : NameId → NameId) (m : ModuleDeclaration) (scope other : Scope) (xs : ConnectionList) → KeepsApart f → MeansSame f scope other
     → clock_of (declaration_as f m) other (connections_as f xs) ≡ found_as f (clock_as f) (clock_of m scope xs)

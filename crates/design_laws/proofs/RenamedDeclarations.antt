@@ -39,7 +39,7 @@ each_so f moved step steps is (x ∷ xs) c =
 
 -- ---- ranges
 
-range_so : (f : NameId → NameId) (scope other : Scope) (r : Option RangeBounds) → MeansSame f scope other
+pub range_so : (f : NameId → NameId) (scope other : Scope) (r : Option RangeBounds) → MeansSame f scope other
     → range_or_none other (option_map (range_as f) r) ≡ answer_as f (range_or_none scope r)
 range_so f scope other None same = refl
 range_so f scope other (Some r) same = bind_so f _ _ _ _ (same_range_value f scope other r same) (λ b. refl)

@@ -4,15 +4,19 @@ use Rattle.std.proofs.lemmas.List.{map-append}
 use Rattle.std.specs.Option.{option_map}
 use Rattle.ls_text.specs.declared.name_id.NameId.{NameId}
 use Rattle.verilog_ast.specs.declared.identifier.Identifier.{Identifier}
-use Rattle.verilog_ast.specs.Declarations.{PortDeclaration, InputPort, OutputPort, NextPort, PortList, NoPorts, NamedPorts, DeclaredPorts, assigned_name}
+use Rattle.verilog_ast.specs.Declarations.{PortDeclaration, InputPort, OutputPort, NextPort, PortList, NoPorts, NamedPorts, DeclaredPorts, assigned_name, header_parameter_name}
 use Rattle.verilog_ast.specs.Items as i
 use Rattle.verilog_ast.specs.Items.{ModuleItem, ModuleDeclaration}
 use Rattle.verilog_ast.specs.Renamed.{renamed_identifier}
 use Rattle.verilog_ast.specs.Renaming.{parameter_as, header_parameter_as, port_as, ports_as, item_as, declaration_as}
-use Rattle.module_names.specs.Listings.{is_listed}
-use Rattle.module_names.specs.Modules.{module_named, header_parameter_name, item_parameters, parameters_of, port_name, header_ports, is_input, name_if, declared_inputs, header_inputs, item_inputs, inputs_of, is_input_of}
+use Rattle.module_names.specs.Listings.{is_listed, names_behind}
+use Rattle.module_names.specs.Modules.{module_named, item_parameters, parameters_of, port_name, header_ports, is_input, name_if, declared_inputs, header_inputs, item_inputs, inputs_of, is_input_of}
 use Rattle.design_laws.specs.Renaming.{KeepsApart, number_as}
 use Rattle.design_laws.proofs.RenamedNames.{names_so, same_number}
+
+pub same_behind : (f : NameId → NameId) (ns : List Identifier) → names_behind (map (renamed_identifier f) ns) ≡ map (renamed_identifier f) (names_behind ns)
+same_behind f [] = refl
+same_behind f (n ∷ ns) = refl
 
 -- ---- by name
 

@@ -13,12 +13,13 @@ use Rattle.width_rules.specs.Renaming.{MeansSame, fault_as}
 use Rattle.width_rules.specs.Scopes.{Scope}
 use Rattle.width_rules.proofs.RenamedFaults.{fault_of_so}
 use Rattle.gen_unroll.specs.Values.{ConstantValue}
+use Rattle.module_names.specs.Listings.{names_behind}
 use Rattle.clock_rules.specs.Connections.{named, name_more, all_named, too_many, all_ordered, is_missing, is_empty_place, connected}
-use Rattle.elaborate.specs.Overrides.{if_left, one_by_order, names_behind, by_order, Given, given_to, if_none, if_free, one_by_name, by_name, value_given, overridden}
+use Rattle.elaborate.specs.Overrides.{if_left, one_by_order, by_order, Given, given_to, if_none, if_free, one_by_name, by_name, value_given, overridden}
 use Rattle.design_laws.specs.Findings.{given_as}
 use Rattle.design_laws.specs.Renaming.{KeepsApart, number_as, found_as, answer_as}
 use Rattle.design_laws.proofs.RenamedAnswers.{bind_so, found_so, value_so, plain_so, if_answer, if_found}
-use Rattle.design_laws.proofs.RenamedModules.{same_listed}
+use Rattle.design_laws.proofs.RenamedModules.{same_behind, same_listed}
 use Rattle.design_laws.proofs.RenamedNames.{same_number}
 use Rattle.design_laws.proofs.RenamedValues.{same_evaluated}
 
@@ -34,16 +35,12 @@ one_by_order_so : (f : NameId → NameId) (scope other : Scope) (ns : List Ident
 one_by_order_so f scope other ns None same = refl
 one_by_order_so f scope other ns (Some e) same = bind_so f _ _ _ _ (same_evaluated f scope other e same) (λ v. if_left_so f ns e v)
 
-behind_so : (f : NameId → NameId) (ns : List Identifier) → names_behind (map (renamed_identifier f) ns) ≡ map (renamed_identifier f) (names_behind ns)
-behind_so f [] = refl
-behind_so f (n ∷ ns) = refl
-
 by_order_so : (f : NameId → NameId) (scope other : Scope) (ns : List Identifier) (xs : List ConnectionByOrder) (vs : List (Option ConstantValue)) → MeansSame f scope other
     → by_order other (map (renamed_identifier f) ns) (map (by_order_as f) xs) vs ≡ answer_as f (by_order scope ns xs vs)
 by_order_so f scope other ns [] vs same = refl
 by_order_so f scope other ns (x ∷ xs) vs same =
     bind_so f _ _ _ _ (one_by_order_so f scope other ns x.value same)
-    (λ v. ap (λ (ms : List Identifier). by_order other ms (map (by_order_as f) xs) (vs ++ v ∷ [])) (behind_so f ns)
+    (λ v. ap (λ (ms : List Identifier). by_order other ms (map (by_order_as f) xs) (vs ++ v ∷ [])) (same_behind f ns)
     ∙ by_order_so f scope other (names_behind ns) xs (vs ++ v ∷ []) same)
 
 -- ---- overrides by name

@@ -1,5 +1,5 @@
 -- Constants, ranges and types of parameters under other names: the same values, and the same faults with their other names.
-use Rattle.std.proofs.Common.{◌≡◌, ℕ, nat_lt, Bool, not, List, [], ◌∷◌, map, Option, Some, None, refl, ◌∙◌, ap, ap₂}
+use Rattle.std.proofs.Common.{◌≡◌, nat_lt, Bool, not, List, [], ◌∷◌, map, Option, Some, None, refl, ◌∙◌, ap, ap₂}
 use Rattle.std.specs.Option.{option_map}
 use Rattle.ls_text.specs.declared.fault.Fault.{Fault}
 use Rattle.ls_text.specs.declared.name_id.NameId.{NameId}
@@ -13,8 +13,10 @@ use Rattle.width_rules.specs.Renaming.{MeansSame, fault_as}
 use Rattle.width_rules.specs.Scopes.{Scope}
 use Rattle.width_rules.proofs.RenamedSizes.{same_sign, same_length, same_value, same_worth}
 use Rattle.width_rules.proofs.RenamedFaults.{both_so, if_so, fault_of_so, same_between, same_faults}
-use Rattle.gen_unroll.specs.Declarations.{BitRange, is_range, lower_bound, range_faults, range_value, parameter_type, typed_by}
-use Rattle.gen_unroll.specs.Values.{ConstantValue, unless, evaluated}
+use Rattle.gen_unroll.specs.Declarations.{is_range, lower_bound, range_faults, range_value, parameter_type, typed_by}
+use Rattle.gen_unroll.specs.Values.{unless, evaluated}
+use Rattle.gen_unroll.proofs.Values.{constant_so}
+use Rattle.gen_unroll.proofs.Bounds.{range_with}
 use Rattle.design_laws.specs.Renaming.{answer_as}
 use Rattle.design_laws.proofs.RenamedAnswers.{bind_so}
 
@@ -28,12 +30,6 @@ unless_so : {A : Type 0} (f : NameId → NameId) (xs ys : List Fault) (x y : A) 
 unless_so {A} f xs ys x y faults values = ap₂ (λ (zs : List Fault) (z : A). unless zs z) faults values ∙ unless_moves f xs x
 
 -- ---- constants
-
-abbrev value_with : ℕ → ℕ → Bool → ConstantValue
-value_with width value signed = record { width = width; value = value; signed = signed }
-
-constant_so : (k l v w : ℕ) (s t : Bool) → l ≡ k → w ≡ v → t ≡ s → value_with l w t ≡ value_with k v s
-constant_so k l v w s t lengths values signs = ap₂ (λ (a b : ℕ). value_with a b t) lengths values ∙ ap (value_with k v) signs
 
 pub same_evaluated : (f : NameId → NameId) (scope other : Scope) (e : Expression) → MeansSame f scope other → evaluated other (expression_as f e) ≡ answer_as f (evaluated scope e)
 unfolding evaluated
@@ -55,9 +51,6 @@ same_range_faults f scope other r same =
     (both_so f _ _ _ _ (same_faults f scope other ConstantOnly r.low same)
     (both_so f _ _ _ _ (if_so f _ _ _ (fault_of 26 r.high) (ap not (same_is_range f scope other r same)) (fault_of_so f 26 r.high))
     (if_so f _ _ _ (fault_of 31 r.high) (ap (nat_lt 128) (same_between f scope other r.high r.low same)) (fault_of_so f 31 r.high))))
-
-abbrev range_with : ℕ → ℕ → BitRange
-range_with width low = record { width = width; low = low }
 
 pub same_range_value : (f : NameId → NameId) (scope other : Scope) (r : RangeBounds) → MeansSame f scope other → range_value other (range_as f r) ≡ answer_as f (range_value scope r)
 unfolding range_value

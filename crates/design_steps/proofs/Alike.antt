@@ -14,7 +14,7 @@ use Rattle.word_steps.specs.declared.op.Op.TheVariants.{Copy, Select, Choose, Jo
 use Rattle.step_layout.proofs.Testing.{Asks, asks}
 use Rattle.typed_ir.specs.declared.comparison.Comparison.{Comparison}
 use Rattle.typed_ir.specs.declared.binary_operator.BinaryOperator.TheVariants.{Compare}
-use Rattle.typed_ir.proofs.Lists.{each_left, each_right}
+use Rattle.typed_ir.proofs.Lists.{joined_so, each_left, each_right}
 use Rattle.step_layout.specs.Plans.{Plan, width_at}
 use Rattle.step_layout.specs.Expressions.{step, is_wide, unary_op, binary_op, swaps, locate_op, resize_op, resize_low, is_plain, operand, before, code}
 use Rattle.step_layout.specs.Statements.{signal_of, is_direct, part_code, parts_code, one_code, assign_code, pass_over, branch, Test, Truth, Pair, test_of, test_code, condition, subject_at, item_at, item_code, tests, stmt_code, arms_code}
@@ -23,10 +23,7 @@ use Rattle.design_steps.proofs.Written.{span_there, within_own}
 -- ---- plain facts
 
 three_same : {a b c x y z : List Step} → a ≡ x → b ≡ y → c ≡ z → (a ++ b) ++ c ≡ (x ++ y) ++ z
-three_same e f g = ap₂ (λ (xs ys : List Step). xs ++ ys) (ap₂ (λ (xs ys : List Step). xs ++ ys) e f) g
-
-two_same : {a b x y : List Step} → a ≡ x → b ≡ y → a ++ b ≡ x ++ y
-two_same e f = ap₂ (λ (xs ys : List Step). xs ++ ys) e f
+three_same e f g = joined_so (joined_so e f) g
 
 branch_same : (test other : ℕ → List Step) (xs ys xs' ys' : List Step) → ((past : ℕ) → test past ≡ other past) → xs ≡ xs' → ys ≡ ys'
     → branch test xs ys ≡ branch other xs' ys'
@@ -107,7 +104,7 @@ module _ (l : Plan) (f : ℕ → ℕ) where
         index_fits : (signal : ℕ) (index : Sized) → fits_signals (Pick signal width below signed index) l.widths ≡ true → fits_signals index l.widths ≡ true
         index_fits signal index t = and_right _ (fits_signals index l.widths) t
     code_same (Unary op a) to mark t h =
-        two_same (before_same a mark (code (moved l f) a mark mark) (code l a mark mark) t h (code_same a mark mark t h))
+        joined_so (before_same a mark (code (moved l f) a mark mark) (code l a mark mark) t h (code_same a mark mark t h))
         (ap (λ k. step (unary_op op) (width_of a) 0 (is_wide (unary_op op) (width_of a)) to k 0 0 ∷ []) (operand_same a mark h))
     code_same (Binary op a b) to mark t h =
         let ta = and_left (fits_signals a l.widths) (fits_signals b l.widths) t in
@@ -128,7 +125,7 @@ module _ (l : Plan) (f : ℕ → ℕ) where
         let ha = first (reads a) (reads b) hab in
         let hb = second (reads a) (reads b) hab in
         three_same
-        (two_same (before_same c mark (code (moved l f) c mark mark) (code l c mark mark) tc hc (code_same c mark mark tc hc))
+        (joined_so (before_same c mark (code (moved l f) c mark mark) (code l c mark mark) tc hc (code_same c mark mark tc hc))
         (before_same a (mark + 1) (code (moved l f) a (mark + 1) (mark + 1)) (code l a (mark + 1) (mark + 1)) ta ha (code_same a (mark + 1) (mark + 1) ta ha)))
         (before_same b (mark + 1 + 1) (code (moved l f) b (mark + 1 + 1) (mark + 1 + 1)) (code l b (mark + 1 + 1) (mark + 1 + 1)) tb hb
         (code_same b (mark + 1 + 1) (mark + 1 + 1) tb hb))
@@ -145,10 +142,10 @@ module _ (l : Plan) (f : ℕ → ℕ) where
         (before_same b (mark + 1) (code (moved l f) b (mark + 1) (mark + 1)) (code l b (mark + 1) (mark + 1)) tb hb (code_same b (mark + 1) (mark + 1) tb hb))
         (ap₂ (λ (x y : ℕ). step Join width (width_of b) (is_wide Join width) to x y 0 ∷ []) (operand_same a mark ha) (operand_same b (mark + 1) hb))
     code_same (Repeat width count a) to mark t h =
-        two_same (before_same a mark (code (moved l f) a mark mark) (code l a mark mark) t h (code_same a mark mark t h))
+        joined_so (before_same a mark (code (moved l f) a mark mark) (code l a mark mark) t h (code_same a mark mark t h))
         (ap (λ k. step Product width 0 (is_wide Product width) to k (l.place (copies count (width_of a) 1)) 0 ∷ []) (operand_same a mark h))
     code_same (Resized a width signed) to mark t h =
-        two_same (before_same a mark (code (moved l f) a mark mark) (code l a mark mark) t h (code_same a mark mark t h))
+        joined_so (before_same a mark (code (moved l f) a mark mark) (code l a mark mark) t h (code_same a mark mark t h))
         (ap (λ k. step (resize_op (width_of a) width signed) width (resize_low (width_of a) width signed) (is_wide (resize_op (width_of a) width signed) (max (width_of a) width))
         to k 0 0 ∷ []) (operand_same a mark h))
 
@@ -169,8 +166,8 @@ module _ (l : Plan) (f : ℕ → ℕ) where
   part_same (Moving reach index) to from here mark t h =
       let rest = first (reads index) (λ s i. false) h in
       let sized = and_right (is_signal reach.signal reach.total l.widths) (is_sized index l.widths) (and_right _ (is_signal reach.signal reach.total l.widths && is_sized index l.widths) t) in
-      two_same
-      (two_same (two_same (put_same index mark sized rest)
+      joined_so
+      (joined_so (joined_so (put_same index mark sized rest)
       (ap (λ k. step (locate_op reach.signed) (width_of index) 0 true mark k (l.place reach.below) 0 ∷ []) (operand_same index mark rest)))
       refl) refl
 
@@ -190,7 +187,7 @@ module _ (l : Plan) (f : ℕ → ℕ) where
         → parts_code (moved l f) other ts from here mark ≡ parts_code l home ts from here mark
     parts_same [] from here mark t h k = refl
     parts_same (x ∷ ts) from here mark t h k =
-        two_same
+        joined_so
         (ap (λ to. part_code (moved l f) to x from here mark) k.0
         ∙ part_same x (home (signal_of x)) from here mark (and_left (is_target x l.widths) (are_targets ts l.widths) t) (index_first x ts h))
         (parts_same ts from here mark (and_right (is_target x l.widths) (are_targets ts l.widths) t) (index_rest x ts h) k.1)
@@ -200,7 +197,7 @@ module _ (l : Plan) (f : ℕ → ℕ) where
     one_same t e mark legal sized h g k =
         ap₂ (λ (us vs : List Step). if is_direct l t (width_of e) then us else vs)
         (ap (λ to. code (moved l f) e to mark) k ∙ code_same e (home (signal_of t)) mark (and_right (agrees e) (fits_signals e l.widths) sized) h)
-        (two_same (put_same e mark sized h)
+        (joined_so (put_same e mark sized h)
         (ap₂ (λ (to here : ℕ). part_code (moved l f) to t (width_of e) here (mark + 1)) k (operand_same e mark h)
         ∙ part_same t (home (signal_of t)) (width_of e) (operand l e mark) (mark + 1) legal g))
 
@@ -210,7 +207,7 @@ module _ (l : Plan) (f : ℕ → ℕ) where
     assign_same (x ∷ []) e mark t sized h k =
         one_same x e mark (and_left (is_target x l.widths) true t) sized (first (reads e) (index_reads (x ∷ [])) h) (second (reads e) (index_reads (x ∷ [])) h) k.0
     assign_same (x ∷ y ∷ ts) e mark t sized h k =
-        two_same (code_same e mark mark (and_right (agrees e) (fits_signals e l.widths) sized) (first (reads e) (index_reads (x ∷ y ∷ ts)) h))
+        joined_so (code_same e mark mark (and_right (agrees e) (fits_signals e l.widths) sized) (first (reads e) (index_reads (x ∷ y ∷ ts)) h))
         (parts_same (x ∷ y ∷ ts) (width_of e) mark (mark + 1) t (second (reads e) (index_reads (x ∷ y ∷ ts)) h) k)
 
   -- ---- statements
@@ -228,7 +225,7 @@ module _ (l : Plan) (f : ℕ → ℕ) where
 
   test_same : (t : Test) (mark past : ℕ) → Asks IsFixed t → test_code (moved l f) t mark past ≡ test_code l t mark past
   test_same (Truth c) mark past h =
-      two_same (stands_same c mark h.fits h.fixed) (ap (λ k. step SkipIfZero 1 0 true 0 k 0 past ∷ []) (operand_same c mark h.fixed))
+      joined_so (stands_same c mark h.fits h.fixed) (ap (λ k. step SkipIfZero 1 0 true 0 k 0 past ∷ []) (operand_same c mark h.fixed))
   test_same (Pair op a b) mark past h =
       three_same (stands_same a mark h.1.fits h.1.fixed) (stands_same b (mark + 1) h.2.fits h.2.fixed)
       (ap₂ (λ (x y : ℕ). step op (width_of a) 0 true 0 x y past ∷ []) (operand_same a mark h.1.fixed) (operand_same b (mark + 1) h.2.fixed))
@@ -239,7 +236,7 @@ module _ (l : Plan) (f : ℕ → ℕ) where
 
   item_same : (x : SizedItem) (here mark : ℕ) → is_sized x.item l.widths ≡ true → Fixes (reads x.item) → item_code (moved l f) x here mark ≡ item_code l x here mark
   item_same x here mark sized h =
-      two_same (put_same x.item mark sized h)
+      joined_so (put_same x.item mark sized h)
       (ap (λ k. if x.ignored == 0 then [] else
       (step Or 1 0 true (mark + 1) here (l.place x.ignored) 0 ∷ (step Or 1 0 true (mark + 1 + 1) k (l.place x.ignored) 0 ∷ []))) (operand_same x.item mark h))
 
@@ -251,11 +248,11 @@ module _ (l : Plan) (f : ℕ → ℕ) where
   tests_same [] here mark past t h = refl
   tests_same (x ∷ []) here mark past t h =
       let own = first (reads x.item) (item_reads []) h in
-      two_same (item_same x here mark (and_left (is_sized x.item l.widths) true t) own)
+      joined_so (item_same x here mark (and_left (is_sized x.item l.widths) true t) own)
       (ap (λ k. step SkipUnlessEqual 1 0 true 0 (subject_at x here mark) k past ∷ []) (item_at_same x mark own))
   tests_same (x ∷ y ∷ xs) here mark past t h =
       let own = first (reads x.item) (item_reads (y ∷ xs)) h in
-      two_same (item_same x here mark (and_left (is_sized x.item l.widths) (are_items (y ∷ xs) l.widths) t) own)
+      joined_so (item_same x here mark (and_left (is_sized x.item l.widths) (are_items (y ∷ xs) l.widths) t) own)
       (ap₂ (λ (k : ℕ) (rest : List Step). step SkipIfEqual 1 0 true 0 (subject_at x here mark) k (length rest) ∷ rest) (item_at_same x mark own)
       (tests_same (y ∷ xs) here mark past (and_right (is_sized x.item l.widths) (are_items (y ∷ xs) l.widths) t) (second (reads x.item) (item_reads (y ∷ xs)) h)))
 
@@ -269,7 +266,7 @@ module _ (l : Plan) (f : ℕ → ℕ) where
         assign_same l.next l.next parts e mark (and_left (are_targets parts l.widths) (is_sized e l.widths) t) (and_right (are_targets parts l.widths) (is_sized e l.widths) t) h
         (each_same (λ (p : Span). l.next p.signal ≡ l.next p.signal) (map span_of parts) (λ p. refl))
     stmt_same (Then a b) mark t h k =
-        two_same
+        joined_so
         (stmt_same a mark (and_left (is_legal a l.widths) (is_legal b l.widths) t) (first (all_reads a) (all_reads b) h)
         (each_left (λ (p : Span). f p.signal ≡ l.slot p.signal) (targets a) (targets b) k))
         (stmt_same b mark (and_right (is_legal a l.widths) (is_legal b l.widths) t) (second (all_reads a) (all_reads b) h)
@@ -286,7 +283,7 @@ module _ (l : Plan) (f : ℕ → ℕ) where
         (each_right (λ (p : Span). f p.signal ≡ l.slot p.signal) (targets a) (targets b) k))
     stmt_same (Case e arms) mark t h k =
         let own = first (reads e) (all_arm_reads arms) h in
-        two_same (put_same e mark (and_left (is_sized e l.widths) (are_legal_arms arms l.widths) t) own)
+        joined_so (put_same e mark (and_left (is_sized e l.widths) (are_legal_arms arms l.widths) t) own)
         (ap (λ here. arms_code (moved l f) arms here (mark + 1)) (operand_same e mark own)
         ∙ arms_same arms (operand l e mark) (mark + 1) (and_right (is_sized e l.widths) (are_legal_arms arms l.widths) t) (second (reads e) (all_arm_reads arms) h) k)
 

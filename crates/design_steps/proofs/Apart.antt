@@ -1,16 +1,16 @@
 -- Where a layout's things stand, and that they stand apart.
 use Rattle.std.proofs.Common.{Bool, true, false, true≢false, ◌≡◌, ◌⊎◌, ℕ, zero, suc, ◌+◌, ◌-◌, ◌*◌, ◌<◌, ◌≤◌, ◌^◌, nat_lt, Some, None, List, [], ◌∷◌, length, refl, sym, ap, ◌∙◌, subst, arith, inl, inr}
-use Rattle.std.specs.Prelude.{slice_index, position, ◌==◌, cond, if◌then◌else◌}
+use Rattle.std.specs.Prelude.{slice_index, position, ◌==◌, cond}
 use Rattle.std.specs.List.{position_or_len}
-use Rattle.std.proofs.lemmas.Bool.{ltb-true, ltb-false, cond-true, cond-false}
+use Rattle.std.proofs.lemmas.Bool.{ltb-true, ltb-false, cond-true, cond-false, cond_both}
 use Rattle.std.proofs.lemmas.List.{length-map}
 use Rattle.typed_ir.specs.declared.flat.Flat.{Flat}
 use Rattle.typed_ir.specs.declared.signal.Signal.{Signal}
 use Rattle.typed_ir.specs.Orders.{Member}
 use Rattle.typed_ir.specs.Valuations.{Valuation}
 use Rattle.typed_ir.specs.Nodes.{FlatNode}
-use Rattle.typed_ir.specs.Flats.{signal_widths}
 use Rattle.typed_ir.proofs.Cases.{by_cases}
+use Rattle.typed_ir.proofs.Widths.{at_most_a_word}
 use Rattle.step_layout.specs.declared.layout.Layout.{Layout}
 use Rattle.step_layout.specs.Plans.{IsApart, IsReady, IsAlone, width_at}
 use Rattle.step_layout.specs.Pools.{or_end, spot}
@@ -89,11 +89,6 @@ stands l design h s less = of (h.slots.each s less)
       wide = ap (λ ws. slice_index ws s) h.widths ∙ a.wide ∙ sym (ap (λ ws. slice_index ws a.root) h.widths);
     }
 
-few_bits : (xs : List Signal) (s : ℕ) → slice_index (signal_widths xs) s ≤ 128
-few_bits [] s = omega arith
-few_bits (x ∷ xs) zero = x.at_most_128
-few_bits (x ∷ xs) (suc s) = few_bits xs s
-
 pub slot_few : (l : Layout) (design : Flat) → LaysOut l design → (s : ℕ) → (plan_of l).slot s ≤ length design.signals.items
 slot_few l design h s =
     let n = length design.signals.items in
@@ -111,7 +106,7 @@ apart_at l design h slot next first high is above below =
     let t = stand l design h in
     let within : (s : ℕ) → Member s (signals_of design) → s < n = λ s m. below_all n s m in
     record {
-      few = λ s. subst (λ ws. slice_index ws s ≤ 128) (sym h.widths) (few_bits design.signals.items s);
+      few = λ s. subst (λ ws. slice_index ws s ≤ 128) (sym h.widths) (at_most_a_word design.signals.items s);
       slots = λ s. let a = high s in let b = t.mark in omega (arith, a, b);
       nexts = λ s m. let a = is s (within s m) in let b = t.mark in let c = within s m in omega (arith, a, b, c, below);
       places = t.high;
@@ -145,21 +140,17 @@ own_few l design h s =
     (λ yes. let less : s < n = ltb-true s n yes in let e = t.here s less in omega (arith, e, less))
     (λ no. let e = t.none s (ltb-false s n no) in omega (arith, e))
 
-pub either : (P : ℕ → Type 0) (b : Bool) (x y : ℕ) → P x → P y → P (if b then x else y)
-either P true x y p q = p
-either P false x y p q = q
-
 pub view_few : (l : Layout) (design : Flat) → LaysOut l design → (k : FlatNode) (s : ℕ) → (view_of l k).slot s ≤ length design.signals.items
 view_few l design h k s =
-    either (λ x. x ≤ length design.signals.items) (writes k ((plan_of l).slot s - 1)) ((own_plan l).slot s) ((plan_of l).slot s)
-    (own_few l design h s) (slot_few l design h s)
+    cond_both (writes k ((plan_of l).slot s - 1)) ((own_plan l).slot s) ((plan_of l).slot s) (λ x. x ≤ length design.signals.items)
+    (λ _. own_few l design h s) (λ _. slot_few l design h s)
 
 pub view_apart : (l : Layout) (design : Flat) → LaysOut l design → (k : FlatNode) → IsApart (view_of l k) (signals_of design) (mark_of l)
 view_apart l design h k = slots_apart l design h (view_of l k).slot (view_few l design h k)
 
 -- in which a signal that has its own place stands there
 pub view_own : (l : Layout) (k : FlatNode) (s : ℕ) → (plan_of l).slot s ≡ (own_plan l).slot s → (view_of l k).slot s ≡ (own_plan l).slot s
-view_own l k s e = either (λ x. x ≡ (own_plan l).slot s) (writes k ((plan_of l).slot s - 1)) ((own_plan l).slot s) ((plan_of l).slot s) refl e
+view_own l k s e = cond_both (writes k ((plan_of l).slot s - 1)) ((own_plan l).slot s) ((plan_of l).slot s) (λ x. x ≡ (own_plan l).slot s) (λ _. refl) (λ _. e)
 
 -- and what the node writes stands alone
 pub view_alone : (l : Layout) (design : Flat) → LaysOut l design → (k : FlatNode) (s : ℕ) → s < length design.signals.items → slice_index l.slots.items s ≡ s + 1
@@ -253,8 +244,8 @@ module _ (l : Layout) (design : Flat) (h : LaysOut l design) where
 
   pub view_ready : (k : FlatNode) (w : Valuation) → IsReady (own_plan l) (signals_of design) w → IsReady (view_of l k) (signals_of design) w
   view_ready k w ready = record {
-    fits = λ s less. either (λ x. w x < 2 ^ slice_index l.widths.items s) (writes k ((plan_of l).slot s - 1)) ((own_plan l).slot s) ((plan_of l).slot s)
-        (ready.fits s less) ((shared_ready w ready).fits s less);
+    fits = λ s less. cond_both (writes k ((plan_of l).slot s - 1)) ((own_plan l).slot s) ((plan_of l).slot s) (λ x. w x < 2 ^ slice_index l.widths.items s)
+        (λ _. ready.fits s less) (λ _. (shared_ready w ready).fits s less);
     next_fits = ready.next_fits;
     holds = ready.holds;
   }

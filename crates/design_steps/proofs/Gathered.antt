@@ -1,15 +1,15 @@
 -- A table that moves places one to one, and registers side by side.
 use Rattle.std.proofs.Common.{true, ◌≡◌, ℕ, zero, suc, ◌+◌, ◌*◌, ◌-◌, ◌<◌, ◌≤◌, ◌==◌, nat_lt, inl, inr, List, [], ◌∷◌, length, get_or, set, drop, refl, sym, ap, ◌∙◌, subst, arith, get_or-set_same, get_or-set_other}
 use Rattle.std.specs.Prelude.{if◌then◌else◌}
-use Rattle.std.specs.List.{swap}
+use Rattle.std.specs.List.{swap, range_with_len}
 use Rattle.std.proofs.lemmas.Bool.{ltb-true, ltb-false, eqb-true, eqb-false, cond-true, cond-false}
 use Rattle.std.proofs.lemmas.List.{length-set, get_or_default, get_or_past}
 use Rattle.std.proofs.lemmas.List.Edits.{length-swap}
+use Rattle.std.proofs.lemmas.List.FromFn.{length-range_with_len, get_or-range_with_len}
 use Rattle.typed_ir.specs.Orders.{Member, Distinct}
 use Rattle.typed_ir.specs.Flats.{are_below}
 use Rattle.typed_ir.proofs.Cases.{by_cases, and_left, and_right}
 use Rattle.typed_ir.proofs.Lists.{drop_split}
-use Rattle.design_steps.specs.Layings.{run_from}
 use Rattle.design_steps.specs.Moves.{moved, gather, gathered}
 use Rattle.design_steps.proofs.Copied.{below_member}
 
@@ -95,24 +95,15 @@ pub record IsTable (t : List ℕ) (n : ℕ) : Type 0 where
   pub once : (a b : ℕ) → moved t a ≡ moved t b → a ≡ b
   pub few : (k : ℕ) → k < n → moved t k < n
 
-pub run_long : (a n : ℕ) → length (run_from a n) ≡ n
-run_long a zero = refl
-run_long a (suc n) = let e = run_long (a + 1) n in omega (arith, e)
-
-run_read : (a n k d : ℕ) → k < n → get_or (run_from a n) k d ≡ a + k
-run_read a zero k d h = absurd (omega (arith, h))
-run_read a (suc n) zero d h = let e : a ≡ a + 0 = omega arith in e
-run_read a (suc n) (suc k) d h = let e : a + 1 + k ≡ a + suc k = omega arith in run_read (a + 1) n k d (omega (arith, h)) ∙ e
-
 -- at first nothing is moved
-pub first_moved : (n k : ℕ) → moved (run_from 0 n) k ≡ k
+pub first_moved : (n k : ℕ) → moved (range_with_len 0 n) k ≡ k
 first_moved n k = by_cases (nat_lt k n)
-    (λ yes. let e : 0 + k ≡ k = omega arith in run_read 0 n k k (ltb-true k n yes) ∙ e)
-    (λ no. let more = ltb-false k n no in beyond (run_from 0 n) k (let e = run_long 0 n in omega (arith, e, more)))
+    (λ yes. let e : 0 + k ≡ k = omega arith in get_or-range_with_len 0 n k k (ltb-true k n yes) ∙ e)
+    (λ no. let more = ltb-false k n no in beyond (range_with_len 0 n) k (let e = length-range_with_len 0 n in omega (arith, e, more)))
 
-pub first_table : (n : ℕ) → IsTable (run_from 0 n) n
+pub first_table : (n : ℕ) → IsTable (range_with_len 0 n) n
 first_table n = record {
-  long = run_long 0 n;
+  long = length-range_with_len 0 n;
   once = λ a b e. sym (first_moved n a) ∙ e ∙ first_moved n b;
   few = λ k h. subst (λ x. x < n) (sym (first_moved n k)) h;
 }
@@ -325,13 +316,13 @@ pub all_table : (n : ℕ) (rs : List ℕ) → are_below rs n ≡ true → IsTabl
 all_table n rs h =
     let m = length rs in
     let room = 3 * n + 2 * m + 1 in
-    gather_table rs (run_from 0 room) n (3 * n + 1) (3 * n + m + 1) room (all_fit n m) h (first_table room)
+    gather_table rs (range_with_len 0 room) n (3 * n + 1) (3 * n + m + 1) room (all_fit n m) h (first_table room)
 
 pub all_gathered : (n : ℕ) (rs : List ℕ) → are_below rs n ≡ true → Distinct rs → Gathers (gathered n rs) rs n (3 * n + 1) (3 * n + length rs + 1)
 all_gathered n rs h once =
     let m = length rs in
     let room = 3 * n + 2 * m + 1 in
-    gather_all rs (run_from 0 room) n (3 * n + 1) (3 * n + m + 1) room (all_fit n m) h once (first_table room)
+    gather_all rs (range_with_len 0 room) n (3 * n + 1) (3 * n + m + 1) room (all_fit n m) h once (first_table room)
     (record { owns = λ j less. first_moved room (3 * n + 1 + j); nexts = λ j less. first_moved room (3 * n + m + 1 + j) })
 
 -- what lies behind isn't moved

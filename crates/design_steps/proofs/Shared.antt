@@ -2,12 +2,12 @@
 use Rattle.std.proofs.Common.{Bool, true, false, not, true≢false, ◌≡◌, ℕ, zero, suc, ◌+◌, ◌-◌, ◌<◌, ◌≤◌, ◌&&◌, ◌||◌, ◌==◌, nat_le, nat_lt, ◌/◌, ◌^◌, ◌⊎◌, inl, inr, Option, Some, None, List, [], ◌∷◌, ◌++◌, length, map, drop, get_or, set, append_assoc, refl, sym, ap, ap₂, ◌∙◌, subst, arith}
 use Rattle.std.specs.Prelude.{slice_index, if◌then◌else◌}
 use Rattle.std.proofs.lemmas.Bool.{ltb-true, ltb-false, lt-ltb, le-leb, eqb-true, eqb-false, eq-eqb, and_from, not-true}
-use Rattle.std.proofs.lemmas.List.{length-map, length-set, append-nil, drop_all}
+use Rattle.std.proofs.lemmas.List.{length-set, append-nil, drop_all}
+use Rattle.std.proofs.lemmas.List.FromFn.{length-range_with_len}
 use Rattle.std.proofs.lemmas.Option.{none-some, cond_some}
 use Rattle.typed_ir.specs.declared.flat.Flat.{Flat}
 use Rattle.typed_ir.specs.declared.node.Node.{Node}
-use Rattle.typed_ir.specs.declared.signal.Signal.{Signal}
-use Rattle.typed_ir.specs.Orders.{Member, at_or}
+use Rattle.typed_ir.specs.Orders.{at_or, is_member}
 use Rattle.typed_ir.specs.Flats.{signal_widths}
 use Rattle.typed_ir.specs.FlatNodes.{node_of}
 use Rattle.typed_ir.specs.Nodes.{FlatNode, Drive, Block, lane_spans, spread, drive, drive_at, node_drives, drives_at, node_reads, reads_at}
@@ -19,33 +19,28 @@ use Rattle.typed_ir.proofs.Lists.{drop_split}
 use Rattle.typed_ir.proofs.BitRuns.{placed-inside}
 use Rattle.bits.proofs.Runs.{bit_at-shr}
 use Rattle.std.specs.Int.{bit_at}
+use Rattle.std.specs.List.{range_with_len}
+use Rattle.typed_ir.proofs.Members.{is_of}
+use Rattle.typed_ir.proofs.Widths.{widths_long}
 use Rattle.word_steps.proofs.Words.{word_set, put-same, put-other}
 use Rattle.design_steps.specs.declared.naming.Naming.{Naming}
-use Rattle.design_steps.specs.Layings.{run_from}
-use Rattle.design_steps.specs.Namings.{has_width, is_whole, named, name_given, stand_alike, is_shared, kept, mark_at, is_among, Held, Names, LeadsTo, Itself, Over, IsAlias, AreShared, AreMarked}
+use Rattle.design_steps.specs.Namings.{has_width, is_whole, named, name_given, stand_alike, is_shared, kept, mark_at, Held, Names, LeadsTo, Itself, Over, IsAlias, AreShared, AreMarked}
 use Rattle.design_steps.proofs.Counting.{run_in, run_out}
 
 -- ---- marks
 
-member_among : (s : ℕ) (xs : List ℕ) → Member s xs → is_among s xs ≡ true
-member_among s [] m = absurd m
-member_among s (x ∷ xs) (inl e) = ap (λ b. b || is_among s xs) (eq-eqb s x e)
-member_among s (x ∷ xs) (inr m) = by_cases (s == x)
-    (λ yes. ap (λ b. b || is_among s xs) yes)
-    (λ no. ap (λ b. b || is_among s xs) no ∙ member_among s xs m)
-
 -- what marks say of registers and inputs
 abbrev pub Marks : Flat → List Bool → Type 0
 Marks design held = (s : ℕ) → mark_at held s
-    ≡ ((nat_lt s (length design.signals.items) && is_among s design.registers.items) || (nat_lt s (length design.signals.items) && is_among s design.inputs.items))
+    ≡ ((nat_lt s (length design.signals.items) && is_member s design.registers.items) || (nat_lt s (length design.signals.items) && is_member s design.inputs.items))
 
 held_marked : (design : Flat) (held : List Bool) (s : ℕ) → Marks design held → s < length design.signals.items → Held design s → mark_at held s ≡ true
 held_marked design held s marks less (inl m) =
-    marks s ∙ ap (λ b. (b && is_among s design.registers.items) || (b && is_among s design.inputs.items)) (lt-ltb s (length design.signals.items) less)
-    ∙ ap (λ b. b || is_among s design.inputs.items) (member_among s design.registers.items m)
+    marks s ∙ ap (λ b. (b && is_member s design.registers.items) || (b && is_member s design.inputs.items)) (lt-ltb s (length design.signals.items) less)
+    ∙ ap (λ b. b || is_member s design.inputs.items) (is_of s design.registers.items m)
 held_marked design held s marks less (inr m) =
-    marks s ∙ ap (λ b. (b && is_among s design.registers.items) || (b && is_among s design.inputs.items)) (lt-ltb s (length design.signals.items) less)
-    ∙ right_or (is_among s design.registers.items) (is_among s design.inputs.items) (member_among s design.inputs.items m)
+    marks s ∙ ap (λ b. (b && is_member s design.registers.items) || (b && is_member s design.inputs.items)) (lt-ltb s (length design.signals.items) less)
+    ∙ right_or (is_member s design.registers.items) (is_member s design.inputs.items) (is_of s design.inputs.items m)
 
 -- ---- what a name is
 
@@ -205,22 +200,15 @@ names_shared (m ∷ ns) (suc k) ws slots n h w s e = names_shared ns k ws slots 
 
 -- ---- one wire more
 
-widths_long : (xs : List Signal) → length (signal_widths xs) ≡ length xs
-widths_long xs = length-map xs (λ (x : Signal). x.width)
-
 -- where the signals of a design stand, before any wire is shared
-pub all_own : (design : Flat) (slots : List ℕ) → slots ≡ run_from 1 (length design.signals.items) → AreShared design slots
+pub all_own : (design : Flat) (slots : List ℕ) → slots ≡ range_with_len 1 (length design.signals.items) → AreShared design slots
 all_own design slots e = record {
-  long = ap length e ∙ run_long 1 (length design.signals.items);
+  long = ap length e ∙ length-range_with_len 1 (length design.signals.items);
   each = λ s less. inl (ap (λ xs. slice_index xs s) e ∙ run_in 1 (length design.signals.items) s less ∙ (let f : 1 + s ≡ s + 1 = omega arith in f));
 }
-  where
-    run_long : (a n : ℕ) → length (run_from a n) ≡ n
-    run_long a zero = refl
-    run_long a (suc n) = ap suc (run_long (a + 1) n)
 
 -- and what stays there
-pub first_marks : (design : Flat) (slots : List ℕ) (held : List Bool) → slots ≡ run_from 1 (length design.signals.items) → length held ≡ length design.signals.items
+pub first_marks : (design : Flat) (slots : List ℕ) (held : List Bool) → slots ≡ range_with_len 1 (length design.signals.items) → length held ≡ length design.signals.items
     → Marks design held → AreMarked design slots held
 first_marks design slots held e long marks = record {
   long = long;

@@ -4,7 +4,7 @@ use Rattle.std.specs.Prelude.{slice_index, ◌==◌}
 use Rattle.std.proofs.lemmas.Bool.{ltb-true, lt-ltb, leb-true, le-leb, eqb-true, eq-eqb, and_from}
 use Rattle.typed_ir.specs.declared.span.Span.{Span}
 use Rattle.typed_ir.specs.declared.lane.Lane.{Lane}
-use Rattle.typed_ir.specs.Orders.{Each}
+use Rattle.typed_ir.specs.Orders.{Each, is_member}
 use Rattle.typed_ir.specs.Valuations.{within, any_within}
 use Rattle.typed_ir.specs.Sized.{reads, is_span, is_signal, is_width}
 use Rattle.typed_ir.specs.Stmts.{index_reads, SizedTarget, Fixed, Moving, SizedStmt, SizedArms, Skip, Assign, Later, Then, If, Case, Arm, Default, span_of, is_clocked, are_clocked_arms, targets, arm_targets, later_targets, later_arm_targets, is_target, are_targets, are_items, is_sized, is_legal, are_legal_arms}
@@ -15,7 +15,6 @@ use Rattle.typed_ir.proofs.Lists.{each_left, each_right, each_append}
 use Rattle.step_layout.specs.Statements.{stmt_constants}
 use Rattle.step_layout.specs.Nodes.{parts_of, as_statement, node_at}
 use Rattle.design_steps.specs.Pooled.{nodes_constants}
-use Rattle.design_steps.specs.Namings.{is_among}
 use Rattle.design_steps.specs.Layings.{writes}
 use Rattle.step_layout.proofs.Passing.{node_legal}
 
@@ -150,19 +149,19 @@ each_with P Q R [] f h k = tt
 each_with P Q R (p ∷ ps) f h k = (f p h.0 k.0, each_with P Q R ps f h.1 k.1)
 
 -- a node writes signals that it drives, and those alone
-pub writes_each : (all ps : List Span) → ((s : ℕ) → is_among s (map (λ (p : Span). p.signal) ps) ≡ true → is_among s (map (λ (p : Span). p.signal) all) ≡ true)
-    → Each (λ (p : Span). is_among p.signal (map (λ (q : Span). q.signal) all) ≡ true) ps
+pub writes_each : (all ps : List Span) → ((s : ℕ) → is_member s (map (λ (p : Span). p.signal) ps) ≡ true → is_member s (map (λ (p : Span). p.signal) all) ≡ true)
+    → Each (λ (p : Span). is_member p.signal (map (λ (q : Span). q.signal) all) ≡ true) ps
 writes_each all [] more = tt
 writes_each all (p ∷ ps) more = (
-  more p.signal (ap (λ b. b || is_among p.signal (map (λ (q : Span). q.signal) ps)) (eq-eqb p.signal p.signal refl)),
-  writes_each all ps (λ s e. more s (right_or (s == p.signal) (is_among s (map (λ (q : Span). q.signal) ps)) e)),
+  more p.signal (ap (λ b. b || is_member p.signal (map (λ (q : Span). q.signal) ps)) (eq-eqb p.signal p.signal refl)),
+  writes_each all ps (λ s e. more s (right_or (s == p.signal) (is_member s (map (λ (q : Span). q.signal) ps)) e)),
 )
 
-written_bit : (ps : List Span) (s : ℕ) → Each (λ (p : Span). 1 ≤ p.width) ps → is_among s (map (λ (p : Span). p.signal) ps) ≡ true → (i : ℕ) × (any_within ps s i ≡ true)
+written_bit : (ps : List Span) (s : ℕ) → Each (λ (p : Span). 1 ≤ p.width) ps → is_member s (map (λ (p : Span). p.signal) ps) ≡ true → (i : ℕ) × (any_within ps s i ≡ true)
 written_bit [] s wide h = absurd (true≢false (sym h))
 written_bit (p ∷ ps) s wide h = by_cases (s == p.signal)
     (λ yes. (p.low, left_or (within p s p.low) (any_within ps s p.low) (ap (λ t. within p t p.low) (eqb-true s p.signal yes) ∙ within_own p wide.0)))
-    (λ no. let rest : (i : ℕ) × (any_within ps s i ≡ true) = written_bit ps s wide.1 (only_right (s == p.signal) (is_among s (map (λ (q : Span). q.signal) ps)) no h) in
+    (λ no. let rest : (i : ℕ) × (any_within ps s i ≡ true) = written_bit ps s wide.1 (only_right (s == p.signal) (is_member s (map (λ (q : Span). q.signal) ps)) no h) in
     (rest.0, right_or (within p s rest.0) (any_within ps s rest.0) rest.1))
 
 pub written_drives : (k : FlatNode) (s : ℕ) (ws : List ℕ) → is_legal_node k ws ≡ true → writes k s ≡ true → (i : ℕ) × (node_drives k s i ≡ true)

@@ -1,8 +1,9 @@
 -- The layout of a design.
-use Rattle.std.specs.Prelude.{◌≡◌, ℕ, zero, suc, ◌+◌, ◌-◌, ◌*◌, Bool, List, [], ◌∷◌, map, length, slice_index, if◌then◌else◌}
+use Rattle.std.specs.Prelude.{◌≡◌, ℕ, ◌+◌, ◌-◌, ◌*◌, Bool, List, map, length, slice_index, if◌then◌else◌}
+use Rattle.std.specs.List.{range_with_len}
 use Rattle.typed_ir.specs.declared.flat.Flat.{Flat}
 use Rattle.typed_ir.specs.declared.span.Span.{Span}
-use Rattle.typed_ir.specs.Orders.{Member, Each}
+use Rattle.typed_ir.specs.Orders.{Member, Each, is_member}
 use Rattle.typed_ir.specs.Flats.{signal_widths}
 use Rattle.typed_ir.specs.FlatNodes.{node_of}
 use Rattle.typed_ir.specs.Nodes.{FlatNode}
@@ -14,16 +15,11 @@ use Rattle.step_layout.specs.Plans.{Plan}
 use Rattle.step_layout.specs.Views.{plan_of}
 use Rattle.step_layout.specs.Nodes.{as_statement, in_order}
 use Rattle.design_steps.specs.Pooled.{nodes_constants}
-use Rattle.design_steps.specs.Namings.{kept, is_among, AreShared}
-
--- so many numbers from one on
-abbrev pub run_from : ℕ → ℕ → List ℕ
-run_from a zero = []
-run_from a (suc n) = a ∷ run_from (a + 1) n
+use Rattle.design_steps.specs.Namings.{kept, AreShared}
 
 -- the numbers of a design's signals
 abbrev pub signals_of : Flat → List ℕ
-signals_of design = run_from 0 (length design.signals.items)
+signals_of design = range_with_len 0 (length design.signals.items)
 
 -- places from here on are free
 abbrev pub mark_of : Layout → ℕ
@@ -31,11 +27,11 @@ mark_of l = l.constants.first + length l.constants.values.keys + 1
 
 -- a signal's own place, one above its number; 0 for one that isn't there
 abbrev pub own : ℕ → ℕ → ℕ
-own count s = slice_index (run_from 1 count) s
+own count s = slice_index (range_with_len 1 count) s
 
 -- where clocked blocks put a signal's next value: as many places above its own one as there are signals; 0 for one that isn't there
 abbrev pub next_of : ℕ → ℕ → ℕ
-next_of count s = slice_index (run_from (count + 1) count) s
+next_of count s = slice_index (range_with_len (count + 1) count) s
 
 -- the layout with signals and next values at these places
 abbrev pub with_places : Layout → (ℕ → ℕ) → (ℕ → ℕ) → Plan
@@ -61,7 +57,7 @@ own_plan l = with_slots l (own (length l.widths.items))
 
 -- whether a node writes some bits of a signal in place
 abbrev pub writes : FlatNode → ℕ → Bool
-writes k s = is_among s (map (λ (p : Span). p.signal) (targets (as_statement k)))
+writes k s = is_member s (map (λ (p : Span). p.signal) (targets (as_statement k)))
 
 -- for one node: what stands where a signal does that the node writes has its own place instead
 abbrev pub view_of : Layout → FlatNode → Plan
@@ -72,7 +68,7 @@ view_of l k = with_slots l (λ s. if writes k ((plan_of l).slot s - 1) then (own
 -- are moved, and then the constants; each constant of the design is among them
 pub record LaysOut (l : Layout) (design : Flat) : Type 0 where
   pub slots : AreShared design l.slots.items
-  pub nexts : l.nexts.items ≡ run_from (2 * length design.signals.items + 1) (length design.signals.items)
+  pub nexts : l.nexts.items ≡ range_with_len (2 * length design.signals.items + 1) (length design.signals.items)
   pub widths : l.widths.items ≡ signal_widths design.signals.items
   pub first : l.constants.first ≡ 3 * length design.signals.items + 2 * length design.registers.items + 1
   pub nodes : Each (λ v. Member v l.constants.values.keys) (nodes_constants (map node_of design.nodes.items))

@@ -1,10 +1,9 @@
 -- Places of words that are moved one to one, so that registers stand side by side, and their next values do too.
 use Rattle.std.specs.Prelude.{ℕ, ◌+◌, ◌-◌, ◌*◌, ◌&&◌, nat_le, nat_lt, List, [], ◌∷◌, length, get_or, if◌then◌else◌}
-use Rattle.std.specs.List.{swap}
+use Rattle.std.specs.List.{swap, range_with_len}
 use Rattle.typed_ir.specs.Valuations.{Valuation}
 use Rattle.word_steps.specs.declared.step.Step.{Step}
 use Rattle.word_steps.specs.Walks.{env_of, writes}
-use Rattle.design_steps.specs.Layings.{run_from}
 
 -- where a place is moved to; what lies behind the table stays
 abbrev pub moved : List ℕ → ℕ → ℕ
@@ -35,7 +34,7 @@ gather table n own next (r ∷ rs) = gather (swap (swap table (r + 1) own) (r + 
 
 -- of n signals: registers stand behind all that is laid out of signals, and their next values behind these
 abbrev pub gathered : ℕ → List ℕ → List ℕ
-gathered n rs = gather (run_from 0 (3 * n + 2 * length rs + 1)) n (3 * n + 1) (3 * n + length rs + 1) rs
+gathered n rs = gather (range_with_len 0 (3 * n + 2 * length rs + 1)) n (3 * n + 1) (3 * n + length rs + 1) rs
 
 -- so many words from one place on, copied to another
 abbrev pub block : ℕ → ℕ → ℕ → Valuation → Valuation

@@ -1,5 +1,5 @@
 -- Nodes that only give another name to a signal, and wires that stand where that signal does.
-use Rattle.std.specs.Prelude.{◌≡◌, ℕ, ◌+◌, ◌<◌, Bool, true, false, ◌&&◌, ◌||◌, ◌==◌, nat_lt, ◌⊎◌, Option, Some, None, List, [], ◌∷◌, map, length, slice_index, get_or, if◌then◌else◌}
+use Rattle.std.specs.Prelude.{◌≡◌, ℕ, ◌+◌, ◌<◌, Bool, true, false, ◌&&◌, ◌==◌, nat_lt, ◌⊎◌, Option, Some, None, List, [], ◌∷◌, map, length, slice_index, get_or, if◌then◌else◌}
 use Rattle.typed_ir.specs.declared.flat.Flat.{Flat}
 use Rattle.typed_ir.specs.declared.lane.Lane.{Lane}
 use Rattle.typed_ir.specs.Orders.{Member, at_or}
@@ -41,10 +41,6 @@ kept ws slots nodes (k ∷ ks) = if at_or (is_shared ws slots) true nodes k then
 
 abbrev pub mark_at : List Bool → ℕ → Bool
 mark_at marks s = get_or marks s false
-
-abbrev pub is_among : ℕ → List ℕ → Bool
-is_among s [] = false
-is_among s (x ∷ xs) = (s == x) || is_among s xs
 
 abbrev pub Held : Flat → ℕ → Type 0
 Held design s = Member s design.registers.items ⊎ Member s design.inputs.items

@@ -1,11 +1,12 @@
 // The layout of a design: where its signals, their next values and its constants stand.
 ghost use Rattle.std.specs.Prelude.{◌≡◌, ◌≤◌, ◌+◌, ◌-◌, ◌^◌, IfOk, OnOk, length, map};
+ghost use Rattle.std.specs.List.{range_with_len};
 ghost use Rattle.typed_ir.specs.Flats.{signal_widths};
 ghost use Rattle.typed_ir.specs.FlatNodes.{node_of};
 ghost use Rattle.typed_ir.specs.Statements.{stmt_of, sequence_of};
 ghost use Rattle.step_layout.specs.Statements.{stmt_constants};
 ghost use Rattle.design_steps.specs.Pooled.{Holds, nodes_constants};
-ghost use Rattle.design_steps.specs.Layings.{run_from, LaysOut, mark_of};
+ghost use Rattle.design_steps.specs.Layings.{LaysOut, mark_of};
 
 use crate::constant_walk::{pool_all, pool_nodes};
 use crate::sharing::slots_of;
@@ -19,7 +20,7 @@ use typed_ir::{Linked, Node, Signal, Stmt};
 #[tactic(auto, using(crate::proofs::Counting::run_push))]
 pub(crate) fn counted(alloc: Global, from: u32, count: u32) -> Result<Vec<u32>, NoMemory>
     requires { from + count ≤ 2 ^ 32 - 1 }
-    ensures { IfOk result (λ xs. xs.items ≡ run_from from count) }
+    ensures { IfOk result (λ xs. xs.items ≡ range_with_len from count) }
 {
     let mut places = Vec::with_capacity(alloc, count as usize)?;
     let mut i = 0;
@@ -81,7 +82,7 @@ pub fn layout_of(alloc: Global, linked: &Linked) -> Result<Layout, NoMemory>
 
 /// Where clocked blocks put next values: right behind all signals. Want of memory, and a place above the largest number, is `NoMemory`.
 pub fn nexts_of(alloc: Global, layout: &Layout) -> Result<Vec<u32>, NoMemory>
-    ensures { IfOk result (λ xs. xs.items ≡ run_from (length layout.now.widths.items + 1) (length layout.now.widths.items)) }
+    ensures { IfOk result (λ xs. xs.items ≡ range_with_len (length layout.now.widths.items + 1) (length layout.now.widths.items)) }
 {
     if layout.widths.len() > 0x7fff_fffe {
         return Err(NoMemory);

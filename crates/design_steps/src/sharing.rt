@@ -1,9 +1,10 @@
 // Wires that stand where the signal does of which they are another name.
 ghost use Rattle.std.specs.Prelude.{◌≡◌, ◌<◌, ◌≤◌, ◌+◌, ◌-◌, ◌&&◌, ◌||◌, ◌==◌, not, ℕ, All, nat_lt, length, map, slice_index, ◌++◌, [], ◌∷◌, if◌then◌else◌, IfOk, OnOk};
+ghost use Rattle.std.specs.List.{range_with_len};
 ghost use Rattle.typed_ir.specs.Flats.{signal_widths};
 ghost use Rattle.typed_ir.specs.FlatNodes.{node_of};
-ghost use Rattle.design_steps.specs.Layings.{run_from};
-ghost use Rattle.design_steps.specs.Namings.{AreShared, AreMarked, is_shared, kept, mark_at, is_among};
+ghost use Rattle.typed_ir.specs.Orders.{is_member};
+ghost use Rattle.design_steps.specs.Namings.{AreShared, AreMarked, is_shared, kept, mark_at};
 
 use crate::naming::{is_shared, name_given};
 use no_memory::NoMemory;
@@ -23,7 +24,7 @@ fn mark_one(signal: SignalId, marks: &mut [bool])
 
 // Marks signals.
 fn mark(signals: &[SignalId], marks: &mut [bool])
-    ensures { (s : ℕ) → mark_at marks.new s ≡ (mark_at marks.old s || (nat_lt s (length marks.old) && is_among s signals.now)) }
+    ensures { (s : ℕ) → mark_at marks.new s ≡ (mark_at marks.old s || (nat_lt s (length marks.old) && is_member s signals.now)) }
 {
     for signal in signals {
         mark_one(*signal, marks);
@@ -34,8 +35,8 @@ fn mark(signals: &[SignalId], marks: &mut [bool])
 fn held_of(alloc: Global, design: &Flat) -> Result<Vec<bool>, NoMemory>
     ensures long { IfOk result (λ held. length held.items ≡ length design.now.signals.items) }
     ensures held { IfOk result (λ held. (s : ℕ) → mark_at held.items s
-        ≡ ((nat_lt s (length design.now.signals.items) && is_among s design.now.registers.items)
-        || (nat_lt s (length design.now.signals.items) && is_among s design.now.inputs.items))) }
+        ≡ ((nat_lt s (length design.now.signals.items) && is_member s design.now.registers.items)
+        || (nat_lt s (length design.now.signals.items) && is_member s design.now.inputs.items))) }
 {
     let mut held = vec![in alloc; false; design.signals.len()]?;
     mark(&design.registers, &mut held);
@@ -90,7 +91,7 @@ pub fn slots_of(
     own: Vec<u32>,
     widths: &[u8],
 ) -> Result<Vec<u32>, NoMemory>
-    requires own { own.items ≡ run_from 1 (length linked.now.design.signals.items) }
+    requires own { own.items ≡ range_with_len 1 (length linked.now.design.signals.items) }
     requires widths { widths.now ≡ signal_widths linked.now.design.signals.items }
     ensures { IfOk result (λ slots. AreShared linked.now.design slots.items) }
 {

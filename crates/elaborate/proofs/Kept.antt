@@ -4,6 +4,7 @@ use Rattle.std.specs.Prelude.{Option, Some, None}
 use Rattle.std.specs.Option.{option_copied}
 use Rattle.std.specs.Map.{lookup}
 use Rattle.std.specs.declared.sync.Arc.{Arc}
+use Rattle.std.proofs.lemmas.Bool.{cond_both}
 use Rattle.std.proofs.lemmas.List.Elements.{All-nil, All-cons, All-head, All-tail}
 use Rattle.std.proofs.lemmas.Option.{none-some, same_Some}
 use Rattle.indexmap.specs.IndexMap.{insert_entry}
@@ -52,18 +53,14 @@ job_found turns ms es test r kept copy m name overrides clock are value is same 
 
 -- ---- one more
 
-either : {X : Type 0} (P : X → Type 0) (b : Bool) (x y : X) → P x → P y → P (cond b x y)
-either P true x y p q = p
-either P false x y p q = q
-
 inserted : (P : Job → Type 0) (E : VisitKey → VisitKey → Bool) (es : Entries) (k : VisitKey) (v : Arc Job Global)
     → All (λ (e : VisitKey × Arc Job Global). P (kept_job e)) es → P v.value → All (λ (e : VisitKey × Arc Job Global). P (kept_job e)) (insert_entry E es k v)
 inserted P E [] k v all one = All-cons (λ (e : VisitKey × Arc Job Global). P (kept_job e)) (k, v) [] one (All-nil (λ (e : VisitKey × Arc Job Global). P (kept_job e)))
 inserted P E (e ∷ es) k v all one =
     let Q : VisitKey × Arc Job Global → Type 0 = λ e. P (kept_job e) in
-    either (All Q) (E k e.0) ((e.0, v) ∷ es) (e ∷ insert_entry E es k v)
-    (All-cons Q (e.0, v) es one (All-tail Q e es all))
-    (All-cons Q e (insert_entry E es k v) (All-head Q e es all) (inserted P E es k v (All-tail Q e es all) one))
+    cond_both (E k e.0) ((e.0, v) ∷ es) (e ∷ insert_entry E es k v) (All Q)
+    (λ _. All-cons Q (e.0, v) es one (All-tail Q e es all))
+    (λ _. All-cons Q e (insert_entry E es k v) (All-head Q e es all) (inserted P E es k v (All-tail Q e es all) one))
 
 pub job_more : (turns : ℕ) (ms : List ModuleDeclaration) (E : VisitKey → VisitKey → Bool) (es new : Entries) (k : VisitKey) (job : Arc Job Global)
     → AreJobs turns ms es → IsJob turns ms job.value → new ≡ insert_entry E es k job → AreJobs turns ms new

@@ -6,7 +6,7 @@ use Rattle.verilog_ast.specs.Declarations.{PortDeclaration}
 use Rattle.verilog_ast.specs.Items.{ModuleDeclaration}
 use Rattle.width_rules.specs.Faults.{fault_at}
 use Rattle.width_rules.specs.Scopes.{Scope, with_name}
-use Rattle.gen_unroll.specs.Declarations.{BitRange}
+use Rattle.gen_unroll.specs.Declarations.{declared_width}
 use Rattle.gen_unroll.specs.Reaches.{Reach, in_reach}
 use Rattle.gen_unroll.specs.Steps.{ModuleStep, Listed, Port, Item}
 use Rattle.ls_text.specs.Answers.{◌>>=◌}
@@ -23,13 +23,9 @@ with_clock (Some name) here = record here { scope = with_name name clock_net her
 
 -- ---- the clock port of a module itself: an input of one bit (37 at its name in the header)
 
-abbrev pub width_of : Option BitRange → ℕ
-width_of None = 1
-width_of (Some r) = r.width
-
 abbrev pub is_one_bit_input : Option Declaration → Bool
 is_one_bit_input None = false
-is_one_bit_input (Some d) = is_input d.kind && (width_of d.range == 1)
+is_one_bit_input (Some d) = is_input d.kind && (declared_width d.range == 1)
 
 abbrev pub may_be_clock : Table → Identifier → Bool
 may_be_clock table p = is_one_bit_input (declared_as (record { block = None; name = p.name.0 }) table)

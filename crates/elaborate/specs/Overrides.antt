@@ -9,7 +9,7 @@ use Rattle.width_rules.specs.Faults.{fault, fault_of}
 use Rattle.width_rules.specs.Scopes.{Scope}
 use Rattle.ls_text.specs.Answers.{◌>>=◌}
 use Rattle.gen_unroll.specs.Values.{ConstantValue, evaluated}
-use Rattle.module_names.specs.Listings.{is_listed}
+use Rattle.module_names.specs.Listings.{is_listed, names_behind}
 
 -- ---- by order
 
@@ -25,10 +25,6 @@ value_by_order scope names e = evaluated scope e >>= λ v. if_left names e v
 abbrev pub one_by_order : Scope → (names : List Identifier) → Option Expression → Result (Option ConstantValue) Fault
 one_by_order scope names None = Ok None
 one_by_order scope names (Some e) = value_by_order scope names e
-
-abbrev pub names_behind : List Identifier → List Identifier
-names_behind [] = []
-names_behind (n ∷ ns) = ns
 
 abbrev pub by_order : Scope → (names : List Identifier) → List ConnectionByOrder → List (Option ConstantValue) → Result (List (Option ConstantValue)) Fault
 by_order scope names [] vs = Ok vs

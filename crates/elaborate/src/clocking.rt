@@ -3,6 +3,7 @@ ghost use Rattle.std.specs.Prelude.{◌≡◌, [], map, OnOk};
 ghost use Rattle.std.specs.Option.{option_map};
 ghost use Rattle.verilog_ast.specs.Views.{declared_of, port_of, plain_item_of, declaration_of};
 ghost use Rattle.width_rules.specs.Entries.{scope_of};
+ghost use Rattle.gen_unroll.specs.Declarations.{declared_width};
 ghost use Rattle.gen_unroll.specs.Reaches.{reach_in, IsEven};
 ghost use Rattle.ls_text.specs.Answers.{Answers, Leads};
 ghost use Rattle.gen_unroll.specs.ReachViews.{reach_of};
@@ -28,7 +29,7 @@ use width_rules::{Entry, Scope, SignalEntry, Writer, refused_at};
 
 /// How many bits a declaration has.
 pub fn width_of(range: Option<BitRange>) -> u8
-    ensures { result ≡ k.width_of (option_map bit_range_of range) }
+    ensures { result ≡ declared_width (option_map bit_range_of range) }
 {
     match range {
         None => 1,

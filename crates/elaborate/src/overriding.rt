@@ -6,6 +6,7 @@ ghost use Rattle.width_rules.specs.Entries.{scope_of};
 ghost use Rattle.ls_text.specs.Answers.{Answers, Leads};
 ghost use Rattle.gen_unroll.specs.Values.{constant_of};
 ghost use Rattle.gen_unroll.specs.Views.{override_view};
+ghost use Rattle.module_names.specs.Listings.{names_behind};
 ghost use Rattle.elaborate.specs.Overrides as o;
 ghost use Rattle.elaborate.specs.Views.{given_of};
 
@@ -53,7 +54,7 @@ fn one_by_order(
 
 // The names behind the first one.
 fn names_behind(names: &[Identifier]) -> &[Identifier]
-    ensures { result.now ≡ o.names_behind names.now }
+    ensures { result.now ≡ names_behind names.now }
 {
     match names.split_first() {
         Some((_, rest)) => rest,

@@ -1,5 +1,5 @@
 -- Ranges of declarations.
-use Rattle.std.proofs.Common.{◌≡◌, nat_lt, Bool, true, false, not, [], ◌∷◌, Ok, Err, sym, ◌∙◌, ap, ap₂, subst}
+use Rattle.std.proofs.Common.{◌≡◌, ℕ, nat_lt, Bool, true, false, not, [], ◌∷◌, Ok, Err, sym, ◌∙◌, ap, ap₂, subst}
 use Rattle.std.specs.Prelude.{ℤ, Option, Some, Result}
 use Rattle.std.specs.Option.{option_map}
 use Rattle.std.proofs.lemmas.Bool.{not_from_false, not_from_true}
@@ -21,6 +21,9 @@ use Rattle.ls_text.specs.Answers.{◌>>=◌, Answers}
 use Rattle.gen_unroll.specs.Views.{bit_range_of, parameter_type_of}
 use Rattle.width_rules.proofs.Firsts.{earlier, later, neither}
 use Rattle.gen_unroll.proofs.Values.{is_first, no_fault}
+
+abbrev pub range_with : ℕ → ℕ → BitRange
+range_with width low = record { width = width; low = low }
 
 same_range : (a b : BitRange) → a.width ≡ b.width → a.low ≡ b.low → a ≡ b
 same_range a b h k = ap (λ n. record { width = n; low = a.low }) h ∙ ap (λ n. record { width = b.width; low = n }) k

@@ -1,5 +1,5 @@
 -- Values of constants, and their first fault.
-use Rattle.std.proofs.Common.{◌≡◌, ℕ, Bool, true, List, [], ◌∷◌, IsErrAnd, Result, Ok, Err, refl, sym, ◌∙◌, ap, subst}
+use Rattle.std.proofs.Common.{◌≡◌, ℕ, Bool, List, [], ◌∷◌, IsErrAnd, Result, Ok, Err, refl, sym, ◌∙◌, ap, ap₂, subst}
 use Rattle.std.specs.Prelude.{Option, Some, None, ℤ}
 use Rattle.ls_text.specs.declared.fault.Fault.{Fault}
 use Rattle.ls_text.specs.declared.refusal.Refusal.{Refusal}
@@ -37,6 +37,12 @@ same_value v w a b c =
     ap (λ n. record { width = n; value = v.value; signed = v.signed }) a
     ∙ ap (λ n. record { width = w.width; value = n; signed = v.signed }) b
     ∙ ap (λ s. record { width = w.width; value = w.value; signed = s }) c
+
+abbrev pub value_with : ℕ → ℕ → Bool → ConstantValue
+value_with width value signed = record { width = width; value = value; signed = signed }
+
+pub constant_so : (k l v w : ℕ) (s t : Bool) → l ≡ k → w ≡ v → t ≡ s → value_with l w t ≡ value_with k v s
+constant_so k l v w s t lengths values signs = ap₂ (λ (a b : ℕ). value_with a b t) lengths values ∙ ap (value_with k v) signs
 
 pub is_value : (scope : Scope) (e : Expression) (x : Const) → faults scope ConstantOnly e ≡ [] → x.bits.width ≡ length scope e → x.signed ≡ is_signed scope e
     → x.bits.value ≡ constant scope e → evaluated scope e ≡ Ok (constant_of x)

@@ -43,6 +43,11 @@ pub record BitRange : Type 0 where
   pub width : ℕ
   pub low : ℕ
 
+-- how many bits a declaration with this range has: one without a range
+abbrev pub declared_width : Option BitRange → ℕ
+declared_width None = 1
+declared_width (Some r) = r.width
+
 unfoldable pub range_value : Scope → RangeBounds → Result BitRange Fault
 range_value scope r =
     unless (range_faults scope r)

@@ -244,6 +244,10 @@ module_told m st =
 unfoldable pub unrolled_module : (limit : ℕ) → List (Option ConstantValue) → ModuleDeclaration → Told State
 unrolled_module limit overrides m = module_told m (beginning limit overrides m)
 
+-- its steps, or the first fault of unrolling it
+abbrev pub steps_told : Told State → Result (List ModuleStep) Fault
+steps_told t = t.ending >>> λ st. Ok t.said
+
 -- how many turns the loops of a module may have together
 unfoldable pub turn_limit : ℕ
 turn_limit = 65536

@@ -2,6 +2,7 @@
 use Rattle.std.proofs.Common.{◌≡◌, ◌<◌, ℕ, ◌+◌, List, ◌∷◌, map, drop, length, get_or, refl, sym, ◌∙◌, ap}
 use Rattle.std.specs.Prelude.{Option, Some, None}
 use Rattle.typed_ir.proofs.Lists.{drop_read}
+use Rattle.typed_ir.specs.declared.shown_target.ShownTarget.{ShownTarget}
 use Rattle.typed_ir.specs.declared.target_form.TargetForm.{TargetForm}
 use Rattle.verilog_ast.specs.declared.statement.Arm.{Arm}
 use Rattle.verilog_ast.specs.declared.statement.Stmt.{Stmt}
@@ -45,3 +46,7 @@ arm_here scope = here (λ ys. first_target scope (statements_of (map arm_of ys))
 pub arm_later : (scope : Scope) (xs : List Arm) (k : ℕ) (x : Arm) (whole : Option TargetForm) → k < length xs → x ≡ get_or xs k x → first_target scope (arm_of x) ≡ None
     → first_target scope (statements_of (map arm_of (drop k xs))) ≡ whole → first_target scope (statements_of (map arm_of (drop (k + 1) xs))) ≡ whole
 arm_later scope = later (λ ys. first_target scope (statements_of (map arm_of ys))) (λ y. first_target scope (arm_of y)) (λ y ys. refl)
+
+-- what a block shows, by its parts
+abbrev pub shown_with : ℕ → TargetForm → ShownTarget
+shown_with k form = record { number = k; form = form }

@@ -20,6 +20,7 @@ use Rattle.unit_names.specs.Numbers.{first_where}
 use Rattle.unit_names.specs.Signals as signals
 use Rattle.unit_names.specs.Signals.{NamedSignal, is_port_named, with_port, with_net, completed, put}
 use Rattle.unit_names.specs.UnitLists as lists
+use Rattle.unit_names.proofs.Signals.{port_signal}
 use Rattle.job_laws.proofs.Declared.{IsOver, declared_same, declared_other, declared_once, net_declared}
 use Rattle.job_laws.proofs.Ported.{first_kept, first_new, put_same, put_other, put_within, completed_input}
 
@@ -92,10 +93,6 @@ other_agrees (Some b) n d t u xs so none h = λ q.
 
 -- ---- a port of the module itself
 
-abbrev pub port_signal : SignalKind → PortNet → Option BitRange → Bool → Identifier → ℕ → NamedSignal
-port_signal k by range signed n order =
-    record { block = None; name = n; kind = k; range = range; signed = signed; port = true; net = by; order = order }
-
 pub port_agrees : (n : Identifier) (d : Declaration) (k : SignalKind) (by : PortNet) (range : Option BitRange) (signed : Bool) (t u : Table)
     (xs : List NamedSignal)
     → Agrees t xs → IsSame d k range signed → declare None n d t ≡ Ok u → Agrees u (with_port None k by range signed n xs)
@@ -111,7 +108,7 @@ port_agrees n d k by range signed t u xs so same h =
     (as_before None n d q t u apart is.after) (first_kept (is_port_named q) xs new (turned n.name.0 q ∙ apart)) (so q))
   where
     new : NamedSignal
-    new = port_signal k by range signed n (length xs)
+    new = port_signal None k by range signed n (length xs)
 
 -- ---- a net or variable
 

@@ -2,6 +2,7 @@
 use Rattle.std.proofs.Common.{◌≡◌, ℕ, ◌==◌, Bool, true, false, not, if◌then◌else◌, List, [], ◌∷◌, ◌++◌, length, map, filter, Ok, refl, sym, ◌∙◌, ap}
 use Rattle.std.proofs.Common.{append_assoc, append-nil, true≢false}
 use Rattle.std.specs.Prelude.{Option, Some, None}
+use Rattle.std.specs.Option.{option_to_list}
 use Rattle.std.proofs.lemmas.Bool.{eqb-true, and_parts, cond-false}
 use Rattle.std.proofs.lemmas.List.{map-append, nil_from_length}
 use Rattle.std.proofs.lemmas.List.Elements.{filter-append}
@@ -17,24 +18,24 @@ use Rattle.gen_unroll.specs.Declarations.{BitRange, declared_name, declared_reg_
 use Rattle.gen_unroll.specs.Reaches.{Reach, reach_in, innermost, in_reach}
 use Rattle.gen_unroll.specs.Steps.{GenerateBlock, ModuleStep, Listed, Port, Parameter, Item, Labelled, Opened, Closed, blocks_in}
 use Rattle.gen_unroll.proofs.Answered.{ok_same, first_step}
-use Rattle.unit_names.specs.Numbers.{SignalTable, header_names, first_where, if_any, with_header_port, ports_onto, is_no_port, numbered, table_of}
+use Rattle.unit_names.specs.Numbers.{SignalTable, header_names, first_where, with_header_port, ports_onto, is_no_port, numbered, table_of}
 use Rattle.unit_names.specs.Numbers.{module_table}
 use Rattle.unit_names.specs.Signals.{NamedSignal, is_outermost, is_port, is_port_named, kind_of_net, with_port, with_ports, with_next}
 use Rattle.unit_names.specs.Signals.{last_of, completed, completes}
 use Rattle.unit_names.specs.Signals.{put, with_net, with_nets, range_in, header_port, item_signals, declared_in}
+use Rattle.unit_names.proofs.Signals.{net_signal}
 use Rattle.unit_jobs.specs.BlockNames.{declared_by, called_in, item_texts, texts_within}
 use Rattle.job_laws.specs.BlockSignals.{is_within_block, called}
 use Rattle.job_laws.specs.Outer.{is_item_outside, are_ports_outside}
 use Rattle.job_laws.proofs.FoundValues.{one_less}
 use Rattle.job_laws.proofs.Numbering.{first_meets}
-use Rattle.job_laws.proofs.Ported.{net_signal}
 
 -- ---- signals with numbers: those within blocks are as they were declared
 
 port_outside : (x : NamedSignal) → is_port x ≡ true → is_within_block x ≡ false
 port_outside x is = ap not (and_parts x.port (is_outermost x.block) is).1
 
-none_of_any : (o : Option NamedSignal) → ((x : NamedSignal) → o ≡ Some x → is_within_block x ≡ false) → filter is_within_block (if_any o) ≡ []
+none_of_any : (o : Option NamedSignal) → ((x : NamedSignal) → o ≡ Some x → is_within_block x ≡ false) → filter is_within_block (option_to_list o) ≡ []
 none_of_any None outer = refl
 none_of_any (Some x) outer = cond-false (is_within_block x) (x ∷ []) [] (outer x refl)
 
@@ -42,10 +43,10 @@ port_is_outer : (n : ℕ) (xs : List NamedSignal) (x : NamedSignal) → first_wh
 port_is_outer n xs x is = port_outside x (and_parts (is_port x) (x.name.name.0 == n) (first_meets (is_port_named n) xs x is)).0
 
 header_port_outer : (b : Bool) (n : ℕ) (xs out : List NamedSignal)
-    → filter is_within_block (if b then out else out ++ if_any (first_where (is_port_named n) xs)) ≡ filter is_within_block out
+    → filter is_within_block (if b then out else out ++ option_to_list (first_where (is_port_named n) xs)) ≡ filter is_within_block out
 header_port_outer true n xs out = refl
 header_port_outer false n xs out =
-    filter-append is_within_block out (if_any (first_where (is_port_named n) xs))
+    filter-append is_within_block out (option_to_list (first_where (is_port_named n) xs))
     ∙ ap (λ ys. filter is_within_block out ++ ys) (none_of_any (first_where (is_port_named n) xs) (port_is_outer n xs))
     ∙ append-nil (filter is_within_block out)
 

@@ -33,10 +33,11 @@ use Rattle.elaborate.specs.Checks.{one_instance, instances, with_parameter, para
 use Rattle.elaborate.specs.Overrides.{overridden}
 use Rattle.elaborate.specs.Tables.{Declaration, Table, declare, declare_net, is_input, is_port, kind_of_net}
 use Rattle.unit_names.specs.Signals as signals
-use Rattle.unit_names.specs.Signals.{NamedSignal, with_port, with_ports, with_net, with_nets, item_signals, step_signals, declared_in}
+use Rattle.unit_names.specs.Signals.{NamedSignal, with_port, with_ports, with_net, with_nets, step_signals, declared_in}
 use Rattle.unit_names.specs.UnitLists as lists
+use Rattle.unit_names.proofs.Signals.{port_signal}
 use Rattle.job_laws.specs.Outer.{is_item_outside, are_ports_outside}
-use Rattle.job_laws.proofs.Agreeing.{IsSame, Agrees, other_agrees, port_agrees, net_agrees, port_signal}
+use Rattle.job_laws.proofs.Agreeing.{IsSame, Agrees, other_agrees, port_agrees, net_agrees}
 use Rattle.job_laws.proofs.Ported.{InputsArePorts, inputs_put, inputs_last, net_no_input}
 
 -- what is known of the checks and the signals so far
@@ -91,7 +92,7 @@ port_known here n d k by range signed c e xs outside so same h =
       agrees = subst (λ (t : Checked). Agrees t.declared (with_port None k by range signed n xs)) (sym is.after)
           (port_agrees n d k by range signed c.declared is.table xs so.agrees same
           (subst (λ (b : Option ℕ). declare b n d c.declared ≡ Ok is.table) outside is.taken));
-      inputs = inputs_last xs (port_signal k by range signed n (length xs)) so.inputs refl;
+      inputs = inputs_last xs (port_signal None k by range signed n (length xs)) so.inputs refl;
     }
 
 body_port_known : (here : Reach) (k : DeclarationKind) (s : SignalKind) (by : PortNet) (range : Option BitRange) (signed : Bool) (n : Identifier)

@@ -24,9 +24,10 @@ use Rattle.elaborate.specs.Checks.{Checked, declaration, plain, list_port, decla
 use Rattle.elaborate.specs.Checks.{check_steps}
 use Rattle.elaborate.specs.Tables.{Declaration, initial}
 use Rattle.unit_names.specs.Signals as signals
-use Rattle.unit_names.specs.Signals.{NamedSignal, with_port, with_next, last_of, complete_port, step_signals}
+use Rattle.unit_names.specs.Signals.{NamedSignal, with_port, with_next, last_of, step_signals}
+use Rattle.unit_names.proofs.Signals.{port_signal}
 use Rattle.job_laws.specs.Outer.{are_ports_outside}
-use Rattle.job_laws.proofs.Agreeing.{IsSame, port_signal}
+use Rattle.job_laws.proofs.Agreeing.{IsSame}
 use Rattle.job_laws.proofs.Ported.{net_no_input, last_new}
 use Rattle.job_laws.proofs.Bodies.{IsKnown, StepsGo, plain_so, port_known, parameter_known, quietly, outermost, go_on, first_check, body_goes}
 use Rattle.job_laws.proofs.Headed.{IsHeaded, body, parameter_ahead, listed, declared}
@@ -84,7 +85,7 @@ port_taken here n d value k by range signed c e xs outside so same h =
       ports = ap (λ (t : Checked). t.ports) is ∙ ap (λ (ps : List Identifier). ps ++ n ∷ []) before;
       heading = subst (λ (t : Checked). IsHeading t (with_port None k by range signed n xs)) (sym is) (record {
         known = record { agrees = known.agrees; inputs = known.inputs };
-        last = subst (Behind d) (sym (last_new xs (port_signal k by range signed n (length xs)))) same;
+        last = subst (Behind d) (sym (last_new xs (port_signal None k by range signed n (length xs)))) same;
       });
     }
 

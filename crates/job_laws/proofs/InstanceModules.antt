@@ -47,7 +47,8 @@ is_top : (o : Option ModuleDeclaration) (m : ModuleDeclaration) → top_module o
 is_top None m is = err_or_ok _ m is
 is_top (Some d) m is = ap Some (ok_same d m is)
 
-once_all : (before ms all : List ModuleDeclaration) → named_once before ms ≡ Ok all → all ≡ before ++ ms
+-- where no two modules have one name, all of them are found
+pub once_all : (before ms all : List ModuleDeclaration) → named_once before ms ≡ Ok all → all ≡ before ++ ms
 once_all before [] all is = sym (ok_same before all is) ∙ sym (append-nil before)
 once_all before (m ∷ ms) all is =
     let s = first_step (unless_there (module_named m.name.name.0 before) m.name) (λ _. named_once (before ++ m ∷ []) ms) all is in

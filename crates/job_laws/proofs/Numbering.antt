@@ -2,26 +2,25 @@
 use Rattle.std.proofs.Common.{◌≡◌, ℕ, ◌==◌, Bool, true, false, not, cond, filter, List, [], ◌∷◌, ◌++◌, length, map, append_assoc, append-nil, Ok}
 use Rattle.std.proofs.Common.{refl, sym, ◌∙◌, ap, subst, true≢false}
 use Rattle.std.specs.Prelude.{Option, Some, None, is_some}
+use Rattle.std.specs.Option.{option_to_list}
 use Rattle.std.proofs.lemmas.Bool.{eqb-true, and_parts, and_right}
 use Rattle.std.proofs.lemmas.Option.{none-some, same_Some}
 use Rattle.typed_ir.proofs.Cases.{turned}
 use Rattle.verilog_ast.specs.declared.identifier.Identifier.{Identifier}
 use Rattle.verilog_ast.specs.Declarations.{PortDeclaration, InputPort, OutputPort, NextPort, PortList, NoPorts, NamedPorts, DeclaredPorts}
 use Rattle.gen_unroll.specs.Declarations as declarations
-use Rattle.gen_unroll.specs.Declarations.{BitRange}
+use Rattle.gen_unroll.specs.Declarations.{declared_width}
 use Rattle.gen_unroll.proofs.Answered.{past_need}
 use Rattle.module_names.specs.Listings.{is_listed}
 use Rattle.module_names.specs.Modules as modules
 use Rattle.module_names.specs.Modules.{header_ports}
 use Rattle.elaborate.specs.Checks.{is_declared_port, ports_declared}
-use Rattle.elaborate.specs.Clocks as clocks
 use Rattle.elaborate.specs.Ports.{outline, port_outline, port_outlines}
 use Rattle.elaborate.specs.Tables.{Declaration, Table, declared_as}
-use Rattle.unit_names.specs.Numbers.{header_names, first_where, if_any, is_own_named, number_of_name, with_header_port, ports_onto, is_no_port}
+use Rattle.unit_names.specs.Numbers.{header_names, first_where, is_own_named, number_of_name, with_header_port, ports_onto, is_no_port}
 use Rattle.unit_names.specs.Numbers.{numbered}
 use Rattle.unit_names.specs.Places.{first_of}
 use Rattle.unit_names.specs.Signals.{NamedSignal, is_outermost, is_port, is_port_named}
-use Rattle.unit_names.specs.UnitReaches as reaches
 use Rattle.unit_names.proofs.Searching.{place_last}
 use Rattle.job_laws.specs.Leading.{IsPortSignal, AreNoInputs, AreLeading, rest, port}
 use Rattle.job_laws.proofs.Agreeing.{IsSame, Agree, Agrees, own}
@@ -50,17 +49,13 @@ first_meets test (x ∷ xs) y h = cases (test x) refl (first_meets test xs y) h
     cases true is more e = ap test (sym (same_Some x y e)) ∙ is
     cases false is more e = more e
 
-same_width : (r : Option BitRange) → reaches.width_of r ≡ clocks.width_of r
-same_width None = refl
-same_width (Some r) = refl
-
 is_port_signal : (t : Table) (n : Identifier) (d : Declaration) (x : NamedSignal) → declared_as (own n.name.0) t ≡ Some d → x.name.name.0 ≡ n.name.0
     → IsSame d x.kind x.range x.signed
     → IsPortSignal (port_outline t n) x
 is_port_signal t n d x is name same = subst (λ (o : Option Declaration). IsPortSignal (outline n o) x) (sym is) (record {
   name = name;
   input = same.input;
-  width = same_width x.range ∙ ap clocks.width_of same.range_so;
+  width = ap declared_width same.range_so;
   signed = same.signed_so;
 })
 
@@ -100,8 +95,8 @@ one_more : (n : Identifier) (xs out : List NamedSignal) (x : NamedSignal) → nu
     → first_where (is_port_named n.name.0) xs ≡ Some x
     → with_header_port xs n out ≡ out ++ x ∷ []
 one_more n xs out x none there =
-    ap (λ (o : Option ℕ). cond (is_some o) out (out ++ if_any (first_where (is_port_named n.name.0) xs))) none
-    ∙ ap (λ (o : Option NamedSignal). out ++ if_any o) there
+    ap (λ (o : Option ℕ). cond (is_some o) out (out ++ option_to_list (first_where (is_port_named n.name.0) xs))) none
+    ∙ ap (λ (o : Option NamedSignal). out ++ option_to_list o) there
 
 -- the ports of these names
 record GoOn (ns : List Identifier) (xs out : List NamedSignal) (t : Table) : Type 0 where

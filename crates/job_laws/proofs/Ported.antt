@@ -13,6 +13,7 @@ use Rattle.gen_unroll.specs.Declarations.{BitRange}
 use Rattle.unit_names.specs.Numbers.{first_where}
 use Rattle.unit_names.specs.Signals.{NamedSignal, is_port, is_port_named, kind_of_net, last_of, completed_kind, completed, completes, put}
 use Rattle.unit_names.specs.UnitLists.{is_input}
+use Rattle.unit_names.proofs.Signals.{net_signal}
 
 -- ---- one signal more
 
@@ -54,11 +55,6 @@ last_new xs x =
     ap (slice_get (xs ++ x ∷ [])) before ∙ at_end xs x
 
 -- ---- a net or variable, which completes a port of its name
-
--- what `wire` or `reg` declares
-abbrev pub net_signal : Option ℕ → PortNet → Option BitRange → Bool → Identifier → ℕ → NamedSignal
-net_signal here by range signed n k =
-    record { block = here; name = n; kind = kind_of_net by; range = range; signed = signed; port = false; net = by; order = k }
 
 pub put_same : (by : PortNet) (range : Option BitRange) (signed : Bool) (n : Identifier) (k : ℕ) (xs : List NamedSignal)
     → first_where (is_port_named n.name.0) (put (net_signal None by range signed n k) xs)

@@ -8,13 +8,12 @@ use Rattle.verilog_ast.specs.Items.{ModuleDeclaration}
 use Rattle.gen_unroll.specs.Overriding.{constant_sorts, overrides_of}
 use Rattle.gen_unroll.specs.Reaches.{reach_in}
 use Rattle.gen_unroll.specs.Told.{Told}
-use Rattle.gen_unroll.specs.Unrolled.{State, unrolled_module}
+use Rattle.gen_unroll.specs.Unrolled.{State, unrolled_module, steps_told}
 use Rattle.ls_text.specs.Answers.{◌>>=◌}
 use Rattle.gen_unroll.specs.Values.{ConstantValue, constant_of}
 use Rattle.module_names.specs.Modules.{header_ports}
 use Rattle.elaborate.specs.Checks.{Checked, nothing_checked, check_steps, ports_declared, ended, checked}
 use Rattle.elaborate.specs.Visits.{Visited, clocked, with_clocks, visited}
-use Rattle.unit_build.specs.Building.{steps_told}
 use Rattle.job_laws.specs.Outer.{outer_values}
 use Rattle.job_laws.specs.OuterTrees.{has_outer_ports_alone}
 use Rattle.job_laws.proofs.FoundValues.{Finds, steps_find}

@@ -1,15 +1,15 @@
 -- The ports of a module and the signals of its unit, one by one (IEEE Std 1364-2005, 12.3).
 use Rattle.std.specs.Prelude.{◌≡◌, ⊤, false, List, [], ◌∷◌}
+use Rattle.gen_unroll.specs.Declarations.{declared_width}
 use Rattle.elaborate.specs.Ports.{PortOutline}
 use Rattle.unit_names.specs.Signals.{NamedSignal}
 use Rattle.unit_names.specs.UnitLists.{is_input}
-use Rattle.unit_names.specs.UnitReaches.{width_of}
 
 -- a signal is a port: it has its name, width and sign, and is an input where the port is one
 pub record IsPortSignal (p : PortOutline) (x : NamedSignal) : Type 0 where
   pub name : x.name.name.0 ≡ p.name
   pub input : is_input x.kind ≡ p.input
-  pub width : width_of x.range ≡ p.width
+  pub width : declared_width x.range ≡ p.width
   pub signed : x.signed ≡ p.signed
 
 abbrev pub AreNoInputs : List NamedSignal → Type 0

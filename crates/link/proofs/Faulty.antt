@@ -6,6 +6,7 @@ use Rattle.ls_text.specs.declared.fault.Fault.{Fault as Fault'}
 use Rattle.ls_text.specs.declared.name_id.NameId.{NameId}
 use Rattle.ls_text.specs.declared.refusal.Refusal.{Refusal}
 use Rattle.ls_text.specs.declared.refusal.Refusal.TheVariants.{Fault, NoMemory}
+use Rattle.ls_text.proofs.Growth.{IsKnown}
 use Rattle.typed_ir.specs.declared.flat.Flat.{Flat as Flat'}
 use Rattle.typed_ir.specs.declared.linked.Linked.{Linked}
 use Rattle.typed_ir.specs.Cycles.{Flat}
@@ -22,10 +23,9 @@ use Rattle.link.specs.Listings.{IsTreeOf}
 use Rattle.ls_text.specs.TextViews.{text_of}
 use Rattle.link.specs.Names.{node_text}
 use Rattle.link.proofs.Making.{nodes_of_tree}
-use Rattle.link.proofs.Spelled.{IsNamed}
 
 pub is_loop_fault : (most : ℕ) (old new : List (List ℕ)) (design : Flat) (f : Fault') (circle : List ℕ)
-    → f ≡ record { code = 39; at = Edit; names = f.names } → map (text_of new) f.names ≡ map (node_text old design) circle → All (IsNamed (length new)) f.names
+    → f ≡ record { code = 39; at = Edit; names = f.names } → map (text_of new) f.names ≡ map (node_text old design) circle → All (IsKnown (length new)) f.names
     → IsRefusal (NodeBefore design.nodes) (length design.nodes) (Loop circle) → length design.nodes ≤ most
     → IsLinkFault most old new design (Fault f)
 is_loop_fault most old new design f circle is texts named loop few =

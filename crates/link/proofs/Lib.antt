@@ -1,6 +1,5 @@
 pub mod Listed
 pub mod Steps
-pub mod Rows
 pub mod Paths
 pub mod Copied
 pub mod Reaching

@@ -15,6 +15,8 @@ use Rattle.typed_ir.specs.Nodes.{FlatNode, are_legal}
 use Rattle.typed_ir.specs.Orders.{Each}
 use Rattle.typed_ir.specs.Statements.{stmt_of}
 use Rattle.typed_ir.specs.Stmts.{SizedStmt, is_legal, is_clocked}
+use Rattle.typed_ir.specs.Rows.{row_in}
+use Rattle.typed_ir.proofs.Widths.{widths_stay}
 use Rattle.unit_ir.specs.declared.instance.Instance.{Instance}
 use Rattle.unit_ir.specs.declared.unit.Unit.{Unit as Unit'}
 use Rattle.unit_ir.specs.declared.unit_parts.UnitParts.{UnitParts}
@@ -23,7 +25,7 @@ use Rattle.unit_ir.specs.Shapes.{AreOf}
 use Rattle.unit_ir.specs.Trees.{Instances, Nothing, One, is_legal_block, flat_of_tree, top_inputs, copied_out, signals_at, registers_at, nodes_at, blocks_at}
 use Rattle.unit_ir.proofs.Linking.{flat_sound}
 use Rattle.unit_ir.proofs.Widths.{flat_legal, flat_clocked, flat_registers, flat_inputs}
-use Rattle.link.specs.Copies.{all_sized, copied_from, first_inputs, kids_in, nodes_in, path_at, places_of, row_in}
+use Rattle.link.specs.Copies.{all_sized, copied_from, first_inputs, kids_in, nodes_in, path_at, places_of}
 use Rattle.link.specs.Listings.{Entry, entries_of, instances_in, IsTreeOf, all_parts}
 use Rattle.link.proofs.Copied.{units_within, listed_long, copied_all, nodes_counted}
 use Rattle.link.proofs.Forests.{tree_of}
@@ -113,10 +115,6 @@ nodes_of_tree xs us t long is = nodes_counted t ∙ ap nodes_in (tree_units xs u
 
 -- ---- tests of lists
 
-widths_same : (rows : List InstanceName) (xs : List Signal') → map (λ (x : Signal). x.width) (map (signal_of rows) xs) ≡ signal_widths xs
-widths_same rows [] = refl
-widths_same rows (x ∷ xs) = ap (λ ws. x.width ∷ ws) (widths_same rows xs)
-
 clocked_all : (ws : List ℕ) (sts : List Stmt) → Each (λ st. is_legal_block ws st ≡ true) (map stmt_of sts) → are_clocked sts ws ≡ true
 clocked_all ws [] all = refl
 clocked_all ws (st ∷ sts) all = and_from (is_legal (stmt_of st) ws && is_clocked (stmt_of st)) (are_clocked sts ws) all.0 (clocked_all ws sts all.1)
@@ -145,10 +143,10 @@ keeps_by xs units rows kids signals registers inputs nodes clocked g good =
     let is : flat_from rows signals registers inputs nodes clocked ≡ flat_of_tree t = flat_is g t found.is in
     let count : length (map (signal_of rows) signals) ≡ length signals = length-map signals (signal_of rows) in
     record {
-      legal = subst (λ ws. are_legal (map node_of nodes) ws ≡ true) (widths_same rows signals)
+      legal = subst (λ ws. are_legal (map node_of nodes) ws ≡ true) (widths_stay rows signals)
           (subst (λ (d : Flat). are_legal d.nodes (map (λ (x : Signal). x.width) d.signals) ≡ true) (sym is) (flat_legal t well.1));
       blocks = clocked_all (signal_widths signals) clocked
-          (subst (λ ws. Each (λ st. is_legal_block ws st ≡ true) (map stmt_of clocked)) (widths_same rows signals)
+          (subst (λ ws. Each (λ st. is_legal_block ws st ≡ true) (map stmt_of clocked)) (widths_stay rows signals)
           (subst (λ (d : Flat). Each (λ st. is_legal_block (map (λ (x : Signal). x.width) d.signals) st ≡ true) d.clocked) (sym is) (flat_clocked t well.1)));
       registers_there = below_all (length signals) registers (subst (λ n. Each (λ s. s < n) registers) count
           (subst (λ (d : Flat). Each (λ s. s < length d.signals) d.registers) (sym is) (flat_registers t well.0)));

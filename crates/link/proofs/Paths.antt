@@ -1,7 +1,9 @@
 -- The paths of the instances of a tree, by their table.
 use Rattle.std.proofs.Common.{◌≡◌, ℕ, suc, ◌+◌, ◌<◌, List, [], ◌∷◌, ◌++◌, map, length, Option, Some, None, append_assoc, append-nil, refl, sym, ◌∙◌, ap, subst, arith}
 use Rattle.std.specs.Prelude.{slice_index_or}
-use Rattle.std.proofs.lemmas.List.{length-append, map-append, get_or_append_left, get_or-append-add}
+use Rattle.std.proofs.lemmas.List.{length-append, map-append, get_or-append-add}
+use Rattle.ls_text.specs.Texts.{Grows}
+use Rattle.ls_text.proofs.Growth.{grows_none, grows_on, grown_text}
 use Rattle.typed_ir.specs.declared.instance_name.InstanceName.{InstanceName}
 use Rattle.typed_ir.specs.Paths.{path_above, path_next, paths_from}
 use Rattle.unit_ir.specs.Trees.{Instances, Nothing, One}
@@ -15,30 +17,20 @@ HasPaths at path index Nothing = Unit {0}
 HasPaths at path index (One name u within after) =
     (at index ≡ path ++ name ∷ []) × HasPaths at (path ++ name ∷ []) (suc index) within × HasPaths at path (suc index + instances_in within) after
 
-pub record Longer (old new : List (List ℕ)) : Type 0 where
-  pub more : List (List ℕ)
-  pub begins : new ≡ old ++ more
-
-longer_on : (a b c : List (List ℕ)) → Longer a b → Longer b c → Longer a c
-longer_on a b c g h = record { more = g.more ++ h.more; begins = h.begins ∙ ap (λ t. t ++ h.more) g.begins ∙ append_assoc a g.more h.more }
-
-pub paths_longer : (paths : List (List ℕ)) (rows : List InstanceName) → Longer paths (paths_from paths rows)
-paths_longer paths [] = record { more = []; begins = sym (append-nil paths) }
-paths_longer paths (x ∷ xs) =
+pub paths_grow : (paths : List (List ℕ)) (rows : List InstanceName) → Grows paths (paths_from paths rows)
+paths_grow paths [] = grows_none paths
+paths_grow paths (x ∷ xs) =
     let one = path_next paths x.parent x.name.0 ∷ [] in
-    longer_on paths (paths ++ one) (paths_from (paths ++ one) xs) (record { more = one; begins = refl }) (paths_longer (paths ++ one) xs)
-
-pub longer_keeps : (old new : List (List ℕ)) (k : ℕ) → Longer old new → k < length old → slice_index_or new k [] ≡ slice_index_or old k []
-longer_keeps old new k g h = ap (λ t. slice_index_or t k []) g.begins ∙ get_or_append_left old g.more [] k h
+    grows_on paths (paths ++ one) (paths_from (paths ++ one) xs) (record { more = one; begins = refl }) (paths_grow (paths ++ one) xs)
 
 IsThere : ℕ → Option ℕ → Type 0
 IsThere n None = Unit {0}
 IsThere n (Some p) = p < n
 
-above_kept : (old new : List (List ℕ)) (parent : Option ℕ) → Longer old new → IsThere (length old) parent → path_above new parent ≡ path_above old parent
+above_kept : (old new : List (List ℕ)) (parent : Option ℕ) → Grows old new → IsThere (length old) parent → path_above new parent ≡ path_above old parent
 unfolding IsThere
 above_kept old new None g h = refl
-above_kept old new (Some p) g h = longer_keeps old new p g h
+above_kept old new (Some p) g h = grown_text old new p g h
 
 there_kept : (m n : ℕ) (parent : Option ℕ) → IsThere m parent → (m < suc n) → IsThere n parent
 unfolding IsThere
@@ -48,7 +40,7 @@ there_kept m n (Some p) h k = omega (arith, h, k)
 record Walked (paths : List (List ℕ)) (parent : Option ℕ) (index : ℕ) (path : List ℕ) (tree : Instances) (rest : List InstanceName) (final : List (List ℕ)) : Type 0 where
   behind : List (List ℕ)
   left : final ≡ paths_from behind rest
-  longer : Longer paths behind
+  longer : Grows paths behind
   long : length behind ≡ index + instances_in tree
   has : HasPaths (λ k. slice_index_or final k []) path index tree
 
@@ -60,7 +52,7 @@ unfolding IsThere
 walked paths parent index path Nothing rest final long above there is = record {
   behind = paths;
   left = is;
-  longer = record { more = []; begins = sym (append-nil paths) };
+  longer = grows_none paths;
   long = omega (arith, long);
   has = tt;
 }
@@ -69,7 +61,7 @@ walked paths parent index path (One name u within after) rest final long above t
     let w = map row_of (listed (Some index) (suc index) within) in
     let a = map row_of (listed parent (suc index + instances_in within) after) in
     let second = paths ++ here ∷ [] in
-    let more : Longer paths second = record { more = here ∷ []; begins = refl } in
+    let more : Grows paths second = record { more = here ∷ []; begins = refl } in
     let second_long : length second ≡ suc index = length-append paths (here ∷ []) ∙ omega (arith, long) in
     let mine : slice_index_or second index [] ≡ here =
     ap (λ n. slice_index_or second n []) (sym long ∙ omega arith) ∙ get_or-append-add paths (here ∷ []) 0 [] in
@@ -80,18 +72,18 @@ walked paths parent index path (One name u within after) rest final long above t
     ∙ ap (paths_from second) (append_assoc w a rest) in
     let inner = walked second (Some index) (suc index) here within (a ++ rest) final second_long mine (omega arith) one in
     let third = inner.behind in
-    let grown : Longer paths third = longer_on paths second third more inner.longer in
+    let grown : Grows paths third = grows_on paths second third more inner.longer in
     let later = walked third parent (suc index + instances_in within) path after rest final inner.long
     (above_kept paths third parent grown (subst (λ n. IsThere n parent) (sym long) there) ∙ above)
     (there_kept index (suc index + instances_in within) parent there (omega arith)) inner.left in
-    let whole : Longer second final = subst (Longer second) (sym one) (paths_longer second (w ++ (a ++ rest))) in
+    let whole : Grows second final = subst (Grows second) (sym one) (paths_grow second (w ++ (a ++ rest))) in
     let inside : index < length second = omega (arith, second_long) in
     record {
       behind = later.behind;
       left = later.left;
-      longer = longer_on paths third later.behind grown later.longer;
+      longer = grows_on paths third later.behind grown later.longer;
       long = omega (arith, later.long);
-      has = (longer_keeps second final index whole inside ∙ mine, inner.has, later.has);
+      has = (grown_text second final index whole inside ∙ mine, inner.has, later.has);
     }
 
 pub has_paths : (tree : Instances) → HasPaths (λ k. slice_index_or (paths_from [] (map row_of (listed None 0 tree))) k []) [] 0 tree

@@ -1,7 +1,7 @@
 -- One unit more, in the loops over all units.
 use Rattle.std.proofs.Common.{◌≡◌, ℕ, suc, ◌+◌, ◌-◌, ◌<◌, ◌≤◌, false, nat_le, List, ◌++◌, map, length, get_or, drop, Global, true≢false, sym, ◌∙◌, ap, ap₂, leb-true, le-leb, arith}
 use Rattle.std.specs.declared.sync.Arc.{Arc}
-use Rattle.std.proofs.lemmas.List.{length-map}
+use Rattle.std.proofs.lemmas.List.{length-map, append-nil, at_drop_all}
 use Rattle.typed_ir.proofs.Cases.{by_cases}
 use Rattle.typed_ir.proofs.Lists.{drop_read}
 use Rattle.unit_ir.specs.declared.unit.Unit.{Unit as Unit'}
@@ -28,6 +28,13 @@ unit_stepped own at kids units i first next x mid new whole h is next_is new_is 
     units i x (own (record { path = at i; first = first; kids = kids i }) u) mid new whole h is
     (ap₂ (λ k f. own (record { path = at i; first = first; kids = kids i }) u ++ copied_from own at kids k f (all_sized (all_parts (drop (i + 1) units)))) more behind)
     new_is left
+
+-- behind the last unit nothing is left
+pub all_stepped : {A : Type 0} (own : Standing → SizedUnit → List A) (at kids : ℕ → List ℕ) (units : List (Arc Unit' Global)) (i first : ℕ) (mid whole : List A)
+    → length units ≤ i
+    → mid ++ copied_from own at kids i first (all_sized (all_parts (drop i units))) ≡ whole → mid ≡ whole
+all_stepped own at kids units i first mid whole past left =
+    sym (append-nil mid) ∙ sym (at_drop_all (λ (zs : List (Arc Unit' Global)). mid ++ copied_from own at kids i first (all_sized (all_parts zs))) units i past) ∙ left
 
 -- ---- how many nodes
 

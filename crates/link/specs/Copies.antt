@@ -1,7 +1,5 @@
 -- What the instances of a table give, one after another.
-use Rattle.std.specs.Prelude.{ℕ, zero, suc, ◌+◌, List, [], ◌∷◌, ◌++◌, map, length, slice_index_or, if◌then◌else◌}
-use Rattle.std.specs.Global.{Global}
-use Rattle.std.specs.declared.vec.Vec.{Vec}
+use Rattle.std.specs.Prelude.{ℕ, suc, ◌+◌, List, [], ◌∷◌, ◌++◌, map, length, slice_index_or, if◌then◌else◌}
 use Rattle.typed_ir.specs.declared.instance_name.InstanceName.{InstanceName}
 use Rattle.typed_ir.specs.Paths.{paths_of}
 use Rattle.unit_ir.specs.declared.instance.Instance.{Instance}
@@ -15,12 +13,6 @@ use Rattle.link.specs.Listings.{Entry}
 abbrev pub kids_in : ℕ → ℕ → List Entry → List ℕ
 kids_in k first [] = []
 kids_in k first (x ∷ xs) = (if stands_in k x.parent then first ∷ [] else []) ++ kids_in k (first + length x.unit.signals) xs
-
--- a row of a table, empty where there is none
-abbrev pub row_in : List (Vec ℕ Global) → ℕ → List ℕ
-row_in [] k = []
-row_in (r ∷ rs) zero = r.items
-row_in (r ∷ rs) (suc k) = row_in rs k
 
 abbrev pub path_at : List InstanceName → ℕ → List ℕ
 path_at rows k = slice_index_or (paths_of rows) k []

@@ -5,9 +5,10 @@ ghost use Rattle.typed_ir.specs.Flats.{signal_of, are_within};
 ghost use Rattle.typed_ir.specs.FlatNodes.{node_of};
 ghost use Rattle.typed_ir.specs.Linkeds.{flat};
 ghost use Rattle.typed_ir.specs.Statements.{stmt_of};
+ghost use Rattle.typed_ir.specs.Rows.{row_in};
 ghost use Rattle.unit_ir.specs.Shapes.{AreOf};
 ghost use Rattle.unit_ir.specs.Trees.{Instances, flat_of_tree, signals_at, registers_at, nodes_at, blocks_at};
-ghost use Rattle.link.specs.Copies.{all_sized, copied_from, first_inputs, nodes_in, path_at, places_of, row_in};
+ghost use Rattle.link.specs.Copies.{all_sized, copied_from, first_inputs, nodes_in, path_at, places_of};
 ghost use Rattle.link.specs.Listings.{IsTreeOf, all_parts};
 
 use crate::copies::Copies;

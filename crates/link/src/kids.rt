@@ -1,7 +1,8 @@
 // Instances with their units to the first signals of the instances that stand in each.
 ghost use Rattle.std.specs.Prelude.{◌≡◌, ◌++◌, ◌∷◌, [], ◌+◌, ◌<◌, ℕ, IfOk, length, if◌then◌else◌};
+ghost use Rattle.typed_ir.specs.Rows.{row_in};
 ghost use Rattle.unit_ir.specs.Shapes.{stands_in};
-ghost use Rattle.link.specs.Copies.{row_in, kids_in};
+ghost use Rattle.link.specs.Copies.{kids_in};
 ghost use Rattle.link.specs.Listings.{entries_of, all_parts};
 
 use no_memory::NoMemory;

@@ -14,12 +14,11 @@ use Rattle.book_history.proofs.Owned.{owned_append}
 use Rattle.cycle_eval.specs.declared.design.Design.{Design}
 use Rattle.live_session.specs.AtTurn.{Sight, StandsAt, carried_settings, log_of}
 use Rattle.live_session.specs.Beside.{IsOutlined, Stands, StandsBeside, settings_by, world_in}
-use Rattle.live_session.specs.Logs.{InputRow, Log, LogEvent, LogMoment, State, kit, marks_of, moments_after, outline_of, valid}
+use Rattle.live_session.specs.Logs.{InputRow, IsLegal, Log, LogEvent, LogMoment, State, kit, marks_of, moments_after, outline_of, valid}
 use Rattle.live_session.specs.Sessions.{limits_of, world}
 use Rattle.live_session.specs.declared.limits.Limits.{Limits}
 use Rattle.live_session.specs.declared.running.Running.{Running}
 use Rattle.live_session.specs.declared.session.Session.{Session}
-use Rattle.live_session.proofs.Standing.{IsLegal}
 
 -- ---- entries of others
 

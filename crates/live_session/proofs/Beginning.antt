@@ -29,7 +29,7 @@ use Rattle.version_swap.specs.declared.texts.Texts.{Texts}
 use Rattle.live_session.specs.Begins.{Begins, IsBegun, Starts, StartsIn}
 use Rattle.live_session.specs.Beside.{Stands, settings_by}
 use Rattle.live_session.specs.Files.{TextFile, text_file}
-use Rattle.live_session.specs.Logs.{InputRow, Log, LogEvent, State, book_in, marks_of, outline_of}
+use Rattle.live_session.specs.Logs.{InputRow, IsLegal, Log, LogEvent, State, book_in, marks_of, outline_of}
 use Rattle.live_session.specs.Rows.{row_of}
 use Rattle.live_session.specs.Scripts.{Agrees}
 use Rattle.live_session.specs.Sessions.{held_texts}
@@ -43,7 +43,7 @@ use Rattle.live_session.proofs.AscendingRows.{AreWithin}
 use Rattle.live_session.proofs.BlockTexts.{IsBlockBehind}
 use Rattle.live_session.proofs.HeldTexts.{IsDigested, built_behind, held_behind, made_digested}
 use Rattle.live_session.proofs.NextWorlds.{IsNext, files_in, its_clock_in, its_top_in, takes_next}
-use Rattle.live_session.proofs.Standing.{IsLegal, outline_behind}
+use Rattle.live_session.proofs.Standing.{outline_behind}
 use Rattle.live_session.proofs.TextFiles.{AreSourcesWithin}
 
 -- ---- a book without a version

@@ -7,10 +7,11 @@ use Rattle.ls_text.specs.declared.name_id.NameId.{NameId}
 use Rattle.ls_text.specs.declared.source_file.SourceFile.{SourceFile}
 use Rattle.ls_text.specs.Readings.{TextFault}
 use Rattle.ls_text.specs.Texts.{Grows, HasEachOnce, text_at}
+use Rattle.ls_text.specs.TextViews.{text_of}
 use Rattle.ls_text.proofs.Growth.{grown_id, grown_text}
 use Rattle.command_read.proofs.Grown.{all_so, grown_names, grown_operation, same_map}
 use Rattle.command_read.specs.Asking.{Block, LineOperation}
-use Rattle.command_read.specs.Spoken.{AreOpsWithin, IsEditWithin, IsWithin, edited, line_operation, name_of}
+use Rattle.command_read.specs.Spoken.{AreOpsWithin, IsEditWithin, IsWithin, edited, line_operation}
 use Rattle.command_read.specs.declared.edit.Edit.{Edit}
 use Rattle.command_read.specs.declared.op_line.OpLine.{OpLine}
 use Rattle.reg_ops.specs.Operations.{HasNames, Operation, operation}
@@ -38,14 +39,14 @@ pub record AreTexts (names : List (List ℕ)) (t : Texts) (w : World) : Type 0 w
 
 module _ (old new : List (List ℕ)) (grows : Grows old new) where
   maybe_named : (given top : Option NameId) → IsWithin (length old) given → IsWithin (length old) top
-      → HasMaybe new (option_or given top) (option_or (option_map (name_of old) given) (option_map (λ (id : NameId). text_at old id.0) top))
+      → HasMaybe new (option_or given top) (option_or (option_map (text_of old) given) (option_map (λ (id : NameId). text_at old id.0) top))
   maybe_named (Some id) top within also = (grown_id old new id.0 grows within, grown_text old new id.0 grows within)
   maybe_named None None within also = tt
   maybe_named None (Some id) within also = (grown_id old new id.0 grows also, grown_text old new id.0 grows also)
 
   top_spoken : (given top : Option NameId) → IsWithin (length old) given → IsWithin (length old) top
       → option_map (λ (id : NameId). text_at new id.0) (option_or given top)
-      ≡ option_or (option_map (name_of old) given) (option_map (λ (id : NameId). text_at old id.0) top)
+      ≡ option_or (option_map (text_of old) given) (option_map (λ (id : NameId). text_at old id.0) top)
   top_spoken (Some id) top within also = ap Some (grown_text old new id.0 grows within)
   top_spoken None None within also = refl
   top_spoken None (Some id) within also = ap Some (grown_text old new id.0 grows also)
@@ -57,7 +58,7 @@ module _ (old new : List (List ℕ)) (grows : Grows old new) where
   top_within None (Some id) within also = grown_id old new id.0 grows also
 
   clock_named : (given : Option NameId) (clock : NameId) → IsWithin (length old) given → clock.0 < length old
-      → HasText new (unwrap_or given clock) (unwrap_or (option_map (name_of old) given) (text_at old clock.0))
+      → HasText new (unwrap_or given clock) (unwrap_or (option_map (text_of old) given) (text_at old clock.0))
   clock_named None clock within lt = (grown_id old new clock.0 grows lt, grown_text old new clock.0 grows lt)
   clock_named (Some id) clock within lt = (grown_id old new id.0 grows within, grown_text old new id.0 grows within)
 

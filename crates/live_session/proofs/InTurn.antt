@@ -19,7 +19,7 @@ use Rattle.live_session.specs.Beside.{StandsBeside, settings_in, world_in}
 use Rattle.live_session.specs.CutShort.{HasStayed, IsCutShort}
 use Rattle.live_session.specs.Done.{IsDone, told}
 use Rattle.live_session.specs.Judging.{verdict_on}
-use Rattle.live_session.specs.Logs.{Log, LogEvent, LogMoment, moments_after}
+use Rattle.live_session.specs.Logs.{IsLegal, Log, LogEvent, LogMoment, moments_after}
 use Rattle.live_session.specs.Readings.{IsRight}
 use Rattle.live_session.specs.Replies.{answer_text}
 use Rattle.live_session.specs.Scripts.{IsAccepted, IsJudged, IsPart}
@@ -31,7 +31,6 @@ use Rattle.live_session.specs.declared.reply.Reply.{Reply}
 use Rattle.live_session.specs.declared.session.Session.{Session}
 use Rattle.live_session.proofs.Among.{Meets, all_among, events_among, own_among, same_settings, same_world, spoken_among}
 use Rattle.live_session.proofs.ShownBeside.{few_moved}
-use Rattle.live_session.proofs.Standing.{IsLegal}
 
 -- ---- entries of one turn
 

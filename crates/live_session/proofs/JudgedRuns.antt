@@ -16,7 +16,7 @@ use Rattle.stimulus.specs.Rows.{names_set, are_same as same_numbers}
 use Rattle.cycle_eval.specs.declared.design.Design.{Design}
 use Rattle.live_session.specs.Beside.{Stands, settings_by}
 use Rattle.live_session.specs.Kept.{IsKept}
-use Rattle.live_session.specs.Logs.{InputRow, Log, LogMoment, book_in, marks_of, outline_of}
+use Rattle.live_session.specs.Logs.{InputRow, IsLegal, Log, LogMoment, book_in, marks_of, outline_of}
 use Rattle.live_session.specs.Rows.{Row, are_same, row_of}
 use Rattle.live_session.specs.Runs.{run_code}
 use Rattle.live_session.specs.Sessions.{settings_of, world_of}
@@ -30,7 +30,7 @@ use Rattle.live_session.specs.declared.running.Running.{Running}
 use Rattle.live_session.proofs.AscendingRows.{AreWithin}
 use Rattle.live_session.proofs.Judged.{entry_done, refuses_in}
 use Rattle.live_session.proofs.RunRows.{cycles_behind, judged_by_code, length_run, map_replicate, names_counted, rows_added, rows_named, verdict_by}
-use Rattle.live_session.proofs.Standing.{Adds, IsLegal, agrees_in, outline_behind, stands_on}
+use Rattle.live_session.proofs.Standing.{Adds, agrees_in, outline_behind, stands_on}
 
 -- what runs behind a run: these rows are recorded, and one entry is charged
 pub record RunsOn (r new : Running) (rows : List InputRow) : Type 0 where

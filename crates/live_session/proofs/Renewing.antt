@@ -37,7 +37,7 @@ use Rattle.live_session.specs.Begins.{GoesOn, LosesLine, SaysSo, line_lost, noth
 use Rattle.live_session.specs.Beside.{RunsIn, Stands, settings_by}
 use Rattle.live_session.specs.Files.{text_file}
 use Rattle.live_session.specs.Kept.{IsKept}
-use Rattle.live_session.specs.Logs.{InputRow, Log, LogEvent, Ops, State, book_in, marks_of, outline_of, valid}
+use Rattle.live_session.specs.Logs.{InputRow, IsLegal, Log, LogEvent, Ops, State, book_in, marks_of, outline_of, valid}
 use Rattle.live_session.specs.Rows.{row_of}
 use Rattle.live_session.specs.Scripts.{Agrees, IsCurrent}
 use Rattle.live_session.specs.Sessions.{held_texts, world_of}
@@ -56,7 +56,7 @@ use Rattle.live_session.proofs.DesignNames.{runs_within}
 use Rattle.live_session.proofs.Growing.{kept_grown, row_grown, rows_grown, spelled_grown, world_grown}
 use Rattle.live_session.proofs.HeldTexts.{IsDigested, built_behind, cut_to, held_behind, made_digested}
 use Rattle.live_session.proofs.NextWorlds.{IsNext, files_in, its_clock_in, its_top_in, takes_fault, takes_next}
-use Rattle.live_session.proofs.Standing.{Adds, IsLegal, outline_behind, stands_on}
+use Rattle.live_session.proofs.Standing.{Adds, outline_behind, stands_on}
 
 -- ---- what runs
 

@@ -17,7 +17,7 @@ use Rattle.live_session.specs.AtTurn.{Sight, StandsAt, log_of}
 use Rattle.live_session.specs.Beside.{StandsBeside, settings_in, world_in}
 use Rattle.live_session.specs.Charging.{charge_for}
 use Rattle.live_session.specs.Kept.{IsKept}
-use Rattle.live_session.specs.Logs.{InputRow, Log, State, book_in, kit, marks_of, valid}
+use Rattle.live_session.specs.Logs.{InputRow, IsLegal, Log, State, book_in, kit, marks_of, valid}
 use Rattle.live_session.specs.Sessions.{limits_of, running_world, world, world_of}
 use Rattle.live_session.specs.Settings.{Settings}
 use Rattle.live_session.specs.Steps.{StepsTo, Stops, undone}
@@ -33,7 +33,6 @@ use Rattle.live_session.proofs.SessionSteps.{answered, answers_on}
 use Rattle.live_session.proofs.SettleRoom.{settle_refused}
 use Rattle.live_session.proofs.SettledAtTurn.{book_is}
 use Rattle.live_session.proofs.SharedSettles.{cancel, events_are, owned_of, settings_same}
-use Rattle.live_session.proofs.Standing.{IsLegal}
 
 -- ---- what a look leaves
 

@@ -20,7 +20,7 @@ use Rattle.live_session.specs.Charging.{IsChargedFor, charge_for}
 use Rattle.live_session.specs.CutShort.{IsCutShort}
 use Rattle.live_session.specs.Done.{IsDone}
 use Rattle.live_session.specs.Kept.{IsKept}
-use Rattle.live_session.specs.Logs.{InputRow, Log, LogEvent, State, book_in, marks_of, moments_after, outline_of}
+use Rattle.live_session.specs.Logs.{InputRow, IsLegal, Log, LogEvent, State, book_in, marks_of, moments_after, outline_of}
 use Rattle.live_session.specs.Sessions.{world_of}
 use Rattle.live_session.specs.Shown.{settle_text}
 use Rattle.live_session.specs.Turns.{Accepts, AnswersIn, Refuses}
@@ -32,7 +32,7 @@ use Rattle.live_session.specs.declared.running.Running.{Running}
 use Rattle.live_session.proofs.ChargedShows.{no_room}
 use Rattle.live_session.proofs.Judged.{refuses_in}
 use Rattle.live_session.proofs.ShownBeside.{IsCharged, settle_done, settle_short}
-use Rattle.live_session.proofs.Standing.{Adds, IsLegal, StaysRun, runs_still, stands_still}
+use Rattle.live_session.proofs.Standing.{Adds, StaysRun, runs_still, stands_still}
 
 -- the lines of a settle tell the cycle and the version
 settle_lines : (w v : World) (answer : Option ℕ) → cycle w ≡ cycle v → w.version ≡ v.version → settle_text w answer ≡ settle_text v answer

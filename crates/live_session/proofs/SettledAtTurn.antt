@@ -17,13 +17,12 @@ use Rattle.turn_settle.specs.Settled.{HasSettledBeside, HasTriedBeside}
 use Rattle.live_session.specs.AtTurn.{Sight, StandsAt, log_of}
 use Rattle.live_session.specs.Beside.{Stands, charge_of, world_in}
 use Rattle.live_session.specs.Kept.{IsKept}
-use Rattle.live_session.specs.Logs.{InputRow, LogEvent, State, book_in, kit, marks_of, valid}
+use Rattle.live_session.specs.Logs.{InputRow, IsLegal, LogEvent, State, book_in, kit, marks_of, valid}
 use Rattle.live_session.specs.declared.limits.Limits.{Limits}
 use Rattle.live_session.specs.declared.running.Running.{Running}
 use Rattle.live_session.specs.declared.session.Session.{Session}
 use Rattle.live_session.proofs.SettledBeside.{charged_by, opened_by, runs_by, settled_stands, tried_stands}
 use Rattle.live_session.proofs.SharedSettles.{events_are, owned_of, settings_same}
-use Rattle.live_session.proofs.Standing.{IsLegal}
 
 -- what is charged has room
 kept_room : (names : List (List ℕ)) (limits : Limits) (o : Option Running) → is_some o ≡ true → IfSome o (IsKept names limits)

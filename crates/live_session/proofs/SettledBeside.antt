@@ -12,12 +12,12 @@ use Rattle.checkpoint_book.specs.Views.{IsOpened, counts_of}
 use Rattle.cycle_eval.specs.declared.design.Design.{Design}
 use Rattle.module_registry.specs.Entries.{Entry}
 use Rattle.live_session.specs.Beside.{RunsIn, Stands, charge_of}
-use Rattle.live_session.specs.Logs.{InputRow, Log, LogEvent, book_in, outline_of}
+use Rattle.live_session.specs.Logs.{InputRow, IsLegal, Log, LogEvent, book_in, outline_of}
 use Rattle.live_session.specs.Sessions.{running_world}
 use Rattle.live_session.specs.declared.limits.Limits.{Limits}
 use Rattle.live_session.specs.declared.running.Running.{Running}
 use Rattle.live_session.proofs.ShownTables.{opened_there}
-use Rattle.live_session.proofs.Standing.{Adds, IsLegal, stands_on}
+use Rattle.live_session.proofs.Standing.{Adds, stands_on}
 
 -- the book of what runs has a version
 pub opened_by : (limits : Limits) (o : Option Running) (j : Log) → is_some o ≡ true → Stands limits o j → IsOpened (book_in j)

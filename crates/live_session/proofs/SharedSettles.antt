@@ -15,10 +15,9 @@ use Rattle.book_turn.proofs.Histories.{added_append}
 use Rattle.book_turn.specs.Turns.{HasAdded}
 use Rattle.cycle_eval.specs.declared.design.Design.{Design}
 use Rattle.live_session.specs.AtTurn.{Sight, StandsAt, carried_settings, log_of}
-use Rattle.live_session.specs.Logs.{InputRow, Log, LogEvent, LogMoment, State, kit, moments_after, outline_of, valid}
+use Rattle.live_session.specs.Logs.{InputRow, IsLegal, Log, LogEvent, LogMoment, State, kit, moments_after, outline_of, valid}
 use Rattle.live_session.specs.declared.session.Session.{Session}
 use Rattle.live_session.proofs.Among.{quiet_entry}
-use Rattle.live_session.proofs.Standing.{IsLegal}
 
 abbrev has_none : List LogEvent → Bool
 has_none [] = true

@@ -17,7 +17,7 @@ use Rattle.live_session.specs.Beside.{RunsIn, Stands, settings_by}
 use Rattle.live_session.specs.CutShort.{IsCutShort}
 use Rattle.live_session.specs.Done.{IsDone}
 use Rattle.live_session.specs.Kept.{IsKept}
-use Rattle.live_session.specs.Logs.{InputRow, Log, LogEvent, LogMoment, State, book_in, kit, marks_of, moments_after, outline_of}
+use Rattle.live_session.specs.Logs.{InputRow, IsLegal, Log, LogEvent, LogMoment, State, book_in, kit, marks_of, moments_after, outline_of}
 use Rattle.live_session.specs.Scripts.{Agrees}
 use Rattle.live_session.specs.Sessions.{world_of}
 use Rattle.live_session.specs.Shown.{display_lines, last_values, settle_text}
@@ -30,7 +30,7 @@ use Rattle.live_session.specs.declared.reply.Reply.{Reply}
 use Rattle.live_session.specs.declared.running.Running.{Running}
 use Rattle.live_session.proofs.ChargedShows.{has_room}
 use Rattle.live_session.proofs.Judged.{entry_done}
-use Rattle.live_session.proofs.Standing.{Adds, IsLegal, StaysRun, agrees_in, outline_behind, stands_left}
+use Rattle.live_session.proofs.Standing.{Adds, StaysRun, agrees_in, outline_behind, stands_left}
 
 -- the number of passes goes with the entries
 pub few_moved : (es fs : List LogEvent) (same : es ≡ fs) (u : IsUnfinished es) (n : ℕ) → u.count < n → (subst IsUnfinished same u).count < n

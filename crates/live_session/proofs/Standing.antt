@@ -17,7 +17,7 @@ use Rattle.stimulus.specs.Records.{rows_of}
 use Rattle.version_swap.specs.Behind.{design_of}
 use Rattle.live_session.specs.Beside.{RunsIn, Stands}
 use Rattle.live_session.specs.Kept.{IsKept}
-use Rattle.live_session.specs.Logs.{InputRow, Log, LogEvent, kit, marks_of, outline_of, valid}
+use Rattle.live_session.specs.Logs.{InputRow, IsLegal, Log, LogEvent, kit, marks_of, outline_of, valid}
 use Rattle.live_session.specs.Rows.{row_of}
 use Rattle.live_session.specs.Scripts.{Agrees, IsCurrent}
 use Rattle.live_session.specs.Sessions.{world_of}
@@ -26,9 +26,6 @@ use Rattle.live_session.specs.declared.limits.Limits.{Limits}
 use Rattle.live_session.specs.declared.running.Running.{Running}
 use Rattle.live_session.proofs.AscendingRows.{AreWithin}
 use Rattle.live_session.proofs.DesignNames.{runs_within}
-
-abbrev pub IsLegal : Log → Type 0
-IsLegal j = Legal kit valid j.settings j.events
 
 -- ---- entries of the session alone
 

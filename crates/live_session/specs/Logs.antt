@@ -3,6 +3,7 @@ use Rattle.std.specs.Prelude.{ℕ, List, Option, None}
 use Rattle.machine.specs.Kit.{Kit}
 use Rattle.book_history.specs.Book.{Book, Event, replay}
 use Rattle.book_history.specs.Journal.{Journal}
+use Rattle.book_history.specs.Legal.{Legal}
 use Rattle.book_history.specs.Moments.{Moment, moments_from}
 use Rattle.book_history.specs.Outline.{Outline, outline_in}
 use Rattle.cycle_eval.specs.Designs.{design_flat}
@@ -44,6 +45,10 @@ kit = record {
 -- no operation breaks a condition
 abbrev pub valid : Design → Design → Ops → Type 0
 valid old m ops = IsValid ops (design_flat old) (design_flat m)
+
+-- a legal history of designs
+abbrev pub IsLegal : Log → Type 0
+IsLegal j = Legal kit valid j.settings j.events
 
 abbrev pub book_in : Log → Option (Book Design State InputRow)
 book_in j = replay kit j.settings j.events

@@ -1,5 +1,5 @@
 -- What a history has of the commands that were carried out, and of one more.
-use Rattle.std.proofs.Common.{◌≡◌, ◌⊎◌, inl, inr, ℕ, Bool, true, List, [], ◌∷◌, ◌++◌, Option, None, Result, refl, sym, ap, ◌∙◌, subst, append-nil, append_assoc}
+use Rattle.std.proofs.Common.{◌≡◌, ◌⊎◌, inl, inr, ℕ, Bool, List, [], ◌∷◌, ◌++◌, Option, None, Result, refl, sym, ap, ◌∙◌, subst, append-nil, append_assoc}
 use Rattle.book_history.specs.Book.{Closes, Settings as BookSettings}
 use Rattle.book_history.specs.Legal.{Legal}
 use Rattle.book_history.specs.Moments.{moments_from}
@@ -11,14 +11,14 @@ use Rattle.command_read.specs.Asking.{Asked}
 use Rattle.ls_text.specs.Readings.{TextFault}
 use Rattle.live_session.specs.Done.{IsDone}
 use Rattle.live_session.specs.Judging.{after, verdict_on, world_after}
-use Rattle.live_session.specs.Logs.{Log, LogEvent, LogMoment, book_in, kit, moments_after, moments_of, valid}
+use Rattle.live_session.specs.Logs.{IsLegal, Log, LogEvent, LogMoment, book_in, kit, moments_after, moments_of, valid}
 use Rattle.live_session.specs.Replies.{lines, text_then}
 use Rattle.live_session.specs.Scripts.{IsScript}
 use Rattle.live_session.specs.Settings.{Settings}
 use Rattle.live_session.specs.Verdicts.{Told}
 use Rattle.live_session.specs.Worlds.{World, fresh}
 use Rattle.live_session.proofs.SharedSettles.{AreQuiet, unfinished_quiet, unspoken_among}
-use Rattle.livesim.specs.Histories.{EndsFrom, IsLegal}
+use Rattle.livesim.specs.Histories.{EndsFrom}
 use Rattle.livesim.specs.Runs.{HasEntries, all_entries, unfinished_settle, no_entries, HasSettings, IsCut}
 use Rattle.livesim.proofs.Steps.{after-append, script-append}
 

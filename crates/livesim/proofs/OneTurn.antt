@@ -1,5 +1,5 @@
 -- What a turn does, by what is read.
-use Rattle.std.proofs.Common.{◌≡◌, ◌⊎◌, inl, inr, ℕ, ◌<◌, Bool, true, false, List, [], ◌∷◌, Option, Some, None, Result, Ok, Err, refl, sym, ap, subst, append-nil, arith}
+use Rattle.std.proofs.Common.{◌≡◌, ◌⊎◌, inl, inr, ℕ, ◌<◌, Bool, true, false, List, [], ◌∷◌, Option, Some, None, Result, Ok, Err, refl, sym, ap, subst, arith}
 use Rattle.std.specs.Prelude.{IfOk, OnErr}
 use Rattle.ls_text.specs.Readings.{TextFault}
 use Rattle.ls_port.specs.Causes.{Rose}
@@ -10,7 +10,7 @@ use Rattle.command_read.specs.Scripts.{is_quit}
 use Rattle.command_read.specs.declared.reader.Reader.{Reader}
 use Rattle.command_read.specs.declared.stop.Stop.TheVariants as stop
 use Rattle.live_session.specs.Beside.{StandsBeside}
-use Rattle.live_session.specs.Loads.{AddsAnswers, LosesAnswers}
+use Rattle.live_session.specs.Loads.{LosesAnswers}
 use Rattle.live_session.specs.Logs.{Log}
 use Rattle.live_session.specs.Sessions.{world, limits_of}
 use Rattle.live_session.specs.Steps.{StepsTo, Stops, cut_short, lost, undone}
@@ -18,14 +18,11 @@ use Rattle.live_session.specs.Worlds.{World}
 use Rattle.live_session.specs.declared.limits.Limits.{Limits}
 use Rattle.live_session.specs.declared.reply.Reply.{Reply}
 use Rattle.live_session.specs.declared.session.Session.{Session}
+use Rattle.live_session.proofs.GivenLoads.{none_added}
 use Rattle.livesim.specs.Turns.{Sources, Shelves, Reads, RunsOut, in_nothing, in_command, Ends, IsTurn, turn_of}
 use Rattle.livesim.specs.declared.ending.Ending.{Ending}
 use Rattle.livesim.specs.declared.ending.Ending.TheVariants.{Whole, Failed, TooMuch, NoMemory}
 use Rattle.livesim.specs.declared.turn.Turn.{Turn}
-
-pub adds_none : (answers : Option (List ShelfAnswer)) → AddsAnswers answers answers []
-adds_none None = tt
-adds_none (Some xs) = sym (append-nil xs)
 
 module _ (from to : Sources) (shelf shelved : Shelves) (old new : Reader) (session read_in behind : Session) (was is : Log) (alone : Bool) where
   -- a command, by what the session answers to it
@@ -85,7 +82,7 @@ refused_turn from to shelf old new session read_in j fault (Err e) t is reads go
       told = Err fault ∷ [];
       reads = reads;
       lost = [];
-      adds = adds_none shelf.answers;
+      adds = none_added shelf.answers;
       first = tt;
       cause = inl refl;
       over = in_nothing (inl going) refl;
@@ -99,7 +96,7 @@ stopped_turn from to shelf old new session behind j reads stops = record {
   told = [];
   reads = reads;
   lost = [];
-  adds = adds_none shelf.answers;
+  adds = none_added shelf.answers;
   first = tt;
   cause = inl refl;
   over = in_nothing (inr stops) refl;

@@ -12,14 +12,13 @@ use Rattle.ls_text.specs.Readings.{TextFault}
 use Rattle.command_read.specs.Asking.{Asked}
 use Rattle.ls_port.specs.declared.shelf_answer.ShelfAnswer.{ShelfAnswer}
 use Rattle.live_session.specs.Entries.{bare}
-use Rattle.live_session.specs.Logs.{Log, LogEvent, LogMoment, kit, moments_of, valid}
+use Rattle.live_session.specs.Logs.{IsLegal, Log, LogEvent, LogMoment, kit, moments_of, valid}
 use Rattle.live_session.specs.Readings.{AreRight}
 use Rattle.live_session.specs.Replies.{answers_of, asked_of, lines}
 use Rattle.live_session.specs.Scripts.{IsScript}
 use Rattle.live_session.specs.Settings.{Settings}
 use Rattle.live_session.specs.Verdicts.{Told}
 use Rattle.live_session.specs.Worlds.{World, fresh}
-use Rattle.livesim.specs.Histories.{IsLegal}
 use Rattle.livesim.specs.Outputs.{WritesAll}
 use Rattle.livesim.specs.Runs.{HasEntries, all_entries, unfinished_settle, no_entries, HasSettings}
 use Rattle.book_history.proofs.Owned.{all_owned}

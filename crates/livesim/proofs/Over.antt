@@ -5,7 +5,7 @@ use Rattle.std.proofs.lemmas.List.{length-map}
 use Rattle.std.proofs.KnownBytes.{Appends-nil, Appends-trans, Consumes-nil}
 use Rattle.std.specs.Io.KnownBytes.{Appends}
 use Rattle.std.proofs.lemmas.Bool.{false_from_ne_true}
-use Rattle.book_history.specs.Book.{Closes, Settings as BookSettings}
+use Rattle.book_history.specs.Book.{Settings as BookSettings}
 use Rattle.command_read.specs.Readers.{has_ended, count_taken, stopped, asked_of as still_asked, AreKept}
 use Rattle.ls_text.specs.Readings.{TextFault}
 use Rattle.command_read.specs.Asking.{Asked}
@@ -17,7 +17,7 @@ use Rattle.command_read.specs.declared.stop.Stop.TheVariants as stop
 use Rattle.live_options.specs.Words.{OptionsOf}
 use Rattle.live_session.specs.Beside.{settings_in, world_in}
 use Rattle.live_session.specs.Judging.{world_after}
-use Rattle.live_session.specs.Logs.{Log, LogMoment, marks_of, moments_after, moments_of}
+use Rattle.live_session.specs.Logs.{IsLegal, Log, LogMoment, marks_of, moments_after, moments_of}
 use Rattle.live_session.specs.Replies.{lines, asked_of}
 use Rattle.live_session.specs.CutShort.{IsCutShort}
 use Rattle.live_session.specs.Steps.{Stops, cut_short, lost as lost_lines, undone}
@@ -26,8 +26,9 @@ use Rattle.live_session.specs.Settings.{Settings}
 use Rattle.live_session.specs.Verdicts.{Told, passes_of, settle_verdict}
 use Rattle.live_session.specs.Worlds.{World, fresh}
 use Rattle.live_session.specs.declared.session.Session.{Session}
+use Rattle.live_session.proofs.GivenLoads.{none_added}
 use Rattle.livesim.specs.Endings.{status_of}
-use Rattle.livesim.specs.Histories.{EndsFrom, IsLegal}
+use Rattle.livesim.specs.Histories.{EndsFrom}
 use Rattle.livesim.specs.Runs.{HasSettings, IsCut, Lived, AreSoon, RisesBy, WritesAtLeast, count_broken, end_with_quit}
 use Rattle.livesim.specs.Settings.{settings}
 use Rattle.livesim.specs.Turns.{Sources, Shelves, Reads, Carries, RunsOut, in_nothing, in_command, Ends, HasLimits, HasStopped}
@@ -37,7 +38,6 @@ use Rattle.livesim.specs.declared.ending.Ending.TheVariants.{Whole, Failed, TooM
 use Rattle.livesim.proofs.Counts.{rises_perhaps}
 use Rattle.livesim.proofs.Endings.{Finished, IsStatus, AreCut, lived, lived_all, few_taken, many_taken, most_taken, finished_now, finished_then, taken_then}
 use Rattle.livesim.proofs.Histories.{IsHistory, IsRecorded, ended_history, lines_with, moments_behind, moments_ended, nothing_history, stayed_recorded, unfinished_history}
-use Rattle.livesim.proofs.OneTurn.{adds_none}
 use Rattle.livesim.proofs.Quits.{ends_with, few_front, most_front, never_quits}
 use Rattle.livesim.proofs.Soon.{soon_of}
 use Rattle.livesim.proofs.Turns.{Done, turn_told, run_with, step, more_done}
@@ -380,7 +380,7 @@ nothing_lived st from shelf old h blank =
       right = tt;
       begins = refl;
       begins_all = (commands [] true, refl);
-      answered = adds_none shelf.answers;
+      answered = none_added shelf.answers;
       first = tt;
       judged = refl;
       full = λ room. refl;

@@ -24,12 +24,12 @@ use Rattle.live_session.specs.Verdicts.{Told}
 use Rattle.live_session.specs.Worlds.{World, fresh}
 use Rattle.live_session.specs.declared.reply.Reply.{Reply}
 use Rattle.live_session.specs.declared.session.Session.{Session}
+use Rattle.live_session.proofs.GivenLoads.{none_added}
 use Rattle.livesim.specs.Runs.{HasSettings, RisesBy, count_broken}
 use Rattle.livesim.specs.Settings.{settings}
 use Rattle.livesim.specs.Turns.{Sources, Shelves, Carries, Answers, HasLimits}
 use Rattle.livesim.proofs.Counts.{rises_more, broken_more}
 use Rattle.livesim.proofs.Histories.{IsRecorded, none_recorded, more_recorded}
-use Rattle.livesim.proofs.OneTurn.{adds_none}
 use Rattle.livesim.proofs.Quits.{EndsAt, more_ends}
 use Rattle.livesim.proofs.Soon.{IsSoonDone, soon_more}
 use Rattle.livesim.proofs.Steps.{IsStep, step_told, step_in, after-append, right-append, refused-append, asked-more, answers-more}
@@ -66,7 +66,7 @@ none_done st from shelf session reader j has blank begins nothing first none mor
   consumed = Consumes-nil from.left;
   at_end = λ ended. absurd (true≢false (sym ended ∙ more));
   ends = refl;
-  answered = adds_none shelf.answers;
+  answered = none_added shelf.answers;
   failed = refl;
   judged = refl;
   soon = inl (refl, refl);

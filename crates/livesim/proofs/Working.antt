@@ -5,23 +5,23 @@ use Rattle.book_history.specs.Owned.{AllOwned, IsPrefix, owned}
 use Rattle.book_turn.specs.Known.{apart_from_splits, begun}
 use Rattle.book_turn.specs.Rule.{Learned}
 use Rattle.book_history.proofs.Owned.{owned_append}
-use Rattle.book_turn.proofs.Histories.{added_append, prefix_trans}
+use Rattle.book_turn.proofs.Histories.{prefix_trans}
 use Rattle.book_turn.specs.Turns.{GoesOn, HasAdded}
 use Rattle.command_read.specs.Readers.{count_taken, has_ended, left, next_number, stopped}
 use Rattle.command_read.specs.declared.reader.Reader.{Reader}
 use Rattle.live_session.specs.AtTurn.{Sight, StandsAt, carried_settings, log_of}
 use Rattle.live_session.specs.Beside.{StandsBeside}
-use Rattle.live_session.specs.Logs.{Log, LogEvent}
+use Rattle.live_session.specs.Logs.{IsLegal, Log, LogEvent}
 use Rattle.live_session.specs.Sessions.{world}
 use Rattle.live_session.specs.Worlds.{fresh}
 use Rattle.live_session.specs.declared.session.Session.{Session}
 use Rattle.live_session.proofs.SharedSettles.{cancel}
 use Rattle.live_session.proofs.Standing.{are_owned}
-use Rattle.live_session.proofs.StandingAtTurn.{made_at}
+use Rattle.live_session.proofs.StandingAtTurn.{made_at, split_stands}
 use Rattle.ls_port.specs.declared.shelf_answer.ShelfAnswer.{ShelfAnswer}
 use Rattle.live_options.specs.Words.{OptionsOf}
 use Rattle.live_session.specs.Settings.{Settings}
-use Rattle.livesim.specs.Histories.{EndsFrom, IsLegal}
+use Rattle.livesim.specs.Histories.{EndsFrom}
 use Rattle.livesim.specs.Runs.{HasSettings, Lived}
 use Rattle.livesim.specs.Settings.{settings}
 use Rattle.livesim.specs.Turns.{HasLimits, Shelves, Sources}
@@ -31,29 +31,10 @@ use Rattle.livesim.proofs.Over.{IsLived}
 
 -- ---- a pass that was split
 
--- all that a session asks of its pass is apart from its splits
-stands_apart : (s : Session) (u : Sight) → StandsAt s (apart_from_splits u) → StandsAt s u
-stands_apart s u h = record {
-  free = record { outside = h.free.outside; no_ticket = h.free.no_ticket };
-  carries = h.carries;
-  sees = h.sees;
-  legal = h.legal;
-  stands = h.stands;
-}
-
-apart_stands : (s : Session) (u : Sight) → StandsAt s u → StandsAt s (apart_from_splits u)
-apart_stands s u h = record {
-  free = record { outside = h.free.outside; no_ticket = h.free.no_ticket };
-  carries = h.carries;
-  sees = h.sees;
-  legal = h.legal;
-  stands = h.stands;
-}
-
 pub ready_split : (s : Session) (r : Reader) (v u : Sight) → apart_from_splits u ≡ apart_from_splits v → IsReadyAt s r v → IsReadyAt s r u
 ready_split s r v u same h = record {
   begins = h.begins;
-  at = stands_apart s u (subst (StandsAt s) (sym same) (apart_stands s v h.at));
+  at = split_stands s v u same h.at;
   blank = ap (λ (x : Sight). x.seen) same ∙ h.blank;
   limits = h.limits;
   left = h.left;

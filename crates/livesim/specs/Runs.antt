@@ -16,7 +16,7 @@ use Rattle.live_session.specs.Readings.{AreRight}
 use Rattle.book_history.specs.Book.{Closes}
 use Rattle.book_history.specs.Owned.{owned}
 use Rattle.book_settle.specs.Passes.{IsUnfinished}
-use Rattle.live_session.specs.Logs.{Log, LogEvent, LogMoment, moments_of}
+use Rattle.live_session.specs.Logs.{IsLegal, Log, LogEvent, LogMoment, moments_of}
 use Rattle.live_session.specs.Replies.{lines, reply, asked_of, answers_of}
 use Rattle.live_session.specs.Scripts.{IsScript}
 use Rattle.live_session.specs.Shown.{answer_of}
@@ -25,7 +25,6 @@ use Rattle.live_session.specs.Settings.{Settings}
 use Rattle.live_session.specs.Spelled.{Spelled}
 use Rattle.live_session.specs.Verdicts.{Told, passes_of, settle_verdict}
 use Rattle.live_session.specs.Worlds.{World, fresh, cycle}
-use Rattle.livesim.specs.Histories.{IsLegal}
 use Rattle.livesim.specs.Writing.{Writes}
 
 -- at least that was written

@@ -8,11 +8,11 @@ use Rattle.command_read.specs.Readers.{left, next_number, has_ended, count_taken
 use Rattle.command_read.specs.declared.reader.Reader.{Reader}
 use Rattle.live_options.specs.Words.{OptionsOf}
 use Rattle.live_session.specs.AtTurn.{Sight, StandsAt, log_of}
-use Rattle.live_session.specs.Logs.{Log}
+use Rattle.live_session.specs.Logs.{IsLegal, Log}
 use Rattle.live_session.specs.Sessions.{world}
 use Rattle.live_session.specs.Worlds.{fresh}
 use Rattle.live_session.specs.declared.session.Session.{Session}
-use Rattle.livesim.specs.Histories.{EndsFrom, IsLegal}
+use Rattle.livesim.specs.Histories.{EndsFrom}
 use Rattle.livesim.specs.Runs.{HasSettings, Lived}
 use Rattle.livesim.specs.Settings.{settings}
 use Rattle.livesim.specs.Turns.{HasLimits, Shelves, Sources}

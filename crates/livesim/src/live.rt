@@ -1,6 +1,7 @@
 // The top call.
 ghost use Rattle.std.specs.Prelude.{◌≡◌, ◌≢◌, ◌⊎◌, ◌<◌, ◌≤◌, ℕ, List, [], ◌∷◌, ◌++◌, length, map, string_bytes, Bool, true, Some, None};
 ghost use Rattle.ls_port.specs.Causes.{Rose};
+ghost use Rattle.live_session.specs.Logs.{IsLegal};
 ghost use Rattle.live_options.specs.Words.{OptionsOf, options, options_of};
 ghost use Rattle.book_history.specs.Owned.{AllOwned};
 ghost use Rattle.book_turn.specs.Passes.{IsOf, known};
@@ -8,7 +9,6 @@ ghost use Rattle.book_turn.specs.Rule.{Learned};
 ghost use Rattle.book_turn.specs.Turns.{GoesOn};
 ghost use Rattle.segment_verify.specs.Workers.{IsFree};
 ghost use Rattle.load_maker.specs.Scripts.{script_of};
-ghost use Rattle.livesim.specs.Histories.{IsLegal};
 ghost use Rattle.livesim.specs.Lent.{IsAtWork};
 ghost use Rattle.livesim.specs.Runs.{HasRun, IsComplete, Lived};
 ghost use Rattle.livesim.specs.Settings.{settings};

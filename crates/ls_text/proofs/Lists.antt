@@ -1,5 +1,5 @@
--- Lists that are the same, taken apart, and what a function makes of their elements.
-use Rattle.std.proofs.Common.{◌≡◌, List, [], ◌∷◌, map, refl, ap, ap₂, subst}
+-- Lists that are the same, taken apart and joined, and what a function makes of their elements.
+use Rattle.std.proofs.Common.{◌≡◌, ℕ, List, [], ◌∷◌, ◌++◌, map, refl, sym, ap, ap₂, subst}
 
 -- a list that has an element isn't empty
 pub none_is_some : {A P : Type 0} (x : A) (xs : List A) → [] ≡ x ∷ xs → P
@@ -8,6 +8,9 @@ none_is_some {A} x xs h = absurd (subst is_none h tt)
     is_none : List A → Type 0
     is_none [] = Unit {0}
     is_none (y ∷ ys) = ⊥
+
+pub some_is_none : {A P : Type 0} (x : A) (xs : List A) → x ∷ xs ≡ [] → P
+some_is_none x xs h = none_is_some x xs (sym h)
 
 pub same_first : {A : Type 0} (x y : A) (xs ys : List A) → x ∷ xs ≡ y ∷ ys → x ≡ y
 same_first {A} x y xs ys h = ap first_or h
@@ -22,6 +25,19 @@ same_others {A} x y xs ys h = ap others h
     others : List A → List A
     others [] = []
     others (z ∷ zs) = zs
+
+-- the first number of a list, which is 0 where there is none, and the others
+abbrev pub first_of : List ℕ → ℕ
+first_of [] = 0
+first_of (x ∷ xs) = x
+
+abbrev pub rest_of : List ℕ → List ℕ
+rest_of [] = []
+rest_of (x ∷ xs) = xs
+
+-- lists that are joined of the same parts
+pub joined_so : {A : Type 0} {ps qs xs ys : List A} → ps ≡ xs → qs ≡ ys → ps ++ qs ≡ xs ++ ys
+joined_so {A} first rest = ap₂ (λ (a b : List A). a ++ b) first rest
 
 -- two functions that are the same at each element
 pub same_map : {A B : Type 0} (f g : A → B) → ((x : A) → f x ≡ g x) → (xs : List A) → map f xs ≡ map g xs

@@ -3,6 +3,7 @@ use Rattle.std.proofs.Common.{◌≡◌, ℕ, ◌+◌, ◌==◌, Bool, true, fal
 use Rattle.std.specs.Prelude.{Option, Some, None}
 use Rattle.std.specs.Option.{option_map}
 use Rattle.ls_text.specs.declared.place.Place.{Place}
+use Rattle.ls_text.proofs.Lists.{some_is_none}
 use Rattle.typed_ir.specs.declared.target_form.TargetForm.{TargetForm}
 use Rattle.verilog_ast.specs.Expressions.{Expression, Target, Reference, Joined, NoTarget, Targets}
 use Rattle.verilog_ast.specs.Statements.{Statement, Block, If, IfElse, Case, Assignment, Null, Default, Match, NoStatement, Statements}
@@ -14,7 +15,6 @@ use Rattle.width_rules.proofs.Reading.{left_none, right_none}
 use Rattle.statement_rules.specs.Statements.{labels_faults, expression_faults}
 use Rattle.statement_rules.specs.Targets.{target_length, target_faults}
 use Rattle.size_laws.specs.Written.{IsTargetWritten, IsStatementWritten}
-use Rattle.size_laws.proofs.Bounds.{nothing_first}
 use Rattle.item_mentions.specs.Forms as f
 use Rattle.item_mentions.specs.Forms.{reference_form, first_or, form_or_name, target_form, first_target}
 use Rattle.mention_laws.specs.Shown.{either, first_part, first_written}
@@ -61,7 +61,7 @@ no_length scope (Targets t ts) h =
 
 empty_faulty : (at : Place) (width : ℕ) → width ≡ 0 → total_faults at width ≡ [] → ⊥
 empty_faulty at width is h =
-    nothing_first (fault 26 at []) [] (subst (λ n. fault_if (n == 0) (fault 26 at []) ≡ []) is
+    some_is_none (fault 26 at []) [] (subst (λ n. fault_if (n == 0) (fault 26 at []) ≡ []) is
     (left_none (fault_if (width == 0) (fault 26 at [])) (fault_if (nat_lt 128 width) (fault 31 at [])) h))
 
 joined_formed : (scope : Scope) (o : Option Expression) → (o ≡ None → ⊥) → Some (form_or_name (form_of scope o)) ≡ form_of scope o

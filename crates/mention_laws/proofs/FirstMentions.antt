@@ -5,6 +5,7 @@ use Rattle.std.specs.List.{find}
 use Rattle.std.proofs.lemmas.List.Folds.{find_at}
 use Rattle.std.proofs.lemmas.Bool.{eq-eqb, ne_eqb, cond-true, cond-false}
 use Rattle.std.proofs.lemmas.Option.{none-some}
+use Rattle.ls_text.proofs.Lists.{some_is_none}
 use Rattle.typed_ir.specs.Orders.{Each}
 use Rattle.unit_ir.specs.declared.mention.Mention.{Mention}
 use Rattle.verilog_ast.specs.declared.identifier.Identifier.{Identifier}
@@ -15,7 +16,6 @@ use Rattle.width_rules.specs.Scopes.{Scope}
 use Rattle.width_rules.proofs.Reading.{left_none, right_none}
 use Rattle.statement_rules.specs.Statements.{item_faults, arm_faults}
 use Rattle.size_laws.specs.Written.{IsReference, IsTargetWritten, AreTargetsWritten, IsStatementWritten}
-use Rattle.size_laws.proofs.Bounds.{nothing_first}
 use Rattle.item_mentions.specs.Forms.{first_number}
 use Rattle.item_mentions.specs.Mentions.{writing, numbered, labels_names, count, mentions, arm_mentions, default_mentions}
 use Rattle.item_mentions.specs.Names.{reference_name, target_names}
@@ -244,7 +244,7 @@ mutual
       None (first_written body) (labels_begin k ls)
       (statement_begins scope by (k + labels) body p.0 q.0.1 (left_none (item_faults scope by body) (arm_faults scope by true xs) h)))
       (arms_begin scope by (k + n) xs p.1 q.1 (right_none (item_faults scope by body) (arm_faults scope by true xs) h))
-  arms_begin scope by k (Statements (Default at body) xs) p q h = nothing_first _ _ h
+  arms_begin scope by k (Statements (Default at body) xs) p q h = some_is_none _ _ h
   arms_begin scope by k (Statements (Block at label body) xs) p q h = absurd p.0
   arms_begin scope by k (Statements (If at c x) xs) p q h = absurd p.0
   arms_begin scope by k (Statements (IfElse at c x y) xs) p q h = absurd p.0

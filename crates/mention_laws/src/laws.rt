@@ -6,6 +6,7 @@ ghost use Rattle.verilog_ast.specs.declared.statement.Stmt.{Stmt};
 ghost use Rattle.verilog_ast.specs.declared.target.Lhs.{Lhs};
 ghost use Rattle.verilog_ast.specs.Expressions.{Expression};
 ghost use Rattle.verilog_ast.specs.Views.{statement_of, target_of};
+ghost use Rattle.verilog_ast.specs.Places.{no_place};
 ghost use Rattle.width_rules.specs.declared.writer.Writer.{Writer};
 ghost use Rattle.width_rules.specs.declared.writer.Writer.TheVariants.{Clocked, Combinational};
 ghost use Rattle.width_rules.specs.Faults.{fault};
@@ -13,7 +14,7 @@ ghost use Rattle.width_rules.specs.Scopes.{Scope};
 ghost use Rattle.statement_rules.specs.Statements.{sized_statement, statement_faults};
 ghost use Rattle.statement_rules.specs.Targets.{parts};
 ghost use Rattle.block_rules.specs.Paths.{flags_of_block};
-ghost use Rattle.mention_laws.specs.Example.{scope as names, statement, reads, targets as written, with_two, mention, here};
+ghost use Rattle.mention_laws.specs.Example.{scope as names, statement, reads, targets as written, with_two, mention};
 ghost use Rattle.item_mentions.specs.Forms.{statement_shown};
 ghost use Rattle.mention_laws.specs.Leaves.{statement_leaves, signals_of, signals_named};
 ghost use Rattle.mention_laws.specs.Shown.{first_written, IsShownBy};
@@ -56,7 +57,7 @@ pub fn blocks_are_named_by_their_first_target()
 pub fn a_second_default_is_not_listed()
     ensures targets { statement_targets 0 with_two ≡ mention 4 1 ∷ [] }
     ensures shown { statement_shown names with_two ≡ record { number = 1; form = Name } }
-    ensures faults { statement_faults names Combinational with_two ≡ fault 30 here [] ∷ [] }
+    ensures faults { statement_faults names Combinational with_two ≡ fault 30 no_place [] ∷ [] }
 {}
 
 /// A case whose default stands first, by hand: its default comes last, with the numbers that it has in the text, and is named first.

@@ -2,7 +2,7 @@
 -- its ports in the order of the header, with the inputs among them (12.3).
 use Rattle.std.specs.Prelude.{ℕ, Bool, true, false, ◌==◌, if◌then◌else◌, List, [], ◌∷◌, ◌++◌, map, Option, Some, None}
 use Rattle.verilog_ast.specs.declared.identifier.Identifier.{Identifier}
-use Rattle.verilog_ast.specs.Declarations.{assigned_name, HeaderParameterDeclaration, PortDeclaration, InputPort, OutputPort, NextPort, PortList, NoPorts, NamedPorts, DeclaredPorts}
+use Rattle.verilog_ast.specs.Declarations.{assigned_name, header_parameter_name, PortDeclaration, InputPort, OutputPort, NextPort, PortList, NoPorts, NamedPorts, DeclaredPorts}
 use Rattle.verilog_ast.specs.Items as i
 use Rattle.verilog_ast.specs.Items.{ModuleItem, ModuleDeclaration}
 use Rattle.module_names.specs.Listings.{is_listed}
@@ -13,9 +13,6 @@ module_named name [] = None
 module_named name (m ∷ ms) = if name == m.name.name.0 then Some m else module_named name ms
 
 -- ---- parameters that can be overridden, in the order of the text
-
-abbrev pub header_parameter_name : HeaderParameterDeclaration → Identifier
-header_parameter_name p = p.parameter.name
 
 abbrev pub item_parameters : ModuleItem → List Identifier
 item_parameters (i.Items x xs) = item_parameters x ++ item_parameters xs

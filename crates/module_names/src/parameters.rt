@@ -1,6 +1,6 @@
 // The parameters of a module that an instance can override.
 ghost use Rattle.std.specs.Prelude.{◌≡◌, ◌++◌, [], map, IfOk, OnOk};
-ghost use Rattle.verilog_ast.specs.Declarations.{assigned_name};
+ghost use Rattle.verilog_ast.specs.Declarations.{assigned_name, header_parameter_name};
 ghost use Rattle.verilog_ast.specs.Views.{parameter_of, header_parameter_of, plain_item_of, generate_item_of, item_of, items_of, declaration_of};
 ghost use Rattle.module_names.specs.Modules as m;
 
@@ -10,7 +10,7 @@ use std::alloc::Global;
 use verilog_ast::{GenerateItem, HeaderParameter, Item, ModuleBody, Parameter, PlainItem};
 
 fn add_header(names: &mut NameOrder, all: &[HeaderParameter]) -> Result<(), NoMemory>
-    ensures { OnOk result (names.new ≡ names.old ++ map m.header_parameter_name (map header_parameter_of all.now)) }
+    ensures { OnOk result (names.new ≡ names.old ++ map header_parameter_name (map header_parameter_of all.now)) }
 {
     for one in all {
         names.push(one.parameter.name)?;

@@ -1,12 +1,9 @@
 -- The names of a module's parameters and localparams outside of its generate blocks (IEEE Std 1364-2005, 4.10).
 use Rattle.std.specs.Prelude.{List, [], ◌++◌, map}
 use Rattle.verilog_ast.specs.declared.identifier.Identifier.{Identifier}
-use Rattle.verilog_ast.specs.Declarations.{HeaderParameterDeclaration, assigned_name}
+use Rattle.verilog_ast.specs.Declarations.{assigned_name, header_parameter_name}
 use Rattle.verilog_ast.specs.Items as i
 use Rattle.verilog_ast.specs.Items.{ModuleItem, ModuleDeclaration}
-
-abbrev pub header_name : HeaderParameterDeclaration → Identifier
-header_name p = p.parameter.name
 
 -- what stands between `generate` and `endgenerate` stands in no generate block
 abbrev pub item_constants : ModuleItem → List Identifier
@@ -18,4 +15,4 @@ item_constants other = []
 
 -- those of the header, and then those of the items, in the order of the text
 abbrev pub constants_of : ModuleDeclaration → List Identifier
-constants_of m = map header_name m.parameters ++ item_constants m.items
+constants_of m = map header_parameter_name m.parameters ++ item_constants m.items

@@ -1,6 +1,6 @@
 // The names of a module's parameters and localparams, outside of its generate blocks.
 ghost use Rattle.std.specs.Prelude.{◌≡◌, ◌++◌, map, IfOk, OnOk};
-ghost use Rattle.verilog_ast.specs.Declarations.{assigned_name};
+ghost use Rattle.verilog_ast.specs.Declarations.{assigned_name, header_parameter_name};
 ghost use Rattle.verilog_ast.specs.Views.{parameter_of, header_parameter_of, plain_item_of, generate_item_of, item_of, items_of, declaration_of};
 ghost use Rattle.module_registry.specs.Constants as c;
 
@@ -11,7 +11,7 @@ use verilog_ast::{
 };
 
 fn add_header(names: &mut Vec<Identifier>, all: &[HeaderParameter]) -> Result<(), NoMemory>
-    ensures { OnOk result (names.new.items ≡ names.old.items ++ map c.header_name (map header_parameter_of all.now)) }
+    ensures { OnOk result (names.new.items ≡ names.old.items ++ map header_parameter_name (map header_parameter_of all.now)) }
 {
     for one in all {
         names.push(one.parameter.name)?;

@@ -1,10 +1,7 @@
 -- The places of a module change nothing of its unit, nor of its first fault but where that is shown (IEEE 1364-2005, 12.1 to 12.4).
-use Rattle.std.proofs.Common.{◌≡◌, ℕ, Bool, List, [], map, Option, Result, Ok, Err, refl, sym, ◌∙◌, ap, ap₂}
+use Rattle.std.proofs.Common.{◌≡◌, ℕ, Bool, List, [], map, Result, Ok, Err, refl, sym, ◌∙◌, ap, ap₂}
 use Rattle.ls_text.specs.declared.fault.Fault.{Fault}
-use Rattle.ls_text.specs.declared.name_id.NameId.{NameId}
 use Rattle.typed_ir.specs.Cycles.{Signal}
-use Rattle.typed_ir.specs.declared.constant.Const.{Const}
-use Rattle.unit_ir.specs.declared.child_shape.ChildShape.{ChildShape}
 use Rattle.verilog_ast.specs.Views.{declaration_of}
 use Rattle.unit_ir.specs.declared.signal_declaration.SignalDeclaration.{SignalDeclaration}
 use Rattle.unit_ir.specs.Items.{PlacedItem, PlacedItems, unit_of}
@@ -15,7 +12,7 @@ use Rattle.gen_unroll.specs.declared.parameter_sort.ParameterSort.{ParameterSort
 use Rattle.gen_unroll.specs.Overriding.{constant_sorts, overrides_of}
 use Rattle.gen_unroll.specs.Reaches.{Reach}
 use Rattle.gen_unroll.specs.Steps.{ModuleStep}
-use Rattle.gen_unroll.specs.Unrolled.{State, unrolled_module, turn_limit}
+use Rattle.gen_unroll.specs.Unrolled.{State, unrolled_module, turn_limit, steps_told}
 use Rattle.ls_text.specs.Answers.{◌>>=◌}
 use Rattle.unit_names.specs.Numbers.{SignalTable}
 use Rattle.unit_names.specs.UnitLists.{unit_signals, declarations_of, data_inputs, registers}
@@ -25,10 +22,11 @@ use Rattle.driver_rules.specs.Targets.{is_settled as is_settled_by}
 use Rattle.module_registry.specs.declared.build_job.BuildJob.{BuildJob}
 use Rattle.module_registry.specs.Building.{Built}
 use Rattle.sized_items.specs.DeclaredValues.{InitialValue}
-use Rattle.unit_build.specs.Building.{module_of, steps_told, job_steps, settled_signals, with_initials, built}
+use Rattle.unit_build.specs.Building.{module_of, settled_signals, with_initials, built}
 use Rattle.unit_build.specs.Settled.{flag_steps, none_of}
 use Rattle.unit_build.specs.Walks.{Walk, walk_faults, walk_items, walk_initials}
 use Rattle.unit_build.specs.BuiltModules.{Usage, usage_of, module_steps, walk_in, module_faults, module_items, module_initials, placed_with, placed_module, unit_in, built_module}
+use Rattle.unit_build.proofs.BuiltModules.{start_with, of_module, usage_so}
 use Rattle.place_laws.specs.Findings.{fault_unplaced, found_unplaced, answer_unplaced, step_unplaced, signal_unplaced, table_unplaced, placed_unplaced, items_unplaced}
 use Rattle.unplaced_trees.specs.Unplaced.{unplaced_declaration}
 use Rattle.place_laws.proofs.UnplacedAnswers.{found_so, unless_so}
@@ -68,10 +66,6 @@ same_settled m t steps =
     (none_of t.signals)
 
 -- ---- its items
-
--- where the walk begins, for what may write the signals
-abbrev start_with : ModuleDeclaration → Usage → SignalTable → (ℕ → Writer) → Walk
-start_with m u t w = record { here = unit_reach_in w t.signals m; child = 0; left = u.children }
 
 -- what follows from a walk over a module
 walk_so : {A : Type 0} (walk : (ℕ → Writer) → Walk → A) (m : ModuleDeclaration) (u : Usage) (t : SignalTable) (settled : List Bool)
@@ -147,20 +141,8 @@ same_built m u =
 
 -- ---- jobs
 
-of_module : (job : BuildJob) → built job ≡ built_module (module_of job) (usage_of job)
-unfolding built job_steps
-of_module job = refl
-
 unplaced_job : (job : BuildJob) → answer_unplaced (built job) ≡ built_module (unplaced_declaration (module_of job)) (usage_of job)
 unplaced_job job = ap answer_unplaced (of_module job) ∙ sym (same_built (module_of job) (usage_of job))
-
-abbrev usage_with : List Const → Option NameId → List ChildShape → List NameId → Usage
-usage_with parameters clock children names = record { parameters = parameters; clock = clock; children = children; names = names }
-
-usage_so : (a b : Usage) → a.parameters ≡ b.parameters → a.clock ≡ b.clock → a.children ≡ b.children → a.names ≡ b.names → a ≡ b
-usage_so a b parameters clock children names =
-    ap₂ (λ (ps : List Const) (c : Option NameId). usage_with ps c a.children a.names) parameters clock
-    ∙ ap₂ (usage_with b.parameters b.clock) children names
 
 -- where all but places is the same, a fault is the same but for its place
 pub same_but_places : (a b : BuildJob)

@@ -3,14 +3,13 @@ use Rattle.std.proofs.Common.{◌≡◌, ℕ, suc, ◌==◌, Bool, ◌&&◌, if�
 use Rattle.std.specs.Option.{option_map}
 use Rattle.ls_text.specs.declared.fault.Fault.{Fault}
 use Rattle.ls_text.specs.declared.name_id.NameId.{NameId}
-use Rattle.ls_text.specs.declared.place.Place.{Place}
 use Rattle.typed_ir.specs.declared.target_form.TargetForm.{TargetForm}
 use Rattle.typed_ir.specs.declared.target_form.TargetForm.TheVariants as form
 use Rattle.typed_ir.specs.Stmts.{SizedTarget}
 use Rattle.unit_ir.specs.declared.child_shape.ChildShape.{ChildShape}
 use Rattle.unit_ir.specs.declared.mention.Mention.{Mention}
 use Rattle.unit_ir.specs.declared.port_shape.PortShape.{PortShape}
-use Rattle.unit_ir.specs.Items.{PlacedItem, Node}
+use Rattle.unit_ir.specs.Items.{PlacedItem}
 use Rattle.unit_ir.specs.Shapes.{is_clock}
 use Rattle.unit_ir.specs.Trees.{UnitNode, Into, From}
 use Rattle.verilog_ast.specs.Expressions as e
@@ -28,6 +27,7 @@ use Rattle.connection_rules.specs.ConnectionNodes.{target_or_none, driven_by, po
 use Rattle.connection_rules.specs.Instances.{instance_faults, instance_kinds, item_faults, first_to, item_if, port_items, child_items, instance_items}
 use Rattle.typed_ir.specs.Nodes.{known_lanes}
 use Rattle.connection_rules.specs.Outputs.{is_target, target_at, as_target, part_faults, written_faults, output_faults, part_kinds, written_kinds, output_kinds, reference_form, output_form, output_mentions}
+use Rattle.connection_rules.proofs.Items.{connection_with}
 use Rattle.unplaced_trees.specs.Unplaced.{unplaced_expression, unplaced_target, unplaced_by_name, unplaced_by_order, unplaced_connections, unplaced_instance}
 use Rattle.place_laws.specs.Findings.{fault_unplaced, mention_unplaced, connected_unplaced, placed_unplaced}
 use Rattle.gen_unroll.proofs.MovedLists.{append_so, if_moved}
@@ -209,9 +209,6 @@ mentions_so : (c : Connected) → connected_mentions (connected_unplaced c) ≡ 
 mentions_so c = if_moved (map mention_unplaced) c.shape.input [] (output_mentions c.value) _ _ refl (output_mentions_so c.value)
 
 -- ---- items
-
-abbrev connection_with : UnitNode → List Mention → Place → PlacedItem
-connection_with node targets at = record { body = Node node; at = at; targets = targets; reads = [] }
 
 connection_so : (scope : Scope) (child : ℕ) (c : Connected)
     → connection_item scope child (connected_unplaced c) ≡ placed_unplaced (connection_item scope child c)

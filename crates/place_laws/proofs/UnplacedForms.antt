@@ -1,7 +1,5 @@
 -- The form in which a target is shown, and which one a statement is named by, hang on no place (IEEE 1364-2005, 5.2.1).
 use Rattle.std.proofs.Common.{◌≡◌, ℕ, ◌+◌, ◌==◌, not, cond, Bool, List, [], ◌∷◌, map, Some, refl, ◌∙◌, ap, ap₂}
-use Rattle.typed_ir.specs.declared.shown_target.ShownTarget.{ShownTarget}
-use Rattle.typed_ir.specs.declared.target_form.TargetForm.{TargetForm}
 use Rattle.typed_ir.specs.declared.target_form.TargetForm.TheVariants as form
 use Rattle.unit_ir.specs.declared.mention.Mention.{Mention}
 use Rattle.verilog_ast.specs.Expressions.{Expression, BitSelect, UpwardSelect, DownwardSelect, Target, Reference, Joined, NoTarget, Targets}
@@ -9,6 +7,7 @@ use Rattle.verilog_ast.specs.Statements.{Statement, Block, If, IfElse, Case, Ass
 use Rattle.width_rules.specs.Scopes.{Scope}
 use Rattle.item_mentions.specs.Forms.{known_as, reference_form, first_or, form_or_name, first_part, target_form, first_target, first_number, statement_shown}
 use Rattle.item_mentions.specs.Mentions.{statement_targets}
+use Rattle.item_mentions.proofs.Shown.{shown_with}
 use Rattle.unplaced_trees.specs.Unplaced.{unplaced_expression, unplaced_target, unplaced_statement}
 use Rattle.place_laws.specs.Findings.{mention_unplaced}
 use Rattle.place_laws.proofs.UnplacedMentions.{same_targets}
@@ -45,9 +44,6 @@ first_so scope other = refl
 number_so : (ms : List Mention) → first_number (map mention_unplaced ms) ≡ first_number ms
 number_so [] = refl
 number_so (m ∷ ms) = ap (λ (k : ℕ). cond (not (m.order == 0)) (1 + k) 0) (number_so ms)
-
-abbrev shown_with : ℕ → TargetForm → ShownTarget
-shown_with k form = record { number = k; form = form }
 
 pub same_shown : (scope : Scope) (x : Statement) → statement_shown scope (unplaced_statement x) ≡ statement_shown scope x
 same_shown scope x =

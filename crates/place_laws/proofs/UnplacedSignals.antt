@@ -1,5 +1,5 @@
 -- The signals that a module declares, without places (IEEE 1364-2005, 4.2, 4.3 and 12.3).
-use Rattle.std.proofs.Common.{◌≡◌, ℕ, ◌-◌, Bool, true, false, List, [], ◌∷◌, ◌++◌, map, length, Option, Some, None, Result, Ok, slice_get, refl, sym, ◌∙◌, ap}
+use Rattle.std.proofs.Common.{◌≡◌, ℕ, ◌-◌, Bool, false, List, [], ◌∷◌, ◌++◌, map, length, Option, Some, None, Result, Ok, slice_get, refl, sym, ◌∙◌, ap}
 use Rattle.std.proofs.lemmas.List.{map-append, length-map}
 use Rattle.std.proofs.lemmas.Option.{slice_get-map}
 use Rattle.std.specs.Option.{option_map}
@@ -18,6 +18,7 @@ use Rattle.gen_unroll.specs.Declarations.{BitRange, declared_name, declared_reg_
 use Rattle.gen_unroll.specs.Reaches.{Reach, innermost, in_reach}
 use Rattle.gen_unroll.specs.Steps.{ModuleStep, Port, Item}
 use Rattle.unit_names.specs.Signals.{NamedSignal, kind_of_net, with_port, with_ports, with_next, last_of, completes, completed, put, with_net, with_nets, range_in, complete_port, header_port, item_signals, step_signals, declared_in}
+use Rattle.unit_names.proofs.Signals.{port_signal, net_signal}
 use Rattle.unplaced_trees.specs.Unplaced.{unplaced_name, unplaced_range, unplaced_kind, unplaced_declared, unplaced_declared_reg, unplaced_port, unplaced_item}
 use Rattle.place_laws.specs.Findings.{found_unplaced, answer_unplaced, step_unplaced, signal_unplaced}
 use Rattle.place_laws.proofs.UnplacedAnswers.{found_so, value_so, bind_so}
@@ -26,10 +27,6 @@ use Rattle.place_laws.proofs.UnplacedNames.{same_reach}
 use Rattle.place_laws.proofs.UnplacedValues.{same_range_value}
 
 -- ---- ports
-
-abbrev port_signal : Option ℕ → SignalKind → PortNet → Option BitRange → Bool → Identifier → ℕ → NamedSignal
-port_signal here k by range signed n order =
-    record { block = here; name = n; kind = k; range = range; signed = signed; port = true; net = by; order = order }
 
 with_port_so : (here : Option ℕ) (k : SignalKind) (by : PortNet) (range : Option BitRange) (signed : Bool) (n : Identifier) (xs : List NamedSignal)
     → with_port here k by range signed (unplaced_name n) (map signal_unplaced xs) ≡ map signal_unplaced (with_port here k by range signed n xs)
@@ -62,10 +59,6 @@ put_so d [] = refl
 put_so d (x ∷ xs) =
     if_moved (map signal_unplaced) (completes d.block d.name.name.0 x) (completed d.net x ∷ xs) (x ∷ put d xs) _ _ refl
     (ap (λ (ys : List NamedSignal). signal_unplaced x ∷ ys) (put_so d xs))
-
-abbrev net_signal : Option ℕ → PortNet → Option BitRange → Bool → Identifier → ℕ → NamedSignal
-net_signal here by range signed n order =
-    record { block = here; name = n; kind = kind_of_net by; range = range; signed = signed; port = false; net = by; order = order }
 
 with_net_so : (here : Option ℕ) (by : PortNet) (range : Option BitRange) (signed : Bool) (n : Identifier) (xs : List NamedSignal)
     → with_net here by range signed (unplaced_name n) (map signal_unplaced xs) ≡ map signal_unplaced (with_net here by range signed n xs)

@@ -3,7 +3,7 @@ use Rattle.std.proofs.Common.{◌≡◌, ℕ, zero, suc, Bool, if◌then◌else�
 use Rattle.std.proofs.Math.Path.{fun_ext}
 use Rattle.std.proofs.lemmas.List.{map-append, length-map}
 use Rattle.std.proofs.lemmas.Option.{slice_get-map}
-use Rattle.std.specs.Option.{option_map}
+use Rattle.std.specs.Option.{option_map, option_to_list}
 use Rattle.ls_text.specs.declared.name_id.NameId.{NameId}
 use Rattle.ls_text.proofs.Lists.{map_so}
 use Rattle.typed_ir.specs.Cycles.{Signal}
@@ -15,7 +15,7 @@ use Rattle.gen_unroll.specs.Declarations.{port_name}
 use Rattle.gen_unroll.specs.Reaches.{Reach, reach_in}
 use Rattle.gen_unroll.specs.Steps.{ModuleStep}
 use Rattle.unit_names.specs.Signals.{NamedSignal, is_port_named, declared_in}
-use Rattle.unit_names.specs.Numbers.{SignalTable, header_names, first_where, place_where, if_any, is_own_named, number_of_name, with_header_port, ports_onto, is_no_port, numbered, has_order, numbers_from, table_of, module_table}
+use Rattle.unit_names.specs.Numbers.{SignalTable, header_names, first_where, place_where, is_own_named, number_of_name, with_header_port, ports_onto, is_no_port, numbered, has_order, numbers_from, table_of, module_table}
 use Rattle.unit_names.specs.UnitLists.{signal_called, called_by, names_behind, unit_signals, declaration_of_signal, declarations_of, is_data_input, data_inputs_from, data_inputs, is_register_at, registers}
 use Rattle.unplaced_trees.specs.Unplaced.{unplaced_name, unplaced_port, unplaced_ports, unplaced_declaration}
 use Rattle.place_laws.specs.Findings.{found_unplaced, step_unplaced, signal_unplaced, table_unplaced}
@@ -47,7 +47,7 @@ others_so (x ∷ xs) =
     if_moved (map signal_unplaced) (is_no_port x) (x ∷ filter is_no_port xs) (filter is_no_port xs) _ _
     (ap (λ (ys : List NamedSignal). signal_unplaced x ∷ ys) (others_so xs)) (others_so xs)
 
-any_so : (x : Option NamedSignal) → if_any (option_map signal_unplaced x) ≡ map signal_unplaced (if_any x)
+any_so : (x : Option NamedSignal) → option_to_list (option_map signal_unplaced x) ≡ map signal_unplaced (option_to_list x)
 any_so None = refl
 any_so (Some x) = refl
 
@@ -62,12 +62,12 @@ port_so : (xs : List NamedSignal) (n : Identifier) (out : List NamedSignal)
     → with_header_port (map signal_unplaced xs) (unplaced_name n) (map signal_unplaced out) ≡ map signal_unplaced (with_header_port xs n out)
 port_so xs n out =
     ap (λ (k : Option ℕ). if is_some k then map signal_unplaced out
-    else map signal_unplaced out ++ if_any (first_where (is_port_named n.name.0) (map signal_unplaced xs)))
+    else map signal_unplaced out ++ option_to_list (first_where (is_port_named n.name.0) (map signal_unplaced xs)))
     (place_so (is_own_named n.name.0) (λ x. refl) out)
-    ∙ if_moved (map signal_unplaced) (is_some (number_of_name n.name.0 out)) out (out ++ if_any (first_where (is_port_named n.name.0) xs)) _ _ refl
-    (ap (λ (x : Option NamedSignal). map signal_unplaced out ++ if_any x) (first_so (is_port_named n.name.0) (λ x. refl) xs)
+    ∙ if_moved (map signal_unplaced) (is_some (number_of_name n.name.0 out)) out (out ++ option_to_list (first_where (is_port_named n.name.0) xs)) _ _ refl
+    (ap (λ (x : Option NamedSignal). map signal_unplaced out ++ option_to_list x) (first_so (is_port_named n.name.0) (λ x. refl) xs)
     ∙ ap (λ (ys : List NamedSignal). map signal_unplaced out ++ ys) (any_so (first_where (is_port_named n.name.0) xs))
-    ∙ sym (map-append signal_unplaced out (if_any (first_where (is_port_named n.name.0) xs))))
+    ∙ sym (map-append signal_unplaced out (option_to_list (first_where (is_port_named n.name.0) xs))))
 
 ports_so : (ns : List Identifier) (xs out : List NamedSignal)
     → ports_onto (map unplaced_name ns) (map signal_unplaced xs) (map signal_unplaced out) ≡ map signal_unplaced (ports_onto ns xs out)
@@ -84,7 +84,7 @@ numbered_so ns xs =
 numbers_so : (k left : ℕ) (xs : List NamedSignal) → numbers_from k left (map signal_unplaced xs) ≡ numbers_from k left xs
 numbers_so k zero xs = refl
 numbers_so k (suc left) xs =
-    ap₂ (λ (p : Option ℕ) (ns : List ℕ). if_any p ++ ns) (place_so (has_order k) (λ x. refl) xs) (numbers_so (suc k) left xs)
+    ap₂ (λ (p : Option ℕ) (ns : List ℕ). option_to_list p ++ ns) (place_so (has_order k) (λ x. refl) xs) (numbers_so (suc k) left xs)
 
 table_so : (ns : List Identifier) (xs : List NamedSignal) → table_of (map unplaced_name ns) (map signal_unplaced xs) ≡ table_unplaced (table_of ns xs)
 table_so ns xs =

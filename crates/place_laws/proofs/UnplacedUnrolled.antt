@@ -13,11 +13,12 @@ use Rattle.width_rules.specs.Scopes.{Scope}
 use Rattle.gen_unroll.specs.declared.parameter_sort.ParameterSort.{ParameterSort}
 use Rattle.gen_unroll.specs.declared.parameter_sort.ParameterSort.TheVariants as sort
 use Rattle.gen_unroll.specs.Declarations.{ParameterType}
-use Rattle.gen_unroll.specs.Overriding.{sort_of_each, item_sorts, constant_sorts}
+use Rattle.gen_unroll.specs.Overriding.{item_sorts, constant_sorts}
 use Rattle.gen_unroll.specs.Steps.{LoopTurn, ModuleStep, Listed, Port, Labelled, Opened, Closed}
 use Rattle.gen_unroll.specs.Told.{Told, ◌>>=◌, say, say_all}
 use Rattle.gen_unroll.specs.Unrolled.{State, each, override_of, given_or, parameter, parameters, next_type, header_parameters, port_steps, labelled, inside, outside, block_with, turn_with, loop_with, taken_with, unrolled, chosen, branch, beginning, untyped, module_told, unrolled_module}
 use Rattle.gen_unroll.specs.Values.{ConstantValue}
+use Rattle.gen_unroll.proofs.Overridden.{sorts_so}
 use Rattle.unplaced_trees.specs.Unplaced.{unplaced_name, unplaced_kind, unplaced_parameter, unplaced_header_parameter, unplaced_port, unplaced_ports, unplaced_head, unplaced_item, unplaced_declaration}
 use Rattle.place_laws.specs.Findings.{answer_unplaced, turn_unplaced, step_unplaced, told_unplaced}
 use Rattle.place_laws.proofs.UnplacedLoops.{same_taken, same_loop_turns}
@@ -154,10 +155,6 @@ same_module limit overrides m =
     ∙ module_so m (beginning limit overrides m)
 
 -- ---- which of its parameters can be overridden
-
-sorts_so : {A : Type 0} (s : ParameterSort) (moved : A → A) (xs : List A) → sort_of_each s (map moved xs) ≡ sort_of_each s xs
-sorts_so s moved [] = refl
-sorts_so s moved (x ∷ xs) = ap (λ (ss : List ParameterSort). s ∷ ss) (sorts_so s moved xs)
 
 same_item_sorts : (x : ModuleItem) → item_sorts (unplaced_item x) ≡ item_sorts x
 same_item_sorts (i.Items x xs) = ap₂ (λ (a b : List ParameterSort). a ++ b) (same_item_sorts x) (same_item_sorts xs)

@@ -1,13 +1,8 @@
 -- Declarations with values and continuous assignments, without places: the same items (IEEE 1364-2005, 6.1 and 6.2.1).
 use Rattle.std.proofs.Common.{◌≡◌, ℕ, ◌%◌, ◌^◌, if◌then◌else◌, List, [], ◌∷◌, ◌++◌, map, Option, Some, None, refl, ◌∙◌, ap, ap₂}
 use Rattle.std.specs.Option.{option_map}
-use Rattle.ls_text.specs.declared.place.Place.{Place}
 use Rattle.typed_ir.specs.declared.target_form.TargetForm.{TargetForm}
-use Rattle.typed_ir.specs.Nodes.{Drive, known_lanes}
 use Rattle.typed_ir.specs.Sized.{Sized, value_of}
-use Rattle.unit_ir.specs.declared.mention.Mention.{Mention}
-use Rattle.unit_ir.specs.Items.{PlacedItem, Node}
-use Rattle.unit_ir.specs.Trees.{Own}
 use Rattle.verilog_ast.specs.declared.identifier.Identifier.{Identifier}
 use Rattle.verilog_ast.specs.Declarations.{Declared, DeclaredReg, PortDeclaration, InputPort, OutputPort, NextPort}
 use Rattle.verilog_ast.specs.Expressions.{Expression, Target, Reference, Joined, NoTarget, Targets}
@@ -24,6 +19,7 @@ use Rattle.sized_items.specs.declared.value_kind.ValueKind.{ValueKind}
 use Rattle.sized_items.specs.declared.value_kind.ValueKind.TheVariants as kind
 use Rattle.sized_items.specs.DeclaredValues.{DeclaredValue, InitialValue, kind_of_net, value_if, values_of, reg_values_of, port_values, name_of, as_assignment, is_net_value, signal_in, due_by, writer_by, all_value_faults, all_value_kinds, declaration_faults, initial_value, declaration_initials}
 use Rattle.sized_items.specs.SizedItems.{drive_item, initial_item, value_item}
+use Rattle.sized_items.proofs.Placed.{drive_with}
 use Rattle.unplaced_trees.specs.Unplaced.{unplaced_name, unplaced_expression, unplaced_target, unplaced_declared, unplaced_declared_reg, unplaced_port, unplaced_assignment}
 use Rattle.place_laws.specs.Findings.{fault_unplaced, value_unplaced, placed_unplaced}
 use Rattle.gen_unroll.proofs.MovedLists.{append_so, if_moved}
@@ -92,9 +88,6 @@ same_target_place (Reference x) = same_place x
 same_target_place (Joined at ts) = refl
 same_target_place NoTarget = refl
 same_target_place (Targets t ts) = same_target_place t
-
-abbrev drive_with : TargetForm → SizedDrive → Place → List Mention → PlacedItem
-drive_with form x at targets = record { body = Node (Own (Drive form (known_lanes x.parts) x.value)); at = at; targets = targets; reads = [] }
 
 pub same_drive_item : (scope : Scope) (x : ContinuousAssignment) → drive_item scope (unplaced_assignment x) ≡ placed_unplaced (drive_item scope x)
 same_drive_item scope x =

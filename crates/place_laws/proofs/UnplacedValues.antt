@@ -1,5 +1,5 @@
 -- Constants, ranges and types of parameters without places: the same values, and the same faults.
-use Rattle.std.proofs.Common.{◌≡◌, ℕ, nat_lt, Bool, not, map, Option, Some, None, refl, ◌∙◌, ap, ap₂}
+use Rattle.std.proofs.Common.{◌≡◌, nat_lt, Bool, not, map, Option, Some, None, refl, ap, ap₂}
 use Rattle.std.specs.Option.{option_map}
 use Rattle.verilog_ast.specs.Declarations.{RangeBounds, Kind}
 use Rattle.verilog_ast.specs.Expressions.{Expression}
@@ -7,8 +7,10 @@ use Rattle.width_rules.specs.declared.due.Due.TheVariants.{ConstantOnly}
 use Rattle.width_rules.specs.Constants.{integer}
 use Rattle.width_rules.specs.Faults.{fault_of}
 use Rattle.width_rules.specs.Scopes.{Scope}
-use Rattle.gen_unroll.specs.Declarations.{BitRange, is_range, lower_bound, range_faults, range_value, parameter_type, typed_by}
-use Rattle.gen_unroll.specs.Values.{ConstantValue, evaluated}
+use Rattle.gen_unroll.specs.Declarations.{is_range, lower_bound, range_faults, range_value, parameter_type, typed_by}
+use Rattle.gen_unroll.specs.Values.{evaluated}
+use Rattle.gen_unroll.proofs.Values.{constant_so}
+use Rattle.gen_unroll.proofs.Bounds.{range_with}
 use Rattle.unplaced_trees.specs.Unplaced.{unplaced_expression, unplaced_range, unplaced_kind}
 use Rattle.place_laws.specs.Findings.{fault_unplaced, answer_unplaced}
 use Rattle.place_laws.proofs.UnplacedSizes.{same_sign, same_length, same_value, same_worth}
@@ -16,12 +18,6 @@ use Rattle.place_laws.proofs.UnplacedFaults.{both_so, if_so, fault_of_so, same_b
 use Rattle.place_laws.proofs.UnplacedAnswers.{bind_so, unless_so}
 
 -- ---- constants
-
-abbrev value_with : ℕ → ℕ → Bool → ConstantValue
-value_with width value signed = record { width = width; value = value; signed = signed }
-
-constant_so : (k l v w : ℕ) (s t : Bool) → l ≡ k → w ≡ v → t ≡ s → value_with l w t ≡ value_with k v s
-constant_so k l v w s t lengths values signs = ap₂ (λ (a b : ℕ). value_with a b t) lengths values ∙ ap (value_with k v) signs
 
 pub same_evaluated : (scope : Scope) (e : Expression) → evaluated scope (unplaced_expression e) ≡ answer_unplaced (evaluated scope e)
 unfolding evaluated
@@ -43,9 +39,6 @@ same_range_faults scope r =
     (both_so _ _ _ _ (same_faults scope ConstantOnly r.low)
     (both_so _ _ _ _ (if_so _ _ _ (fault_of 26 r.high) (ap not (same_is_range scope r)) (fault_of_so 26 r.high))
     (if_so _ _ _ (fault_of 31 r.high) (ap (nat_lt 128) (same_between scope r.high r.low)) (fault_of_so 31 r.high))))
-
-abbrev range_with : ℕ → ℕ → BitRange
-range_with width low = record { width = width; low = low }
 
 pub same_range_value : (scope : Scope) (r : RangeBounds) → range_value scope (unplaced_range r) ≡ answer_unplaced (range_value scope r)
 unfolding range_value

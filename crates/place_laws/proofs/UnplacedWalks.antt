@@ -10,7 +10,7 @@ use Rattle.unit_ir.specs.declared.mention.Mention.{Mention}
 use Rattle.unit_ir.specs.Items.{PlacedItem, Node, Clocked}
 use Rattle.unit_ir.specs.Trees.{Own}
 use Rattle.verilog_ast.specs.Items as i
-use Rattle.verilog_ast.specs.Items.{ModuleItem, ModuleDeclaration}
+use Rattle.verilog_ast.specs.Items.{ModuleItem}
 use Rattle.verilog_ast.specs.Places.{no_place}
 use Rattle.verilog_ast.specs.Statements.{Statement}
 use Rattle.width_rules.specs.declared.writer.Writer.{Writer}
@@ -27,6 +27,7 @@ use Rattle.unit_names.specs.Signals.{NamedSignal}
 use Rattle.unit_names.specs.UnitReaches.{unit_in_reach}
 use Rattle.unit_build.specs.Settled.{flag_meaning, flag_names, flag_item, flag_step, flag_steps, none_of}
 use Rattle.unit_build.specs.Walks.{Walk, instances_in, shapes_of, step_faults, step_items, step_initials, passed, remaining, behind, walk_faults, walk_items, walk_initials}
+use Rattle.unit_build.proofs.BuiltModules.{walk_with}
 use Rattle.statement_rules.specs.Statements.{sized_statement}
 use Rattle.item_mentions.specs.Forms.{statement_shown}
 use Rattle.unplaced_trees.specs.Unplaced.{unplaced_statement, unplaced_assignment, unplaced_instance, unplaced_item}
@@ -151,9 +152,6 @@ passed_so left other = refl
 remaining_so : (left : List ChildShape) (s : ModuleStep) → remaining left (step_unplaced s) ≡ remaining left s
 remaining_so left (Item x) = ap (λ (n : ℕ). drop n left) (many_so x)
 remaining_so left other = refl
-
-abbrev walk_with : Reach → ℕ → List ChildShape → Walk
-walk_with here child left = record { here = here; child = child; left = left }
 
 behind_so : (w : ℕ → Writer) (xs : List NamedSignal) (s : ModuleStep) (k : Walk)
     → behind w (map signal_unplaced xs) (step_unplaced s) k ≡ behind w xs s k

@@ -1,10 +1,9 @@
 -- The unit of a module under other names is its unit under these names, or the same first fault under these names (IEEE 1364-2005, 12.1 to 12.4).
-use Rattle.std.proofs.Common.{◌≡◌, ℕ, zero, suc, Bool, List, [], ◌∷◌, map, Option, refl, sym, ◌∙◌, ap, ap₂}
+use Rattle.std.proofs.Common.{◌≡◌, ℕ, zero, suc, Bool, List, [], ◌∷◌, map, refl, sym, ◌∙◌, ap, ap₂}
 use Rattle.std.specs.Option.{option_map}
 use Rattle.ls_text.specs.declared.fault.Fault.{Fault}
 use Rattle.ls_text.specs.declared.name_id.NameId.{NameId}
 use Rattle.typed_ir.specs.Cycles.{Signal}
-use Rattle.typed_ir.specs.declared.constant.Const.{Const}
 use Rattle.unit_ir.specs.declared.child_shape.ChildShape.{ChildShape}
 use Rattle.unit_ir.specs.declared.signal_declaration.SignalDeclaration.{SignalDeclaration}
 use Rattle.unit_ir.specs.Items.{PlacedItem, PlacedItems, unit_of}
@@ -26,10 +25,11 @@ use Rattle.driver_rules.specs.Targets.{is_settled as is_settled_by}
 use Rattle.module_registry.specs.declared.build_job.BuildJob.{BuildJob}
 use Rattle.module_registry.specs.Building.{Built}
 use Rattle.sized_items.specs.DeclaredValues.{InitialValue}
-use Rattle.unit_build.specs.Building.{module_of, job_steps, settled_signals, begins_with, with_initials, built}
+use Rattle.unit_build.specs.Building.{module_of, settled_signals, begins_with, with_initials, built}
 use Rattle.unit_build.specs.Settled.{flag_steps, none_of}
 use Rattle.unit_build.specs.Walks.{Walk, walk_faults, walk_items, walk_initials}
 use Rattle.unit_build.specs.BuiltModules.{Usage, usage_of, module_steps, walk_in, module_faults, module_items, module_initials, placed_with, placed_module, unit_in, built_module}
+use Rattle.unit_build.proofs.BuiltModules.{start_with, of_module, usage_so}
 use Rattle.design_laws.specs.Renaming.{KeepsApart, number_as, found_as, step_as}
 use Rattle.design_laws.proofs.RenamedAnswers.{found_so}
 use Rattle.rename_laws.specs.Findings.{signal_as, table_as, shape_as, placed_as, unit_signal_as, items_as}
@@ -62,10 +62,6 @@ same_settled f m t steps apart =
     (same_unit_beginning f (writer_of (is_settled []) t.signals) t.signals m apart)
 
 -- ---- its items
-
--- where the walk begins, for what may write the signals
-abbrev start_with : ModuleDeclaration → Usage → SignalTable → (ℕ → Writer) → Walk
-start_with m u t w = record { here = unit_reach_in w t.signals m; child = 0; left = u.children }
 
 -- what may write the signals is the same
 walk_so : {A : Type 0} (f : NameId → NameId) (walk : (ℕ → Writer) → Walk → A) (m : ModuleDeclaration) (u : Usage) (t : SignalTable)
@@ -183,18 +179,6 @@ same_built f m u apart =
     ∙ same_unit_in f m u t (settled_signals m t steps) steps apart))
 
 -- ---- jobs
-
-of_module : (job : BuildJob) → built job ≡ built_module (module_of job) (usage_of job)
-unfolding built job_steps
-of_module job = refl
-
-abbrev usage_with : List Const → Option NameId → List ChildShape → List NameId → Usage
-usage_with parameters clock children names = record { parameters = parameters; clock = clock; children = children; names = names }
-
-usage_so : (a b : Usage) → a.parameters ≡ b.parameters → a.clock ≡ b.clock → a.children ≡ b.children → a.names ≡ b.names → a ≡ b
-usage_so a b parameters clock children names =
-    ap₂ (λ (ps : List Const) (c : Option NameId). usage_with ps c a.children a.names) parameters clock
-    ∙ ap₂ (usage_with b.parameters b.clock) children names
 
 -- a job that is another one under other names
 pub same_job : (f : NameId → NameId) (a b : BuildJob) → KeepsApart f

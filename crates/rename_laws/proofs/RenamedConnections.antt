@@ -4,14 +4,13 @@ use Rattle.std.proofs.lemmas.Option.{slice_get-map}
 use Rattle.std.specs.Option.{option_map}
 use Rattle.ls_text.specs.declared.fault.Fault.{Fault}
 use Rattle.ls_text.specs.declared.name_id.NameId.{NameId}
-use Rattle.ls_text.specs.declared.place.Place.{Place}
 use Rattle.typed_ir.specs.declared.target_form.TargetForm.{TargetForm}
 use Rattle.typed_ir.specs.declared.target_form.TargetForm.TheVariants as form
 use Rattle.typed_ir.specs.Stmts.{SizedTarget}
 use Rattle.unit_ir.specs.declared.child_shape.ChildShape.{ChildShape}
 use Rattle.unit_ir.specs.declared.mention.Mention.{Mention}
 use Rattle.unit_ir.specs.declared.port_shape.PortShape.{PortShape}
-use Rattle.unit_ir.specs.Items.{PlacedItem, Node}
+use Rattle.unit_ir.specs.Items.{PlacedItem}
 use Rattle.unit_ir.specs.Shapes.{is_clock}
 use Rattle.unit_ir.specs.Trees.{UnitNode, Into, From}
 use Rattle.verilog_ast.specs.Expressions as e
@@ -36,6 +35,7 @@ use Rattle.connection_rules.specs.ConnectionNodes.{target_or_none, driven_by, po
 use Rattle.connection_rules.specs.Instances.{instance_faults, instance_kinds, item_faults, first_to, item_if, port_items, child_items, instance_items}
 use Rattle.typed_ir.specs.Nodes.{known_lanes}
 use Rattle.connection_rules.specs.Outputs.{is_target, target_at, as_target, part_faults, written_faults, output_faults, part_kinds, written_kinds, output_kinds, reference_form, output_form, output_mentions}
+use Rattle.connection_rules.proofs.Items.{connection_with}
 use Rattle.design_laws.specs.Renaming.{KeepsApart}
 use Rattle.design_laws.proofs.RenamedNames.{same_test}
 use Rattle.gen_unroll.proofs.MovedLists.{append_so, if_moved}
@@ -248,9 +248,6 @@ mentions_so : (f : NameId → NameId) (c : Connected) → connected_mentions (co
 mentions_so f c = if_moved (map (mention_as f)) c.shape.input [] (output_mentions c.value) _ _ refl (output_mentions_so f c.value)
 
 -- ---- items
-
-abbrev connection_with : UnitNode → List Mention → Place → PlacedItem
-connection_with node targets at = record { body = Node node; at = at; targets = targets; reads = [] }
 
 connection_so : (f : NameId → NameId) (scope other : Scope) (child : ℕ) (c : Connected) → MeansSame f scope other
     → connection_item other child (connected_as f c) ≡ placed_as f (connection_item scope child c)

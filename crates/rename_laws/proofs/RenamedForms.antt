@@ -1,8 +1,6 @@
 -- The form in which a target is shown, and which one a statement is named by, are the same under other names (IEEE 1364-2005, 5.2.1).
 use Rattle.std.proofs.Common.{◌≡◌, ℕ, ◌+◌, ◌==◌, not, cond, Bool, List, [], ◌∷◌, map, Some, refl, ◌∙◌, ap, ap₂}
 use Rattle.ls_text.specs.declared.name_id.NameId.{NameId}
-use Rattle.typed_ir.specs.declared.shown_target.ShownTarget.{ShownTarget}
-use Rattle.typed_ir.specs.declared.target_form.TargetForm.{TargetForm}
 use Rattle.typed_ir.specs.declared.target_form.TargetForm.TheVariants as form
 use Rattle.unit_ir.specs.declared.mention.Mention.{Mention}
 use Rattle.verilog_ast.specs.Expressions.{Expression, BitSelect, UpwardSelect, DownwardSelect, Target, Reference, Joined, NoTarget, Targets}
@@ -13,6 +11,7 @@ use Rattle.width_rules.specs.Scopes.{Scope}
 use Rattle.width_rules.proofs.RenamedSizes.{same_fixed}
 use Rattle.item_mentions.specs.Forms.{known_as, reference_form, first_or, form_or_name, first_part, target_form, first_target, first_number, statement_shown}
 use Rattle.item_mentions.specs.Mentions.{statement_targets}
+use Rattle.item_mentions.proofs.Shown.{shown_with}
 use Rattle.rename_laws.specs.Findings.{mention_as}
 use Rattle.rename_laws.proofs.RenamedMentions.{same_targets}
 
@@ -50,9 +49,6 @@ first_so f scope other rest same = refl
 number_so : (f : NameId → NameId) (ms : List Mention) → first_number (map (mention_as f) ms) ≡ first_number ms
 number_so f [] = refl
 number_so f (m ∷ ms) = ap (λ (k : ℕ). cond (not (m.order == 0)) (1 + k) 0) (number_so f ms)
-
-abbrev shown_with : ℕ → TargetForm → ShownTarget
-shown_with k form = record { number = k; form = form }
 
 pub same_shown : (f : NameId → NameId) (scope other : Scope) (x : Statement) → MeansSame f scope other
     → statement_shown other (statement_as f x) ≡ statement_shown scope x

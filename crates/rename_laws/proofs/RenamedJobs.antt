@@ -19,7 +19,8 @@ use Rattle.gen_unroll.specs.Reaches.{innermost, blocks_around}
 use Rattle.gen_unroll.specs.Steps.{GenerateBlock, ModuleStep, Listed, Port, Parameter, Item, Labelled, Opened, Closed, blocks_in}
 use Rattle.ls_text.specs.Answers.{◌>>=◌}
 use Rattle.unit_jobs.specs.BlockNames.{declared_by, called_in, item_texts, texts_within}
-use Rattle.unit_jobs.specs.Jobs.{InstanceJob, module_called, or_no_module, steps_under, job_with, instance_job, jobs_from, tree_jobs}
+use Rattle.unit_jobs.specs.Jobs.{InstanceJob, module_called, steps_under, job_with, instance_job, jobs_from, tree_jobs}
+use Rattle.unit_jobs.proofs.InRows.{job_found}
 use Rattle.design_laws.specs.Renaming.{KeepsApart, SpellsSame, found_as, block_as, step_as}
 use Rattle.design_laws.proofs.RenamedNames.{same_test, names_so}
 use Rattle.design_laws.proofs.RenamedTexts.{same_spoken}
@@ -110,18 +111,14 @@ with_steps f texts others x within m n (Ok steps) same is =
 with_steps f texts others x within m n (Err e) same is = refl
 
 -- of its module
-abbrev job_of : (texts : List (List ℕ)) → Instance → List ChildShape → Option Module → Result InstanceJob Fault
-job_of texts x within found =
-    or_no_module found x.of_module >>= λ m. steps_under (declaration_of m.body) x.parameters >>= λ steps. Ok (job_with texts x within m steps)
-
 of_module_so : (f : NameId → NameId) (texts others : List (List ℕ)) (x : Instance) (within : List ChildShape) (found other : Option Module)
     → KeepsApart f → SpellsSame f texts others → IsFoundAs f found other
-    → IsEndAs f (job_of texts x within found) (job_of others (instance_as f x) (map (shape_as f) within) other)
+    → IsEndAs f (job_found texts x within found) (job_found others (instance_as f x) (map (shape_as f) within) other)
 of_module_so f texts others x within None None apart same is = refl
 of_module_so f texts others x within None (Some n) apart same is = absurd is
 of_module_so f texts others x within (Some m) None apart same is = absurd is
 of_module_so f texts others x within (Some m) (Some n) apart same is =
-    subst (λ (r : Result (List ModuleStep) Fault). IsEndAs f (job_of texts x within (Some m))
+    subst (λ (r : Result (List ModuleStep) Fault). IsEndAs f (job_found texts x within (Some m))
     (r >>= λ steps. Ok (job_with others (instance_as f x) (map (shape_as f) within) n steps)))
     (sym (ap (λ (d : ModuleDeclaration). steps_under d x.parameters) is ∙ same_steps_with f x.parameters (declaration_of m.body) apart))
     (with_steps f texts others x within m n (steps_under (declaration_of m.body) x.parameters) same is)

@@ -1,5 +1,5 @@
 -- The signals that a module declares, under other names (IEEE 1364-2005, 4.2, 4.3 and 12.3).
-use Rattle.std.proofs.Common.{◌≡◌, ℕ, ◌-◌, Bool, true, false, ◌&&◌, if◌then◌else◌, List, [], ◌∷◌, ◌++◌, map, length, Option, Some, None, Ok, slice_get, refl, sym, ◌∙◌, ap}
+use Rattle.std.proofs.Common.{◌≡◌, ℕ, ◌-◌, Bool, false, ◌&&◌, if◌then◌else◌, List, [], ◌∷◌, ◌++◌, map, length, Option, Some, None, Ok, slice_get, refl, sym, ◌∙◌, ap}
 use Rattle.std.proofs.lemmas.List.{map-append, length-map}
 use Rattle.std.proofs.lemmas.Option.{slice_get-map}
 use Rattle.std.specs.Option.{option_map}
@@ -7,31 +7,28 @@ use Rattle.ls_text.specs.declared.name_id.NameId.{NameId}
 use Rattle.verilog_ast.specs.declared.identifier.Identifier.{Identifier}
 use Rattle.verilog_ast.specs.declared.port_net.PortNet.{PortNet}
 use Rattle.verilog_ast.specs.declared.port_net.PortNet.TheVariants as net
-use Rattle.verilog_ast.specs.Declarations.{RangeBounds, Kind, PortDeclaration, InputPort, OutputPort, NextPort, header_net}
+use Rattle.verilog_ast.specs.Declarations.{Kind, PortDeclaration, InputPort, OutputPort, NextPort, header_net}
 use Rattle.verilog_ast.specs.Items as i
 use Rattle.verilog_ast.specs.Items.{ModuleItem}
 use Rattle.verilog_ast.specs.Renamed.{renamed_identifier}
-use Rattle.verilog_ast.specs.Renaming.{range_as, kind_as, declared_as, declared_reg_as, port_as, item_as}
+use Rattle.verilog_ast.specs.Renaming.{kind_as, declared_as, declared_reg_as, port_as, item_as}
 use Rattle.unit_ir.specs.declared.signal_kind.SignalKind.{SignalKind}
 use Rattle.unit_ir.specs.declared.signal_kind.SignalKind.TheVariants as kind
 use Rattle.width_rules.specs.Renaming.{MeansSame}
 use Rattle.width_rules.specs.Scopes.{Scope}
-use Rattle.gen_unroll.specs.Declarations.{BitRange, declared_name, declared_reg_name, range_or_none}
+use Rattle.gen_unroll.specs.Declarations.{BitRange, declared_name, declared_reg_name}
 use Rattle.gen_unroll.specs.Reaches.{Reach, innermost, in_reach}
 use Rattle.gen_unroll.specs.Steps.{ModuleStep, Port, Item}
 use Rattle.unit_names.specs.Signals.{NamedSignal, is_outermost, is_port, kind_of_net, with_port, with_ports, with_next, last_of, completes, completed, put, with_net, with_nets, range_in, complete_port, header_port, item_signals, step_signals, declared_in}
+use Rattle.unit_names.proofs.Signals.{port_signal, net_signal}
 use Rattle.design_laws.specs.Renaming.{KeepsApart, SameReach, found_as, answer_as, step_as}
-use Rattle.design_laws.proofs.RenamedAnswers.{found_so, value_so, bind_so}
+use Rattle.design_laws.proofs.RenamedAnswers.{found_so, value_so}
 use Rattle.design_laws.proofs.RenamedNames.{same_test, names_so, same_reach}
-use Rattle.design_laws.proofs.RenamedValues.{same_range_value}
+use Rattle.design_laws.proofs.RenamedDeclarations.{range_so}
 use Rattle.rename_laws.specs.Findings.{signal_as}
 use Rattle.gen_unroll.proofs.MovedLists.{if_moved}
 
 -- ---- ports
-
-abbrev port_signal : Option ℕ → SignalKind → PortNet → Option BitRange → Bool → Identifier → ℕ → NamedSignal
-port_signal here k by range signed n order =
-    record { block = here; name = n; kind = k; range = range; signed = signed; port = true; net = by; order = order }
 
 with_port_so : (f : NameId → NameId) (here : Option ℕ) (k : SignalKind) (by : PortNet) (range : Option BitRange) (signed : Bool) (n : Identifier)
     (xs : List NamedSignal)
@@ -75,10 +72,6 @@ put_so f d (x ∷ xs) apart =
     ∙ if_moved (map (signal_as f)) (completes d.block d.name.name.0 x) (completed d.net x ∷ xs) (x ∷ put d xs) _ _ refl
     (ap (λ (ys : List NamedSignal). signal_as f x ∷ ys) (put_so f d xs apart))
 
-abbrev net_signal : Option ℕ → PortNet → Option BitRange → Bool → Identifier → ℕ → NamedSignal
-net_signal here by range signed n order =
-    record { block = here; name = n; kind = kind_of_net by; range = range; signed = signed; port = false; net = by; order = order }
-
 with_net_so : (f : NameId → NameId) (here : Option ℕ) (by : PortNet) (range : Option BitRange) (signed : Bool) (n : Identifier)
     (xs : List NamedSignal) → KeepsApart f
     → with_net here by range signed (renamed_identifier f n) (map (signal_as f) xs) ≡ map (signal_as f) (with_net here by range signed n xs)
@@ -95,13 +88,6 @@ with_nets_so f here by range signed (n ∷ ns) xs apart =
     ap (with_nets here by range signed (map (renamed_identifier f) ns)) (with_net_so f here by range signed n xs apart)
     ∙ with_nets_so f here by range signed ns (with_net here by range signed n xs) apart
 
--- ---- ranges
-
-range_or_none_so : (f : NameId → NameId) (scope other : Scope) (r : Option RangeBounds) → MeansSame f scope other
-    → range_or_none other (option_map (range_as f) r) ≡ answer_as f (range_or_none scope r)
-range_or_none_so f scope other None same = refl
-range_or_none_so f scope other (Some r) same = bind_so f _ _ _ _ (same_range_value f scope other r same) (λ b. refl)
-
 -- ---- steps
 
 -- in the same blocks, with these names in reach
@@ -110,7 +96,7 @@ among scope around blocks = record { scope = scope; around = around; blocks = bl
 
 range_in_so : (f : NameId → NameId) (here there : Reach) (k : Kind) → MeansSame f here.scope there.scope
     → range_in there (kind_as f k) ≡ answer_as f (range_in here k)
-range_in_so f here there k same = range_or_none_so f here.scope there.scope k.range same
+range_in_so f here there k same = range_so f here.scope there.scope k.range same
 
 complete_so : (f : NameId → NameId) (here : Reach) (scope : Scope) (around : List Scope) (direction : SignalKind) (by : PortNet) (k : Kind)
     (n : Identifier) (xs : List NamedSignal) → MeansSame f here.scope scope

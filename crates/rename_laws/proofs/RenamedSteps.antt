@@ -1,5 +1,5 @@
 -- The steps of a module under the values of its parameters, under other names (IEEE 1364-2005, 12.2 and 12.4).
-use Rattle.std.proofs.Common.{◌≡◌, List, [], ◌∷◌, ◌++◌, map, Result, Ok, Err, refl, ◌∙◌, ap, ap₂}
+use Rattle.std.proofs.Common.{◌≡◌, List, ◌++◌, map, Result, Ok, Err, refl, ◌∙◌, ap, ap₂}
 use Rattle.ls_text.specs.declared.fault.Fault.{Fault}
 use Rattle.ls_text.specs.declared.name_id.NameId.{NameId}
 use Rattle.typed_ir.specs.declared.constant.Const.{Const}
@@ -8,32 +8,28 @@ use Rattle.verilog_ast.specs.Items.{ModuleItem, ModuleDeclaration}
 use Rattle.verilog_ast.specs.Renaming.{header_parameter_as, parameter_as, item_as, declaration_as}
 use Rattle.gen_unroll.specs.declared.parameter_sort.ParameterSort.{ParameterSort}
 use Rattle.gen_unroll.specs.declared.parameter_sort.ParameterSort.TheVariants as sort
-use Rattle.gen_unroll.specs.Overriding.{sort_of_each, item_sorts, constant_sorts, overrides_of}
+use Rattle.gen_unroll.specs.Overriding.{item_sorts, constant_sorts, overrides_of}
 use Rattle.gen_unroll.specs.Steps.{ModuleStep}
 use Rattle.gen_unroll.specs.Told.{Told}
-use Rattle.gen_unroll.specs.Unrolled.{State, unrolled_module, turn_limit}
+use Rattle.gen_unroll.specs.Unrolled.{State, unrolled_module, turn_limit, steps_told}
+use Rattle.gen_unroll.proofs.Overridden.{sorts_so}
 use Rattle.ls_text.specs.Answers.{◌>>=◌}
-use Rattle.unit_build.specs.Building.{steps_told}
 use Rattle.design_laws.specs.Renaming.{KeepsApart, found_as, step_as}
 use Rattle.design_laws.proofs.RenamedTold.{SameTold, SameEnd}
 use Rattle.design_laws.proofs.RenamedUnrolled.{same_module}
 
 -- ---- which parameters can be overridden
 
-each_sort_so : {A : Type 0} (s : ParameterSort) (moved : A → A) (xs : List A) → sort_of_each s (map moved xs) ≡ sort_of_each s xs
-each_sort_so s moved [] = refl
-each_sort_so s moved (x ∷ xs) = ap (λ (ss : List ParameterSort). s ∷ ss) (each_sort_so s moved xs)
-
 item_sorts_so : (f : NameId → NameId) (x : ModuleItem) → item_sorts (item_as f x) ≡ item_sorts x
 item_sorts_so f (i.Items x xs) = ap₂ (λ (ss ts : List ParameterSort). ss ++ ts) (item_sorts_so f x) (item_sorts_so f xs)
 item_sorts_so f (i.Region at xs) = item_sorts_so f xs
-item_sorts_so f (i.Parameters at k ps) = each_sort_so sort.Overridable (parameter_as f) ps
-item_sorts_so f (i.LocalParameters at k ps) = each_sort_so sort.Local (parameter_as f) ps
+item_sorts_so f (i.Parameters at k ps) = sorts_so sort.Overridable (parameter_as f) ps
+item_sorts_so f (i.LocalParameters at k ps) = sorts_so sort.Local (parameter_as f) ps
 item_sorts_so f rest = refl
 
 same_sorts : (f : NameId → NameId) (m : ModuleDeclaration) → constant_sorts (declaration_as f m) ≡ constant_sorts m
 same_sorts f m =
-    ap₂ (λ (ss ts : List ParameterSort). ss ++ ts) (each_sort_so sort.Overridable (header_parameter_as f) m.parameters) (item_sorts_so f m.items)
+    ap₂ (λ (ss ts : List ParameterSort). ss ++ ts) (sorts_so sort.Overridable (header_parameter_as f) m.parameters) (item_sorts_so f m.items)
 
 -- ---- its steps
 

@@ -3,7 +3,7 @@ use Rattle.std.proofs.Common.{◌≡◌, ℕ, zero, suc, ◌&&◌, not, Bool, if
 use Rattle.std.proofs.Math.Path.{fun_ext}
 use Rattle.std.proofs.lemmas.List.{map-append, length-map}
 use Rattle.std.proofs.lemmas.Option.{slice_get-map}
-use Rattle.std.specs.Option.{option_map}
+use Rattle.std.specs.Option.{option_map, option_to_list}
 use Rattle.ls_text.specs.declared.name_id.NameId.{NameId}
 use Rattle.typed_ir.specs.Cycles.{Signal}
 use Rattle.unit_ir.specs.declared.signal_declaration.SignalDeclaration.{SignalDeclaration}
@@ -17,7 +17,7 @@ use Rattle.gen_unroll.specs.Declarations.{port_name}
 use Rattle.gen_unroll.specs.Reaches.{reach_in}
 use Rattle.gen_unroll.specs.Steps.{ModuleStep}
 use Rattle.unit_names.specs.Signals.{NamedSignal, is_outermost, is_port, is_port_named}
-use Rattle.unit_names.specs.Numbers.{SignalTable, header_names, first_where, place_where, if_any, is_own_named, number_of_name, with_header_port, ports_onto, is_no_port, numbered, has_order, numbers_from, table_of, module_table}
+use Rattle.unit_names.specs.Numbers.{SignalTable, header_names, first_where, place_where, is_own_named, number_of_name, with_header_port, ports_onto, is_no_port, numbered, has_order, numbers_from, table_of, module_table}
 use Rattle.unit_names.specs.UnitLists.{signal_called, called_by, names_behind, unit_signals, declaration_of_signal, declarations_of, is_input, data_inputs_from, data_inputs, is_register_at, registers}
 use Rattle.design_laws.specs.Renaming.{KeepsApart, number_as, found_as, step_as}
 use Rattle.design_laws.proofs.RenamedAnswers.{found_so}
@@ -57,7 +57,7 @@ others_so f (x ∷ xs) =
     if_moved (map (signal_as f)) (is_no_port x) (x ∷ filter is_no_port xs) (filter is_no_port xs) _ _
     (ap (λ (ys : List NamedSignal). signal_as f x ∷ ys) (others_so f xs)) (others_so f xs)
 
-any_so : (f : NameId → NameId) (x : Option NamedSignal) → if_any (option_map (signal_as f) x) ≡ map (signal_as f) (if_any x)
+any_so : (f : NameId → NameId) (x : Option NamedSignal) → option_to_list (option_map (signal_as f) x) ≡ map (signal_as f) (option_to_list x)
 any_so f None = refl
 any_so f (Some x) = refl
 
@@ -72,13 +72,13 @@ port_so : (f : NameId → NameId) (xs : List NamedSignal) (n : Identifier) (out 
     → with_header_port (map (signal_as f) xs) (renamed_identifier f n) (map (signal_as f) out) ≡ map (signal_as f) (with_header_port xs n out)
 port_so f xs n out apart =
     ap (λ (k : Option ℕ). if is_some k then map (signal_as f) out
-    else map (signal_as f) out ++ if_any (first_where (is_port_named (f n.name).0) (map (signal_as f) xs)))
+    else map (signal_as f) out ++ option_to_list (first_where (is_port_named (f n.name).0) (map (signal_as f) xs)))
     (place_so f (is_own_named n.name.0) (is_own_named (f n.name).0) (own_named_so f n.name apart) out)
-    ∙ if_moved (map (signal_as f)) (is_some (number_of_name n.name.0 out)) out (out ++ if_any (first_where (is_port_named n.name.0) xs)) _ _ refl
-    (ap (λ (x : Option NamedSignal). map (signal_as f) out ++ if_any x)
+    ∙ if_moved (map (signal_as f)) (is_some (number_of_name n.name.0 out)) out (out ++ option_to_list (first_where (is_port_named n.name.0) xs)) _ _ refl
+    (ap (λ (x : Option NamedSignal). map (signal_as f) out ++ option_to_list x)
     (first_so f (is_port_named n.name.0) (is_port_named (f n.name).0) (port_named_so f n.name apart) xs)
     ∙ ap (λ (ys : List NamedSignal). map (signal_as f) out ++ ys) (any_so f (first_where (is_port_named n.name.0) xs))
-    ∙ sym (map-append (signal_as f) out (if_any (first_where (is_port_named n.name.0) xs))))
+    ∙ sym (map-append (signal_as f) out (option_to_list (first_where (is_port_named n.name.0) xs))))
 
 ports_so : (f : NameId → NameId) (ns : List Identifier) (xs out : List NamedSignal) → KeepsApart f
     → ports_onto (map (renamed_identifier f) ns) (map (signal_as f) xs) (map (signal_as f) out) ≡ map (signal_as f) (ports_onto ns xs out)
@@ -96,7 +96,7 @@ numbered_so f ns xs apart =
 numbers_so : (f : NameId → NameId) (k left : ℕ) (xs : List NamedSignal) → numbers_from k left (map (signal_as f) xs) ≡ numbers_from k left xs
 numbers_so f k zero xs = refl
 numbers_so f k (suc left) xs =
-    ap₂ (λ (p : Option ℕ) (ns : List ℕ). if_any p ++ ns) (place_so f (has_order k) (has_order k) (λ x. refl) xs) (numbers_so f (suc k) left xs)
+    ap₂ (λ (p : Option ℕ) (ns : List ℕ). option_to_list p ++ ns) (place_so f (has_order k) (has_order k) (λ x. refl) xs) (numbers_so f (suc k) left xs)
 
 table_so : (f : NameId → NameId) (ns : List Identifier) (xs : List NamedSignal) → KeepsApart f
     → table_of (map (renamed_identifier f) ns) (map (signal_as f) xs) ≡ table_as f (table_of ns xs)

@@ -2,13 +2,9 @@
 use Rattle.std.proofs.Common.{◌≡◌, ℕ, ◌%◌, ◌^◌, Bool, if◌then◌else◌, List, [], ◌∷◌, ◌++◌, map, Option, Some, None, refl, ◌∙◌, ap, ap₂}
 use Rattle.std.specs.Option.{option_map}
 use Rattle.ls_text.specs.declared.name_id.NameId.{NameId}
-use Rattle.ls_text.specs.declared.place.Place.{Place}
 use Rattle.typed_ir.specs.declared.target_form.TargetForm.{TargetForm}
-use Rattle.typed_ir.specs.Nodes.{Drive, known_lanes}
 use Rattle.typed_ir.specs.Sized.{Sized, value_of}
-use Rattle.unit_ir.specs.declared.mention.Mention.{Mention}
-use Rattle.unit_ir.specs.Items.{PlacedItem, Node, Initial}
-use Rattle.unit_ir.specs.Trees.{Own}
+use Rattle.unit_ir.specs.Items.{Initial}
 use Rattle.verilog_ast.specs.declared.identifier.Identifier.{Identifier}
 use Rattle.verilog_ast.specs.Declarations.{Declared, DeclaredReg, PortDeclaration, InputPort, OutputPort, NextPort}
 use Rattle.verilog_ast.specs.Expressions.{Expression, Target, Reference, Joined, NoTarget, Targets}
@@ -34,6 +30,7 @@ use Rattle.sized_items.specs.declared.value_kind.ValueKind.{ValueKind}
 use Rattle.sized_items.specs.declared.value_kind.ValueKind.TheVariants as kind
 use Rattle.sized_items.specs.DeclaredValues.{DeclaredValue, InitialValue, kind_of_net, value_if, values_of, reg_values_of, port_values, name_of, as_assignment, is_net, is_net_by, is_net_value, signal_in, due_by, writer_by, all_value_faults, all_value_kinds, declaration_faults, initial_value, declaration_initials}
 use Rattle.sized_items.specs.SizedItems.{drive_item, initial_item, value_item}
+use Rattle.sized_items.proofs.Placed.{drive_with}
 use Rattle.gen_unroll.proofs.MovedLists.{append_so, if_moved}
 use Rattle.rename_laws.specs.Findings.{value_as, placed_as}
 use Rattle.rename_laws.proofs.RenamedForms.{same_form_of}
@@ -119,9 +116,6 @@ same_target_place f (Reference x) = same_place f x
 same_target_place f (Joined at ts) = refl
 same_target_place f NoTarget = refl
 same_target_place f (Targets t ts) = same_target_place f t
-
-abbrev drive_with : TargetForm → SizedDrive → Place → List Mention → PlacedItem
-drive_with form x at targets = record { body = Node (Own (Drive form (known_lanes x.parts) x.value)); at = at; targets = targets; reads = [] }
 
 pub same_drive_item : (f : NameId → NameId) (scope other : Scope) (x : ContinuousAssignment) → MeansSame f scope other
     → drive_item other (assignment_as f x) ≡ placed_as f (drive_item scope x)

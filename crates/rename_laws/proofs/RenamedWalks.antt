@@ -20,6 +20,7 @@ use Rattle.unit_names.specs.Signals.{NamedSignal}
 use Rattle.unit_names.specs.UnitReaches.{unit_in_reach}
 use Rattle.unit_build.specs.Settled.{flag_meaning, flag_names, flag_item, flag_step, flag_steps, none_of}
 use Rattle.unit_build.specs.Walks.{Walk, instances_in, shapes_of, shapes_behind, step_faults, step_items, step_initials, passed, remaining, behind, walk_faults, walk_items, walk_initials}
+use Rattle.unit_build.proofs.BuiltModules.{walk_with}
 use Rattle.design_laws.specs.Renaming.{KeepsApart, SameReach, step_as}
 use Rattle.gen_unroll.proofs.MovedLists.{append_so}
 use Rattle.rename_laws.specs.Findings.{signal_as, shape_as, mention_as, placed_as}
@@ -88,9 +89,6 @@ remaining_so f left rest = refl
 -- with these names in reach, under other names
 abbrev pub walk_as : (NameId → NameId) → Reach → Walk → Walk
 walk_as f there k = record { here = there; child = k.child; left = map (shape_as f) k.left }
-
-abbrev walk_with : Reach → ℕ → List ChildShape → Walk
-walk_with here child left = record { here = here; child = child; left = left }
 
 pub behind_so : (f : NameId → NameId) (w : ℕ → Writer) (xs : List NamedSignal) (s : ModuleStep) (there : Reach) (k : Walk)
     → behind w (map (signal_as f) xs) (step_as f s) (walk_as f there k)

@@ -1,10 +1,10 @@
 -- Numbers of 1 to 128, tests of widths, and tests of faults that are none.
-use Rattle.std.proofs.Common.{◌≡◌, ℕ, zero, suc, ◌≤◌, ◌==◌, max, Bool, true, false, not, List, [], ◌∷◌, ◌++◌, nat_le, nat_lt, refl, sym, subst, true≢false, leb-true, le-leb, arith}
+use Rattle.std.proofs.Common.{◌≡◌, ℕ, zero, suc, ◌≤◌, ◌==◌, max, Bool, true, false, not, List, [], ◌++◌, nat_le, nat_lt, refl, sym, subst, true≢false, leb-true, le-leb, arith}
 use Rattle.std.proofs.lemmas.Bool.{and_from, ltb-false, cond-true, cond-false}
 use Rattle.std.proofs.Math.Nat.{le-max_left}
 use Rattle.typed_ir.proofs.Cases.{by_cases, and_left, and_right}
 use Rattle.ls_text.specs.declared.fault.Fault.{Fault}
-use Rattle.ls_text.proofs.Lists.{none_is_some}
+use Rattle.ls_text.proofs.Lists.{some_is_none}
 use Rattle.typed_ir.specs.Sized.{is_width}
 use Rattle.width_rules.specs.Faults.{fault_if}
 use Rattle.width_rules.specs.Sizes.{literal_length}
@@ -26,16 +26,13 @@ width_from n l = and_from (nat_le 1 n) (nat_le n 128) (le-leb 1 n l.least) (le-l
 
 -- ---- faults that are none
 
-pub nothing_first : {P : Type 0} (x : Fault) (xs : List Fault) → x ∷ xs ≡ [] → P
-nothing_first x xs h = none_is_some x xs (sym h)
-
 pub none_if : (b : Bool) (f : Fault) → fault_if b f ≡ [] → b ≡ false
-none_if true f h = nothing_first f [] h
+none_if true f h = some_is_none f [] h
 none_if false f h = refl
 
 pub holds_if : (b : Bool) (f : Fault) → fault_if (not b) f ≡ [] → b ≡ true
 holds_if true f h = refl
-holds_if false f h = nothing_first f [] h
+holds_if false f h = some_is_none f [] h
 
 -- what may be wrong with a run: its name, its index, its width, where it lies
 pub record IsRun (xs ws rs : List Fault) : Type 0 where

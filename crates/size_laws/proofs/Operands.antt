@@ -3,6 +3,7 @@ use Rattle.std.proofs.Common.{◌≡◌, ℕ, ◌+◌, ◌-◌, ◌*◌, ◌^◌
 use Rattle.std.specs.Prelude.{length as count}
 use Rattle.std.proofs.lemmas.Bool.{and_from, cond-true, cond-false}
 use Rattle.std.proofs.Math.Nat.{le-max_left, le-max_right}
+use Rattle.ls_text.proofs.Lists.{some_is_none}
 use Rattle.bits.specs.Values.{resized}
 use Rattle.bits.proofs.Runs.{wrapped_below}
 use Rattle.typed_ir.proofs.Cases.{by_cases, and_left, and_right}
@@ -21,7 +22,7 @@ use Rattle.width_rules.specs.Operators.{arithmetic_with, comparison_with, shift_
 use Rattle.width_rules.specs.Scopes.{Meaning, Signal, Constant, Turn, Genvar, Unknown}
 use Rattle.width_rules.specs.Sizes.{Operand, self_determined, unary_at, binary_at, unary_length, binary_length, extended, constant_at, name_at, bits_at, bits_from, low_of}
 use Rattle.size_laws.specs.Fitting.{FitsMeaning}
-use Rattle.size_laws.proofs.Bounds.{IsLong, long_from, width_from, nothing_first, holds_if, max_most}
+use Rattle.size_laws.proofs.Bounds.{IsLong, long_from, width_from, holds_if, max_most}
 
 -- an expression of this width, whose widths agree, also with those of the signals
 pub record Fits (x : Sized) (l : ℕ) (widths : List ℕ) : Type 0 where
@@ -106,20 +107,20 @@ bits_sized (Signal signal total lsb sign writer) widths width down true at signe
     (lies_below at (lsb + down) width total (holds_if (lies at (lsb + down) width total) (fault_at 32 n) none))
 bits_sized (Signal signal total lsb sign writer) widths width down false at signed index n fits long h none =
     pick_sized signal width total (lsb + down) signed index widths fits.1 long h
-bits_sized (Constant own value sign) widths width down constant at signed index n fits long h none = nothing_first (fault_at 32 n) [] none
-bits_sized (Turn own value sign) widths width down constant at signed index n fits long h none = nothing_first (fault_at 32 n) [] none
-bits_sized Genvar widths width down constant at signed index n fits long h none = nothing_first (fault_at 32 n) [] none
-bits_sized Unknown widths width down constant at signed index n fits long h none = nothing_first (fault_at 32 n) [] none
+bits_sized (Constant own value sign) widths width down constant at signed index n fits long h none = some_is_none (fault_at 32 n) [] none
+bits_sized (Turn own value sign) widths width down constant at signed index n fits long h none = some_is_none (fault_at 32 n) [] none
+bits_sized Genvar widths width down constant at signed index n fits long h none = some_is_none (fault_at 32 n) [] none
+bits_sized Unknown widths width down constant at signed index n fits long h none = some_is_none (fault_at 32 n) [] none
 
 pub range_sized : (m : Meaning) (widths : List ℕ) (low : ℤ) (width : ℕ) (n : Identifier) → FitsMeaning m widths → IsLong width → range_faults m low width n ≡ []
     → is_sized (bits_from m low width) widths ≡ true
 range_sized (Signal signal total lsb sign writer) widths low width n fits long none =
     part_sized signal (low_of low lsb) width total widths fits.0 fits.1 long.least
     (lies_below low lsb width total (holds_if (lies low lsb width total) (fault_at 32 n) none))
-range_sized (Constant own value sign) widths low width n fits long none = nothing_first (fault_at 32 n) [] none
-range_sized (Turn own value sign) widths low width n fits long none = nothing_first (fault_at 32 n) [] none
-range_sized Genvar widths low width n fits long none = nothing_first (fault_at 32 n) [] none
-range_sized Unknown widths low width n fits long none = nothing_first (fault_at 32 n) [] none
+range_sized (Constant own value sign) widths low width n fits long none = some_is_none (fault_at 32 n) [] none
+range_sized (Turn own value sign) widths low width n fits long none = some_is_none (fault_at 32 n) [] none
+range_sized Genvar widths low width n fits long none = some_is_none (fault_at 32 n) [] none
+range_sized Unknown widths low width n fits long none = some_is_none (fault_at 32 n) [] none
 
 -- ---- operators
 

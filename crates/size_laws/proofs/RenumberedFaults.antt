@@ -1,6 +1,7 @@
 -- Expressions and targets in a scope whose signals have other numbers: the same faults.
 use Rattle.std.proofs.Common.{◌≡◌, ℕ, ◌+◌, ◌-◌, ◌*◌, ◌==◌, not, Bool, List, ◌++◌, ℤ, refl, ◌∙◌, ap, ap₂}
 use Rattle.ls_text.specs.declared.fault.Fault.{Fault}
+use Rattle.ls_text.proofs.Lists.{joined_so}
 use Rattle.verilog_ast.specs.declared.identifier.Identifier.{Identifier}
 use Rattle.verilog_ast.specs.Expressions.{Expression, Literal, Whole, BitSelect, PartSelect, UpwardSelect, DownwardSelect, Unary, Binary, Conditional, Concatenation, Replication, Bracketed, NoPart, Parts, Target, Reference, Joined, NoTarget, Targets}
 use Rattle.width_rules.specs.declared.due.Due.{Due}
@@ -14,9 +15,6 @@ use Rattle.width_rules.specs.Sizes.{is_constant, count_of, bits_between}
 use Rattle.statement_rules.specs.Targets.{target_length, target_faults, may_write, kind_fault, reference_kind, kind_faults}
 use Rattle.size_laws.specs.Renumbering.{meaning_as, renumbered}
 use Rattle.size_laws.proofs.RenumberedForms.{long_as, fixed_as, integer_as}
-
-pub joined_so : (ps qs xs ys : List Fault) → ps ≡ xs → qs ≡ ys → ps ++ qs ≡ xs ++ ys
-joined_so ps qs xs ys = ap₂ (λ (a b : List Fault). a ++ b)
 
 -- ---- names and selects
 
@@ -65,14 +63,14 @@ bit_so : (g : ℕ → ℕ) (scope : Scope) (n : Identifier) (x : Expression) (na
     → names ++ (qs ++ run_faults (meaning_as g (scope n.name.0)) (is_constant (renumbered g scope) x) (integer (renumbered g scope) x) 1 0 n)
     ≡ others ++ (xs ++ run_faults (scope n.name.0) (is_constant scope x) (integer scope x) 1 0 n)
 bit_so g scope n x names others qs xs first second =
-    joined_so _ _ _ _ first (joined_so _ _ _ _ second
+    joined_so first (joined_so second
     (run_faults_so g (scope n.name.0) _ _ _ _ 1 1 0 0 n (fixed_as g scope x) (integer_as g scope x) refl refl))
 
 range_so : (g : ℕ → ℕ) (scope : Scope) (n : Identifier) (x y : Expression) (names others ps qs xs ys : List Fault) → names ≡ others → ps ≡ xs → qs ≡ ys
     → names ++ (ps ++ (qs ++ part_faults (meaning_as g (scope n.name.0)) (integer (renumbered g scope) y) (bits_between (integer (renumbered g scope) x) (integer (renumbered g scope) y)) n))
     ≡ others ++ (xs ++ (ys ++ part_faults (scope n.name.0) (integer scope y) (bits_between (integer scope x) (integer scope y)) n))
 range_so g scope n x y names others ps qs xs ys first second third =
-    joined_so _ _ _ _ first (joined_so _ _ _ _ second (joined_so _ _ _ _ third
+    joined_so first (joined_so second (joined_so third
     (part_faults_so g (scope n.name.0) _ _ _ _ n (integer_as g scope y) (ap₂ bits_between (integer_as g scope x) (integer_as g scope y)))))
 
 run_so : (g : ℕ → ℕ) (scope : Scope) (n : Identifier) (x y : Expression) (d e : ℕ) (names others ps qs xs ys : List Fault) → names ≡ others → ps ≡ xs → qs ≡ ys → d ≡ e
@@ -81,7 +79,7 @@ run_so : (g : ℕ → ℕ) (scope : Scope) (n : Identifier) (x y : Expression) (
     ≡ others ++ (xs ++ (ys ++ (width_faults n y (count_of (integer scope y)) ++ run_faults (scope n.name.0) (is_constant scope x) (integer scope x) (count_of (integer scope y)) e n)))
 run_so g scope n x y d e names others ps qs xs ys first second third ds =
     let wide = ap count_of (integer_as g scope y) in
-    joined_so _ _ _ _ first (joined_so _ _ _ _ second (joined_so _ _ _ _ third (joined_so _ _ _ _ (ap (width_faults n y) wide)
+    joined_so first (joined_so second (joined_so third (joined_so (ap (width_faults n y) wide)
     (run_faults_so g (scope n.name.0) _ _ _ _ _ _ d e n (fixed_as g scope x) (integer_as g scope x) wide ds))))
 
 down_so : (g : ℕ → ℕ) (scope : Scope) (y : Expression) → count_of (integer (renumbered g scope) y) - 1 ≡ count_of (integer scope y) - 1
@@ -100,16 +98,16 @@ faults_as g scope due (UpwardSelect n x y) =
 faults_as g scope due (DownwardSelect n x y) =
     run_so g scope n x y _ _ _ _ _ _ _ _ (name_faults_as g (scope n.name.0) due n) (faults_as g scope due x) (faults_as g scope ConstantOnly y) (down_so g scope y)
 faults_as g scope due (Unary at op x) = faults_as g scope due x
-faults_as g scope due (Binary op x y) = joined_so _ _ _ _ (faults_as g scope due x) (faults_as g scope due y)
-faults_as g scope due (Conditional c x y) = joined_so _ _ _ _ (faults_as g scope due c) (joined_so _ _ _ _ (faults_as g scope due x) (faults_as g scope due y))
-faults_as g scope due (Concatenation at xs) = joined_so _ _ _ _ (faults_as g scope due xs) (ap (total_faults at) (long_as g scope xs))
+faults_as g scope due (Binary op x y) = joined_so (faults_as g scope due x) (faults_as g scope due y)
+faults_as g scope due (Conditional c x y) = joined_so (faults_as g scope due c) (joined_so (faults_as g scope due x) (faults_as g scope due y))
+faults_as g scope due (Concatenation at xs) = joined_so (faults_as g scope due xs) (ap (total_faults at) (long_as g scope xs))
 faults_as g scope due (Replication at c xs) =
     let many = ap count_of (integer_as g scope c) in
-    joined_so _ _ _ _ (faults_as g scope ConstantOnly c) (joined_so _ _ _ _ (ap (λ (n : ℕ). fault_if (n == 0) (fault_of 26 c)) many)
-    (joined_so _ _ _ _ (faults_as g scope due xs) (ap₂ (λ (n w : ℕ). total_faults at (n * w)) many (long_as g scope xs))))
+    joined_so (faults_as g scope ConstantOnly c) (joined_so (ap (λ (n : ℕ). fault_if (n == 0) (fault_of 26 c)) many)
+    (joined_so (faults_as g scope due xs) (ap₂ (λ (n w : ℕ). total_faults at (n * w)) many (long_as g scope xs))))
 faults_as g scope due (Bracketed at x) = faults_as g scope due x
 faults_as g scope due NoPart = refl
-faults_as g scope due (Parts x xs) = joined_so _ _ _ _ (faults_as g scope due x) (faults_as g scope due xs)
+faults_as g scope due (Parts x xs) = joined_so (faults_as g scope due x) (faults_as g scope due xs)
 
 -- ---- targets
 
@@ -132,9 +130,9 @@ target_long_as g scope (Targets t ts) = ap₂ (λ (m n : ℕ). m + n) (target_lo
 
 pub target_faults_as : (g : ℕ → ℕ) (scope : Scope) (due : Due) (t : Target) → target_faults (renumbered g scope) due t ≡ target_faults scope due t
 target_faults_as g scope due (Reference x) = reference_faults_as g scope due x
-target_faults_as g scope due (Joined at ts) = joined_so _ _ _ _ (target_faults_as g scope due ts) (ap (total_faults at) (target_long_as g scope ts))
+target_faults_as g scope due (Joined at ts) = joined_so (target_faults_as g scope due ts) (ap (total_faults at) (target_long_as g scope ts))
 target_faults_as g scope due NoTarget = refl
-target_faults_as g scope due (Targets t ts) = joined_so _ _ _ _ (target_faults_as g scope due t) (target_faults_as g scope due ts)
+target_faults_as g scope due (Targets t ts) = joined_so (target_faults_as g scope due t) (target_faults_as g scope due ts)
 
 may_write_as : (g : ℕ → ℕ) (by : Writer) (m : Meaning) → may_write by (meaning_as g m) ≡ may_write by m
 may_write_as g by (Signal signal width lsb signed writer) = refl
@@ -158,4 +156,4 @@ pub kinds_as : (g : ℕ → ℕ) (scope : Scope) (by : Writer) (t : Target) → 
 kinds_as g scope by (Reference x) = reference_kind_as g scope by x
 kinds_as g scope by (Joined at ts) = kinds_as g scope by ts
 kinds_as g scope by NoTarget = refl
-kinds_as g scope by (Targets t ts) = joined_so _ _ _ _ (kinds_as g scope by t) (kinds_as g scope by ts)
+kinds_as g scope by (Targets t ts) = joined_so (kinds_as g scope by t) (kinds_as g scope by ts)

@@ -1,5 +1,6 @@
 -- Statements and continuous assignments in a scope whose signals have other numbers: the same faults, and the sized form under these numbers.
 use Rattle.std.proofs.Common.{◌≡◌, ℕ, max, Bool, false, ◌&&◌, List, [], ◌∷◌, ◌++◌, map, refl, ◌∙◌, ap, ap₂}
+use Rattle.ls_text.proofs.Lists.{joined_so}
 use Rattle.typed_ir.specs.Sized.{Sized}
 use Rattle.typed_ir.specs.Stmts as s
 use Rattle.typed_ir.specs.Stmts.{SizedTarget, SizedItem, SizedStmt, SizedArms}
@@ -19,7 +20,7 @@ use Rattle.statement_rules.specs.Targets.{target_length, parts, kind_faults}
 use Rattle.width_rules.proofs.Reading.{left_none, right_none}
 use Rattle.size_laws.specs.Renumbering.{renumbered, numbered_as, target_as, item_as, statement_as, arms_as, drive_as}
 use Rattle.size_laws.specs.Written.{IsTargetWritten, IsStatementWritten}
-use Rattle.size_laws.proofs.RenumberedFaults.{joined_so, faults_as, target_long_as, target_faults_as, kinds_as}
+use Rattle.size_laws.proofs.RenumberedFaults.{faults_as, target_long_as, target_faults_as, kinds_as}
 use Rattle.size_laws.proofs.RenumberedForms.{sign_as, long_as, form_as, own_as}
 use Rattle.size_laws.proofs.RenumberedTargets.{parts_as}
 
@@ -145,40 +146,40 @@ label_faults_as g scope (Compared x) = faults_as g scope AnyValue x
 
 labels_faults_as : (g : ℕ → ℕ) (scope : Scope) (ls : List CaseLabel) → labels_faults (renumbered g scope) ls ≡ labels_faults scope ls
 labels_faults_as g scope [] = refl
-labels_faults_as g scope (l ∷ ls) = joined_so _ _ _ _ (label_faults_as g scope l) (labels_faults_as g scope ls)
+labels_faults_as g scope (l ∷ ls) = joined_so (label_faults_as g scope l) (labels_faults_as g scope ls)
 
 expression_faults_as : (g : ℕ → ℕ) (scope : Scope) (x : Statement) → expression_faults (renumbered g scope) x ≡ expression_faults scope x
 expression_faults_as g scope (Block at label body) = expression_faults_as g scope body
-expression_faults_as g scope (If at c x) = joined_so _ _ _ _ (faults_as g scope AnyValue c) (expression_faults_as g scope x)
-expression_faults_as g scope (IfElse at c x y) = joined_so _ _ _ _ (faults_as g scope AnyValue c) (joined_so _ _ _ _ (expression_faults_as g scope x) (expression_faults_as g scope y))
-expression_faults_as g scope (Case at kind x items) = joined_so _ _ _ _ (faults_as g scope AnyValue x) (expression_faults_as g scope items)
-expression_faults_as g scope (Assignment t x) = joined_so _ _ _ _ (target_faults_as g scope AnyValue t) (faults_as g scope AnyValue x)
+expression_faults_as g scope (If at c x) = joined_so (faults_as g scope AnyValue c) (expression_faults_as g scope x)
+expression_faults_as g scope (IfElse at c x y) = joined_so (faults_as g scope AnyValue c) (joined_so (expression_faults_as g scope x) (expression_faults_as g scope y))
+expression_faults_as g scope (Case at kind x items) = joined_so (faults_as g scope AnyValue x) (expression_faults_as g scope items)
+expression_faults_as g scope (Assignment t x) = joined_so (target_faults_as g scope AnyValue t) (faults_as g scope AnyValue x)
 expression_faults_as g scope (Null at) = refl
 expression_faults_as g scope (Default at body) = expression_faults_as g scope body
-expression_faults_as g scope (Match ls body) = joined_so _ _ _ _ (labels_faults_as g scope ls) (expression_faults_as g scope body)
+expression_faults_as g scope (Match ls body) = joined_so (labels_faults_as g scope ls) (expression_faults_as g scope body)
 expression_faults_as g scope NoStatement = refl
-expression_faults_as g scope (Statements x xs) = joined_so _ _ _ _ (expression_faults_as g scope x) (expression_faults_as g scope xs)
+expression_faults_as g scope (Statements x xs) = joined_so (expression_faults_as g scope x) (expression_faults_as g scope xs)
 
 mutual
   item_faults_as : (g : ℕ → ℕ) (scope : Scope) (by : Writer) (x : Statement) → item_faults (renumbered g scope) by x ≡ item_faults scope by x
   item_faults_as g scope by (Block at label body) = item_faults_as g scope by body
   item_faults_as g scope by (If at c x) = item_faults_as g scope by x
-  item_faults_as g scope by (IfElse at c x y) = joined_so _ _ _ _ (item_faults_as g scope by x) (item_faults_as g scope by y)
+  item_faults_as g scope by (IfElse at c x y) = joined_so (item_faults_as g scope by x) (item_faults_as g scope by y)
   item_faults_as g scope by (Case at kind x items) = arm_faults_as g scope by false items
   item_faults_as g scope by (Assignment t x) = kinds_as g scope by t
   item_faults_as g scope by (Null at) = refl
   item_faults_as g scope by (Default at body) = item_faults_as g scope by body
   item_faults_as g scope by (Match ls body) = item_faults_as g scope by body
   item_faults_as g scope by NoStatement = refl
-  item_faults_as g scope by (Statements x xs) = joined_so _ _ _ _ (item_faults_as g scope by x) (item_faults_as g scope by xs)
+  item_faults_as g scope by (Statements x xs) = joined_so (item_faults_as g scope by x) (item_faults_as g scope by xs)
 
   arm_faults_as : (g : ℕ → ℕ) (scope : Scope) (by : Writer) (seen : Bool) (x : Statement) → arm_faults (renumbered g scope) by seen x ≡ arm_faults scope by seen x
   arm_faults_as g scope by seen (Statements x xs) =
-      joined_so _ _ _ _ refl (joined_so _ _ _ _ (item_faults_as g scope by x) (arm_faults_as g scope by (is_default_or seen x) xs))
+      joined_so refl (joined_so (item_faults_as g scope by x) (arm_faults_as g scope by (is_default_or seen x) xs))
   arm_faults_as g scope by seen other = refl
 
 pub statement_faults_as : (g : ℕ → ℕ) (scope : Scope) (by : Writer) (x : Statement) → statement_faults (renumbered g scope) by x ≡ statement_faults scope by x
-statement_faults_as g scope by x = joined_so _ _ _ _ (expression_faults_as g scope x) (item_faults_as g scope by x)
+statement_faults_as g scope by x = joined_so (expression_faults_as g scope x) (item_faults_as g scope by x)
 
 -- ---- continuous assignments
 
@@ -191,11 +192,11 @@ same_drive g scope x w h =
 drive_faults_as : (g : ℕ → ℕ) (scope : Scope) (xs : List ContinuousAssignment) → all_drive_faults (renumbered g scope) xs ≡ all_drive_faults scope xs
 drive_faults_as g scope [] = refl
 drive_faults_as g scope (x ∷ xs) =
-    joined_so _ _ _ _ (joined_so _ _ _ _ (target_faults_as g scope ConstantOnly x.target) (faults_as g scope AnyValue x.value)) (drive_faults_as g scope xs)
+    joined_so (joined_so (target_faults_as g scope ConstantOnly x.target) (faults_as g scope AnyValue x.value)) (drive_faults_as g scope xs)
 
 drive_kinds_as : (g : ℕ → ℕ) (scope : Scope) (xs : List ContinuousAssignment) → all_kind_faults (renumbered g scope) xs ≡ all_kind_faults scope xs
 drive_kinds_as g scope [] = refl
-drive_kinds_as g scope (x ∷ xs) = joined_so _ _ _ _ (kinds_as g scope writer.Continuous x.target) (drive_kinds_as g scope xs)
+drive_kinds_as g scope (x ∷ xs) = joined_so (kinds_as g scope writer.Continuous x.target) (drive_kinds_as g scope xs)
 
 pub assign_faults_as : (g : ℕ → ℕ) (scope : Scope) (xs : List ContinuousAssignment) → assign_faults (renumbered g scope) xs ≡ assign_faults scope xs
-assign_faults_as g scope xs = joined_so _ _ _ _ (drive_faults_as g scope xs) (drive_kinds_as g scope xs)
+assign_faults_as g scope xs = joined_so (drive_faults_as g scope xs) (drive_kinds_as g scope xs)

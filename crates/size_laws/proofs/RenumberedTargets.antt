@@ -1,6 +1,7 @@
 -- Targets in a scope whose signals have other numbers: where only signals are written, the same parts under these numbers.
 use Rattle.std.proofs.Common.{◌≡◌, ℕ, ◌+◌, ◌-◌, Bool, true, false, List, [], ◌∷◌, ◌++◌, map, ℤ, refl, sym, ◌∙◌, ap, ap₂}
 use Rattle.std.proofs.lemmas.List.{map-append}
+use Rattle.ls_text.proofs.Lists.{some_is_none}
 use Rattle.typed_ir.specs.Sized.{Sized}
 use Rattle.typed_ir.specs.Stmts.{SizedTarget}
 use Rattle.verilog_ast.specs.declared.identifier.Identifier.{Identifier}
@@ -15,34 +16,33 @@ use Rattle.statement_rules.specs.Targets.{target_length, parts, reference_kind, 
 use Rattle.width_rules.proofs.Reading.{left_none, right_none}
 use Rattle.size_laws.specs.Renumbering.{meaning_as, renumbered, numbered_as, target_as}
 use Rattle.size_laws.specs.Written.{IsReference, IsTargetWritten, AreTargetsWritten}
-use Rattle.size_laws.proofs.Bounds.{nothing_first}
 use Rattle.size_laws.proofs.RenumberedFaults.{target_long_as}
 use Rattle.size_laws.proofs.RenumberedForms.{sign_as, fixed_as, integer_as, own_as}
 use Rattle.size_laws.proofs.Targets.{wrong_kind}
 
 whole_as : (g : ℕ → ℕ) (m : Meaning) (by : Writer) (n : Identifier) (shift : ℕ) → wrong_kind by m n ≡ [] → whole_part (meaning_as g m) shift ≡ target_as g (whole_part m shift)
 whole_as g (Signal signal width lsb signed writer) by n shift h = refl
-whole_as g (Constant width value signed) by n shift h = nothing_first (fault_at 33 n) [] h
-whole_as g (Turn width value signed) by n shift h = nothing_first (fault_at 33 n) [] h
-whole_as g Genvar by n shift h = nothing_first (fault_at 33 n) [] h
-whole_as g Unknown by n shift h = nothing_first (fault_at 33 n) [] h
+whole_as g (Constant width value signed) by n shift h = some_is_none (fault_at 33 n) [] h
+whole_as g (Turn width value signed) by n shift h = some_is_none (fault_at 33 n) [] h
+whole_as g Genvar by n shift h = some_is_none (fault_at 33 n) [] h
+whole_as g Unknown by n shift h = some_is_none (fault_at 33 n) [] h
 
 part_as : (g : ℕ → ℕ) (m : Meaning) (by : Writer) (n : Identifier) (shift width down : ℕ) (known : Bool) (at : ℤ) (signed : Bool) (index : Sized) → wrong_kind by m n ≡ []
     → part_at (meaning_as g m) shift width down known at signed (numbered_as g index) ≡ target_as g (part_at m shift width down known at signed index)
 part_as g (Signal signal total lsb sign writer) by n shift width down true at signed index h = refl
 part_as g (Signal signal total lsb sign writer) by n shift width down false at signed index h = refl
-part_as g (Constant own value sign) by n shift width down known at signed index h = nothing_first (fault_at 33 n) [] h
-part_as g (Turn own value sign) by n shift width down known at signed index h = nothing_first (fault_at 33 n) [] h
-part_as g Genvar by n shift width down known at signed index h = nothing_first (fault_at 33 n) [] h
-part_as g Unknown by n shift width down known at signed index h = nothing_first (fault_at 33 n) [] h
+part_as g (Constant own value sign) by n shift width down known at signed index h = some_is_none (fault_at 33 n) [] h
+part_as g (Turn own value sign) by n shift width down known at signed index h = some_is_none (fault_at 33 n) [] h
+part_as g Genvar by n shift width down known at signed index h = some_is_none (fault_at 33 n) [] h
+part_as g Unknown by n shift width down known at signed index h = some_is_none (fault_at 33 n) [] h
 
 range_as : (g : ℕ → ℕ) (m : Meaning) (by : Writer) (n : Identifier) (shift : ℕ) (low : ℤ) (width : ℕ) → wrong_kind by m n ≡ []
     → part_from (meaning_as g m) shift low width ≡ target_as g (part_from m shift low width)
 range_as g (Signal signal total lsb sign writer) by n shift low width h = refl
-range_as g (Constant own value sign) by n shift low width h = nothing_first (fault_at 33 n) [] h
-range_as g (Turn own value sign) by n shift low width h = nothing_first (fault_at 33 n) [] h
-range_as g Genvar by n shift low width h = nothing_first (fault_at 33 n) [] h
-range_as g Unknown by n shift low width h = nothing_first (fault_at 33 n) [] h
+range_as g (Constant own value sign) by n shift low width h = some_is_none (fault_at 33 n) [] h
+range_as g (Turn own value sign) by n shift low width h = some_is_none (fault_at 33 n) [] h
+range_as g Genvar by n shift low width h = some_is_none (fault_at 33 n) [] h
+range_as g Unknown by n shift low width h = some_is_none (fault_at 33 n) [] h
 
 part_so : (g : ℕ → ℕ) (m : Meaning) (by : Writer) (n : Identifier) (shift v w d e : ℕ) (b c : Bool) (i j : ℤ) (p q : Bool) (x y : Sized) → wrong_kind by m n ≡ []
     → v ≡ w → d ≡ e → b ≡ c → i ≡ j → p ≡ q → x ≡ numbered_as g y

@@ -3,6 +3,7 @@ use Rattle.std.proofs.Common.{◌≡◌, ℕ, ◌+◌, ◌-◌, ◌≤◌, ◌&&
 use Rattle.std.proofs.lemmas.Bool.{and_from}
 use Rattle.typed_ir.proofs.Cases.{and_left, and_right}
 use Rattle.ls_text.specs.declared.fault.Fault.{Fault}
+use Rattle.ls_text.proofs.Lists.{some_is_none}
 use Rattle.typed_ir.specs.Sized.{Sized, is_signal, is_span, is_width}
 use Rattle.typed_ir.specs.Stmts.{SizedTarget, Moving, is_sized, is_target, are_targets}
 use Rattle.verilog_ast.specs.declared.identifier.Identifier.{Identifier}
@@ -21,7 +22,7 @@ use Rattle.statement_rules.specs.Targets.{target_length, parts, target_faults, m
 use Rattle.width_rules.proofs.Reading.{left_none, right_none}
 use Rattle.size_laws.specs.Fitting.{FitsMeaning, FitsScope}
 use Rattle.size_laws.specs.Written.{IsReference, IsTargetWritten, AreTargetsWritten}
-use Rattle.size_laws.proofs.Bounds.{IsLong, long_from, width_from, holds_if, nothing_first, run_none, third_none}
+use Rattle.size_laws.proofs.Bounds.{IsLong, long_from, width_from, holds_if, run_none, third_none}
 use Rattle.size_laws.proofs.Forms.{own_fits}
 use Rattle.size_laws.proofs.Lengths.{one_long, part_long, part_place, run_long, total_long}
 use Rattle.size_laws.proofs.Operands.{lies_below, span_in}
@@ -62,10 +63,10 @@ whole_fits : (m : Meaning) (widths : List ℕ) (by : Writer) (n : Identifier) (s
     → is_target (whole_part m shift) widths ≡ true
 whole_fits (Signal signal width lsb signed writer) widths by n shift fits h most =
     known_fits shift signal 0 width width widths fits.1 (long_from width fits.0) (omega arith) most
-whole_fits (Constant width value signed) widths by n shift fits h most = nothing_first (fault_at 33 n) [] h
-whole_fits (Turn width value signed) widths by n shift fits h most = nothing_first (fault_at 33 n) [] h
-whole_fits Genvar widths by n shift fits h most = nothing_first (fault_at 33 n) [] h
-whole_fits Unknown widths by n shift fits h most = nothing_first (fault_at 33 n) [] h
+whole_fits (Constant width value signed) widths by n shift fits h most = some_is_none (fault_at 33 n) [] h
+whole_fits (Turn width value signed) widths by n shift fits h most = some_is_none (fault_at 33 n) [] h
+whole_fits Genvar widths by n shift fits h most = some_is_none (fault_at 33 n) [] h
+whole_fits Unknown widths by n shift fits h most = some_is_none (fault_at 33 n) [] h
 
 run_fits : (m : Meaning) (widths : List ℕ) (shift width down : ℕ) (constant : Bool) (at : ℤ) (signed : Bool) (index : Sized) (n : Identifier) → FitsMeaning m widths
     → IsLong width → is_sized index widths ≡ true → run_faults m constant at width down n ≡ [] → shift + width ≤ 128
@@ -75,19 +76,19 @@ run_fits (Signal signal total lsb sign writer) widths shift width down true at s
     (lies_below at (lsb + down) width total (holds_if (lies at (lsb + down) width total) (fault_at 32 n) none)) most
 run_fits (Signal signal total lsb sign writer) widths shift width down false at signed index n fits long h none most =
     moving_fits shift signal width total (lsb + down) signed index widths fits.0 fits.1 long h most
-run_fits (Constant own value sign) widths shift width down constant at signed index n fits long h none most = nothing_first (fault_at 32 n) [] none
-run_fits (Turn own value sign) widths shift width down constant at signed index n fits long h none most = nothing_first (fault_at 32 n) [] none
-run_fits Genvar widths shift width down constant at signed index n fits long h none most = nothing_first (fault_at 32 n) [] none
-run_fits Unknown widths shift width down constant at signed index n fits long h none most = nothing_first (fault_at 32 n) [] none
+run_fits (Constant own value sign) widths shift width down constant at signed index n fits long h none most = some_is_none (fault_at 32 n) [] none
+run_fits (Turn own value sign) widths shift width down constant at signed index n fits long h none most = some_is_none (fault_at 32 n) [] none
+run_fits Genvar widths shift width down constant at signed index n fits long h none most = some_is_none (fault_at 32 n) [] none
+run_fits Unknown widths shift width down constant at signed index n fits long h none most = some_is_none (fault_at 32 n) [] none
 
 range_fits : (m : Meaning) (widths : List ℕ) (shift : ℕ) (low : ℤ) (width : ℕ) (n : Identifier) → FitsMeaning m widths → IsLong width → range_faults m low width n ≡ []
     → shift + width ≤ 128 → is_target (part_from m shift low width) widths ≡ true
 range_fits (Signal signal total lsb sign writer) widths shift low width n fits long none most =
     known_fits shift signal (low_of low lsb) width total widths fits.1 long (lies_below low lsb width total (holds_if (lies low lsb width total) (fault_at 32 n) none)) most
-range_fits (Constant own value sign) widths shift low width n fits long none most = nothing_first (fault_at 32 n) [] none
-range_fits (Turn own value sign) widths shift low width n fits long none most = nothing_first (fault_at 32 n) [] none
-range_fits Genvar widths shift low width n fits long none most = nothing_first (fault_at 32 n) [] none
-range_fits Unknown widths shift low width n fits long none most = nothing_first (fault_at 32 n) [] none
+range_fits (Constant own value sign) widths shift low width n fits long none most = some_is_none (fault_at 32 n) [] none
+range_fits (Turn own value sign) widths shift low width n fits long none most = some_is_none (fault_at 32 n) [] none
+range_fits Genvar widths shift low width n fits long none most = some_is_none (fault_at 32 n) [] none
+range_fits Unknown widths shift low width n fits long none most = some_is_none (fault_at 32 n) [] none
 
 reference_long : (scope : Scope) (widths : List ℕ) (due : Due) (by : Writer) (x : Expression) → FitsScope scope widths → IsReference x → reference_faults scope due x ≡ []
     → reference_kind scope by x ≡ [] → IsLong (length scope x)

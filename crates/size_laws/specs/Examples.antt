@@ -3,7 +3,6 @@
 --     casez (b) 4'b1??0: y = a[b +: 4] & b; default: ; endcase
 --     assign w[5:2] = {p, ~b};
 use Rattle.std.specs.Prelude.{ℕ, zero, suc, false, true, List, [], ◌∷◌}
-use Rattle.ls_text.specs.declared.place.Place.{Place}
 use Rattle.verilog_ast.specs.declared.binary_operator.BinaryOperator.TheVariants.{And}
 use Rattle.verilog_ast.specs.declared.case_kind.CaseKind.TheVariants.{Casez}
 use Rattle.verilog_ast.specs.declared.identifier.Identifier.{Identifier}
@@ -11,6 +10,7 @@ use Rattle.verilog_ast.specs.declared.unary_operator.UnaryOperator.TheVariants.{
 use Rattle.verilog_ast.specs.Expressions.{Expression, Literal, Whole, PartSelect, UpwardSelect, Unary, Binary, Concatenation, NoPart, Parts, Reference}
 use Rattle.verilog_ast.specs.Items.{ContinuousAssignment}
 use Rattle.verilog_ast.specs.Statements.{Statement, DontCare, Case, Assignment, Null, Default, Match, NoStatement, Statements}
+use Rattle.verilog_ast.specs.Places.{no_place}
 use Rattle.width_rules.specs.declared.writer.Writer.TheVariants as writer
 use Rattle.width_rules.specs.Scopes.{Scope, Signal, Constant, Unknown}
 
@@ -27,25 +27,22 @@ scope (suc (suc (suc zero))) = Signal 3 8 2 false writer.Continuous
 scope (suc (suc (suc (suc zero)))) = Constant 32 3 true
 scope (suc (suc (suc (suc (suc n))))) = Unknown
 
-abbrev pub here : Place
-here = record { file = 0; line = 1; col = 1 }
-
 abbrev pub named : ℕ → Identifier
-named n = record { at = here; name = record { 0 = n } }
+named n = record { at = no_place; name = record { 0 = n } }
 
 abbrev pub number : ℕ → Expression
-number n = Literal here (record { size = 0; signed = true; value = n })
+number n = Literal no_place (record { size = 0; signed = true; value = n })
 
 abbrev pub expression : Expression
 expression = Binary And (UpwardSelect (named 0) (Whole (named 1)) (number 4)) (Whole (named 1))
 
 abbrev pub statement : Statement
-statement = Case here Casez (Whole (named 1))
-    (Statements (Match (DontCare here (record { size = 4; value = 8; mask = 6 }) ∷ []) (Assignment (Reference (Whole (named 2))) expression))
-    (Statements (Default here (Null here)) NoStatement))
+statement = Case no_place Casez (Whole (named 1))
+    (Statements (Match (DontCare no_place (record { size = 4; value = 8; mask = 6 }) ∷ []) (Assignment (Reference (Whole (named 2))) expression))
+    (Statements (Default no_place (Null no_place)) NoStatement))
 
 abbrev pub assignments : List ContinuousAssignment
 assignments = record {
   target = Reference (PartSelect (named 3) (number 5) (number 2));
-  value = Concatenation here (Parts (Whole (named 4)) (Parts (Unary here Invert (Whole (named 1))) NoPart));
+  value = Concatenation no_place (Parts (Whole (named 4)) (Parts (Unary no_place Invert (Whole (named 1))) NoPart));
 } ∷ []

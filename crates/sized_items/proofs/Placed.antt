@@ -5,7 +5,8 @@ use Rattle.ls_text.specs.declared.place.Place.{Place}
 use Rattle.typed_ir.specs.declared.lane.Lane.{Lane}
 use Rattle.typed_ir.specs.declared.target_form.TargetForm.{TargetForm}
 use Rattle.typed_ir.specs.Sized.{Sized}
-use Rattle.typed_ir.specs.Nodes.{Drive}
+use Rattle.typed_ir.specs.Nodes.{Drive, known_lanes}
+use Rattle.statement_rules.specs.Drives.{SizedDrive}
 use Rattle.unit_ir.specs.declared.mention.Mention.{Mention}
 use Rattle.unit_ir.specs.declared.typed_item.TypedItem.{TypedItem}
 use Rattle.unit_ir.specs.Trees.{Own}
@@ -23,6 +24,10 @@ driving form lanes e = Node (Own (Drive form lanes e))
 
 pub driving_is : (f g : TargetForm) (ls ms : List Lane) (x y : Sized) → f ≡ g → ls ≡ ms → x ≡ y → driving f ls x ≡ driving g ms y
 driving_is f g ls ms x y h k l = ap (λ (z : TargetForm). driving z ls x) h ∙ ap₂ (driving g) k l
+
+-- the item of a continuous assignment
+abbrev pub drive_with : TargetForm → SizedDrive → Place → List Mention → PlacedItem
+drive_with form x at targets = record { body = Node (Own (Drive form (known_lanes x.parts) x.value)); at = at; targets = targets; reads = [] }
 
 -- ---- lists
 

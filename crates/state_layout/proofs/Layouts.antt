@@ -1,17 +1,15 @@
 -- Slots in the code's list of them.
-use Rattle.std.proofs.Common.{◌≡◌, ℕ, zero, suc, ◌+◌, ◌<◌, ◌≤◌, List, [], ◌∷◌, ◌++◌, length, get_or, take, map, refl, sym, ◌∙◌, ap, subst, arith}
+use Rattle.std.proofs.Common.{◌≡◌, ℕ, zero, suc, ◌+◌, ◌<◌, ◌≤◌, List, [], ◌∷◌, ◌++◌, length, get_or, take, map, sym, ◌∙◌, ap, subst, arith}
 use Rattle.std.proofs.lemmas.List.{get_or-map, length-map, map_push, map_more, take-map}
 use Rattle.std.specs.Prelude.{slice_index, IfOk, IfErr, IsErrAnd}
 use Rattle.std.specs.declared.result.Result.{Result}
 use Rattle.std.specs.declared.result.Result.TheVariants.{Ok, Err}
 use Rattle.typed_ir.specs.declared.flat.Flat.{Flat}
-use Rattle.typed_ir.specs.declared.instance_name.InstanceName.{InstanceName}
-use Rattle.typed_ir.specs.Cycles.{Signal as Signal'}
 use Rattle.typed_ir.specs.Linkeds.{flat}
-use Rattle.typed_ir.specs.Flats.{signal_of, signal_widths}
 use Rattle.ls_text.specs.declared.refusal.Refusal.{Refusal}
 use Rattle.ls_text.specs.declared.refusal.Refusal.TheVariants.{Fault as Refused, NoMemory}
 use Rattle.typed_ir.specs.declared.signal.Signal.{Signal}
+use Rattle.typed_ir.proofs.Widths.{widths_stay}
 use Rattle.state_layout.specs.Words.{words_of, width_in, register_widths, IsTooMany, IsTooManyWhere}
 use Rattle.state_layout.specs.Slots.{slot_size, first_word, first_words}
 use Rattle.state_layout.specs.declared.slot.Slot.{Slot}
@@ -106,12 +104,8 @@ pub too_many_all : (f : ℕ → ℕ) (registers ws : List ℕ) (i : ℕ) → ws 
 too_many_all f registers ws i is many = omega (arith, many, ap words_of (is ∙ sym (take-map f (i + 1) registers)), words_more (map f registers) (i + 1))
 
 -- the widths of a linked design's registers
-flat_widths : (rows : List InstanceName) (xs : List Signal) → map (λ (x : Signal'). x.width) (map (signal_of rows) xs) ≡ signal_widths xs
-flat_widths rows [] = refl
-flat_widths rows (x ∷ xs) = ap (λ ws. x.width ∷ ws) (flat_widths rows xs)
-
 pub design_widths : (design : Flat) (signals : List Signal) (registers : List ℕ) → signals ≡ design.signals.items → registers ≡ design.registers.items
     → map (width_in signals) registers ≡ register_widths (flat design)
 design_widths design signals registers one other =
     ap (λ xs. map (width_in xs) registers) one ∙ ap (map (width_in design.signals.items)) other
-    ∙ ap (λ (ws : List ℕ). map (λ n. slice_index ws n) design.registers.items) (sym (flat_widths design.instances.rows.items design.signals.items))
+    ∙ ap (λ (ws : List ℕ). map (λ n. slice_index ws n) design.registers.items) (sym (widths_stay design.instances.rows.items design.signals.items))

@@ -8,6 +8,7 @@ pub mod Numbered
 pub mod Views
 pub mod Lists
 pub mod Members
+pub mod Widths
 pub mod Ready
 pub mod Masks
 pub mod Mentions
@@ -15,3 +16,4 @@ pub mod Listed
 pub mod Runs
 pub mod Paths
 pub mod Sent
+pub mod Rows

@@ -6,7 +6,7 @@ use Rattle.typed_ir.specs.Orders.{Each, at_or}
 use Rattle.typed_ir.specs.Flats.{are_below}
 use Rattle.typed_ir.proofs.Cases.{and_left, and_right}
 pub use Rattle.std.proofs.lemmas.List.{drop_more as drop_split}
-pub use Rattle.ls_text.proofs.Lists.{none_is_some}
+pub use Rattle.ls_text.proofs.Lists.{none_is_some, joined_so}
 use Rattle.std.proofs.lemmas.List.{take_more}
 
 -- what is left at a place is its element and what is left after it

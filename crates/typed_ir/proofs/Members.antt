@@ -1,6 +1,7 @@
 -- Members of lists of numbers.
-use Rattle.std.proofs.Common.{◌≡◌, ℕ, List, [], ◌∷◌, ◌++◌, ◌⊎◌, inl, inr, map, refl, ap₂}
-use Rattle.typed_ir.specs.Orders.{Member, Distinct}
+use Rattle.std.proofs.Common.{◌≡◌, ℕ, true, ◌==◌, List, [], ◌∷◌, ◌++◌, ◌⊎◌, inl, inr, map, refl, ap₂, eq-eqb}
+use Rattle.typed_ir.specs.Orders.{Member, Distinct, is_member}
+use Rattle.typed_ir.proofs.Cases.{left_or, right_or}
 
 pub member_append : (x : ℕ) (xs ys : List ℕ) → Member x (xs ++ ys) → Member x xs ⊎ Member x ys
 member_append x [] ys m = inr m
@@ -19,6 +20,12 @@ member_left x (y ∷ xs) ys (inr m) = inr (member_left x xs ys m)
 pub member_right : (x : ℕ) (xs ys : List ℕ) → Member x ys → Member x (xs ++ ys)
 member_right x [] ys m = m
 member_right x (y ∷ xs) ys m = inr (member_right x xs ys m)
+
+-- each member is found by the test
+pub is_of : (x : ℕ) (xs : List ℕ) → Member x xs → is_member x xs ≡ true
+is_of x [] m = absurd m
+is_of x (y ∷ ys) (inl e) = left_or (x == y) (is_member x ys) (eq-eqb x y e)
+is_of x (y ∷ ys) (inr m) = right_or (x == y) (is_member x ys) (is_of x ys m)
 
 -- a member that isn't the first
 pub member_later : (x y : ℕ) (ys : List ℕ) → (x ≡ y → ⊥) → Member x (y ∷ ys) → Member x ys

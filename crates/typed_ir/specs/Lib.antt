@@ -15,3 +15,4 @@ pub mod Flats
 pub mod Linkeds
 pub mod States
 pub mod Touches
+pub mod Rows

@@ -1,16 +1,15 @@
 -- The nodes of connections without faults have widths that agree with the module's signals and with the ports of its instances.
 use Rattle.std.proofs.Common.{◌≡◌, ◌≤◌, ℕ, suc, Bool, true, false, List, [], ◌∷◌, ◌++◌, length, cond, append_assoc, refl, sym, ◌∙◌, ap, subst, arith}
-use Rattle.std.specs.Prelude.{⊤, Option, Some, None}
+use Rattle.std.specs.Prelude.{⊤}
 use Rattle.std.proofs.lemmas.Bool.{and_from}
 use Rattle.std.proofs.lemmas.List.{length-append}
 use Rattle.typed_ir.specs.Nodes.{are_lanes, known_lanes}
 use Rattle.typed_ir.specs.Orders.{Each}
 use Rattle.typed_ir.specs.Stmts.{is_sized}
 use Rattle.unit_ir.specs.declared.child_shape.ChildShape.{ChildShape}
-use Rattle.unit_ir.specs.declared.port_shape.PortShape.{PortShape}
 use Rattle.unit_ir.specs.Items.{nodes_in}
 use Rattle.unit_ir.specs.OwnWidths.{port_widths, child_widths}
-use Rattle.unit_ir.specs.Trees.{UnitNode, is_legal_unit_node}
+use Rattle.unit_ir.specs.Trees.{is_legal_unit_node}
 use Rattle.verilog_ast.specs.Expressions.{Target}
 use Rattle.verilog_ast.specs.Items.{ModuleInstance}
 use Rattle.width_rules.specs.declared.due.Due.TheVariants.{AnyValue}
@@ -24,10 +23,10 @@ use Rattle.size_laws.specs.Written.{IsWritten}
 use Rattle.size_laws.proofs.Statements.{assigned_sized}
 use Rattle.connection_rules.specs.Connections.{Connected, connected_to, connection_faults, connection_kinds, all_connection_faults, all_connection_kinds}
 use Rattle.connection_rules.specs.ConnectionNodes.{driven_by, port_lane, port_value, input_node, output_node, connection_node}
-use Rattle.connection_rules.specs.Instances.{instance_faults, instance_kinds, item_faults, first_to, item_if, port_items, child_items, instance_items}
+use Rattle.connection_rules.specs.Instances.{instance_faults, instance_kinds, item_faults, child_items, instance_items}
 use Rattle.connection_rules.specs.Outputs.{target_at, output_faults, output_kinds}
 use Rattle.connection_rules.proofs.ChildWidths.{lanes_lie, values_lie}
-use Rattle.connection_rules.proofs.Standing.{first_is}
+use Rattle.connection_rules.proofs.Standing.{each_port}
 use Rattle.unit_build.proofs.ConnectedItems.{each_items}
 use Rattle.unit_build.proofs.ConnectedTargets.{IsOutput, output_so}
 use Rattle.unit_build.proofs.ConnectedTexts.{AreInstancesWritten, written_to}
@@ -88,17 +87,6 @@ all_right scope child (c ∷ cs) lanes values written f k = (
   all_right scope child cs lanes.1 values.1 written.1 (right_none (connection_faults scope c) (all_connection_faults scope cs) f)
       (right_none (connection_kinds scope c) (all_connection_kinds scope cs) k),
 )
-
-each_port : (P : UnitNode → Type 0) (Q : Connected → Type 0) (scope : Scope) (d : ℕ) → ((c : Connected) → Q c → P (connection_node scope d c))
-    → (cs : List Connected) → Each Q cs → (k : ℕ) (ps : List PortShape) → Each P (nodes_in (port_items scope d cs k ps))
-each_port P Q scope d node cs all k [] = tt
-each_port P Q scope d node cs all k (p ∷ ps) =
-    each_items P (item_if scope d (first_to k cs)) (port_items scope d cs (suc k) ps)
-    (at_item (first_to k cs) (λ c e. first_is Q k cs c all e)) (each_port P Q scope d node cs all (suc k) ps)
-  where
-    at_item : (o : Option Connected) → ((c : Connected) → o ≡ Some c → Q c) → Each P (nodes_in (item_if scope d o))
-    at_item None h = tt
-    at_item (Some c) h = (node c (h c refl), tt)
 
 child_legal : (scope : Scope) (widths : List ℕ) (kids : ℕ → List ℕ) (d : ℕ) (s : ChildShape) (x : ModuleInstance) → FitsScope scope widths → kids d ≡ port_widths s
     → Each (λ c. IsWritten c.value) (connected_to s x.connections) → all_connection_faults scope (connected_to s x.connections) ≡ []

@@ -16,3 +16,4 @@ pub mod WalkedItems
 pub mod Sound
 pub mod Making
 pub mod Unrolling
+pub mod BuiltModules

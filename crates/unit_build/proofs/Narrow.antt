@@ -14,13 +14,13 @@ use Rattle.unit_ir.specs.Items.{SizedBody, Node, Clocked, Initial, PlacedItem}
 use Rattle.unit_ir.specs.Trees.{UnitNode, Own, Into, From, is_legal_unit_node}
 use Rattle.driver_rules.specs.Writes.{flat_spans, node_spans, spans_of}
 use Rattle.gen_unroll.specs.declared.bit_range.BitRange.{BitRange as Bounds}
+use Rattle.gen_unroll.specs.Declarations.{declared_width}
 use Rattle.gen_unroll.specs.Views.{bit_range_of}
 use Rattle.unit_names.specs.declared.named_signal.NamedSignal.{NamedSignal as Named}
 use Rattle.unit_names.specs.declared.signal_table.ModuleSignals.{ModuleSignals}
 use Rattle.unit_names.specs.ModuleViews.{signals_in}
 use Rattle.unit_names.specs.SignalViews.{signal_of}
 use Rattle.unit_names.specs.Sound.{widths_of}
-use Rattle.unit_names.specs.UnitReaches.{width_of}
 use Rattle.unit_build.proofs.ItemLaws.{IsLegalBody, AreLegalItems}
 
 -- ---- widths of at most 128 bits
@@ -28,7 +28,7 @@ use Rattle.unit_build.proofs.ItemLaws.{IsLegalBody, AreLegalItems}
 abbrev pub AreFew : List ℕ → Type 0
 AreFew widths = Each (λ (w : ℕ). w ≤ 128) widths
 
-range_few : (r : Option Bounds) → width_of (option_map bit_range_of r) ≤ 128
+range_few : (r : Option Bounds) → declared_width (option_map bit_range_of r) ≤ 128
 range_few None = omega arith
 range_few (Some r) = r.at_most_128
 

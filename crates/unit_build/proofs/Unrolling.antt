@@ -3,14 +3,14 @@ use Rattle.std.proofs.Common.{◌≡◌, Bool, List, Result, Ok, Err, sym, ◌�
 use Rattle.std.specs.Prelude.{Option, Some, None}
 use Rattle.ls_text.specs.declared.fault.Fault.{Fault}
 use Rattle.gen_unroll.specs.Steps.{ModuleStep}
-use Rattle.gen_unroll.specs.Told.{Told, fault_in}
-use Rattle.gen_unroll.specs.Unrolled.{unrolled_module, turn_limit}
+use Rattle.gen_unroll.specs.Told.{fault_in}
+use Rattle.gen_unroll.specs.Unrolled.{unrolled_module, turn_limit, steps_told}
 use Rattle.ls_text.specs.Answers.{◌>>=◌}
 use Rattle.gen_unroll.specs.Values.{ConstantValue}
 use Rattle.gen_unroll.proofs.Answered.{ended, stopped}
 use Rattle.module_registry.specs.declared.build_job.BuildJob.{BuildJob}
 use Rattle.unit_names.specs.Numbers.{SignalTable, module_table}
-use Rattle.unit_build.specs.Building.{module_of, steps_told, job_steps, settled_signals, unit_with, built}
+use Rattle.unit_build.specs.Building.{module_of, job_steps, settled_signals, unit_with, built}
 use Rattle.unit_build.specs.FromSteps.{unit_from}
 use Rattle.gen_unroll.specs.Overriding.{constant_sorts, overrides_of}
 

@@ -1,13 +1,12 @@
 -- The unit of a job: its module by itself, or the first fault in it (IEEE Std 1364-2005, 12.1 to 12.4).
-use Rattle.std.specs.Prelude.{ℕ, zero, suc, ◌%◌, ◌^◌, Bool, List, [], ◌∷◌, ◌++◌, Result, Ok}
+use Rattle.std.specs.Prelude.{ℕ, zero, suc, ◌%◌, ◌^◌, Bool, List, [], ◌∷◌, ◌++◌, Result}
 use Rattle.ls_text.specs.declared.fault.Fault.{Fault}
 use Rattle.typed_ir.specs.Cycles.{Signal}
 use Rattle.unit_ir.specs.Items.{PlacedItem, PlacedItems, unit_of}
 use Rattle.verilog_ast.specs.Items.{ModuleDeclaration}
 use Rattle.verilog_ast.specs.Views.{declaration_of}
 use Rattle.gen_unroll.specs.Steps.{ModuleStep}
-use Rattle.gen_unroll.specs.Told.{Told}
-use Rattle.gen_unroll.specs.Unrolled.{State, unrolled_module, turn_limit}
+use Rattle.gen_unroll.specs.Unrolled.{unrolled_module, turn_limit, steps_told}
 use Rattle.ls_text.specs.Answers.{◌>>=◌}
 use Rattle.gen_unroll.specs.Values.{unless}
 use Rattle.unit_names.specs.Numbers.{SignalTable, module_table}
@@ -26,9 +25,6 @@ abbrev pub module_of : BuildJob → ModuleDeclaration
 module_of job = declaration_of job.module.value.body
 
 -- ---- its steps
-
-abbrev pub steps_told : Told State → Result (List ModuleStep) Fault
-steps_told t = t.ending >>= λ st. Ok t.said
 
 unfoldable pub job_steps : BuildJob → Result (List ModuleStep) Fault
 job_steps job =

@@ -8,7 +8,7 @@ use Rattle.unit_ir.specs.Items.{PlacedItem, PlacedItems, unit_of}
 use Rattle.verilog_ast.specs.Items.{ModuleDeclaration}
 use Rattle.gen_unroll.specs.Overriding.{constant_sorts, overrides_of}
 use Rattle.gen_unroll.specs.Steps.{ModuleStep}
-use Rattle.gen_unroll.specs.Unrolled.{unrolled_module, turn_limit}
+use Rattle.gen_unroll.specs.Unrolled.{unrolled_module, turn_limit, steps_told}
 use Rattle.ls_text.specs.Answers.{◌>>=◌}
 use Rattle.gen_unroll.specs.Values.{unless}
 use Rattle.unit_names.specs.Numbers.{SignalTable, module_table}
@@ -19,7 +19,7 @@ use Rattle.driver_rules.specs.Targets.{is_settled as is_settled_by}
 use Rattle.module_registry.specs.declared.build_job.BuildJob.{BuildJob}
 use Rattle.module_registry.specs.Building.{Built}
 use Rattle.sized_items.specs.DeclaredValues.{InitialValue}
-use Rattle.unit_build.specs.Building.{steps_told, settled_signals, with_initials}
+use Rattle.unit_build.specs.Building.{settled_signals, with_initials}
 use Rattle.unit_build.specs.Walks.{Walk, walk_faults, walk_items, walk_initials}
 
 -- what a job says beside its module

@@ -80,7 +80,8 @@ instance_none texts ms done rows rest whole none so_far =
 
 -- ---- those of a tree
 
-abbrev job_found : (texts : List (List ℕ)) → Instance → List ChildShape → Option Module → Result InstanceJob Fault
+-- that of an instance whose module is found, or not
+abbrev pub job_found : (texts : List (List ℕ)) → Instance → List ChildShape → Option Module → Result InstanceJob Fault
 job_found texts x within found =
     or_no_module found x.of_module
     >>= λ m. steps_under (declaration_of m.body) x.parameters

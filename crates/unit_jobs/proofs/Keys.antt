@@ -8,6 +8,7 @@ use Rattle.std.proofs.lemmas.Bool.{cond-false}
 use Rattle.std.proofs.lemmas.List.{map_push}
 use Rattle.indexmap.specs.IndexMap.{insert_entry}
 use Rattle.ls_text.specs.declared.name_id.NameId.{NameId}
+use Rattle.ls_text.proofs.Lists.{same_first, same_others}
 use Rattle.ls_text.proofs.Options.{not_first}
 use Rattle.verilog_ast.specs.declared.module.Module.{Module}
 use Rattle.unit_jobs.specs.FirstModules.{one_if_none, with_module}
@@ -21,14 +22,6 @@ Entries = List (NameId × Arc Module Global)
 -- each stands under its own name
 abbrev pub AreNamed : Entries → Type 0
 AreNamed es = map key_of es ≡ map name_of es
-
-abbrev first_of : List ℕ → ℕ
-first_of [] = 0
-first_of (n ∷ ns) = n
-
-abbrev rest_of : List ℕ → List ℕ
-rest_of [] = []
-rest_of (n ∷ ns) = ns
 
 -- ---- looking up
 
@@ -48,7 +41,7 @@ looked_up n test same [] named = refl
 looked_up n test same (e ∷ es) named =
     chosen (test e.0) e.1 (lookup test es)
     ∙ ap₂ (λ (b : Bool) (o : Option Module). cond b (Some e.1.value) o)
-    (same e.0 ∙ ap (λ (m : ℕ). n == m) (ap first_of named)) (looked_up n test same es (ap rest_of named))
+    (same e.0 ∙ ap (λ (m : ℕ). n == m) (same_first (key_of e) (name_of e) (map key_of es) (map name_of es) named)) (looked_up n test same es (same_others (key_of e) (name_of e) (map key_of es) (map name_of es) named))
 
 -- ---- one module more
 
@@ -58,8 +51,8 @@ put_last : (E : NameId → NameId → Bool) → ((x y : NameId) → E x y ≡ (x
 put_last E same [] k v named none = refl
 put_last E same (e ∷ es) k v named none =
     let apart = not_first (k.0 == name_of e) (entry_of e) (module_called k.0 (map entry_of es)) none in
-    cond-false (E k e.0) ((e.0, v) ∷ es) (e ∷ insert_entry E es k v) (same k e.0 ∙ ap (λ (m : ℕ). k.0 == m) (ap first_of named) ∙ apart.0)
-    ∙ ap (λ (xs : Entries). e ∷ xs) (put_last E same es k v (ap rest_of named) apart.1)
+    cond-false (E k e.0) ((e.0, v) ∷ es) (e ∷ insert_entry E es k v) (same k e.0 ∙ ap (λ (m : ℕ). k.0 == m) (same_first (key_of e) (name_of e) (map key_of es) (map name_of es) named) ∙ apart.0)
+    ∙ ap (λ (xs : Entries). e ∷ xs) (put_last E same es k v (same_others (key_of e) (name_of e) (map key_of es) (map name_of es) named) apart.1)
 
 -- what isn't found isn't there
 pub not_found : (o : Option (Bor (Arc Module Global))) (p : Option Module) → is_some o ≡ false → option_map lent_module o ≡ p → p ≡ None

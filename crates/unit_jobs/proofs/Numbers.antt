@@ -5,7 +5,7 @@ use Rattle.std.proofs.lemmas.List.{map_push, at_drop_all}
 use Rattle.std.proofs.lemmas.List.Elements.{All-head, All-tail, All-push}
 use Rattle.ls_text.specs.declared.name_id.NameId.{NameId}
 use Rattle.ls_text.specs.Texts.{Grows, IsIdOf}
-use Rattle.ls_text.proofs.Growth.{grown_text, grown_id, grows_on}
+use Rattle.ls_text.proofs.Growth.{grows_on, IsKnown, known_grown, texts_grown, known_more}
 use Rattle.typed_ir.proofs.Lists.{drop_read}
 use Rattle.module_registry.specs.declared.build_job.BuildJob.{BuildJob}
 use Rattle.unit_jobs.specs.declared.unnamed_job.UnnamedJob.{UnnamedJob}
@@ -14,31 +14,11 @@ use Rattle.unit_jobs.specs.JobViews.{job_view}
 use Rattle.ls_text.specs.TextViews.{text_items, text_of}
 use Rattle.unit_jobs.specs.UnnamedViews.{unnamed_view}
 
--- the table has the name
-abbrev pub IsKnown : ℕ → NameId → Type 0
-IsKnown count n = n.0 < count
-
--- and the names of a job
+-- the table has the names of a job
 abbrev pub AreKnown : ℕ → BuildJob → Type 0
 AreKnown count j = All (IsKnown count) j.names
 
 -- ---- names
-
-pub known_grown : (old new : List (List ℕ)) (ns : List NameId) → Grows old new → All (IsKnown (length old)) ns → All (IsKnown (length new)) ns
-known_grown old new ns g all = λ k d within. grown_id old new _ g (all k d within)
-
-texts_grown : (old new : List (List ℕ)) (ns : List NameId) → Grows old new → All (IsKnown (length old)) ns
-    → map (text_of new) ns ≡ map (text_of old) ns
-texts_grown old new [] g all = refl
-texts_grown old new (n ∷ ns) g all =
-    ap₂ (λ (t : List ℕ) (ts : List (List ℕ)). t ∷ ts) (grown_text old new n.0 g (All-head (IsKnown (length old)) n ns all))
-    (texts_grown old new ns g (All-tail (IsKnown (length old)) n ns all))
-
--- one name more
-pub known_more : (old new : List (List ℕ)) (before now : List NameId) (n : NameId) (text : List ℕ) → Grows old new → All (IsKnown (length old)) before
-    → now ≡ before ++ n ∷ [] → IsIdOf new text n.0 → All (IsKnown (length new)) now
-known_more old new before now n text g all is id =
-    subst (All (IsKnown (length new))) (sym is) (All-push (IsKnown (length new)) before n (known_grown old new before g all) id.within)
 
 pub text_more : (old new : List (List ℕ)) (before now : List NameId) (n : NameId) (all : List (Vec ℕ Global)) (k : ℕ) (text : Vec ℕ Global)
     (whole : List (List ℕ))

@@ -15,13 +15,12 @@ use Rattle.gen_unroll.specs.declared.step.Step.{Step}
 use Rattle.gen_unroll.specs.Overriding.{constant_sorts, overrides_of}
 use Rattle.gen_unroll.specs.Steps.{GenerateBlock, ModuleStep, Listed, Port, Parameter, Item, Labelled, Opened, Closed, blocks_in}
 use Rattle.gen_unroll.specs.Told.{Told, fault_in}
-use Rattle.gen_unroll.specs.Unrolled.{State, unrolled_module, turn_limit}
+use Rattle.gen_unroll.specs.Unrolled.{State, unrolled_module, turn_limit, steps_told}
 use Rattle.ls_text.specs.Answers.{◌>>=◌}
 use Rattle.gen_unroll.specs.Values.{ConstantValue}
 use Rattle.gen_unroll.specs.Views.{step_of}
 use Rattle.gen_unroll.proofs.Answered.{ended, stopped}
 use Rattle.unit_jobs.specs.BlockNames.{item_texts, texts_within}
-use Rattle.unit_jobs.specs.Jobs.{told_steps}
 use Rattle.unit_jobs.specs.Walks.{module_texts, open_behind, step_texts}
 
 -- ---- ports of the body are no names of a block
@@ -79,7 +78,7 @@ step_none texts blocks before whole around all k h so_far =
 -- ---- a module
 
 abbrev texts_told : (texts : List (List ℕ)) → Told State → Result (List (List ℕ)) Fault
-texts_told texts t = told_steps t >>= λ steps. Ok (texts_within texts (blocks_in steps) [] steps)
+texts_told texts t = steps_told t >>= λ steps. Ok (texts_within texts (blocks_in steps) [] steps)
 
 abbrev told_under : ModuleDeclaration → List (Option ConstantValue) → Told State
 told_under m os = unrolled_module turn_limit os m

@@ -12,8 +12,7 @@ use Rattle.unit_ir.specs.declared.instance.Instance.{Instance}
 use Rattle.unit_ir.specs.Shapes.{children_of, shape_of}
 use Rattle.gen_unroll.specs.Overriding.{constant_sorts, overrides_of}
 use Rattle.gen_unroll.specs.Steps.{ModuleStep, blocks_in}
-use Rattle.gen_unroll.specs.Told.{Told}
-use Rattle.gen_unroll.specs.Unrolled.{State, unrolled_module, turn_limit}
+use Rattle.gen_unroll.specs.Unrolled.{unrolled_module, turn_limit, steps_told}
 use Rattle.ls_text.specs.Answers.{◌>>=◌}
 use Rattle.unit_jobs.specs.BlockNames.{texts_within}
 
@@ -37,11 +36,8 @@ or_no_module (Some m) n = Ok m
 
 -- ---- its steps under these values of its parameters, or the first fault of unrolling it
 
-abbrev pub told_steps : Told State → Result (List ModuleStep) Fault
-told_steps t = t.ending >>= λ st. Ok t.said
-
 abbrev pub steps_under : ModuleDeclaration → List Const → Result (List ModuleStep) Fault
-steps_under m values = told_steps (unrolled_module turn_limit (overrides_of (constant_sorts m) values) m)
+steps_under m values = steps_told (unrolled_module turn_limit (overrides_of (constant_sorts m) values) m)
 
 -- ---- its job
 

@@ -1,5 +1,5 @@
 -- Rows of shapes: of each instance those that stand in it.
-use Rattle.std.specs.Prelude.{ℕ, zero, suc, List, [], ◌∷◌, ◌++◌, map, Result, Ok, if◌then◌else◌}
+use Rattle.std.specs.Prelude.{ℕ, suc, List, [], ◌∷◌, ◌++◌, map, Result, Ok, if◌then◌else◌}
 use Rattle.std.specs.Global.{Global}
 use Rattle.std.specs.declared.vec.Vec.{Vec}
 use Rattle.ls_text.specs.declared.fault.Fault.{Fault}
@@ -14,12 +14,6 @@ use Rattle.unit_jobs.specs.Jobs.{InstanceJob, instance_job}
 abbrev pub shapes_in : ℕ → List Instance → List ChildShape
 shapes_in k [] = []
 shapes_in k (x ∷ xs) = (if stands_in k x.place.parent then shape_of x ∷ [] else []) ++ shapes_in k xs
-
--- a row of a table, empty where there is none
-abbrev pub row_in : List (Vec ChildShape Global) → ℕ → List ChildShape
-row_in [] k = []
-row_in (r ∷ rs) zero = r.items
-row_in (r ∷ rs) (suc k) = row_in rs k
 
 abbrev pub row_of : Vec ChildShape Global → List ChildShape
 row_of r = r.items

@@ -1,7 +1,8 @@
 // Instances to the shapes of those that stand in each.
 ghost use Rattle.std.specs.Prelude.{◌≡◌, ◌++◌, ◌∷◌, [], ◌<◌, ℕ, IfOk, OnOk, map, length, if◌then◌else◌};
+ghost use Rattle.typed_ir.specs.Rows.{row_in};
 ghost use Rattle.unit_ir.specs.Shapes.{shape_of, stands_in};
-ghost use Rattle.unit_jobs.specs.Rows.{row_in, row_of, rows_from, shapes_in};
+ghost use Rattle.unit_jobs.specs.Rows.{row_of, rows_from, shapes_in};
 
 use no_memory::NoMemory;
 use std::alloc::Global;

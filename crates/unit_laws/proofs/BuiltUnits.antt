@@ -12,6 +12,7 @@ use Rattle.gen_unroll.specs.Steps.{ModuleStep}
 use Rattle.gen_unroll.specs.Unrolled.{State, unrolled_module, turn_limit}
 use Rattle.ls_text.specs.Answers.{◌>>=◌}
 use Rattle.gen_unroll.specs.Values.{unless}
+use Rattle.gen_unroll.proofs.Answered.{ok_same}
 use Rattle.module_registry.specs.declared.build_job.BuildJob.{BuildJob}
 use Rattle.module_registry.specs.Building.{Built}
 use Rattle.driver_rules.specs.DriverFaults.{driver_faults}
@@ -31,16 +32,6 @@ use Rattle.unit_laws.proofs.WrittenSteps.{AreWritten, steps_so}
 
 -- ---- answers
 
-abbrev answer_or : {A : Type 0} → A → Result A Fault → A
-answer_or d (Ok x) = x
-answer_or d (Err f) = d
-
-abbrev pub answer : {A : Type 0} → A → Result A Fault
-answer x = Ok x
-
-pub same_answer : {A : Type 0} (x y : A) → answer x ≡ answer y → x ≡ y
-same_answer x y is = ap (answer_or x) is
-
 abbrev pub HasAnswer : {A : Type 0} → Result A Fault → Type 0
 HasAnswer (Ok x) = Unit {0}
 HasAnswer (Err f) = ⊥
@@ -48,7 +39,7 @@ HasAnswer (Err f) = ⊥
 -- ---- the steps of a job
 
 told_so : (said ss : List ModuleStep) (r : Result State Fault) → (r >>= λ st. Ok said) ≡ Ok ss → said ≡ ss
-told_so said ss (Ok st) is = same_answer said ss is
+told_so said ss (Ok st) is = ok_same said ss is
 told_so said ss (Err f) is = absurd (subst HasAnswer (sym is) tt)
 
 -- are written as a parser writes them
@@ -67,7 +58,7 @@ record IsKept {A : Type 0} (fs : List Fault) (x y : A) : Type 0 where
   same : x ≡ y
 
 kept : {A : Type 0} (fs : List Fault) (x y : A) → unless fs x ≡ Ok y → IsKept fs x y
-kept [] x y is = record { none = refl; same = same_answer x y is }
+kept [] x y is = record { none = refl; same = ok_same x y is }
 kept (f ∷ fs) x y is = absurd (subst HasAnswer (sym is) tt)
 
 unit_from_parts : (job : BuildJob) (steps : List ModuleStep) (table : SignalTable) (b : Built) → job_steps job ≡ Ok steps

@@ -3,11 +3,12 @@ use Rattle.std.proofs.Common.{◌≡◌, ℕ, ◌==◌, ◌||◌, Bool, true, fa
 use Rattle.std.proofs.lemmas.Bool.{not-true}
 use Rattle.std.proofs.lemmas.List.{append_cancel_left}
 use Rattle.ls_text.specs.Texts.{HasEachOnce, text_at}
+use Rattle.ls_text.proofs.Lists.{first_of}
 use Rattle.unit_ir.specs.declared.port_shape.PortShape.{PortShape}
 use Rattle.unit_ir.specs.declared.child_shape.ChildShape.{ChildShape}
 use Rattle.module_registry.specs.KeyTexts.{line_end, clock_text, port_line, child_lines}
 use Rattle.unit_laws.specs.Told.{IsPortTold, IsChildTold}
-use Rattle.unit_laws.proofs.Cuts.{cut, first}
+use Rattle.unit_laws.proofs.Cuts.{cut}
 use Rattle.unit_laws.proofs.Parts.{name_same}
 use Rattle.unit_laws.proofs.Lines.{IsRead, clock_text_read, port_read, no_space, kind_text}
 use Rattle.unit_laws.proofs.Words.{port_row}
@@ -26,13 +27,13 @@ any_byte c = true
 abbrev no_port : ℕ → Bool
 no_port c = not (begins_port c)
 
-kind_starts : (input : Bool) (xs : List ℕ) → begins_port (first (kind_text input ++ xs)) ≡ true
+kind_starts : (input : Bool) (xs : List ℕ) → begins_port (first_of (kind_text input ++ xs)) ≡ true
 kind_starts true xs = refl
 kind_starts false xs = refl
 
-port_starts : (names : List (List ℕ)) (p : PortShape) (xs : List ℕ) → begins_port (first (port_line names p ++ xs)) ≡ true
+port_starts : (names : List (List ℕ)) (p : PortShape) (xs : List ℕ) → begins_port (first_of (port_line names p ++ xs)) ≡ true
 port_starts names p xs =
-    ap (λ z. begins_port (first z)) (port_row (kind_text p.input) (text_at names p.name.0) p.width p.signed xs) ∙ kind_starts p.input _
+    ap (λ z. begins_port (first_of z)) (port_row (kind_text p.input) (text_at names p.name.0) p.width p.signed xs) ∙ kind_starts p.input _
 
 ports_are_lines : (names : List (List ℕ)) → HasEachOnce names → AreLines (IsPortTold names) (port_line names) begins_port any_byte
 ports_are_lines names once = record {
@@ -57,7 +58,7 @@ child_rows names c xs =
     ∙ append_assoc (codes "child ") name (32 ∷ (clock ++ 10 ∷ (ports ++ xs)))
 
 child_read : (names : List (List ℕ)) (c d : ChildShape) (xs ys : List ℕ) → HasEachOnce names → IsChildTold names c → IsChildTold names d
-    → no_port (first xs) ≡ true → no_port (first ys) ≡ true → child_lines names c ++ xs ≡ child_lines names d ++ ys → IsRead c d xs ys
+    → no_port (first_of xs) ≡ true → no_port (first_of ys) ≡ true → child_lines names c ++ xs ≡ child_lines names d ++ ys → IsRead c d xs ys
 child_read names c d xs ys once told_c told_d end_x end_y e =
     let row : child_row names c xs ≡ child_row names d ys =
     append_cancel_left (codes "child ") (child_row names c xs) (child_row names d ys) (sym (child_rows names c xs) ∙ e ∙ child_rows names d ys) in
@@ -70,13 +71,13 @@ child_read names c d xs ys once told_c told_d end_x end_y e =
     let instance = name_same names c.instance d.instance once told_c.instance told_d.instance name.before in
     record { same = λ i. record { instance = instance i; clock = clock.same i; ports = ports.same i }; after = ports.after }
   where
-    port_end : (zs : List ℕ) → no_port (first zs) ≡ true → IsEnd begins_port any_byte zs
-    port_end zs h = record { other = not-true (begins_port (first zs)) h; free = refl }
+    port_end : (zs : List ℕ) → no_port (first_of zs) ≡ true → IsEnd begins_port any_byte zs
+    port_end zs h = record { other = not-true (begins_port (first_of zs)) h; free = refl }
 
 children_are_lines : (names : List (List ℕ)) → HasEachOnce names → AreLines (IsChildTold names) (child_lines names) begins_child no_port
 children_are_lines names once = record {
-  starts = λ c xs. ap (λ z. begins_child (first z)) (child_rows names c xs);
-  again = λ c xs. ap (λ z. no_port (first z)) (child_rows names c xs);
+  starts = λ c xs. ap (λ z. begins_child (first_of z)) (child_rows names c xs);
+  again = λ c xs. ap (λ z. no_port (first_of z)) (child_rows names c xs);
   reads = λ c d xs ys told_c told_d free_x free_y e. child_read names c d xs ys once told_c told_d free_x free_y e;
 }
 

@@ -2,6 +2,7 @@
 use Rattle.std.proofs.Common.{◌≡◌, ℕ, suc, Bool, true, false, cond, List, [], ◌∷◌, ◌++◌, map, refl, sym, ◌∙◌, ap, ap₂}
 use Rattle.std.specs.Prelude.{Option, Some, None}
 use Rattle.std.proofs.lemmas.List.{map-append}
+use Rattle.ls_text.proofs.Lists.{joined_so}
 use Rattle.typed_ir.specs.declared.lane.Lane.{Lane}
 use Rattle.typed_ir.specs.declared.target_form.TargetForm.TheVariants as form
 use Rattle.typed_ir.specs.Orders.{Each}
@@ -21,7 +22,7 @@ use Rattle.width_rules.proofs.Reading.{left_none, right_none}
 use Rattle.statement_rules.specs.Targets.{parts}
 use Rattle.size_laws.specs.Renumbering.{renumbered, target_as}
 use Rattle.size_laws.specs.Written.{IsWritten}
-use Rattle.size_laws.proofs.RenumberedFaults.{joined_so, faults_as, target_long_as, target_faults_as, kinds_as}
+use Rattle.size_laws.proofs.RenumberedFaults.{faults_as, target_long_as, target_faults_as, kinds_as}
 use Rattle.size_laws.proofs.RenumberedForms.{long_as}
 use Rattle.size_laws.proofs.RenumberedStatements.{assigned_as}
 use Rattle.size_laws.proofs.RenumberedTargets.{parts_as}
@@ -44,9 +45,9 @@ part_faults_as g scope (e.BitSelect n x) = target_faults_as g scope ConstantOnly
 part_faults_as g scope (e.PartSelect n x y) = target_faults_as g scope ConstantOnly (Reference (e.PartSelect n x y))
 part_faults_as g scope (e.UpwardSelect n x y) = target_faults_as g scope ConstantOnly (Reference (e.UpwardSelect n x y))
 part_faults_as g scope (e.DownwardSelect n x y) = target_faults_as g scope ConstantOnly (Reference (e.DownwardSelect n x y))
-part_faults_as g scope (e.Concatenation at xs) = joined_so _ _ _ _ (part_faults_as g scope xs) (ap (total_faults at) (long_as g scope xs))
+part_faults_as g scope (e.Concatenation at xs) = joined_so (part_faults_as g scope xs) (ap (total_faults at) (long_as g scope xs))
 part_faults_as g scope e.NoPart = refl
-part_faults_as g scope (e.Parts x xs) = joined_so _ _ _ _ (part_faults_as g scope x) (part_faults_as g scope xs)
+part_faults_as g scope (e.Parts x xs) = joined_so (part_faults_as g scope x) (part_faults_as g scope xs)
 part_faults_as g scope other = faults_as g scope AnyValue other
 
 written_faults_as : (g : ℕ → ℕ) (scope : Scope) (x : Expression) (t : Option Target)
@@ -62,7 +63,7 @@ part_kinds_as g scope (e.UpwardSelect n x y) = kinds_as g scope writer.Continuou
 part_kinds_as g scope (e.DownwardSelect n x y) = kinds_as g scope writer.Continuous (Reference (e.DownwardSelect n x y))
 part_kinds_as g scope (e.Concatenation at xs) = part_kinds_as g scope xs
 part_kinds_as g scope e.NoPart = refl
-part_kinds_as g scope (e.Parts x xs) = joined_so _ _ _ _ (part_kinds_as g scope x) (part_kinds_as g scope xs)
+part_kinds_as g scope (e.Parts x xs) = joined_so (part_kinds_as g scope x) (part_kinds_as g scope xs)
 part_kinds_as g scope other = refl
 
 written_kinds_as : (g : ℕ → ℕ) (scope : Scope) (x : Expression) (t : Option Target) → written_kinds (renumbered g scope) x t ≡ written_kinds scope x t
@@ -86,29 +87,29 @@ kinds_so g scope c = by_input c.shape.input
 
 all_faults_so : (g : ℕ → ℕ) (scope : Scope) (cs : List Connected) → all_connection_faults (renumbered g scope) cs ≡ all_connection_faults scope cs
 all_faults_so g scope [] = refl
-all_faults_so g scope (c ∷ cs) = joined_so _ _ _ _ (faults_so g scope c) (all_faults_so g scope cs)
+all_faults_so g scope (c ∷ cs) = joined_so (faults_so g scope c) (all_faults_so g scope cs)
 
 all_kinds_so : (g : ℕ → ℕ) (scope : Scope) (cs : List Connected) → all_connection_kinds (renumbered g scope) cs ≡ all_connection_kinds scope cs
 all_kinds_so g scope [] = refl
-all_kinds_so g scope (c ∷ cs) = joined_so _ _ _ _ (kinds_so g scope c) (all_kinds_so g scope cs)
+all_kinds_so g scope (c ∷ cs) = joined_so (kinds_so g scope c) (all_kinds_so g scope cs)
 
 instance_faults_as : (g : ℕ → ℕ) (scope : Scope) (ss : List ChildShape) (xs : List ModuleInstance)
     → instance_faults (renumbered g scope) ss xs ≡ instance_faults scope ss xs
 instance_faults_as g scope [] xs = refl
 instance_faults_as g scope (s ∷ ss) [] = refl
 instance_faults_as g scope (s ∷ ss) (x ∷ xs) =
-    joined_so _ _ _ _ (all_faults_so g scope (connected_to s x.connections)) (instance_faults_as g scope ss xs)
+    joined_so (all_faults_so g scope (connected_to s x.connections)) (instance_faults_as g scope ss xs)
 
 instance_kinds_as : (g : ℕ → ℕ) (scope : Scope) (ss : List ChildShape) (xs : List ModuleInstance)
     → instance_kinds (renumbered g scope) ss xs ≡ instance_kinds scope ss xs
 instance_kinds_as g scope [] xs = refl
 instance_kinds_as g scope (s ∷ ss) [] = refl
 instance_kinds_as g scope (s ∷ ss) (x ∷ xs) =
-    joined_so _ _ _ _ (all_kinds_so g scope (connected_to s x.connections)) (instance_kinds_as g scope ss xs)
+    joined_so (all_kinds_so g scope (connected_to s x.connections)) (instance_kinds_as g scope ss xs)
 
 pub item_faults_as : (g : ℕ → ℕ) (scope : Scope) (ss : List ChildShape) (xs : List ModuleInstance)
     → item_faults (renumbered g scope) ss xs ≡ item_faults scope ss xs
-item_faults_as g scope ss xs = joined_so _ _ _ _ (instance_faults_as g scope ss xs) (instance_kinds_as g scope ss xs)
+item_faults_as g scope ss xs = joined_so (instance_faults_as g scope ss xs) (instance_kinds_as g scope ss xs)
 
 -- ---- nodes
 

@@ -23,8 +23,8 @@ use Rattle.verilog_header.specs.Headers as headers
 use Rattle.verilog_item.specs.Items as items
 use Rattle.verilog_parse.specs.Generates as generates
 use Rattle.verilog_parse.specs.Modules as modules
-use Rattle.verilog_ast.specs.Declarations.{assigned_name}
-use Rattle.module_registry.specs.Constants.{header_name, item_constants, constants_of}
+use Rattle.verilog_ast.specs.Declarations.{assigned_name, header_parameter_name}
+use Rattle.module_registry.specs.Constants.{item_constants, constants_of}
 use Rattle.unit_laws.specs.Proper.{IsProper}
 use Rattle.unit_laws.specs.Spelled.{IsSpelledUnder}
 use Rattle.unit_laws.proofs.SameModule.{module_alone}
@@ -83,27 +83,27 @@ module _ (names : List (List ℕ)) where
   header_parameter (headers.without_shape h i) all = parameter i all
 
   other_header_parameters : {xs : List HeaderParameter} {s r : List Token} → headers.Spells (headers.OtherHeaderParameters xs) s r → AreProper s
-      → AreNamed (map header_name (map header_parameter_of xs))
+      → AreNamed (map header_parameter_name (map header_parameter_of xs))
   other_header_parameters (headers.no_header_parameter h) all = none
   other_header_parameters (headers.another_header_parameter {x = x} {xs = xs} h i j) all =
       let here = (token names h all).1 in
-      All-cons (IsConstantNamed names) x.parameter.name (map header_name (map header_parameter_of xs)) (header_parameter i here)
+      All-cons (IsConstantNamed names) x.parameter.name (map header_parameter_name (map header_parameter_of xs)) (header_parameter i here)
       (other_header_parameters j (behind_header names i here))
 
   header_parameters_behind : {x : HeaderParameter} {xs : List HeaderParameter} {s r : List Token}
       → headers.Spells (headers.HeaderParametersBehind x xs) s r → IsConstantNamed names x.parameter.name → AreProper s
-      → AreNamed (map header_name (map header_parameter_of xs))
+      → AreNamed (map header_parameter_name (map header_parameter_of xs))
   header_parameters_behind (headers.header_parameters_behind {x = x} {xs = xs} h) first all =
-      All-cons (IsConstantNamed names) x.parameter.name (map header_name (map header_parameter_of xs)) first (other_header_parameters h all)
+      All-cons (IsConstantNamed names) x.parameter.name (map header_parameter_name (map header_parameter_of xs)) first (other_header_parameters h all)
 
   parameter_header : {xs : List HeaderParameter} {s r : List Token} → headers.Spells (headers.ParameterHeader xs) s r → AreProper s
-      → AreNamed (map header_name (map header_parameter_of xs))
+      → AreNamed (map header_parameter_name (map header_parameter_of xs))
   parameter_header (headers.no_parameters h) all = none
   parameter_header (headers.some_parameters h i j o q) all =
       let here = (token names i (token names h all).1).1 in header_parameters_behind o (shaped j here) (behind_header names j here)
 
   header : {xs : List HeaderParameter} {y : Ports} {s r : List Token} → headers.Spells (headers.AHeader xs y) s r → AreProper s
-      → AreNamed (map header_name (map header_parameter_of xs))
+      → AreNamed (map header_parameter_name (map header_parameter_of xs))
   header (headers.header h i j) all = parameter_header h all
 
   -- ---- items
@@ -169,7 +169,7 @@ module _ (names : List (List ℕ)) where
   body : {x : ModuleBody} {s r : List Token} → modules.Spells (modules.AModule x) s r → AreProper s → AreNamed (constants_of (declaration_of x))
   body (modules.module_ {xs = xs} {zs = zs} h i j o q) all =
       let here = (token names i (token names h all).1).1 in
-      All-append (IsConstantNamed names) (map header_name (map header_parameter_of xs)) (item_constants (items_of (map item_of zs)))
+      All-append (IsConstantNamed names) (map header_parameter_name (map header_parameter_of xs)) (item_constants (items_of (map item_of zs)))
       (header j here) (items_told o (behind_header names j here))
 
   pub constants_named : (x : Module) → IsSpelledUnder names x → AreNamed (constants_of (declaration_of x.body))

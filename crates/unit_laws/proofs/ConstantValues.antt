@@ -17,8 +17,8 @@ use Rattle.ls_text.specs.Answers.{◌>>=◌}
 use Rattle.gen_unroll.specs.Values.{ConstantValue, constant_of}
 use Rattle.gen_unroll.proofs.Answered.{first_step, ok_same}
 use Rattle.module_names.specs.Modules.{header_ports}
-use Rattle.verilog_ast.specs.Declarations.{assigned_name}
-use Rattle.module_registry.specs.Constants.{header_name, item_constants, constants_of}
+use Rattle.verilog_ast.specs.Declarations.{assigned_name, header_parameter_name}
+use Rattle.module_registry.specs.Constants.{item_constants, constants_of}
 use Rattle.elaborate.specs.Checks.{Checked, nothing_checked, check_steps, ports_declared, checked}
 use Rattle.job_laws.specs.Outer.{outer_values}
 use Rattle.job_laws.proofs.FoundValues.{parameters_found}
@@ -41,8 +41,8 @@ item_many other = refl
 sorts_many : (m : ModuleDeclaration) → length (constant_sorts m) ≡ length (constants_of m)
 sorts_many m =
     length-append (sort_of_each sort.Overridable m.parameters) (item_sorts m.items)
-    ∙ ap₂ (λ (m n : ℕ). m + n) (length-map m.parameters (λ p. sort.Overridable) ∙ sym (length-map m.parameters header_name)) (item_many m.items)
-    ∙ sym (length-append (map header_name m.parameters) (item_constants m.items))
+    ∙ ap₂ (λ (m n : ℕ). m + n) (length-map m.parameters (λ p. sort.Overridable) ∙ sym (length-map m.parameters header_parameter_name)) (item_many m.items)
+    ∙ sym (length-append (map header_parameter_name m.parameters) (item_constants m.items))
 
 -- ---- as many values as sorts
 

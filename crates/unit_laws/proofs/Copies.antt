@@ -1,6 +1,7 @@
 -- All steps of a module, each where the signals in reach have other numbers: the same faults, and the module's items under these numbers.
 use Rattle.std.proofs.Common.{◌≡◌, ℕ, List, ◌++◌, [], ◌∷◌, map, refl, sym, ◌∙◌, ap₂}
 use Rattle.std.proofs.lemmas.List.{map-append}
+use Rattle.ls_text.proofs.Lists.{joined_so}
 use Rattle.typed_ir.specs.Orders.{Each}
 use Rattle.unit_ir.specs.Items.{PlacedItem}
 use Rattle.width_rules.specs.declared.writer.Writer.{Writer}
@@ -9,7 +10,6 @@ use Rattle.gen_unroll.specs.declared.step.Step.{Step}
 use Rattle.gen_unroll.specs.Steps.{ModuleStep}
 use Rattle.gen_unroll.specs.Views.{step_of}
 use Rattle.unit_names.specs.Signals.{NamedSignal}
-use Rattle.size_laws.proofs.RenumberedFaults.{joined_so}
 use Rattle.sized_items.specs.DeclaredValues.{InitialValue}
 use Rattle.unit_build.specs.Walks.{Walk, behind, step_faults, step_items, step_initials, walk_faults, walk_items, walk_initials}
 use Rattle.unit_build.proofs.ConnectedTexts.{HasWrittenInstances, steps_written as instances_are_written}
@@ -21,7 +21,7 @@ use Rattle.unit_laws.proofs.Steps.{step_faults_as, step_items_as, step_initials_
 pub copied_faults_are : (g : ℕ → ℕ) (w : ℕ → Writer) (xs : List NamedSignal) (k : Walk) (steps : List ModuleStep)
     → copied_faults g w xs k steps ≡ walk_faults w xs k steps
 copied_faults_are g w xs k [] = refl
-copied_faults_are g w xs k (s ∷ ss) = joined_so _ _ _ _ (step_faults_as g k.here.scope k.left s) (copied_faults_are g w xs (behind w xs s k) ss)
+copied_faults_are g w xs k (s ∷ ss) = joined_so (step_faults_as g k.here.scope k.left s) (copied_faults_are g w xs (behind w xs s k) ss)
 
 pub copied_items_are : (g : ℕ → ℕ) (w : ℕ → Writer) (xs : List NamedSignal) (k : Walk) (steps : List ModuleStep) → Each IsStepWritten steps
     → Each HasWrittenInstances steps → walk_faults w xs k steps ≡ [] → copied_items g w xs k steps ≡ map (placed_as g) (walk_items w xs k steps)

@@ -1,16 +1,8 @@
 -- Texts that are cut at the first place of a byte.
 use Rattle.std.proofs.Common.{◌≡◌, ℕ, not, List, [], ◌∷◌, ◌++◌, true, refl, sym, ap, ◌∙◌, true≢false}
 use Rattle.std.proofs.lemmas.Bool.{and_parts, eq-eqb}
+use Rattle.ls_text.proofs.Lists.{first_of, rest_of}
 use Rattle.unit_laws.specs.Told.{lacks}
-
--- the first byte of a text
-abbrev pub first : List ℕ → ℕ
-first [] = 0
-first (c ∷ cs) = c
-
-abbrev pub tail : List ℕ → List ℕ
-tail [] = []
-tail (c ∷ cs) = cs
 
 -- what stands before the cut and what stands behind it
 pub record IsCut (x y xs ys : List ℕ) : Type 0 where
@@ -22,9 +14,9 @@ not_here byte c cs h is = absurd (true≢false (sym (and_parts _ _ h).0 ∙ ap n
 
 -- `before ++ byte ∷ after` is read back, where the byte doesn't stand before
 pub cut : (byte : ℕ) (x y xs ys : List ℕ) → lacks byte x ≡ true → lacks byte y ≡ true → x ++ byte ∷ xs ≡ y ++ byte ∷ ys → IsCut x y xs ys
-cut byte [] [] xs ys h k e = record { before = refl; after = ap tail e }
-cut byte [] (d ∷ y) xs ys h k e = not_here byte d y k (sym (ap first e))
-cut byte (c ∷ x) [] xs ys h k e = not_here byte c x h (ap first e)
+cut byte [] [] xs ys h k e = record { before = refl; after = ap rest_of e }
+cut byte [] (d ∷ y) xs ys h k e = not_here byte d y k (sym (ap first_of e))
+cut byte (c ∷ x) [] xs ys h k e = not_here byte c x h (ap first_of e)
 cut byte (c ∷ x) (d ∷ y) xs ys h k e =
-    let more : IsCut x y xs ys = cut byte x y xs ys (and_parts _ _ h).1 (and_parts _ _ k).1 (ap tail e) in
-    record { before = ap (λ z. z ∷ x) (ap first e) ∙ ap (λ z. d ∷ z) more.before; after = more.after }
+    let more : IsCut x y xs ys = cut byte x y xs ys (and_parts _ _ h).1 (and_parts _ _ k).1 (ap rest_of e) in
+    record { before = ap (λ z. z ∷ x) (ap first_of e) ∙ ap (λ z. d ∷ z) more.before; after = more.after }

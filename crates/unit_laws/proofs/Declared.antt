@@ -1,6 +1,7 @@
 -- Declarations with values where signals have other numbers: the same faults, and the items and values at the beginning under these numbers.
 use Rattle.std.proofs.Common.{◌≡◌, ℕ, ◌%◌, ◌^◌, Bool, true, false, cond, List, [], ◌∷◌, ◌++◌, map, refl, sym, ◌∙◌, ap, ap₂}
 use Rattle.std.proofs.lemmas.List.{map-append}
+use Rattle.ls_text.proofs.Lists.{some_is_none, joined_so}
 use Rattle.typed_ir.specs.declared.lane.Lane.{Lane}
 use Rattle.typed_ir.specs.declared.target_form.TargetForm.{TargetForm}
 use Rattle.typed_ir.specs.Nodes.{Drive, known_lanes}
@@ -23,8 +24,7 @@ use Rattle.statement_rules.specs.Statements.{assigned}
 use Rattle.statement_rules.specs.Targets.{target_length, kind_faults, parts}
 use Rattle.size_laws.specs.Renumbering.{meaning_as, renumbered, lane_as, target_as, drive_as}
 use Rattle.size_laws.specs.Written.{IsTargetWritten, AreAssignsWritten}
-use Rattle.size_laws.proofs.Bounds.{nothing_first}
-use Rattle.size_laws.proofs.RenumberedFaults.{joined_so, faults_as, target_long_as, target_faults_as, kinds_as}
+use Rattle.size_laws.proofs.RenumberedFaults.{faults_as, target_long_as, target_faults_as, kinds_as}
 use Rattle.size_laws.proofs.RenumberedForms.{known_as}
 use Rattle.size_laws.proofs.RenumberedStatements.{assigned_as, same_drive}
 use Rattle.size_laws.proofs.Targets.{wrong_kind}
@@ -83,7 +83,7 @@ net_value_as g scope x = ap (is_net_by x.kind) (net_as g (scope x.name.name.0))
 
 value_faults_as : (g : ℕ → ℕ) (scope : Scope) (x : DeclaredValue) → value_faults (renumbered g scope) x ≡ value_faults scope x
 value_faults_as g scope x =
-    joined_so _ _ _ _ (target_faults_as g scope ConstantOnly (name_of x))
+    joined_so (target_faults_as g scope ConstantOnly (name_of x))
     (ap (λ (b : Bool). faults (renumbered g scope) (due_by b) x.value) (net_value_as g scope x)
     ∙ faults_as g scope (due_by (is_net_value scope x)) x.value)
 
@@ -94,24 +94,24 @@ value_kinds_as g scope x =
 
 all_faults_as : (g : ℕ → ℕ) (scope : Scope) (xs : List DeclaredValue) → all_value_faults (renumbered g scope) xs ≡ all_value_faults scope xs
 all_faults_as g scope [] = refl
-all_faults_as g scope (x ∷ xs) = joined_so _ _ _ _ (value_faults_as g scope x) (all_faults_as g scope xs)
+all_faults_as g scope (x ∷ xs) = joined_so (value_faults_as g scope x) (all_faults_as g scope xs)
 
 all_kinds_as : (g : ℕ → ℕ) (scope : Scope) (xs : List DeclaredValue) → all_value_kinds (renumbered g scope) xs ≡ all_value_kinds scope xs
 all_kinds_as g scope [] = refl
-all_kinds_as g scope (x ∷ xs) = joined_so _ _ _ _ (value_kinds_as g scope x) (all_kinds_as g scope xs)
+all_kinds_as g scope (x ∷ xs) = joined_so (value_kinds_as g scope x) (all_kinds_as g scope xs)
 
 pub declaration_faults_as : (g : ℕ → ℕ) (scope : Scope) (xs : List DeclaredValue)
     → declaration_faults (renumbered g scope) xs ≡ declaration_faults scope xs
-declaration_faults_as g scope xs = joined_so _ _ _ _ (all_faults_as g scope xs) (all_kinds_as g scope xs)
+declaration_faults_as g scope xs = joined_so (all_faults_as g scope xs) (all_kinds_as g scope xs)
 
 -- ---- a name that may be written is a signal
 
 signal_in_as : (g : ℕ → ℕ) (m : Meaning) (by : Writer) (n : Identifier) → wrong_kind by m n ≡ [] → signal_in (meaning_as g m) ≡ g (signal_in m)
 signal_in_as g (Signal signal width lsb signed writer) by n h = refl
-signal_in_as g (Constant width value signed) by n h = nothing_first (fault_at 33 n) [] h
-signal_in_as g (Turn width value signed) by n h = nothing_first (fault_at 33 n) [] h
-signal_in_as g Genvar by n h = nothing_first (fault_at 33 n) [] h
-signal_in_as g Unknown by n h = nothing_first (fault_at 33 n) [] h
+signal_in_as g (Constant width value signed) by n h = some_is_none (fault_at 33 n) [] h
+signal_in_as g (Turn width value signed) by n h = some_is_none (fault_at 33 n) [] h
+signal_in_as g Genvar by n h = some_is_none (fault_at 33 n) [] h
+signal_in_as g Unknown by n h = some_is_none (fault_at 33 n) [] h
 
 -- ---- items
 

@@ -36,7 +36,7 @@ each_given own there all given w k first (One c within after) (t.One name u inne
 
 -- ---- the top
 
-stands_all : (copies : Copies) → IsStanding (all_places copies) outside 0 0 copies
+pub stands_all : (copies : Copies) → IsStanding (all_places copies) outside 0 0 copies
 stands_all copies = record {
   before = [];
   behind = [];

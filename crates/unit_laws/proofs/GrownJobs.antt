@@ -4,7 +4,7 @@ use Rattle.std.proofs.lemmas.List.{reverse-append}
 use Rattle.std.proofs.lemmas.List.Elements.{All-nil, All-cons, All-head, All-tail, All-append}
 use Rattle.ls_text.specs.Texts.{Grows, text_at}
 use Rattle.ls_text.specs.declared.name_id.NameId.{NameId}
-use Rattle.ls_text.proofs.Growth.{grown_id, grown_text}
+use Rattle.ls_text.proofs.Growth.{grown_id, grown_text, known_grown, texts_grown}
 use Rattle.unit_ir.specs.declared.child_shape.ChildShape.{ChildShape}
 use Rattle.unit_ir.specs.declared.port_shape.PortShape.{PortShape}
 use Rattle.verilog_ast.specs.declared.identifier.Identifier.{Identifier}
@@ -130,22 +130,11 @@ module _ (old new : List (List ℕ)) (grows : Grows old new) where
   children_grown (c ∷ cs) all =
       All-cons (IsChildTold new) c cs (child_grown c (All-head (IsChildTold old) c cs all)) (children_grown cs (All-tail (IsChildTold old) c cs all))
 
-  ids_grown : (ns : List NameId) → All (IsIn old) ns → All (IsIn new) ns
-  ids_grown [] all = All-nil (IsIn new)
-  ids_grown (n ∷ ns) all =
-      All-cons (IsIn new) n ns (grown_id old new n.0 grows (All-head (IsIn old) n ns all)) (ids_grown ns (All-tail (IsIn old) n ns all))
-
-  texts_grown : (ns : List NameId) → All (IsIn old) ns → map (text_of new) ns ≡ map (text_of old) ns
-  texts_grown [] all = refl
-  texts_grown (n ∷ ns) all =
-      ap₂ (λ (t : List ℕ) (ts : List (List ℕ)). t ∷ ts) (text_grown n (All-head (IsIn old) n ns all))
-      (texts_grown ns (All-tail (IsIn old) n ns all))
-
   job_named : (job : BuildJob) → IsJobUnder old job → (steps : List ModuleStep) → job_steps job ≡ Ok steps
       → map (text_of new) job.names ≡ texts_within new (blocks_in steps) [] steps
   job_named job h steps is =
       let all : AreStepsIn steps = steps_named (IsNameIn old) job steps (tree_in old job.module.value h.spelled) is in
-      texts_grown job.names h.within ∙ h.named steps is
+      texts_grown old new job.names grows h.within ∙ h.named steps is
       ∙ sym (within_grown (blocks_in steps) [] steps (labels_in steps all) all)
 
 pub grown_under : (old new : List (List ℕ)) (job : BuildJob) → Grows old new → IsJobUnder old job → IsJobUnder new job
@@ -154,6 +143,6 @@ grown_under old new job grows h = record {
   values = h.values;
   clock = clock_grown old new grows job.clock h.clock;
   children = children_grown old new grows job.children h.children;
-  within = ids_grown old new grows job.names h.within;
+  within = known_grown old new job.names grows h.within;
   named = job_named old new grows job h;
 }

@@ -4,6 +4,7 @@ use Rattle.std.proofs.lemmas.List.Elements.{All-head, All-tail}
 use Rattle.std.proofs.lemmas.List.{append_cancel_left}
 use Rattle.ls_text.specs.Texts.{HasEachOnce}
 use Rattle.ls_text.specs.declared.name_id.NameId.{NameId}
+use Rattle.ls_text.proofs.Lists.{first_of}
 use Rattle.typed_ir.specs.declared.constant.Const.{Const}
 use Rattle.unit_ir.specs.declared.child_shape.ChildShape.{ChildShape}
 use Rattle.verilog_ast.specs.declared.identifier.Identifier.{Identifier}
@@ -14,7 +15,7 @@ use Rattle.module_registry.specs.KeyTexts.{line_end, parameter_line, parameter_l
 use Rattle.module_registry.specs.declared.build_job.BuildJob.{BuildJob}
 use Rattle.module_registry.proofs.Lines.{ended}
 use Rattle.unit_laws.specs.Told.{IsConstantTold, IsTold, HasSameParts}
-use Rattle.unit_laws.proofs.Cuts.{cut, first}
+use Rattle.unit_laws.proofs.Cuts.{cut}
 use Rattle.unit_laws.proofs.Lines.{IsRead, parameter_read, clock_text_read}
 use Rattle.unit_laws.proofs.Children.{children_read}
 
@@ -25,13 +26,13 @@ no_parameter names ns = ended names [] (parameter_lines names ns []) ns [] refl 
 
 -- a line of a parameter doesn't begin as what follows the last one
 not_behind : {P : Type 0} (names : List (List ℕ)) (n : Identifier) (c : Const) (ns ms : List Identifier) (cs : List Const) (xs ys : List ℕ)
-    → first xs ≡ 99 → parameter_lines names ms [] ++ xs ≡ parameter_lines names (n ∷ ns) (c ∷ cs) ++ ys → P
+    → first_of xs ≡ 99 → parameter_lines names ms [] ++ xs ≡ parameter_lines names (n ∷ ns) (c ∷ cs) ++ ys → P
 not_behind names n c ns ms cs xs ys starts e =
-    let begins : first xs ≡ 112 = ap first (ap (λ z. z ++ xs) (no_parameter names ms) ∙ e) in
+    let begins : first_of xs ≡ 112 = ap first_of (ap (λ z. z ++ xs) (no_parameter names ms) ∙ e) in
     absurd (omega (arith, starts, begins))
 
 parameters_read : (names : List (List ℕ)) (ms ns : List Identifier) (bs cs : List Const) (xs ys : List ℕ)
-    → All (IsConstantTold names) ms → All (IsConstantTold names) ns → length bs ≤ length ms → length cs ≤ length ns → first xs ≡ 99 → first ys ≡ 99
+    → All (IsConstantTold names) ms → All (IsConstantTold names) ns → length bs ≤ length ms → length cs ≤ length ns → first_of xs ≡ 99 → first_of ys ≡ 99
     → parameter_lines names ms bs ++ xs ≡ parameter_lines names ns cs ++ ys → IsRead bs cs xs ys
 parameters_read names ms ns [] [] xs ys told_m told_n many_b many_c starts_x starts_y e = record {
   same = refl;

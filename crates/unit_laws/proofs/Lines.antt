@@ -5,13 +5,14 @@ use Rattle.std.proofs.lemmas.List.{append_cancel_left}
 use Rattle.bits.proofs.Modulo.{fits_wider}
 use Rattle.ls_text.specs.Texts.{HasEachOnce, text_at}
 use Rattle.ls_text.specs.declared.name_id.NameId.{NameId}
+use Rattle.ls_text.proofs.Lists.{first_of, rest_of}
 use Rattle.typed_ir.specs.declared.constant.Const.{Const}
 use Rattle.unit_ir.specs.declared.port_shape.PortShape.{PortShape}
 use Rattle.verilog_ast.specs.declared.identifier.Identifier.{Identifier}
 use Rattle.verilog_spelling.specs.Spellings.{hex_text}
 use Rattle.module_registry.specs.KeyTexts.{parameter_line, clock_text, port_line}
 use Rattle.unit_laws.specs.Told.{lacks, is_word, IsConstantTold, IsClockTold, IsPortTold}
-use Rattle.unit_laws.proofs.Cuts.{cut, first, tail, IsCut}
+use Rattle.unit_laws.proofs.Cuts.{cut, IsCut}
 use Rattle.unit_laws.proofs.Lacking.{hex_lacks}
 use Rattle.unit_laws.proofs.Numbers.{hex_tells}
 use Rattle.unit_laws.proofs.Parts.{constant_same, port_same, name_same}
@@ -50,7 +51,7 @@ parameter_read names m n a b xs ys told_m told_n e =
     (cut 32 first_name second_name (value_words a xs) (value_words b ys) (no_space first_name told_m) (no_space second_name told_n) rows).after in
     let shape = shape_read a.bits.width b.bits.width a.signed b.signed _ _ a.bits.at_most_128 b.bits.at_most_128 shapes in
     let value : IsCut (hex_text a.bits.value) (hex_text b.bits.value) xs ys =
-    cut 10 (hex_text a.bits.value) (hex_text b.bits.value) xs ys (hex_lacks a.bits.value) (hex_lacks b.bits.value) (ap tail shape.after) in
+    cut 10 (hex_text a.bits.value) (hex_text b.bits.value) xs ys (hex_lacks a.bits.value) (hex_lacks b.bits.value) (ap rest_of shape.after) in
     record {
       same = constant_same a b shape.width (hex_tells a.bits.value b.bits.value (value_fits a) (value_fits b) value.before) shape.signed;
       after = value.after;
@@ -88,8 +89,8 @@ pub record IsKind (i j : Bool) (xs ys : List ℕ) : Type 0 where
 
 kind_read : (i j : Bool) (xs ys : List ℕ) → kind_text i ++ xs ≡ kind_text j ++ ys → IsKind i j xs ys
 kind_read true true xs ys e = record { input = refl; after = append_cancel_left (codes "in ") xs ys e }
-kind_read true false xs ys e = absurd (omega (arith, ap first e))
-kind_read false true xs ys e = absurd (omega (arith, ap first e))
+kind_read true false xs ys e = absurd (omega (arith, ap first_of e))
+kind_read false true xs ys e = absurd (omega (arith, ap first_of e))
 kind_read false false xs ys e = record { input = refl; after = append_cancel_left (codes "out ") xs ys e }
 
 pub port_read : (names : List (List ℕ)) (p q : PortShape) (xs ys : List ℕ) → HasEachOnce names → IsPortTold names p → IsPortTold names q
@@ -107,5 +108,5 @@ port_read names p q xs ys once told_p told_q e =
     let shape = shape_read p.width q.width p.signed q.signed (10 ∷ xs) (10 ∷ ys) p.at_most_128 q.at_most_128 name.after in
     record {
       same = port_same p q (name_same names p.name q.name once told_p told_q name.before) kinds.input shape.width shape.signed;
-      after = ap tail shape.after;
+      after = ap rest_of shape.after;
     }

@@ -1,8 +1,8 @@
 -- What items mention, and the forms in which their targets are shown, where signals have other numbers: the same.
-use Rattle.std.proofs.Common.{◌≡◌, ℕ, Bool, List, [], ◌∷◌, ◌++◌, cond, refl, ◌∙◌, ap, ap₂}
+use Rattle.std.proofs.Common.{◌≡◌, ℕ, Bool, List, [], ◌∷◌, cond, refl, ◌∙◌, ap, ap₂}
 use Rattle.std.specs.Prelude.{Option, Some}
 use Rattle.std.proofs.Math.Path.{fun_ext}
-use Rattle.typed_ir.specs.declared.shown_target.ShownTarget.{ShownTarget}
+use Rattle.ls_text.proofs.Lists.{joined_so}
 use Rattle.typed_ir.specs.declared.target_form.TargetForm.{TargetForm}
 use Rattle.typed_ir.specs.declared.target_form.TargetForm.TheVariants as form
 use Rattle.verilog_ast.specs.declared.identifier.Identifier.{Identifier}
@@ -15,11 +15,9 @@ use Rattle.size_laws.proofs.RenumberedForms.{signal_as, fixed_as}
 use Rattle.item_mentions.specs.Forms.{known_as, reference_form, first_or, form_or_name, first_part, target_form, first_target, first_number, statement_shown}
 use Rattle.item_mentions.specs.Mentions.{Listing, reading, mentions, statement_reads, statement_targets}
 use Rattle.item_mentions.specs.Names.{signal_name, run_time, expression_names, index_of, index_names}
+use Rattle.item_mentions.proofs.Shown.{shown_with}
 
 -- ---- names that are read
-
-both_so : (xs ys ps qs : List Identifier) → xs ≡ ys → ps ≡ qs → xs ++ ps ≡ ys ++ qs
-both_so xs ys ps qs = ap₂ (λ (a b : List Identifier). a ++ b)
 
 signal_name_as : (g : ℕ → ℕ) (scope : Scope) (n : Identifier) → signal_name (renumbered g scope) n ≡ signal_name scope n
 signal_name_as g scope n = ap (λ (b : Bool). cond b (n ∷ []) []) (signal_as g (scope n.name.0))
@@ -34,18 +32,18 @@ run_time_as g scope n x same =
 names_as : (g : ℕ → ℕ) (scope : Scope) (e : Expression) → expression_names (renumbered g scope) e ≡ expression_names scope e
 names_as g scope (Literal at x) = refl
 names_as g scope (Whole n) = signal_name_as g scope n
-names_as g scope (BitSelect n x) = both_so _ _ _ _ (signal_name_as g scope n) (run_time_as g scope n x (names_as g scope x))
+names_as g scope (BitSelect n x) = joined_so (signal_name_as g scope n) (run_time_as g scope n x (names_as g scope x))
 names_as g scope (PartSelect n x y) = signal_name_as g scope n
-names_as g scope (UpwardSelect n x y) = both_so _ _ _ _ (signal_name_as g scope n) (run_time_as g scope n x (names_as g scope x))
-names_as g scope (DownwardSelect n x y) = both_so _ _ _ _ (signal_name_as g scope n) (run_time_as g scope n x (names_as g scope x))
+names_as g scope (UpwardSelect n x y) = joined_so (signal_name_as g scope n) (run_time_as g scope n x (names_as g scope x))
+names_as g scope (DownwardSelect n x y) = joined_so (signal_name_as g scope n) (run_time_as g scope n x (names_as g scope x))
 names_as g scope (Unary at op x) = names_as g scope x
-names_as g scope (Binary op x y) = both_so _ _ _ _ (names_as g scope x) (names_as g scope y)
-names_as g scope (Conditional c x y) = both_so _ _ _ _ (names_as g scope c) (both_so _ _ _ _ (names_as g scope x) (names_as g scope y))
+names_as g scope (Binary op x y) = joined_so (names_as g scope x) (names_as g scope y)
+names_as g scope (Conditional c x y) = joined_so (names_as g scope c) (joined_so (names_as g scope x) (names_as g scope y))
 names_as g scope (Concatenation at xs) = names_as g scope xs
 names_as g scope (Replication at c xs) = names_as g scope xs
 names_as g scope (Bracketed at x) = names_as g scope x
 names_as g scope NoPart = refl
-names_as g scope (Parts x xs) = both_so _ _ _ _ (names_as g scope x) (names_as g scope xs)
+names_as g scope (Parts x xs) = joined_so (names_as g scope x) (names_as g scope xs)
 
 index_as : (g : ℕ → ℕ) (scope : Scope) (x : Expression) → index_of (renumbered g scope) x ≡ index_of scope x
 index_as g scope (BitSelect n x) = run_time_as g scope n x (names_as g scope x)
@@ -57,13 +55,13 @@ indices_as : (g : ℕ → ℕ) (scope : Scope) (t : Target) → index_names (ren
 indices_as g scope (Reference x) = index_as g scope x
 indices_as g scope (Joined at ts) = indices_as g scope ts
 indices_as g scope NoTarget = refl
-indices_as g scope (Targets t ts) = both_so _ _ _ _ (indices_as g scope t) (indices_as g scope ts)
+indices_as g scope (Targets t ts) = joined_so (indices_as g scope t) (indices_as g scope ts)
 
 reading_as : (g : ℕ → ℕ) (scope : Scope) → reading (renumbered g scope) ≡ reading scope
 reading_as g scope =
     ap₂ (λ (f : Expression → List Identifier) (h : Target → Expression → List Identifier). record { expression = f; assignment = h })
     (fun_ext (λ x. names_as g scope x))
-    (fun_ext (λ t. fun_ext (λ x. both_so _ _ _ _ (indices_as g scope t) (names_as g scope x))))
+    (fun_ext (λ t. fun_ext (λ x. joined_so (indices_as g scope t) (names_as g scope x))))
 
 pub reads_as : (g : ℕ → ℕ) (scope : Scope) (k : ℕ) (x : Statement) → statement_reads (renumbered g scope) k x ≡ statement_reads scope k x
 reads_as g scope k x = ap (λ (w : Listing). mentions w k x) (reading_as g scope)
@@ -100,9 +98,6 @@ first_target_as g scope (Default at body) = first_target_as g scope body
 first_target_as g scope (Match ls body) = first_target_as g scope body
 first_target_as g scope NoStatement = refl
 first_target_as g scope (Statements x xs) = ap₂ first_or (first_target_as g scope x) (first_target_as g scope xs)
-
-abbrev shown_with : ℕ → TargetForm → ShownTarget
-shown_with k form = record { number = k; form = form }
 
 pub shown_as : (g : ℕ → ℕ) (scope : Scope) (x : Statement) → statement_shown (renumbered g scope) x ≡ statement_shown scope x
 shown_as g scope x = ap (λ (f : Option TargetForm). shown_with (first_number (statement_targets 0 x)) (form_or_name f)) (first_target_as g scope x)

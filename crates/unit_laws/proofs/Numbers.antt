@@ -3,10 +3,10 @@ use Rattle.std.proofs.Common.{◌≡◌, ℕ, zero, suc, ◌+◌, ◌*◌, ◌/�
 use Rattle.std.proofs.Math.Arith.{mod-mul}
 use Rattle.std.proofs.lemmas.Nat.{mod_below}
 use Rattle.std.specs.Int.{byte_at, bytes_high_first, to_be_bytes, w128}
+use Rattle.ls_text.proofs.Lists.{first_of, rest_of}
 use Rattle.hex.specs.Hex.{IsBytes, encode_lower, decode_of, lower_digits}
 use Rattle.hex.proofs.HexLemmas.{decode_of-encode_lower, decode_of-same, length-encode_with}
 use Rattle.verilog_spelling.specs.Spellings.{hex_text}
-use Rattle.unit_laws.proofs.Cuts.{first, tail}
 use Rattle.unit_laws.proofs.Stripped.{stripped}
 
 -- ---- bytes
@@ -40,7 +40,7 @@ low_part k n =
 bytes_tell : (k a b : ℕ) → bytes_high_first k a ≡ bytes_high_first k b → a % 256 ^ k ≡ b % 256 ^ k
 bytes_tell zero a b e = omega arith
 bytes_tell (suc k) a b e =
-    low_part k a ∙ ap₂ (λ high low. high * 256 ^ k + low) (ap first e) (bytes_tell k a b (ap tail e)) ∙ sym (low_part k b)
+    low_part k a ∙ ap₂ (λ high low. high * 256 ^ k + low) (ap first_of e) (bytes_tell k a b (ap rest_of e)) ∙ sym (low_part k b)
 
 -- ---- digits
 

@@ -14,6 +14,7 @@ use Rattle.gen_unroll.specs.Steps.{GenerateBlock, ModuleStep, Listed, Port, Para
 use Rattle.gen_unroll.specs.Unrolled.{unrolled_module}
 use Rattle.ls_text.specs.Answers.{◌>>=◌}
 use Rattle.gen_unroll.specs.Values.{ConstantValue}
+use Rattle.gen_unroll.specs.Declarations.{instance_name}
 use Rattle.gen_unroll.proofs.Answered.{err_or_ok, ok_same, first_step}
 use Rattle.module_names.specs.Modules.{module_named, parameters_of, header_ports}
 use Rattle.clock_rules.specs.Clocks.{all_free, declared_free, reg_free, assignment_free, statement_free, posedge, clock_of, clocks_of, clocks_in, unless_misused, clock_item}
@@ -26,7 +27,7 @@ use Rattle.elaborate.specs.Tables.{Table}
 use Rattle.elaborate.specs.Visits.{Visited, top_ports, clocked, with_clocks, visited}
 use Rattle.unit_laws.proofs.KeptChildren.{are_instances, are_instances_here, children_kept, name_kept}
 use Rattle.unit_laws.proofs.OwnClocks.{IsPortOf, clock_own}
-use Rattle.unit_laws.proofs.StepNames.{instance_name, named_by, AreNamed, IsStepNamed, told_go}
+use Rattle.unit_laws.proofs.StepNames.{named_by, AreNamed, IsStepNamed, told_go}
 
 -- ---- lists side by side
 

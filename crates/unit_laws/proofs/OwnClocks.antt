@@ -8,10 +8,10 @@ use Rattle.verilog_ast.specs.Expressions.{Expression, Whole}
 use Rattle.verilog_ast.specs.Items.{ConnectionByName, ConnectionByOrder, ConnectionList, ByName, ByOrder, ModuleDeclaration}
 use Rattle.width_rules.specs.Faults.{fault_at}
 use Rattle.width_rules.specs.Scopes.{Scope}
-use Rattle.module_names.specs.Listings.{is_listed}
+use Rattle.module_names.specs.Listings.{is_listed, names_behind}
 use Rattle.module_names.specs.Modules.{header_ports, is_input_of}
 use Rattle.gen_unroll.proofs.Answered.{good, err_or_ok, ok_same, first_step, past_need}
-use Rattle.clock_rules.specs.Clocks.{is_clock, clock_free, take_clock, connect, connection, clock_by_name, next_port, ports_behind, clock_by_order, clock_of}
+use Rattle.clock_rules.specs.Clocks.{is_clock, clock_free, take_clock, connect, connection, clock_by_name, next_port, clock_by_order, clock_of}
 use Rattle.clock_rules.specs.Connections.{named, name_more, all_named, connected}
 
 -- there is no clock, or it is one of these ports
@@ -44,7 +44,7 @@ next_given : (ports all : List Identifier) → AreWithin ports all → IsGiven a
 next_given [] all within = tt
 next_given (p ∷ ps) all within = within p.name.0 (first_listed p ps)
 
-behind_within : (ports all : List Identifier) → AreWithin ports all → AreWithin (ports_behind ports) all
+behind_within : (ports all : List Identifier) → AreWithin ports all → AreWithin (names_behind ports) all
 behind_within [] all within name h = within name h
 behind_within (p ∷ ps) all within name h = within name (later_listed name p ps h)
 
@@ -93,8 +93,8 @@ module _ (m : ModuleDeclaration) (scope : Scope) (all : List Identifier) where
       → clock_by_order m scope ports xs k ≡ Ok end → IsPortOf all end
   by_order_own ports [] k end within own is = kept k end own is
   by_order_own ports (x ∷ xs) k end within own is =
-      let s = first_step (connection m scope (next_port ports) x.value k) (λ next. clock_by_order m scope (ports_behind ports) xs next) end is in
-      by_order_own (ports_behind ports) xs s.value end (behind_within ports all within)
+      let s = first_step (connection m scope (next_port ports) x.value k) (λ next. clock_by_order m scope (names_behind ports) xs next) end is in
+      by_order_own (names_behind ports) xs s.value end (behind_within ports all within)
       (connection_own (next_port ports) x.value k s.value (next_given ports all within) own s.first) s.second
 
 pub clock_own : (m : ModuleDeclaration) (scope : Scope) (connections : ConnectionList) (k : Option ℕ)

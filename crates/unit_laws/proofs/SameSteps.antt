@@ -7,10 +7,10 @@ use Rattle.gen_unroll.specs.declared.parameter_sort.ParameterSort.{ParameterSort
 use Rattle.gen_unroll.specs.Overriding.{constant_sorts, overrides_of}
 use Rattle.gen_unroll.specs.Steps.{ModuleStep}
 use Rattle.gen_unroll.specs.Told.{Told}
-use Rattle.gen_unroll.specs.Unrolled.{State, unrolled_module, turn_limit}
+use Rattle.gen_unroll.specs.Unrolled.{State, unrolled_module, turn_limit, steps_told}
 use Rattle.ls_text.specs.Answers.{◌>>=◌}
 use Rattle.module_registry.specs.declared.build_job.BuildJob.{BuildJob}
-use Rattle.unit_build.specs.Building.{module_of, steps_told, job_steps}
+use Rattle.unit_build.specs.Building.{module_of, job_steps}
 use Rattle.unplaced_trees.specs.Unplaced.{unplaced_declaration}
 use Rattle.place_laws.specs.Findings.{answer_unplaced, found_unplaced, step_unplaced, told_unplaced}
 use Rattle.place_laws.proofs.UnplacedUnrolled.{same_module, same_sorts}

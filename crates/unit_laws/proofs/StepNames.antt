@@ -6,10 +6,10 @@ use Rattle.ls_text.specs.declared.place.Place.{Place}
 use Rattle.verilog_ast.specs.declared.identifier.Identifier.{Identifier}
 use Rattle.verilog_ast.specs.Declarations.{Kind, ParameterAssignment, HeaderParameterDeclaration, PortDeclaration, PortList, NoPorts, NamedPorts, DeclaredPorts}
 use Rattle.verilog_ast.specs.Items as i
-use Rattle.verilog_ast.specs.Items.{ModuleInstance, ModuleItem, LoopHead, ModuleDeclaration}
+use Rattle.verilog_ast.specs.Items.{ModuleItem, LoopHead, ModuleDeclaration}
 use Rattle.gen_unroll.specs.declared.parameter_sort.ParameterSort.{ParameterSort}
 use Rattle.gen_unroll.specs.declared.parameter_sort.ParameterSort.TheVariants as sort
-use Rattle.gen_unroll.specs.Declarations.{ParameterType, parameter_type, as_declared}
+use Rattle.gen_unroll.specs.Declarations.{ParameterType, parameter_type, as_declared, instance_name}
 use Rattle.gen_unroll.specs.Overriding.{constant_sorts, overrides_of}
 use Rattle.gen_unroll.specs.Steps.{LoopTurn, ModuleStep, Listed, Port, Parameter, Item, Labelled, Opened, Closed}
 use Rattle.gen_unroll.specs.Told.{Told, go_on, ◌>>=◌, say, say_all, quiet}
@@ -19,9 +19,6 @@ use Rattle.gen_unroll.specs.Values.{ConstantValue, evaluated}
 use Rattle.module_registry.specs.declared.build_job.BuildJob.{BuildJob}
 use Rattle.unit_jobs.specs.BlockNames.{declared_by}
 use Rattle.unit_build.specs.Building.{module_of, job_steps}
-
-abbrev pub instance_name : ModuleInstance → Identifier
-instance_name x = x.name
 
 -- the nets and variables of an item, or its instances
 abbrev pub named_by : ModuleItem → List Identifier

@@ -1,13 +1,13 @@
 -- A step of a module where the signals in reach have other numbers: the same faults, and its items under these numbers.
 use Rattle.std.proofs.Common.{◌≡◌, ℕ, List, ◌++◌, [], map, refl, sym, ◌∙◌, ap₂}
 use Rattle.std.proofs.lemmas.List.{map-append}
+use Rattle.ls_text.proofs.Lists.{joined_so}
 use Rattle.unit_ir.specs.declared.child_shape.ChildShape.{ChildShape}
 use Rattle.unit_ir.specs.Items.{PlacedItem}
 use Rattle.width_rules.specs.Scopes.{Scope}
 use Rattle.width_rules.proofs.Reading.{left_none, right_none}
 use Rattle.gen_unroll.specs.Steps.{ModuleStep, Listed, Port, Parameter, Item, Labelled, Opened, Closed}
 use Rattle.size_laws.specs.Renumbering.{renumbered}
-use Rattle.size_laws.proofs.RenumberedFaults.{joined_so}
 use Rattle.connection_rules.specs.Instances.{item_faults, instance_items}
 use Rattle.sized_items.specs.DeclaredValues.{port_values}
 use Rattle.sized_items.specs.SizedItems.{plain_items, plain_faults}
@@ -24,7 +24,7 @@ pub step_faults_as : (g : ℕ → ℕ) (scope : Scope) (left : List ChildShape) 
 step_faults_as g scope left (Listed n) = refl
 step_faults_as g scope left (Port p) = declaration_faults_as g scope (port_values p)
 step_faults_as g scope left (Parameter s n v) = refl
-step_faults_as g scope left (Item x) = joined_so _ _ _ _ (plain_faults_as g scope x) (item_faults_as g scope (shapes_of left x) (instances_in x))
+step_faults_as g scope left (Item x) = joined_so (plain_faults_as g scope x) (item_faults_as g scope (shapes_of left x) (instances_in x))
 step_faults_as g scope left (Labelled n) = refl
 step_faults_as g scope left (Opened b items) = refl
 step_faults_as g scope left Closed = refl

@@ -1,6 +1,7 @@
 -- A table of instances with their jobs is that of the same copies alone.
 use Rattle.std.proofs.Common.{◌≡◌, ℕ, suc, ◌+◌, List, [], ◌∷◌, ◌++◌, map, drop, get_or, Option, Some, None, append_assoc, append-nil, refl, sym, ◌∙◌, ap, ap₂, arith}
 use Rattle.std.proofs.lemmas.List.{map-append}
+use Rattle.gen_unroll.proofs.Answered.{ok_same}
 use Rattle.unit_ir.specs.declared.instance.Instance.{Instance}
 use Rattle.unit_ir.specs.Trees as t
 use Rattle.unit_ir.specs.Trees.{SizedUnit, Instances}
@@ -12,14 +13,13 @@ use Rattle.unit_build.specs.Building.{module_of}
 use Rattle.unit_laws.specs.BuiltCopies.{copy_of}
 use Rattle.unit_laws.specs.Copies.{ModuleCopy, Copies, Nothing, One}
 use Rattle.unit_laws.specs.TableCopies.{CopyEntry, copies_in, copies_listed, IsCopyOf, AreCopiesOf, IsTableOf}
-use Rattle.unit_laws.proofs.BuiltUnits.{same_answer}
 
 -- ---- the rows of a table
 
 same_row : (e f : CopyEntry) (x : Instance) (job : BuildJob) → IsCopyOf e x job → IsCopyOf f x job → e ≡ f
 same_row e f x job one other =
-    let steps = same_answer e.copy.steps f.copy.steps (sym one.steps ∙ other.steps) in
-    let table = same_answer e.copy.table f.copy.table (sym one.signals ∙ ap (module_table (module_of job)) steps ∙ other.signals) in
+    let steps = ok_same e.copy.steps f.copy.steps (sym one.steps ∙ other.steps) in
+    let table = ok_same e.copy.table f.copy.table (sym one.signals ∙ ap (module_table (module_of job)) steps ∙ other.signals) in
     ap₂ (λ (p : Option ℕ) (c : ModuleCopy). record { parent = p; copy = c }) (one.place ∙ sym other.place)
     (one.copied ∙ ap₂ (copy_of x.place.name.0 job) steps table ∙ sym other.copied)
 

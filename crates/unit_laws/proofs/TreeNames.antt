@@ -25,13 +25,13 @@ use Rattle.verilog_decl.specs.Declarations as declarations
 use Rattle.verilog_item.specs.Items as items
 use Rattle.verilog_parse.specs.Generates as generates
 use Rattle.verilog_parse.specs.Modules as modules
-use Rattle.gen_unroll.specs.Declarations.{declared_name, declared_reg_name}
+use Rattle.gen_unroll.specs.Declarations.{declared_name, declared_reg_name, instance_name}
 use Rattle.unit_laws.specs.Proper.{IsProper}
 use Rattle.unit_laws.specs.Spelled.{IsSpelledUnder}
 use Rattle.unit_laws.proofs.SameModule.{module_alone}
 use Rattle.unit_laws.specs.JobsUnder.{IsIn}
 use Rattle.unit_laws.proofs.Fronts.{viewed, token, behind_declaration, behind_expression, behind_header, behind_generate, behind_module}
-use Rattle.unit_laws.proofs.StepNames.{instance_name, AreNamed}
+use Rattle.unit_laws.proofs.StepNames.{AreNamed}
 
 -- what holds of the name of a module, and of those in it
 abbrev pub IsModuleNamed : (Identifier → Type 0) → ModuleDeclaration → Type 0

@@ -1,8 +1,9 @@
 -- Words of a line, read one by one: a line is its words in a row, with what follows it.
 use Rattle.std.proofs.Common.{◌≡◌, ℕ, ◌≤◌, ◌<◌, ◌^◌, Bool, true, false, List, ◌∷◌, ◌++◌, codes, decimal, refl, ap, ◌∙◌, append_assoc, arith}
 use Rattle.std.proofs.lemmas.Fmt.{decimal_injective}
+use Rattle.ls_text.proofs.Lists.{first_of, rest_of}
 use Rattle.module_registry.specs.KeyTexts.{line_end, shape_text}
-use Rattle.unit_laws.proofs.Cuts.{cut, first, tail, IsCut}
+use Rattle.unit_laws.proofs.Cuts.{cut, IsCut}
 use Rattle.unit_laws.proofs.Lacking.{decimal_lacks}
 
 -- `s` or `u`
@@ -59,4 +60,4 @@ shape_read v w s u xs ys few_v few_w e =
     let width : IsCut (decimal v) (decimal w) (sign s ∷ xs) (sign u ∷ ys) =
     cut 32 (decimal v) (decimal w) (sign s ∷ xs) (sign u ∷ ys)
     (decimal_lacks 32 v (omega arith) small_v) (decimal_lacks 32 w (omega arith) small_w) e in
-    record { width = decimal_injective v w small_v small_w width.before; signed = sign_tells s u (ap first width.after); after = ap tail width.after }
+    record { width = decimal_injective v w small_v small_w width.before; signed = sign_tells s u (ap first_of width.after); after = ap rest_of width.after }

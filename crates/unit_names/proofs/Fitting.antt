@@ -11,7 +11,7 @@ use Rattle.typed_ir.specs.Sized.{is_width, is_signal}
 use Rattle.width_rules.specs.declared.writer.Writer.{Writer}
 use Rattle.width_rules.specs.Scopes.{Meaning, Signal, Scope}
 use Rattle.gen_unroll.specs.declared.bit_range.BitRange.{BitRange as Bounds}
-use Rattle.gen_unroll.specs.Declarations.{declared}
+use Rattle.gen_unroll.specs.Declarations.{declared, declared_width}
 use Rattle.gen_unroll.specs.Views.{bit_range_of}
 use Rattle.unit_names.specs.declared.named_signal.NamedSignal.{NamedSignal as Named}
 use Rattle.unit_names.specs.declared.signal_table.ModuleSignals.{ModuleSignals}
@@ -22,16 +22,16 @@ use Rattle.unit_names.specs.Signals.{NamedSignal}
 use Rattle.unit_names.specs.SignalViews.{signal_of}
 use Rattle.unit_names.specs.Sound.{IsOneOf, has_name, widths_of}
 use Rattle.unit_names.specs.UnitLists.{unit_signals, names_behind}
-use Rattle.unit_names.specs.UnitReaches.{width_of, lsb_of, meaning_of_signal, all_signals, with_signals}
+use Rattle.unit_names.specs.UnitReaches.{lsb_of, meaning_of_signal, all_signals, with_signals}
 
 -- a numbered signal is one of the list, with its width
 record IsOne (widths : List ℕ) (x : NumberedSignal) : Type 0 where
-  width : is_width (width_of x.signal.range) ≡ true
-  there : is_signal x.number (width_of x.signal.range) widths ≡ true
+  width : is_width (declared_width x.signal.range) ≡ true
+  there : is_signal x.number (declared_width x.signal.range) widths ≡ true
 
 -- ---- the ranges of the code have 1 to 128 bits
 
-wide : (r : Option Bounds) → is_width (width_of (option_map bit_range_of r)) ≡ true
+wide : (r : Option Bounds) → is_width (declared_width (option_map bit_range_of r)) ≡ true
 wide None = refl
 wide (Some r) = and_from (nat_le 1 r.width) (nat_le r.width 128) (le-leb 1 r.width r.at_least_one) (le-leb r.width 128 r.at_most_128)
 
@@ -58,7 +58,7 @@ each_one before b k [] is = tt
 each_one before b k (x ∷ xs) is = by (same_block b (signal_of x).block) (subst (λ (ws : List ℕ). Each (IsOne ws) (in_block_from (suc k) b (map signal_of xs))) moved (each_one (before ++ w ∷ []) b (suc k) xs longer))
   where
     w : ℕ
-    w = width_of (signal_of x).range
+    w = declared_width (signal_of x).range
 
     ws : List ℕ
     ws = before ++ w ∷ widths_of (map signal_of xs)
@@ -85,7 +85,7 @@ entered P w widths one (y ∷ ys) each scope name before =
     entered P w widths one ys each.1 (declared scope y.signal.name (meaning_of_signal w y.number y.signal)) name (by (y.signal.name.name.0 == name) before)
   where
     by : (t : Bool) → (cond t true (has_name name ys) ≡ false → P (scope name)) → has_name name ys ≡ false → P (cond t (meaning_of_signal w y.number y.signal) (scope name))
-    by true h none = one y.number (width_of y.signal.range) (lsb_of y.signal.range) y.signal.signed (w y.number) each.0.width each.0.there
+    by true h none = one y.number (declared_width y.signal.range) (lsb_of y.signal.range) y.signal.signed (w y.number) each.0.width each.0.there
     by false h none = h none
 
 pub entered_fits : (P : Meaning → Type 0) (w : ℕ → Writer) (m : ModuleSignals) (b : Option ℕ)
@@ -102,4 +102,4 @@ one_of m w b scope name before =
 
 pub unit_widths : (in_module : ℕ) (names : List NameId) (xs : List NamedSignal) → map (λ (s : UnitSignal). s.width) (unit_signals in_module names xs) ≡ widths_of xs
 unit_widths m names [] = refl
-unit_widths m names (x ∷ xs) = ap (λ (ws : List ℕ). width_of x.range ∷ ws) (unit_widths m (names_behind names x) xs)
+unit_widths m names (x ∷ xs) = ap (λ (ws : List ℕ). declared_width x.range ∷ ws) (unit_widths m (names_behind names x) xs)

@@ -1,12 +1,12 @@
 -- Signals that have numbers are among those that were declared, and no two of them have one place in the order of the declarations.
 use Rattle.std.proofs.Common.{◌≡◌, ℕ, suc, ◌<◌, ◌&&◌, ◌==◌, ◌⊎◌, inl, inr, Bool, true, false, cond, not, filter, List, [], ◌∷◌, ◌++◌, length, append-nil, refl, sym, ◌∙◌, ap, subst, arith, true≢false}
 use Rattle.std.specs.Prelude.{Option, Some, None, is_some}
-use Rattle.std.specs.Option.{option_map}
+use Rattle.std.specs.Option.{option_map, option_to_list}
 use Rattle.std.proofs.lemmas.Option.{none-some, same_Some}
 use Rattle.typed_ir.specs.Orders.{Member}
 use Rattle.typed_ir.proofs.Cases.{and_left}
 use Rattle.verilog_ast.specs.declared.identifier.Identifier.{Identifier}
-use Rattle.unit_names.specs.Numbers.{first_where, place_where, if_any, is_own_named, number_of_name, with_header_port, ports_onto, is_no_port, numbered}
+use Rattle.unit_names.specs.Numbers.{first_where, place_where, is_own_named, number_of_name, with_header_port, ports_onto, is_no_port, numbered}
 use Rattle.unit_names.specs.Signals.{NamedSignal, is_outermost, is_port, is_port_named}
 use Rattle.unit_names.proofs.Orders.{AreInOrder, order_from, order_below, same_order}
 
@@ -125,7 +125,7 @@ one_port xs out q x so before none m port = record {
     apart y z h (inr e) same = e
 
 port_if_any : (xs out : List NamedSignal) (q : ℕ) → AreInOrder 0 xs → ArePorts xs out → number_of_name q out ≡ None → (o : Option NamedSignal)
-    → first_where (is_port_named q) xs ≡ o → ArePorts xs (out ++ if_any o)
+    → first_where (is_port_named q) xs ≡ o → ArePorts xs (out ++ option_to_list o)
 port_if_any xs out q so before none None is = subst (ArePorts xs) (sym (append-nil out)) before
 port_if_any xs out q so before none (Some x) is =
     let found = first_found (is_port_named q) xs x is in
@@ -134,7 +134,7 @@ port_if_any xs out q so before none (Some x) is =
 header_port_more : (xs out : List NamedSignal) (n : Identifier) → AreInOrder 0 xs → ArePorts xs out → ArePorts xs (with_header_port xs n out)
 header_port_more xs out n so before = by (number_of_name n.name.0 out) refl
   where
-    by : (p : Option ℕ) → number_of_name n.name.0 out ≡ p → ArePorts xs (cond (is_some p) out (out ++ if_any (first_where (is_port_named n.name.0) xs)))
+    by : (p : Option ℕ) → number_of_name n.name.0 out ≡ p → ArePorts xs (cond (is_some p) out (out ++ option_to_list (first_where (is_port_named n.name.0) xs)))
     by None none = port_if_any xs out n.name.0 so before none (first_where (is_port_named n.name.0) xs) refl
     by (Some k) is = before
 

@@ -9,3 +9,4 @@ pub mod Header
 pub mod Numbered
 pub mod Fitting
 pub mod Placeholders
+pub mod Signals

@@ -1,7 +1,7 @@
 -- Numbers of signals: in the order of the declarations each stands once; those of registers and of inputs stand once, and none is of both.
 use Rattle.std.proofs.Common.{◌≡◌, ℕ, zero, suc, ◌+◌, ◌<◌, ◌≤◌, ◌&&◌, ◌==◌, inl, inr, Bool, true, false, cond, not, filter, List, [], ◌∷◌, ◌++◌, length, refl, sym, ◌∙◌, ap, subst, arith, true≢false, eqb-true, eq-eqb, Result, Ok, Err}
 use Rattle.std.specs.Prelude.{Option, Some, None, slice_get}
-use Rattle.std.specs.Option.{option_map}
+use Rattle.std.specs.Option.{option_map, option_to_list}
 use Rattle.std.proofs.lemmas.Option.{none-some, same_Some}
 use Rattle.ls_text.specs.declared.fault.Fault.{Fault}
 use Rattle.ls_text.specs.declared.name_id.NameId.{NameId}
@@ -14,7 +14,7 @@ use Rattle.verilog_ast.specs.Items.{ModuleDeclaration}
 use Rattle.gen_unroll.specs.Reaches.{reach_in}
 use Rattle.gen_unroll.specs.Steps.{ModuleStep}
 use Rattle.ls_text.specs.Answers.{◌>>=◌}
-use Rattle.unit_names.specs.Numbers.{SignalTable, place_where, has_order, if_any, numbers_from, numbered, header_names, table_of, module_table}
+use Rattle.unit_names.specs.Numbers.{SignalTable, place_where, has_order, numbers_from, numbered, header_names, table_of, module_table}
 use Rattle.unit_names.specs.Signals.{NamedSignal, declared_in}
 use Rattle.unit_names.specs.Sound.{IsOrdered, AreApart}
 use Rattle.unit_names.specs.UnitLists.{is_input, is_variable, is_data_input, data_inputs_from, data_inputs, is_register_at, is_register, registers}
@@ -43,7 +43,7 @@ there_from k zero xs s m = absurd m
 there_from k (suc left) xs s m = by (place_where (has_order k) xs) refl (there_from (suc k) left xs s) m
   where
     by : (p : Option ℕ) → place_where (has_order k) xs ≡ p → (Member s (numbers_from (suc k) left xs) → s < length xs)
-        → Member s (if_any p ++ numbers_from (suc k) left xs) → s < length xs
+        → Member s (option_to_list p ++ numbers_from (suc k) left xs) → s < length xs
     by None is rest h = rest h
     by (Some j) is rest (inl e) = subst (λ (n : ℕ). n < length xs) (sym e) (place_within (has_order k) xs j is)
     by (Some j) is rest (inr h) = rest h
@@ -54,7 +54,7 @@ later_from k zero xs s m = absurd m
 later_from k (suc left) xs s m = by (place_where (has_order k) xs) refl (later_from (suc k) left xs s) m
   where
     by : (p : Option ℕ) → place_where (has_order k) xs ≡ p → (Member s (numbers_from (suc k) left xs) → suc k ≤ order_at xs s)
-        → Member s (if_any p ++ numbers_from (suc k) left xs) → k ≤ order_at xs s
+        → Member s (option_to_list p ++ numbers_from (suc k) left xs) → k ≤ order_at xs s
     by None is rest h = let more = rest h in omega (arith, more)
     by (Some j) is rest (inl e) = let same = ap (order_at xs) e ∙ ordered_at k xs j is in omega (arith, same)
     by (Some j) is rest (inr h) = let more = rest h in omega (arith, more)
@@ -64,7 +64,7 @@ once_from k zero xs = tt
 once_from k (suc left) xs = by (place_where (has_order k) xs) refl (later_from (suc k) left xs) (once_from (suc k) left xs)
   where
     by : (p : Option ℕ) → place_where (has_order k) xs ≡ p → ((s : ℕ) → Member s (numbers_from (suc k) left xs) → suc k ≤ order_at xs s)
-        → Distinct (numbers_from (suc k) left xs) → Distinct (if_any p ++ numbers_from (suc k) left xs)
+        → Distinct (numbers_from (suc k) left xs) → Distinct (option_to_list p ++ numbers_from (suc k) left xs)
     by None is later rest = rest
     by (Some j) is later rest = ((λ m. let more = later j m in let same = ordered_at k xs j is in absurd (omega (arith, more, same))), rest)
 
@@ -86,7 +86,7 @@ own_place (x ∷ xs) (suc s) own h =
     by true same there rest = absurd (own.0 there.0 there.1 (same refl ∙ sym there.2))
     by false same there rest = ap (option_map suc) rest
 
-behind : (p : Option ℕ) (ks : List ℕ) (s : ℕ) → Member s ks → Member s (if_any p ++ ks)
+behind : (p : Option ℕ) (ks : List ℕ) (s : ℕ) → Member s ks → Member s (option_to_list p ++ ks)
 behind None ks s m = m
 behind (Some j) ks s m = inr m
 
@@ -94,7 +94,7 @@ all_from : (later k left : ℕ) (xs : List NamedSignal) (j s : ℕ) → later < 
 all_from later k zero xs j s h is found = absurd (omega (arith, h))
 all_from zero k (suc left) xs j s h is found =
     let same : j ≡ k = omega (arith, is) in
-    subst (λ (p : Option ℕ). Member s (if_any p ++ numbers_from (suc k) left xs)) (sym found ∙ ap (λ (i : ℕ). place_where (has_order i) xs) same) (inl refl)
+    subst (λ (p : Option ℕ). Member s (option_to_list p ++ numbers_from (suc k) left xs)) (sym found ∙ ap (λ (i : ℕ). place_where (has_order i) xs) same) (inl refl)
 all_from (suc later) k (suc left) xs j s h is found =
     behind (place_where (has_order k) xs) (numbers_from (suc k) left xs) s (all_from later (suc k) left xs j s (omega (arith, h)) (omega (arith, is)) found)
 

@@ -1,6 +1,6 @@
 -- The signals of a module by numbers of their own, its ports first, in the order of the header (IEEE Std 1364-2005, 12.3).
 use Rattle.std.specs.Prelude.{ℕ, zero, suc, Bool, ◌&&◌, ◌==◌, not, if◌then◌else◌, List, [], ◌∷◌, ◌++◌, map, length, filter, Option, Some, None, is_some, Result, Ok}
-use Rattle.std.specs.Option.{option_map}
+use Rattle.std.specs.Option.{option_map, option_to_list}
 use Rattle.ls_text.specs.declared.fault.Fault.{Fault}
 use Rattle.verilog_ast.specs.declared.identifier.Identifier.{Identifier}
 use Rattle.verilog_ast.specs.Declarations.{PortList, NoPorts, NamedPorts, DeclaredPorts}
@@ -26,10 +26,6 @@ abbrev pub place_where : (NamedSignal → Bool) → List NamedSignal → Option 
 place_where test [] = None
 place_where test (x ∷ xs) = if test x then Some 0 else option_map suc (place_where test xs)
 
-abbrev pub if_any : {A : Type 0} → Option A → List A
-if_any None = []
-if_any (Some x) = x ∷ []
-
 -- ---- names of the module itself
 
 abbrev pub is_own_named : ℕ → NamedSignal → Bool
@@ -44,7 +40,7 @@ number_of_name name xs = place_where (is_own_named name) xs
 -- the first port of a name of the header, behind these; a name counts once, and one without a port gives nothing
 abbrev pub with_header_port : List NamedSignal → Identifier → List NamedSignal → List NamedSignal
 with_header_port xs n out =
-    if is_some (number_of_name n.name.0 out) then out else out ++ if_any (first_where (is_port_named n.name.0) xs)
+    if is_some (number_of_name n.name.0 out) then out else out ++ option_to_list (first_where (is_port_named n.name.0) xs)
 
 -- those of all its names, one after another
 abbrev pub ports_onto : List Identifier → (xs out : List NamedSignal) → List NamedSignal
@@ -66,7 +62,7 @@ has_order k x = x.order == k
 -- the numbers of the signals that were declared k-th and later, so many
 abbrev pub numbers_from : (k left : ℕ) → List NamedSignal → List ℕ
 numbers_from k zero xs = []
-numbers_from k (suc left) xs = if_any (place_where (has_order k) xs) ++ numbers_from (suc k) left xs
+numbers_from k (suc left) xs = option_to_list (place_where (has_order k) xs) ++ numbers_from (suc k) left xs
 
 -- the signals by their numbers, and these in the order of their declarations
 pub record SignalTable : Type 0 where

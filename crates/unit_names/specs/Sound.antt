@@ -3,9 +3,9 @@ use Rattle.std.specs.Prelude.{◌≡◌, ⊤, ℕ, ◌<◌, ◌==◌, Bool, true
 use Rattle.typed_ir.specs.Orders.{Member, Distinct}
 use Rattle.typed_ir.specs.Sized.{is_width, is_signal}
 use Rattle.width_rules.specs.Scopes.{Meaning, Signal, Constant, Turn, Genvar, Unknown}
+use Rattle.gen_unroll.specs.Declarations.{declared_width}
 use Rattle.unit_names.specs.Signals.{NamedSignal}
 use Rattle.unit_names.specs.Numbers.{SignalTable, NumberedSignal}
-use Rattle.unit_names.specs.UnitReaches.{width_of}
 
 -- the numbers in the order of the declarations are those of all signals, each once
 pub record IsOrdered (t : SignalTable) : Type 0 where
@@ -22,7 +22,7 @@ pub record AreApart (registers inputs : List ℕ) (count : ℕ) : Type 0 where
   pub apart : (s : ℕ) → Member s registers → Member s inputs → ⊥
 
 abbrev pub widths_of : List NamedSignal → List ℕ
-widths_of xs = map (λ (x : NamedSignal). width_of x.range) xs
+widths_of xs = map (λ (x : NamedSignal). declared_width x.range) xs
 
 -- whether one of these has the name
 abbrev pub has_name : ℕ → List NumberedSignal → Bool

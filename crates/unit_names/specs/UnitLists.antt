@@ -6,9 +6,10 @@ use Rattle.unit_ir.specs.declared.signal_declaration.SignalDeclaration.{SignalDe
 use Rattle.unit_ir.specs.declared.signal_kind.SignalKind.{SignalKind}
 use Rattle.unit_ir.specs.declared.signal_kind.SignalKind.TheVariants as kind
 use Rattle.unit_ir.specs.Shapes.{is_clock}
+use Rattle.gen_unroll.specs.Declarations.{declared_width}
 use Rattle.unit_names.specs.Signals.{NamedSignal, is_outermost}
 use Rattle.unit_names.specs.Numbers.{SignalTable}
-use Rattle.unit_names.specs.UnitReaches.{width_of, lsb_of}
+use Rattle.unit_names.specs.UnitReaches.{lsb_of}
 
 -- a signal that is called by this name in this module
 abbrev pub signal_called : (in_module : ℕ) → ℕ → NamedSignal → Signal
@@ -17,7 +18,7 @@ signal_called m n x = record {
   path = n ∷ [];
   lsb = lsb_of x.range;
   signed = x.signed;
-  width = width_of x.range;
+  width = declared_width x.range;
   initial = 0;
 }
 

@@ -8,23 +8,18 @@ use Rattle.verilog_ast.specs.Items.{ModuleItem, ModuleDeclaration}
 use Rattle.width_rules.specs.declared.writer.Writer.{Writer}
 use Rattle.width_rules.specs.declared.writer.Writer.TheVariants as writer
 use Rattle.width_rules.specs.Scopes.{Meaning, Signal, Unknown, Scope}
-use Rattle.gen_unroll.specs.Declarations.{BitRange, declared, all_declared, declared_name, declared_reg_name, port_name}
+use Rattle.gen_unroll.specs.Declarations.{BitRange, declared_width, declared, all_declared, declared_name, declared_reg_name, port_name}
 use Rattle.gen_unroll.specs.Reaches.{Reach, reach_in, in_reach}
 use Rattle.gen_unroll.specs.Steps.{ModuleStep, Opened}
 use Rattle.unit_names.specs.Signals.{NamedSignal}
 use Rattle.unit_names.specs.Numbers.{NumberedSignal, in_block}
-
--- one bit without a range
-abbrev pub width_of : Option BitRange → ℕ
-width_of None = 1
-width_of (Some r) = r.width
 
 abbrev pub lsb_of : Option BitRange → ℕ
 lsb_of None = 0
 lsb_of (Some r) = r.low
 
 abbrev pub signal_meaning : ℕ → Option BitRange → Bool → Writer → Meaning
-signal_meaning k range signed writer = Signal k (width_of range) (lsb_of range) signed writer
+signal_meaning k range signed writer = Signal k (declared_width range) (lsb_of range) signed writer
 
 -- what its name stands for, where w says what may write the k-th signal
 abbrev pub meaning_of_signal : (ℕ → Writer) → ℕ → NamedSignal → Meaning

@@ -1,5 +1,6 @@
 // The signals of a table of declarations in the order of their numbers.
 ghost use Rattle.std.specs.Prelude.{◌≡◌, ◌++◌, ◌∷◌, [], filter, map, IfOk, OnOk};
+ghost use Rattle.std.specs.Option.{option_to_list};
 ghost use Rattle.verilog_ast.specs.Views.{port_of, ports_of};
 ghost use Rattle.gen_unroll.specs.Declarations.{port_name};
 ghost use Rattle.unit_names.specs.Numbers as n;
@@ -27,7 +28,7 @@ fn add_first(
 ) -> Result<(), NoMemory>
     requires numbered { IsNumbered numbering.old }
     requires placed { IsPlaced table.now }
-    ensures signals { OnOk result (numbered_in numbering.new ≡ numbered_in numbering.old ++ n.if_any (n.first_where (is_port_named name.name.0) (signals_of table.now))) }
+    ensures signals { OnOk result (numbered_in numbering.new ≡ numbered_in numbering.old ++ option_to_list (n.first_where (is_port_named name.name.0) (signals_of table.now))) }
     ensures numbered { OnOk result (IsNumbered numbering.new) }
 {
     match table.ports.find(name.name.0) {
@@ -162,7 +163,7 @@ pub fn number_all(alloc: Global, table: &Table, ports: &Ports) -> Result<Numberi
 
 // A number, if there is one.
 fn push_any(declared: &mut Vec<SignalId>, found: Option<u32>) -> Result<(), NoMemory>
-    ensures { OnOk result (declared.new.items ≡ declared.old.items ++ n.if_any found) }
+    ensures { OnOk result (declared.new.items ≡ declared.old.items ++ option_to_list found) }
 {
     if let Some(number) = found {
         declared.push(SignalId(number))?;

@@ -1,7 +1,8 @@
 -- The names in a module are those in what it is as plain data.
-use Rattle.std.proofs.Common.{◌≡◌, ◌∙◌, List, [], ◌∷◌, ◌++◌, Option, map, flat_map, refl, sym, ap, ap₂, subst}
+use Rattle.std.proofs.Common.{◌≡◌, ◌∙◌, List, [], ◌∷◌, ◌++◌, Option, map, flat_map, refl, sym, ap, subst}
 use Rattle.std.specs.Option.{option_map}
 use Rattle.ls_text.specs.declared.name_id.NameId.{NameId}
+use Rattle.ls_text.proofs.Lists.{joined_so}
 use Rattle.verilog_ast.specs.declared.expression.Expr.{Expr}
 use Rattle.verilog_ast.specs.declared.range.Range.{Range}
 use Rattle.verilog_ast.specs.declared.shape.Shape.{Shape}
@@ -33,16 +34,13 @@ use Rattle.verilog_ast.specs.declared.module.Module.{Module}
 use Rattle.verilog_ast.specs.Items.{ModuleItem}
 use Rattle.verilog_ast.specs.Names.{joined, names_of_option, names_of_identifiers, names_of_expression, names_of_range, names_of_shape, names_of_variable, names_of_reg_variable, names_of_parameter, names_of_header_parameter, names_of_header_port, names_of_ports, names_of_named, names_of_ordered, names_of_connections, names_of_instance, names_of_continuous, names_of_plain_item, names_of_loop, generate_item_names, branch_names, names_of_generate_item, names_of_branch, names_of_item, names_of_body, names_of_modules}
 use Rattle.verilog_ast.specs.NamesWithin.{names_in_expression, names_in_range, names_in_kind, names_in_declared, names_in_declared_reg, names_in_parameter, names_in_header_parameter, names_in_port, names_in_ports, names_in_by_name, names_in_by_order, names_in_connections, names_in_instance, names_in_assignment, names_in_head, names_in_item, names_in_declaration, names_in_modules}
-use Rattle.verilog_ast.specs.Views.{expression_of, range_of, kind_of, declared_of, declared_reg_of, parameter_of, header_parameter_of, port_of, ports_of, by_name_of, by_order_of, connections_of, instance_of, assignment_of, plain_item_of, head_of, items_of, generate_item_view, branch_view, generate_item_of, branch_of, item_of, declaration_of, declarations_of}
+use Rattle.verilog_ast.specs.Views.{expression_of, range_of, kind_of, declared_of, declared_reg_of, parameter_of, header_parameter_of, port_of, ports_of, by_name_of, by_order_of, connections_of, instance_of, assignment_of, plain_item_of, head_of, items_of, generate_item_view, branch_view, generate_item_of, branch_of, item_of, declaration_of}
 use Rattle.verilog_ast.proofs.ViewedNames.{all_named, option_named, expression_named, target_named, statement_named}
-
-joins : {a b c d : List NameId} → a ≡ b → c ≡ d → a ++ c ≡ b ++ d
-joins h i = ap₂ (λ x y. x ++ y) h i
 
 -- ---- declarations
 
 range_named : (x : Range) → names_of_range x ≡ names_in_range (range_of x)
-range_named x = joins (expression_named x.high) (expression_named x.low)
+range_named x = joined_so (expression_named x.high) (expression_named x.low)
 
 kind_named : (x : Shape) → names_of_shape x ≡ names_in_kind (kind_of x)
 kind_named x = option_named range_of names_of_range names_in_range range_named x.range
@@ -55,17 +53,17 @@ declared_named x = ap (λ a. x.name.name ∷ a) (value_named x.value)
 
 declared_reg_named : (x : RegVariable) → names_of_reg_variable x ≡ names_in_declared_reg (declared_reg_of x)
 declared_reg_named x =
-    ap (λ a. x.name.name ∷ a) (joins (option_named range_of names_of_range names_in_range range_named x.addresses) (value_named x.value))
+    ap (λ a. x.name.name ∷ a) (joined_so (option_named range_of names_of_range names_in_range range_named x.addresses) (value_named x.value))
 
 parameter_named : (x : Parameter) → names_of_parameter x ≡ names_in_parameter (parameter_of x)
 parameter_named x = ap (λ a. x.name.name ∷ a) (expression_named x.value)
 
 header_parameter_named : (x : HeaderParameter) → names_of_header_parameter x ≡ names_in_header_parameter (header_parameter_of x)
-header_parameter_named x = joins (option_named kind_of names_of_shape names_in_kind kind_named x.shape) (parameter_named x.parameter)
+header_parameter_named x = joined_so (option_named kind_of names_of_shape names_in_kind kind_named x.shape) (parameter_named x.parameter)
 
 port_named : (x : HeaderPort) → names_of_header_port x ≡ names_in_port (port_of x)
 port_named (port.Input at net x n) = ap (λ a. a ++ (n.name ∷ [])) (kind_named x)
-port_named (port.Output at net x y) = joins (kind_named x) (declared_named y)
+port_named (port.Output at net x y) = joined_so (kind_named x) (declared_named y)
 port_named (port.Next x) = declared_named x
 
 ports_named : (x : Ports) → names_of_ports x ≡ names_in_ports (ports_of x)
@@ -89,22 +87,22 @@ instance_named : (x : Instance) → names_of_instance x ≡ names_in_instance (i
 instance_named x = ap (λ a. x.name.name ∷ a) (connections_named x.connections)
 
 assignment_named : (x : Continuous) → names_of_continuous x ≡ names_in_assignment (assignment_of x)
-assignment_named x = joins (target_named x.target) (expression_named x.value)
+assignment_named x = joined_so (target_named x.target) (expression_named x.value)
 
 plain_item_named : (x : PlainItem) → names_of_plain_item x ≡ names_in_item (plain_item_of x)
-plain_item_named (plain.Wire at x ys) = joins (kind_named x) (all_named declared_of names_of_variable names_in_declared declared_named ys)
-plain_item_named (plain.Reg at x ys) = joins (kind_named x) (all_named declared_reg_of names_of_reg_variable names_in_declared_reg declared_reg_named ys)
-plain_item_named (plain.LocalParameter at x ys) = joins (kind_named x) (all_named parameter_of names_of_parameter names_in_parameter parameter_named ys)
+plain_item_named (plain.Wire at x ys) = joined_so (kind_named x) (all_named declared_of names_of_variable names_in_declared declared_named ys)
+plain_item_named (plain.Reg at x ys) = joined_so (kind_named x) (all_named declared_reg_of names_of_reg_variable names_in_declared_reg declared_reg_named ys)
+plain_item_named (plain.LocalParameter at x ys) = joined_so (kind_named x) (all_named parameter_of names_of_parameter names_in_parameter parameter_named ys)
 plain_item_named (plain.Genvar at xs) = refl
 plain_item_named (plain.Assign at xs) = all_named assignment_of names_of_continuous names_in_assignment assignment_named xs
 plain_item_named (plain.Combinational at x) = statement_named x
 plain_item_named (plain.Clocked at n x) = ap (λ a. n.name ∷ a) (statement_named x)
 plain_item_named (plain.Instances n x ys) =
-    ap (λ a. n.name ∷ a) (joins (option_named connections_of names_of_connections names_in_connections connections_named x)
+    ap (λ a. n.name ∷ a) (joined_so (option_named connections_of names_of_connections names_in_connections connections_named x)
     (all_named instance_of names_of_instance names_in_instance instance_named ys))
 
 head_named : (x : Loop) → names_of_loop x ≡ names_in_head (head_of x)
-head_named x = joins (parameter_named x.start) (joins (expression_named x.condition) (parameter_named x.step))
+head_named x = joined_so (parameter_named x.start) (joined_so (expression_named x.condition) (parameter_named x.step))
 
 -- ---- items of generate blocks, by layers
 
@@ -126,24 +124,24 @@ item_layer l h =
 branch_layer : (x : Branch) → joined (map names_of_generate_item x.items) ≡ names_in_item (items_of (map generate_item_of x.items)) → Branched x
 branch_layer x h =
     fold_out-Branch (List NameId) (List NameId) generate_item_names branch_names x
-    ∙ joins (value_named x.condition) (ap (λ a. x.label.name ∷ a) h)
+    ∙ joined_so (value_named x.condition) (ap (λ a. x.label.name ∷ a) h)
     ∙ ap names_in_item (sym (fold_out-Branch ModuleItem ModuleItem generate_item_view branch_view x))
 
 items_named : (xs : List ((x : GenerateItem) × Generated x))
     → joined (map names_of_generate_item (map (λ x. x.0) xs)) ≡ names_in_item (items_of (map generate_item_of (map (λ x. x.0) xs)))
 items_named [] = refl
-items_named (x ∷ xs) = joins x.1 (items_named xs)
+items_named (x ∷ xs) = joined_so x.1 (items_named xs)
 
 branches_named : (xs : List ((x : Branch) × Branched x))
     → joined (map names_of_branch (map (λ x. x.0) xs)) ≡ names_in_item (items_of (map branch_of (map (λ x. x.0) xs)))
 branches_named [] = refl
-branches_named (x ∷ xs) = joins x.1 (branches_named xs)
+branches_named (x ∷ xs) = joined_so x.1 (branches_named xs)
 
 item_node : (y : GenerateItem-F ((x : GenerateItem) × Generated x) ((x : Branch) × Branched x))
     → Generated (roll-GenerateItem (map-GenerateItem ((x : GenerateItem) × Generated x) ((x : Branch) × Branched x) GenerateItem Branch (λ x. x.0) (λ x. x.0) y))
 item_node (GenerateItem-F.Plain x) = item_layer (GenerateItem-F.Plain x) (plain_item_named x)
 item_node (GenerateItem-F.For at x n ys) =
-    item_layer (GenerateItem-F.For at x n (map (λ x. x.0) ys)) (joins (head_named x) (ap (λ a. n.name ∷ a) (items_named ys)))
+    item_layer (GenerateItem-F.For at x n (map (λ x. x.0) ys)) (joined_so (head_named x) (ap (λ a. n.name ∷ a) (items_named ys)))
 item_node (GenerateItem-F.If xs) = item_layer (GenerateItem-F.If (map (λ x. x.0) xs)) (branches_named xs)
 
 branch_node : (y : Branch-F ((x : GenerateItem) × Generated x) ((x : Branch) × Branched x))
@@ -158,24 +156,24 @@ generate_item_named x = ind-GenerateItem Generated Branched (λ x y is. subst (�
 
 region_named : (xs : List GenerateItem) → flat_map names_of_generate_item xs ≡ names_in_item (items_of (map generate_item_of xs))
 region_named [] = refl
-region_named (x ∷ xs) = joins (generate_item_named x) (region_named xs)
+region_named (x ∷ xs) = joined_so (generate_item_named x) (region_named xs)
 
 item_named : (x : Item) → names_of_item x ≡ names_in_item (item_of x)
 item_named (item.Input at net x ns) = ap (λ a. a ++ names_of_identifiers ns) (kind_named x)
-item_named (item.Output at net x ys) = joins (kind_named x) (all_named declared_of names_of_variable names_in_declared declared_named ys)
-item_named (item.Parameter at x ys) = joins (kind_named x) (all_named parameter_of names_of_parameter names_in_parameter parameter_named ys)
+item_named (item.Output at net x ys) = joined_so (kind_named x) (all_named declared_of names_of_variable names_in_declared declared_named ys)
+item_named (item.Parameter at x ys) = joined_so (kind_named x) (all_named parameter_of names_of_parameter names_in_parameter parameter_named ys)
 item_named (item.Region at xs) = region_named xs
 item_named (item.Item x) = generate_item_named x
 
 body_items_named : (xs : List Item) → flat_map names_of_item xs ≡ names_in_item (items_of (map item_of xs))
 body_items_named [] = refl
-body_items_named (x ∷ xs) = joins (item_named x) (body_items_named xs)
+body_items_named (x ∷ xs) = joined_so (item_named x) (body_items_named xs)
 
 pub declaration_named : (x : ModuleBody) → names_of_body x ≡ names_in_declaration (declaration_of x)
 declaration_named x =
-    ap (λ a. x.name.name ∷ a) (joins (all_named header_parameter_of names_of_header_parameter names_in_header_parameter header_parameter_named x.parameters)
-    (joins (ports_named x.ports) (body_items_named x.items)))
+    ap (λ a. x.name.name ∷ a) (joined_so (all_named header_parameter_of names_of_header_parameter names_in_header_parameter header_parameter_named x.parameters)
+    (joined_so (ports_named x.ports) (body_items_named x.items)))
 
 pub modules_named : (xs : List Module) → names_of_modules xs ≡ names_in_modules xs
 modules_named [] = refl
-modules_named (x ∷ xs) = joins (declaration_named x.body) (modules_named xs)
+modules_named (x ∷ xs) = joined_so (declaration_named x.body) (modules_named xs)

@@ -39,6 +39,9 @@ pub record HeaderParameterDeclaration : Type 0 where
   pub kind : Option Kind
   pub parameter : ParameterAssignment
 
+abbrev pub header_parameter_name : HeaderParameterDeclaration → Identifier
+header_parameter_name p = p.parameter.name
+
 -- a port of a header that declares its ports; a further name has the declaration of the port before
 pub data PortDeclaration : Type 0 where
   InputPort : (at : Place) (net : PortNet) (kind : Kind) (name : Identifier) → PortDeclaration

@@ -3,11 +3,11 @@ use Rattle.std.proofs.Common.{◌≡◌, ℕ, ◌+◌, ◌-◌, ◌≤◌, ◌==
 use Rattle.std.proofs.Math.Bool.{and-false, or-true}
 use Rattle.std.proofs.lemmas.Bool.{eqb-true, and_from, not-true, or_parts, and_parts}
 use Rattle.std.proofs.lemmas.Option.{none-some}
-use Rattle.ls_text.proofs.Lists.{none_is_some}
+use Rattle.ls_text.proofs.Lists.{none_is_some, first_of}
 use Rattle.verilog_pre.specs.Bodies.{begins_cut, lines_len, comment_len, run_len}
 use Rattle.verilog_pre.specs.Shapes.{HasNo, BeginsWith, AllAre, StopsAt, ends_comment}
 use Rattle.verilog_pre.specs.BodyStretches.{ends_line, begins_stretch, last_of}
-use Rattle.verilog_pre.proofs.Stretches.{first_of, value_of}
+use Rattle.verilog_pre.proofs.Stretches.{value_of}
 
 abbrev pub not_newline : ℕ → Bool
 not_newline b = not (b == 10)

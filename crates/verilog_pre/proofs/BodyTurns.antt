@@ -8,13 +8,14 @@ use Rattle.std.proofs.lemmas.Bool.{eqb-true, not-true, and_parts}
 use Rattle.std.proofs.lemmas.List.{take-append-drop, length-append}
 use Rattle.std.proofs.lemmas.List.Folds.{length-prefix_len}
 use Rattle.ls_text.specs.Bytes.{is_letter, is_word_byte, is_blank}
+use Rattle.ls_text.proofs.Lists.{first_of}
 use Rattle.verilog_pre.specs.Parts.{Part, Use}
 use Rattle.verilog_pre.specs.declared.body_cut.BodyCut.{BodyCut}
 use Rattle.verilog_pre.specs.declared.body_cut.BodyCut.TheVariants as cut
 use Rattle.verilog_pre.specs.Bodies.{begins_cut, lines_len, comment_len, run_len, comment_or, body_cut, cut_len, goes_on, run_part, cut_parts, trimmed_parts, trimmed_len, body_parts, body_len}
 use Rattle.verilog_pre.specs.Shapes.{HasNo, AllAre, StopsAt, ends_comment, IsLineComment, IsWord}
 use Rattle.verilog_pre.specs.BodyStretches.{ends_line, begins_stretch, LineEnds, IsBodyRun, Gives, Run, Continued, Comment, Unclosed, Macro, Trimmed, Body, AtEnd, AtNewline, AtComment, Goes}
-use Rattle.verilog_pre.proofs.Stretches.{first_of, zero_no_star, front_all, front_stops, leading_word, front_is, longer}
+use Rattle.verilog_pre.proofs.Stretches.{zero_no_star, front_all, front_stops, leading_word, front_is, longer}
 use Rattle.verilog_pre.proofs.BodyStretches.{not_newline, line_of, after_line, line_and_after, line_count, line_plain, line_ends, line_is, open_plain, open_is, ClosedOn, closes_on, closed_on_is, run_from, left_from, from_joined, from_count, from_on_line, from_plain, from_ends, from_is}
 use Rattle.verilog_pre.proofs.Cuts.{parts_on, parts_last, len_on, len_last}
 

@@ -7,12 +7,13 @@ use Rattle.std.proofs.lemmas.Bool.{eqb-true, and_parts}
 use Rattle.std.proofs.lemmas.List.{take-append-drop, length-append}
 use Rattle.std.proofs.lemmas.List.Folds.{length-prefix_len}
 use Rattle.ls_text.specs.Bytes.{is_letter, is_word_byte, through_pair}
+use Rattle.ls_text.proofs.Lists.{first_of}
 use Rattle.verilog_pre.specs.Bodies.{begins_cut}
 use Rattle.verilog_pre.specs.declared.head.Head.{Head}
 use Rattle.verilog_pre.specs.declared.head.Head.TheVariants as head
 use Rattle.verilog_pre.specs.Heads.{plain_len, comment_head, head_of}
 use Rattle.verilog_pre.specs.Shapes.{HasNo, AllAre, StopsAt, ends_comment, IsLineComment, IsBlockComment, IsRun, IsWord}
-use Rattle.verilog_pre.proofs.Stretches.{front_all, front_stops, leading_word, front_is, unclosed, unclosed_is, Closed, closes, closed_is, first_of, zero_no_star, run_of, left_of, run_and_left, run_plain, run_ends, run_count, run_is}
+use Rattle.verilog_pre.proofs.Stretches.{front_all, front_stops, leading_word, front_is, unclosed, unclosed_is, Closed, closes, closed_is, zero_no_star, run_of, left_of, run_and_left, run_plain, run_ends, run_count, run_is}
 
 abbrev not_newline : ℕ → Bool
 not_newline b = not (b == 10)

@@ -6,7 +6,7 @@ use Rattle.std.specs.List.{prefix_len}
 use Rattle.std.proofs.lemmas.Bool.{eqb-true, and_parts}
 use Rattle.std.proofs.lemmas.Option.{none-some}
 use Rattle.ls_text.specs.Bytes.{is_letter, is_digit, is_word_byte, through_pair}
-use Rattle.ls_text.proofs.Lists.{none_is_some}
+use Rattle.ls_text.proofs.Lists.{none_is_some, first_of}
 use Rattle.verilog_pre.specs.Bodies.{begins_cut}
 use Rattle.verilog_pre.specs.Heads.{plain_len}
 use Rattle.verilog_pre.specs.Shapes.{HasNo, BeginsWith, AllAre, StopsAt, ends_comment, IsWord}
@@ -73,10 +73,6 @@ pub record Closed (text : List ℕ) (n m : ℕ) : Type 0 where
   pub is : text ≡ inside ++ 42 ∷ 47 ∷ rest
   pub count : m ≡ n + length inside + 1
   pub first : HasNo ends_comment (inside ++ 42 ∷ [])
-
-abbrev pub first_of : List ℕ → ℕ
-first_of [] = 0
-first_of (x ∷ xs) = x
 
 pub zero_no_star : (x y : ℕ) → x ≡ 0 → y ≡ 42 → x ≡ y → ⊥
 zero_no_star x y e f g = absurd (omega (arith, e, f, g))

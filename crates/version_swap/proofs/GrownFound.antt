@@ -20,9 +20,10 @@ use Rattle.elaborate.specs.Elaborated.{Standing, elaborated}
 use Rattle.elaborate.specs.Trees.{all_seen, tree}
 use Rattle.elaborate.specs.TreeViews.{instance_view, language_limits}
 use Rattle.module_registry.specs.declared.build_job.BuildJob.{BuildJob}
-use Rattle.unit_jobs.specs.Jobs.{InstanceJob, module_called, or_no_module, steps_under, job_with, jobs_from, tree_jobs}
+use Rattle.unit_jobs.specs.Jobs.{InstanceJob, module_called, steps_under, job_with, jobs_from, tree_jobs}
 use Rattle.ls_text.specs.TextViews.{text_of}
 use Rattle.unit_jobs.specs.JobViews.{job_view}
+use Rattle.unit_jobs.proofs.InRows.{job_found}
 use Rattle.unit_laws.specs.InstancesTold.{IsInstanceTold, HasNamesIn}
 use Rattle.unit_laws.specs.JobsUnder.{IsIn, IsJobUnder}
 use Rattle.unit_laws.specs.Spelled.{IsSpelledUnder}
@@ -56,11 +57,6 @@ all_spelled old new ms grows spelled =
 
 -- ---- jobs are the same by a table that has grown
 
--- of an instance whose module is found, or not
-abbrev job_of : (texts : List (List ℕ)) → Instance → List ChildShape → Option Module → Result InstanceJob Fault
-job_of texts x within found =
-    or_no_module found x.of_module >>= λ m. steps_under (declaration_of m.body) x.parameters >>= λ steps. Ok (job_with texts x within m steps)
-
 module _ (old new : List (List ℕ)) (grows : Grows old new) where
   steps_so : (x : Instance) (within : List ChildShape) (m : Module) (r : Result (List ModuleStep) Fault) → IsSpelledUnder old m
       → steps_under (declaration_of m.body) x.parameters ≡ r
@@ -75,13 +71,13 @@ module _ (old new : List (List ℕ)) (grows : Grows old new) where
       the_job texts = record { «module» = m; parameters = x.parameters; clock = x.clock; children = within; names = texts }
 
   choice_so : (x : Instance) (within : List ChildShape) (b : Bool) (m : Module) (rest : Option Module) → IsSpelledUnder old m
-      → job_of old x within rest ≡ job_of new x within rest
-      → job_of old x within (if b then Some m else rest) ≡ job_of new x within (if b then Some m else rest)
+      → job_found old x within rest ≡ job_found new x within rest
+      → job_found old x within (if b then Some m else rest) ≡ job_found new x within (if b then Some m else rest)
   choice_so x within true m rest is later = steps_so x within m (steps_under (declaration_of m.body) x.parameters) is refl
   choice_so x within false m rest is later = later
 
   found_so : (x : Instance) (within : List ChildShape) (ms : List Module) → All (IsSpelledUnder old) ms
-      → job_of old x within (module_called x.of_module.0 ms) ≡ job_of new x within (module_called x.of_module.0 ms)
+      → job_found old x within (module_called x.of_module.0 ms) ≡ job_found new x within (module_called x.of_module.0 ms)
   found_so x within [] all = refl
   found_so x within (m ∷ ms) all =
       choice_so x within (x.of_module.0 == m.body.name.name.0) m (module_called x.of_module.0 ms) (All-head (IsSpelledUnder old) m ms all)

@@ -14,15 +14,15 @@ use Rattle.unit_ir.specs.Shapes.{children_of, shape_of}
 use Rattle.gen_unroll.specs.Overriding.{constant_sorts, overrides_of}
 use Rattle.gen_unroll.specs.Steps.{ModuleStep, blocks_in}
 use Rattle.gen_unroll.specs.Told.{Told}
-use Rattle.gen_unroll.specs.Unrolled.{State, unrolled_module, turn_limit}
+use Rattle.gen_unroll.specs.Unrolled.{State, unrolled_module, turn_limit, steps_told}
 use Rattle.ls_text.specs.Answers.{◌>>=◌}
 use Rattle.unit_jobs.specs.BlockNames.{texts_within}
-use Rattle.unit_jobs.specs.Jobs.{InstanceJob, module_called, or_no_module, told_steps, steps_under, job_with, instance_job, jobs_from, tree_jobs}
+use Rattle.unit_jobs.specs.Jobs.{InstanceJob, module_called, or_no_module, steps_under, job_with, instance_job, jobs_from, tree_jobs}
 use Rattle.unit_laws.proofs.StepNames.{AreNamed, IsStepNamed, told_go}
 
 -- ---- the steps of a module
 
-said_named : (P : Identifier → Type 0) (t : Told State) (steps : List ModuleStep) → All (IsStepNamed P) t.said → told_steps t ≡ Ok steps
+said_named : (P : Identifier → Type 0) (t : Told State) (steps : List ModuleStep) → All (IsStepNamed P) t.said → steps_told t ≡ Ok steps
     → All (IsStepNamed P) steps
 said_named P t steps named is = by t.ending is
   where

@@ -4,12 +4,12 @@ use Rattle.std.proofs.Common.{List, [], ◌∷◌, All, length, map, inl, inr, r
 use Rattle.std.specs.Prelude.{if◌then◌else◌, Result, Err}
 use Rattle.std.proofs.lemmas.Bool.{cases_lt, ltb-true, ltb-false, lt-ltb}
 use Rattle.std.proofs.lemmas.List.{get_or_past}
-use Rattle.std.proofs.lemmas.List.Elements.{All-nil, All-cons, All-head, All-tail}
+use Rattle.std.proofs.lemmas.List.Elements.{All-nil, All-cons}
 use Rattle.ls_text.specs.declared.fault.Fault.{Fault}
 use Rattle.ls_text.specs.declared.name_id.NameId.{NameId}
 use Rattle.ls_text.specs.Readings.{fault_view}
 use Rattle.ls_text.specs.Texts.{Grows, text_at}
-use Rattle.ls_text.proofs.Growth.{grown_text}
+use Rattle.ls_text.proofs.Growth.{texts_grown}
 use Rattle.ls_text.proofs.Tables.{same_id}
 use Rattle.ls_text.proofs.Lists.{same_first, same_others}
 use Rattle.width_rules.specs.Renaming.{fault_as}
@@ -75,14 +75,6 @@ moved_spells names n = by (cases_lt n.0 (length names))
         cases false lt = get_or_past names (n.0 + 1) [] (omega (arith, above)) ∙ sym (get_or_past names n.0 [] above)
 
 -- ---- a fault that shows names of a table says the same by the table when it has grown
-
-texts_grown : (old new : List (List ℕ)) (ns : List NameId) → Grows old new → All (λ (n : NameId). n.0 < length old) ns
-    → map (λ (id : NameId). text_at new id.0) ns ≡ map (λ (id : NameId). text_at old id.0) ns
-texts_grown old new [] grows all = refl
-texts_grown old new (n ∷ ns) grows all =
-    let P = λ (m : NameId). m.0 < length old in
-    ap₂ (λ (t : List ℕ) (ts : List (List ℕ)). t ∷ ts) (grown_text old new n.0 grows (All-head P n ns all))
-    (texts_grown old new ns grows (All-tail P n ns all))
 
 pub view_grown : (old new : List (List ℕ)) (f : Fault) → Grows old new → All (λ (n : NameId). n.0 < length old) f.names
     → fault_view new f ≡ fault_view old f

@@ -1,7 +1,7 @@
 -- The names in a design that files come to: they are names of the table, each signal has one, and the data inputs are signals.
-use Rattle.std.proofs.Common.{◌≡◌, ◌∙◌, ℕ, zero, suc, ◌+◌, ◌^◌, ◌%◌, ◌<◌, Bool, true, false, cond, List, [], ◌∷◌, ◌++◌, All, length, map, refl, sym, ap, arith}
+use Rattle.std.proofs.Common.{◌≡◌, ◌∙◌, ℕ, zero, suc, ◌+◌, ◌^◌, ◌%◌, ◌<◌, Bool, true, false, cond, List, [], ◌∷◌, ◌++◌, All, length, map, ap, arith}
 use Rattle.std.specs.Prelude.{Option, Ok}
-use Rattle.std.proofs.lemmas.List.{append-nil, length-append, length-map}
+use Rattle.std.proofs.lemmas.List.{length-append, length-map}
 use Rattle.std.proofs.lemmas.List.Elements.{All-nil, All-cons, All-head, All-tail, All-append, All-map, All-weaker}
 use Rattle.ls_text.specs.declared.name_id.NameId.{NameId}
 use Rattle.ls_text.specs.declared.source_file.SourceFile.{SourceFile}
@@ -17,7 +17,8 @@ use Rattle.sized_items.specs.DeclaredValues.{InitialValue}
 use Rattle.unit_laws.specs.Copies.{ModuleCopy, Copies, Nothing, One, Where, inside, outside, from_each, all_places, place_in}
 use Rattle.unit_laws.specs.Flat.{writers_in, beginning_of, signals_of, inputs_of, flat}
 use Rattle.unit_laws.proofs.Kids.{initial_many, signals_many}
-use Rattle.unit_laws.proofs.Places.{IsStanding, stands_at}
+use Rattle.unit_laws.proofs.Places.{stands_at}
+use Rattle.unit_laws.proofs.FlatTrees.{stands_all}
 use Rattle.version_swap.specs.Plans as plans
 use Rattle.version_swap.specs.Plans.{DesignOfTexts, Plans, AreCopies}
 use Rattle.version_swap.proofs.FlatAlike.{IsSignalIn, flat_in}
@@ -76,15 +77,6 @@ own_many w c =
     let initials = walk_initials (writers_in c) c.table.signals (beginning_of c) c.steps in
     length-map (with_initials initials named) (signal_there w.path) ∙ initial_many initials named
     ∙ signals_many c.declaration.name.name.0 c.names c.table.signals
-
-stands_all : (copies : Copies) → IsStanding (all_places copies) outside 0 0 copies
-stands_all copies = record {
-  before = [];
-  behind = [];
-  all_are = sym (append-nil (all_places copies));
-  many = refl;
-  free = λ j ys h. tt;
-}
 
 inputs_below : (count k : ℕ) (g : ℕ → ℕ) (clock : Option NameId) (xs : List NamedSignal)
     → ((s : ℕ) → s < k + length xs → g s < count) → All (λ (s : ℕ). s < count) (map g (data_inputs_from k clock xs))

@@ -1,10 +1,9 @@
 -- Names that leave modules as they are leave the instances of their design as they are, whatever the numbers of its top and its clock.
-use Rattle.std.proofs.Common.{◌≡◌, ◌∙◌, ℕ, ◌==◌, ◌++◌, Bool, true, false, if◌then◌else◌}
-use Rattle.std.proofs.Common.{List, [], ◌∷◌, All, map, append_assoc, refl, sym, ap, subst}
+use Rattle.std.proofs.Common.{◌≡◌, ◌∙◌, ℕ, ◌==◌, Bool, true, false, if◌then◌else◌}
+use Rattle.std.proofs.Common.{List, [], ◌∷◌, All, map, refl, sym, ap, subst}
 use Rattle.std.specs.Prelude.{Option, Some, None, Result, Ok, Err}
 use Rattle.std.specs.Option.{option_map}
 use Rattle.std.proofs.lemmas.Bool.{eqb-true}
-use Rattle.std.proofs.lemmas.List.{append-nil}
 use Rattle.std.proofs.lemmas.List.Elements.{All-nil, All-cons, All-head, All-tail}
 use Rattle.ls_text.specs.declared.fault.Fault.{Fault}
 use Rattle.ls_text.specs.declared.name_id.NameId.{NameId}
@@ -18,23 +17,14 @@ use Rattle.module_names.specs.Listings.{is_listed}
 use Rattle.module_names.specs.Modules.{module_named, header_ports}
 use Rattle.elaborate.specs.declared.limits.Limits.{Limits}
 use Rattle.elaborate.specs.Clocks.{top_clock}
-use Rattle.elaborate.specs.Elaborated.{unless_there, named_once, few_modules, top_module, from_top, top_of, elaborated}
+use Rattle.elaborate.specs.Elaborated.{named_once, few_modules, top_module, from_top, top_of, elaborated}
 use Rattle.design_laws.specs.Findings.{standing_as}
 use Rattle.design_laws.specs.Renaming.{KeepsApart, number_as, found_as}
 use Rattle.design_laws.proofs.RenamedDesigns.{same_elaborated}
 use Rattle.design_laws.proofs.RenamedModules.{same_listed, same_named, same_ports}
+use Rattle.job_laws.proofs.InstanceModules.{once_all}
 
 -- ---- the top is told by the module of its name
-
--- where no two modules have one name, all of them are found
-once_all : (before ms all : List ModuleDeclaration) → named_once before ms ≡ Ok all → all ≡ before ++ ms
-once_all before [] all is = let same : before ≡ all = cc in sym same ∙ sym (append-nil before)
-once_all before (m ∷ ms) all is = by (module_named m.name.name.0 before) (once_all (before ++ m ∷ []) ms all) is
-  where
-    by : (found : Option ModuleDeclaration) → (named_once (before ++ m ∷ []) ms ≡ Ok all → all ≡ (before ++ m ∷ []) ++ ms)
-        → (unless_there found m.name >>= λ _. named_once (before ++ m ∷ []) ms) ≡ Ok all → all ≡ before ++ m ∷ ms
-    by None later here = later here ∙ append_assoc before (m ∷ []) ms
-    by (Some other) later here = absurd cc
 
 abbrev then_top : Limits → ℕ → List ModuleDeclaration → Result ModuleDeclaration Fault
 then_top l top all = few_modules l.modules all >>= λ _. top_module (module_named top all)

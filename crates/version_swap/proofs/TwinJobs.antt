@@ -21,8 +21,8 @@ use Rattle.unit_ir.specs.declared.port_shape.PortShape.{PortShape}
 use Rattle.module_registry.specs.declared.build_job.BuildJob.{BuildJob}
 use Rattle.ls_text.specs.Answers.{◌>>=◌}
 use Rattle.module_registry.specs.Building.{Built, built_all}
-use Rattle.verilog_ast.specs.Declarations.{assigned_name}
-use Rattle.module_registry.specs.Constants.{header_name, item_constants, constants_of}
+use Rattle.verilog_ast.specs.Declarations.{assigned_name, header_parameter_name}
+use Rattle.module_registry.specs.Constants.{item_constants, constants_of}
 use Rattle.module_registry.specs.Jobs.{job_text}
 use Rattle.module_registry.specs.KeyTexts.{line_end, shape_text, parameter_lines, clock_text, clock_line, port_line, child_lines, key_text}
 use Rattle.unit_build.specs.Building.{built}
@@ -55,8 +55,8 @@ item_so f other = refl
 
 constants_so : (f : NameId → NameId) (m : ModuleDeclaration) → constants_of (declaration_as f m) ≡ map (renamed_identifier f) (constants_of m)
 constants_so f m =
-    ap₂ (λ (ns ms : List Identifier). ns ++ ms) (names_so f header_name (header_parameter_as f) (λ p. refl) m.parameters) (item_so f m.items)
-    ∙ sym (map-append (renamed_identifier f) (map header_name m.parameters) (item_constants m.items))
+    ap₂ (λ (ns ms : List Identifier). ns ++ ms) (names_so f header_parameter_name (header_parameter_as f) (λ p. refl) m.parameters) (item_so f m.items)
+    ∙ sym (map-append (renamed_identifier f) (map header_parameter_name m.parameters) (item_constants m.items))
 
 -- ---- the text of a job
 

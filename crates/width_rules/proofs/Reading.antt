@@ -3,7 +3,7 @@ use Rattle.std.proofs.Common.{◌≡◌, ℕ, Bool, true, ◌&&◌, ◌==◌, �
 use Rattle.std.proofs.lemmas.Bool.{and_from, cond-true, cond-false}
 use Rattle.typed_ir.proofs.Cases.{by_cases, and_left, and_right}
 use Rattle.ls_text.specs.declared.fault.Fault.{Fault}
-use Rattle.ls_text.proofs.Lists.{none_is_some}
+use Rattle.ls_text.proofs.Lists.{some_is_none}
 use Rattle.typed_ir.specs.Sized as s
 use Rattle.typed_ir.specs.Sized.{Sized, fits_signals, width_of}
 use Rattle.typed_ir.specs.declared.binary_operator.BinaryOperator.{BinaryOperator as Operator}
@@ -135,46 +135,43 @@ own_reads scope x z h is = (ap (λ (p : Sized). fits_signals p []) is ∙ no_rea
 
 -- ---- where a constant is due
 
-cons_nil : {A : Type 0} (x : A) (xs : List A) → x ∷ xs ≡ [] → ⊥
-cons_nil x xs h = none_is_some x xs (sym h)
-
 pub left_none : (xs ys : List Fault) → xs ++ ys ≡ [] → xs ≡ []
 left_none [] ys h = refl
-left_none (x ∷ xs) ys h = absurd (cons_nil x (xs ++ ys) h)
+left_none (x ∷ xs) ys h = some_is_none x (xs ++ ys) h
 
 pub right_none : (xs ys : List Fault) → xs ++ ys ≡ [] → ys ≡ []
 right_none [] ys h = h
-right_none (x ∷ xs) ys h = absurd (cons_nil x (xs ++ ys) h)
+right_none (x ∷ xs) ys h = some_is_none x (xs ++ ys) h
 
 -- no select has no fault where a constant is due: a net or variable has 25, all else 32
 no_bits : (m : Meaning) (b : Bool) (at : ℤ) (width down : ℕ) (n : Identifier) (ys : List Fault)
     → name_faults m ConstantOnly n ++ (ys ++ run_faults m b at width down n) ≡ [] → ⊥
-no_bits (Signal signal total lsb signed writer) b at width down n ys h = cons_nil _ _ h
-no_bits (Constant own value signed) b at width down n ys h = cons_nil _ _ (right_none ys _ h)
-no_bits (Turn own value signed) b at width down n ys h = cons_nil _ _ (right_none ys _ h)
-no_bits Genvar b at width down n ys h = cons_nil _ _ h
-no_bits Unknown b at width down n ys h = cons_nil _ _ h
+no_bits (Signal signal total lsb signed writer) b at width down n ys h = some_is_none _ _ h
+no_bits (Constant own value signed) b at width down n ys h = some_is_none _ _ (right_none ys _ h)
+no_bits (Turn own value signed) b at width down n ys h = some_is_none _ _ (right_none ys _ h)
+no_bits Genvar b at width down n ys h = some_is_none _ _ h
+no_bits Unknown b at width down n ys h = some_is_none _ _ h
 
 no_range : (m : Meaning) (low : ℤ) (width : ℕ) (n : Identifier) (ys zs : List Fault)
     → name_faults m ConstantOnly n ++ (ys ++ (zs ++ part_faults m low width n)) ≡ [] → ⊥
-no_range (Signal signal total lsb signed writer) low width n ys zs h = cons_nil _ _ h
+no_range (Signal signal total lsb signed writer) low width n ys zs h = some_is_none _ _ h
 no_range (Constant own value signed) low width n ys zs h =
-    cons_nil _ _ (right_none (fault_if (width == 0) (fault_at 32 n)) _ (right_none (fault_if (nat_lt 128 width) (fault_at 31 n)) _ (right_none zs _ (right_none ys _ h))))
+    some_is_none _ _ (right_none (fault_if (width == 0) (fault_at 32 n)) _ (right_none (fault_if (nat_lt 128 width) (fault_at 31 n)) _ (right_none zs _ (right_none ys _ h))))
 no_range (Turn own value signed) low width n ys zs h =
-    cons_nil _ _ (right_none (fault_if (width == 0) (fault_at 32 n)) _ (right_none (fault_if (nat_lt 128 width) (fault_at 31 n)) _ (right_none zs _ (right_none ys _ h))))
-no_range Genvar low width n ys zs h = cons_nil _ _ h
-no_range Unknown low width n ys zs h = cons_nil _ _ h
+    some_is_none _ _ (right_none (fault_if (width == 0) (fault_at 32 n)) _ (right_none (fault_if (nat_lt 128 width) (fault_at 31 n)) _ (right_none zs _ (right_none ys _ h))))
+no_range Genvar low width n ys zs h = some_is_none _ _ h
+no_range Unknown low width n ys zs h = some_is_none _ _ h
 
 no_run : (m : Meaning) (b : Bool) (at : ℤ) (width down : ℕ) (n : Identifier) (xs ys zs : List Fault)
     → name_faults m ConstantOnly n ++ (xs ++ (ys ++ (zs ++ run_faults m b at width down n))) ≡ [] → ⊥
-no_run (Signal signal total lsb signed writer) b at width down n xs ys zs h = cons_nil _ _ h
-no_run (Constant own value signed) b at width down n xs ys zs h = cons_nil _ _ (right_none zs _ (right_none ys _ (right_none xs _ h)))
-no_run (Turn own value signed) b at width down n xs ys zs h = cons_nil _ _ (right_none zs _ (right_none ys _ (right_none xs _ h)))
-no_run Genvar b at width down n xs ys zs h = cons_nil _ _ h
-no_run Unknown b at width down n xs ys zs h = cons_nil _ _ h
+no_run (Signal signal total lsb signed writer) b at width down n xs ys zs h = some_is_none _ _ h
+no_run (Constant own value signed) b at width down n xs ys zs h = some_is_none _ _ (right_none zs _ (right_none ys _ (right_none xs _ h)))
+no_run (Turn own value signed) b at width down n xs ys zs h = some_is_none _ _ (right_none zs _ (right_none ys _ (right_none xs _ h)))
+no_run Genvar b at width down n xs ys zs h = some_is_none _ _ h
+no_run Unknown b at width down n xs ys zs h = some_is_none _ _ h
 
 name_due : (m : Meaning) (n : Identifier) → name_faults m ConstantOnly n ≡ [] → not (is_signal m) ≡ true
-name_due (Signal signal width lsb signed writer) n h = absurd (cons_nil _ _ h)
+name_due (Signal signal width lsb signed writer) n h = some_is_none _ _ h
 name_due (Constant width value signed) n h = refl
 name_due (Turn width value signed) n h = refl
 name_due Genvar n h = refl

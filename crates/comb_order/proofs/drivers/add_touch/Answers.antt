@@ -1,8 +1,10 @@
 use Rattle.std.proofs.Common.{◌+◌, ◌∙◌, ◌||◌, ◌&&◌, ◌==◌, List, ap, sym, subst}
 use Rattle.typed_ir.specs.Touches.{has_bit}
+use Rattle.typed_ir.specs.Rows.{row_in}
+use Rattle.typed_ir.proofs.Rows.{row_read}
 use Rattle.comb_order.specs.declared.drivers.Driver.{Driver}
-use Rattle.comb_order.specs.Driving.{row_in, drives_in, Rises}
-use Rattle.comb_order.proofs.Tables.{touch_added, row_read}
+use Rattle.comb_order.specs.Driving.{drives_in, Rises}
+use Rattle.comb_order.proofs.Tables.{touch_added}
 use Rattle.comb_order.proofs.Rising.{one_rises}
 use Rattle.comb_order.proofs.drivers.add_touch.Goals as goal
 

@@ -1,6 +1,7 @@
 use Rattle.std.proofs.Common.{◌≡◌, ◌+◌, ◌<◌, ◌==◌, ◌&&◌, ◌||◌, ℕ, drop, length}
 use Rattle.typed_ir.specs.Touches.{touched}
-use Rattle.comb_order.specs.Driving.{row_in, drives_in, AllRise}
+use Rattle.typed_ir.specs.Rows.{row_in}
+use Rattle.comb_order.specs.Driving.{drives_in, AllRise}
 use Rattle.comb_order.proofs.drivers.add_touches.Given as goal
 
 abbrev pub invariant-loop-touch : goal.invariant-loop-touch

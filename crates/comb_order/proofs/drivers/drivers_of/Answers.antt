@@ -3,8 +3,9 @@ use Rattle.std.specs.Global.{Global}
 use Rattle.typed_ir.specs.FlatNodes.{node_of}
 use Rattle.typed_ir.specs.Nodes.{node_drives}
 use Rattle.typed_ir.specs.Touches.{touched}
+use Rattle.typed_ir.specs.Rows.{row_in}
 use Rattle.comb_order.specs.declared.drivers.Driver.{Driver}
-use Rattle.comb_order.specs.Driving.{row_in, drives_in, AllRise}
+use Rattle.comb_order.specs.Driving.{drives_in, AllRise}
 use Rattle.typed_ir.proofs.Lists.{written_back}
 use Rattle.comb_order.proofs.Tables.{at_more}
 use Rattle.comb_order.proofs.Rising.{none_rise, all_wider}

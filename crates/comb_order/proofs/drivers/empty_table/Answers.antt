@@ -1,7 +1,7 @@
 use Rattle.std.proofs.Common.{◌≡◌, ◌+◌, ◌∷◌, [], ◌∙◌, length, ap, arith}
 use Rattle.std.proofs.lemmas.List.{length-append}
-use Rattle.comb_order.specs.Driving.{row_in}
-use Rattle.comb_order.proofs.Tables.{row_more}
+use Rattle.typed_ir.specs.Rows.{row_in}
+use Rattle.typed_ir.proofs.Rows.{row_more}
 use Rattle.comb_order.proofs.drivers.empty_table.Goals as goal
 
 pub loop-signal-preserved : goal.loop-signal-preserved

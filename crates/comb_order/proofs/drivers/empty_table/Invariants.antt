@@ -1,5 +1,5 @@
 use Rattle.std.proofs.Common.{◌≡◌, ℕ, [], length}
-use Rattle.comb_order.specs.Driving.{row_in}
+use Rattle.typed_ir.specs.Rows.{row_in}
 use Rattle.comb_order.proofs.drivers.empty_table.Given as goal
 
 abbrev pub invariant-loop-signal : goal.invariant-loop-signal

@@ -1,7 +1,8 @@
 use Rattle.std.proofs.Common.{◌≡◌, ◌<◌, ℕ, take, length, map}
 use Rattle.typed_ir.specs.Cycles.{writes_at}
 use Rattle.typed_ir.specs.Statements.{stmt_of}
-use Rattle.comb_order.specs.Driving.{row_in, drives_in, AllRise}
+use Rattle.typed_ir.specs.Rows.{row_in}
+use Rattle.comb_order.specs.Driving.{drives_in, AllRise}
 use Rattle.comb_order.proofs.drivers.writers_of.Given as goal
 
 abbrev pub invariant-loop-k : goal.invariant-loop-k

@@ -1,7 +1,8 @@
 use Rattle.std.proofs.Common.{◌≡◌, ◌∙◌, ◌||◌, ◌&&◌, ◌==◌, not, false, ap, ap₂, sym, subst, nat_lt}
+use Rattle.typed_ir.proofs.Rows.{row_read}
 use Rattle.comb_order.specs.Graphs.{times, rows_of}
 use Rattle.comb_order.specs.Driving.{IsRow, common, edge}
-use Rattle.comb_order.proofs.Tables.{rows_row, row_read}
+use Rattle.comb_order.proofs.Tables.{rows_row}
 use Rattle.comb_order.proofs.Rows.{rows_set, edges_set, not_own}
 use Rattle.comb_order.proofs.edges.connect_driver.Goals as goal
 

@@ -1,8 +1,8 @@
 use Rattle.std.proofs.Common.{Vec, ◌∙◌, ap, sym}
 use Rattle.std.specs.Global.{Global}
+use Rattle.typed_ir.specs.Rows.{row_in}
+use Rattle.typed_ir.proofs.Rows.{row_read, row_past}
 use Rattle.comb_order.specs.declared.drivers.Driver.{Driver}
-use Rattle.comb_order.specs.Driving.{row_in}
-use Rattle.comb_order.proofs.Tables.{row_read, row_past}
 use Rattle.comb_order.proofs.edges.drivers_at.Goals as goal
 
 pub returns-then-index-table : goal.returns-then-index-table

@@ -1,7 +1,8 @@
 use Rattle.std.proofs.Common.{◌≡◌, ◌+◌, ◌∷◌, [], ◌∙◌, length, ap, sym, arith}
 use Rattle.std.proofs.lemmas.List.{length-append}
+use Rattle.typed_ir.proofs.Rows.{row_more}
 use Rattle.comb_order.specs.Graphs.{rows_of, row_at}
-use Rattle.comb_order.proofs.Tables.{row_more, rows_row}
+use Rattle.comb_order.proofs.Tables.{rows_row}
 use Rattle.comb_order.proofs.edges.empty_rows.Goals as goal
 
 pub loop-node-preserved : goal.loop-node-preserved

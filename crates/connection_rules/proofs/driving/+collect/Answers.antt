@@ -2,9 +2,9 @@ use Rattle.std.proofs.Common.{◌≡◌, ◌≤◌, ◌∙◌, List, map, sym, a
 use Rattle.verilog_ast.specs.declared.expression.Expr.{Expr}
 use Rattle.verilog_ast.specs.Expressions as e
 use Rattle.verilog_ast.specs.Views.{expression_of, parts_of}
+use Rattle.verilog_ast.proofs.Seen as seen
 use Rattle.width_rules.specs.Entries.{scope_of}
 use Rattle.width_rules.specs.Sizes.{length}
-use Rattle.width_rules.proofs.Nodes as node
 use Rattle.statement_rules.specs.Leaves.{leaf_of}
 use Rattle.connection_rules.proofs.Listing.{part_ahead, long_ahead, none_long, leaves_ahead}
 use Rattle.connection_rules.proofs.Written.{whole_long}
@@ -17,7 +17,7 @@ collect-returns-else-width-gt128-clause-width t c =
     let xs = c.as_slice.result.now in
     let same : e.Concatenation at (parts_of (map expression_of xs)) ≡ expression_of c.args.e.now =
     ap (λ (ys : List Expr). e.Concatenation at (parts_of (map expression_of ys))) c.as_slice.ensures
-    ∙ sym (ap expression_of c.in-Concatenation.is ∙ node.concatenation_is at _) in
+    ∙ sym (ap expression_of c.in-Concatenation.is ∙ seen.concatenation_seen at _) in
     let few : c.in_ok-width-in-Concatenation.width ≤ 128 = omega arith in
     whole_long scope at (parts_of (map expression_of xs)) c.in_ok-width-in-Concatenation.width c.in_ok-width-in-Concatenation.ensures.width few
     ∙ ap (length scope) same

@@ -13,10 +13,10 @@ use Rattle.reg_transform.specs.Beginnings.{initial_in}
 use Rattle.state_layout.specs.Slots.{state_widths}
 use Rattle.state_layout.proofs.Layouts.{width_read}
 use Rattle.reg_transform.specs.States.{paired}
-use Rattle.reg_transform.proofs.Values.{widths_same}
+use Rattle.reg_transform.proofs.Values.{pair, widths_same}
 use Rattle.cycle_eval.specs.DesignLaws.{paired_widths}
 use Rattle.cycle_eval.proofs.Loads.{pairs_of}
-use Rattle.cycle_eval.proofs.Carries.{initial_read, push_step, pair}
+use Rattle.cycle_eval.proofs.Carries.{initial_read, push_step}
 use Rattle.cycle_eval.proofs.carrying.beginnings.Goals as goal
 
 pub bounds-signals-place : goal.bounds-signals-place

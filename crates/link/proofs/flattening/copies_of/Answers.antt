@@ -3,14 +3,15 @@ use Rattle.typed_ir.specs.declared.stmt.Stmt.{Stmt}
 use Rattle.typed_ir.specs.Flats.{signal_of}
 use Rattle.typed_ir.specs.FlatNodes.{node_of}
 use Rattle.typed_ir.specs.Statements.{stmt_of}
+use Rattle.typed_ir.specs.Rows.{row_in}
 use Rattle.unit_ir.specs.declared.unit.Unit.{Unit as Unit'}
 use Rattle.unit_ir.specs.declared.unit_node.UnitNode.{UnitNode}
 use Rattle.unit_ir.specs.declared.unit_signal.UnitSignal.{UnitSignal}
 use Rattle.unit_ir.specs.Shifts.{shifted_stmt}
 use Rattle.unit_ir.specs.Trees.{signals_at, registers_at, nodes_at, blocks_at, node_there, signal_there}
 use Rattle.unit_ir.specs.Units.{signal_within, unit_node_of}
-use Rattle.link.specs.Copies.{path_at, row_in}
-use Rattle.link.proofs.Walking.{unit_stepped}
+use Rattle.link.specs.Copies.{path_at}
+use Rattle.link.proofs.Walking.{unit_stepped, all_stepped}
 use Rattle.link.proofs.flattening.copies_of.Goals as goal
 
 pub loop-i-preserved : goal.loop-i-preserved
@@ -50,3 +51,15 @@ loop-i-preserved c =
           (c.in_ok-add_blocks.ensures ∙ ap (λ (zs : List Stmt). map stmt_of c.loop-i.clocked.items ++ map (shifted_stmt first) (map stmt_of zs)) blocks)
           (c.loop-i.invariant.blocks_left path);
     }
+
+pub returns-clause-registers : goal.returns-clause-registers
+returns-clause-registers c = λ path. all_stepped registers_at path (row_in c.args.kids.now) c.args.units.now c.loop-i.i c.loop-i.first _ _
+    (omega (arith, c.loop-i-test.false)) (c.loop-i.invariant.registers_left path)
+
+pub returns-clause-nodes : goal.returns-clause-nodes
+returns-clause-nodes c = λ path. all_stepped nodes_at path (row_in c.args.kids.now) c.args.units.now c.loop-i.i c.loop-i.first _ _
+    (omega (arith, c.loop-i-test.false)) (c.loop-i.invariant.nodes_left path)
+
+pub returns-clause-clocked : goal.returns-clause-clocked
+returns-clause-clocked c = λ path. all_stepped blocks_at path (row_in c.args.kids.now) c.args.units.now c.loop-i.i c.loop-i.first _ _
+    (omega (arith, c.loop-i-test.false)) (c.loop-i.invariant.blocks_left path)

@@ -1,8 +1,9 @@
 use Rattle.std.proofs.Common.{◌≡◌, ◌<◌, List, length, sym, ◌∙◌, ap, subst}
 use Rattle.std.proofs.Math.Logic.{∥∥₁_elim, ∥∥₁_map}
 use Rattle.std.proofs.Props.{props}
+use Rattle.typed_ir.specs.Rows.{row_in}
 use Rattle.unit_ir.specs.declared.instance.Instance.{Instance}
-use Rattle.link.specs.Copies.{kids_in, places_of, row_in}
+use Rattle.link.specs.Copies.{kids_in, places_of}
 use Rattle.link.specs.Listings.{all_parts, entries_of}
 use Rattle.link.proofs.Forests.{rooted}
 use Rattle.link.proofs.Making.{Given, flat_is, keeps, few_nodes, signals_there}

@@ -1,7 +1,7 @@
 use Rattle.std.proofs.Common.{◌≡◌, ◌+◌, ◌∷◌, [], ◌∙◌, length, ap, arith}
 use Rattle.std.proofs.lemmas.List.{length-append}
-use Rattle.link.specs.Copies.{row_in}
-use Rattle.link.proofs.Rows.{row_more}
+use Rattle.typed_ir.specs.Rows.{row_in}
+use Rattle.typed_ir.proofs.Rows.{row_more}
 use Rattle.link.proofs.kids.empty_rows.Goals as goal
 
 pub loop-instance-preserved : goal.loop-instance-preserved

@@ -1,5 +1,5 @@
 use Rattle.std.proofs.Common.{◌≡◌, ℕ, [], length}
-use Rattle.link.specs.Copies.{row_in}
+use Rattle.typed_ir.specs.Rows.{row_in}
 use Rattle.link.proofs.kids.empty_rows.Given as goal
 
 abbrev pub invariant-loop-instance : goal.invariant-loop-instance

@@ -1,5 +1,6 @@
 use Rattle.std.proofs.Common.{◌≡◌, ◌++◌, ◌<◌, ℕ, drop, length}
-use Rattle.link.specs.Copies.{row_in, kids_in}
+use Rattle.typed_ir.specs.Rows.{row_in}
+use Rattle.link.specs.Copies.{kids_in}
 use Rattle.link.specs.Listings.{entries_of, all_parts}
 use Rattle.link.proofs.kids.note_kids.Given as goal
 

@@ -1,8 +1,8 @@
 use Rattle.std.proofs.Common.{◌∷◌, [], ℕ, List, Global, Vec, map, refl, subst}
 use Rattle.ls_text.specs.Texts.{IsIdOf}
-use Rattle.ls_text.proofs.Growth.{grows_on}
+use Rattle.ls_text.proofs.Growth.{grows_on, known_more}
 use Rattle.ls_text.specs.TextViews.{text_items, text_of}
-use Rattle.link.proofs.Spelled.{named_more, texts_more}
+use Rattle.link.proofs.Spelled.{texts_more}
 use Rattle.link.proofs.Steps.{stepped}
 use Rattle.link.proofs.naming.named.Goals as goal
 
@@ -21,6 +21,6 @@ loop-text-preserved c =
           c.loop-text-test.true c.text-item.is refl
           (texts_more old new ids next id text.items c.in_ok-id.ensures.grows c.loop-text.invariant.within c.in_ok-push.ensures.items known)
           c.loop-text.invariant.left;
-      within = named_more old new ids next id text.items c.in_ok-id.ensures.grows c.loop-text.invariant.within c.in_ok-push.ensures.items known;
+      within = known_more old new ids next id text.items c.in_ok-id.ensures.grows c.loop-text.invariant.within c.in_ok-push.ensures.items known;
       grows = grows_on c.args.names.now old new c.loop-text.invariant.grows c.in_ok-id.ensures.grows;
     }

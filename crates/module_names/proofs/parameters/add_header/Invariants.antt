@@ -1,6 +1,6 @@
 use Rattle.std.proofs.Common.{◌≡◌, ◌++◌, map, drop}
+use Rattle.verilog_ast.specs.Declarations.{header_parameter_name}
 use Rattle.verilog_ast.specs.Views.{header_parameter_of}
-use Rattle.module_names.specs.Modules.{header_parameter_name}
 use Rattle.module_names.proofs.parameters.add_header.Given as goal
 
 abbrev pub invariant-loop-one : goal.invariant-loop-one

@@ -1,8 +1,8 @@
 use Rattle.std.proofs.Common.{◌≡◌, ◌++◌, map, drop}
+use Rattle.verilog_ast.specs.Declarations.{header_parameter_name}
 use Rattle.verilog_ast.specs.Views.{header_parameter_of}
-use Rattle.module_registry.specs.Constants.{header_name}
 use Rattle.module_registry.proofs.constant_names.add_header.Given as goal
 
 abbrev pub invariant-loop-one : goal.invariant-loop-one
 invariant-loop-one l =
-    l.names.items ++ map header_name (map header_parameter_of (drop l.one-index l.all)) ≡ l.fn.names.items ++ map header_name (map header_parameter_of l.all)
+    l.names.items ++ map header_parameter_name (map header_parameter_of (drop l.one-index l.all)) ≡ l.fn.names.items ++ map header_parameter_name (map header_parameter_of l.all)

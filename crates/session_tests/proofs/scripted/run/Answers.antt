@@ -2,11 +2,9 @@ use Rattle.std.proofs.Common.{ap, rules, subst, sym}
 use denote.Param.Send.{sendable}
 use Rattle.std.proofs.Crossing.{crosses}
 use Rattle.book_history.specs.Book.{Settings as BookSettings}
-use Rattle.book_turn.specs.Passes.{known}
 use Rattle.live_session.specs.AtTurn.{StandsAt}
 use Rattle.cycle_eval.proofs.DesignsShared.{design_send, design_sync, inputs_send, inputs_sync, ops_send, ops_sync, state_send}
-use Rattle.live_session.proofs.StandingAtTurn.{made_at}
-use Rattle.session_tests.proofs.Standing.{split_stands}
+use Rattle.live_session.proofs.StandingAtTurn.{made_at, split_stands}
 use Rattle.session_tests.proofs.scripted.run.Goals as goal
 
 pub new-requires-3-send-M : goal.new-requires-3-send-M

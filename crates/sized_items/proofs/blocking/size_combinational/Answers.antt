@@ -1,6 +1,5 @@
-use Rattle.std.proofs.Common.{ℕ, ◌∙◌, ap, ap₂}
+use Rattle.std.proofs.Common.{◌∙◌, ap, ap₂}
 use Rattle.typed_ir.specs.declared.shown_target.ShownTarget.{ShownTarget}
-use Rattle.typed_ir.specs.declared.target_form.TargetForm.{TargetForm}
 use Rattle.typed_ir.specs.Nodes.{Block}
 use Rattle.typed_ir.specs.Statements.{stmt_of}
 use Rattle.typed_ir.specs.Stmts.{SizedStmt}
@@ -11,12 +10,10 @@ use Rattle.width_rules.specs.declared.writer.Writer.TheVariants as writer
 use Rattle.width_rules.specs.Entries.{scope_of}
 use Rattle.item_mentions.specs.Forms.{first_number, statement_shown}
 use Rattle.item_mentions.specs.Mentions.{statement_reads, statement_targets}
+use Rattle.item_mentions.proofs.Shown.{shown_with}
 use Rattle.statement_rules.specs.Statements.{sized_statement}
 use Rattle.sized_items.proofs.Placed.{placed_is}
 use Rattle.sized_items.proofs.blocking.size_combinational.Goals as goal
-
-abbrev shown_with : ℕ → TargetForm → ShownTarget
-shown_with k form = record { number = k; form = form }
 
 pub returns-clause-item : goal.returns-clause-item
 returns-clause-item c =

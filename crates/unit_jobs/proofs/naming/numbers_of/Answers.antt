@@ -1,7 +1,7 @@
 use Rattle.std.proofs.Common.{ℕ, List, subst}
 use Rattle.ls_text.specs.Texts.{IsIdOf}
-use Rattle.ls_text.proofs.Growth.{grows_on}
-use Rattle.unit_jobs.proofs.Numbers.{known_more, text_more}
+use Rattle.ls_text.proofs.Growth.{grows_on, known_more}
+use Rattle.unit_jobs.proofs.Numbers.{text_more}
 use Rattle.unit_jobs.proofs.naming.numbers_of.Goals as goal
 
 pub loop-text-preserved : goal.loop-text-preserved

@@ -1,7 +1,7 @@
 use Rattle.std.proofs.Common.{◌≡◌, ◌++◌, All, map, drop, length}
 use Rattle.ls_text.specs.Texts.{Grows}
+use Rattle.ls_text.proofs.Growth.{IsKnown}
 use Rattle.ls_text.specs.TextViews.{text_items, text_of}
-use Rattle.unit_jobs.proofs.Numbers.{IsKnown}
 use Rattle.unit_jobs.proofs.naming.numbers_of.Given as goal
 
 -- the texts so far, and those that are left

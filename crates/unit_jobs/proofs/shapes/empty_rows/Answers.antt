@@ -1,7 +1,7 @@
 use Rattle.std.proofs.Common.{◌≡◌, ◌+◌, ◌∷◌, [], ◌∙◌, length, ap, arith}
 use Rattle.std.proofs.lemmas.List.{length-append}
-use Rattle.unit_jobs.specs.Rows.{row_in}
-use Rattle.unit_jobs.proofs.Rows.{row_more}
+use Rattle.typed_ir.specs.Rows.{row_in}
+use Rattle.typed_ir.proofs.Rows.{row_more}
 use Rattle.unit_jobs.proofs.shapes.empty_rows.Goals as goal
 
 pub loop-instance-preserved : goal.loop-instance-preserved

@@ -1,5 +1,5 @@
 use Rattle.std.proofs.Common.{◌≡◌, ℕ, [], length}
-use Rattle.unit_jobs.specs.Rows.{row_in}
+use Rattle.typed_ir.specs.Rows.{row_in}
 use Rattle.unit_jobs.proofs.shapes.empty_rows.Given as goal
 
 abbrev pub invariant-loop-instance : goal.invariant-loop-instance

@@ -1,5 +1,6 @@
 use Rattle.std.proofs.Common.{◌≡◌, ◌++◌, ◌<◌, ℕ, drop, length}
-use Rattle.unit_jobs.specs.Rows.{row_in, shapes_in}
+use Rattle.typed_ir.specs.Rows.{row_in}
+use Rattle.unit_jobs.specs.Rows.{shapes_in}
 use Rattle.unit_jobs.proofs.shapes.note_children.Given as goal
 
 -- the rows so far, and what is left

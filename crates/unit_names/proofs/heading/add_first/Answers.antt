@@ -1,7 +1,7 @@
 use Rattle.std.proofs.Common.{◌≡◌, ◌++◌, ap, sym, ◌∙◌, append-nil, OnOk, subst, arith}
 use Rattle.std.specs.Prelude.{Option}
+use Rattle.std.specs.Option.{option_to_list}
 use Rattle.std.proofs.lemmas.List.{length-map}
-use Rattle.unit_names.specs.Numbers.{if_any}
 use Rattle.unit_names.specs.NumberingViews.{numbered_in}
 use Rattle.unit_names.specs.Signals.{NamedSignal, is_port_named}
 use Rattle.unit_names.specs.SignalViews.{signal_of}
@@ -20,7 +20,7 @@ index-requires c =
 pub returns-in-Some-clause-signals : goal.returns-in-Some-clause-signals
 returns-in-Some-clause-signals c =
     let q = c.args.name.name.0 in
-    subst (λ (o : Option NamedSignal). OnOk c.add.result (numbered_in c.add.new.numbering ≡ numbered_in c.args.numbering.now ++ if_any o))
+    subst (λ (o : Option NamedSignal). OnOk c.add.result (numbered_in c.add.new.numbering ≡ numbered_in c.args.numbering.now ++ option_to_list o))
     (sym (port_there c.args.table.now.signals.items c.in-Some.place c.index.result.now q (sym (c.requires.placed.found q) ∙ sym c.find.ensures ∙ c.in-Some.is) c.index.ensures))
     c.add.ensures.signals
 
@@ -28,5 +28,5 @@ pub returns-in-None-clause-signals : goal.returns-in-None-clause-signals
 returns-in-None-clause-signals c =
     let q = c.args.name.name.0 in
     sym (append-nil (numbered_in c.args.numbering.now))
-    ∙ ap (λ (o : Option NamedSignal). numbered_in c.args.numbering.now ++ if_any o)
+    ∙ ap (λ (o : Option NamedSignal). numbered_in c.args.numbering.now ++ option_to_list o)
     (sym (first_nowhere (is_port_named q) (signals_of c.args.table.now) (sym c.in-None.is ∙ c.find.ensures ∙ c.requires.placed.found q)))

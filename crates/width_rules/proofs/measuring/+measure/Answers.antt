@@ -2,6 +2,7 @@ use Rattle.std.proofs.Common.{rules, ◌≡◌, ◌<◌, ◌≤◌, ◌*◌, ◌
 use Rattle.verilog_ast.specs.Expressions as e
 use Rattle.verilog_ast.specs.Expressions.{Expression}
 use Rattle.verilog_ast.specs.Views.{expression_of, reference_of, parts_of}
+use Rattle.verilog_ast.proofs.Seen as seen
 use Rattle.width_rules.specs.Entries.{scope_of}
 use Rattle.typed_ir.specs.Forms.{sized}
 use Rattle.width_rules.specs.Sizes.{length, joined, count_of, is_constant}
@@ -21,7 +22,7 @@ pub measure-returns-in-Binary-clause-length : goal.measure-returns-in-Binary-cla
 measure-returns-in-Binary-clause-length t c =
     let same : e.Binary c.in-Binary.op (expression_of c.get-in-Binary.result.now) (expression_of c.get-in-Binary-2.result.now) ≡ expression_of c.args.e.now =
     ap₂ (e.Binary c.in-Binary.op) (ap expression_of c.get-in-Binary.ensures) (ap expression_of c.get-in-Binary-2.ensures)
-    ∙ sym (ap expression_of c.in-Binary.is ∙ node.binary_is c.in-Binary.op _ _) in
+    ∙ sym (ap expression_of c.in-Binary.is ∙ seen.binary_seen c.in-Binary.op _ _) in
     subst (λ (x : Expression). IfOk c.binary.result (λ m. m.length ≡ length (scope_of c.args.scope.now) x)) same c.binary.ensures.length
 
 pub measure-returns-in-Bracketed-clause-length : goal.measure-returns-in-Bracketed-clause-length
@@ -30,7 +31,7 @@ measure-returns-in-Bracketed-clause-length t c =
     let inner = expression_of c.get-in-Bracketed.result.now in
     let same : e.Bracketed c.in-Bracketed.field-0 inner ≡ expression_of c.args.e.now =
     ap (e.Bracketed c.in-Bracketed.field-0) (ap expression_of c.get-in-Bracketed.ensures)
-    ∙ sym (ap expression_of c.in-Bracketed.is ∙ node.bracketed_is c.in-Bracketed.field-0 _) in
+    ∙ sym (ap expression_of c.in-Bracketed.is ∙ seen.bracketed_seen c.in-Bracketed.field-0 _) in
     subst (λ (x : Expression). IfOk c.measure.result (λ m. m.length ≡ length scope x)) same
     (subst (λ (n : ℕ). IfOk c.measure.result (λ m. m.length ≡ n)) (sym (row.bracketed_is scope c.in-Bracketed.field-0 inner)) c.measure.ensures.length)
 
@@ -48,7 +49,7 @@ read-returns-in-Upward-clause-length t c =
     let y = expression_of c.get-in-Upward-2.result.now in
     let same : e.UpwardSelect c.in-Upward.name x y ≡ reference_of c.args.reference.now =
     ap₂ (e.UpwardSelect c.in-Upward.name) (ap expression_of c.get-in-Upward.ensures) (ap expression_of c.get-in-Upward-2.ensures)
-    ∙ sym (ap reference_of c.in-Upward.is ∙ node.upward_is c.in-Upward.name _ _) in
+    ∙ sym (ap reference_of c.in-Upward.is ∙ seen.upward_seen c.in-Upward.name _ _) in
     subst (λ (n : ℕ). IfOk c.run.result (λ m. m.length ≡ n)) (sym (row.upward_is scope c.in-Upward.name x y) ∙ ap (length scope) same) c.run.ensures.length
 
 pub read-returns-in-Downward-clause-length : goal.read-returns-in-Downward-clause-length
@@ -58,7 +59,7 @@ read-returns-in-Downward-clause-length t c =
     let y = expression_of c.get-in-Downward-2.result.now in
     let same : e.DownwardSelect c.in-Downward.name x y ≡ reference_of c.args.reference.now =
     ap₂ (e.DownwardSelect c.in-Downward.name) (ap expression_of c.get-in-Downward.ensures) (ap expression_of c.get-in-Downward-2.ensures)
-    ∙ sym (ap reference_of c.in-Downward.is ∙ node.downward_is c.in-Downward.name _ _) in
+    ∙ sym (ap reference_of c.in-Downward.is ∙ seen.downward_seen c.in-Downward.name _ _) in
     subst (λ (n : ℕ). IfOk c.run-in-Downward.result (λ m. m.length ≡ n)) (sym (row.downward_is scope c.in-Downward.name x y) ∙ ap (length scope) same) c.run-in-Downward.ensures.length
 
 pub run-returns-clause-length : goal.run-returns-clause-length
