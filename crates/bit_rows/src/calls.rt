@@ -3,7 +3,7 @@ ghost use Rattle.std.specs.Prelude.{◌≡◌};
 
 use crate::numbers::Numbers;
 use bits::Bits;
-use no_memory::NoMemory;
+use ls_text::NoMemory;
 use row_tables::push_hex;
 
 // A value, with a digit for each four bits, and a space.

@@ -3,7 +3,7 @@ ghost use Rattle.std.specs.Prelude.{◌≤◌};
 
 use crate::number::Number;
 use bits::Bits;
-use no_memory::NoMemory;
+use ls_text::NoMemory;
 use std::alloc::Global;
 
 /// The numbers of a row, in hexadecimal, which spaces part; a `-` stands before one below zero.

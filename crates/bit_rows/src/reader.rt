@@ -3,7 +3,7 @@ use crate::calls::{
     bits_one_by_one, joined, quotients, runs_read, runs_written, shifts, sums, widths,
 };
 use crate::numbers::Numbers;
-use no_memory::NoMemory;
+use ls_text::NoMemory;
 use row_tables::Reader;
 use std::alloc::Global;
 

@@ -4,7 +4,7 @@ ghost use Rattle.typed_ir.specs.Valuations.{nowhere};
 ghost use Rattle.typed_ir.specs.Touches.{has_bit};
 ghost use Rattle.block_rules.specs.Tables.{size, bits_of};
 
-use no_memory::NoMemory;
+use ls_text::NoMemory;
 use std::alloc::Global;
 use typed_ir::SignalId;
 

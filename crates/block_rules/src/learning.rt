@@ -7,7 +7,7 @@ ghost use Rattle.typed_ir.specs.Touches.{has_bit, touched, Adds};
 ghost use Rattle.block_rules.specs.Tables.{size, bits_of, Leads};
 
 use crate::bit_table::BitTable;
-use no_memory::NoMemory;
+use ls_text::NoMemory;
 use std::alloc::Global;
 use typed_ir::{SignalId, Span, Target, Touch, run_mask};
 

@@ -3,7 +3,7 @@ ghost use Rattle.std.specs.Prelude.{◌≡◌, IfOk};
 ghost use Rattle.block_rules.specs.Tables.{signals_of, AreBlank};
 
 use crate::bit_table::BitTable;
-use no_memory::NoMemory;
+use ls_text::NoMemory;
 use std::alloc::Global;
 
 /// For each signal the bits that a block may write, and those that are written at a place of it. Between two calls there are none.

@@ -11,7 +11,7 @@ use crate::path_tables::PathTables;
 use crate::reading::is_open;
 use crate::targets::targets_in;
 use crate::walking::walk;
-use no_memory::NoMemory;
+use ls_text::NoMemory;
 use std::alloc::Global;
 use typed_ir::{SignalId, Stmt, Touch};
 

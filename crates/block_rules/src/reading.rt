@@ -9,7 +9,7 @@ ghost use Rattle.block_rules.specs.Tables.{size, bits_of};
 
 use crate::bit_table::BitTable;
 use crate::learning::{forget, learn_span};
-use no_memory::NoMemory;
+use ls_text::NoMemory;
 use std::alloc::Global;
 use typed_ir::{Form, Item, SignalId, Span, Target, run_mask};
 

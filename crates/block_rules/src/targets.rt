@@ -4,7 +4,7 @@ ghost use Rattle.typed_ir.specs.Stmts.{span_of, targets, arm_targets};
 ghost use Rattle.typed_ir.specs.Targets.{targets_of};
 ghost use Rattle.typed_ir.specs.Statements.{stmt_of, arm_of, sequence_of, arms_before};
 
-use no_memory::NoMemory;
+use ls_text::NoMemory;
 use std::alloc::Global;
 use typed_ir::{Arm, Span, Stmt, Target, span_of};
 

@@ -9,7 +9,7 @@ ghost use Rattle.block_rules.specs.Tables.{size, bits_of, SameBelow, Leads, comm
 use crate::bit_table::BitTable;
 use crate::learning::{forget, learn_all, learn_parts, shared};
 use crate::reading::{flag_form, flag_indices, flag_items, flag_parts};
-use no_memory::NoMemory;
+use ls_text::NoMemory;
 use std::alloc::Global;
 use typed_ir::{Arm, Stmt, Touch};
 

@@ -10,7 +10,7 @@ use Rattle.book_history.specs.declared.entry.Entry.{Entry}
 use Rattle.book_history.specs.declared.load.Load.{Load}
 use Rattle.book_history.specs.declared.written.Written.{Written}
 use Rattle.book_history.specs.Book.{Event, Settings, Runs}
-use Rattle.no_memory.specs.declared.NoMemory.{NoMemory}
+use Rattle.ls_text.specs.declared.no_memory.NoMemory.{NoMemory}
 use Rattle.machine.proofs.Runs.{end_is}
 use Rattle.book_history.specs.Entries.{IsBare}
 use Rattle.book_history.specs.Journal.{Journal}

@@ -1,7 +1,6 @@
 // Rows and records worked out by hand.
-use ls_text::NameId;
+use ls_text::{NameId, NoMemory};
 use machine::row_runs::RowRuns;
-use no_memory::NoMemory;
 use std::alloc::Global;
 use std::process::Abort;
 use std::sync::Arc;

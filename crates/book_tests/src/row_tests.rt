@@ -1,13 +1,13 @@
 // The smallest machine over rows whose sums are worked by hand.
 ghost use Rattle.std.specs.Prelude.{◌≡◌, ◌<◌, ◌∷◌, [], IfOk};
 
+use ls_text::NoMemory;
 use machine::Machine;
 use machine::merge::{merge_at, merged_rows};
 use machine::row_run::RowRun;
 use machine::row_runs::RowRuns;
 use machine::steps::Steps;
 use machine::tally::TallyMachine;
-use no_memory::NoMemory;
 use std::alloc::Global;
 use std::marker::Brand;
 use std::sync::Arc;

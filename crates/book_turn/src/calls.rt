@@ -18,7 +18,7 @@ use crate::waiting::Waiting;
 use crate::workers::Workers;
 use book_history::historied::Historied;
 use crossbeam_queue::RuledArrayQueue;
-use no_memory::NoMemory;
+use ls_text::NoMemory;
 use std::alloc::Global;
 use std::sync::Wait;
 

@@ -5,8 +5,8 @@ ghost use Rattle.checkpoint_book.specs.Idle.{left_of};
 use crate::left::Left;
 use crate::opened::Opened;
 use book_history::version::Version;
+use ls_text::NoMemory;
 use machine::Machine;
-use no_memory::NoMemory;
 use std::alloc::Global;
 use std::sync::Arc;
 

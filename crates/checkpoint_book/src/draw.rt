@@ -14,8 +14,8 @@ use book_history::history_writer::HistoryWriter;
 use book_history::link::Link;
 use book_history::segment::Segment;
 use book_history::who::Who;
+use ls_text::NoMemory;
 use machine::Machine;
-use no_memory::NoMemory;
 use std::alloc::Global;
 use std::sync::Arc;
 

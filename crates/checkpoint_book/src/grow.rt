@@ -10,10 +10,10 @@ use crate::marks::{more_marks, stay_few};
 use crate::opened::Opened;
 use book_history::link::Link;
 use book_history::segment::Segment;
+use ls_text::NoMemory;
 use machine::Machine;
 use machine::row_runs::RowRuns;
 use machine::steps::Steps;
-use no_memory::NoMemory;
 use std::alloc::Global;
 use std::sync::ledger::Ledger;
 

@@ -6,7 +6,7 @@ ghost use Rattle.checkpoint_book.specs.Idle.{left_of};
 use crate::idle::{left_of, left_of_both};
 use crate::opened::Opened;
 use book_history::segment::Segment;
-use no_memory::NoMemory;
+use ls_text::NoMemory;
 
 /// `More`: they come behind those that are there. `All`: marks were thinned on the way, and these are in place of them.
 #[derive(Drop)]

@@ -7,10 +7,10 @@ ghost use Rattle.checkpoint_book.specs.Grid.{AgreeFrom};
 use crate::grow::{last, next_cycle};
 use book_history::link::Link;
 use book_history::segment::Segment;
+use ls_text::NoMemory;
 use machine::Machine;
 use machine::row_runs::RowRuns;
 use machine::steps::Steps;
-use no_memory::NoMemory;
 use std::alloc::Global;
 use std::sync::ledger::Ledger;
 

@@ -8,10 +8,10 @@ ghost use Rattle.checkpoint_book.specs.Renew.{kept_count, carried_over, Rises};
 use crate::grow::last;
 use book_history::link::Link;
 use book_history::segment::Segment;
+use ls_text::NoMemory;
 use machine::Machine;
 use machine::row_runs::RowRuns;
 use machine::steps::Steps;
-use no_memory::NoMemory;
 use std::alloc::Global;
 use std::sync::ledger::Ledger;
 

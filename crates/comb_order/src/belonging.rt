@@ -7,7 +7,7 @@ ghost use Rattle.comb_order.specs.Parts.{spans_in, none_in, blocks_in};
 
 use crate::members::Members;
 use indexmap::IndexSet;
-use no_memory::NoMemory;
+use ls_text::NoMemory;
 use std::alloc::Global;
 use typed_ir::{SignalId, Span, Stmt, later_spans};
 

@@ -9,7 +9,7 @@ ghost use Rattle.typed_ir.specs.Rows.{row_in};
 ghost use Rattle.comb_order.specs.Driving.{drives_in, Rises, AllRise};
 
 use crate::driver_id::DriverId;
-use no_memory::NoMemory;
+use ls_text::NoMemory;
 use std::alloc::Global;
 use typed_ir::{Node, Stmt, Touch, drives_of, later_spans, touches_of};
 

@@ -7,7 +7,7 @@ ghost use Rattle.comb_order.specs.Graphs.{times, rows_of, row_at};
 ghost use Rattle.comb_order.specs.Driving.{common, drives_some, drives_any, edge, ends_with, IsRow, AreRows, IsTable, IsPlain, IsGraph};
 
 use crate::drivers::Driver;
-use no_memory::NoMemory;
+use ls_text::NoMemory;
 use std::alloc::Global;
 use typed_ir::{Node, NodeId, SignalId, Touch, reads_of};
 

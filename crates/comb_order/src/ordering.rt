@@ -11,7 +11,7 @@ use crate::drivers::drivers_of;
 use crate::edges::edges_of;
 use crate::ranking::ranks_of;
 use crate::refusing::{OrderRefusal, ordered};
-use no_memory::NoMemory;
+use ls_text::NoMemory;
 use std::alloc::Global;
 use typed_ir::{Flat, Linked, NodeId};
 

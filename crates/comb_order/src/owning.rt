@@ -1,6 +1,6 @@
 // The instance that each node belongs to: the least of those whose signals it drives or reads, which of a connection is the outer one.
 // A port with a constant is driven within the inner one, like a constant of its own; so what reads nothing stands alone too.
-use no_memory::NoMemory;
+use ls_text::NoMemory;
 use std::alloc::Global;
 use typed_ir::{InstanceId, Node, Signal, SignalId, Touch, drives_of, reads_of};
 

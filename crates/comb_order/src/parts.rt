@@ -15,7 +15,7 @@ use crate::drivers::{Driver, drivers_of, writers_of};
 use crate::legal::{are_below, are_clocked, are_legal};
 use crate::undriven::{are_undriven, rows_apart};
 use bits::Bits;
-use no_memory::NoMemory;
+use ls_text::NoMemory;
 use std::alloc::Global;
 use typed_ir::{Flat, InstanceTable, Node, Signal, SignalId, Stmt};
 

@@ -14,7 +14,7 @@ use crate::owning::{Belonging, belongings_of};
 use crate::passing_over::graph_over;
 use crate::positions::positions_of;
 use crate::units::Units;
-use no_memory::NoMemory;
+use ls_text::NoMemory;
 use std::alloc::{AllocError, Global};
 use typed_ir::{Flat, InstanceName, NodeId};
 

@@ -5,8 +5,7 @@ ghost use Rattle.command_read.specs.Known.{is_known};
 
 use crate::{FileLine, LoadLine};
 use indexmap::IndexSet;
-use ls_text::NameId;
-use no_memory::NoMemory;
+use ls_text::{NameId, NoMemory};
 use std::alloc::Global;
 
 /// The files that a block gives and those that it loads, each in line order. Whether one has a name is found by the hash of the name's id.

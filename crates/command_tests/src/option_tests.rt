@@ -1,6 +1,6 @@
 // That the words of a command line ask for these options.
 use live_options::{Options, read_options};
-use no_memory::NoMemory;
+use ls_text::NoMemory;
 use std::alloc::Global;
 use std::test::Fail;
 

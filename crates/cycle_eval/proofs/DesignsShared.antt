@@ -4,8 +4,8 @@ use Rattle.std.proofs.Crossing.{crosses}
 use Rattle.typed_ir.proofs.Sent.{linked_field_send, linked_field_sync}
 use Rattle.word_steps.specs.contracts.op.Op as OpRow
 use Rattle.word_steps.specs.contracts.step.Step as StepRow
-use Rattle.step_layout.specs.contracts.constants.Constants as ConstantsRow
-use Rattle.step_layout.specs.contracts.layout.Layout as PlacesRow
+use Rattle.design_steps.specs.contracts.constants.Constants as ConstantsRow
+use Rattle.design_steps.specs.contracts.layout.Layout as PlacesRow
 use Rattle.design_steps.specs.contracts.program.Program as ProgramRow
 use Rattle.state_pages.specs.contracts.pages.Pages as PagesRow
 use Rattle.state_layout.specs.contracts.layout.Layout as LayoutRow

@@ -7,10 +7,10 @@ ghost use Rattle.stimulus.specs.SameRows.{same_is as alike_is};
 ghost use Rattle.cycle_eval.specs.DesignLaws.{run_more, run_fits, reset_fits, carried_fits};
 
 use crate::design::Design;
+use ls_text::NoMemory;
 use machine::Machine;
 use machine::row_runs::RowRuns;
 use machine::steps::Steps;
-use no_memory::NoMemory;
 use reg_ops::RegOps;
 use state_layout::SlotState;
 use std::alloc::Global;

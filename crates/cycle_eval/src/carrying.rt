@@ -10,7 +10,7 @@ ghost use Rattle.reg_transform.specs.States.{paired};
 
 use crate::design::Design;
 use bits::Bits;
-use no_memory::NoMemory;
+use ls_text::NoMemory;
 use reg_ops::RegOp;
 use reg_transform::carry_state;
 use state_layout::{Layout, SlotState};

@@ -9,9 +9,9 @@ ghost use Rattle.cycle_eval.specs.Kits.{Fits, driven};
 ghost use Rattle.reg_transform.specs.States.{state_values};
 
 use crate::design::Design;
+use ls_text::NoMemory;
 use machine::row_runs::RowRuns;
 use machine::steps::Steps;
-use no_memory::NoMemory;
 use state_layout::SlotState;
 use std::alloc::Global;
 use std::sync::ledger::Ledger;

@@ -10,7 +10,7 @@ ghost use Rattle.cycle_eval.specs.Kits.{Fits};
 
 use crate::design::Design;
 use bits::Bits;
-use no_memory::NoMemory;
+use ls_text::NoMemory;
 use state_layout::SlotState;
 use typed_ir::RegisterId;
 

@@ -11,13 +11,13 @@ use Rattle.typed_ir.specs.Touches.{all_reads, all_arm_reads}
 use Rattle.typed_ir.proofs.Cases.{left_or, right_or, and_left, and_right, only_left}
 use Rattle.word_steps.specs.declared.step.Step.{Step}
 use Rattle.word_steps.specs.declared.op.Op.TheVariants.{Copy, Select, Choose, Join, Product, Pick as PickStep, Or, SkipIfZero, SkipIfEqual, SkipUnlessEqual}
-use Rattle.step_layout.proofs.Testing.{Asks, asks}
+use Rattle.design_steps.proofs.Testing.{Asks, asks}
 use Rattle.typed_ir.specs.declared.comparison.Comparison.{Comparison}
 use Rattle.typed_ir.specs.declared.binary_operator.BinaryOperator.TheVariants.{Compare}
 use Rattle.typed_ir.proofs.Lists.{joined_so, each_left, each_right}
-use Rattle.step_layout.specs.Plans.{Plan, width_at}
-use Rattle.step_layout.specs.Expressions.{step, is_wide, unary_op, binary_op, swaps, locate_op, resize_op, resize_low, is_plain, operand, before, code}
-use Rattle.step_layout.specs.Statements.{signal_of, is_direct, part_code, parts_code, one_code, assign_code, pass_over, branch, Test, Truth, Pair, test_of, test_code, condition, subject_at, item_at, item_code, tests, stmt_code, arms_code}
+use Rattle.design_steps.specs.Plans.{Plan, width_at}
+use Rattle.design_steps.specs.Expressions.{step, is_wide, unary_op, binary_op, swaps, locate_op, resize_op, resize_low, is_plain, operand, before, code}
+use Rattle.design_steps.specs.Statements.{signal_of, is_direct, part_code, parts_code, one_code, assign_code, pass_over, branch, Test, Truth, Pair, test_of, test_code, condition, subject_at, item_at, item_code, tests, stmt_code, arms_code}
 use Rattle.design_steps.proofs.Written.{span_there, within_own}
 
 -- ---- plain facts

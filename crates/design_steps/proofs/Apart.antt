@@ -11,10 +11,10 @@ use Rattle.typed_ir.specs.Valuations.{Valuation}
 use Rattle.typed_ir.specs.Nodes.{FlatNode}
 use Rattle.typed_ir.proofs.Cases.{by_cases}
 use Rattle.typed_ir.proofs.Widths.{at_most_a_word}
-use Rattle.step_layout.specs.declared.layout.Layout.{Layout}
-use Rattle.step_layout.specs.Plans.{IsApart, IsReady, IsAlone, width_at}
-use Rattle.step_layout.specs.Pools.{or_end, spot}
-use Rattle.step_layout.specs.Views.{plan_of}
+use Rattle.design_steps.specs.declared.layout.Layout.{Layout}
+use Rattle.design_steps.specs.Plans.{IsApart, IsReady, IsAlone, width_at}
+use Rattle.design_steps.specs.Pools.{or_end, spot}
+use Rattle.design_steps.specs.Views.{plan_of}
 use Rattle.design_steps.specs.Namings.{IsAlias}
 use Rattle.design_steps.specs.Layings.{own, next_of, with_places, with_slots, clocking_plan, own_plan, view_of, writes, signals_of, mark_of, LaysOut}
 use Rattle.design_steps.proofs.Counting.{run_in, run_out, below_all}

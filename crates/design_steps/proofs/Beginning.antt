@@ -13,10 +13,10 @@ use Rattle.typed_ir.specs.Cycles.{fill, IsReady as IsBased}
 use Rattle.typed_ir.specs.Linkeds.{flat}
 use Rattle.typed_ir.proofs.Cases.{by_cases}
 use Rattle.word_steps.specs.Walks.{env_of}
-use Rattle.step_layout.specs.declared.layout.Layout.{Layout}
-use Rattle.step_layout.specs.Plans.{IsReady, signals, width_at}
-use Rattle.step_layout.specs.Pools.{or_end, spot}
-use Rattle.step_layout.specs.Views.{plan_of}
+use Rattle.design_steps.specs.declared.layout.Layout.{Layout}
+use Rattle.design_steps.specs.Plans.{IsReady, signals, width_at}
+use Rattle.design_steps.specs.Pools.{or_end, spot}
+use Rattle.design_steps.specs.Views.{plan_of}
 use Rattle.design_steps.specs.Layings.{LaysOut, own_plan, clocking_plan, signals_of}
 use Rattle.design_steps.specs.Programs.{AreNext}
 use Rattle.design_steps.specs.Moves.{moved, env_by}

@@ -14,12 +14,12 @@ use Rattle.typed_ir.specs.FlatNodes.{node_of}
 use Rattle.typed_ir.proofs.Cases.{by_cases, and_left, and_right}
 use Rattle.typed_ir.proofs.Mentions.{reads_foreign}
 use Rattle.typed_ir.proofs.Lists.{each_left, each_right, each_append, each_weaker}
-use Rattle.step_layout.specs.declared.layout.Layout.{Layout}
-use Rattle.step_layout.specs.Plans.{IsKnown, width_at}
-use Rattle.step_layout.specs.Statements.{stmt_constants, stmt_code}
-use Rattle.step_layout.specs.Nodes.{as_statement, node_at, in_order}
-use Rattle.step_layout.specs.Views.{plan_of}
-use Rattle.step_layout.proofs.Passing.{node_legal}
+use Rattle.design_steps.specs.declared.layout.Layout.{Layout}
+use Rattle.design_steps.specs.Plans.{IsKnown, width_at}
+use Rattle.design_steps.specs.Statements.{stmt_constants, stmt_code}
+use Rattle.design_steps.specs.Nodes.{as_statement, node_at, in_order}
+use Rattle.design_steps.specs.Views.{plan_of}
+use Rattle.design_steps.proofs.Passing.{node_legal}
 use Rattle.design_steps.specs.declared.naming.Naming.{Naming}
 use Rattle.design_steps.specs.Pooled.{nodes_constants}
 use Rattle.design_steps.specs.Namings.{is_shared, kept, Names, LeadsTo, Itself, Over, IsAlias}

@@ -13,8 +13,8 @@ use Rattle.typed_ir.proofs.Cases.{by_cases}
 use Rattle.typed_ir.proofs.Lists.{drop_read, each_append, each_weaker, each_left, each_right}
 use Rattle.typed_ir.proofs.Listed.{arm_is}
 use Rattle.typed_ir.proofs.Members.{member_left, member_right}
-use Rattle.step_layout.specs.Statements.{target_constants, item_constants, stmt_constants, arm_constants}
-use Rattle.step_layout.specs.Nodes.{parts_of}
+use Rattle.design_steps.specs.Statements.{target_constants, item_constants, stmt_constants, arm_constants}
+use Rattle.design_steps.specs.Nodes.{parts_of}
 use Rattle.design_steps.specs.Pooled.{Holds}
 
 pub holds_none : (xs : List ℕ) → Holds xs xs []

@@ -18,16 +18,16 @@ use Rattle.typed_ir.specs.Statements.{stmt_of, sequence_of}
 use Rattle.typed_ir.specs.declared.stmt.Stmt.{Stmt}
 use Rattle.typed_ir.proofs.Cases.{and_left, and_right}
 use Rattle.typed_ir.proofs.Lists.{each_append}
-use Rattle.step_layout.specs.declared.layout.Layout.{Layout}
-use Rattle.step_layout.specs.Plans.{IsAlone, IsKnown}
-use Rattle.step_layout.specs.Views.{plan_of}
-use Rattle.step_layout.specs.Statements.{stmt_constants}
-use Rattle.step_layout.specs.Nodes.{as_statement, node_at, in_order}
-use Rattle.step_layout.specs.Right.{IsLaid, IsLaidNode}
+use Rattle.design_steps.specs.declared.layout.Layout.{Layout}
+use Rattle.design_steps.specs.Plans.{IsAlone, IsKnown}
+use Rattle.design_steps.specs.Views.{plan_of}
+use Rattle.design_steps.specs.Statements.{stmt_constants}
+use Rattle.design_steps.specs.Nodes.{as_statement, node_at, in_order}
+use Rattle.design_steps.specs.Right.{IsLaid, IsLaidNode}
 use Rattle.design_steps.specs.declared.naming.Naming.{Naming}
 use Rattle.design_steps.specs.Namings.{is_shared, kept, IsAlias}
 use Rattle.design_steps.specs.Layings.{with_slots, clocking_plan, view_of, writes, signals_of, LaysOut}
-use Rattle.step_layout.proofs.Passing.{node_legal}
+use Rattle.design_steps.proofs.Passing.{node_legal}
 use Rattle.design_steps.proofs.Counting.{in_all}
 use Rattle.design_steps.proofs.Shared.{names_drive, names_known, names_shared}
 use Rattle.design_steps.proofs.Written.{IsThere, targets_there, later_there, clocked_targets, any_own, driven_targets, each_with, each_node, drives_within, writes_each}

@@ -16,3 +16,16 @@ pub mod Beginning
 pub mod Made
 pub mod Turning
 pub mod Signals
+pub mod Fits
+pub mod Seen
+pub mod Applying
+pub mod CopiesOfOne
+pub mod Ready
+pub mod Layouts
+pub mod PartValues
+pub mod Testing
+pub mod Doing
+pub mod Passing
+pub mod Assigning
+pub mod Numbered
+pub mod Sizing

@@ -3,18 +3,18 @@ use Rattle.std.proofs.Common.{true, ◌≡◌, ℕ, ◌+◌, ◌-◌, ◌*◌, �
 use Rattle.typed_ir.specs.declared.linked.Linked.{Linked}
 use Rattle.typed_ir.specs.Nodes.{FlatNode}
 use Rattle.typed_ir.specs.Orders.{Each}
-use Rattle.step_layout.specs.declared.layout.Layout.{Layout}
+use Rattle.design_steps.specs.declared.layout.Layout.{Layout}
 use Rattle.typed_ir.specs.Statements.{stmt_of, sequence_of}
 use Rattle.typed_ir.specs.Cycles.{IsReady as IsBased}
 use Rattle.typed_ir.specs.Linkeds.{flat}
-use Rattle.step_layout.specs.Plans.{IsReady, signals, width_at}
-use Rattle.step_layout.specs.Right.{IsLaidNode}
-use Rattle.step_layout.specs.Statements.{stmt_code}
-use Rattle.step_layout.specs.Nodes.{as_statement, nodes_code}
-use Rattle.step_layout.specs.Sizes.{are_sized}
-use Rattle.step_layout.specs.Views.{plan_of}
-use Rattle.step_layout.proofs.Sizing.{stmt_sized, sized_append}
-use Rattle.step_layout.proofs.Passing.{node_legal}
+use Rattle.design_steps.specs.Plans.{IsReady, signals, width_at}
+use Rattle.design_steps.specs.Right.{IsLaidNode}
+use Rattle.design_steps.specs.Statements.{stmt_code}
+use Rattle.design_steps.specs.Nodes.{as_statement, nodes_code}
+use Rattle.design_steps.specs.Sizes.{are_sized}
+use Rattle.design_steps.specs.Views.{plan_of}
+use Rattle.design_steps.proofs.Sizing.{stmt_sized, sized_append}
+use Rattle.design_steps.proofs.Passing.{node_legal}
 use Rattle.design_steps.specs.declared.program.Program.{Program}
 use Rattle.design_steps.specs.Layings.{LaysOut, own_plan, clocking_plan, view_of, mark_of, signals_of}
 use Rattle.design_steps.specs.Places.{are_placed}

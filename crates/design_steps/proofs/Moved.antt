@@ -11,7 +11,7 @@ use Rattle.word_steps.specs.Sound.{is_sized}
 use Rattle.word_steps.specs.Walks.{at, act, apply, skips, writes, walk, seen}
 use Rattle.word_steps.proofs.Words.{put-same, put-other}
 use Rattle.word_steps.proofs.Steps.{act-writes, act_still}
-use Rattle.step_layout.specs.Sizes.{are_sized}
+use Rattle.design_steps.specs.Sizes.{are_sized}
 use Rattle.design_steps.specs.Moves.{moved, moved_step}
 
 -- moving keeps what a step takes of a word

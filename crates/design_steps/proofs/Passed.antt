@@ -21,13 +21,13 @@ use Rattle.typed_ir.proofs.Settled.{round-outside}
 use Rattle.word_steps.specs.declared.step.Step.{Step}
 use Rattle.word_steps.specs.Walks.{walk, at}
 use Rattle.word_steps.proofs.Steps.{walk-append}
-use Rattle.step_layout.specs.declared.layout.Layout.{Layout}
-use Rattle.step_layout.specs.Plans.{IsReady, IsKnown, signals}
-use Rattle.step_layout.specs.Statements.{stmt_code}
-use Rattle.step_layout.specs.Nodes.{as_statement, nodes_code, in_order, all_later}
-use Rattle.step_layout.specs.Views.{plan_of}
-use Rattle.step_layout.proofs.Doing.{Does}
-use Rattle.step_layout.proofs.Passing.{does_nodes}
+use Rattle.design_steps.specs.declared.layout.Layout.{Layout}
+use Rattle.design_steps.specs.Plans.{IsReady, IsKnown, signals}
+use Rattle.design_steps.specs.Statements.{stmt_code}
+use Rattle.design_steps.specs.Nodes.{as_statement, nodes_code, in_order, all_later}
+use Rattle.design_steps.specs.Views.{plan_of}
+use Rattle.design_steps.proofs.Doing.{Does}
+use Rattle.design_steps.proofs.Passing.{does_nodes}
 use Rattle.design_steps.specs.declared.naming.Naming.{Naming}
 use Rattle.design_steps.specs.Namings.{is_shared, kept, Names, LeadsTo, Itself, Over, IsAlias}
 use Rattle.design_steps.specs.Layings.{own_plan, view_of, writes, mark_of, signals_of, LaysOut}

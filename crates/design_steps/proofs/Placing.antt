@@ -6,7 +6,7 @@ use Rattle.typed_ir.proofs.Lists.{drop_split}
 use Rattle.word_steps.specs.Sound.{is_placed, is_sized, is_sound, are_sound}
 use Rattle.word_steps.specs.Walks.{writes}
 use Rattle.word_steps.specs.declared.step.Step.{Step}
-use Rattle.step_layout.specs.Sizes.{are_sized}
+use Rattle.design_steps.specs.Sizes.{are_sized}
 use Rattle.design_steps.specs.Places.{are_placed}
 
 pub placed_below : (n most : ℕ) (s : Step) → s.to ≤ most → s.a ≤ most → s.b ≤ most → s.c ≤ most → most < n → is_placed n s ≡ true

@@ -9,7 +9,7 @@ use Rattle.typed_ir.specs.Valuations.{Valuation, put}
 use Rattle.typed_ir.specs.Flats.{signal_widths}
 use Rattle.typed_ir.proofs.Cases.{by_cases}
 use Rattle.word_steps.proofs.Words.{put-same, put-other}
-use Rattle.step_layout.specs.Plans.{IsReady, signals, width_at}
+use Rattle.design_steps.specs.Plans.{IsReady, signals, width_at}
 use Rattle.design_steps.specs.declared.program.Program.{Program}
 use Rattle.design_steps.specs.Layings.{own_plan, clocking_plan, mark_of, signals_of}
 use Rattle.design_steps.specs.Programs.{IsAt, IsProgramOf, AreNext}

@@ -25,11 +25,11 @@ use Rattle.typed_ir.proofs.Settled.{round-outside}
 use Rattle.typed_ir.proofs.Members.{map_same}
 use Rattle.word_steps.specs.declared.step.Step.{Step}
 use Rattle.word_steps.specs.Walks.{At, walk, at}
-use Rattle.step_layout.specs.Statements.{stmt_code}
-use Rattle.step_layout.specs.Nodes.{nodes_code}
-use Rattle.step_layout.specs.Plans.{IsReady, signals, width_at}
-use Rattle.step_layout.specs.Views.{plan_of}
-use Rattle.step_layout.proofs.Doing.{does, all_applied_at}
+use Rattle.design_steps.specs.Statements.{stmt_code}
+use Rattle.design_steps.specs.Nodes.{nodes_code}
+use Rattle.design_steps.specs.Plans.{IsReady, signals, width_at}
+use Rattle.design_steps.specs.Views.{plan_of}
+use Rattle.design_steps.proofs.Doing.{does, all_applied_at}
 use Rattle.design_steps.specs.Namings.{Held, IsAlias}
 use Rattle.design_steps.specs.Layings.{own_plan, clocking_plan, mark_of, signals_of}
 use Rattle.design_steps.specs.Carries.{carried}

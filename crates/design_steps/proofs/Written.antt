@@ -12,11 +12,11 @@ use Rattle.typed_ir.specs.Nodes.{FlatNode, Drive, Block, lane_spans, node_drives
 use Rattle.typed_ir.specs.Touches.{all_reads, mentions}
 use Rattle.typed_ir.proofs.Cases.{by_cases, and_left, and_right, only_right, left_or, right_or, only_left}
 use Rattle.typed_ir.proofs.Lists.{each_left, each_right, each_append}
-use Rattle.step_layout.specs.Statements.{stmt_constants}
-use Rattle.step_layout.specs.Nodes.{parts_of, as_statement, node_at}
+use Rattle.design_steps.specs.Statements.{stmt_constants}
+use Rattle.design_steps.specs.Nodes.{parts_of, as_statement, node_at}
 use Rattle.design_steps.specs.Pooled.{nodes_constants}
 use Rattle.design_steps.specs.Layings.{writes}
-use Rattle.step_layout.proofs.Passing.{node_legal}
+use Rattle.design_steps.proofs.Passing.{node_legal}
 
 -- ---- what is legal writes signals alone that are there
 

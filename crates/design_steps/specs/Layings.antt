@@ -9,11 +9,11 @@ use Rattle.typed_ir.specs.FlatNodes.{node_of}
 use Rattle.typed_ir.specs.Nodes.{FlatNode}
 use Rattle.typed_ir.specs.Stmts.{targets}
 use Rattle.typed_ir.specs.Statements.{stmt_of, sequence_of}
-use Rattle.step_layout.specs.declared.layout.Layout.{Layout}
-use Rattle.step_layout.specs.Statements.{stmt_constants}
-use Rattle.step_layout.specs.Plans.{Plan}
-use Rattle.step_layout.specs.Views.{plan_of}
-use Rattle.step_layout.specs.Nodes.{as_statement, in_order}
+use Rattle.design_steps.specs.declared.layout.Layout.{Layout}
+use Rattle.design_steps.specs.Statements.{stmt_constants}
+use Rattle.design_steps.specs.Plans.{Plan}
+use Rattle.design_steps.specs.Views.{plan_of}
+use Rattle.design_steps.specs.Nodes.{as_statement, in_order}
 use Rattle.design_steps.specs.Pooled.{nodes_constants}
 use Rattle.design_steps.specs.Namings.{kept, AreShared}
 

@@ -5,3 +5,12 @@ pub mod Places
 pub mod Carries
 pub mod Moves
 pub mod Programs
+pub mod Plans
+pub mod Pools
+pub mod Views
+pub mod Expressions
+pub mod Statements
+pub mod Homes
+pub mod Nodes
+pub mod Right
+pub mod Sizes

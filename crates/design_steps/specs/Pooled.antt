@@ -2,8 +2,8 @@
 use Rattle.std.specs.Prelude.{ℕ, List, [], ◌∷◌, ◌++◌}
 use Rattle.typed_ir.specs.Orders.{Member, Each}
 use Rattle.typed_ir.specs.Nodes.{FlatNode}
-use Rattle.step_layout.specs.Statements.{stmt_constants}
-use Rattle.step_layout.specs.Nodes.{as_statement}
+use Rattle.design_steps.specs.Statements.{stmt_constants}
+use Rattle.design_steps.specs.Nodes.{as_statement}
 
 -- the pool grew, and has these
 pub record Holds (old new needed : List ℕ) : Type 0 where

@@ -9,11 +9,11 @@ use Rattle.typed_ir.specs.Orders.{Member}
 use Rattle.typed_ir.specs.Statements.{stmt_of, sequence_of}
 use Rattle.typed_ir.specs.Valuations.{Valuation}
 use Rattle.word_steps.specs.Sound.{are_sound}
-use Rattle.step_layout.specs.declared.layout.Layout.{Layout}
-use Rattle.step_layout.specs.Plans.{IsReady, signals, width_at}
-use Rattle.step_layout.specs.Statements.{stmt_code}
-use Rattle.step_layout.specs.Nodes.{nodes_code}
-use Rattle.step_layout.specs.Views.{plan_of}
+use Rattle.design_steps.specs.declared.layout.Layout.{Layout}
+use Rattle.design_steps.specs.Plans.{IsReady, signals, width_at}
+use Rattle.design_steps.specs.Statements.{stmt_code}
+use Rattle.design_steps.specs.Nodes.{nodes_code}
+use Rattle.design_steps.specs.Views.{plan_of}
 use Rattle.design_steps.specs.Moves.{moved_step, env_by, gathered}
 use Rattle.design_steps.specs.Layings.{LaysOut, left_of, own_plan, clocking_plan, mark_of, signals_of}
 use Rattle.design_steps.specs.declared.program.Program.{Program}

@@ -4,14 +4,14 @@ ghost use Rattle.typed_ir.specs.FlatNodes.{node_of};
 ghost use Rattle.typed_ir.specs.Forms.{sized};
 ghost use Rattle.typed_ir.specs.Statements.{stmt_of, arm_of, item_of, sequence_of, arms_before};
 ghost use Rattle.typed_ir.specs.Targets.{target_of, targets_of};
-ghost use Rattle.step_layout.specs.Expressions.{constants_of};
-ghost use Rattle.step_layout.specs.Statements.{part_constants, target_constants, item_constants, stmt_constants, arm_constants};
-ghost use Rattle.step_layout.specs.Nodes.{as_statement};
+ghost use Rattle.design_steps.specs.Expressions.{constants_of};
+ghost use Rattle.design_steps.specs.Statements.{part_constants, target_constants, item_constants, stmt_constants, arm_constants};
+ghost use Rattle.design_steps.specs.Nodes.{as_statement};
 ghost use Rattle.design_steps.specs.Pooled.{Holds, nodes_constants};
 
 use crate::pooling::{pool_form, pool_index, pool_value};
 use indexmap::IndexSet;
-use no_memory::NoMemory;
+use ls_text::NoMemory;
 use typed_ir::{Arm, Item, Node, Stmt, Target, Typed};
 
 // The constants of a part left of an assignment.

@@ -4,16 +4,17 @@ ghost use Rattle.std.specs.List.{range_with_len};
 ghost use Rattle.typed_ir.specs.Flats.{signal_widths};
 ghost use Rattle.typed_ir.specs.FlatNodes.{node_of};
 ghost use Rattle.typed_ir.specs.Statements.{stmt_of, sequence_of};
-ghost use Rattle.step_layout.specs.Statements.{stmt_constants};
+ghost use Rattle.design_steps.specs.Statements.{stmt_constants};
 ghost use Rattle.design_steps.specs.Pooled.{Holds, nodes_constants};
 ghost use Rattle.design_steps.specs.Layings.{LaysOut, mark_of};
 
 use crate::constant_walk::{pool_all, pool_nodes};
+use crate::constants::Constants;
+use crate::layout::Layout;
 use crate::sharing::slots_of;
 use indexmap::IndexSet;
-use no_memory::NoMemory;
+use ls_text::NoMemory;
 use std::alloc::Global;
-use step_layout::{Constants, Layout};
 use typed_ir::{Linked, Node, Signal, Stmt};
 
 // So many numbers from one on.

@@ -6,7 +6,7 @@ ghost use Rattle.design_steps.specs.Moves.{gather, gathered};
 
 use crate::design_layout::counted;
 use crate::signal_words::place_above;
-use no_memory::NoMemory;
+use ls_text::NoMemory;
 use std::alloc::Global;
 use typed_ir::SignalId;
 

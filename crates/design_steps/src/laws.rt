@@ -5,12 +5,12 @@ ghost use Rattle.typed_ir.specs.FlatNodes.{node_of};
 ghost use Rattle.typed_ir.specs.Nodes.{FlatNode, IsOrder};
 ghost use Rattle.typed_ir.specs.Orders.{Each};
 ghost use Rattle.typed_ir.specs.Statements.{stmt_of, sequence_of};
-ghost use Rattle.step_layout.specs.declared.layout.Layout.{Layout};
-ghost use Rattle.step_layout.specs.Plans.{IsApart};
-ghost use Rattle.step_layout.specs.Right.{IsLaid, IsLaidNode};
-ghost use Rattle.step_layout.specs.Views.{plan_of};
-ghost use Rattle.step_layout.specs.Nodes.{as_statement};
-ghost use Rattle.step_layout.specs.Statements.{stmt_code};
+ghost use Rattle.design_steps.specs.declared.layout.Layout.{Layout};
+ghost use Rattle.design_steps.specs.Plans.{IsApart};
+ghost use Rattle.design_steps.specs.Right.{IsLaid, IsLaidNode};
+ghost use Rattle.design_steps.specs.Views.{plan_of};
+ghost use Rattle.design_steps.specs.Nodes.{as_statement};
+ghost use Rattle.design_steps.specs.Statements.{stmt_code};
 ghost use Rattle.design_steps.specs.Layings.{LaysOut, clocking_plan, left_of, mark_of, signals_of, view_of};
 
 /// The layout of a design is apart, and so is that for its clocked blocks, which may be laid out by it: their widths are those of its

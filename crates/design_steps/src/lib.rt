@@ -8,25 +8,52 @@
 #![tactic(auto)]
 
 mod carrying;
+mod conditions;
 mod constant_walk;
+mod constants;
 mod cycling;
 mod design_layout;
+mod drives;
+mod expressions;
+mod fronting;
 mod gathering;
+mod home;
 mod laws;
+mod layout;
 mod making;
+mod matching;
 mod moving;
 mod naming;
+mod nodes;
+mod operand;
+mod operators;
+mod parts;
 mod pooling;
 mod program;
+mod putting;
 mod sharing;
 mod signal_words;
+mod statements;
+mod step_laws;
 mod words;
 
 pub use constant_walk::{pool_all, pool_nodes, pool_statement};
+pub use constants::Constants;
 pub use design_layout::{free_from, layout_of};
+pub use expressions::lay;
 pub use gathering::places_of;
+pub use home::Home;
 pub use laws::layouts_are_right;
+pub use layout::Layout;
 pub use making::program_of;
+pub use nodes::{lay_node, lay_nodes};
+pub use operand::Operand;
+pub use operators::copies_of_one;
+pub use parts::lay_assignment;
 pub use pooling::{pool_form, pool_value};
 pub use program::Program;
+pub use statements::{lay_sequence, lay_statement};
+pub use step_laws::{
+    expressions_are_right, nodes_are_right, statements_are_right, steps_are_sized,
+};
 pub use words::{beginning_of, greatest_of};

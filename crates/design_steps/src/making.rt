@@ -1,24 +1,26 @@
 // How a program is made of a linked design.
 ghost use Rattle.std.specs.Prelude.{◌≡◌, [], map, IfOk, OnOk};
 ghost use Rattle.typed_ir.specs.Statements.{stmt_of, sequence_of};
-ghost use Rattle.step_layout.specs.Statements.{stmt_code};
-ghost use Rattle.step_layout.specs.Nodes.{nodes_code};
-ghost use Rattle.step_layout.specs.Views.{plan_of};
+ghost use Rattle.design_steps.specs.Statements.{stmt_code};
+ghost use Rattle.design_steps.specs.Nodes.{nodes_code};
+ghost use Rattle.design_steps.specs.Views.{plan_of};
 ghost use Rattle.design_steps.specs.Layings.{clocking_plan};
 ghost use Rattle.design_steps.specs.Moves.{moved_step};
 ghost use Rattle.design_steps.specs.Programs.{IsProgramOf, kept_nodes};
 
 use crate::design_layout::{free_from, layout_of, nexts_of};
 use crate::gathering::places_of;
+use crate::layout::Layout;
 use crate::moving::moved_step;
+use crate::nodes::lay_nodes;
 use crate::program::Program;
 use crate::sharing::kept_of;
+use crate::statements::lay_sequence;
 use crate::words::{beginning_of, greatest_of};
-use no_memory::NoMemory;
+use ls_text::NoMemory;
 use std::alloc::Global;
 use std::collections::VecDeque;
 use std::mem::swap;
-use step_layout::{Layout, lay_nodes, lay_sequence};
 use typed_ir::Linked;
 use word_steps::Step;
 

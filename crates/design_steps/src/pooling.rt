@@ -2,12 +2,12 @@
 ghost use Rattle.std.specs.Prelude.{◌≡◌, ◌++◌, ◌∷◌, [], IsTrue, OnOk};
 ghost use Rattle.typed_ir.specs.Sized.{agrees, Repeat};
 ghost use Rattle.typed_ir.specs.Forms.{sized};
-ghost use Rattle.step_layout.specs.Expressions.{constants_of};
+ghost use Rattle.design_steps.specs.Expressions.{constants_of};
 ghost use Rattle.design_steps.specs.Pooled.{Holds};
 
+use crate::operators::copies_of_one;
 use indexmap::IndexSet;
-use no_memory::NoMemory;
-use step_layout::copies_of_one;
+use ls_text::NoMemory;
 use typed_ir::Form;
 
 /// Puts a constant into the pool, if it isn't there.

@@ -1,5 +1,5 @@
 // A design as steps over words.
-use step_layout::Layout;
+use crate::layout::Layout;
 use word_steps::Step;
 
 /// What a design does in a cycle, as steps over words, and where its signals stand among them.

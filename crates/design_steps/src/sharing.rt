@@ -7,7 +7,7 @@ ghost use Rattle.typed_ir.specs.Orders.{is_member};
 ghost use Rattle.design_steps.specs.Namings.{AreShared, AreMarked, is_shared, kept, mark_at};
 
 use crate::naming::{is_shared, name_given};
-use no_memory::NoMemory;
+use ls_text::NoMemory;
 use std::alloc::Global;
 use typed_ir::{Flat, Linked, Node, NodeId, SignalId};
 

@@ -7,10 +7,10 @@ ghost use Rattle.design_steps.specs.Layings.{own_plan};
 ghost use Rattle.design_steps.specs.Moves.{moved};
 ghost use Rattle.design_steps.specs.Programs.{IsProgramOf, AreHeld, IsAt, values_in};
 
+use crate::layout::Layout;
 use crate::program::Program;
-use no_memory::NoMemory;
+use ls_text::NoMemory;
 use std::alloc::Global;
-use step_layout::Layout;
 use typed_ir::{Linked, SignalId};
 
 // The same words once more.

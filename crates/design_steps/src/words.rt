@@ -4,9 +4,9 @@ ghost use Rattle.word_steps.specs.Sound.{is_placed};
 ghost use Rattle.design_steps.specs.Places.{are_placed};
 ghost use Rattle.design_steps.specs.Layings.{mark_of};
 
-use no_memory::NoMemory;
+use crate::layout::Layout;
+use ls_text::NoMemory;
 use std::alloc::Global;
-use step_layout::Layout;
 use word_steps::Step;
 
 // The greatest place that a step names, or a greater number. What a skip passes over counts as a place.

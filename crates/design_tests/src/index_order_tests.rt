@@ -1,12 +1,12 @@
 // An assignment whose second part's index its first part writes, laid out and walked over, with results worked out by hand.
 use bits::Bits;
 use comb_order::is_legal;
+use design_steps::{Constants, Layout, lay_statement};
 use indexmap::IndexSet;
-use no_memory::NoMemory;
+use ls_text::NoMemory;
 use std::alloc::Global;
 use std::collections::VecDeque;
 use std::test::Fail;
-use step_layout::{Constants, Layout, lay_statement};
 use typed_ir::{Lane, Reach, SignalId, Span, Stmt, Target, Typed};
 use word_steps::{Step, are_sound, walk};
 

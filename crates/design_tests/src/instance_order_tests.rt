@@ -1,8 +1,7 @@
 // Orders of designs with several instances, worked out by hand. Most nodes are names, `assign TO = FROM;`, or steps, `assign TO = ~FROM;`, of
 // one bit. r stands for a register: no node drives it.
 use crate::order_tests::{assign, bit_copies, copies, inverses, order_within, signal, tied};
-use ls_text::NameId;
-use no_memory::NoMemory;
+use ls_text::{NameId, NoMemory};
 use std::alloc::Global;
 use std::process::Abort;
 use std::test::Fail;

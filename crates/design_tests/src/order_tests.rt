@@ -3,8 +3,7 @@ ghost use Rattle.std.specs.Prelude.{◌≡◌};
 
 use bits::Bits;
 use comb_order::{OrderRefusal, Parts, checked_flat, no_block, order};
-use ls_text::NameId;
-use no_memory::NoMemory;
+use ls_text::{NameId, NoMemory};
 use std::alloc::Global;
 use std::process::Abort;
 use std::test::Fail;

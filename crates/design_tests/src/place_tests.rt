@@ -2,8 +2,7 @@
 use crate::order_tests::{bit, copies, design_of, join, signal};
 use comb_order::{Parts, linked};
 use design_steps::{layout_of, places_of, program_of};
-use ls_text::NameId;
-use no_memory::NoMemory;
+use ls_text::{NameId, NoMemory};
 use std::alloc::Global;
 use std::process::Abort;
 use std::test::Fail;

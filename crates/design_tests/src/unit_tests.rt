@@ -1,14 +1,12 @@
 // A node that is shifted, lists that give back what they were made from, and tables that fit.
 use bits::Bits;
-use ls_text::NameId;
-use no_memory::NoMemory;
+use ls_text::{NameId, NoMemory};
 use std::alloc::Global;
 use std::test::Fail;
 use typed_ir::{
     Const, ConstList, Form, InstanceId, InstanceName, InstanceTable, Lane, Node, SignalId, Span,
-    TargetForm, Typed,
+    TargetForm, Typed, shifted_node,
 };
-use unit_ir::shifted_node;
 
 // Whether a node drives bit 3 of signal 6 with signal 7, as a bit.
 fn drives_from_seven(node: &Node) -> bool {

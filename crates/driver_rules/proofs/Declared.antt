@@ -8,7 +8,7 @@ use Rattle.typed_ir.specs.Orders.{Each, is_member}
 use Rattle.typed_ir.specs.Stmts.{SizedStmt, targets, known_after}
 use Rattle.typed_ir.proofs.Cases.{by_cases, left_or, right_or, only_right, and_left, and_right, by_order}
 use Rattle.typed_ir.proofs.Lists.{take_next}
-use Rattle.unit_ir.specs.declared.signal_declaration.SignalDeclaration.{SignalDeclaration}
+use Rattle.typed_ir.specs.declared.signal_declaration.SignalDeclaration.{SignalDeclaration}
 use Rattle.block_rules.specs.Paths.{unwritten, AreHere}
 use Rattle.block_rules.proofs.Finding.{none_some, found_push}
 use Rattle.driver_rules.specs.Writes.{AreWithin}

@@ -7,7 +7,7 @@ use Rattle.typed_ir.specs.declared.span.Span.{Span}
 use Rattle.typed_ir.specs.Orders.{Each}
 use Rattle.typed_ir.specs.Touches.{has_bit}
 use Rattle.typed_ir.proofs.Cases.{by_cases, by_order}
-use Rattle.unit_ir.specs.Trees.{count}
+use Rattle.typed_ir.specs.Trees.{count}
 use Rattle.driver_rules.specs.declared.driver.Driver.{Driver}
 use Rattle.driver_rules.specs.declared.driver_id.DriverId.{DriverId}
 use Rattle.driver_rules.specs.Told.{covers, IsRange, Puts, free_run}

@@ -4,7 +4,7 @@ use Rattle.std.specs.Prelude.{option_to_list}
 use Rattle.std.proofs.lemmas.Bool.{le-leb, lt-leb, leb-true, leb-false}
 use Rattle.std.proofs.lemmas.List.{at_drop_all}
 use Rattle.ls_text.specs.declared.place.Place.{Place}
-use Rattle.unit_ir.specs.declared.mention.Mention.{Mention}
+use Rattle.typed_ir.specs.declared.mention.Mention.{Mention}
 use Rattle.typed_ir.proofs.Cases.{by_cases}
 use Rattle.typed_ir.proofs.Lists.{drop_split}
 use Rattle.width_rules.specs.Faults.{fault}

@@ -13,9 +13,9 @@ use Rattle.typed_ir.specs.Stmts.{SizedStmt}
 use Rattle.typed_ir.specs.Cycles.{block_writes}
 use Rattle.typed_ir.specs.Orders.{Each, at_or}
 use Rattle.typed_ir.proofs.Cases.{by_cases, and_left, and_right, or_left, or_right, only_right, or_none}
-use Rattle.unit_ir.specs.declared.typed_item.TypedItem.{TypedItem}
-use Rattle.unit_ir.specs.Trees.{UnitNode, Own, Into, From, count, own_drives}
-use Rattle.unit_ir.specs.Items.{SizedBody, Node, Clocked, Initial, PlacedItem, item_of, node_in, block_in, nodes_in, blocks_in}
+use Rattle.typed_ir.specs.declared.typed_item.TypedItem.{TypedItem}
+use Rattle.typed_ir.specs.Trees.{UnitNode, Own, Into, From, count, own_drives}
+use Rattle.typed_ir.specs.Items.{SizedBody, Node, Clocked, Initial, PlacedItem, item_of, node_in, block_in, nodes_in, blocks_in}
 use Rattle.width_rules.specs.declared.writer.Writer.{Writer}
 use Rattle.width_rules.specs.declared.writer.Writer.TheVariants as writer
 use Rattle.width_rules.specs.Faults.{IsFirst}

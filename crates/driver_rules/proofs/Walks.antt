@@ -2,9 +2,9 @@
 use Rattle.std.proofs.Common.{◌≡◌, ◌<◌, ◌+◌, ℕ, zero, suc, Bool, List, [], ◌∷◌, ◌++◌, map, drop, length, get_or, refl, sym, ◌∙◌, ap, subst, arith}
 use Rattle.ls_text.specs.declared.fault.Fault.{Fault}
 use Rattle.ls_text.specs.declared.refusal.Refusal.{Refusal}
-use Rattle.unit_ir.specs.declared.signal_declaration.SignalDeclaration.{SignalDeclaration}
-use Rattle.unit_ir.specs.declared.typed_item.TypedItem.{TypedItem}
-use Rattle.unit_ir.specs.Items.{PlacedItem, item_of}
+use Rattle.typed_ir.specs.declared.signal_declaration.SignalDeclaration.{SignalDeclaration}
+use Rattle.typed_ir.specs.declared.typed_item.TypedItem.{TypedItem}
+use Rattle.typed_ir.specs.Items.{PlacedItem, item_of}
 use Rattle.typed_ir.specs.Orders.{Each}
 use Rattle.typed_ir.proofs.Lists.{drop_read}
 use Rattle.width_rules.specs.Faults.{IsFirst}

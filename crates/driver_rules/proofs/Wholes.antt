@@ -13,13 +13,13 @@ use Rattle.typed_ir.specs.Cycles.{Signal, WritesRegisters, block_writes}
 use Rattle.typed_ir.specs.Flats.{NodeWritesFirst}
 use Rattle.typed_ir.proofs.Cases.{by_cases, and_left, and_right, or_left, or_right, left_or, right_or, only_right, by_order}
 use Rattle.typed_ir.proofs.Lists.{each_append, each_weaker}
-use Rattle.unit_ir.specs.declared.mention.Mention.{Mention}
-use Rattle.unit_ir.specs.declared.signal_declaration.SignalDeclaration.{SignalDeclaration}
-use Rattle.unit_ir.specs.declared.signal_kind.SignalKind.{SignalKind}
-use Rattle.unit_ir.specs.declared.signal_kind.SignalKind.TheVariants.{Input, Net, Variable}
-use Rattle.unit_ir.specs.Trees.{UnitNode, Own, Into, From, count, own_drives, IsNodeSound}
-use Rattle.unit_ir.specs.Items.{SizedBody, Node, Clocked, Initial, PlacedItem, PlacedItems, node_in, block_in, nodes_in, blocks_in, unit_of}
-use Rattle.unit_ir.proofs.Counted.{count_append}
+use Rattle.typed_ir.specs.declared.mention.Mention.{Mention}
+use Rattle.typed_ir.specs.declared.signal_declaration.SignalDeclaration.{SignalDeclaration}
+use Rattle.typed_ir.specs.declared.signal_kind.SignalKind.{SignalKind}
+use Rattle.typed_ir.specs.declared.signal_kind.SignalKind.TheVariants.{Input, Net, Variable}
+use Rattle.typed_ir.specs.Trees.{UnitNode, Own, Into, From, count, own_drives, IsNodeSound}
+use Rattle.typed_ir.specs.Items.{SizedBody, Node, Clocked, Initial, PlacedItem, PlacedItems, node_in, block_in, nodes_in, blocks_in, unit_of}
+use Rattle.typed_ir.proofs.Counted.{count_append}
 use Rattle.width_rules.specs.declared.writer.Writer.{Writer}
 use Rattle.width_rules.specs.declared.writer.Writer.TheVariants as writer
 use Rattle.block_rules.specs.Paths.{flags_of_block, unwritten, places_of_true, BlocksAreWhole}

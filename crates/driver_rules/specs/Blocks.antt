@@ -7,9 +7,9 @@ use Rattle.ls_text.specs.declared.fault.Fault.{Fault}
 use Rattle.typed_ir.specs.Stmts.{SizedStmt}
 use Rattle.typed_ir.specs.Orders.{at_or}
 use Rattle.typed_ir.specs.Cycles.{Signal}
-use Rattle.unit_ir.specs.declared.mention.Mention.{Mention}
-use Rattle.unit_ir.specs.declared.signal_declaration.SignalDeclaration.{SignalDeclaration}
-use Rattle.unit_ir.specs.Items.{PlacedItem}
+use Rattle.typed_ir.specs.declared.mention.Mention.{Mention}
+use Rattle.typed_ir.specs.declared.signal_declaration.SignalDeclaration.{SignalDeclaration}
+use Rattle.typed_ir.specs.Items.{PlacedItem}
 use Rattle.width_rules.specs.Faults.{fault}
 use Rattle.block_rules.specs.Paths.{flags_of_block, unwritten, places_of_true}
 use Rattle.driver_rules.specs.Mentioned.{earliest, shown_faults}

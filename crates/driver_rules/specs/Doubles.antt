@@ -3,7 +3,7 @@ use Rattle.std.specs.Prelude.{Bool, ◌&&◌, ◌||◌, List, [], ◌∷◌, ◌
 use Rattle.ls_text.specs.declared.fault.Fault.{Fault}
 use Rattle.typed_ir.specs.declared.span.Span.{Span}
 use Rattle.typed_ir.specs.Valuations.{Places, within}
-use Rattle.unit_ir.specs.Items.{PlacedItem}
+use Rattle.typed_ir.specs.Items.{PlacedItem}
 use Rattle.width_rules.specs.declared.writer.Writer.{Writer}
 use Rattle.width_rules.specs.declared.writer.Writer.TheVariants as writer
 use Rattle.block_rules.specs.Paths.{places_of_true, some_below}

@@ -3,11 +3,11 @@ use Rattle.std.specs.Prelude.{◌≡◌, ◌≤◌, ◌+◌, ℕ, Bool, true, fa
 use Rattle.typed_ir.specs.declared.span.Span.{Span}
 use Rattle.typed_ir.specs.Orders.{Each, Member, at_or}
 use Rattle.typed_ir.specs.Cycles.{WritesRegisters, block_writes}
-use Rattle.unit_ir.specs.declared.signal_declaration.SignalDeclaration.{SignalDeclaration}
-use Rattle.unit_ir.specs.declared.signal_kind.SignalKind.{SignalKind}
-use Rattle.unit_ir.specs.declared.signal_kind.SignalKind.TheVariants.{Input, Net, Variable}
-use Rattle.unit_ir.specs.Trees.{SizedUnit, count, own_drives, IsNodeSound}
-use Rattle.unit_ir.specs.Items.{PlacedItem, PlacedItems}
+use Rattle.typed_ir.specs.declared.signal_declaration.SignalDeclaration.{SignalDeclaration}
+use Rattle.typed_ir.specs.declared.signal_kind.SignalKind.{SignalKind}
+use Rattle.typed_ir.specs.declared.signal_kind.SignalKind.TheVariants.{Input, Net, Variable}
+use Rattle.typed_ir.specs.Trees.{SizedUnit, count, own_drives, IsNodeSound}
+use Rattle.typed_ir.specs.Items.{PlacedItem, PlacedItems}
 use Rattle.width_rules.specs.declared.writer.Writer.TheVariants as writer
 use Rattle.driver_rules.specs.Writes.{spans_of}
 use Rattle.driver_rules.specs.Targets.{is_settled, may_write}

@@ -2,7 +2,7 @@
 use Rattle.std.specs.Prelude.{List, ◌++◌}
 use Rattle.ls_text.specs.declared.fault.Fault.{Fault}
 use Rattle.typed_ir.specs.Valuations.{nowhere}
-use Rattle.unit_ir.specs.Items.{PlacedItems}
+use Rattle.typed_ir.specs.Items.{PlacedItems}
 use Rattle.driver_rules.specs.Targets.{is_settled, all_target_faults}
 use Rattle.driver_rules.specs.Doubles.{double_faults}
 use Rattle.driver_rules.specs.Blocks.{block_faults}

@@ -7,11 +7,11 @@ use Rattle.typed_ir.specs.declared.span.Span.{Span}
 use Rattle.typed_ir.specs.Stmts.{SizedStmt, targets}
 use Rattle.typed_ir.specs.Nodes.{FlatNode, Drive, Block}
 use Rattle.typed_ir.specs.Orders.{at_or}
-use Rattle.unit_ir.specs.declared.signal_declaration.SignalDeclaration.{SignalDeclaration}
-use Rattle.unit_ir.specs.declared.signal_kind.SignalKind.{SignalKind}
-use Rattle.unit_ir.specs.declared.signal_kind.SignalKind.TheVariants.{Input, Net, Variable}
-use Rattle.unit_ir.specs.Trees.{UnitNode, Own, Into, From}
-use Rattle.unit_ir.specs.Items.{SizedBody, Node, Clocked, Initial, PlacedItem}
+use Rattle.typed_ir.specs.declared.signal_declaration.SignalDeclaration.{SignalDeclaration}
+use Rattle.typed_ir.specs.declared.signal_kind.SignalKind.{SignalKind}
+use Rattle.typed_ir.specs.declared.signal_kind.SignalKind.TheVariants.{Input, Net, Variable}
+use Rattle.typed_ir.specs.Trees.{UnitNode, Own, Into, From}
+use Rattle.typed_ir.specs.Items.{SizedBody, Node, Clocked, Initial, PlacedItem}
 use Rattle.width_rules.specs.declared.writer.Writer.{Writer}
 use Rattle.width_rules.specs.declared.writer.Writer.TheVariants as writer
 use Rattle.driver_rules.specs.Writes.{blocks_of, written}

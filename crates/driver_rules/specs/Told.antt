@@ -4,8 +4,8 @@ use Rattle.typed_ir.specs.Valuations.{Places}
 use Rattle.typed_ir.specs.Cycles.{block_writes}
 use Rattle.typed_ir.specs.Touches.{has_bit}
 use Rattle.typed_ir.specs.Orders.{at_or, Each}
-use Rattle.unit_ir.specs.Trees.{count, own_drives}
-use Rattle.unit_ir.specs.Items.{SizedBody, Node, Clocked, Initial, PlacedItem, PlacedItems, nodes_in, blocks_in}
+use Rattle.typed_ir.specs.Trees.{count, own_drives}
+use Rattle.typed_ir.specs.Items.{SizedBody, Node, Clocked, Initial, PlacedItem, PlacedItems, nodes_in, blocks_in}
 use Rattle.driver_rules.specs.declared.driver.Driver.{Driver}
 use Rattle.driver_rules.specs.declared.driver_id.DriverId.{DriverId}
 use Rattle.driver_rules.specs.declared.driver_id.DriverId.TheVariants as id

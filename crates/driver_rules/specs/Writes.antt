@@ -5,8 +5,8 @@ use Rattle.typed_ir.specs.Valuations.{Places, any_within}
 use Rattle.typed_ir.specs.Stmts.{SizedStmt, targets, later_targets}
 use Rattle.typed_ir.specs.Nodes.{FlatNode, Drive, Block, lane_spans}
 use Rattle.typed_ir.specs.Orders.{Each}
-use Rattle.unit_ir.specs.Trees.{UnitNode, Own, Into, From}
-use Rattle.unit_ir.specs.Items.{SizedBody, Node, Clocked, Initial, PlacedItem}
+use Rattle.typed_ir.specs.Trees.{UnitNode, Own, Into, From}
+use Rattle.typed_ir.specs.Items.{SizedBody, Node, Clocked, Initial, PlacedItem}
 
 abbrev pub flat_spans : FlatNode → List Span
 flat_spans (Drive form lanes e) = lane_spans lanes

@@ -1,7 +1,7 @@
 // The items of a module to what drives or writes each of its bits, or to the first fault.
 ghost use Rattle.std.specs.Prelude.{◌≡◌, [], length, IfOk, IfErr, OnOk};
 ghost use Rattle.typed_ir.specs.Valuations.{nowhere};
-ghost use Rattle.unit_ir.specs.Items.{items_of, unit_of};
+ghost use Rattle.typed_ir.specs.Items.{items_of, unit_of};
 ghost use Rattle.width_rules.specs.Faults.{IsFirst};
 ghost use Rattle.driver_rules.specs.Writes.{AreItemsWithin};
 ghost use Rattle.driver_rules.specs.Targets.{is_settled, all_target_faults};
@@ -19,7 +19,7 @@ use crate::targeting::check_targets;
 use block_rules::whole_blocks;
 use ls_text::Refusal;
 use std::alloc::Global;
-use unit_ir::TypedItems;
+use typed_ir::TypedItems;
 
 // What may be written by what, over all items.
 fn check_written(alloc: Global, items: &TypedItems) -> Result<(), Refusal>

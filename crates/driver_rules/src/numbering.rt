@@ -1,14 +1,13 @@
 // Items to the numbers of their nodes and clocked blocks.
 ghost use Rattle.std.specs.Prelude.{◌≡◌, ◌+◌, IfOk};
-ghost use Rattle.unit_ir.specs.Items.{body_of};
+ghost use Rattle.typed_ir.specs.Items.{body_of};
 ghost use Rattle.driver_rules.specs.Told.{driver_id, numbers_after};
 
 use crate::clocked_id::ClockedId;
 use crate::driver_id::DriverId;
 use crate::numbers::Numbers;
-use no_memory::NoMemory;
-use typed_ir::NodeId;
-use unit_ir::ItemBody;
+use ls_text::NoMemory;
+use typed_ir::{ItemBody, NodeId};
 
 /// What the next item is among the drivers; of one that drives nothing this says nothing.
 pub fn driver_id(numbers: Numbers, body: &ItemBody) -> DriverId

@@ -4,8 +4,8 @@ ghost use Rattle.typed_ir.specs.Statements.{stmt_of};
 ghost use Rattle.typed_ir.specs.Orders.{is_member};
 ghost use Rattle.block_rules.specs.Paths.{unwritten, AreHere};
 ghost use Rattle.block_rules.specs.Tables.{signals_of, AreBlank};
-ghost use Rattle.unit_ir.specs.Items.{item_of};
-ghost use Rattle.unit_ir.specs.Units.{signal_within};
+ghost use Rattle.typed_ir.specs.Items.{item_of};
+ghost use Rattle.typed_ir.specs.Units.{signal_within};
 ghost use Rattle.width_rules.specs.Faults.{IsFirst};
 ghost use Rattle.driver_rules.specs.Writes.{AreItemsWithin, AreWithin, spans_of, blocks_of};
 ghost use Rattle.driver_rules.specs.Blocks.{order_at, name_at, comes_before, nearer, first_declared, latched, read_faults, latch_faults, path_faults, block_faults};
@@ -15,8 +15,7 @@ use crate::spanning::block_of;
 use block_rules::{PathTables, paths_of};
 use ls_text::{NameId, Place, Refusal};
 use std::alloc::Global;
-use typed_ir::{SignalId, Stmt};
-use unit_ir::{ItemPlaces, SignalDeclaration, TypedItem, UnitSignal};
+use typed_ir::{ItemPlaces, SignalDeclaration, SignalId, Stmt, TypedItem, UnitSignal};
 use width_rules::refused;
 
 // The number of a signal's declaration, 0 where it has none.

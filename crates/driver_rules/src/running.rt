@@ -6,7 +6,7 @@ ghost use Rattle.driver_rules.specs.Told.{free_run, Puts};
 
 use crate::driver::Driver;
 use crate::driver_id::DriverId;
-use no_memory::NoMemory;
+use ls_text::NoMemory;
 use typed_ir::{SignalId, Span};
 
 // Whether a mask has a bit.

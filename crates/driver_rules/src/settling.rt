@@ -1,15 +1,14 @@
 // Items to the signals that combinational blocks among them write.
 ghost use Rattle.std.specs.Prelude.{◌≡◌, ◌||◌, ◌&&◌, ◌==◌, ℕ, IfOk, OnOk, length, map, nat_lt};
-ghost use Rattle.unit_ir.specs.Items.{item_of, body_of};
+ghost use Rattle.typed_ir.specs.Items.{item_of, body_of};
 ghost use Rattle.driver_rules.specs.Writes.{blocks_of};
 ghost use Rattle.driver_rules.specs.Targets.{flag_at, names, block_names, is_settled};
 
 use crate::spanning::block_of;
 use block_rules::targets_in;
-use no_memory::NoMemory;
+use ls_text::NoMemory;
 use std::alloc::Global;
-use typed_ir::{SignalId, Span};
-use unit_ir::{ItemBody, TypedItem};
+use typed_ir::{ItemBody, SignalId, Span, TypedItem};
 
 // Flags a signal, where there are so many.
 fn flag(flags: &mut [bool], signal: SignalId)

@@ -1,14 +1,13 @@
 // Parts at fault to the mention of the earliest of them, and to the fault there.
 ghost use Rattle.std.specs.Prelude.{◌≡◌, ◌++◌, ◌∷◌, [], Some, IfErr, IfOk, OnOk, if◌then◌else◌};
-ghost use Rattle.unit_ir.specs.declared.mention.Mention.{Mention};
+ghost use Rattle.typed_ir.specs.declared.mention.Mention.{Mention};
 ghost use Rattle.width_rules.specs.Faults.{IsFirst};
 ghost use Rattle.driver_rules.specs.Mentioned.{of_mention, shown_at, sooner, earliest, shown_faults};
 
 use crate::shown::Shown;
-use ls_text::{Place, Refusal};
-use no_memory::NoMemory;
+use ls_text::{NoMemory, Place, Refusal};
 use std::alloc::Global;
-use unit_ir::Mention;
+use typed_ir::Mention;
 use width_rules::refused;
 
 /// Adds the number of a part where it is at fault.

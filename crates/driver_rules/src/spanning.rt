@@ -4,15 +4,14 @@ ghost use Rattle.typed_ir.specs.declared.span.Span.{Span};
 ghost use Rattle.typed_ir.specs.Nodes.{lane_spans};
 ghost use Rattle.typed_ir.specs.FlatNodes.{node_of};
 ghost use Rattle.typed_ir.specs.Statements.{stmt_of};
-ghost use Rattle.unit_ir.specs.Units.{unit_node_of};
-ghost use Rattle.unit_ir.specs.Items.{body_of};
+ghost use Rattle.typed_ir.specs.Units.{unit_node_of};
+ghost use Rattle.typed_ir.specs.Items.{body_of};
 ghost use Rattle.driver_rules.specs.Writes.{flat_spans, node_spans, spans_of, written, flat_blocks, node_blocks, blocks_of};
 
 use block_rules::targets_in;
-use no_memory::NoMemory;
+use ls_text::NoMemory;
 use std::alloc::Global;
-use typed_ir::{Lane, Node, SignalId, Span, Stmt, later_spans};
-use unit_ir::{ItemBody, UnitNode};
+use typed_ir::{ItemBody, Lane, Node, SignalId, Span, Stmt, UnitNode, later_spans};
 
 // The bits of a target's lanes.
 fn lane_spans(alloc: Global, lanes: &[Lane]) -> Result<Vec<Span>, NoMemory>

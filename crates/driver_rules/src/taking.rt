@@ -1,7 +1,7 @@
 // Items to their bits, each with the one item that drives or writes it, or to the first part with a bit that another has (34).
 ghost use Rattle.std.specs.Prelude.{◌≡◌, ◌<◌, ◌||◌, ◌&&◌, ℕ, [], false, length, map, IfOk, IfErr};
 ghost use Rattle.typed_ir.specs.Valuations.{within, any_within, nowhere};
-ghost use Rattle.unit_ir.specs.Items.{item_of};
+ghost use Rattle.typed_ir.specs.Items.{item_of};
 ghost use Rattle.width_rules.specs.Faults.{IsFirst};
 ghost use Rattle.typed_ir.specs.Touches.{has_bit};
 ghost use Rattle.block_rules.specs.Paths.{places_of_true, some_below};
@@ -17,11 +17,9 @@ use crate::running::add_runs;
 use crate::showing::{check_shown, earliest, note_if};
 use crate::spanning::spans_of;
 use crate::targeting::writer_of;
-use ls_text::Refusal;
-use no_memory::NoMemory;
+use ls_text::{NoMemory, Refusal};
 use std::alloc::Global;
-use typed_ir::{Span, run_mask};
-use unit_ir::TypedItem;
+use typed_ir::{Span, TypedItem, run_mask};
 use width_rules::Writer;
 
 // Whether two masks have a bit in common.

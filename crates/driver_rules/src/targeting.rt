@@ -1,19 +1,17 @@
 // Items to the first target that may not be written by what writes it (33).
 ghost use Rattle.std.specs.Prelude.{◌≡◌, [], IfOk, IfErr, OnOk, map, not};
 ghost use Rattle.typed_ir.specs.FlatNodes.{node_of};
-ghost use Rattle.unit_ir.specs.Units.{unit_node_of};
-ghost use Rattle.unit_ir.specs.Items.{body_of, item_of};
+ghost use Rattle.typed_ir.specs.Units.{unit_node_of};
+ghost use Rattle.typed_ir.specs.Items.{body_of, item_of};
 ghost use Rattle.width_rules.specs.Faults.{IsFirst};
 ghost use Rattle.block_rules.specs.Paths.{places_of_true};
 ghost use Rattle.driver_rules.specs.Targets.{flag_at, is_net_kind, is_variable_kind, is_net, is_variable, flat_writer, node_writer, writer_of, may_write, target_faults, all_target_faults};
 
 use crate::showing::{check_shown, earliest, note_if};
 use crate::spanning::written;
-use ls_text::Refusal;
-use no_memory::NoMemory;
+use ls_text::{NoMemory, Refusal};
 use std::alloc::Global;
-use typed_ir::{Node, SignalId};
-use unit_ir::{ItemBody, SignalDeclaration, SignalKind, TypedItem, UnitNode};
+use typed_ir::{ItemBody, Node, SignalDeclaration, SignalId, SignalKind, TypedItem, UnitNode};
 use width_rules::Writer;
 
 fn flat_writer(node: &Node) -> Writer

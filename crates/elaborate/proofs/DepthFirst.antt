@@ -5,7 +5,7 @@ use Rattle.std.proofs.lemmas.Bool.{cond-true, cond-false, eq-eqb, ne_eqb, lt-ltb
 use Rattle.std.proofs.lemmas.List.{length_push, map_push, length-map}
 use Rattle.ls_text.specs.declared.fault.Fault.{Fault}
 use Rattle.verilog_ast.specs.Items.{ModuleDeclaration}
-use Rattle.unit_ir.specs.Instances.{closed_to, goes_down, is_depth_first}
+use Rattle.typed_ir.specs.Instances.{closed_to, goes_down, is_depth_first}
 use Rattle.ls_text.specs.Answers.{◌>>=◌}
 use Rattle.gen_unroll.proofs.Answered.{err_or_ok, ok_same, first_step, past_test}
 use Rattle.elaborate.specs.declared.limits.Limits.{Limits}

@@ -8,12 +8,12 @@ use Rattle.ls_text.specs.declared.name_id.NameId.{NameId}
 use Rattle.ls_text.specs.Texts.{Grows, IsIdOf, text_at}
 use Rattle.ls_text.proofs.Growth.{grown_text, grown_id, grows_on}
 use Rattle.typed_ir.proofs.Lists.{drop_read}
-use Rattle.unit_ir.specs.declared.instance.Instance.{Instance}
+use Rattle.typed_ir.specs.declared.instance.Instance.{Instance}
 use Rattle.gen_unroll.specs.Views.{block_of}
 use Rattle.ls_text.specs.Answers.{◌>>=◌}
 use Rattle.gen_unroll.specs.Values.{constant_of}
 use Rattle.verilog_ast.specs.Items.{ModuleDeclaration}
-use Rattle.unit_ir.specs.Instances.{parent_of, is_depth_first}
+use Rattle.typed_ir.specs.Instances.{parent_of, is_depth_first}
 use Rattle.elaborate.specs.declared.limits.Limits.{Limits}
 use Rattle.elaborate.proofs.DepthFirst.{depth_first}
 use Rattle.elaborate.specs.declared.standing.StandingInstance.{StandingInstance}

@@ -9,3 +9,5 @@ pub mod Trees
 pub mod TreeViews
 pub mod Views
 pub mod Jobs
+pub mod Renaming
+pub mod Findings

@@ -3,7 +3,7 @@ use Rattle.std.specs.Prelude.{List, map}
 use Rattle.std.specs.Option.{option_map}
 use Rattle.ls_text.specs.declared.name_id.NameId.{NameId}
 use Rattle.typed_ir.specs.declared.constant.Const.{Const}
-use Rattle.unit_ir.specs.declared.port_shape.PortShape.{PortShape}
+use Rattle.typed_ir.specs.declared.port_shape.PortShape.{PortShape}
 use Rattle.gen_unroll.specs.Values.{constant_of}
 use Rattle.gen_unroll.specs.Views.{bit_range_of, override_view, here_of, block_of}
 use Rattle.clock_rules.specs.Views.{clocks_view}

@@ -1,6 +1,6 @@
 // What the visit of a module finds behind its checks.
 use ls_text::NameId;
-use unit_ir::PortShape;
+use typed_ir::PortShape;
 
 /// The clock port of each instance of a module, and the module's own ports in the order of its header.
 #[derive(Drop)]

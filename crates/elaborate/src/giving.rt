@@ -7,8 +7,7 @@ ghost use Rattle.elaborate.specs.Views.{given_of};
 
 use crate::given_parameters::GivenParameters;
 use indexmap::IndexMap;
-use ls_text::NameId;
-use no_memory::NoMemory;
+use ls_text::{NameId, NoMemory};
 use std::alloc::Global;
 use typed_ir::Const;
 

@@ -19,6 +19,7 @@ mod declaration_kind;
 mod declarations;
 mod declared_name;
 mod declaring;
+mod design_laws;
 mod designing;
 mod elaborating;
 mod given_parameters;
@@ -36,5 +37,8 @@ mod visit_key;
 mod visited;
 mod visiting;
 
+pub use design_laws::{
+    names_may_change_in_designs, names_may_change_in_headers, names_may_change_in_modules,
+};
 pub use limits::Limits;
 pub use tree::{elaborate, tree_within};

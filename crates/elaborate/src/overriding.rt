@@ -12,9 +12,8 @@ ghost use Rattle.elaborate.specs.Views.{given_of};
 
 use crate::given_parameters::GivenParameters;
 use gen_unroll::evaluated;
-use ls_text::{NameId, Place, Refusal};
+use ls_text::{NameId, NoMemory, Place, Refusal};
 use module_names::NameOrder;
-use no_memory::NoMemory;
 use std::alloc::Global;
 use typed_ir::Const;
 use verilog_ast::{Child, Connections, Expr, Identifier, NamedConnection, OrderedConnection};

@@ -10,8 +10,7 @@ use crate::declarations::Declarations;
 use crate::declared_name::DeclaredName;
 use gen_unroll::BlockId;
 use indexmap::IndexMap;
-use ls_text::NameId;
-use no_memory::NoMemory;
+use ls_text::{NameId, NoMemory};
 use std::alloc::Global;
 
 impl Declarations {

@@ -13,11 +13,9 @@ use crate::designing::elaborate_within;
 use crate::limits::Limits;
 use crate::standing::StandingInstance;
 use gen_unroll::{Block, full_text};
-use ls_text::{NameId, Names, Refusal};
-use no_memory::NoMemory;
+use ls_text::{NameId, Names, NoMemory, Refusal};
 use std::alloc::Global;
-use typed_ir::{ConstList, InstanceId, InstanceName};
-use unit_ir::{Instance, InstanceTree, PortList};
+use typed_ir::{ConstList, Instance, InstanceId, InstanceName, InstanceTree, PortList};
 use verilog_ast::Module;
 
 // The blocks of the module that an instance stands in.

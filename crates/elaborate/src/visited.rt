@@ -2,7 +2,7 @@
 use crate::checking::Checking;
 use gen_unroll::Block;
 use ls_text::NameId;
-use unit_ir::PortShape;
+use typed_ir::PortShape;
 
 /// What the visit of a module finds: the names that it declares, its instances, the clock port of each of these, the blocks of its
 /// generate constructs, and its ports in the order of the header.

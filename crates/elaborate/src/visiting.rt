@@ -24,12 +24,10 @@ use crate::declarations::Declarations;
 use crate::declaring::is_input;
 use crate::visited::Visited;
 use gen_unroll::{Block, Step, Unrolled, unroll_within};
-use ls_text::{Fault, NameId, Refusal};
+use ls_text::{Fault, NameId, NoMemory, Refusal};
 use module_names::{ModuleNames, Modules};
-use no_memory::NoMemory;
 use std::alloc::Global;
-use typed_ir::Const;
-use unit_ir::PortShape;
+use typed_ir::{Const, PortShape};
 use verilog_ast::Identifier;
 use width_rules::refused_at;
 

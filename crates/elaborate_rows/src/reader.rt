@@ -1,8 +1,7 @@
 // What one row's text is elaborated to.
 use crate::shown::{Shown, push_fault, push_tree};
 use elaborate::elaborate;
-use ls_text::{Names, Refusal, push_decimal};
-use no_memory::NoMemory;
+use ls_text::{Names, NoMemory, Refusal, push_decimal};
 use row_tables::{Reader, tokens_of};
 use std::alloc::Global;
 use verilog_ast::Module;

@@ -1,10 +1,8 @@
 // How a row shows a design.
-use ls_text::{At, Fault, Names, push_decimal};
-use no_memory::NoMemory;
+use ls_text::{At, Fault, Names, NoMemory, push_decimal};
 use row_tables::{fault_text, texts_of};
 use std::alloc::Global;
-use typed_ir::Const;
-use unit_ir::{Instance, InstanceTree, PortShape};
+use typed_ir::{Const, Instance, InstanceTree, PortShape};
 
 /// What a reader shows of a design.
 #[derive(Clone, Copy, Debug, PartialEq, Eq)]

@@ -2,7 +2,7 @@
 use crate::running::ran;
 use crate::scripts::CARRIED;
 use ls_port::{SolidShelf, SolidSink, SolidSource};
-use no_memory::NoMemory;
+use ls_text::NoMemory;
 use std::alloc::Global;
 use std::process::Abort;
 use std::sync::Wait;

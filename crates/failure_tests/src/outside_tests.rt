@@ -5,7 +5,7 @@ use crate::scripts::{SETTLED, replies, script};
 use book_history::entry::Entry;
 use book_history::who::Who;
 use ls_port::{MemSink, MemSource, SolidShelf, SolidSource};
-use no_memory::NoMemory;
+use ls_text::NoMemory;
 use std::alloc::Global;
 use std::process::Abort;
 use std::sync::Wait;

@@ -5,7 +5,7 @@ use cycle_eval::Design;
 use history_replay::{is_over, is_right};
 use livesim::{Outcome, live_run};
 use ls_port::{OpenGate, Shelf, Sink, Source};
-use no_memory::NoMemory;
+use ls_text::NoMemory;
 use std::alloc::Global;
 use std::sync::Wait;
 use std::test::Fail;

@@ -1,5 +1,5 @@
 // The scripts that are run, command by command, with what answers each, without workers, under an interval of 2 and a lookback of 1.
-use no_memory::NoMemory;
+use ls_text::NoMemory;
 use std::alloc::Global;
 
 /// A command and its reply.

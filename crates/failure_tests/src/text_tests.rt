@@ -3,7 +3,7 @@ use crate::running::ran;
 use crate::scripts::{ACCEPTED, BLOCK};
 use crate::texts::{TEXTS, text};
 use ls_port::{SolidShelf, SolidSink, SolidSource};
-use no_memory::NoMemory;
+use ls_text::NoMemory;
 use std::alloc::Global;
 use std::test::Fail;
 

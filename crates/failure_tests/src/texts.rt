@@ -1,5 +1,5 @@
 // Texts that pass a limit by one.
-use no_memory::NoMemory;
+use ls_text::NoMemory;
 use std::alloc::Global;
 
 const TOP: &str = "module top(input clk);\n";

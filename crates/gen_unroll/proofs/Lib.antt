@@ -11,3 +11,15 @@ pub mod Prefixes
 pub mod Overridden
 pub mod MovedLists
 pub mod Answered
+pub mod Searching
+pub mod Completing
+pub mod Rowing
+pub mod Growth
+pub mod Ordering
+pub mod Entered
+pub mod Orders
+pub mod Header
+pub mod Numbered
+pub mod Fitting
+pub mod Placeholders
+pub mod Signals

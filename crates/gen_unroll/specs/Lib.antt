@@ -8,3 +8,16 @@ pub mod Spoken
 pub mod Views
 pub mod ReachViews
 pub mod Overriding
+pub mod Signals
+pub mod Numbers
+pub mod UnitReaches
+pub mod UnitLists
+pub mod Places
+pub mod PlaceViews
+pub mod SignalViews
+pub mod TableViews
+pub mod Rows
+pub mod NumberingViews
+pub mod ModuleViews
+pub mod UnitReachViews
+pub mod Sound

@@ -10,7 +10,7 @@ ghost use Rattle.gen_unroll.specs.Unrolled.{with_turn};
 ghost use Rattle.gen_unroll.specs.Views.{turn_of};
 
 use crate::turn::Turn;
-use no_memory::NoMemory;
+use ls_text::NoMemory;
 use typed_ir::SignalId;
 use verilog_ast::{
     GenerateItem, HeaderPort, Identifier, Instance, Item, PlainItem, Ports, RegVariable, Variable,

@@ -6,7 +6,7 @@ ghost use Rattle.gen_unroll.specs.declared.parameter_sort.ParameterSort.TheVaria
 ghost use Rattle.gen_unroll.specs.Overriding as p;
 
 use crate::parameter_sort::ParameterSort;
-use no_memory::NoMemory;
+use ls_text::NoMemory;
 use std::alloc::Global;
 use typed_ir::Const;
 use verilog_ast::{GenerateItem, HeaderParameter, Item, ModuleBody, Parameter, PlainItem};

@@ -11,7 +11,7 @@ use crate::block_id::BlockId;
 use crate::naming::{declare, declare_module_items, declare_ports, open_block};
 use crate::reach::Reach;
 use crate::step::Step;
-use no_memory::NoMemory;
+use ls_text::NoMemory;
 use std::alloc::Global;
 use std::collections::VecDeque;
 use verilog_ast::{GenerateItem, Identifier, ModuleBody};

@@ -9,8 +9,7 @@ ghost use Rattle.gen_unroll.specs.Views.{block_of, here_of, turn_of};
 use crate::block::Block;
 use crate::block_id::BlockId;
 use crate::turn::Turn;
-use ls_text::{NameId, Names};
-use no_memory::NoMemory;
+use ls_text::{NameId, Names, NoMemory};
 use std::alloc::Global;
 use typed_ir::Const;
 

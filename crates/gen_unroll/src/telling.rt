@@ -10,7 +10,7 @@ use crate::naming::declare;
 use crate::parameter_sort::ParameterSort;
 use crate::step::Step;
 use crate::walk::Walk;
-use no_memory::NoMemory;
+use ls_text::NoMemory;
 use typed_ir::Const;
 use verilog_ast::Identifier;
 use width_rules::Entry;

@@ -23,8 +23,7 @@ use crate::telling::{enter, next_override, tell};
 use crate::turn::Turn;
 use crate::unrolled::Unrolled;
 use crate::walk::Walk;
-use ls_text::{Fault, Place, Refusal};
-use no_memory::NoMemory;
+use ls_text::{Fault, NoMemory, Place, Refusal};
 use std::alloc::Global;
 use typed_ir::Const;
 use verilog_ast::{

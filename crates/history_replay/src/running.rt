@@ -2,8 +2,8 @@
 use crate::mark::Mark;
 use crate::states::advanced;
 use book_history::link::Link;
+use ls_text::NoMemory;
 use machine::row_runs::RowRuns;
-use no_memory::NoMemory;
 use std::alloc::Global;
 use stimulus::Row;
 

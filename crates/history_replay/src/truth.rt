@@ -3,8 +3,8 @@
 use crate::mark::Mark;
 use crate::states::{advanced, same};
 use book_history::link::Link;
+use ls_text::NoMemory;
 use machine::row_runs::RowRuns;
-use no_memory::NoMemory;
 use std::alloc::Global;
 use stimulus::Row;
 

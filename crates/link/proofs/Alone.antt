@@ -1,7 +1,7 @@
 -- A table of instances is that of one tree alone.
 use Rattle.std.proofs.Common.{◌≡◌, ℕ, suc, ◌+◌, ◌≤◌, List, [], ◌∷◌, ◌++◌, length, get_or, drop, Option, Some, None, append_assoc, append-nil, refl, sym, ◌∙◌, ap, ap₂, arith}
 use Rattle.std.proofs.lemmas.Option.{none-some}
-use Rattle.unit_ir.specs.Trees.{Instances, Nothing, One}
+use Rattle.typed_ir.specs.Trees.{Instances, Nothing, One}
 use Rattle.link.specs.Listings.{Entry, instances_in, listed}
 
 number : Option ℕ → ℕ

@@ -2,7 +2,7 @@
 use Rattle.std.proofs.Common.{◌≡◌, ℕ, suc, ◌+◌, ◌<◌, ◌≤◌, List, [], ◌∷◌, ◌++◌, map, length, Option, Some, None, append_assoc, append-nil, refl, sym, ◌∙◌, ap, ap₂, arith}
 use Rattle.std.specs.Prelude.{slice_index}
 use Rattle.std.proofs.lemmas.List.{length-append, length-map, map-append}
-use Rattle.unit_ir.specs.Trees.{SizedUnit, Standing, Instances, Nothing, One, signals_in, firsts, copied_out, node_there, nodes_at}
+use Rattle.typed_ir.specs.Trees.{SizedUnit, Standing, Instances, Nothing, One, signals_in, firsts, copied_out, node_there, nodes_at}
 use Rattle.link.specs.Copies.{kids_in, copied_from, nodes_in}
 use Rattle.link.specs.Listings.{Entry, instances_in, listed}
 use Rattle.link.proofs.Listed.{HasKids, first_alone, firsts_are, kids_are, has_kids}

@@ -14,9 +14,9 @@ use Rattle.typed_ir.specs.Linkeds.{flat}
 use Rattle.comb_order.specs.declared.refusing.OrderRefusal.TheVariants.{Loop}
 use Rattle.comb_order.specs.Loops.{HasNoLoop}
 use Rattle.comb_order.specs.Refusals.{NodeBefore, IsRefusal}
-use Rattle.unit_ir.specs.declared.instance.Instance.{Instance}
-use Rattle.unit_ir.specs.declared.unit_parts.UnitParts.{UnitParts}
-use Rattle.unit_ir.specs.Trees.{Instances, flat_of_tree}
+use Rattle.typed_ir.specs.declared.instance.Instance.{Instance}
+use Rattle.typed_ir.specs.declared.unit_parts.UnitParts.{UnitParts}
+use Rattle.typed_ir.specs.Trees.{Instances, flat_of_tree}
 use Rattle.link.specs.Copies.{all_sized, nodes_in}
 use Rattle.link.specs.Faults.{HasNoLinkFault, IsLinkFault, too_many, loop_of, no_memory}
 use Rattle.link.specs.Listings.{IsTreeOf}

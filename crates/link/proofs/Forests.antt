@@ -5,11 +5,11 @@ use Rattle.typed_ir.specs.declared.instance_name.InstanceName.{InstanceName}
 use Rattle.typed_ir.specs.Orders.{Each}
 use Rattle.typed_ir.specs.Paths.{parents_of, parents_before}
 use Rattle.typed_ir.proofs.Cases.{and_left, and_right, by_cases}
-use Rattle.unit_ir.specs.declared.instance.Instance.{Instance}
-use Rattle.unit_ir.specs.declared.unit_parts.UnitParts.{UnitParts}
-use Rattle.unit_ir.specs.Instances.{parent_of, closed_to, goes_down, is_depth_first}
-use Rattle.unit_ir.specs.Trees.{SizedUnit, Instances, Nothing, One}
-use Rattle.unit_ir.specs.Units.{sized_unit}
+use Rattle.typed_ir.specs.declared.instance.Instance.{Instance}
+use Rattle.typed_ir.specs.declared.unit_parts.UnitParts.{UnitParts}
+use Rattle.typed_ir.specs.Instances.{parent_of, closed_to, goes_down, is_depth_first}
+use Rattle.typed_ir.specs.Trees.{SizedUnit, Instances, Nothing, One}
+use Rattle.typed_ir.specs.Units.{sized_unit}
 use Rattle.link.specs.Copies.{places_of}
 use Rattle.link.specs.Listings.{Entry, instances_in, listed, entries_of, IsTreeOf}
 

@@ -1,7 +1,7 @@
 -- The instances that stand in each one, found in the table of a tree, are those that the tree has there.
 use Rattle.std.proofs.Common.{◌≡◌, ◌≢◌, ℕ, suc, ◌+◌, ◌<◌, ◌≤◌, false, List, [], ◌∷◌, ◌++◌, length, cond, Option, Some, None, append_assoc, append-nil, refl, sym, ◌∙◌, ap, ap₂, ne_eqb, eq-eqb, arith}
-use Rattle.unit_ir.specs.Shapes.{stands_in}
-use Rattle.unit_ir.specs.Trees.{Instances, Nothing, One, signals_in, firsts}
+use Rattle.typed_ir.specs.Shapes.{stands_in}
+use Rattle.typed_ir.specs.Trees.{Instances, Nothing, One, signals_in, firsts}
 use Rattle.link.specs.Copies.{kids_in}
 use Rattle.link.specs.Listings.{Entry, instances_in, listed}
 

@@ -17,14 +17,14 @@ use Rattle.typed_ir.specs.Statements.{stmt_of}
 use Rattle.typed_ir.specs.Stmts.{SizedStmt, is_legal, is_clocked}
 use Rattle.typed_ir.specs.Rows.{row_in}
 use Rattle.typed_ir.proofs.Widths.{widths_stay}
-use Rattle.unit_ir.specs.declared.instance.Instance.{Instance}
-use Rattle.unit_ir.specs.declared.unit.Unit.{Unit as Unit'}
-use Rattle.unit_ir.specs.declared.unit_parts.UnitParts.{UnitParts}
-use Rattle.unit_ir.specs.Instances.{parent_of, is_depth_first}
-use Rattle.unit_ir.specs.Shapes.{AreOf}
-use Rattle.unit_ir.specs.Trees.{Instances, Nothing, One, is_legal_block, flat_of_tree, top_inputs, copied_out, signals_at, registers_at, nodes_at, blocks_at}
-use Rattle.unit_ir.proofs.Linking.{flat_sound}
-use Rattle.unit_ir.proofs.Widths.{flat_legal, flat_clocked, flat_registers, flat_inputs}
+use Rattle.typed_ir.specs.declared.instance.Instance.{Instance}
+use Rattle.typed_ir.specs.declared.unit.Unit.{Unit as Unit'}
+use Rattle.typed_ir.specs.declared.unit_parts.UnitParts.{UnitParts}
+use Rattle.typed_ir.specs.Instances.{parent_of, is_depth_first}
+use Rattle.typed_ir.specs.Shapes.{AreOf}
+use Rattle.typed_ir.specs.Trees.{Instances, Nothing, One, is_legal_block, flat_of_tree, top_inputs, copied_out, signals_at, registers_at, nodes_at, blocks_at}
+use Rattle.typed_ir.proofs.Linking.{flat_sound}
+use Rattle.typed_ir.proofs.UnitWidths.{flat_legal, flat_clocked, flat_registers, flat_inputs}
 use Rattle.link.specs.Copies.{all_sized, copied_from, first_inputs, kids_in, nodes_in, path_at, places_of}
 use Rattle.link.specs.Listings.{Entry, entries_of, instances_in, IsTreeOf, all_parts}
 use Rattle.link.proofs.Copied.{units_within, listed_long, copied_all, nodes_counted}

@@ -6,7 +6,7 @@ use Rattle.ls_text.specs.Texts.{Grows}
 use Rattle.ls_text.proofs.Growth.{grows_none, grows_on, grown_text}
 use Rattle.typed_ir.specs.declared.instance_name.InstanceName.{InstanceName}
 use Rattle.typed_ir.specs.Paths.{path_above, path_next, paths_from}
-use Rattle.unit_ir.specs.Trees.{Instances, Nothing, One}
+use Rattle.typed_ir.specs.Trees.{Instances, Nothing, One}
 use Rattle.link.specs.Listings.{Entry, instances_in, listed}
 
 abbrev pub row_of : Entry → InstanceName

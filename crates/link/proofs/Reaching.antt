@@ -12,10 +12,10 @@ use Rattle.typed_ir.specs.Nodes.{are_lanes, lane_spans}
 use Rattle.typed_ir.specs.Orders.{Member, at_or}
 use Rattle.typed_ir.specs.Valuations.{within, any_within}
 use Rattle.typed_ir.proofs.Cases.{and_left, and_right, by_cases, only_right}
-use Rattle.unit_ir.specs.declared.child_shape.ChildShape.{ChildShape}
-use Rattle.unit_ir.specs.declared.port_shape.PortShape.{PortShape}
-use Rattle.unit_ir.specs.Shapes.{is_data_input, data_inputs, is_input_of, are_inputs_of}
-use Rattle.unit_ir.proofs.Fitting.{both_from}
+use Rattle.typed_ir.specs.declared.child_shape.ChildShape.{ChildShape}
+use Rattle.typed_ir.specs.declared.port_shape.PortShape.{PortShape}
+use Rattle.typed_ir.specs.Shapes.{is_data_input, data_inputs, is_input_of, are_inputs_of}
+use Rattle.typed_ir.proofs.Fitting.{both_from}
 
 -- ---- what fits the beginning of a list of widths fits the list
 

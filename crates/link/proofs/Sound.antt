@@ -14,15 +14,15 @@ use Rattle.typed_ir.specs.Nodes.{Drive, node_drives, lane_spans, are_lanes, is_l
 use Rattle.typed_ir.specs.Valuations.{any_within}
 use Rattle.typed_ir.proofs.Cases.{and_left, and_right}
 use Rattle.typed_ir.proofs.Mentions.{drives_small}
-use Rattle.unit_ir.specs.declared.child_shape.ChildShape.{ChildShape}
-use Rattle.unit_ir.specs.declared.instance.Instance.{Instance}
-use Rattle.unit_ir.specs.declared.unit.Unit.{Unit as Unit'}
-use Rattle.unit_ir.specs.declared.unit_parts.UnitParts.{UnitParts}
-use Rattle.unit_ir.specs.declared.unit_signal.UnitSignal.{UnitSignal}
-use Rattle.unit_ir.specs.OwnWidths.{IsSized, child_widths, port_widths}
-use Rattle.unit_ir.specs.Shapes.{AreOf, none, more, HasPorts, children_of, goes_into_input, are_inputs_of, shape_of, stands_in}
-use Rattle.unit_ir.specs.Trees.{UnitNode, Own, Into, From, SizedUnit, Instances, Nothing, One, signals_in, IsUnit, IsFit, IsSoundUnit, IsLegalUnit, AreSound, AreLegal, unit_widths, kid_widths, is_kid_input, is_legal_unit_node}
-use Rattle.unit_ir.specs.Units.{sized_unit, signal_within}
+use Rattle.typed_ir.specs.declared.child_shape.ChildShape.{ChildShape}
+use Rattle.typed_ir.specs.declared.instance.Instance.{Instance}
+use Rattle.typed_ir.specs.declared.unit.Unit.{Unit as Unit'}
+use Rattle.typed_ir.specs.declared.unit_parts.UnitParts.{UnitParts}
+use Rattle.typed_ir.specs.declared.unit_signal.UnitSignal.{UnitSignal}
+use Rattle.typed_ir.specs.OwnWidths.{IsSized, child_widths, port_widths}
+use Rattle.typed_ir.specs.Shapes.{AreOf, none, more, HasPorts, children_of, goes_into_input, are_inputs_of, shape_of, stands_in}
+use Rattle.typed_ir.specs.Trees.{UnitNode, Own, Into, From, SizedUnit, Instances, Nothing, One, signals_in, IsUnit, IsFit, IsSoundUnit, IsLegalUnit, AreSound, AreLegal, unit_widths, kid_widths, is_kid_input, is_legal_unit_node}
+use Rattle.typed_ir.specs.Units.{sized_unit, signal_within}
 use Rattle.link.specs.Copies.{all_sized}
 use Rattle.link.specs.Listings.{Entry, entry_of, entries_of, instances_in, listed, all_parts}
 use Rattle.link.proofs.Copied.{unit_of, units_within, units_listed}

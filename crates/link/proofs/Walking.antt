@@ -4,9 +4,9 @@ use Rattle.std.specs.declared.sync.Arc.{Arc}
 use Rattle.std.proofs.lemmas.List.{length-map, append-nil, at_drop_all}
 use Rattle.typed_ir.proofs.Cases.{by_cases}
 use Rattle.typed_ir.proofs.Lists.{drop_read}
-use Rattle.unit_ir.specs.declared.unit.Unit.{Unit as Unit'}
-use Rattle.unit_ir.specs.Trees.{SizedUnit, Standing}
-use Rattle.unit_ir.specs.Units.{sized_unit, signal_within, unit_node_of}
+use Rattle.typed_ir.specs.declared.unit.Unit.{Unit as Unit'}
+use Rattle.typed_ir.specs.Trees.{SizedUnit, Standing}
+use Rattle.typed_ir.specs.Units.{sized_unit, signal_within, unit_node_of}
 use Rattle.link.specs.Copies.{all_sized, copied_from, nodes_in}
 use Rattle.link.specs.Listings.{all_parts}
 use Rattle.link.proofs.Steps.{stepped}

@@ -2,11 +2,11 @@
 use Rattle.std.specs.Prelude.{ℕ, suc, ◌+◌, List, [], ◌∷◌, ◌++◌, map, length, slice_index_or, if◌then◌else◌}
 use Rattle.typed_ir.specs.declared.instance_name.InstanceName.{InstanceName}
 use Rattle.typed_ir.specs.Paths.{paths_of}
-use Rattle.unit_ir.specs.declared.instance.Instance.{Instance}
-use Rattle.unit_ir.specs.declared.unit_parts.UnitParts.{UnitParts}
-use Rattle.unit_ir.specs.Shapes.{stands_in}
-use Rattle.unit_ir.specs.Trees.{SizedUnit, Standing}
-use Rattle.unit_ir.specs.Units.{sized_unit}
+use Rattle.typed_ir.specs.declared.instance.Instance.{Instance}
+use Rattle.typed_ir.specs.declared.unit_parts.UnitParts.{UnitParts}
+use Rattle.typed_ir.specs.Shapes.{stands_in}
+use Rattle.typed_ir.specs.Trees.{SizedUnit, Standing}
+use Rattle.typed_ir.specs.Units.{sized_unit}
 use Rattle.link.specs.Listings.{Entry}
 
 -- the first signals of those that stand in instance k; the signals of the first of the list begin at `first`

@@ -2,11 +2,11 @@
 use Rattle.std.specs.Prelude.{◌≡◌, ℕ, suc, ◌+◌, List, [], ◌∷◌, ◌++◌, Option, Some, None, map}
 use Rattle.std.specs.Global.{Global}
 use Rattle.std.specs.declared.sync.Arc.{Arc}
-use Rattle.unit_ir.specs.declared.instance.Instance.{Instance}
-use Rattle.unit_ir.specs.declared.unit.Unit.{Unit as Unit'}
-use Rattle.unit_ir.specs.declared.unit_parts.UnitParts.{UnitParts}
-use Rattle.unit_ir.specs.Trees.{SizedUnit, Instances, Nothing, One}
-use Rattle.unit_ir.specs.Units.{sized_unit}
+use Rattle.typed_ir.specs.declared.instance.Instance.{Instance}
+use Rattle.typed_ir.specs.declared.unit.Unit.{Unit as Unit'}
+use Rattle.typed_ir.specs.declared.unit_parts.UnitParts.{UnitParts}
+use Rattle.typed_ir.specs.Trees.{SizedUnit, Instances, Nothing, One}
+use Rattle.typed_ir.specs.Units.{sized_unit}
 
 pub record Entry : Type 0 where
   -- none at the top

@@ -4,15 +4,17 @@ ghost use Rattle.typed_ir.specs.declared.instance_name.InstanceName.{InstanceNam
 ghost use Rattle.typed_ir.specs.Flats.{signal_of, are_within};
 ghost use Rattle.typed_ir.specs.FlatNodes.{node_of};
 ghost use Rattle.typed_ir.specs.Statements.{stmt_of};
-ghost use Rattle.unit_ir.specs.Shifts.{shifted_span, shifted_lane, shifted_stmt};
-ghost use Rattle.unit_ir.specs.Trees.{node_there, signal_there};
-ghost use Rattle.unit_ir.specs.Units.{signal_within, unit_node_of};
+ghost use Rattle.typed_ir.specs.Shifts.{shifted_span, shifted_lane, shifted_stmt};
+ghost use Rattle.typed_ir.specs.Trees.{node_there, signal_there};
+ghost use Rattle.typed_ir.specs.Units.{signal_within, unit_node_of};
 ghost use Rattle.link.specs.Copies.{path_at};
 
-use no_memory::NoMemory;
+use ls_text::NoMemory;
 use std::alloc::Global;
-use typed_ir::{InstanceId, Lane, Node, Signal, SignalId, Span, Stmt};
-use unit_ir::{ChildId, UnitNode, UnitSignal, shifted_node, shifted_stmt, shifted_typed};
+use typed_ir::{
+    ChildId, InstanceId, Lane, Node, Signal, SignalId, Span, Stmt, UnitNode, UnitSignal,
+    shifted_node, shifted_stmt, shifted_typed,
+};
 
 // The number of a signal, where those of its unit begin at the first one. Past the largest number there is no memory.
 fn behind(first: u32, signal: SignalId) -> Result<SignalId, NoMemory>

@@ -6,19 +6,21 @@ ghost use Rattle.typed_ir.specs.FlatNodes.{node_of};
 ghost use Rattle.typed_ir.specs.Linkeds.{flat};
 ghost use Rattle.typed_ir.specs.Statements.{stmt_of};
 ghost use Rattle.typed_ir.specs.Rows.{row_in};
-ghost use Rattle.unit_ir.specs.Shapes.{AreOf};
-ghost use Rattle.unit_ir.specs.Trees.{Instances, flat_of_tree, signals_at, registers_at, nodes_at, blocks_at};
+ghost use Rattle.typed_ir.specs.Shapes.{AreOf};
+ghost use Rattle.typed_ir.specs.Trees.{Instances, flat_of_tree, signals_at, registers_at, nodes_at, blocks_at};
 ghost use Rattle.link.specs.Copies.{all_sized, copied_from, first_inputs, nodes_in, path_at, places_of};
 ghost use Rattle.link.specs.Listings.{IsTreeOf, all_parts};
 
 use crate::copies::Copies;
 use crate::copying::{add_blocks, add_nodes, add_registers, add_signals};
 use crate::kids::{behind_all, kids_of, row_at};
-use no_memory::NoMemory;
+use ls_text::NoMemory;
 use std::alloc::Global;
 use std::sync::Arc;
-use typed_ir::{Flat, InstanceId, InstanceName, InstanceTable, Node, Signal, SignalId, Stmt};
-use unit_ir::{Instance, InstanceTree, Unit};
+use typed_ir::{
+    Flat, Instance, InstanceId, InstanceName, InstanceTable, InstanceTree, Node, Signal, SignalId,
+    Stmt, Unit,
+};
 
 /// Whether the units have at most so many nodes together.
 pub fn are_few(units: &[Arc<Unit, Global>], most: usize) -> bool

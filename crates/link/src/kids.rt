@@ -1,15 +1,14 @@
 // Instances with their units to the first signals of the instances that stand in each.
 ghost use Rattle.std.specs.Prelude.{◌≡◌, ◌++◌, ◌∷◌, [], ◌+◌, ◌<◌, ℕ, IfOk, length, if◌then◌else◌};
 ghost use Rattle.typed_ir.specs.Rows.{row_in};
-ghost use Rattle.unit_ir.specs.Shapes.{stands_in};
+ghost use Rattle.typed_ir.specs.Shapes.{stands_in};
 ghost use Rattle.link.specs.Copies.{kids_in};
 ghost use Rattle.link.specs.Listings.{entries_of, all_parts};
 
-use no_memory::NoMemory;
+use ls_text::NoMemory;
 use std::alloc::Global;
 use std::sync::Arc;
-use typed_ir::InstanceId;
-use unit_ir::{Instance, Unit, UnitSignal};
+use typed_ir::{Instance, InstanceId, Unit, UnitSignal};
 
 /// The number that lies a list's length behind another. Past the largest number there is no memory.
 pub fn behind_all(first: u32, signals: &[UnitSignal]) -> Result<u32, NoMemory>

@@ -2,10 +2,10 @@
 ghost use Rattle.std.specs.Prelude.{◌≡◌, true, false, ℕ, List, ◌∷◌, map, length};
 ghost use Rattle.typed_ir.specs.Nodes.{FlatNode};
 ghost use Rattle.typed_ir.specs.Orders.{Each, Member, at_or};
-ghost use Rattle.unit_ir.specs.declared.instance.Instance.{Instance};
-ghost use Rattle.unit_ir.specs.declared.unit_parts.UnitParts.{UnitParts};
-ghost use Rattle.unit_ir.specs.Instances.{parent_of, is_depth_first};
-ghost use Rattle.unit_ir.specs.Trees.{Instances};
+ghost use Rattle.typed_ir.specs.declared.instance.Instance.{Instance};
+ghost use Rattle.typed_ir.specs.declared.unit_parts.UnitParts.{UnitParts};
+ghost use Rattle.typed_ir.specs.Instances.{parent_of, is_depth_first};
+ghost use Rattle.typed_ir.specs.Trees.{Instances};
 ghost use Rattle.comb_order.specs.Loops.{IsLoop};
 ghost use Rattle.comb_order.specs.Refusals.{NodeBefore};
 ghost use Rattle.link.specs.Listings.{IsTreeOf};

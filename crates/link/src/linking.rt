@@ -3,8 +3,8 @@ ghost use Rattle.std.specs.Prelude.{◌≡◌, ◌<◌, ◌≤◌, All, ℕ, IfO
 ghost use Rattle.ls_text.specs.Texts.{Grows};
 ghost use Rattle.ls_text.specs.declared.at.At.TheVariants.{Edit};
 ghost use Rattle.typed_ir.specs.Linkeds.{flat};
-ghost use Rattle.unit_ir.specs.Shapes.{AreOf};
-ghost use Rattle.unit_ir.specs.Trees.{Instances, flat_of_tree};
+ghost use Rattle.typed_ir.specs.Shapes.{AreOf};
+ghost use Rattle.typed_ir.specs.Trees.{Instances, flat_of_tree};
 ghost use Rattle.comb_order.specs.Loops.{HasNoLoop};
 ghost use Rattle.comb_order.specs.Refusals.{NodeBefore};
 ghost use Rattle.link.specs.Faults.{HasNoLinkFault, IsLinkFault};
@@ -15,12 +15,10 @@ ghost use Rattle.link.specs.Names.{node_text};
 use crate::flattening::{are_few, flattened};
 use crate::naming::{named, texts_of};
 use comb_order::{OrderRefusal, order};
-use ls_text::{At, Fault, NameList, Names, Refusal};
-use no_memory::NoMemory;
+use ls_text::{At, Fault, NameList, Names, NoMemory, Refusal};
 use std::alloc::Global;
 use std::sync::Arc;
-use typed_ir::{Flat, Linked, NodeId};
-use unit_ir::{InstanceTree, Unit};
+use typed_ir::{Flat, InstanceTree, Linked, NodeId, Unit};
 
 /// How many nodes a design may have.
 pub const NODE_LIMIT: usize = 1_048_576;

@@ -9,8 +9,7 @@ ghost use Rattle.ls_text.specs.TextViews.{text_items, text_of};
 ghost use Rattle.link.specs.Names.{form_of, node_text, select_text, target_text};
 
 use crate::targeting::first_target;
-use ls_text::{NameId, Names, push_decimal};
-use no_memory::NoMemory;
+use ls_text::{NameId, Names, NoMemory, push_decimal};
 use std::alloc::Global;
 use typed_ir::{Flat, InstanceId, InstanceName, Node, NodeId, Signal, Span, TargetForm};
 

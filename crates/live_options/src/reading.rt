@@ -7,7 +7,7 @@ use crate::Options;
 use crate::values::{choice_within, value_within};
 use clap::error::ErrorKind;
 use clap::{Arg, ArgMatches, Command};
-use no_memory::NoMemory;
+use ls_text::NoMemory;
 use std::alloc::Global;
 
 // Four options, each with one value and none repeated; no request for help.

@@ -20,8 +20,8 @@ use Rattle.module_registry.specs.Entries.{Entry, ensured, keys_of, missing}
 use Rattle.module_registry.specs.Keys.{KeyData}
 use Rattle.module_registry.specs.declared.build_job.BuildJob.{BuildJob}
 use Rattle.stimulus.specs.Records.{rows_of}
-use Rattle.unit_laws.proofs.HeldUnits.{none_held}
-use Rattle.unit_laws.specs.Held.{IsKeyUnder}
+use Rattle.version_swap.proofs.HeldUnits.{none_held}
+use Rattle.version_swap.specs.Held.{IsKeyUnder}
 use Rattle.version_swap.specs.Behind.{design_of, texts_behind}
 use Rattle.version_swap.specs.Operations.{AreValidBetween}
 use Rattle.version_swap.specs.Plans.{DesignOfTexts, Plans}

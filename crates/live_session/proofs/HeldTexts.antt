@@ -15,7 +15,7 @@ use Rattle.ls_text.specs.Answers.{◌>>=◌}
 use Rattle.module_registry.specs.Building.{Built, built_all}
 use Rattle.module_registry.specs.Entries.{Entry, ensured, entries as entries_with, if_missing, is_among, keys_of, missing}
 use Rattle.module_registry.specs.Keys.{KeyData, jobs_of, same}
-use Rattle.unit_laws.specs.Held.{AreHeldUnder, IsHeldUnder, IsKeyUnder}
+use Rattle.version_swap.specs.Held.{AreHeldUnder, IsHeldUnder, IsKeyUnder}
 use Rattle.live_session.specs.Sessions.{held_texts}
 use Rattle.live_session.specs.Verdicts.{missing_keys}
 

@@ -8,7 +8,7 @@ use Rattle.book_history.specs.Book.{Settings as BookSettings, Opens, Reloads, Ru
 use Rattle.book_history.specs.Kind.{SessionsOwn, kind_of}
 use Rattle.book_history.specs.Owned.{AllOwned, added, owned}
 use Rattle.book_history.specs.Tickets.{MayAddAll, MayAddKind, kept_all, kept_by}
-use Rattle.book_settle.specs.Passes.{IsUnfinished}
+use Rattle.segment_verify.specs.Passes.{IsUnfinished}
 use Rattle.book_turn.specs.Known.{entered, left}
 use Rattle.book_turn.specs.Rule.{Learned, MayLeave}
 use Rattle.book_history.proofs.Owned.{all_owned, owned_append}

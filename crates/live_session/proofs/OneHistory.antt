@@ -12,7 +12,7 @@ use Rattle.book_history.specs.Moments.{moments_from}
 use Rattle.book_history.specs.Outline.{outline_in}
 use Rattle.book_history.specs.Owned.{AllOwned}
 use Rattle.book_history.proofs.Places.{replay-append}
-use Rattle.book_settle.specs.Passes.{IsSettle}
+use Rattle.segment_verify.specs.Passes.{IsSettle}
 use Rattle.command_read.specs.Asking.{Asked, Block, Edits, Sets, Runs, Shows, Settles, AsksStatus, Quits}
 use Rattle.cycle_eval.specs.declared.design.Design.{Design}
 use Rattle.reg_transform.specs.States.{state_values}

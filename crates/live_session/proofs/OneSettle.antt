@@ -12,7 +12,7 @@ use Rattle.book_history.specs.Book.{has_link, install_found, is_current, is_join
 use Rattle.book_history.specs.Book.{settled_to, shown, step, takes, with_segs, with_used}
 use Rattle.book_history.specs.Legal.{LegalFrom, MayFollow}
 use Rattle.book_history.specs.Moments.{moments_from}
-use Rattle.book_settle.specs.Passes.{ArePasses, no_pass, one_more}
+use Rattle.segment_verify.specs.Passes.{ArePasses, no_pass, one_more}
 use Rattle.cycle_eval.specs.declared.design.Design.{Design}
 use Rattle.live_session.specs.Entries.{bare}
 use Rattle.live_session.specs.Logs.{InputRow, LogEvent, State, kit, valid}

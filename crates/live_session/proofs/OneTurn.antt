@@ -9,7 +9,7 @@ use Rattle.book_history.specs.Book.{replay_from}
 use Rattle.book_history.specs.Legal.{LegalFrom}
 use Rattle.book_history.specs.Moments.{moments_from}
 use Rattle.book_history.proofs.Places.{moments-append}
-use Rattle.book_settle.specs.Passes.{IsSettle}
+use Rattle.segment_verify.specs.Passes.{IsSettle}
 use Rattle.command_read.specs.Asking.{Asked, Edits, Sets, Runs, Shows, Settles, AsksStatus, Quits}
 use Rattle.cycle_eval.specs.declared.design.Design.{Design}
 use Rattle.live_session.specs.Judging.{verdict_on, after}

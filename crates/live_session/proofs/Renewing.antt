@@ -25,8 +25,8 @@ use Rattle.module_registry.specs.Keys.{KeyData}
 use Rattle.module_registry.specs.declared.build_job.BuildJob.{BuildJob}
 use Rattle.stimulus.specs.Records.{rows_of}
 use Rattle.stimulus.specs.Rows.{AreAscending}
-use Rattle.unit_laws.proofs.HeldUnits.{cut_held, same_held}
-use Rattle.unit_laws.specs.Held.{AreHeldUnder, IsKeyUnder}
+use Rattle.version_swap.proofs.HeldUnits.{cut_held, same_held}
+use Rattle.version_swap.specs.Held.{AreHeldUnder, IsKeyUnder}
 use Rattle.version_swap.specs.Behind.{design_of, texts_behind}
 use Rattle.version_swap.specs.Files as numbered
 use Rattle.version_swap.specs.Operations.{AreValidBetween, IsEditFault, ops_of}

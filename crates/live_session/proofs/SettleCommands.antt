@@ -7,8 +7,8 @@ use Rattle.ls_text.specs.Texts.{HasEachOnce}
 use Rattle.book_history.specs.Book.{Book}
 use Rattle.book_history.specs.Owned.{AllOwned, owned}
 use Rattle.book_history.specs.Readers.{links_in}
-use Rattle.book_settle.proofs.Counting.{settle_owned, unfinished_owned}
-use Rattle.book_settle.specs.Passes.{IsSettle}
+use Rattle.segment_verify.proofs.Counting.{settle_owned, unfinished_owned}
+use Rattle.segment_verify.specs.Passes.{IsSettle}
 use Rattle.book_turn.specs.Turns.{HasAdded}
 use Rattle.command_read.specs.Asking.{Asked, Settles}
 use Rattle.cycle_eval.specs.declared.design.Design.{Design}

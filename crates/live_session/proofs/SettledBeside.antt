@@ -6,8 +6,8 @@ use Rattle.book_history.specs.Owned.{owned}
 use Rattle.book_history.specs.Readers.{links_in}
 use Rattle.book_history.specs.Rooms.{Counts, count_all}
 use Rattle.book_history.proofs.Outlines.{owned_counts, owned_outline}
-use Rattle.book_settle.proofs.Counting.{settle_counts, settle_outline, unfinished_counts, unfinished_long, unfinished_outline}
-use Rattle.book_settle.specs.Passes.{IsSettle, IsUnfinished}
+use Rattle.segment_verify.proofs.Counting.{settle_counts, settle_outline, unfinished_counts, unfinished_long, unfinished_outline}
+use Rattle.segment_verify.specs.Passes.{IsSettle, IsUnfinished}
 use Rattle.checkpoint_book.specs.Views.{IsOpened, counts_of}
 use Rattle.cycle_eval.specs.declared.design.Design.{Design}
 use Rattle.module_registry.specs.Entries.{Entry}

@@ -8,8 +8,8 @@ use Rattle.book_history.specs.declared.who.Who.TheVariants.{Session as SessionWh
 use Rattle.book_history.proofs.Outlines.{legal_outline, outline-append}
 use Rattle.book_history.proofs.Places.{moments-append, replay-append}
 use Rattle.book_history.proofs.Prefixes.{legal_first}
-use Rattle.book_settle.proofs.Counting.{passes_outline}
-use Rattle.book_settle.specs.Passes.{ArePasses, IsGivenUp, IsSettle, IsUnfinished, no_pass, no_ticket, one_more, one_ticket}
+use Rattle.segment_verify.proofs.Counting.{passes_outline}
+use Rattle.segment_verify.specs.Passes.{ArePasses, IsGivenUp, IsSettle, IsUnfinished, no_pass, no_ticket, one_more, one_ticket}
 use Rattle.book_history.proofs.Owned.{owned_append}
 use Rattle.book_turn.proofs.Histories.{added_append}
 use Rattle.book_turn.specs.Turns.{HasAdded}

@@ -9,7 +9,7 @@ use Rattle.book_history.specs.Outline.{Outline, outline_from, outline_in}
 use Rattle.book_history.specs.Owned.{AllOwned, is_owned, owned}
 use Rattle.book_history.specs.Rooms.{Counts, count_all, no_entry}
 use Rattle.book_history.proofs.Outlines.{outline_more}
-use Rattle.book_settle.specs.Counted.{with_more}
+use Rattle.segment_verify.specs.Counted.{with_more}
 use Rattle.book_history.proofs.Prefixes.{count-append}
 use Rattle.cycle_eval.specs.declared.design.Design.{Design}
 use Rattle.module_registry.specs.Entries.{Entry}

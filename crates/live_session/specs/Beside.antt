@@ -5,7 +5,7 @@ use Rattle.book_history.specs.Rooms.{count_all, no_entry}
 use Rattle.cycle_eval.specs.declared.design.Design.{Design}
 use Rattle.module_registry.specs.Views.{entries_of}
 use Rattle.stimulus.specs.Records.{rows_of}
-use Rattle.unit_laws.specs.Held.{AreHeldUnder}
+use Rattle.version_swap.specs.Held.{AreHeldUnder}
 use Rattle.live_session.specs.Logs.{InputRow, Log, marks_of, outline_of}
 use Rattle.live_session.specs.Sessions.{limits_of, settings_of, world}
 use Rattle.live_session.specs.Settings.{Settings}

@@ -1,7 +1,7 @@
 -- What stands where memory ran out: nothing of the command, or of a settle what it did so far.
 use Rattle.std.specs.Prelude.{◌≡◌, ℕ, ◌<◌, min, Bool, true, List, [], length, ◌++◌, Option, Ok}
 use Rattle.book_history.specs.Owned.{AllOwned, owned}
-use Rattle.book_settle.specs.Passes.{IsUnfinished}
+use Rattle.segment_verify.specs.Passes.{IsUnfinished}
 use Rattle.command_read.specs.Asking.{Asked, Settles}
 use Rattle.live_session.specs.Logs.{Log, LogEvent}
 use Rattle.live_session.specs.Settings.{Settings}

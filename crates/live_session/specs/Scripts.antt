@@ -5,7 +5,7 @@ use Rattle.ls_text.specs.Readings.{TextFault}
 use Rattle.ls_text.specs.Texts.{HasEachOnce}
 use Rattle.book_history.specs.Book.{Opens, Runs as RunsEvent, Reloads, Shows as ShowsEvent}
 use Rattle.book_history.specs.Outline.{Outline, outline_in}
-use Rattle.book_settle.specs.Passes.{IsSettle}
+use Rattle.segment_verify.specs.Passes.{IsSettle}
 use Rattle.command_read.specs.Asking.{Asked, Block, LineOperation, Edits, Sets, Runs, Shows, Settles, AsksStatus, Quits}
 use Rattle.cycle_eval.specs.Designs.{design_flat}
 use Rattle.cycle_eval.specs.declared.design.Design.{Design}

@@ -3,7 +3,7 @@ ghost use Rattle.std.specs.Prelude.{◌≡◌, ◌+◌, ◌≤◌, ◌<◌, ◌^
 ghost use Rattle.std.specs.List.{All};
 ghost use Rattle.ls_text.specs.Texts.{Grows, text_at};
 ghost use Rattle.module_registry.specs.Views.{entries_of};
-ghost use Rattle.unit_laws.specs.Held.{AreHeldUnder};
+ghost use Rattle.version_swap.specs.Held.{AreHeldUnder};
 ghost use Rattle.command_read.specs.Spoken.{IsEditWithin, edited};
 ghost use Rattle.live_session.specs.Beside.{Stands, settings_by};
 ghost use Rattle.live_session.specs.Begins.{Begins, GoesOn, LosesLine, SaysSo, StartsIn};

@@ -1,7 +1,7 @@
 // The scripts that are run: versions of one design with an input and a register, to which each cycle adds the input and what the version adds.
 ghost use Rattle.std.specs.Prelude.{◌≤◌};
 
-use no_memory::NoMemory;
+use ls_text::NoMemory;
 use std::alloc::Global;
 
 /// The first version, which adds nothing more, and three a cycle as input.

@@ -9,7 +9,7 @@ use crate::watched_sink::WatchedSink;
 use book_history::who::Who;
 use livesim::live_run;
 use ls_port::{GateStep, OpenGate, SolidShelf, SolidSink, SolidSource};
-use no_memory::NoMemory;
+use ls_text::NoMemory;
 use std::alloc::Global;
 use std::process::Abort;
 use std::sync::Wait;

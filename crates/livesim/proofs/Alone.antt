@@ -3,7 +3,7 @@ use Rattle.std.proofs.Common.{ℕ, true, List, [], ◌∷◌, ◌++◌, refl, sy
 use Rattle.book_history.specs.declared.who.Who.TheVariants.{Session}
 use Rattle.book_history.specs.Book.{Event, Claims, Installs}
 use Rattle.book_history.specs.Owned.{AllOwned}
-use Rattle.book_settle.specs.Passes.{ArePasses, no_pass, one_more, IsGivenUp, no_ticket, one_ticket, IsUnfinished}
+use Rattle.segment_verify.specs.Passes.{ArePasses, no_pass, one_more, IsGivenUp, no_ticket, one_ticket, IsUnfinished}
 
 module _ {D R O : Type 0} where
   pub alone-append : (xs ys : List (Event D R O)) → AllOwned true xs → AllOwned true ys → AllOwned true (xs ++ ys)

@@ -5,7 +5,7 @@ use Rattle.book_history.specs.Legal.{Legal}
 use Rattle.book_history.specs.Moments.{moments_from}
 use Rattle.book_history.specs.Owned.{owned}
 use Rattle.book_history.proofs.Places.{moments-append}
-use Rattle.book_settle.specs.Passes.{IsUnfinished}
+use Rattle.segment_verify.specs.Passes.{IsUnfinished}
 use Rattle.book_history.proofs.Owned.{owned_append}
 use Rattle.command_read.specs.Asking.{Asked}
 use Rattle.ls_text.specs.Readings.{TextFault}

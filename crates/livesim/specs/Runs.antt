@@ -15,7 +15,7 @@ use Rattle.live_session.specs.Loads.{AddsAnswers, AreToFirst, is_broken, loads_o
 use Rattle.live_session.specs.Readings.{AreRight}
 use Rattle.book_history.specs.Book.{Closes}
 use Rattle.book_history.specs.Owned.{owned}
-use Rattle.book_settle.specs.Passes.{IsUnfinished}
+use Rattle.segment_verify.specs.Passes.{IsUnfinished}
 use Rattle.live_session.specs.Logs.{IsLegal, Log, LogEvent, LogMoment, moments_of}
 use Rattle.live_session.specs.Replies.{lines, reply, asked_of, answers_of}
 use Rattle.live_session.specs.Scripts.{IsScript}

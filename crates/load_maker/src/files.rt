@@ -2,8 +2,7 @@
 ghost use Rattle.std.specs.Prelude.{◌≡◌, ◌≤◌, ◌++◌, decimal, OnOk};
 ghost use Rattle.load_maker.specs.Scripts.{lines, stage_file, stage_lines, stages, top_file};
 
-use ls_text::push_decimal;
-use no_memory::NoMemory;
+use ls_text::{NoMemory, push_decimal};
 
 /// Adds a text with a number behind it.
 pub fn push_numbered(text: &mut Vec<u8>, before: &[u8], number: u32) -> Result<(), NoMemory>

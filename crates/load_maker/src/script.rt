@@ -3,7 +3,7 @@ ghost use Rattle.std.specs.Prelude.{◌≡◌, ◌≤◌, ◌++◌, IfOk, OnOk};
 ghost use Rattle.load_maker.specs.Scripts.{closing, first_edit, lines, script_of, second_edit};
 
 use crate::files::{push_numbered, push_stage_file, push_top_file};
-use no_memory::NoMemory;
+use ls_text::NoMemory;
 use std::alloc::Global;
 
 // Adds the edit that gives both files.

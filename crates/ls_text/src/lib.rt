@@ -15,6 +15,7 @@ mod files;
 mod name_id;
 mod name_list;
 mod names;
+mod no_memory;
 mod piece;
 mod place;
 mod refusal;

@@ -5,7 +5,7 @@ use Rattle.std.proofs.Math.Seq.{drop-append-add}
 use Rattle.std.specs.List.{remove}
 use Rattle.std.specs.Prelude.{Result, Ok, Err, OnOk, is_err, false}
 use Rattle.std.proofs.lemmas.Grind.{take_at_read}
-use Rattle.no_memory.specs.declared.NoMemory.{NoMemory}
+use Rattle.ls_text.specs.declared.no_memory.NoMemory.{NoMemory}
 use Rattle.machine.specs.declared.row_run.RowRun.{RowRun}
 use Rattle.machine.specs.Rows.{expanded, between, IsGapless, begins_at, IsWithRun, IsWithRuns}
 

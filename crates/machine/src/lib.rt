@@ -15,7 +15,7 @@ pub mod steps;
 pub mod stretch;
 pub mod tally;
 
-use no_memory::NoMemory;
+use ls_text::NoMemory;
 use row_runs::RowRuns;
 use std::alloc::Global;
 use std::sync::ledger::Ledger;

@@ -5,7 +5,7 @@ ghost use Rattle.machine.specs.Rows.{expanded, IsGapless};
 use crate::Machine;
 use crate::row_run::RowRun;
 use crate::row_runs::{RowRuns, append_run};
-use no_memory::NoMemory;
+use ls_text::NoMemory;
 use std::alloc::Global;
 
 /// The run at this place and the one before it become one where the machine takes their rows as the same. The rows of

@@ -5,7 +5,7 @@ ghost use Rattle.machine.specs.Rows.{expanded, slice, IsGapless, begins_at, betw
 
 use crate::row_run::RowRun;
 use crate::stretch::Stretch;
-use no_memory::NoMemory;
+use ls_text::NoMemory;
 use std::alloc::Global;
 use std::marker::Model;
 use std::sync::{Arc, ArcSlice};

@@ -6,7 +6,7 @@ ghost use Rattle.machine.specs.TallyLaws.{tally_more, eqb_is};
 use crate::Machine;
 use crate::row_runs::RowRuns;
 use crate::steps::Steps;
-use no_memory::NoMemory;
+use ls_text::NoMemory;
 use std::alloc::Global;
 use std::sync::ledger::Ledger;
 

@@ -2,9 +2,8 @@
 use crate::designs::design_in;
 use crate::running::push_state;
 use cycle_eval::Design;
-use ls_text::{behind, front};
+use ls_text::{NoMemory, behind, front};
 use machine::Machine;
-use no_memory::NoMemory;
 use reg_ops::RegOps;
 use std::alloc::Global;
 

@@ -13,8 +13,7 @@ use crate::made::Made;
 use crate::statements::{lanes_of, sequence, takes_arm};
 use crate::word::Word;
 use bits::Bits;
-use ls_text::NameId;
-use no_memory::NoMemory;
+use ls_text::{NameId, NoMemory};
 use std::alloc::Global;
 use typed_ir::{InstanceId, InstanceName, Node, Signal, SignalId, TargetForm};
 

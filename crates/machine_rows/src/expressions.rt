@@ -13,7 +13,7 @@
 use crate::operators::{binary_of, unary_of};
 use crate::word::Word;
 use bits::Bits;
-use no_memory::NoMemory;
+use ls_text::NoMemory;
 use std::alloc::Global;
 use typed_ir::{BinaryOperator, SignalId, Span, Typed, UnaryOperator};
 

@@ -2,7 +2,7 @@
 use crate::carrying::carried;
 use crate::running::registers;
 use crate::values::values;
-use no_memory::NoMemory;
+use ls_text::NoMemory;
 use row_tables::Reader;
 use std::alloc::Global;
 

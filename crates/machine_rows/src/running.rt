@@ -4,11 +4,11 @@ ghost use Rattle.machine.specs.Rows.{Covers};
 
 use crate::designs::design_in;
 use cycle_eval::Design;
+use ls_text::NoMemory;
 use machine::Machine;
 use machine::row_run::RowRun;
 use machine::row_runs::RowRuns;
 use machine::steps::Steps;
-use no_memory::NoMemory;
 use row_tables::push_hex;
 use state_layout::SlotState;
 use std::alloc::Global;

@@ -9,7 +9,7 @@
 //     begin              one after another, all statements before it
 use crate::made::Made;
 use crate::word::Word;
-use no_memory::NoMemory;
+use ls_text::NoMemory;
 use std::alloc::Global;
 use std::mem;
 use typed_ir::{Arm, Item, Lane, Reach, SignalId, Span, Stmt, Target};

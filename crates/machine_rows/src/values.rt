@@ -2,8 +2,7 @@
 use crate::expressions::takes_expression;
 use crate::word::word_of;
 use bits::Bits;
-use ls_text::push_decimal;
-use no_memory::NoMemory;
+use ls_text::{NoMemory, push_decimal};
 use row_tables::push_hex;
 use std::alloc::Global;
 use typed_ir::{Env, Typed, fits, value};

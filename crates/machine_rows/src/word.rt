@@ -1,8 +1,7 @@
 // The words of a row.
 ghost use Rattle.std.specs.Prelude.{◌≤◌};
 
-use ls_text::{behind, front};
-use no_memory::NoMemory;
+use ls_text::{NoMemory, behind, front};
 use std::alloc::Global;
 
 /// A word of a row: its name, and then numbers, each behind a colon, in decimal digits or, behind an `x`, in hexadecimal ones.

@@ -14,8 +14,8 @@ use crate::designs::{design_with, later, signals, state_after, top, values_of, w
 use bits::Bits;
 use comb_order::Parts;
 use cycle_eval::Design;
+use ls_text::NoMemory;
 use machine::steps::Steps;
-use no_memory::NoMemory;
 use std::alloc::Global;
 use std::marker::Brand;
 use std::process::Abort;

@@ -1,6 +1,5 @@
 // The lines of each kind of reply, written by hand.
-use ls_text::TextBytes;
-use no_memory::NoMemory;
+use ls_text::{NoMemory, TextBytes};
 use std::alloc::Global;
 use std::process::Abort;
 use std::test::Fail;

@@ -4,8 +4,8 @@ ghost use Rattle.cycle_eval.specs.Designs.{work_of};
 
 use crate::designs::{assign, later, made, plus, state_after, values_of};
 use cycle_eval::Design;
+use ls_text::NoMemory;
 use machine::steps::Steps;
-use no_memory::NoMemory;
 use std::alloc::Global;
 use std::marker::Brand;
 use std::process::Abort;

@@ -2,8 +2,8 @@
 use Rattle.std.proofs.Common.{◌≡◌, List, ◌++◌, refl, ap₂}
 use Rattle.verilog_ast.specs.declared.identifier.Identifier.{Identifier}
 use Rattle.verilog_ast.specs.Expressions.{Expression, Whole, BitSelect, PartSelect, UpwardSelect, DownwardSelect, Target, Reference, Joined, NoTarget, Targets}
-use Rattle.size_laws.specs.Written.{IsReference, IsTargetWritten, AreTargetsWritten}
-use Rattle.item_mentions.specs.Names.{reference_name, target_names, expression_targets, written_as}
+use Rattle.statement_rules.specs.Written.{IsReference, IsTargetWritten, AreTargetsWritten}
+use Rattle.width_rules.specs.Names.{reference_name, target_names, expression_targets, written_as}
 
 reference_same : (x : Expression) → IsReference x → expression_targets x ≡ reference_name x
 reference_same (Whole n) w = refl

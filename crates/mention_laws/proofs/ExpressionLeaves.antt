@@ -21,9 +21,9 @@ use Rattle.width_rules.specs.Signs.{is_signed}
 use Rattle.width_rules.specs.Sizes.{Operand, self_determined, unary_at, binary_at, length, push, joined, beside, extended, name_at, bits_at, bits_from, bits_between, count_of, is_constant}
 use Rattle.width_rules.proofs.RenamedSizes.{seen}
 use Rattle.block_rules.specs.Paths.{leaves}
-use Rattle.size_laws.specs.Written.{IsWritten, ArePartsWritten}
+use Rattle.statement_rules.specs.Written.{IsWritten, ArePartsWritten}
 use Rattle.mention_laws.specs.Leaves.{number_of, signals_of}
-use Rattle.item_mentions.specs.Names.{expression_names, run_time}
+use Rattle.width_rules.specs.Names.{expression_names, run_time}
 
 -- the signal of a name
 abbrev pub number : Scope → Identifier → ℕ

@@ -14,9 +14,9 @@ use Rattle.width_rules.specs.Scopes.{Scope}
 use Rattle.width_rules.proofs.Reading.{left_none, right_none}
 use Rattle.statement_rules.specs.Statements.{labels_faults, expression_faults}
 use Rattle.statement_rules.specs.Targets.{target_length, target_faults}
-use Rattle.size_laws.specs.Written.{IsTargetWritten, IsStatementWritten}
-use Rattle.item_mentions.specs.Forms as f
-use Rattle.item_mentions.specs.Forms.{reference_form, first_or, form_or_name, target_form, first_target}
+use Rattle.statement_rules.specs.Written.{IsTargetWritten, IsStatementWritten}
+use Rattle.width_rules.specs.Forms as f
+use Rattle.width_rules.specs.Forms.{reference_form, first_or, form_or_name, target_form, first_target}
 use Rattle.mention_laws.specs.Shown.{either, first_part, first_written}
 
 -- the form of one that may be there

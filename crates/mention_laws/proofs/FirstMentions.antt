@@ -7,7 +7,7 @@ use Rattle.std.proofs.lemmas.Bool.{eq-eqb, ne_eqb, cond-true, cond-false}
 use Rattle.std.proofs.lemmas.Option.{none-some}
 use Rattle.ls_text.proofs.Lists.{some_is_none}
 use Rattle.typed_ir.specs.Orders.{Each}
-use Rattle.unit_ir.specs.declared.mention.Mention.{Mention}
+use Rattle.typed_ir.specs.declared.mention.Mention.{Mention}
 use Rattle.verilog_ast.specs.declared.identifier.Identifier.{Identifier}
 use Rattle.verilog_ast.specs.Expressions.{Expression, Whole, BitSelect, PartSelect, UpwardSelect, DownwardSelect, Target, Reference, Joined, NoTarget, Targets}
 use Rattle.verilog_ast.specs.Statements.{CaseLabel, DontCare, Compared, Statement, Block, If, IfElse, Case, Assignment, Null, Default, Match, NoStatement, Statements}
@@ -15,10 +15,10 @@ use Rattle.width_rules.specs.declared.writer.Writer.{Writer}
 use Rattle.width_rules.specs.Scopes.{Scope}
 use Rattle.width_rules.proofs.Reading.{left_none, right_none}
 use Rattle.statement_rules.specs.Statements.{item_faults, arm_faults}
-use Rattle.size_laws.specs.Written.{IsReference, IsTargetWritten, AreTargetsWritten, IsStatementWritten}
-use Rattle.item_mentions.specs.Forms.{first_number}
-use Rattle.item_mentions.specs.Mentions.{writing, numbered, labels_names, count, mentions, arm_mentions, default_mentions}
-use Rattle.item_mentions.specs.Names.{reference_name, target_names}
+use Rattle.statement_rules.specs.Written.{IsReference, IsTargetWritten, AreTargetsWritten, IsStatementWritten}
+use Rattle.width_rules.specs.Forms.{first_number}
+use Rattle.width_rules.specs.Mentions.{writing, numbered, labels_names, count, mentions, arm_mentions, default_mentions}
+use Rattle.width_rules.specs.Names.{reference_name, target_names}
 use Rattle.mention_laws.specs.Placed.{AreStatements, AreItems}
 use Rattle.mention_laws.specs.Shown.{either, first_part, first_written}
 

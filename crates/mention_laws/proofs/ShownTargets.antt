@@ -6,16 +6,16 @@ use Rattle.std.proofs.lemmas.List.{length-map}
 use Rattle.std.proofs.lemmas.Option.{none-some, slice_get-map, slice_get_within}
 use Rattle.typed_ir.specs.declared.span.Span.{Span}
 use Rattle.typed_ir.specs.Stmts.{SizedStmt, targets}
-use Rattle.unit_ir.specs.declared.mention.Mention.{Mention}
+use Rattle.typed_ir.specs.declared.mention.Mention.{Mention}
 use Rattle.verilog_ast.specs.Expressions.{Expression}
 use Rattle.verilog_ast.specs.Statements.{Statement}
 use Rattle.width_rules.specs.declared.writer.Writer.TheVariants.{Combinational}
 use Rattle.width_rules.specs.Scopes.{Scope}
 use Rattle.width_rules.proofs.Reading.{left_none, right_none}
 use Rattle.statement_rules.specs.Statements.{sized_statement, expression_faults, item_faults, statement_faults}
-use Rattle.size_laws.specs.Written.{IsStatementWritten}
-use Rattle.item_mentions.specs.Forms.{reference_form, form_or_name, statement_shown}
-use Rattle.item_mentions.specs.Mentions.{writing, count, statement_targets}
+use Rattle.statement_rules.specs.Written.{IsStatementWritten}
+use Rattle.width_rules.specs.Forms.{reference_form, form_or_name, statement_shown}
+use Rattle.width_rules.specs.Mentions.{writing, count, statement_targets}
 use Rattle.mention_laws.specs.Leaves.{number_of, signals_of, signals_named}
 use Rattle.mention_laws.specs.Placed.{AreStatements}
 use Rattle.mention_laws.specs.Shown.{first_written, IsShownBy}

@@ -6,7 +6,7 @@ use Rattle.typed_ir.specs.declared.span.Span.{Span}
 use Rattle.typed_ir.specs.Sized.{Sized}
 use Rattle.typed_ir.specs.Stmts as s
 use Rattle.typed_ir.specs.Stmts.{SizedItem, SizedTarget, SizedStmt, SizedArms, span_of, targets, arm_targets, later_targets, later_arm_targets}
-use Rattle.unit_ir.specs.declared.mention.Mention.{Mention}
+use Rattle.typed_ir.specs.declared.mention.Mention.{Mention}
 use Rattle.verilog_ast.specs.declared.identifier.Identifier.{Identifier}
 use Rattle.verilog_ast.specs.Expressions.{Expression, Target}
 use Rattle.verilog_ast.specs.Statements.{CaseLabel, DontCare, Compared, Statement, Block, If, IfElse, Case, Assignment, Null, Default, Match, NoStatement, Statements}
@@ -19,10 +19,10 @@ use Rattle.width_rules.specs.Sizes.{length, push}
 use Rattle.statement_rules.specs.Statements.{assigned, assignment, label_at, items_length, items_signed, sized_statement, sized_arms, sized_default}
 use Rattle.statement_rules.specs.Targets.{target_length, parts}
 use Rattle.block_rules.specs.Paths.{leaves, index_leaves, item_leaves}
-use Rattle.size_laws.specs.Written.{IsWritten, IsTargetWritten, AreLabelsWritten, IsStatementWritten}
+use Rattle.statement_rules.specs.Written.{IsWritten, IsTargetWritten, AreLabelsWritten, IsStatementWritten}
 use Rattle.mention_laws.specs.Leaves.{statement_leaves, arm_leaves, number_of, signals_of, signals_named}
-use Rattle.item_mentions.specs.Mentions.{Listing, reading, writing, numbered, labels_names, count, mentions, arm_mentions, default_mentions}
-use Rattle.item_mentions.specs.Names.{expression_names, index_names}
+use Rattle.width_rules.specs.Mentions.{Listing, reading, writing, numbered, labels_names, count, mentions, arm_mentions, default_mentions}
+use Rattle.width_rules.specs.Names.{expression_names, index_names}
 use Rattle.mention_laws.specs.Placed.{AreStatements, AreItems}
 use Rattle.mention_laws.proofs.ExpressionLeaves.{number, both_named, expression_leaves}
 use Rattle.mention_laws.proofs.TargetLeaves.{target_named, target_index}

@@ -14,9 +14,9 @@ use Rattle.width_rules.specs.Signs.{is_signed}
 use Rattle.width_rules.specs.Sizes.{length, bits_between, count_of, is_constant}
 use Rattle.statement_rules.specs.Targets.{target_length, parts}
 use Rattle.block_rules.specs.Paths.{leaves, index_leaves}
-use Rattle.size_laws.specs.Written.{IsWritten, IsReference, IsTargetWritten, AreTargetsWritten}
+use Rattle.statement_rules.specs.Written.{IsWritten, IsReference, IsTargetWritten, AreTargetsWritten}
 use Rattle.mention_laws.specs.Leaves.{number_of, signals_of}
-use Rattle.item_mentions.specs.Names.{expression_names, run_time, index_of, index_names, reference_name, target_names}
+use Rattle.width_rules.specs.Names.{expression_names, run_time, index_of, index_names, reference_name, target_names}
 use Rattle.mention_laws.proofs.ExpressionLeaves.{number, both_named, expression_leaves}
 
 -- ---- names

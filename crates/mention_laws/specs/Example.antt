@@ -5,10 +5,10 @@ use Rattle.verilog_ast.specs.declared.case_kind.CaseKind.TheVariants.{Case as Pl
 use Rattle.verilog_ast.specs.Expressions.{Expression, Whole, BitSelect, DownwardSelect, Conditional, Concatenation, NoPart, Parts, Reference, Joined, NoTarget, Targets}
 use Rattle.verilog_ast.specs.Statements.{Statement, Compared, Block, Case, Assignment, Null, Default, Match, NoStatement, Statements}
 use Rattle.verilog_ast.specs.Places.{no_place}
-use Rattle.unit_ir.specs.declared.mention.Mention.{Mention}
+use Rattle.typed_ir.specs.declared.mention.Mention.{Mention}
 use Rattle.width_rules.specs.declared.writer.Writer.TheVariants as writer
 use Rattle.width_rules.specs.Scopes.{Scope, Signal, Constant, Unknown}
-use Rattle.size_laws.specs.Examples.{named, number}
+use Rattle.statement_rules.specs.Examples.{named, number}
 
 abbrev pub scope : Scope
 scope zero = Signal 0 8 0 false writer.Nothing

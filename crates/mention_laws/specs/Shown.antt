@@ -2,15 +2,15 @@
 use Rattle.std.specs.Prelude.{◌≡◌, [], ◌∷◌, Option, Some, None, slice_get}
 use Rattle.typed_ir.specs.declared.span.Span.{Span}
 use Rattle.typed_ir.specs.Stmts.{targets}
-use Rattle.unit_ir.specs.declared.mention.Mention.{Mention}
+use Rattle.typed_ir.specs.declared.mention.Mention.{Mention}
 use Rattle.verilog_ast.specs.Expressions.{Expression, Target, Reference, Joined, NoTarget, Targets}
 use Rattle.verilog_ast.specs.Statements.{Statement, Block, If, IfElse, Case, Assignment, Null, Default, Match, NoStatement, Statements}
 use Rattle.width_rules.specs.declared.writer.Writer.TheVariants.{Combinational}
 use Rattle.width_rules.specs.Scopes.{Scope}
 use Rattle.statement_rules.specs.Statements.{sized_statement}
-use Rattle.item_mentions.specs.Forms.{reference_form, statement_shown}
-use Rattle.item_mentions.specs.Mentions.{statement_targets}
-use Rattle.item_mentions.specs.Names.{reference_name}
+use Rattle.width_rules.specs.Forms.{reference_form, statement_shown}
+use Rattle.width_rules.specs.Mentions.{statement_targets}
+use Rattle.width_rules.specs.Names.{reference_name}
 use Rattle.mention_laws.specs.Leaves.{number_of}
 
 -- the first one that is there

@@ -15,11 +15,11 @@ ghost use Rattle.statement_rules.specs.Statements.{sized_statement, statement_fa
 ghost use Rattle.statement_rules.specs.Targets.{parts};
 ghost use Rattle.block_rules.specs.Paths.{flags_of_block};
 ghost use Rattle.mention_laws.specs.Example.{scope as names, statement, reads, targets as written, with_two, mention};
-ghost use Rattle.item_mentions.specs.Forms.{statement_shown};
+ghost use Rattle.width_rules.specs.Forms.{statement_shown};
 ghost use Rattle.mention_laws.specs.Leaves.{statement_leaves, signals_of, signals_named};
 ghost use Rattle.mention_laws.specs.Shown.{first_written, IsShownBy};
-ghost use Rattle.item_mentions.specs.Mentions.{numbered, statement_reads, statement_targets};
-ghost use Rattle.item_mentions.specs.Names.{target_names, expression_targets, written_as};
+ghost use Rattle.width_rules.specs.Mentions.{numbered, statement_reads, statement_targets};
+ghost use Rattle.width_rules.specs.Names.{target_names, expression_targets, written_as};
 
 /// What a tree mentions are the signals of its sized form, one by one: its reads those of the leaves that `block_rules` flags, its targets
 /// those of the parts that it writes. A name that is no signal counts as signal 0, as in the sized form.

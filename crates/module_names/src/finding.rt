@@ -8,8 +8,7 @@ ghost use Rattle.module_names.specs.Views.{module_of, modules_of};
 use crate::module_names::ModuleNames;
 use crate::modules::Modules;
 use indexmap::IndexMap;
-use ls_text::NameId;
-use no_memory::NoMemory;
+use ls_text::{NameId, NoMemory};
 use std::alloc::Global;
 use verilog_ast::Module;
 

@@ -6,7 +6,7 @@ ghost use Rattle.module_names.specs.Modules as m;
 use crate::name_order::NameOrder;
 use crate::parameters::declares_no_port;
 use crate::ports::{add_names, port_name};
-use no_memory::NoMemory;
+use ls_text::NoMemory;
 use std::alloc::Global;
 use verilog_ast::{HeaderPort, Item, ModuleBody, Ports};
 

@@ -5,7 +5,7 @@ use crate::inputs::inputs_of;
 use crate::module_names::ModuleNames;
 use crate::parameters::parameters_of;
 use crate::ports::header_ports;
-use no_memory::NoMemory;
+use ls_text::NoMemory;
 use std::alloc::Global;
 use verilog_ast::ModuleBody;
 

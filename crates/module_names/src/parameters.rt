@@ -5,7 +5,7 @@ ghost use Rattle.verilog_ast.specs.Views.{parameter_of, header_parameter_of, pla
 ghost use Rattle.module_names.specs.Modules as m;
 
 use crate::name_order::NameOrder;
-use no_memory::NoMemory;
+use ls_text::NoMemory;
 use std::alloc::Global;
 use verilog_ast::{GenerateItem, HeaderParameter, Item, ModuleBody, Parameter, PlainItem};
 

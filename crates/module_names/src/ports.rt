@@ -4,7 +4,7 @@ ghost use Rattle.verilog_ast.specs.Views.{port_of, ports_of};
 ghost use Rattle.module_names.specs.Modules as m;
 
 use crate::name_order::NameOrder;
-use no_memory::NoMemory;
+use ls_text::NoMemory;
 use std::alloc::Global;
 use verilog_ast::{HeaderPort, Identifier, Ports};
 

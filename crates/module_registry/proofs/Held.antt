@@ -10,7 +10,7 @@ use Rattle.std.proofs.lemmas.List.{map_push, take-map}
 use Rattle.std.proofs.lemmas.List.Elements.{All-take}
 use Rattle.indexmap.specs.IndexMap.{insert_entry}
 use Rattle.ls_text.specs.declared.fault.Fault.{Fault}
-use Rattle.unit_ir.specs.declared.unit.Unit.{Unit as ModuleUnit}
+use Rattle.typed_ir.specs.declared.unit.Unit.{Unit as ModuleUnit}
 use Rattle.module_registry.specs.declared.build_job.BuildJob.{BuildJob}
 use Rattle.module_registry.specs.Keys.{KeyData, same}
 use Rattle.module_registry.specs.Building.{Built}

@@ -4,8 +4,8 @@ use Rattle.ls_text.specs.Answers.{◌>>=◌}
 use Rattle.ls_text.specs.declared.fault.Fault.{Fault}
 use Rattle.ls_text.specs.declared.refusal.Refusal.{Refusal}
 use Rattle.ls_text.specs.declared.refusal.Refusal.TheVariants as refusal
-use Rattle.unit_ir.specs.declared.child_shape.ChildShape.{ChildShape}
-use Rattle.unit_ir.specs.Trees.{SizedUnit}
+use Rattle.typed_ir.specs.declared.child_shape.ChildShape.{ChildShape}
+use Rattle.typed_ir.specs.Trees.{SizedUnit}
 use Rattle.module_registry.specs.declared.build_job.BuildJob.{BuildJob}
 
 -- a unit as it is compared: what its parts mean, and the instances within

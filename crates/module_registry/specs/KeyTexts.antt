@@ -5,8 +5,8 @@ use Rattle.ls_text.specs.Texts.{text_at}
 use Rattle.ls_text.specs.declared.name_id.NameId.{NameId}
 use Rattle.verilog_ast.specs.declared.identifier.Identifier.{Identifier}
 use Rattle.typed_ir.specs.declared.constant.Const.{Const}
-use Rattle.unit_ir.specs.declared.port_shape.PortShape.{PortShape}
-use Rattle.unit_ir.specs.declared.child_shape.ChildShape.{ChildShape}
+use Rattle.typed_ir.specs.declared.port_shape.PortShape.{PortShape}
+use Rattle.typed_ir.specs.declared.child_shape.ChildShape.{ChildShape}
 use Rattle.verilog_spelling.specs.Spellings.{hex_text}
 
 abbrev pub line_end : List ℕ

@@ -1,8 +1,8 @@
 -- What units of the code are, as they are compared.
 use Rattle.std.proofs.Common.{Global}
 use Rattle.std.specs.declared.sync.Arc.{Arc}
-use Rattle.unit_ir.specs.declared.unit.Unit.{Unit as ModuleUnit}
-use Rattle.unit_ir.specs.Units.{sized_unit}
+use Rattle.typed_ir.specs.declared.unit.Unit.{Unit as ModuleUnit}
+use Rattle.typed_ir.specs.Units.{sized_unit}
 use Rattle.module_registry.specs.Building.{Built}
 
 abbrev pub built_of : ModuleUnit → Built

@@ -2,7 +2,7 @@
 use Rattle.std.proofs.Common.{Global}
 use Rattle.std.specs.Prelude.{List, map}
 use Rattle.std.specs.declared.sync.Arc.{Arc}
-use Rattle.unit_ir.specs.declared.unit.Unit.{Unit as ModuleUnit}
+use Rattle.typed_ir.specs.declared.unit.Unit.{Unit as ModuleUnit}
 use Rattle.module_registry.specs.declared.registry.Registry.{Registry}
 use Rattle.module_registry.specs.Keys.{KeyData}
 use Rattle.module_registry.specs.Entries.{Entry}

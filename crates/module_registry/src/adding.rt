@@ -9,7 +9,7 @@ use crate::registry::Registry;
 use ls_text::NoMemory;
 use std::alloc::Global;
 use std::sync::Arc;
-use unit_ir::Unit;
+use typed_ir::Unit;
 
 impl Registry {
     // One unit more, behind the others. Want of memory is `NoMemory`: then the units stay.

@@ -2,8 +2,7 @@
 use ls_text::{NameId, NameList};
 use std::alloc::Global;
 use std::sync::Arc;
-use typed_ir::ConstList;
-use unit_ir::ShapeList;
+use typed_ir::{ConstList, ShapeList};
 use verilog_ast::Module;
 
 /// What a unit is built from: a module as it is used.

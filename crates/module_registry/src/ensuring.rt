@@ -14,7 +14,7 @@ use crate::registry::Registry;
 use ls_text::{NoMemory, Refusal};
 use std::alloc::Global;
 use std::sync::Arc;
-use unit_ir::Unit;
+use typed_ir::Unit;
 
 // How many keys there are; 2^32 or more are want of memory.
 fn count(keys: &[Key]) -> Result<u32, NoMemory>

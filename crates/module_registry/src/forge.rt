@@ -10,7 +10,7 @@ ghost use Rattle.module_registry.specs.UnitViews.{built_of};
 use crate::key::Key;
 use ls_text::Refusal;
 use std::alloc::Global;
-use unit_ir::Unit;
+use typed_ir::Unit;
 
 /// What makes units of jobs, by the help of an `R`, as a handle on threads.
 pub trait Forge<R> {

@@ -16,7 +16,7 @@ use indexmap::IndexMap;
 use ls_text::NoMemory;
 use std::alloc::Global;
 use std::sync::Arc;
-use unit_ir::Unit;
+use typed_ir::Unit;
 
 impl Registry {
     /// A registry that holds nothing. It takes no memory.

@@ -10,8 +10,7 @@ use crate::constant_names::constant_names;
 use hex::encode_to_slice;
 use ls_text::{NameId, Names, NoMemory, push_decimal};
 use std::alloc::Global;
-use typed_ir::Const;
-use unit_ir::{ChildShape, PortShape};
+use typed_ir::{ChildShape, Const, PortShape};
 use verilog_ast::Identifier;
 
 // How many zeros lead the digits.

@@ -3,7 +3,7 @@ use crate::key::Key;
 use indexmap::IndexMap;
 use std::alloc::Global;
 use std::sync::Arc;
-use unit_ir::Unit;
+use typed_ir::Unit;
 
 /// Units by the keys of their jobs, in the order in which they came in; no two of one key. A unit is found by the hash of its key's digest.
 #[derive(Drop)]

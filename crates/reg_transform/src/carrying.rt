@@ -18,7 +18,7 @@ use crate::register_key::RegisterKey;
 use crate::register_layout::RegisterLayout;
 use crate::regs::Regs;
 use bits::Bits;
-use no_memory::NoMemory;
+use ls_text::NoMemory;
 use reg_ops::RegOp;
 use state_layout::SlotState;
 use std::alloc::Global;

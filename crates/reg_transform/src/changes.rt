@@ -7,8 +7,7 @@ ghost use Rattle.reg_transform.specs.Registers.{RegisterName, is_same};
 
 use crate::qualified_name::QualifiedName;
 use indexmap::IndexMap;
-use ls_text::NameId;
-use no_memory::NoMemory;
+use ls_text::{NameId, NoMemory};
 use reg_ops::RegOp;
 use std::alloc::Global;
 

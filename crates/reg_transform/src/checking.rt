@@ -17,8 +17,7 @@ use crate::op_fault::OpFault;
 use crate::op_refusal::OpRefusal;
 use crate::qualified_name::QualifiedName;
 use crate::regs::Regs;
-use ls_text::NameId;
-use no_memory::NoMemory;
+use ls_text::{NameId, NoMemory};
 use reg_ops::RegOp;
 use std::alloc::Global;
 

@@ -11,7 +11,7 @@ use crate::reading::{name_at, signal_at};
 use crate::regs::Regs;
 use bits::Bits;
 use indexmap::IndexMap;
-use no_memory::NoMemory;
+use ls_text::NoMemory;
 use std::alloc::Global;
 use typed_ir::Signal;
 

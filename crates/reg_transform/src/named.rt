@@ -9,7 +9,7 @@ use crate::breach::Breach;
 use crate::breaches::first_of;
 use crate::qualified_name::QualifiedName;
 use indexmap::IndexSet;
-use no_memory::NoMemory;
+use ls_text::NoMemory;
 use reg_ops::RegOp;
 use std::alloc::Global;
 

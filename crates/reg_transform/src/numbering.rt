@@ -6,7 +6,7 @@ ghost use Rattle.reg_transform.specs.PathNumbers.{IsPathTable, Grows, IsNext, Is
 use crate::path_numbers::PathNumbers;
 use crate::path_step::PathStep;
 use indexmap::IndexSet;
-use no_memory::NoMemory;
+use ls_text::NoMemory;
 use std::alloc::Global;
 use typed_ir::{InstanceId, InstanceName, InstanceTable};
 

@@ -9,7 +9,7 @@ use crate::reading::{key_at, signal_at};
 use crate::register_key::RegisterKey;
 use crate::regs::Regs;
 use indexmap::IndexMap;
-use no_memory::NoMemory;
+use ls_text::NoMemory;
 use state_layout::SlotState;
 use std::alloc::Global;
 use typed_ir::RegisterId;

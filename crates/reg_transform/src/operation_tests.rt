@@ -11,8 +11,7 @@ use crate::operation_rows::{BEFORE, BEHIND, FAULTS, KEPT, NEW, OLD, OLD_VALUES, 
 use crate::reading::signal_at;
 use crate::{OpRefusal, RegisterLayout, Regs, carry_state, check};
 use bits::Bits;
-use ls_text::{NameId, Refusal};
-use no_memory::NoMemory;
+use ls_text::{NameId, NoMemory, Refusal};
 use reg_ops::RegOp;
 use state_layout::{Layout, SlotState, laid_out};
 use std::alloc::Global;

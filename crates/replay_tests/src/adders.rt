@@ -2,8 +2,7 @@
 use bits::Bits;
 use comb_order::{Parts, checked_flat, linked, no_block};
 use cycle_eval::Design;
-use ls_text::NameId;
-use no_memory::NoMemory;
+use ls_text::{NameId, NoMemory};
 use std::alloc::Global;
 use std::process::Abort;
 use typed_ir::{

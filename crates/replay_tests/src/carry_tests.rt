@@ -8,8 +8,7 @@ use crate::histories::{
 };
 use book_history::entry::Entry;
 use book_history::link::Link;
-use ls_text::NameId;
-use no_memory::NoMemory;
+use ls_text::{NameId, NoMemory};
 use reg_ops::RegOp;
 use std::alloc::Global;
 use std::process::Abort;

@@ -3,7 +3,7 @@ use crate::adders::{Adder, design};
 use book_history::load::Load;
 use book_history::version::Version;
 use cycle_eval::Design;
-use no_memory::NoMemory;
+use ls_text::NoMemory;
 use reg_ops::{RegOp, RegOps};
 use std::alloc::Global;
 use std::process::Abort;

@@ -6,7 +6,7 @@ use book_history::entry::Entry;
 use book_history::rooms::Rooms;
 use book_history::who::Who;
 use history_replay::settings::Settings;
-use no_memory::NoMemory;
+use ls_text::NoMemory;
 use std::alloc::Global;
 
 pub const ROOMS: Rooms = Rooms {

@@ -6,7 +6,7 @@ use crate::histories::{
 };
 use book_history::entry::Entry;
 use book_history::link::Link;
-use no_memory::NoMemory;
+use ls_text::NoMemory;
 use std::alloc::Global;
 use std::process::Abort;
 use std::test::Fail;

@@ -2,8 +2,7 @@
 ghost use Rattle.std.specs.Prelude.{◌≤◌};
 
 use bits::Bits;
-use ls_text::Names;
-use no_memory::NoMemory;
+use ls_text::{Names, NoMemory};
 use std::alloc::Global;
 use typed_ir::{Const, Env, SignalId};
 use width_rules::{Entry, Scope, SignalEntry, Writer};

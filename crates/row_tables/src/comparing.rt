@@ -2,7 +2,7 @@
 use crate::property::Property;
 use crate::reader::{Reader, first_other};
 use crate::table::Table;
-use no_memory::NoMemory;
+use ls_text::NoMemory;
 use std::alloc::{Alloc, Global};
 use std::fs::Files;
 use std::io::Print;

@@ -3,8 +3,7 @@
 // `\n`, `\r`, `\t` and `\p` are the newline, the carriage return, the tab and the form feed; `\s` is a space, `\e` nothing, `\\` a
 // backslash. `\[N TEXT\]` is N times TEXT, in which `\#` is the number of the time, from 0, and `\+` the one after it. `\f` goes on
 // to the next file, and `\@` is where a row stands in what is around it.
-use ls_text::push_decimal;
-use no_memory::NoMemory;
+use ls_text::{NoMemory, push_decimal};
 use std::alloc::Global;
 
 /// What parts two files of a row: the file separator of ASCII.

@@ -1,5 +1,5 @@
 // Numbers in hexadecimal.
-use no_memory::NoMemory;
+use ls_text::NoMemory;
 
 // A digit of 0 to 15.
 fn digit_text(digit: u8) -> u8 {

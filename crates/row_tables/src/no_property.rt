@@ -1,7 +1,7 @@
 // Tables of which nothing is said as a whole.
 use crate::property::Property;
 use crate::table::Table;
-use no_memory::NoMemory;
+use ls_text::NoMemory;
 use std::alloc::Global;
 
 /// No property.

@@ -1,6 +1,6 @@
 // What is said of a whole table.
 use crate::table::Table;
-use no_memory::NoMemory;
+use ls_text::NoMemory;
 use std::alloc::Global;
 
 /// What has to hold of whole tables, by names in the place of readers.

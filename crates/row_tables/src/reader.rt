@@ -1,6 +1,6 @@
 // What rows are read as.
 use crate::table::Table;
-use no_memory::NoMemory;
+use ls_text::NoMemory;
 use std::alloc::Global;
 
 /// What reads a text.

@@ -1,7 +1,7 @@
 // Tables of rows.
 use crate::escapes::unescaped;
 use crate::row::Row;
-use no_memory::NoMemory;
+use ls_text::NoMemory;
 use std::alloc::Global;
 
 /// Rows, and what stands before and behind each text and each want.

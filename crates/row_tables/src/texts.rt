@@ -3,9 +3,8 @@ ghost use Rattle.std.specs.Prelude.{◌<◌, length, All, IfOk, IfSome};
 ghost use Rattle.verilog_lex.specs.Ends.{EndsOnce};
 
 use ls_text::{
-    At, Fault, NameId, Names, Piece, Place, Refusal, SourceFile, TextBytes, push_decimal,
+    At, Fault, NameId, Names, NoMemory, Piece, Place, Refusal, SourceFile, TextBytes, push_decimal,
 };
-use no_memory::NoMemory;
 use std::alloc::Global;
 use verilog_lex::{Token, lex};
 

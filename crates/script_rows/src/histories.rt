@@ -3,7 +3,7 @@ use book_history::entry::Entry;
 use book_history::history::History;
 use cycle_eval::Design;
 use history_replay::{is_over, is_right};
-use no_memory::NoMemory;
+use ls_text::NoMemory;
 use std::alloc::Global;
 
 // What is told of the links between checkpoints: that all of them are joined, or up to which cycle they are.

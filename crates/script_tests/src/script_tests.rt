@@ -2,8 +2,7 @@
 use history_replay::{is_over, is_right};
 use livesim::{Outcome, live_run};
 use ls_port::{MemShelf, MemSink, MemSource, NamedText, OpenGate, Shelf, SolidShelf};
-use ls_text::TextBytes;
-use no_memory::NoMemory;
+use ls_text::{NoMemory, TextBytes};
 use std::alloc::Global;
 use std::process::Abort;
 use std::sync::Wait;

@@ -1,2 +1,5 @@
 pub mod Turns
 pub mod Openness
+pub mod Passing
+pub mod Counting
+pub mod Settling

@@ -5,10 +5,13 @@
 ghost use Rattle.std.specs.Prelude.{◌≡◌, ◌+◌, ◌-◌, ◌*◌, ◌≤◌};
 ghost use Rattle.segment_verify.specs.Outcome.{IsTicketOf, IsDone};
 
+mod book_settle;
 mod idling;
+pub mod laws;
 pub mod verification;
 pub mod worker;
 
+pub use book_settle::settle;
 use checkpoint_book::ticket::Ticket;
 use checkpoint_book::verified::Verified;
 use machine::Machine;

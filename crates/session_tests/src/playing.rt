@@ -11,7 +11,7 @@ use command_read::{ReadEnd, Reader};
 use cycle_eval::Design;
 use live_session::{Reply, Session};
 use ls_port::{MemShelf, OpenGate, Source};
-use no_memory::NoMemory;
+use ls_text::NoMemory;
 use std::alloc::Global;
 use std::sync::Wait;
 use std::thread::Threads;

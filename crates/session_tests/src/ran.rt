@@ -2,7 +2,7 @@
 use crate::played::Played;
 use book_history::history::History;
 use cycle_eval::Design;
-use no_memory::NoMemory;
+use ls_text::NoMemory;
 
 /// What came of a script, the history of its book, and how many workers were started.
 #[derive(Drop)]

@@ -19,7 +19,7 @@ use cycle_eval::Design;
 use history_replay::{is_over, is_right};
 use live_session::{Limits, Session};
 use ls_port::{Gate, MemShelf, Source};
-use no_memory::NoMemory;
+use ls_text::NoMemory;
 use std::alloc::Global;
 use std::sync::Wait;
 use std::test::Fail;

@@ -1,7 +1,7 @@
 // What one row is, by the reader that its table names.
 use crate::scopes::within_and_behind;
 use crate::sizes::{constant_of, sizing, unsigned_at, value_at, within};
-use no_memory::NoMemory;
+use ls_text::NoMemory;
 use row_tables::Reader;
 use std::alloc::Global;
 

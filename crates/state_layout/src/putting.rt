@@ -3,7 +3,7 @@ ghost use Rattle.std.specs.Prelude.{◌≡◌, ◌≤◌, ◌<◌, ◌+◌, ◌^
 ghost use Rattle.state_layout.specs.Slots.{slot_size, number_of, words_for};
 
 use crate::slot::Slot;
-use no_memory::NoMemory;
+use ls_text::NoMemory;
 use state_pages::Pages;
 
 // One more than the greatest word.

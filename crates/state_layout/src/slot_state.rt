@@ -8,7 +8,7 @@ ghost use Rattle.state_layout.specs.Slots.{state_widths};
 use crate::layout::Layout;
 use crate::putting::{put_value, slot_value};
 use bits::Bits;
-use no_memory::NoMemory;
+use ls_text::NoMemory;
 use state_pages::Pages;
 use std::alloc::Global;
 use std::marker::Model;

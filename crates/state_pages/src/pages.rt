@@ -5,7 +5,7 @@ ghost use Rattle.state_pages.specs.Words.{page_words, words_in};
 use crate::own_pages::{put, put_two};
 use crate::page::Page;
 use crate::sharing::share_alike;
-use no_memory::NoMemory;
+use ls_text::NoMemory;
 use std::alloc::Global;
 use std::marker::Model;
 use std::sync::Arc;

@@ -1,6 +1,6 @@
 // What one row is, by the reader that its table names.
 use crate::blocks::after_item;
-use no_memory::NoMemory;
+use ls_text::NoMemory;
 use row_tables::Reader;
 use std::alloc::Global;
 

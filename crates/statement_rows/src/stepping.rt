@@ -1,11 +1,12 @@
 // A statement laid out as steps over words, and walked over.
 use bits::Bits;
-use design_steps::{free_from, greatest_of, pool_statement};
+use design_steps::{
+    Constants, Home, Layout, free_from, greatest_of, lay_statement, pool_statement,
+};
 use indexmap::IndexSet;
-use no_memory::NoMemory;
+use ls_text::NoMemory;
 use std::alloc::Global;
 use std::collections::VecDeque;
-use step_layout::{Constants, Home, Layout, lay_statement};
 use typed_ir::Stmt;
 use word_steps::{Step, are_sound, walk};
 

@@ -1,7 +1,6 @@
 // The names that rows of statements write.
 use bits::Bits;
-use ls_text::Names;
-use no_memory::NoMemory;
+use ls_text::{Names, NoMemory};
 use typed_ir::{Env, SignalId};
 use width_rules::{Entry, Scope, SignalEntry, Writer};
 

@@ -3,3 +3,11 @@ pub mod Statements
 pub mod Leaves
 pub mod Cases
 pub mod Drives
+pub mod DeclaredValues
+pub mod SizedItems
+pub mod Views
+pub mod Written
+pub mod Fitting
+pub mod Entries
+pub mod Renumbering
+pub mod Examples

@@ -8,7 +8,7 @@ ghost use Rattle.width_rules.specs.Opened.{opened, closed};
 use crate::labelling::close_labels;
 use crate::open_arm::OpenArm;
 use crate::open_case::OpenCase;
-use no_memory::NoMemory;
+use ls_text::NoMemory;
 use std::alloc::Global;
 use typed_ir::{Arm, Stmt};
 use width_rules::{Measured, close};

@@ -11,8 +11,7 @@ ghost use Rattle.statement_rules.specs.Statements.{label_length, label_signed, l
 use crate::open_label::OpenLabel;
 use crate::open_labels::OpenLabels;
 use bits::Bits;
-use ls_text::{Place, Refusal};
-use no_memory::NoMemory;
+use ls_text::{NoMemory, Place, Refusal};
 use std::alloc::Global;
 use typed_ir::{Item, Typed};
 use verilog_ast::{Label, Pattern};

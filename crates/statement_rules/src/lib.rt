@@ -6,25 +6,43 @@
 #![tactic(auto, using(width_rules::proofs::Firsts::earlier, width_rules::proofs::Firsts::later, width_rules::proofs::Firsts::neither))]
 
 mod assigning;
+mod blocking;
 mod blocks;
 mod checking;
 mod closing;
+mod declared_bits;
+mod declared_value;
+mod declaring;
 mod drive;
+mod driving;
+mod finding;
+mod initial_value;
+mod initials;
+mod item_list;
 mod labelling;
 mod laws;
 mod open_arm;
 mod open_case;
 mod open_label;
 mod open_labels;
+mod size_laws;
 mod sized_target;
+mod sizing;
 mod statements;
 mod target_kinds;
 mod targeting;
+mod value_kind;
+mod value_laws;
 
 pub use assigning::{assigned, size_assign, size_drive};
 pub use blocks::size_stmt;
 pub use drive::Drive;
+pub use initial_value::InitialValue;
+pub use item_list::ItemList;
 pub use laws::names_may_change;
+pub use size_laws::{signals_may_be_renumbered, sized_text_fits, trees_are_written};
 pub use sized_target::SizedTarget;
+pub use sizing::{size_outputs, size_plain, size_port};
 pub use target_kinds::check_target;
 pub use targeting::{lay, size_target};
+pub use value_laws::values_are_drives;

@@ -8,8 +8,7 @@ ghost use Rattle.statement_rules.specs.Targets.{target_length, parts, target_fau
 ghost use Rattle.typed_ir.specs.Targets.{target_of as part_of, targets_of as parts_of};
 
 use crate::sized_target::SizedTarget;
-use ls_text::Refusal;
-use no_memory::NoMemory;
+use ls_text::{NoMemory, Refusal};
 use std::alloc::Global;
 use typed_ir::{Lane, Reach, Target};
 use verilog_ast::Lhs;

@@ -1,11 +1,11 @@
 // A case, and conditions of each kind, laid out and walked over, with results worked out by hand.
 use bits::Bits;
+use design_steps::{Constants, Layout, lay_statement};
 use indexmap::IndexSet;
-use no_memory::NoMemory;
+use ls_text::NoMemory;
 use std::alloc::Global;
 use std::collections::VecDeque;
 use std::test::Fail;
-use step_layout::{Constants, Layout, lay_statement};
 use typed_ir::{
     Arm, BinaryOperator, Comparison, Item, Lane, SignalId, Signedness, Span, Stmt, Target, Typed,
 };

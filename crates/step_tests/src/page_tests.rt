@@ -1,5 +1,5 @@
 // A few words, put in and read by hand.
-use no_memory::NoMemory;
+use ls_text::NoMemory;
 use state_pages::Pages;
 use std::alloc::Global;
 use std::test::Fail;

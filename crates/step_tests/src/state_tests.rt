@@ -3,8 +3,7 @@ ghost use Rattle.std.specs.Prelude.{◌≡◌, ◌≤◌, ◌∷◌, [], IfOk};
 ghost use Rattle.std.specs.Arc.{arc_value};
 
 use bits::Bits;
-use ls_text::{NameId, Refusal};
-use no_memory::NoMemory;
+use ls_text::{NameId, NoMemory, Refusal};
 use state_layout::{Layout, SlotState, laid_out};
 use std::alloc::Global;
 use std::sync::Arc;

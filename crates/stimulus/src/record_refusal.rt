@@ -1,7 +1,7 @@
 // Why a record takes no more rows.
 ghost use Rattle.std.specs.Prelude.{◌≡◌};
 
-use no_memory::NoMemory;
+use ls_text::NoMemory;
 use std::alloc::{AllocError, AllocFailed};
 use thiserror::Error;
 

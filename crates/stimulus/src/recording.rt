@@ -8,9 +8,9 @@ use crate::lasting::{end_at, ends_with, names_in};
 use crate::record_refusal::RecordRefusal;
 use crate::recorded::Record;
 use crate::row::Row;
+use ls_text::NoMemory;
 use machine::row_run::RowRun;
 use machine::row_runs::{RowRuns, share_between};
-use no_memory::NoMemory;
 use std::alloc::Global;
 use std::sync::Arc;
 

@@ -4,8 +4,7 @@ ghost use Rattle.stimulus.specs.Rows.{value_in, with_value, are_same};
 
 use crate::setting::Setting;
 use crate::settings::{are_equal, place_of};
-use ls_text::NameId;
-use no_memory::NoMemory;
+use ls_text::{NameId, NoMemory};
 use std::alloc::Global;
 use std::marker::Model;
 

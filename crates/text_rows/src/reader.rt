@@ -1,6 +1,6 @@
 // What one text is read as, by the reader that a table names.
 use crate::tokens::{counts, kinds, lexed, literal, pieces, places_of_tokens, preprocessed, spans};
-use no_memory::NoMemory;
+use ls_text::NoMemory;
 use row_tables::Reader;
 use std::alloc::Global;
 

@@ -1,7 +1,6 @@
 // What is said of a whole table.
 use crate::trees::tree;
-use ls_text::push_decimal;
-use no_memory::NoMemory;
+use ls_text::{NoMemory, push_decimal};
 use row_tables::{Property, Row, Table, joined};
 use std::alloc::Global;
 

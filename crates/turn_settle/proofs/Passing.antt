@@ -12,10 +12,10 @@ use Rattle.book_history.specs.Rooms.{Counts, count_all, no_entry}
 use Rattle.book_history.proofs.Others.{others_calm}
 use Rattle.book_history.proofs.Places.{replay-append, still_opened}
 use Rattle.book_history.proofs.Prefixes.{legal_first, count-append}
-use Rattle.book_settle.specs.Counted.{with_more}
-use Rattle.book_settle.specs.Passes.{no_pass, one_more, no_ticket, one_ticket}
-use Rattle.book_settle.proofs.Counting.{passes_counts}
-use Rattle.book_settle.proofs.Passing.{Settles}
+use Rattle.segment_verify.specs.Counted.{with_more}
+use Rattle.segment_verify.specs.Passes.{no_pass, one_more, no_ticket, one_ticket}
+use Rattle.segment_verify.proofs.Counting.{passes_counts}
+use Rattle.segment_verify.proofs.Passing.{Settles}
 use Rattle.book_turn.specs.Known.{Known}
 use Rattle.book_turn.specs.Turns.{HasAdded}
 use Rattle.book_turn.proofs.Turns.{adds_none, adds_more}

@@ -21,7 +21,7 @@ use Rattle.book_turn.proofs.Callers.{may_leave_one, may_leave_none, tickets_none
 use Rattle.book_history.proofs.Owned.{owned_append}
 use Rattle.book_turn.proofs.Histories.{added_append}
 use Rattle.book_turn.proofs.Turns.{one_turn}
-use Rattle.book_settle.proofs.Passing.{same_book}
+use Rattle.segment_verify.proofs.Passing.{same_book}
 use Rattle.checkpoint_book.specs.Claims.{ClaimIs, claims_nothing}
 use Rattle.checkpoint_book.specs.Views.{book_of, counts_of, shown_in, is_none, HasSessionRoom}
 use Rattle.segment_verify.specs.Workers.{IsFree}

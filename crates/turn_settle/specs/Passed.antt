@@ -4,7 +4,7 @@ use Rattle.machine.specs.Kit.{Kit}
 use Rattle.book_history.specs.declared.who.Who.TheVariants.{Session}
 use Rattle.book_history.specs.Book.{Event, Claims, Installs}
 use Rattle.book_history.specs.Law.{lead_in}
-use Rattle.book_settle.specs.Passes.{ArePasses, IsGivenUp}
+use Rattle.segment_verify.specs.Passes.{ArePasses, IsGivenUp}
 use Rattle.book_turn.specs.Known.{Known}
 use Rattle.book_turn.specs.Turns.{HasAdded}
 use Rattle.checkpoint_book.specs.Views.{shown_in}

@@ -4,7 +4,7 @@ use Rattle.machine.specs.Kit.{Kit}
 use Rattle.book_history.specs.Book.{Event}
 use Rattle.book_history.specs.Law.{lead_in}
 use Rattle.book_history.specs.Readers.{links_in}
-use Rattle.book_settle.specs.Passes.{IsSettle, IsUnfinished}
+use Rattle.segment_verify.specs.Passes.{IsSettle, IsUnfinished}
 use Rattle.book_turn.specs.Known.{Known}
 use Rattle.book_turn.specs.Turns.{HasAdded}
 use Rattle.turn_settle.specs.Seen.{book_seen}

@@ -17,8 +17,8 @@ use checkpoint_book::book::Book;
 use checkpoint_book::shown::Shown;
 use checkpoint_book::ticket::Ticket;
 use checkpoint_book::verified::Verified;
+use ls_text::NoMemory;
 use machine::Machine;
-use no_memory::NoMemory;
 use std::alloc::Global;
 use std::sync::Wait;
 

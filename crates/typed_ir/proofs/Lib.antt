@@ -17,3 +17,10 @@ pub mod Runs
 pub mod Paths
 pub mod Sent
 pub mod Rows
+pub mod Shifted
+pub mod Pulled
+pub mod Fitting
+pub mod Counted
+pub mod Linking
+pub mod UnitWidths
+pub mod Example

@@ -16,3 +16,11 @@ pub mod Linkeds
 pub mod States
 pub mod Touches
 pub mod Rows
+pub mod Shifts
+pub mod Trees
+pub mod Units
+pub mod OwnWidths
+pub mod Shapes
+pub mod Items
+pub mod Instances
+pub mod Example

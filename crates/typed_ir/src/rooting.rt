@@ -5,8 +5,7 @@ ghost use Rattle.typed_ir.specs.Paths.{stands, parents_of, parents_before};
 use crate::instance_id::InstanceId;
 use crate::instance_name::InstanceName;
 use crate::instance_table::InstanceTable;
-use ls_text::NameId;
-use no_memory::NoMemory;
+use ls_text::{NameId, NoMemory};
 use std::alloc::Global;
 
 // Whether the k-th instance may stand in this one: the first in none, and each other behind the one that it stands in.

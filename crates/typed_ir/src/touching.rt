@@ -20,7 +20,7 @@ use crate::span::Span;
 use crate::stmt::Stmt;
 use crate::target::{Target, span_of};
 use crate::touch::Touch;
-use no_memory::NoMemory;
+use ls_text::NoMemory;
 use std::alloc::Global;
 
 /// So many bits from a lowest one on as a mask. Only those below 128 have a place in it.

@@ -12,7 +12,7 @@ use crate::signal_id::SignalId;
 use crate::span::Span;
 use crate::unary_operator::UnaryOperator;
 use bits::Bits;
-use no_memory::NoMemory;
+use ls_text::NoMemory;
 use std::alloc::Global;
 
 /// A sized expression: the widths of its parts agree, and each is 1 to 128.

@@ -8,7 +8,7 @@ use crate::arm::Arm;
 use crate::span::Span;
 use crate::stmt::Stmt;
 use crate::target::{Target, span_of};
-use no_memory::NoMemory;
+use ls_text::NoMemory;
 use std::alloc::Global;
 
 // Adds the bits that an assignment to these parts may write.

@@ -2,12 +2,12 @@
 use Rattle.std.proofs.Common.{◌≡◌, ℕ, List, Option, refl, ◌∙◌, ap₂}
 use Rattle.ls_text.specs.declared.name_id.NameId.{NameId}
 use Rattle.typed_ir.specs.declared.constant.Const.{Const}
-use Rattle.unit_ir.specs.declared.child_shape.ChildShape.{ChildShape}
+use Rattle.typed_ir.specs.declared.child_shape.ChildShape.{ChildShape}
 use Rattle.verilog_ast.specs.Items.{ModuleDeclaration}
 use Rattle.width_rules.specs.declared.writer.Writer.{Writer}
 use Rattle.gen_unroll.specs.Reaches.{Reach}
-use Rattle.unit_names.specs.Numbers.{SignalTable}
-use Rattle.unit_names.specs.UnitReaches.{unit_reach_in}
+use Rattle.gen_unroll.specs.Numbers.{SignalTable}
+use Rattle.gen_unroll.specs.UnitReaches.{unit_reach_in}
 use Rattle.module_registry.specs.declared.build_job.BuildJob.{BuildJob}
 use Rattle.unit_build.specs.Building.{module_of, job_steps, built}
 use Rattle.unit_build.specs.Walks.{Walk}

@@ -3,19 +3,19 @@ use Rattle.std.proofs.Common.{◌≡◌, ℕ, ◌+◌, Bool, true, false, List, 
 use Rattle.typed_ir.specs.Nodes.{FlatNode}
 use Rattle.typed_ir.specs.Orders.{Each}
 use Rattle.typed_ir.proofs.Lists.{each_append}
-use Rattle.unit_ir.specs.declared.child_shape.ChildShape.{ChildShape}
-use Rattle.unit_ir.specs.Items.{PlacedItem, Clocked, node_in, nodes_in}
-use Rattle.unit_ir.specs.Trees.{UnitNode, Own, count}
-use Rattle.unit_ir.proofs.Counted.{count_append, count_none}
+use Rattle.typed_ir.specs.declared.child_shape.ChildShape.{ChildShape}
+use Rattle.typed_ir.specs.Items.{PlacedItem, Clocked, node_in, nodes_in}
+use Rattle.typed_ir.specs.Trees.{UnitNode, Own, count}
+use Rattle.typed_ir.proofs.Counted.{count_append, count_none}
 use Rattle.verilog_ast.specs.Items as i
 use Rattle.verilog_ast.specs.Items.{ModuleItem, ContinuousAssignment}
 use Rattle.width_rules.specs.Scopes.{Scope}
 use Rattle.gen_unroll.specs.Steps.{ModuleStep, Listed, Port, Parameter, Item, Labelled, Opened, Closed}
-use Rattle.connection_rules.specs.Instances.{instance_items}
-use Rattle.connection_rules.proofs.Standing.{nodes_append}
-use Rattle.sized_items.specs.declared.value_kind.ValueKind.TheVariants as kind
-use Rattle.sized_items.specs.DeclaredValues.{DeclaredValue, kind_of_net, as_assignment, is_net_value, values_of, reg_values_of, port_values}
-use Rattle.sized_items.specs.SizedItems.{drive_item, initial_item, value_item, plain_items}
+use Rattle.unit_build.specs.Instances.{instance_items}
+use Rattle.unit_build.proofs.StandingConnections.{nodes_append}
+use Rattle.statement_rules.specs.declared.value_kind.ValueKind.TheVariants as kind
+use Rattle.statement_rules.specs.DeclaredValues.{DeclaredValue, kind_of_net, as_assignment, is_net_value, values_of, reg_values_of, port_values}
+use Rattle.statement_rules.specs.SizedItems.{drive_item, initial_item, value_item, plain_items}
 use Rattle.unit_build.specs.Walks.{instances_in, shapes_of, step_items}
 
 -- what the nodes of both have, all have

@@ -6,10 +6,10 @@ use Rattle.std.proofs.lemmas.List.{length-append}
 use Rattle.typed_ir.specs.Nodes.{are_lanes, known_lanes}
 use Rattle.typed_ir.specs.Orders.{Each}
 use Rattle.typed_ir.specs.Stmts.{is_sized}
-use Rattle.unit_ir.specs.declared.child_shape.ChildShape.{ChildShape}
-use Rattle.unit_ir.specs.Items.{nodes_in}
-use Rattle.unit_ir.specs.OwnWidths.{port_widths, child_widths}
-use Rattle.unit_ir.specs.Trees.{is_legal_unit_node}
+use Rattle.typed_ir.specs.declared.child_shape.ChildShape.{ChildShape}
+use Rattle.typed_ir.specs.Items.{nodes_in}
+use Rattle.typed_ir.specs.OwnWidths.{port_widths, child_widths}
+use Rattle.typed_ir.specs.Trees.{is_legal_unit_node}
 use Rattle.verilog_ast.specs.Expressions.{Target}
 use Rattle.verilog_ast.specs.Items.{ModuleInstance}
 use Rattle.width_rules.specs.declared.due.Due.TheVariants.{AnyValue}
@@ -18,15 +18,15 @@ use Rattle.width_rules.specs.Scopes.{Scope}
 use Rattle.width_rules.proofs.Reading.{left_none, right_none}
 use Rattle.statement_rules.specs.Statements.{assigned}
 use Rattle.statement_rules.specs.Targets.{target_length, parts}
-use Rattle.size_laws.specs.Fitting.{FitsScope}
-use Rattle.size_laws.specs.Written.{IsWritten}
-use Rattle.size_laws.proofs.Statements.{assigned_sized}
-use Rattle.connection_rules.specs.Connections.{Connected, connected_to, connection_faults, connection_kinds, all_connection_faults, all_connection_kinds}
-use Rattle.connection_rules.specs.ConnectionNodes.{driven_by, port_lane, port_value, input_node, output_node, connection_node}
-use Rattle.connection_rules.specs.Instances.{instance_faults, instance_kinds, item_faults, child_items, instance_items}
-use Rattle.connection_rules.specs.Outputs.{target_at, output_faults, output_kinds}
-use Rattle.connection_rules.proofs.ChildWidths.{lanes_lie, values_lie}
-use Rattle.connection_rules.proofs.Standing.{each_port}
+use Rattle.statement_rules.specs.Fitting.{FitsScope}
+use Rattle.statement_rules.specs.Written.{IsWritten}
+use Rattle.statement_rules.proofs.FittingStatements.{assigned_sized}
+use Rattle.unit_build.specs.Connections.{Connected, connected_to, connection_faults, connection_kinds, all_connection_faults, all_connection_kinds}
+use Rattle.unit_build.specs.ConnectionNodes.{driven_by, port_lane, port_value, input_node, output_node, connection_node}
+use Rattle.unit_build.specs.Instances.{instance_faults, instance_kinds, item_faults, child_items, instance_items}
+use Rattle.unit_build.specs.Outputs.{target_at, output_faults, output_kinds}
+use Rattle.unit_build.proofs.ChildWidths.{lanes_lie, values_lie}
+use Rattle.unit_build.proofs.StandingConnections.{each_port}
 use Rattle.unit_build.proofs.ConnectedItems.{each_items}
 use Rattle.unit_build.proofs.ConnectedTargets.{IsOutput, output_so}
 use Rattle.unit_build.proofs.ConnectedTexts.{AreInstancesWritten, written_to}

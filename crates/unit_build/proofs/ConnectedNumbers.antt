@@ -2,12 +2,12 @@
 use Rattle.std.proofs.Common.{◌≡◌, ◌≤◌, ℕ, ◌+◌, List, [], ◌++◌, length, drop, append_assoc, refl, sym, ◌∙◌, ap, arith}
 use Rattle.std.proofs.lemmas.List.{length-append, take-append-drop}
 use Rattle.std.proofs.Math.Seq.{drop-append_seam}
-use Rattle.unit_ir.specs.declared.child_shape.ChildShape.{ChildShape}
+use Rattle.typed_ir.specs.declared.child_shape.ChildShape.{ChildShape}
 use Rattle.verilog_ast.specs.Items.{ModuleItem}
 use Rattle.width_rules.specs.declared.writer.Writer.{Writer}
 use Rattle.gen_unroll.specs.Reaches.{Reach}
 use Rattle.gen_unroll.specs.Steps.{ModuleStep, Listed, Port, Parameter, Item, Labelled, Opened, Closed}
-use Rattle.unit_names.specs.Signals.{NamedSignal}
+use Rattle.gen_unroll.specs.Signals.{NamedSignal}
 use Rattle.unit_build.specs.Walks.{Walk, instances_in, shapes_of, shapes_behind, passed, remaining, behind}
 
 -- the next instance has as its number how many stand before it

@@ -12,12 +12,12 @@ use Rattle.width_rules.specs.declared.due.Due.TheVariants.{ConstantOnly}
 use Rattle.width_rules.specs.declared.writer.Writer.TheVariants as writer
 use Rattle.width_rules.specs.Scopes.{Scope}
 use Rattle.statement_rules.specs.Targets.{target_length, parts, target_faults, kind_faults}
-use Rattle.size_laws.specs.Fitting.{FitsScope}
-use Rattle.size_laws.specs.Written.{IsWritten, ArePartsWritten, IsTargetWritten, AreTargetsWritten}
-use Rattle.size_laws.proofs.Targets.{target_long, target_parts}
-use Rattle.connection_rules.specs.Connections.{Connected}
-use Rattle.connection_rules.specs.ConnectionNodes.{target_or_none, driven_by}
-use Rattle.connection_rules.specs.Outputs.{is_target, target_at, as_target, written_faults, output_faults, written_kinds, output_kinds}
+use Rattle.statement_rules.specs.Fitting.{FitsScope}
+use Rattle.statement_rules.specs.Written.{IsWritten, ArePartsWritten, IsTargetWritten, AreTargetsWritten}
+use Rattle.statement_rules.proofs.Targets.{target_long, target_parts}
+use Rattle.unit_build.specs.Connections.{Connected}
+use Rattle.unit_build.specs.ConnectionNodes.{target_or_none, driven_by}
+use Rattle.unit_build.specs.Outputs.{is_target, target_at, as_target, written_faults, output_faults, written_kinds, output_kinds}
 use Rattle.unit_build.proofs.OutputTargets.{output_is_target}
 
 -- ---- an expression that is a target is written as one

@@ -5,9 +5,9 @@ use Rattle.std.specs.Option.{option_map}
 use Rattle.ls_text.specs.declared.name_id.NameId.{NameId}
 use Rattle.typed_ir.specs.Orders.{Each}
 use Rattle.typed_ir.proofs.Lists.{each_append}
-use Rattle.unit_ir.specs.declared.child_shape.ChildShape.{ChildShape}
-use Rattle.unit_ir.specs.declared.port_shape.PortShape.{PortShape}
-use Rattle.unit_ir.specs.Shapes.{is_clock}
+use Rattle.typed_ir.specs.declared.child_shape.ChildShape.{ChildShape}
+use Rattle.typed_ir.specs.declared.port_shape.PortShape.{PortShape}
+use Rattle.typed_ir.specs.Shapes.{is_clock}
 use Rattle.verilog_ast.specs.declared.connections.Connections.{Connections}
 use Rattle.verilog_ast.specs.declared.connections.Connections.TheVariants as connections
 use Rattle.verilog_ast.specs.declared.expression.Expr.{Expr}
@@ -23,9 +23,9 @@ use Rattle.gen_unroll.specs.declared.step.Step.{Step}
 use Rattle.gen_unroll.specs.declared.step.Step.TheVariants as step
 use Rattle.gen_unroll.specs.Steps.{ModuleStep, Item}
 use Rattle.gen_unroll.specs.Views.{step_of}
-use Rattle.size_laws.specs.Written.{IsWritten}
-use Rattle.size_laws.proofs.Trees.{expression_is_written}
-use Rattle.connection_rules.specs.Connections.{Connected, port_number, connection_if, connection_at, to_port, to_found, connected_by_name, connected_by_order, connected_to}
+use Rattle.statement_rules.specs.Written.{IsWritten}
+use Rattle.statement_rules.proofs.Trees.{expression_is_written}
+use Rattle.unit_build.specs.Connections.{Connected, port_number, connection_if, connection_at, to_port, to_found, connected_by_name, connected_by_order, connected_to}
 use Rattle.unit_build.specs.Walks.{instances_in}
 
 -- ---- texts

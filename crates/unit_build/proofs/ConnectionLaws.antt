@@ -4,19 +4,19 @@ use Rattle.std.proofs.Common.{◌≡◌, ◌≤◌, ◌<◌, ℕ, ◌+◌, ◌�
 use Rattle.std.proofs.lemmas.Bool.{cases_lt}
 use Rattle.typed_ir.specs.Nodes.{FlatNode}
 use Rattle.typed_ir.specs.Orders.{Each}
-use Rattle.unit_ir.specs.declared.child_shape.ChildShape.{ChildShape}
-use Rattle.unit_ir.specs.Items.{nodes_in}
-use Rattle.unit_ir.specs.OwnWidths.{names_child, child_widths}
-use Rattle.unit_ir.specs.Shapes.{goes_into_input}
-use Rattle.unit_ir.specs.Trees.{UnitNode, Own, count, port_drives, is_legal_unit_node}
+use Rattle.typed_ir.specs.declared.child_shape.ChildShape.{ChildShape}
+use Rattle.typed_ir.specs.Items.{nodes_in}
+use Rattle.typed_ir.specs.OwnWidths.{names_child, child_widths}
+use Rattle.typed_ir.specs.Shapes.{goes_into_input}
+use Rattle.typed_ir.specs.Trees.{UnitNode, Own, count, port_drives, is_legal_unit_node}
 use Rattle.verilog_ast.specs.Items.{ModuleItem}
 use Rattle.width_rules.specs.declared.writer.Writer.{Writer}
 use Rattle.width_rules.specs.Scopes.{Scope}
 use Rattle.gen_unroll.specs.Steps.{ModuleStep, Item}
-use Rattle.unit_names.specs.Signals.{NamedSignal}
-use Rattle.size_laws.specs.Fitting.{FitsScope}
-use Rattle.connection_rules.specs.Instances.{instance_items, item_faults}
-use Rattle.connection_rules.proofs.Standing.{once, none_before, none_behind, children_so, into_among}
+use Rattle.gen_unroll.specs.Signals.{NamedSignal}
+use Rattle.statement_rules.specs.Fitting.{FitsScope}
+use Rattle.unit_build.specs.Instances.{instance_items, item_faults}
+use Rattle.unit_build.proofs.StandingConnections.{once, none_before, none_behind, children_so, into_among}
 use Rattle.unit_build.specs.Walks.{Walk, instances_in, shapes_of, shapes_behind, step_items, passed, behind, walk_items}
 use Rattle.unit_build.proofs.ConnectedItems.{connected_items, each_items, step_each, walk_count}
 use Rattle.unit_build.proofs.ConnectedNumbers.{IsWalkOver, goes_over, item_shapes, item_within}

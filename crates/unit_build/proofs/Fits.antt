@@ -9,8 +9,8 @@ use Rattle.verilog_ast.specs.declared.identifier.Identifier.{Identifier}
 use Rattle.verilog_ast.specs.Items.{ModuleDeclaration}
 use Rattle.width_rules.specs.declared.writer.Writer.{Writer}
 use Rattle.width_rules.specs.Scopes.{Meaning, Constant, Turn, Unknown, Scope}
-use Rattle.size_laws.specs.Fitting.{FitsMeaning, FitsScope}
-use Rattle.size_laws.proofs.Bounds.{width_from}
+use Rattle.statement_rules.specs.Fitting.{FitsMeaning, FitsScope}
+use Rattle.statement_rules.proofs.Bounds.{width_from}
 use Rattle.gen_unroll.specs.declared.step.Step.{Step}
 use Rattle.gen_unroll.specs.declared.step.Step.TheVariants as step
 use Rattle.gen_unroll.specs.declared.turn.Turn.{Turn as LoopTurnOf}
@@ -20,11 +20,11 @@ use Rattle.gen_unroll.specs.Steps.{LoopTurn, ModuleStep, Listed, Port, Parameter
 use Rattle.gen_unroll.specs.Unrolled.{with_turn}
 use Rattle.gen_unroll.specs.Values.{ConstantValue, constant_of}
 use Rattle.gen_unroll.specs.Views.{turn_of, step_of}
-use Rattle.unit_names.specs.declared.signal_table.ModuleSignals.{ModuleSignals}
-use Rattle.unit_names.specs.ModuleViews.{signals_in}
-use Rattle.unit_names.specs.Sound.{widths_of}
-use Rattle.unit_names.specs.UnitReaches.{unit_reach_in, unit_in_reach}
-use Rattle.unit_names.proofs.Placeholders.{opened_fits, began_fits}
+use Rattle.gen_unroll.specs.declared.signal_table.ModuleSignals.{ModuleSignals}
+use Rattle.gen_unroll.specs.ModuleViews.{signals_in}
+use Rattle.gen_unroll.specs.Sound.{widths_of}
+use Rattle.gen_unroll.specs.UnitReaches.{unit_reach_in, unit_in_reach}
+use Rattle.gen_unroll.proofs.Placeholders.{opened_fits, began_fits}
 
 -- ---- constants of steps
 

@@ -8,8 +8,8 @@ use Rattle.typed_ir.specs.Nodes.{are_lanes, is_legal_node, known_lanes}
 use Rattle.typed_ir.specs.Orders.{Each}
 use Rattle.typed_ir.specs.Stmts.{SizedStmt, is_sized, is_legal, is_clocked}
 use Rattle.typed_ir.proofs.Lists.{each_append}
-use Rattle.unit_ir.specs.Items.{SizedBody, Node, Clocked, Initial, PlacedItem, node_in, nodes_in, block_in, blocks_in}
-use Rattle.unit_ir.specs.Trees.{UnitNode, is_legal_unit_node, is_legal_block}
+use Rattle.typed_ir.specs.Items.{SizedBody, Node, Clocked, Initial, PlacedItem, node_in, nodes_in, block_in, blocks_in}
+use Rattle.typed_ir.specs.Trees.{UnitNode, is_legal_unit_node, is_legal_block}
 use Rattle.verilog_ast.specs.declared.expression.Expr.{Expr}
 use Rattle.verilog_ast.specs.declared.header_port.HeaderPort.{HeaderPort}
 use Rattle.verilog_ast.specs.declared.header_port.HeaderPort.TheVariants as port
@@ -28,20 +28,20 @@ use Rattle.statement_rules.specs.Drives.{sized_drive, assign_faults}
 use Rattle.statement_rules.specs.Statements.{sized_statement, statement_faults}
 use Rattle.statement_rules.specs.Targets.{parts}
 use Rattle.statement_rules.proofs.Clocked.{stays_clocked}
-use Rattle.size_laws.specs.Fitting.{FitsScope, FitsDrive, FitDrives}
-use Rattle.size_laws.specs.Written.{IsWritten, IsStatementWritten, AreAssignsWritten}
-use Rattle.size_laws.proofs.Drives.{drives_fit}
-use Rattle.size_laws.proofs.Statements.{legal}
-use Rattle.size_laws.proofs.Trees.{expression_is_written, statement_is_written, assigns_are_written}
+use Rattle.statement_rules.specs.Fitting.{FitsScope, FitsDrive, FitDrives}
+use Rattle.statement_rules.specs.Written.{IsWritten, IsStatementWritten, AreAssignsWritten}
+use Rattle.statement_rules.proofs.Drives.{drives_fit}
+use Rattle.statement_rules.proofs.FittingStatements.{legal}
+use Rattle.statement_rules.proofs.Trees.{expression_is_written, statement_is_written, assigns_are_written}
 use Rattle.gen_unroll.specs.declared.step.Step.{Step}
 use Rattle.gen_unroll.specs.declared.step.Step.TheVariants as step
 use Rattle.gen_unroll.specs.Steps.{ModuleStep, Listed, Port, Parameter, Item, Labelled, Opened, Closed}
 use Rattle.gen_unroll.specs.Views.{step_of}
-use Rattle.sized_items.specs.declared.value_kind.ValueKind.{ValueKind}
-use Rattle.sized_items.specs.declared.value_kind.ValueKind.TheVariants as kind
-use Rattle.sized_items.specs.DeclaredValues.{DeclaredValue, kind_of_net, value_if, values_of, reg_values_of, port_values, as_assignment, is_net_value, declaration_faults}
-use Rattle.sized_items.specs.SizedItems.{drive_item, initial_item, value_item, combinational_item, clocked_item, plain_items, plain_faults}
-use Rattle.sized_items.proofs.Driven.{nets_driven}
+use Rattle.statement_rules.specs.declared.value_kind.ValueKind.{ValueKind}
+use Rattle.statement_rules.specs.declared.value_kind.ValueKind.TheVariants as kind
+use Rattle.statement_rules.specs.DeclaredValues.{DeclaredValue, kind_of_net, value_if, values_of, reg_values_of, port_values, as_assignment, is_net_value, declaration_faults}
+use Rattle.statement_rules.specs.SizedItems.{drive_item, initial_item, value_item, combinational_item, clocked_item, plain_items, plain_faults}
+use Rattle.statement_rules.proofs.Driven.{nets_driven}
 use Rattle.unit_build.proofs.ConnectedTargets.{lanes_known}
 
 -- ---- items whose texts are written as a parser writes them

@@ -17,3 +17,11 @@ pub mod Sound
 pub mod Making
 pub mod Unrolling
 pub mod BuiltModules
+pub mod Listing
+pub mod Written
+pub mod Ports
+pub mod Placed
+pub mod Endings
+pub mod StandingConnections
+pub mod ChildWidths
+pub mod Items

@@ -9,15 +9,15 @@ use Rattle.gen_unroll.specs.Views.{step_of}
 use Rattle.gen_unroll.proofs.Values.{no_fault}
 use Rattle.module_registry.specs.declared.build_job.BuildJob.{BuildJob}
 use Rattle.module_registry.specs.Building.{Built}
-use Rattle.unit_ir.specs.declared.child_shape.ChildShape.{ChildShape}
-use Rattle.unit_ir.specs.declared.unit_parts.UnitParts.{UnitParts}
-use Rattle.unit_ir.specs.Items.{PlacedItems, unit_of}
-use Rattle.unit_ir.specs.OwnWidths.{IsSized}
-use Rattle.unit_ir.specs.Trees.{SizedUnit, IsUnit}
-use Rattle.unit_ir.specs.Units.{sized_unit}
-use Rattle.unit_names.specs.declared.signal_table.ModuleSignals.{ModuleSignals}
-use Rattle.unit_names.specs.ModuleViews.{table_in}
-use Rattle.unit_names.specs.Numbers.{module_table}
+use Rattle.typed_ir.specs.declared.child_shape.ChildShape.{ChildShape}
+use Rattle.typed_ir.specs.declared.unit_parts.UnitParts.{UnitParts}
+use Rattle.typed_ir.specs.Items.{PlacedItems, unit_of}
+use Rattle.typed_ir.specs.OwnWidths.{IsSized}
+use Rattle.typed_ir.specs.Trees.{SizedUnit, IsUnit}
+use Rattle.typed_ir.specs.Units.{sized_unit}
+use Rattle.gen_unroll.specs.declared.signal_table.ModuleSignals.{ModuleSignals}
+use Rattle.gen_unroll.specs.ModuleViews.{table_in}
+use Rattle.gen_unroll.specs.Numbers.{module_table}
 use Rattle.unit_build.specs.Building.{module_of, job_faults, placed_items, unit_faults, unit_with}
 use Rattle.unit_build.proofs.Sound.{narrow, roles, unit, sized}
 

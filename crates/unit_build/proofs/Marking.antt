@@ -1,8 +1,8 @@
 -- One place of a list is set.
 use Rattle.std.proofs.Common.{◌≡◌, ◌∙◌, ℕ, zero, suc, ◌%◌, ◌^◌, ◌<◌, ◌≤◌, Bool, true, List, [], ◌∷◌, length, map, set, get_or, refl, ap, ap₂, arith}
 use Rattle.typed_ir.specs.Cycles.{Signal}
-use Rattle.unit_ir.specs.declared.unit_signal.UnitSignal.{UnitSignal}
-use Rattle.unit_ir.specs.Units.{signal_within}
+use Rattle.typed_ir.specs.declared.unit_signal.UnitSignal.{UnitSignal}
+use Rattle.typed_ir.specs.Units.{signal_within}
 use Rattle.unit_build.specs.Settled.{flagged}
 use Rattle.unit_build.specs.Building.{begins_with}
 

@@ -10,17 +10,17 @@ use Rattle.typed_ir.specs.Sized.{is_width, is_signal, is_span}
 use Rattle.typed_ir.specs.Stmts.{SizedTarget, Fixed, Moving, SizedStmt, SizedArms, Skip, Assign, Later, Then, If, Case, Arm, Default, span_of, targets, arm_targets, later_targets, later_arm_targets, is_sized, is_target, are_targets, are_items, is_legal, are_legal_arms, is_clocked}
 use Rattle.typed_ir.proofs.Cases.{and_left, and_right}
 use Rattle.typed_ir.proofs.Lists.{each_append}
-use Rattle.unit_ir.specs.Items.{SizedBody, Node, Clocked, Initial, PlacedItem}
-use Rattle.unit_ir.specs.Trees.{UnitNode, Own, Into, From, is_legal_unit_node}
+use Rattle.typed_ir.specs.Items.{SizedBody, Node, Clocked, Initial, PlacedItem}
+use Rattle.typed_ir.specs.Trees.{UnitNode, Own, Into, From, is_legal_unit_node}
 use Rattle.driver_rules.specs.Writes.{flat_spans, node_spans, spans_of}
 use Rattle.gen_unroll.specs.declared.bit_range.BitRange.{BitRange as Bounds}
 use Rattle.gen_unroll.specs.Declarations.{declared_width}
 use Rattle.gen_unroll.specs.Views.{bit_range_of}
-use Rattle.unit_names.specs.declared.named_signal.NamedSignal.{NamedSignal as Named}
-use Rattle.unit_names.specs.declared.signal_table.ModuleSignals.{ModuleSignals}
-use Rattle.unit_names.specs.ModuleViews.{signals_in}
-use Rattle.unit_names.specs.SignalViews.{signal_of}
-use Rattle.unit_names.specs.Sound.{widths_of}
+use Rattle.gen_unroll.specs.declared.named_signal.NamedSignal.{NamedSignal as Named}
+use Rattle.gen_unroll.specs.declared.signal_table.ModuleSignals.{ModuleSignals}
+use Rattle.gen_unroll.specs.ModuleViews.{signals_in}
+use Rattle.gen_unroll.specs.SignalViews.{signal_of}
+use Rattle.gen_unroll.specs.Sound.{widths_of}
 use Rattle.unit_build.proofs.ItemLaws.{IsLegalBody, AreLegalItems}
 
 -- ---- widths of at most 128 bits

@@ -8,7 +8,7 @@ use Rattle.verilog_ast.specs.Expressions.{Expression}
 use Rattle.width_rules.specs.Faults.{fault_of}
 use Rattle.width_rules.specs.Scopes.{Scope}
 use Rattle.width_rules.proofs.Reading.{left_none, right_none}
-use Rattle.connection_rules.specs.Outputs.{is_target, target_at, part_kinds, written_kinds, output_kinds}
+use Rattle.unit_build.specs.Outputs.{is_target, target_at, part_kinds, written_kinds, output_kinds}
 
 -- part by part
 parts_are_targets : (scope : Scope) (x : Expression) → part_kinds scope x ≡ [] → is_target x ≡ true

@@ -1,10 +1,10 @@
 -- Registers by flags that are known of the signals of a module alone.
 use Rattle.std.proofs.Common.{◌≡◌, ◌<◌, ℕ, zero, suc, ◌&&◌, Bool, false, nat_lt, List, [], ◌∷◌, filter, length, cond, refl, ◌∙◌, ap, arith, lt-ltb}
 use Rattle.std.specs.Prelude.{slice_get, slice_index_or}
-use Rattle.unit_names.specs.Numbers.{SignalTable}
-use Rattle.unit_names.specs.Signals.{NamedSignal}
-use Rattle.unit_names.specs.UnitLists.{is_register_at, is_register, registers}
-use Rattle.unit_names.specs.UnitReaches.{is_settled}
+use Rattle.gen_unroll.specs.Numbers.{SignalTable}
+use Rattle.gen_unroll.specs.Signals.{NamedSignal}
+use Rattle.gen_unroll.specs.UnitLists.{is_register_at, is_register, registers}
+use Rattle.gen_unroll.specs.UnitReaches.{is_settled}
 
 -- what is no signal is no register
 known : (xs : List NamedSignal) (k : ℕ) (a b : Bool) → (k < length xs → a ≡ b) → is_register_at a (slice_get xs k) ≡ is_register_at b (slice_get xs k)

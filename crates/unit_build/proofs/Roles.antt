@@ -3,19 +3,19 @@ use Rattle.std.proofs.Common.{◌≡◌, ℕ, zero, suc, ◌<◌, ◌&&◌, inl,
 use Rattle.std.specs.Prelude.{Option, slice_get}
 use Rattle.ls_text.specs.declared.name_id.NameId.{NameId}
 use Rattle.typed_ir.specs.Orders.{Member, at_or}
-use Rattle.unit_ir.specs.declared.signal_declaration.SignalDeclaration.{SignalDeclaration}
-use Rattle.unit_ir.specs.declared.signal_kind.SignalKind.{SignalKind}
-use Rattle.unit_ir.specs.declared.signal_kind.SignalKind.TheVariants as kind
-use Rattle.unit_ir.specs.Items.{PlacedItem}
-use Rattle.unit_names.specs.Numbers.{SignalTable}
-use Rattle.unit_names.specs.Signals.{NamedSignal}
-use Rattle.unit_names.proofs.Numbered.{input_at, input_from}
-use Rattle.unit_names.specs.UnitLists.{declarations_of, is_input, data_inputs, is_variable, is_register_at, is_register}
+use Rattle.typed_ir.specs.declared.signal_declaration.SignalDeclaration.{SignalDeclaration}
+use Rattle.typed_ir.specs.declared.signal_kind.SignalKind.{SignalKind}
+use Rattle.typed_ir.specs.declared.signal_kind.SignalKind.TheVariants as kind
+use Rattle.typed_ir.specs.Items.{PlacedItem}
+use Rattle.gen_unroll.specs.Numbers.{SignalTable}
+use Rattle.gen_unroll.specs.Signals.{NamedSignal}
+use Rattle.gen_unroll.proofs.Numbered.{input_at, input_from}
+use Rattle.gen_unroll.specs.UnitLists.{declarations_of, is_input, data_inputs, is_variable, is_register_at, is_register}
 use Rattle.driver_rules.specs.Driven.{is_input_kind, HasRoles}
 use Rattle.driver_rules.specs.Driven.{is_input as is_declared_input}
 use Rattle.driver_rules.specs.Targets.{is_variable_kind, is_settled}
 use Rattle.module_registry.specs.declared.build_job.BuildJob.{BuildJob}
-use Rattle.sized_items.specs.DeclaredValues.{InitialValue}
+use Rattle.statement_rules.specs.DeclaredValues.{InitialValue}
 use Rattle.unit_build.specs.Building.{placed}
 
 -- ---- numbers that meet a test

@@ -4,17 +4,17 @@ use Rattle.driver_rules.specs.Driven.{AreNarrowItems, HasRoles, IsDriven}
 use Rattle.gen_unroll.specs.declared.step.Step.{Step}
 use Rattle.gen_unroll.specs.Views.{step_of}
 use Rattle.module_registry.specs.declared.build_job.BuildJob.{BuildJob}
-use Rattle.unit_ir.specs.declared.unit_parts.UnitParts.{UnitParts}
-use Rattle.unit_ir.specs.Items.{unit_of}
-use Rattle.unit_ir.specs.OwnWidths.{child_widths, IsSized}
-use Rattle.unit_ir.specs.Trees.{IsUnit}
-use Rattle.unit_ir.specs.Units.{sized_unit}
-use Rattle.unit_names.specs.declared.signal_table.ModuleSignals.{ModuleSignals}
-use Rattle.unit_names.specs.ModuleViews.{signals_in, table_in}
-use Rattle.unit_names.specs.Numbers.{module_table}
-use Rattle.unit_names.specs.Sound.{widths_of}
-use Rattle.unit_names.specs.UnitReaches.{unit_reach_in, writer_of, is_settled}
-use Rattle.unit_names.proofs.Numbered.{ordered}
+use Rattle.typed_ir.specs.declared.unit_parts.UnitParts.{UnitParts}
+use Rattle.typed_ir.specs.Items.{unit_of}
+use Rattle.typed_ir.specs.OwnWidths.{child_widths, IsSized}
+use Rattle.typed_ir.specs.Trees.{IsUnit}
+use Rattle.typed_ir.specs.Units.{sized_unit}
+use Rattle.gen_unroll.specs.declared.signal_table.ModuleSignals.{ModuleSignals}
+use Rattle.gen_unroll.specs.ModuleViews.{signals_in, table_in}
+use Rattle.gen_unroll.specs.Numbers.{module_table}
+use Rattle.gen_unroll.specs.Sound.{widths_of}
+use Rattle.gen_unroll.specs.UnitReaches.{unit_reach_in, writer_of, is_settled}
+use Rattle.gen_unroll.proofs.Numbered.{ordered}
 use Rattle.unit_build.specs.Building.{module_of, beginning, job_faults, job_items, job_initials, placed_items}
 use Rattle.unit_build.proofs.ConnectedNumbers.{begins_over}
 use Rattle.unit_build.proofs.ConnectionLaws.{walk_children, walk_into, walk_ports}

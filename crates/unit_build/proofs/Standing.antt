@@ -3,23 +3,23 @@ use Rattle.std.proofs.Common.{◌≡◌, ℕ, zero, suc, ◌<◌, ◌≤◌, tru
 use Rattle.typed_ir.specs.Cycles.{Signal}
 use Rattle.typed_ir.specs.Orders.{Each}
 use Rattle.typed_ir.specs.Stmts.{SizedStmt}
-use Rattle.unit_ir.specs.declared.child_shape.ChildShape.{ChildShape}
-use Rattle.unit_ir.specs.declared.unit_parts.UnitParts.{UnitParts}
-use Rattle.unit_ir.specs.Items.{PlacedItem, nodes_in, unit_of}
-use Rattle.unit_ir.specs.OwnWidths.{child_widths, names_child, IsSized}
-use Rattle.unit_ir.specs.Shapes.{goes_into_input}
-use Rattle.unit_ir.specs.Trees.{UnitNode, SizedUnit, count, port_drives, unit_widths, is_legal_unit_node, is_legal_block, IsUnit}
-use Rattle.unit_ir.specs.Units.{sized_unit}
-use Rattle.unit_names.specs.Numbers.{SignalTable}
-use Rattle.unit_names.specs.Signals.{NamedSignal}
-use Rattle.unit_names.specs.Sound.{IsOrdered, widths_of}
-use Rattle.unit_names.specs.UnitLists.{unit_signals}
-use Rattle.unit_names.proofs.Fitting.{unit_widths as signal_widths}
-use Rattle.unit_names.proofs.Numbered.{apart}
+use Rattle.typed_ir.specs.declared.child_shape.ChildShape.{ChildShape}
+use Rattle.typed_ir.specs.declared.unit_parts.UnitParts.{UnitParts}
+use Rattle.typed_ir.specs.Items.{PlacedItem, nodes_in, unit_of}
+use Rattle.typed_ir.specs.OwnWidths.{child_widths, names_child, IsSized}
+use Rattle.typed_ir.specs.Shapes.{goes_into_input}
+use Rattle.typed_ir.specs.Trees.{UnitNode, SizedUnit, count, port_drives, unit_widths, is_legal_unit_node, is_legal_block, IsUnit}
+use Rattle.typed_ir.specs.Units.{sized_unit}
+use Rattle.gen_unroll.specs.Numbers.{SignalTable}
+use Rattle.gen_unroll.specs.Signals.{NamedSignal}
+use Rattle.gen_unroll.specs.Sound.{IsOrdered, widths_of}
+use Rattle.gen_unroll.specs.UnitLists.{unit_signals}
+use Rattle.gen_unroll.proofs.Fitting.{unit_widths as signal_widths}
+use Rattle.gen_unroll.proofs.Numbered.{apart}
 use Rattle.driver_rules.specs.Driven.{IsDriven}
 use Rattle.driver_rules.specs.Targets.{is_settled}
 use Rattle.module_registry.specs.declared.build_job.BuildJob.{BuildJob}
-use Rattle.sized_items.specs.DeclaredValues.{InitialValue}
+use Rattle.statement_rules.specs.DeclaredValues.{InitialValue}
 use Rattle.unit_build.specs.Building.{module_of, begins_with, with_initials, placed}
 use Rattle.unit_build.proofs.ItemLaws.{AreLegalItems, nodes_legal, blocks_legal}
 

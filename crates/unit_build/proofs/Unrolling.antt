@@ -9,7 +9,7 @@ use Rattle.ls_text.specs.Answers.{◌>>=◌}
 use Rattle.gen_unroll.specs.Values.{ConstantValue}
 use Rattle.gen_unroll.proofs.Answered.{ended, stopped}
 use Rattle.module_registry.specs.declared.build_job.BuildJob.{BuildJob}
-use Rattle.unit_names.specs.Numbers.{SignalTable, module_table}
+use Rattle.gen_unroll.specs.Numbers.{SignalTable, module_table}
 use Rattle.unit_build.specs.Building.{module_of, job_steps, settled_signals, unit_with, built}
 use Rattle.unit_build.specs.FromSteps.{unit_from}
 use Rattle.gen_unroll.specs.Overriding.{constant_sorts, overrides_of}

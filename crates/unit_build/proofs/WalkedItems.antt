@@ -3,26 +3,26 @@ use Rattle.std.proofs.Common.{◌≡◌, ℕ, suc, true, List, [], ◌∷◌, �
 use Rattle.std.specs.Prelude.{⊤, Option, Some, None}
 use Rattle.typed_ir.specs.Orders.{Each}
 use Rattle.typed_ir.proofs.Lists.{each_append}
-use Rattle.unit_ir.specs.declared.child_shape.ChildShape.{ChildShape}
-use Rattle.unit_ir.specs.declared.port_shape.PortShape.{PortShape}
-use Rattle.unit_ir.specs.Items.{SizedBody, Node, Clocked, Initial, PlacedItem, node_in, nodes_in}
-use Rattle.unit_ir.specs.OwnWidths.{child_widths}
-use Rattle.unit_ir.specs.Trees.{UnitNode, is_legal_unit_node}
+use Rattle.typed_ir.specs.declared.child_shape.ChildShape.{ChildShape}
+use Rattle.typed_ir.specs.declared.port_shape.PortShape.{PortShape}
+use Rattle.typed_ir.specs.Items.{SizedBody, Node, Clocked, Initial, PlacedItem, node_in, nodes_in}
+use Rattle.typed_ir.specs.OwnWidths.{child_widths}
+use Rattle.typed_ir.specs.Trees.{UnitNode, is_legal_unit_node}
 use Rattle.verilog_ast.specs.Items.{ModuleInstance}
 use Rattle.width_rules.specs.declared.writer.Writer.{Writer}
 use Rattle.width_rules.specs.Scopes.{Scope}
 use Rattle.width_rules.proofs.Reading.{left_none, right_none}
-use Rattle.size_laws.specs.Fitting.{FitsScope}
+use Rattle.statement_rules.specs.Fitting.{FitsScope}
 use Rattle.gen_unroll.specs.declared.step.Step.{Step}
 use Rattle.gen_unroll.specs.Steps.{ModuleStep, Listed, Port, Parameter, Item, Labelled, Opened, Closed}
 use Rattle.gen_unroll.specs.Views.{step_of}
-use Rattle.unit_names.specs.declared.signal_table.ModuleSignals.{ModuleSignals}
-use Rattle.unit_names.specs.ModuleViews.{signals_in}
-use Rattle.unit_names.specs.Sound.{widths_of}
-use Rattle.connection_rules.specs.Connections.{Connected, connected_to}
-use Rattle.connection_rules.specs.Instances.{item_faults, first_to, item_if, port_items, child_items, instance_items}
-use Rattle.sized_items.specs.DeclaredValues.{port_values}
-use Rattle.sized_items.specs.SizedItems.{plain_items, plain_faults}
+use Rattle.gen_unroll.specs.declared.signal_table.ModuleSignals.{ModuleSignals}
+use Rattle.gen_unroll.specs.ModuleViews.{signals_in}
+use Rattle.gen_unroll.specs.Sound.{widths_of}
+use Rattle.unit_build.specs.Connections.{Connected, connected_to}
+use Rattle.unit_build.specs.Instances.{item_faults, first_to, item_if, port_items, child_items, instance_items}
+use Rattle.statement_rules.specs.DeclaredValues.{port_values}
+use Rattle.statement_rules.specs.SizedItems.{plain_items, plain_faults}
 use Rattle.unit_build.specs.Walks.{Walk, instances_in, shapes_of, step_faults, step_items, behind, walk_faults, walk_items}
 use Rattle.unit_build.proofs.ConnectedNumbers.{IsWalkOver, goes_over}
 use Rattle.unit_build.proofs.ConnectedTexts.{HasWrittenInstances, step_written as instances_are_written}

@@ -3,22 +3,22 @@ use Rattle.std.specs.Prelude.{Bool, List, ◌++◌, Option, Result}
 use Rattle.ls_text.specs.declared.fault.Fault.{Fault}
 use Rattle.ls_text.specs.declared.name_id.NameId.{NameId}
 use Rattle.typed_ir.specs.declared.constant.Const.{Const}
-use Rattle.unit_ir.specs.declared.child_shape.ChildShape.{ChildShape}
-use Rattle.unit_ir.specs.Items.{PlacedItem, PlacedItems, unit_of}
+use Rattle.typed_ir.specs.declared.child_shape.ChildShape.{ChildShape}
+use Rattle.typed_ir.specs.Items.{PlacedItem, PlacedItems, unit_of}
 use Rattle.verilog_ast.specs.Items.{ModuleDeclaration}
 use Rattle.gen_unroll.specs.Overriding.{constant_sorts, overrides_of}
 use Rattle.gen_unroll.specs.Steps.{ModuleStep}
 use Rattle.gen_unroll.specs.Unrolled.{unrolled_module, turn_limit, steps_told}
 use Rattle.ls_text.specs.Answers.{◌>>=◌}
 use Rattle.gen_unroll.specs.Values.{unless}
-use Rattle.unit_names.specs.Numbers.{SignalTable, module_table}
-use Rattle.unit_names.specs.UnitLists.{unit_signals, declarations_of, data_inputs, registers}
-use Rattle.unit_names.specs.UnitReaches.{unit_reach_in, writer_of, is_settled}
+use Rattle.gen_unroll.specs.Numbers.{SignalTable, module_table}
+use Rattle.gen_unroll.specs.UnitLists.{unit_signals, declarations_of, data_inputs, registers}
+use Rattle.gen_unroll.specs.UnitReaches.{unit_reach_in, writer_of, is_settled}
 use Rattle.driver_rules.specs.DriverFaults.{driver_faults}
 use Rattle.driver_rules.specs.Targets.{is_settled as is_settled_by}
 use Rattle.module_registry.specs.declared.build_job.BuildJob.{BuildJob}
 use Rattle.module_registry.specs.Building.{Built}
-use Rattle.sized_items.specs.DeclaredValues.{InitialValue}
+use Rattle.statement_rules.specs.DeclaredValues.{InitialValue}
 use Rattle.unit_build.specs.Building.{settled_signals, with_initials}
 use Rattle.unit_build.specs.Walks.{Walk, walk_faults, walk_items, walk_initials}
 

@@ -5,7 +5,7 @@ use Rattle.gen_unroll.specs.Steps.{ModuleStep}
 use Rattle.ls_text.specs.Answers.{◌>>=◌}
 use Rattle.module_registry.specs.declared.build_job.BuildJob.{BuildJob}
 use Rattle.module_registry.specs.Building.{Built}
-use Rattle.unit_names.specs.Numbers.{module_table}
+use Rattle.gen_unroll.specs.Numbers.{module_table}
 use Rattle.unit_build.specs.Building.{module_of, settled_signals, unit_with}
 
 abbrev pub unit_from : BuildJob → List ModuleStep → Result Built Fault

@@ -5,3 +5,10 @@ pub mod Settled
 pub mod Building
 pub mod FromSteps
 pub mod BuiltModules
+pub mod Outputs
+pub mod Connections
+pub mod ConnectionNodes
+pub mod Instances
+pub mod Slots
+pub mod Found
+pub mod Views

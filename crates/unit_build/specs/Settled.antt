@@ -1,16 +1,16 @@
 -- The variables that combinational blocks write, by the names of their targets: these are no registers (IEEE Std 1364-2005, 9.2, 9.9; that a
 -- variable has one kind of blocks is this project's own).
 use Rattle.std.specs.Prelude.{ℕ, zero, suc, Bool, true, false, List, [], ◌∷◌, map}
-use Rattle.unit_ir.specs.declared.mention.Mention.{Mention}
+use Rattle.typed_ir.specs.declared.mention.Mention.{Mention}
 use Rattle.verilog_ast.specs.Items as i
 use Rattle.verilog_ast.specs.Items.{ModuleItem}
 use Rattle.width_rules.specs.declared.writer.Writer.{Writer}
 use Rattle.width_rules.specs.Scopes.{Meaning, Signal, Constant, Turn, Genvar, Unknown, Scope}
 use Rattle.gen_unroll.specs.Reaches.{Reach}
 use Rattle.gen_unroll.specs.Steps.{ModuleStep, Item}
-use Rattle.item_mentions.specs.Mentions.{statement_targets}
-use Rattle.unit_names.specs.Signals.{NamedSignal}
-use Rattle.unit_names.specs.UnitReaches.{unit_in_reach}
+use Rattle.width_rules.specs.Mentions.{statement_targets}
+use Rattle.gen_unroll.specs.Signals.{NamedSignal}
+use Rattle.gen_unroll.specs.UnitReaches.{unit_in_reach}
 
 -- the flag of a number is set, where there is one
 abbrev pub flagged : ℕ → List Bool → List Bool

@@ -1,5 +1,5 @@
 -- What the state of a walk of the code means.
-use Rattle.unit_names.specs.UnitReachViews.{unit_reach_of}
+use Rattle.gen_unroll.specs.UnitReachViews.{unit_reach_of}
 use Rattle.unit_build.specs.declared.unit_walk.UnitWalk.{UnitWalk}
 use Rattle.unit_build.specs.Walks.{Walk}
 

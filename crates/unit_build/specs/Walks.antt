@@ -1,19 +1,19 @@
 -- The sized items of a module step by step, in the order of its text, and what may be wrong with them (IEEE Std 1364-2005, 12.1.2, 12.4).
 use Rattle.std.specs.Prelude.{ℕ, ◌+◌, List, [], ◌∷◌, ◌++◌, map, length, take, drop}
 use Rattle.ls_text.specs.declared.fault.Fault.{Fault}
-use Rattle.unit_ir.specs.declared.child_shape.ChildShape.{ChildShape}
-use Rattle.unit_ir.specs.Items.{PlacedItem}
+use Rattle.typed_ir.specs.declared.child_shape.ChildShape.{ChildShape}
+use Rattle.typed_ir.specs.Items.{PlacedItem}
 use Rattle.verilog_ast.specs.Items as i
 use Rattle.verilog_ast.specs.Items.{ModuleItem, ModuleInstance}
 use Rattle.width_rules.specs.declared.writer.Writer.{Writer}
 use Rattle.width_rules.specs.Scopes.{Scope}
 use Rattle.gen_unroll.specs.Reaches.{Reach}
 use Rattle.gen_unroll.specs.Steps.{ModuleStep, Listed, Port, Parameter, Item, Labelled, Opened, Closed}
-use Rattle.unit_names.specs.Signals.{NamedSignal}
-use Rattle.unit_names.specs.UnitReaches.{unit_in_reach}
-use Rattle.connection_rules.specs.Instances.{item_faults, instance_items}
-use Rattle.sized_items.specs.DeclaredValues.{InitialValue, port_values, declaration_faults, declaration_initials}
-use Rattle.sized_items.specs.SizedItems.{value_item, plain_items, plain_initials, plain_faults}
+use Rattle.gen_unroll.specs.Signals.{NamedSignal}
+use Rattle.gen_unroll.specs.UnitReaches.{unit_in_reach}
+use Rattle.unit_build.specs.Instances.{item_faults, instance_items}
+use Rattle.statement_rules.specs.DeclaredValues.{InitialValue, port_values, declaration_faults, declaration_initials}
+use Rattle.statement_rules.specs.SizedItems.{value_item, plain_items, plain_initials, plain_faults}
 
 -- ---- instances, and their shapes among those that are left
 

@@ -1,10 +1,10 @@
 -- Where a walk over the steps of a module begins, and how far a step goes.
 use Rattle.std.specs.Prelude.{ℕ, Bool, List, length}
-use Rattle.unit_ir.specs.declared.child_shape.ChildShape.{ChildShape}
+use Rattle.typed_ir.specs.declared.child_shape.ChildShape.{ChildShape}
 use Rattle.verilog_ast.specs.Items.{ModuleDeclaration}
 use Rattle.gen_unroll.specs.Steps.{ModuleStep, Item}
-use Rattle.unit_names.specs.Signals.{NamedSignal}
-use Rattle.unit_names.specs.UnitReaches.{unit_reach_in, writer_of}
+use Rattle.gen_unroll.specs.Signals.{NamedSignal}
+use Rattle.gen_unroll.specs.UnitReaches.{unit_reach_in, writer_of}
 use Rattle.unit_build.specs.Walks.{Walk, instances_in}
 
 -- how many instances a step has

@@ -4,9 +4,9 @@ ghost use Rattle.driver_rules.specs.Driven.{AreNarrowItems, HasRoles, IsDriven};
 ghost use Rattle.ls_text.specs.Answers.{Answers};
 ghost use Rattle.gen_unroll.specs.Views.{step_of};
 ghost use Rattle.module_registry.specs.UnitViews.{built_of};
-ghost use Rattle.unit_ir.specs.Items.{items_of, unit_of};
-ghost use Rattle.unit_names.specs.ModuleViews.{table_in};
-ghost use Rattle.unit_names.specs.Numbers.{module_table};
+ghost use Rattle.typed_ir.specs.Items.{items_of, unit_of};
+ghost use Rattle.gen_unroll.specs.ModuleViews.{table_in};
+ghost use Rattle.gen_unroll.specs.Numbers.{module_table};
 ghost use Rattle.width_rules.specs.Faults.{IsFirst};
 ghost use Rattle.unit_build.specs.Building as b;
 ghost use Rattle.unit_build.specs.FromSteps.{unit_from};
@@ -16,12 +16,11 @@ use crate::settling::settled;
 use crate::splitting::parts_of;
 use crate::walking::size_steps;
 use driver_rules::drivers;
-use gen_unroll::{Step, Unrolled, overrides_of, unroll};
+use gen_unroll::{ModuleSignals, Step, Unrolled, module_signals, overrides_of, unroll};
 use ls_text::Refusal;
 use module_registry::BuildJob;
 use std::alloc::Global;
-use unit_ir::{TypedItems, Unit};
-use unit_names::{ModuleSignals, module_signals};
+use typed_ir::{TypedItems, Unit};
 
 // The items of the module of a job with these signals and these steps, or the first fault of an item.
 fn sized(

@@ -1,9 +1,9 @@
 // Copies of the shapes of instances.
 ghost use Rattle.std.specs.Prelude.{◌≡◌, IfOk};
 
-use no_memory::NoMemory;
+use ls_text::NoMemory;
 use std::alloc::Global;
-use unit_ir::{ChildShape, PortList, PortShape, ShapeList};
+use typed_ir::{ChildShape, PortList, PortShape, ShapeList};
 
 fn copied_ports(alloc: Global, ports: &[PortShape]) -> Result<PortList, NoMemory>
     ensures { IfOk result (λ copy. copy ≡ ports.now) }

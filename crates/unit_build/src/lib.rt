@@ -7,9 +7,21 @@
 #![tactic(auto, using(width_rules::proofs::Firsts::earlier, width_rules::proofs::Firsts::later, width_rules::proofs::Firsts::neither))]
 
 mod building;
+mod checking;
+mod connecting;
+mod connection;
+mod connection_laws;
 mod copying;
+mod driving;
+mod finding;
+mod instancing;
 mod placing;
+mod port_names;
+mod port_order;
 mod settling;
+mod shaping;
+mod sized_output;
+mod sizing;
 mod splitting;
 mod stepping;
 mod unit_lists;
@@ -17,3 +29,8 @@ mod unit_walk;
 mod walking;
 
 pub use building::build;
+pub use checking::check_output;
+pub use connection_laws::connections_stand;
+pub use driving::size_output;
+pub use instancing::size_instances;
+pub use sized_output::SizedOutput;

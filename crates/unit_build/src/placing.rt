@@ -1,24 +1,23 @@
 // The items of a module with what else its unit is made of.
 ghost use Rattle.std.specs.Prelude.{◌≡◌, ◌%◌, ◌^◌, map, IfOk};
 ghost use Rattle.driver_rules.specs.Targets.{is_settled as is_settled_by};
-ghost use Rattle.unit_ir.specs.Items.{item_of, items_of};
-ghost use Rattle.unit_ir.specs.Units.{signal_within};
-ghost use Rattle.sized_items.specs.Views.{initial_of};
-ghost use Rattle.unit_names.specs.ModuleViews.{signals_in, table_in};
-ghost use Rattle.unit_names.specs.UnitLists as u;
+ghost use Rattle.typed_ir.specs.Items.{item_of, items_of};
+ghost use Rattle.typed_ir.specs.Units.{signal_within};
+ghost use Rattle.statement_rules.specs.Views.{initial_of};
+ghost use Rattle.gen_unroll.specs.ModuleViews.{signals_in, table_in};
+ghost use Rattle.gen_unroll.specs.UnitLists as u;
 ghost use Rattle.unit_build.specs.Building as b;
 
 use crate::copying::copied_shapes;
 use crate::unit_lists::UnitLists;
 use bits::Bits;
 use driver_rules::settled_signals;
+use gen_unroll::{ModuleSignals, data_inputs, declarations, registers, unit_signals};
+use ls_text::NoMemory;
 use module_registry::BuildJob;
-use no_memory::NoMemory;
-use sized_items::{InitialValue, ItemList};
+use statement_rules::{InitialValue, ItemList};
 use std::alloc::Global;
-use typed_ir::SignalId;
-use unit_ir::{TypedItem, TypedItems, UnitSignal};
-use unit_names::{ModuleSignals, data_inputs, declarations, registers, unit_signals};
+use typed_ir::{SignalId, TypedItem, TypedItems, UnitSignal};
 
 // A signal that begins with a value, cut to its width.
 fn beginning(signal: UnitSignal, value: u128) -> UnitSignal

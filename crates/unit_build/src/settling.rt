@@ -5,23 +5,20 @@ ghost use Rattle.width_rules.specs.Entries.{scope_of};
 ghost use Rattle.width_rules.specs.Found.{meaning_of};
 ghost use Rattle.gen_unroll.specs.Reaches.{IsEven};
 ghost use Rattle.gen_unroll.specs.Views.{step_of};
-ghost use Rattle.item_mentions.specs.Mentions.{statement_targets};
-ghost use Rattle.unit_names.specs.ModuleViews.{signals_in, table_in};
-ghost use Rattle.unit_names.specs.SignalViews.{signal_of};
-ghost use Rattle.unit_names.specs.UnitReaches.{is_settled, writer_of};
-ghost use Rattle.unit_names.specs.UnitReachViews.{unit_reach_of};
+ghost use Rattle.width_rules.specs.Mentions.{statement_targets};
+ghost use Rattle.gen_unroll.specs.ModuleViews.{signals_in, table_in};
+ghost use Rattle.gen_unroll.specs.SignalViews.{signal_of};
+ghost use Rattle.gen_unroll.specs.UnitReaches.{is_settled, writer_of};
+ghost use Rattle.gen_unroll.specs.UnitReachViews.{unit_reach_of};
 ghost use Rattle.unit_build.specs.Building.{settled_signals};
 ghost use Rattle.unit_build.specs.Settled as s;
 
-use gen_unroll::Step;
-use item_mentions::block_mentions;
-use no_memory::NoMemory;
+use gen_unroll::{ModuleSignals, NamedSignal, Step, UnitReach};
+use ls_text::NoMemory;
 use std::alloc::Global;
-use typed_ir::SignalId;
-use unit_ir::Mention;
-use unit_names::{ModuleSignals, NamedSignal, UnitReach};
+use typed_ir::{Mention, SignalId};
 use verilog_ast::{ModuleBody, PlainItem, Stmt};
-use width_rules::{Entry, Scope};
+use width_rules::{Entry, Scope, block_mentions};
 
 // Sets the flag of a signal, where there is one.
 #[tactic(auto, using(crate::proofs::Marking::flag_set, crate::proofs::Marking::flag_beyond))]

@@ -1,13 +1,12 @@
 // The items of a module to the parts of its unit.
 ghost use Rattle.std.specs.Prelude.{◌≡◌, ◌++◌, map, IfOk, OnOk};
 ghost use Rattle.typed_ir.specs.Statements.{stmt_of};
-ghost use Rattle.unit_ir.specs.Items.{body_of, item_of, items_of, node_in, block_in, nodes_in, blocks_in, unit_of};
-ghost use Rattle.unit_ir.specs.Units.{sized_unit, unit_node_of};
+ghost use Rattle.typed_ir.specs.Items.{body_of, item_of, items_of, node_in, block_in, nodes_in, blocks_in, unit_of};
+ghost use Rattle.typed_ir.specs.Units.{sized_unit, unit_node_of};
 
-use no_memory::NoMemory;
+use ls_text::NoMemory;
 use std::alloc::Global;
-use typed_ir::Stmt;
-use unit_ir::{ItemBody, TypedItem, TypedItems, UnitNode, UnitParts};
+use typed_ir::{ItemBody, Stmt, TypedItem, TypedItems, UnitNode, UnitParts};
 
 // Adds a node or a clocked block to those before it; an initial value is neither.
 fn add_body(

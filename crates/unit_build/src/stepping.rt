@@ -1,22 +1,21 @@
 // One step of a module, sized.
 ghost use Rattle.std.specs.Prelude.{◌≡◌, ◌++◌, [], map, length, take, drop, OnOk, IfErr};
-ghost use Rattle.unit_ir.specs.Items.{item_of};
+ghost use Rattle.typed_ir.specs.Items.{item_of};
 ghost use Rattle.verilog_ast.specs.Views.{instance_of, plain_item_of};
 ghost use Rattle.width_rules.specs.Entries.{scope_of};
 ghost use Rattle.width_rules.specs.Faults.{IsFirst};
 ghost use Rattle.gen_unroll.specs.Views.{step_of};
-ghost use Rattle.connection_rules.specs.Instances.{item_faults, instance_items};
-ghost use Rattle.sized_items.specs.SizedItems.{plain_faults, plain_items, plain_initials};
-ghost use Rattle.sized_items.specs.Views.{initial_of};
+ghost use Rattle.unit_build.specs.Instances.{item_faults, instance_items};
+ghost use Rattle.statement_rules.specs.SizedItems.{plain_faults, plain_items, plain_initials};
+ghost use Rattle.statement_rules.specs.Views.{initial_of};
 ghost use Rattle.unit_build.specs.Walks as w;
 
-use connection_rules::size_instances;
+use crate::instancing::size_instances;
 use gen_unroll::Step;
-use ls_text::Refusal;
-use no_memory::NoMemory;
-use sized_items::{ItemList, size_outputs, size_plain, size_port};
+use ls_text::{NoMemory, Refusal};
+use statement_rules::{ItemList, size_outputs, size_plain, size_port};
 use std::alloc::Global;
-use unit_ir::{ChildId, ChildShape, TypedItem};
+use typed_ir::{ChildId, ChildShape, TypedItem};
 use verilog_ast::{Instance, PlainItem};
 use width_rules::Scope;
 

@@ -1,6 +1,5 @@
 // What a module has beside its items.
-use typed_ir::SignalId;
-use unit_ir::{ShapeList, SignalDeclaration, UnitSignal};
+use typed_ir::{ShapeList, SignalDeclaration, SignalId, UnitSignal};
 
 /// What a module has beside its items: its signals with what they have at the beginning, what these are declared as, the numbers of its
 /// registers and of its data inputs, and the shapes of its instances.

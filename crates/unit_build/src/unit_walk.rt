@@ -1,6 +1,6 @@
 // What sizing goes by.
-use unit_ir::{ChildId, ChildShape};
-use unit_names::UnitReach;
+use gen_unroll::UnitReach;
+use typed_ir::{ChildId, ChildShape};
 
 /// Where sizing stands at a step of an unrolled module: the names in reach there, the number of the next instance, and the shapes of
 /// the instances from that one on.

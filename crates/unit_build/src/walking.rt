@@ -1,26 +1,24 @@
 // The items of a module step by step.
 ghost use Rattle.std.specs.Prelude.{◌≡◌, ◌++◌, ◌+◌, [], map, IfOk, OnOk, IfErr};
-ghost use Rattle.unit_ir.specs.Items.{item_of};
+ghost use Rattle.typed_ir.specs.Items.{item_of};
 ghost use Rattle.verilog_ast.specs.Views.{declaration_of};
 ghost use Rattle.width_rules.specs.Faults.{IsFirst};
 ghost use Rattle.gen_unroll.specs.Reaches.{IsEven};
 ghost use Rattle.gen_unroll.specs.Views.{step_of};
-ghost use Rattle.unit_names.specs.ModuleViews.{signals_in};
-ghost use Rattle.unit_names.specs.UnitReaches.{is_settled, writer_of};
-ghost use Rattle.sized_items.specs.Views.{initial_of};
+ghost use Rattle.gen_unroll.specs.ModuleViews.{signals_in};
+ghost use Rattle.gen_unroll.specs.UnitReaches.{is_settled, writer_of};
+ghost use Rattle.statement_rules.specs.Views.{initial_of};
 ghost use Rattle.unit_build.specs.Walks as w;
 ghost use Rattle.unit_build.specs.WalkViews.{walk_of};
 ghost use Rattle.unit_build.specs.WalksFrom.{instance_count, walk_from};
 
 use crate::stepping::{instances_in, size_step, split_shapes};
 use crate::unit_walk::UnitWalk;
-use gen_unroll::Step;
-use ls_text::Refusal;
-use no_memory::NoMemory;
-use sized_items::ItemList;
+use gen_unroll::{ModuleSignals, Step, UnitReach};
+use ls_text::{NoMemory, Refusal};
+use statement_rules::ItemList;
 use std::alloc::Global;
-use unit_ir::{ChildId, ChildShape};
-use unit_names::{ModuleSignals, UnitReach};
+use typed_ir::{ChildId, ChildShape};
 use verilog_ast::ModuleBody;
 
 // How many instances a step has.

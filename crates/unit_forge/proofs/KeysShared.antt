@@ -6,7 +6,7 @@ use Rattle.ls_text.proofs.name_id.NameId.TheSendSync.{the_send as name_id_send, 
 use Rattle.ls_text.proofs.name_list.NameList.TheSendSync.{the_send as name_list_send, the_sync as name_list_sync}
 use Rattle.ls_text.proofs.text_bytes.TextBytes.TheSendSync.{the_send as text_bytes_send, the_sync as text_bytes_sync}
 use Rattle.typed_ir.proofs.const_list.ConstList.TheSendSync.{the_send as const_list_send, the_sync as const_list_sync}
-use Rattle.unit_ir.proofs.shape_list.ShapeList.TheSendSync.{the_send as shape_list_send, the_sync as shape_list_sync}
+use Rattle.typed_ir.proofs.shape_list.ShapeList.TheSendSync.{the_send as shape_list_send, the_sync as shape_list_sync}
 use Rattle.verilog_ast.proofs.PartsShared.{child_send, child_sync, children_send, children_sync}
 use Rattle.verilog_ast.proofs.identifier.Identifier.TheSendSync.{the_send as identifier_send, the_sync as identifier_sync, the_field_send as identifier_field_send, the_field_sync as identifier_field_sync}
 use Rattle.verilog_ast.proofs.number.Number.TheSendSync.{the_field_send as number_field_send, the_field_sync as number_field_sync}

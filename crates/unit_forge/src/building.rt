@@ -9,8 +9,8 @@ use module_registry::Key;
 use rayon::prelude::*;
 use std::alloc::{AllocError, Global};
 use std::thread::Threads;
+use typed_ir::Unit;
 use unit_build::build;
-use unit_ir::Unit;
 
 // The own result of the job of each key, in the order of the keys. Each may be made on a thread of its own.
 pub(crate) fn each_result(

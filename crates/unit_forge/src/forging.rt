@@ -10,7 +10,7 @@ use ls_text::Refusal;
 use module_registry::{Forge, Key};
 use std::alloc::{AllocError, Global};
 use std::thread::Threads;
-use unit_ir::Unit;
+use typed_ir::Unit;
 
 // Copies of keys, which share their texts and jobs.
 fn copies(alloc: Global, keys: &[Key]) -> Result<Vec<Key>, AllocError>

@@ -4,9 +4,9 @@ use Rattle.std.specs.Prelude.{Option, Result, Ok, Err}
 use Rattle.ls_text.specs.declared.fault.Fault.{Fault}
 use Rattle.ls_text.specs.declared.refusal.Refusal.{Refusal}
 use Rattle.ls_text.specs.declared.refusal.Refusal.TheVariants as refusal
-use Rattle.unit_ir.specs.declared.child_shape.ChildShape.{ChildShape}
-use Rattle.unit_ir.specs.declared.instance.Instance.{Instance}
-use Rattle.unit_ir.specs.Shapes.{children_of, shape_of}
+use Rattle.typed_ir.specs.declared.child_shape.ChildShape.{ChildShape}
+use Rattle.typed_ir.specs.declared.instance.Instance.{Instance}
+use Rattle.typed_ir.specs.Shapes.{children_of, shape_of}
 use Rattle.verilog_ast.specs.declared.module.Module.{Module}
 use Rattle.verilog_ast.specs.Views.{declaration_of}
 use Rattle.ls_text.specs.Answers.{Answers, ◌>>=◌}

@@ -4,9 +4,9 @@ use Rattle.std.proofs.Common.{length, map, drop, get_or, cond, append_assoc, ref
 use Rattle.std.specs.Global.{Global}
 use Rattle.typed_ir.specs.Rows.{row_in}
 use Rattle.typed_ir.proofs.Lists.{drop_read}
-use Rattle.unit_ir.specs.declared.child_shape.ChildShape.{ChildShape}
-use Rattle.unit_ir.specs.declared.instance.Instance.{Instance}
-use Rattle.unit_ir.specs.Shapes.{children_of, shape_of, stands_in}
+use Rattle.typed_ir.specs.declared.child_shape.ChildShape.{ChildShape}
+use Rattle.typed_ir.specs.declared.instance.Instance.{Instance}
+use Rattle.typed_ir.specs.Shapes.{children_of, shape_of, stands_in}
 use Rattle.unit_jobs.specs.Rows.{row_of, rows_from, shapes_in}
 
 -- ---- shapes

@@ -3,9 +3,9 @@ use Rattle.std.specs.Prelude.{ℕ, suc, List, [], ◌∷◌, ◌++◌, map, Resu
 use Rattle.std.specs.Global.{Global}
 use Rattle.std.specs.declared.vec.Vec.{Vec}
 use Rattle.ls_text.specs.declared.fault.Fault.{Fault}
-use Rattle.unit_ir.specs.declared.child_shape.ChildShape.{ChildShape}
-use Rattle.unit_ir.specs.declared.instance.Instance.{Instance}
-use Rattle.unit_ir.specs.Shapes.{children_of, shape_of, stands_in}
+use Rattle.typed_ir.specs.declared.child_shape.ChildShape.{ChildShape}
+use Rattle.typed_ir.specs.declared.instance.Instance.{Instance}
+use Rattle.typed_ir.specs.Shapes.{children_of, shape_of, stands_in}
 use Rattle.verilog_ast.specs.declared.module.Module.{Module}
 use Rattle.ls_text.specs.Answers.{◌>>=◌}
 use Rattle.unit_jobs.specs.Jobs.{InstanceJob, instance_job}

@@ -11,8 +11,7 @@ ghost use Rattle.ls_text.specs.TextViews.{text_items};
 ghost use Rattle.unit_jobs.specs.Walks.{module_texts, open_behind, step_texts};
 
 use gen_unroll::{Block, BlockId, Step, Unrolled, full_text, overrides_of, unroll};
-use ls_text::{NameId, Names, Refusal};
-use no_memory::NoMemory;
+use ls_text::{NameId, Names, NoMemory, Refusal};
 use std::alloc::Global;
 use std::collections::VecDeque;
 use typed_ir::Const;

@@ -13,7 +13,7 @@ use crate::shapes::shapes_within;
 use ls_text::{Names, Refusal};
 use module_registry::BuildJob;
 use std::alloc::Global;
-use unit_ir::InstanceTree;
+use typed_ir::InstanceTree;
 use verilog_ast::Module;
 
 /// The job of each instance of a tree, in their order: its module as it is used there, with the names of what its generate blocks declare

@@ -7,8 +7,7 @@ ghost use Rattle.unit_jobs.specs.TableViews.{lent_module, modules_of};
 
 use crate::module_table::ModuleTable;
 use indexmap::IndexMap;
-use ls_text::NameId;
-use no_memory::NoMemory;
+use ls_text::{NameId, NoMemory};
 use std::alloc::Global;
 use std::sync::Arc;
 use verilog_ast::Module;

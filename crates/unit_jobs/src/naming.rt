@@ -7,9 +7,8 @@ ghost use Rattle.ls_text.specs.TextViews.{text_items, text_of};
 ghost use Rattle.unit_jobs.specs.UnnamedViews.{unnamed_view};
 
 use crate::unnamed_job::UnnamedJob;
-use ls_text::{NameId, NameList, Names};
+use ls_text::{NameId, NameList, Names, NoMemory};
 use module_registry::BuildJob;
-use no_memory::NoMemory;
 use std::alloc::Global;
 
 // The numbers of these texts, in their order.

@@ -10,12 +10,10 @@ ghost use Rattle.unit_jobs.specs.UnnamedViews.{unnamed_view};
 use crate::block_names::block_texts;
 use crate::module_table::ModuleTable;
 use crate::unnamed_job::UnnamedJob;
-use ls_text::{At, Fault, NameId, NameList, Names, Refusal};
-use no_memory::NoMemory;
+use ls_text::{At, Fault, NameId, NameList, Names, NoMemory, Refusal};
 use std::alloc::Global;
 use std::sync::Arc;
-use typed_ir::ConstList;
-use unit_ir::{ChildShape, Instance, ShapeList};
+use typed_ir::{ChildShape, ConstList, Instance, ShapeList};
 use verilog_ast::Module;
 
 // No module of this name: 20.

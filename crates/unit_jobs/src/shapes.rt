@@ -1,13 +1,12 @@
 // Instances to the shapes of those that stand in each.
 ghost use Rattle.std.specs.Prelude.{◌≡◌, ◌++◌, ◌∷◌, [], ◌<◌, ℕ, IfOk, OnOk, map, length, if◌then◌else◌};
 ghost use Rattle.typed_ir.specs.Rows.{row_in};
-ghost use Rattle.unit_ir.specs.Shapes.{shape_of, stands_in};
+ghost use Rattle.typed_ir.specs.Shapes.{shape_of, stands_in};
 ghost use Rattle.unit_jobs.specs.Rows.{row_of, rows_from, shapes_in};
 
-use no_memory::NoMemory;
+use ls_text::NoMemory;
 use std::alloc::Global;
-use typed_ir::InstanceId;
-use unit_ir::{ChildShape, Instance, PortList};
+use typed_ir::{ChildShape, Instance, InstanceId, PortList};
 
 // An instance, as the one sees it that it stands in.
 fn shape_of(alloc: Global, one: &Instance) -> Result<ChildShape, NoMemory>

@@ -2,8 +2,7 @@
 use ls_text::NameId;
 use std::alloc::Global;
 use std::sync::Arc;
-use typed_ir::ConstList;
-use unit_ir::ShapeList;
+use typed_ir::{ConstList, ShapeList};
 use verilog_ast::Module;
 
 /// A job of which the names within generate blocks are texts still: they get their numbers when the texts of all jobs stand.

@@ -3,13 +3,13 @@ use Rattle.std.proofs.Common.{◌≡◌, ℕ, suc, ◌+◌, List, [], ◌∷◌,
 use Rattle.std.specs.Global.{Global}
 use Rattle.std.specs.declared.sync.Arc.{Arc}
 use Rattle.ls_text.specs.declared.name_id.NameId.{NameId}
-use Rattle.unit_ir.specs.declared.child_shape.ChildShape.{ChildShape}
-use Rattle.unit_ir.specs.declared.instance.Instance.{Instance}
-use Rattle.unit_ir.specs.declared.port_shape.PortShape.{PortShape}
-use Rattle.unit_ir.specs.declared.unit.Unit.{Unit as Unit'}
-use Rattle.unit_ir.specs.declared.unit_parts.UnitParts.{UnitParts}
-use Rattle.unit_ir.specs.declared.unit_signal.UnitSignal.{UnitSignal}
-use Rattle.unit_ir.specs.Shapes.{AreOf, HasPorts, data_inputs, is_data_input}
+use Rattle.typed_ir.specs.declared.child_shape.ChildShape.{ChildShape}
+use Rattle.typed_ir.specs.declared.instance.Instance.{Instance}
+use Rattle.typed_ir.specs.declared.port_shape.PortShape.{PortShape}
+use Rattle.typed_ir.specs.declared.unit.Unit.{Unit as Unit'}
+use Rattle.typed_ir.specs.declared.unit_parts.UnitParts.{UnitParts}
+use Rattle.typed_ir.specs.declared.unit_signal.UnitSignal.{UnitSignal}
+use Rattle.typed_ir.specs.Shapes.{AreOf, HasPorts, data_inputs, is_data_input}
 use Rattle.link.specs.Listings.{all_parts, parts_of}
 use Rattle.unit_jobs.specs.Rows.{row_of, rows_from}
 use Rattle.unit_rows.specs.Standing.{AreWith, HaveWidths, IsUnitOf}

@@ -1,11 +1,11 @@
 -- Units that stand in a tree of instances, by what stands in each instance (IEEE Std 1364-2005, 12.3).
 use Rattle.std.specs.Prelude.{◌≡◌, List, [], ◌∷◌, map, length, take}
-use Rattle.unit_ir.specs.declared.child_shape.ChildShape.{ChildShape}
-use Rattle.unit_ir.specs.declared.instance.Instance.{Instance}
-use Rattle.unit_ir.specs.declared.port_shape.PortShape.{PortShape}
-use Rattle.unit_ir.specs.declared.unit_parts.UnitParts.{UnitParts}
-use Rattle.unit_ir.specs.declared.unit_signal.UnitSignal.{UnitSignal}
-use Rattle.unit_ir.specs.Shapes.{HasPorts}
+use Rattle.typed_ir.specs.declared.child_shape.ChildShape.{ChildShape}
+use Rattle.typed_ir.specs.declared.instance.Instance.{Instance}
+use Rattle.typed_ir.specs.declared.port_shape.PortShape.{PortShape}
+use Rattle.typed_ir.specs.declared.unit_parts.UnitParts.{UnitParts}
+use Rattle.typed_ir.specs.declared.unit_signal.UnitSignal.{UnitSignal}
+use Rattle.typed_ir.specs.Shapes.{HasPorts}
 
 -- the first signals are as wide as the ports
 abbrev pub HaveWidths : List UnitSignal → List PortShape → Type 0

@@ -1,6 +1,6 @@
 // All tables of the folder of data.
 use crate::reader::read;
-use no_memory::NoMemory;
+use ls_text::NoMemory;
 use row_tables::{Row, Table, joined};
 use std::alloc::{Alloc, Global};
 use std::fs::Files;

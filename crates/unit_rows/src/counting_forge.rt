@@ -7,8 +7,8 @@ use ls_text::Refusal;
 use module_registry::{Forge, Key};
 use std::alloc::Global;
 use std::thread::Threads;
+use typed_ir::Unit;
 use unit_forge::RayonForge;
-use unit_ir::Unit;
 
 /// Makes units as a `RayonForge` does, and counts those that it made.
 #[derive(Drop)]

@@ -12,8 +12,7 @@ use module_registry::{Forge, Key, Registry};
 use std::alloc::Global;
 use std::sync::Arc;
 use std::thread::Threads;
-use typed_ir::Linked;
-use unit_ir::{InstanceTree, Unit};
+use typed_ir::{InstanceTree, Linked, Unit};
 use unit_jobs::jobs_of;
 use verilog_ast::Module;
 

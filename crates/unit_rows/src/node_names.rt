@@ -1,6 +1,5 @@
 // What nodes and registers are called.
-use ls_text::{Names, push_decimal};
-use no_memory::NoMemory;
+use ls_text::{Names, NoMemory, push_decimal};
 use typed_ir::{
     Arm, Flat, InstanceId, InstanceName, Lane, Node, ShownTarget, SignalId, Span, Stmt, Target,
     TargetForm, span_of,

@@ -4,9 +4,8 @@ use crate::reading::{push_few, push_text};
 use crate::shown::Shown;
 use crate::stock::Stock;
 use crate::way::{ALIKE, PLAIN};
-use ls_text::Names;
+use ls_text::{Names, NoMemory};
 use module_registry::{digest, hex_digest};
-use no_memory::NoMemory;
 use std::alloc::Global;
 use std::thread::Threads;
 

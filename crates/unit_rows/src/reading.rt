@@ -4,8 +4,7 @@ use crate::designing::design_of;
 use crate::shown::{Shown, push_counts, push_ensured, push_fault, push_keys, push_parts};
 use crate::stock::Stock;
 use crate::way::Way;
-use ls_text::{Names, Refusal};
-use no_memory::NoMemory;
+use ls_text::{Names, NoMemory, Refusal};
 use std::alloc::Global;
 use std::thread::Threads;
 

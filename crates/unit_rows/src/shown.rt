@@ -1,9 +1,8 @@
 // How a row shows a design.
 use crate::design::Design;
 use crate::node_names::{push_node, push_signal};
-use ls_text::{At, Fault, NameId, Names, push_decimal};
+use ls_text::{At, Fault, NameId, Names, NoMemory, push_decimal};
 use module_registry::Ensured;
-use no_memory::NoMemory;
 use row_tables::{push_hex, word};
 use typed_ir::{Flat, SignalId};
 

@@ -1,17 +1,17 @@
 // Whether units stand in a tree of instances.
 ghost use Rattle.std.specs.Prelude.{◌≡◌, ◌∷◌, IfOk, IfSome, ⊤, map, if◌then◌else◌};
 ghost use Rattle.std.specs.Bool.{MatchBool};
-ghost use Rattle.unit_ir.specs.Shapes.{AreOf, HasPorts, data_inputs, is_clock, is_data_input};
+ghost use Rattle.typed_ir.specs.Shapes.{AreOf, HasPorts, data_inputs, is_clock, is_data_input};
 ghost use Rattle.link.specs.Listings.{all_parts, parts_of};
 ghost use Rattle.unit_jobs.specs.Rows.{row_of};
 ghost use Rattle.unit_rows.specs.Standing.{AreWith, HaveWidths, IsUnitOf};
 
-use ls_text::NameId;
-use no_memory::NoMemory;
+use ls_text::{NameId, NoMemory};
 use std::alloc::Global;
 use std::sync::Arc;
-use typed_ir::SignalId;
-use unit_ir::{ChildShape, Instance, InstanceTree, PortShape, Unit, UnitParts, UnitSignal};
+use typed_ir::{
+    ChildShape, Instance, InstanceTree, PortShape, SignalId, Unit, UnitParts, UnitSignal,
+};
 use unit_jobs::shapes_within;
 
 // Whether two clock ports are equal.

@@ -6,7 +6,7 @@ use module_registry::{BuildJob, Ensured, Key, Registry};
 use std::alloc::Global;
 use std::sync::Arc;
 use std::thread::Threads;
-use unit_ir::Unit;
+use typed_ir::Unit;
 
 // The digest that all keys have where they are alike.
 const ONE_DIGEST: [u8; 32] = [0; 32];

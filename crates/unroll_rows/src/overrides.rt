@@ -1,6 +1,6 @@
 // Overrides of rows: `8u255` has 8 bits and is unsigned, `32s7` is signed, `-` is none; commas part them.
 use bits::Bits;
-use no_memory::NoMemory;
+use ls_text::NoMemory;
 use std::alloc::Global;
 use typed_ir::Const;
 

@@ -2,8 +2,7 @@
 use crate::overrides::overrides;
 use crate::shown::{counts, steps};
 use gen_unroll::unroll;
-use ls_text::{Names, Refusal};
-use no_memory::NoMemory;
+use ls_text::{Names, NoMemory, Refusal};
 use row_tables::{Reader, texts_of, tokens_of};
 use std::alloc::Global;
 use typed_ir::Const;

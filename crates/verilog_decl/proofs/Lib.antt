@@ -4,3 +4,6 @@ pub mod NamedDeclarations
 pub mod OneDeclaration
 pub mod RenamedDeclaration
 pub mod PlacedDeclarations
+pub mod HeaderTrees
+pub mod CompleteHeaders
+pub mod NamedHeaders

@@ -7,6 +7,7 @@
 
 mod connection;
 mod declaration;
+mod headers;
 mod laws;
 
 pub use connection::{instances, overrides};
@@ -14,4 +15,5 @@ pub use declaration::{
     names, optional_net, optional_wire, parameter, parameters, reg_variables, shape, variable,
     variables,
 };
+pub use headers::header;
 pub use laws::declarations_have_places;

@@ -3,7 +3,7 @@ ghost use Rattle.std.specs.Prelude.{◌≡◌};
 ghost use Rattle.verilog_expr.specs.declared.error.ParseError.TheVariants.{NoMemory};
 
 use crate::fault::ParseFault;
-use no_memory::NoMemory;
+use ls_text::NoMemory;
 use std::alloc::{AllocError, AllocFailed};
 use thiserror::Error;
 

@@ -8,8 +8,8 @@ use Rattle.verilog_expr.proofs.Entries as e
 use Rattle.verilog_expr.proofs.Complete.{Gets, gets_end, gets_token, gets_at, gets_skip, enters, ◌⊳◌}
 use Rattle.verilog_expr.proofs.Complete as expressions
 use Rattle.verilog_decl.proofs.Complete.{seen, declaration}
-use Rattle.verilog_header.proofs.Complete.{header}
-use Rattle.verilog_item.proofs.Complete.{plain_item}
+use Rattle.verilog_decl.proofs.CompleteHeaders.{header}
+use Rattle.verilog_parse.proofs.CompleteItems.{plain_item}
 use Rattle.verilog_parse.specs.Generates as b
 use Rattle.verilog_parse.specs.Modules as m
 

@@ -8,7 +8,7 @@ use Rattle.verilog_expr.proofs.Named.{AreWithin, took}
 use Rattle.verilog_expr.proofs.Named as expressions
 use Rattle.verilog_parse.specs.Generates as p
 use Rattle.verilog_decl.proofs.NamedDeclarations.{declaration}
-use Rattle.verilog_item.proofs.NamedItems.{item}
+use Rattle.verilog_parse.proofs.NamedItems.{item}
 
 -- The names of a phrase are below the bound, where those of what stands before it are.
 abbrev pub IsNamed : ℕ → p.Phrase → Type 0

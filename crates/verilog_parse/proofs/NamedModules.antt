@@ -11,7 +11,7 @@ use Rattle.verilog_expr.proofs.Named.{AreWithin, took}
 use Rattle.verilog_parse.specs.Modules as p
 use Rattle.verilog_parse.specs.Files.{SpellsAll, no_module, another_module, Stands}
 use Rattle.verilog_decl.proofs.NamedDeclarations.{declaration}
-use Rattle.verilog_header.proofs.NamedHeaders.{header}
+use Rattle.verilog_decl.proofs.NamedHeaders.{header}
 use Rattle.verilog_parse.proofs.NamedGenerates.{generate}
 
 -- The names of a phrase are below the bound, where those of what stands before it are.

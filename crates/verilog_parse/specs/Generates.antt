@@ -15,7 +15,7 @@ use Rattle.verilog_expr.specs.Tokens.{next, Takes, identifier_of}
 use Rattle.verilog_expr.specs.Grammar.{begins_generate_item}
 use Rattle.verilog_expr.specs.Spells as expressions
 use Rattle.verilog_decl.specs.Declarations as declarations
-use Rattle.verilog_item.specs.Items as items
+use Rattle.verilog_parse.specs.Items as items
 
 pub data Phrase : Type 0 where
   GenerateItems : List GenerateItem → Phrase

@@ -1,3 +1,5 @@
 pub mod Generates
 pub mod Modules
 pub mod Files
+pub mod Items
+pub mod Lasts

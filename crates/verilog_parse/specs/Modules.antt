@@ -16,7 +16,7 @@ use Rattle.verilog_ast.specs.declared.module_body.ModuleBody.{ModuleBody}
 use Rattle.verilog_expr.specs.Tokens.{next, Takes, identifier_of}
 use Rattle.verilog_expr.specs.Grammar.{begins_item}
 use Rattle.verilog_decl.specs.Declarations as declarations
-use Rattle.verilog_header.specs.Headers as headers
+use Rattle.verilog_decl.specs.Headers as headers
 use Rattle.verilog_parse.specs.Generates as generates
 
 pub data Phrase : Type 0 where

@@ -9,11 +9,11 @@ ghost use Rattle.verilog_expr.specs.Reads.{Reads};
 ghost use Rattle.verilog_parse.specs.Generates as spells;
 ghost use Rattle.verilog_parse.specs.Generates.{Spells};
 
+use crate::items::plain_item;
 use ls_text::Place;
 use verilog_ast::{Branch, Child, Children, GenerateItem, Identifier, Loop};
 use verilog_decl::parameter;
 use verilog_expr::{ParseError, Parser, identifier};
-use verilog_item::plain_item;
 use verilog_lex::Kind;
 
 fn at_generate_item(p: &Parser<'_>) -> bool

@@ -7,7 +7,14 @@
 
 mod file;
 mod generate;
+mod items;
+mod laws;
 mod modules;
 mod parsing;
 
+pub use items::plain_item;
+pub use laws::{
+    items_have_places, names_have_places, names_may_change, parts_of_items_have_places,
+    texts_are_read_in_one_way,
+};
 pub use parsing::parse;

@@ -12,9 +12,8 @@ ghost use Rattle.verilog_parse.specs.Modules.{Spells};
 
 use crate::generate::{generate_item, generate_items};
 use verilog_ast::{Children, Item, ModuleBody};
-use verilog_decl::{names, optional_net, optional_wire, parameters, shape, variables};
+use verilog_decl::{header, names, optional_net, optional_wire, parameters, shape, variables};
 use verilog_expr::{ParseError, Parser, identifier};
-use verilog_header::header;
 use verilog_lex::Kind;
 
 /// A module without its spelling.

@@ -24,9 +24,9 @@ use Rattle.verilog_expr.proofs.OneToken.{no_kind}
 use Rattle.verilog_expr.proofs.RenamedTokens.{at_next}
 use Rattle.verilog_spelling.specs.Spellings.{number_text, pattern_text, text_of_kind, token_text, spaced, spelling}
 use Rattle.verilog_parse.specs.Files.{SpellsAll, no_module, another_module, Stands}
-use Rattle.grammar_laws.proofs.OneModule.{one_module}
-use Rattle.grammar_laws.proofs.RenamedModule.{module_so}
-use Rattle.grammar_laws.proofs.RenamedText.{same_declarations}
+use Rattle.verilog_parse.proofs.OneModule.{one_module}
+use Rattle.verilog_parse.proofs.RenamedModule.{module_so}
+use Rattle.verilog_parse.proofs.RenamedText.{same_declarations}
 use Rattle.version_swap.proofs.FixedNames.{AreFixed, fixed_declaration}
 use Rattle.version_swap.proofs.JointTable.{Joint}
 

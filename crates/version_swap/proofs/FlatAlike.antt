@@ -12,23 +12,23 @@ use Rattle.verilog_ast.specs.Items.{ModuleDeclaration}
 use Rattle.verilog_ast.specs.Renaming.{declaration_as}
 use Rattle.verilog_ast.specs.Views.{declarations_of}
 use Rattle.gen_unroll.proofs.Answered.{ok_same}
-use Rattle.unit_ir.specs.declared.instance.Instance.{Instance}
+use Rattle.typed_ir.specs.declared.instance.Instance.{Instance}
 use Rattle.elaborate.specs.Elaborated.{Standing}
 use Rattle.elaborate.specs.Trees.{all_seen}
 use Rattle.elaborate.specs.TreeViews.{instance_view, language_limits}
 use Rattle.module_registry.specs.declared.build_job.BuildJob.{BuildJob}
-use Rattle.design_laws.specs.Findings.{standing_as}
-use Rattle.design_laws.specs.Renaming.{KeepsApart, SpellsSame, number_as, found_as}
-use Rattle.rename_laws.specs.Findings.{unit_signal_as}
-use Rattle.rename_laws.specs.Jobs.{instance_as}
-use Rattle.unit_laws.specs.Copies.{Copies}
-use Rattle.unit_laws.specs.DesignCopies.{AreCopiesIn}
-use Rattle.unit_laws.specs.Flat.{flat}
-use Rattle.unit_laws.specs.FlatRenaming.{copies_as, flat_as}
-use Rattle.unit_laws.specs.TreeJobs.{one_table, IsFlatIn}
-use Rattle.unit_laws.proofs.OneDesign.{one_design}
-use Rattle.unit_laws.proofs.RenamedDesignCopies.{same_copies}
-use Rattle.unit_laws.proofs.RenamedFlat.{same_flat}
+use Rattle.elaborate.specs.Findings.{standing_as}
+use Rattle.elaborate.specs.Renaming.{KeepsApart, SpellsSame, number_as, found_as}
+use Rattle.version_swap.specs.RenamedFindings.{unit_signal_as}
+use Rattle.version_swap.specs.Jobs.{instance_as}
+use Rattle.version_swap.specs.Copies.{Copies}
+use Rattle.version_swap.specs.DesignCopies.{AreCopiesIn}
+use Rattle.version_swap.specs.Flat.{flat}
+use Rattle.version_swap.specs.FlatRenaming.{copies_as, flat_as}
+use Rattle.version_swap.specs.TreeJobs.{one_table, IsFlatIn}
+use Rattle.version_swap.proofs.OneDesign.{one_design}
+use Rattle.version_swap.proofs.RenamedDesignCopies.{same_copies}
+use Rattle.version_swap.proofs.RenamedFlat.{same_flat}
 use Rattle.version_swap.proofs.GrownFound.{FoundIn}
 use Rattle.version_swap.proofs.MovedNames.{moved, moved_apart, moved_spells, is_below}
 use Rattle.version_swap.proofs.RenamedInstances.{listed_as}

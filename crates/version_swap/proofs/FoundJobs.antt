@@ -16,7 +16,7 @@ use Rattle.verilog_ast.specs.NamesWithin.{names_in_declaration, names_in_modules
 use Rattle.verilog_ast.specs.Items.{ModuleDeclaration}
 use Rattle.verilog_ast.specs.Views.{declaration_of, declarations_of}
 use Rattle.module_names.specs.Modules.{module_named}
-use Rattle.unit_ir.specs.declared.instance.Instance.{Instance}
+use Rattle.typed_ir.specs.declared.instance.Instance.{Instance}
 use Rattle.elaborate.specs.Elaborated.{Standing, elaborated}
 use Rattle.elaborate.specs.Trees.{TreeInstance, all_seen, tree}
 use Rattle.elaborate.specs.TreeViews.{instance_view, language_limits}
@@ -24,20 +24,20 @@ use Rattle.ls_text.specs.Answers.{Answers, ◌>>=◌}
 use Rattle.module_registry.specs.declared.build_job.BuildJob.{BuildJob}
 use Rattle.unit_jobs.specs.Jobs.{InstanceJob, tree_jobs}
 use Rattle.unit_jobs.specs.JobViews.{job_view}
-use Rattle.unit_laws.specs.InstancesTold.{HasNamesIn}
-use Rattle.unit_laws.specs.JobsUnder.{IsIn}
-use Rattle.unit_laws.specs.Spelled.{IsSpelledUnder}
+use Rattle.version_swap.specs.InstancesTold.{HasNamesIn}
+use Rattle.version_swap.specs.JobsUnder.{IsIn}
+use Rattle.version_swap.specs.Spelled.{IsSpelledUnder}
 use Rattle.version_swap.specs.Founds.{AreModules, IsReadRefusal, IsTop, HasModules}
 use Rattle.version_swap.specs.FoundUnder.{IsNumberOf, HasModuleIn, IsFoundUnder}
 use Rattle.version_swap.specs.Plans as plans
 use Rattle.version_swap.specs.Plans.{IsPlanRefusal, Plans}
 use Rattle.version_swap.proofs.JobModules.{each_named, modules_of_jobs}
 use Rattle.version_swap.proofs.ShownNames.{tree_shows}
-use Rattle.job_laws.proofs.TreeJobs.{language_turns, seen_of, tree_has_jobs}
-use Rattle.unit_laws.proofs.InstanceTexts.{IsNameWord}
-use Rattle.unit_laws.proofs.OneTable.{seen_by_one}
-use Rattle.unit_laws.proofs.ToldInstances.{modules_named}
-use Rattle.unit_laws.proofs.TreeNames.{IsModuleNamed}
+use Rattle.version_swap.proofs.TreeJobs.{language_turns, seen_of, tree_has_jobs}
+use Rattle.version_swap.proofs.InstanceTexts.{IsNameWord}
+use Rattle.version_swap.proofs.OneTable.{seen_by_one}
+use Rattle.version_swap.proofs.ToldInstances.{modules_named}
+use Rattle.version_swap.proofs.TreeNames.{IsModuleNamed}
 
 -- ---- the texts are refused
 

@@ -7,27 +7,27 @@ use Rattle.ls_text.specs.Texts.{Grows}
 use Rattle.ls_text.proofs.Growth.{grown_text, grows_none}
 use Rattle.verilog_ast.specs.declared.module.Module.{Module}
 use Rattle.verilog_ast.specs.Views.{declarations_of}
-use Rattle.unit_ir.specs.declared.instance.Instance.{Instance}
+use Rattle.typed_ir.specs.declared.instance.Instance.{Instance}
 use Rattle.gen_unroll.specs.Steps.{ModuleStep, blocks_in}
 use Rattle.elaborate.specs.Elaborated.{Standing}
 use Rattle.elaborate.specs.TreeViews.{language_limits}
 use Rattle.module_registry.specs.declared.build_job.BuildJob.{BuildJob}
 use Rattle.ls_text.specs.TextViews.{text_of}
-use Rattle.job_laws.specs.Outer.{are_ports_outside}
-use Rattle.job_laws.proofs.BlockNames.{same_names_within}
-use Rattle.job_laws.proofs.Rerolled.{ports_stand_outside}
-use Rattle.unit_laws.specs.Copies.{Copies}
-use Rattle.unit_laws.specs.DesignCopies.{NameTables, IsCopyIn, AreEntriesIn, AreCopiesIn}
-use Rattle.unit_laws.specs.JobsUnder.{IsIn}
-use Rattle.unit_laws.specs.TableCopies.{CopyEntry, copies_listed}
-use Rattle.unit_laws.specs.TreeJobs.{one_table}
-use Rattle.unit_laws.proofs.InstanceTexts.{IsNameWord}
-use Rattle.unit_laws.proofs.OneTable.{outer_ports, by_one_table}
-use Rattle.unit_laws.proofs.OwnInstances.{module_is}
-use Rattle.unit_laws.proofs.StepNames.{IsStepNamed, told_go}
-use Rattle.unit_laws.proofs.ToldInstances.{modules_named}
+use Rattle.version_swap.specs.Outer.{are_ports_outside}
+use Rattle.version_swap.proofs.BlockNames.{same_names_within}
+use Rattle.version_swap.proofs.Rerolled.{ports_stand_outside}
+use Rattle.version_swap.specs.Copies.{Copies}
+use Rattle.version_swap.specs.DesignCopies.{NameTables, IsCopyIn, AreEntriesIn, AreCopiesIn}
+use Rattle.version_swap.specs.JobsUnder.{IsIn}
+use Rattle.version_swap.specs.TableCopies.{CopyEntry, copies_listed}
+use Rattle.version_swap.specs.TreeJobs.{one_table}
+use Rattle.version_swap.proofs.InstanceTexts.{IsNameWord}
+use Rattle.version_swap.proofs.OneTable.{outer_ports, by_one_table}
+use Rattle.version_swap.proofs.OwnInstances.{module_is}
+use Rattle.version_swap.proofs.StepNames.{IsStepNamed, told_go}
+use Rattle.version_swap.proofs.ToldInstances.{modules_named}
 use Rattle.version_swap.proofs.GrownFound.{FoundIn}
-use Rattle.unit_laws.proofs.SomeTexts.{IsSome, ids_in, texts_some}
+use Rattle.version_swap.proofs.SomeTexts.{IsSome, ids_in, texts_some}
 
 module _ {old new : List (List ℕ)} {ms : List Module} {top clock : ℕ} {xs : List Instance} {js : List BuildJob} {all : List Standing}
     (grows : Grows old new) (h : FoundIn old ms top clock xs js all) where

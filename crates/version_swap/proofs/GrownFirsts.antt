@@ -6,8 +6,8 @@ use Rattle.std.proofs.lemmas.List.Elements.{All-nil, All-cons, All-head, All-tai
 use Rattle.ls_text.specs.Texts.{Grows}
 use Rattle.module_registry.specs.declared.build_job.BuildJob.{BuildJob}
 use Rattle.module_registry.specs.Jobs.{job_text}
-use Rattle.unit_laws.specs.JobsUnder.{IsJobUnder}
-use Rattle.unit_laws.proofs.GrownTexts.{text_kept}
+use Rattle.version_swap.specs.JobsUnder.{IsJobUnder}
+use Rattle.version_swap.proofs.GrownTexts.{text_kept}
 use Rattle.version_swap.specs.FirstKeys.{is_text_among, with_job, first_jobs}
 
 module _ (old new : List (List ℕ)) (grows : Grows old new) where

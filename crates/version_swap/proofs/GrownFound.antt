@@ -11,9 +11,9 @@ use Rattle.ls_text.proofs.Growth.{grown_text, grows_on, grows_none}
 use Rattle.verilog_ast.specs.declared.module.Module.{Module}
 use Rattle.verilog_ast.specs.Items.{ModuleDeclaration}
 use Rattle.verilog_ast.specs.Views.{declaration_of, declarations_of}
-use Rattle.unit_ir.specs.declared.child_shape.ChildShape.{ChildShape}
-use Rattle.unit_ir.specs.declared.instance.Instance.{Instance}
-use Rattle.unit_ir.specs.Shapes.{children_of, shape_of}
+use Rattle.typed_ir.specs.declared.child_shape.ChildShape.{ChildShape}
+use Rattle.typed_ir.specs.declared.instance.Instance.{Instance}
+use Rattle.typed_ir.specs.Shapes.{children_of, shape_of}
 use Rattle.gen_unroll.specs.Steps.{ModuleStep, blocks_in}
 use Rattle.ls_text.specs.Answers.{◌>>=◌}
 use Rattle.elaborate.specs.Elaborated.{Standing, elaborated}
@@ -24,19 +24,19 @@ use Rattle.unit_jobs.specs.Jobs.{InstanceJob, module_called, steps_under, job_wi
 use Rattle.ls_text.specs.TextViews.{text_of}
 use Rattle.unit_jobs.specs.JobViews.{job_view}
 use Rattle.unit_jobs.proofs.InRows.{job_found}
-use Rattle.unit_laws.specs.InstancesTold.{IsInstanceTold, HasNamesIn}
-use Rattle.unit_laws.specs.JobsUnder.{IsIn, IsJobUnder}
-use Rattle.unit_laws.specs.Spelled.{IsSpelledUnder}
-use Rattle.unit_laws.proofs.GrownJobs.{grown_under, labels_in, within_grown}
-use Rattle.unit_laws.proofs.GrownSpelling.{grown_spelled}
-use Rattle.unit_laws.proofs.HeldDesign.{jobs_are_under}
-use Rattle.unit_laws.proofs.InstanceTexts.{IsNameWord}
-use Rattle.unit_laws.proofs.OneTable.{seen_by_one}
-use Rattle.unit_laws.proofs.Parsed.{parsed_spelled}
-use Rattle.unit_laws.proofs.ToldInstances.{instances_told, modules_named}
-use Rattle.unit_laws.proofs.TreeNames.{IsModuleNamed, IsNameIn, tree_in}
+use Rattle.version_swap.specs.InstancesTold.{IsInstanceTold, HasNamesIn}
+use Rattle.version_swap.specs.JobsUnder.{IsIn, IsJobUnder}
+use Rattle.version_swap.specs.Spelled.{IsSpelledUnder}
+use Rattle.version_swap.proofs.GrownJobs.{grown_under, labels_in, within_grown}
+use Rattle.version_swap.proofs.GrownSpelling.{grown_spelled}
+use Rattle.version_swap.proofs.HeldDesign.{jobs_are_under}
+use Rattle.version_swap.proofs.InstanceTexts.{IsNameWord}
+use Rattle.version_swap.proofs.OneTable.{seen_by_one}
+use Rattle.version_swap.proofs.Parsed.{parsed_spelled}
+use Rattle.version_swap.proofs.ToldInstances.{instances_told, modules_named}
+use Rattle.version_swap.proofs.TreeNames.{IsModuleNamed, IsNameIn, tree_in}
 use Rattle.version_swap.specs.Founds.{AreModules, AreFound}
-use Rattle.unit_laws.proofs.SomeTexts.{ids_in, texts_some}
+use Rattle.version_swap.proofs.SomeTexts.{ids_in, texts_some}
 use Rattle.version_swap.proofs.JobParts.{IsJobFrom, jobs_are_from, steps_are_named}
 use Rattle.version_swap.proofs.ModulesRead.{AreTokens}
 use Rattle.version_swap.proofs.NamedTokens.{are_tokens}

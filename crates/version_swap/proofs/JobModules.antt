@@ -7,9 +7,9 @@ use Rattle.ls_text.specs.declared.name_id.NameId.{NameId}
 use Rattle.verilog_ast.specs.declared.module.Module.{Module}
 use Rattle.verilog_ast.specs.NamesWithin.{names_in_declaration, names_in_modules}
 use Rattle.verilog_ast.specs.Views.{declaration_of}
-use Rattle.unit_ir.specs.declared.child_shape.ChildShape.{ChildShape}
-use Rattle.unit_ir.specs.declared.instance.Instance.{Instance}
-use Rattle.unit_ir.specs.Shapes.{children_of, shape_of}
+use Rattle.typed_ir.specs.declared.child_shape.ChildShape.{ChildShape}
+use Rattle.typed_ir.specs.declared.instance.Instance.{Instance}
+use Rattle.typed_ir.specs.Shapes.{children_of, shape_of}
 use Rattle.gen_unroll.specs.Steps.{ModuleStep}
 use Rattle.ls_text.specs.Answers.{◌>>=◌}
 use Rattle.module_registry.specs.declared.build_job.BuildJob.{BuildJob}

@@ -8,9 +8,9 @@ use Rattle.verilog_ast.specs.declared.identifier.Identifier.{Identifier}
 use Rattle.verilog_ast.specs.declared.module.Module.{Module}
 use Rattle.verilog_ast.specs.Items.{ModuleDeclaration}
 use Rattle.verilog_ast.specs.Views.{declaration_of}
-use Rattle.unit_ir.specs.declared.child_shape.ChildShape.{ChildShape}
-use Rattle.unit_ir.specs.declared.instance.Instance.{Instance}
-use Rattle.unit_ir.specs.Shapes.{children_of, shape_of}
+use Rattle.typed_ir.specs.declared.child_shape.ChildShape.{ChildShape}
+use Rattle.typed_ir.specs.declared.instance.Instance.{Instance}
+use Rattle.typed_ir.specs.Shapes.{children_of, shape_of}
 use Rattle.gen_unroll.specs.Overriding.{constant_sorts, overrides_of}
 use Rattle.gen_unroll.specs.Steps.{ModuleStep, blocks_in}
 use Rattle.gen_unroll.specs.Told.{Told}
@@ -18,7 +18,7 @@ use Rattle.gen_unroll.specs.Unrolled.{State, unrolled_module, turn_limit, steps_
 use Rattle.ls_text.specs.Answers.{◌>>=◌}
 use Rattle.unit_jobs.specs.BlockNames.{texts_within}
 use Rattle.unit_jobs.specs.Jobs.{InstanceJob, module_called, or_no_module, steps_under, job_with, instance_job, jobs_from, tree_jobs}
-use Rattle.unit_laws.proofs.StepNames.{AreNamed, IsStepNamed, told_go}
+use Rattle.version_swap.proofs.StepNames.{AreNamed, IsStepNamed, told_go}
 
 -- ---- the steps of a module
 

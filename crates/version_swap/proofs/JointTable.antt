@@ -9,7 +9,7 @@ use Rattle.ls_text.specs.Texts.{Grows, HasEachOnce, text_at}
 use Rattle.ls_text.specs.declared.name_id.NameId.{NameId}
 use Rattle.ls_text.proofs.Growth.{grown_id, grown_text, grows_on, grows_none}
 use Rattle.ls_text.proofs.Tables.{same_id}
-use Rattle.design_laws.specs.Renaming.{KeepsApart, SpellsSame}
+use Rattle.elaborate.specs.Renaming.{KeepsApart, SpellsSame}
 
 -- what a table begins has each text once where the table does
 pub begins_once : (old new : List (List ℕ)) → Grows old new → HasEachOnce new → HasEachOnce old

@@ -17,12 +17,12 @@ use Rattle.typed_ir.specs.Orders.{at_or}
 use Rattle.comb_order.specs.Loops.{IsLoop}
 use Rattle.comb_order.specs.Refusals.{NodeBefore}
 use Rattle.comb_order.proofs.Loops.{one_loop}
-use Rattle.design_laws.specs.Renaming.{SpellsSame, number_as}
-use Rattle.rename_laws.specs.Findings.{unit_signal_as}
+use Rattle.elaborate.specs.Renaming.{SpellsSame, number_as}
+use Rattle.version_swap.specs.RenamedFindings.{unit_signal_as}
 use Rattle.link.specs.Faults.{IsLinkFault, too_many, loop_of, HasNoLinkFault}
 use Rattle.typed_ir.specs.Paths.{joined}
 use Rattle.link.specs.Names.{select_text, first_target, target_text, form_of, node_text}
-use Rattle.unit_laws.specs.FlatRenaming.{flat_as}
+use Rattle.version_swap.specs.FlatRenaming.{flat_as}
 use Rattle.version_swap.specs.OnePlan.{last_text}
 use Rattle.version_swap.proofs.FlatAlike.{IsSignalIn}
 

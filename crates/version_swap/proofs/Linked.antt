@@ -7,34 +7,34 @@ use Rattle.std.proofs.lemmas.List.Elements.{All-nil, All-cons}
 use Rattle.ls_text.specs.declared.name_id.NameId.{NameId}
 use Rattle.ls_text.specs.declared.source_file.SourceFile.{SourceFile}
 use Rattle.verilog_ast.specs.Views.{declarations_of}
-use Rattle.unit_ir.specs.declared.instance.Instance.{Instance}
-use Rattle.unit_ir.specs.declared.unit.Unit.{Unit as ModuleUnit}
-use Rattle.unit_ir.specs.Instances.{is_depth_first, parent_of}
-use Rattle.unit_ir.specs.Shapes.{AreOf}
-use Rattle.unit_ir.specs.Trees.{Instances, flat_of_tree}
+use Rattle.typed_ir.specs.declared.instance.Instance.{Instance}
+use Rattle.typed_ir.specs.declared.unit.Unit.{Unit as ModuleUnit}
+use Rattle.typed_ir.specs.Instances.{is_depth_first, parent_of}
+use Rattle.typed_ir.specs.Shapes.{AreOf}
+use Rattle.typed_ir.specs.Trees.{Instances, flat_of_tree}
 use Rattle.elaborate.specs.TreeViews.{language_limits}
 use Rattle.link.specs.Listings.{IsTreeOf, all_parts}
 use Rattle.module_registry.specs.declared.build_job.BuildJob.{BuildJob}
 use Rattle.module_registry.specs.Entries.{Entry}
 use Rattle.module_registry.specs.Keys.{KeyData, jobs_of}
 use Rattle.unit_jobs.specs.JobViews.{job_view}
-use Rattle.job_laws.specs.JobUnits.{IsUnitOf}
-use Rattle.unit_laws.specs.Copies.{Copies}
-use Rattle.unit_laws.specs.DesignCopies.{NameTables, AreCopiesIn}
-use Rattle.unit_laws.specs.Flat.{flat}
-use Rattle.unit_laws.specs.Held.{AreHeldUnder, AreUnder, IsKeyUnder}
-use Rattle.unit_laws.specs.JobsUnder.{IsJobUnder}
+use Rattle.version_swap.specs.JobUnits.{IsUnitOf}
+use Rattle.version_swap.specs.Copies.{Copies}
+use Rattle.version_swap.specs.DesignCopies.{NameTables, AreCopiesIn}
+use Rattle.version_swap.specs.Flat.{flat}
+use Rattle.version_swap.specs.Held.{AreHeldUnder, AreUnder, IsKeyUnder}
+use Rattle.version_swap.specs.JobsUnder.{IsJobUnder}
 use Rattle.version_swap.specs.FirstKeys.{key_of}
 use Rattle.version_swap.specs.FoundUnder.{IsFoundUnder}
 use Rattle.version_swap.proofs.Firsts.{jobs_behind}
 use Rattle.link.proofs.Forests.{tree_of}
 use Rattle.link.proofs.Sound.{same_long}
-use Rattle.job_laws.proofs.TreeJobs.{language_turns}
-use Rattle.unit_laws.specs.TreeJobs.{one_table}
-use Rattle.unit_laws.proofs.DesignCopies.{design_is_linked}
-use Rattle.unit_laws.proofs.HeldDesign.{jobs_are_under, they_stand}
-use Rattle.unit_laws.proofs.HeldUnits.{units_of_jobs}
-use Rattle.unit_laws.proofs.OneTable.{by_one_table}
+use Rattle.version_swap.proofs.TreeJobs.{language_turns}
+use Rattle.version_swap.specs.TreeJobs.{one_table}
+use Rattle.version_swap.proofs.DesignCopies.{design_is_linked}
+use Rattle.version_swap.proofs.HeldDesign.{jobs_are_under, they_stand}
+use Rattle.version_swap.proofs.HeldUnits.{units_of_jobs}
+use Rattle.version_swap.proofs.OneTable.{by_one_table}
 
 -- the keys of jobs are keys under the table
 keys_under : (names : List (List ℕ)) (js : List BuildJob) → All (IsKeyUnder names) (map (key_of names) js)

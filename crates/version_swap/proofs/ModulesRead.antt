@@ -19,10 +19,10 @@ use Rattle.verilog_expr.specs.declared.fault.ParseFault.{ParseFault}
 use Rattle.verilog_expr.specs.declared.fault.ParseFault.TheVariants.{Stuck, Heavy}
 use Rattle.verilog_expr.specs.Shown.{Refuses, at_fault, names_of, text_of, token_at, left_at}
 use Rattle.verilog_parse.specs.Files.{Stands, file}
-use Rattle.unit_laws.specs.Spelled.{IsSpelledUnder}
+use Rattle.version_swap.specs.Spelled.{IsSpelledUnder}
 use Rattle.version_swap.specs.Founds.{AreModules, IsReadRefusal, at_text, at_grammar}
 use Rattle.version_swap.specs.Texts.{file_tokens}
-use Rattle.unit_laws.proofs.Parsed.{parsed_spelled}
+use Rattle.version_swap.proofs.Parsed.{parsed_spelled}
 
 abbrev AreNamed : ℕ → List NameId → Type 0
 AreNamed count ids = All (λ (id : NameId). id.0 < count) ids

@@ -13,7 +13,7 @@ use Rattle.ls_text.proofs.Growth.{texts_grown}
 use Rattle.ls_text.proofs.Tables.{same_id}
 use Rattle.ls_text.proofs.Lists.{same_first, same_others}
 use Rattle.width_rules.specs.Renaming.{fault_as}
-use Rattle.design_laws.specs.Renaming.{KeepsApart, SpellsSame, found_as}
+use Rattle.elaborate.specs.Renaming.{KeepsApart, SpellsSame, found_as}
 use Rattle.version_swap.proofs.AlikeModules.{Stay}
 
 module _ (count : ℕ) where

@@ -20,9 +20,9 @@ use Rattle.verilog_lex.specs.Tokens.{Said, plain, lexeme_tokens, end_place, toke
 use Rattle.verilog_lex.specs.Views.{said, IsNamed}
 use Rattle.verilog_lex.proofs.Endings.{ends_once}
 use Rattle.verilog_lex.proofs.Readings.{has_reading}
-use Rattle.unit_laws.specs.Proper.{text_kind, IsToken, IsRead}
-use Rattle.unit_laws.proofs.ProperTokens.{read_proper}
-use Rattle.unit_laws.proofs.ToldInstances.{within_table}
+use Rattle.version_swap.specs.Proper.{text_kind, IsToken, IsRead}
+use Rattle.version_swap.proofs.ProperTokens.{read_proper}
+use Rattle.version_swap.proofs.ToldInstances.{within_table}
 use Rattle.version_swap.specs.Texts.{file_tokens}
 use Rattle.version_swap.proofs.ModulesRead.{AreTokens}
 

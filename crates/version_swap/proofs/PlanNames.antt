@@ -8,17 +8,17 @@ use Rattle.ls_text.specs.declared.source_file.SourceFile.{SourceFile}
 use Rattle.ls_text.specs.Texts.{Grows, HasEachOnce}
 use Rattle.ls_text.proofs.Growth.{grown_id, grows_on}
 use Rattle.typed_ir.specs.Cycles.{Signal, Flat}
-use Rattle.unit_ir.specs.Trees.{signal_there}
-use Rattle.unit_names.specs.Signals.{NamedSignal}
-use Rattle.unit_names.specs.UnitLists.{is_data_input, data_inputs_from, called_by, names_behind, signal_called, unit_signals}
+use Rattle.typed_ir.specs.Trees.{signal_there}
+use Rattle.gen_unroll.specs.Signals.{NamedSignal}
+use Rattle.gen_unroll.specs.UnitLists.{is_data_input, data_inputs_from, called_by, names_behind, signal_called, unit_signals}
 use Rattle.unit_build.specs.Building.{begins_with, with_initials}
 use Rattle.unit_build.specs.Walks.{walk_initials}
-use Rattle.sized_items.specs.DeclaredValues.{InitialValue}
-use Rattle.unit_laws.specs.Copies.{ModuleCopy, Copies, Nothing, One, Where, inside, outside, from_each, all_places, place_in}
-use Rattle.unit_laws.specs.Flat.{writers_in, beginning_of, signals_of, inputs_of, flat}
-use Rattle.unit_laws.proofs.Kids.{initial_many, signals_many}
-use Rattle.unit_laws.proofs.Places.{stands_at}
-use Rattle.unit_laws.proofs.FlatTrees.{stands_all}
+use Rattle.statement_rules.specs.DeclaredValues.{InitialValue}
+use Rattle.version_swap.specs.Copies.{ModuleCopy, Copies, Nothing, One, Where, inside, outside, from_each, all_places, place_in}
+use Rattle.version_swap.specs.Flat.{writers_in, beginning_of, signals_of, inputs_of, flat}
+use Rattle.version_swap.proofs.Kids.{initial_many, signals_many}
+use Rattle.version_swap.proofs.Places.{stands_at}
+use Rattle.version_swap.proofs.FlatTrees.{stands_all}
 use Rattle.version_swap.specs.Plans as plans
 use Rattle.version_swap.specs.Plans.{DesignOfTexts, Plans, AreCopies}
 use Rattle.version_swap.proofs.FlatAlike.{IsSignalIn, flat_in}

@@ -6,10 +6,10 @@ use Rattle.ls_text.specs.declared.source_file.SourceFile.{SourceFile}
 use Rattle.ls_text.specs.Readings.{TextFault}
 use Rattle.ls_text.specs.Texts.{Grows, HasEachOnce}
 use Rattle.ls_text.proofs.Growth.{grows_on}
-use Rattle.unit_ir.specs.declared.instance.Instance.{Instance}
+use Rattle.typed_ir.specs.declared.instance.Instance.{Instance}
 use Rattle.module_registry.specs.declared.build_job.BuildJob.{BuildJob}
-use Rattle.unit_laws.specs.Copies.{Copies}
-use Rattle.unit_laws.specs.Flat.{flat}
+use Rattle.version_swap.specs.Copies.{Copies}
+use Rattle.version_swap.specs.Flat.{flat}
 use Rattle.state_layout.specs.Words.{register_widths, words_of}
 use Rattle.version_swap.specs.Founds.{AreFound}
 use Rattle.version_swap.specs.OnePlan.{file_text as text, IsSameName, IsSameTop, IsSamePlan}

@@ -11,8 +11,8 @@ use Rattle.ls_text.proofs.Lists.{same_first, same_others}
 use Rattle.typed_ir.specs.declared.constant.Const.{Const}
 use Rattle.verilog_ast.specs.Items.{ModuleDeclaration}
 use Rattle.verilog_ast.specs.Renaming.{declaration_as}
-use Rattle.unit_ir.specs.declared.instance.Instance.{Instance}
-use Rattle.unit_ir.specs.declared.port_shape.PortShape.{PortShape}
+use Rattle.typed_ir.specs.declared.instance.Instance.{Instance}
+use Rattle.typed_ir.specs.declared.port_shape.PortShape.{PortShape}
 use Rattle.gen_unroll.specs.Values.{ConstantValue, constant_of}
 use Rattle.gen_unroll.proofs.Answered.{ok_same}
 use Rattle.clock_rules.specs.Views.{clock_view}
@@ -21,14 +21,14 @@ use Rattle.elaborate.specs.Ports.{PortOutline}
 use Rattle.elaborate.specs.Trees.{TreeInstance, all_seen}
 use Rattle.elaborate.specs.TreeViews.{instance_view, language_limits}
 use Rattle.elaborate.specs.Views.{port_of}
-use Rattle.design_laws.specs.Findings.{clock_as, outline_as, standing_as, seen_instance_as}
-use Rattle.design_laws.specs.Renaming.{KeepsApart, SpellsSame, number_as, found_as}
-use Rattle.design_laws.proofs.RenamedDesigns.{same_elaborated}
-use Rattle.design_laws.proofs.RenamedTrees.{same_tree}
-use Rattle.rename_laws.specs.Findings.{port_shape_as}
-use Rattle.rename_laws.specs.Jobs.{instance_as}
-use Rattle.unit_laws.proofs.OneDesign.{clock_same, ports_same}
-use Rattle.unit_laws.proofs.Parts.{constant_same}
+use Rattle.elaborate.specs.Findings.{clock_as, outline_as, standing_as, seen_instance_as}
+use Rattle.elaborate.specs.Renaming.{KeepsApart, SpellsSame, number_as, found_as}
+use Rattle.elaborate.proofs.RenamedDesigns.{same_elaborated}
+use Rattle.elaborate.proofs.RenamedTrees.{same_tree}
+use Rattle.version_swap.specs.RenamedFindings.{port_shape_as}
+use Rattle.version_swap.specs.Jobs.{instance_as}
+use Rattle.version_swap.proofs.OneDesign.{clock_same, ports_same}
+use Rattle.version_swap.proofs.Parts.{constant_same}
 use Rattle.version_swap.proofs.GrownFound.{tree_of}
 
 -- ---- views of instances under other names

@@ -13,20 +13,20 @@ use Rattle.verilog_ast.specs.NamesWithin.{names_in_declaration, names_in_modules
 use Rattle.verilog_ast.specs.Renaming.{declaration_as}
 use Rattle.verilog_ast.specs.Views.{declaration_of, declarations_of}
 use Rattle.width_rules.specs.Renaming.{fault_as}
-use Rattle.unit_ir.specs.declared.child_shape.ChildShape.{ChildShape}
-use Rattle.unit_ir.specs.declared.port_shape.PortShape.{PortShape}
+use Rattle.typed_ir.specs.declared.child_shape.ChildShape.{ChildShape}
+use Rattle.typed_ir.specs.declared.port_shape.PortShape.{PortShape}
 use Rattle.elaborate.specs.declared.limits.Limits.{Limits}
 use Rattle.elaborate.specs.Elaborated.{elaborated}
 use Rattle.module_registry.specs.declared.build_job.BuildJob.{BuildJob}
 use Rattle.unit_build.specs.Building.{built}
-use Rattle.design_laws.specs.Findings.{standing_as}
-use Rattle.design_laws.specs.Renaming.{KeepsApart, number_as, found_as}
-use Rattle.design_laws.proofs.RenamedDesigns.{same_elaborated}
-use Rattle.rename_laws.specs.Findings.{port_shape_as, shape_as}
-use Rattle.rename_laws.specs.Units.{built_as}
-use Rattle.rename_laws.proofs.RenamedBuilt.{same_job}
-use Rattle.unit_laws.specs.JobsUnder.{IsJobUnder}
-use Rattle.unit_laws.specs.Told.{IsClockTold, IsChildTold, IsPortTold}
+use Rattle.elaborate.specs.Findings.{standing_as}
+use Rattle.elaborate.specs.Renaming.{KeepsApart, number_as, found_as}
+use Rattle.elaborate.proofs.RenamedDesigns.{same_elaborated}
+use Rattle.version_swap.specs.RenamedFindings.{port_shape_as, shape_as}
+use Rattle.version_swap.specs.RenamedUnits.{built_as}
+use Rattle.version_swap.proofs.RenamedBuilt.{same_job}
+use Rattle.version_swap.specs.JobsUnder.{IsJobUnder}
+use Rattle.version_swap.specs.Told.{IsClockTold, IsChildTold, IsPortTold}
 use Rattle.version_swap.proofs.FixedNames.{AreFixed, fixed_declaration}
 
 module _ (count : ℕ) where

@@ -10,7 +10,7 @@ use Rattle.module_registry.specs.declared.build_job.BuildJob.{BuildJob}
 use Rattle.ls_text.specs.Answers.{◌>>=◌}
 use Rattle.module_registry.specs.Building.{Built, built_all}
 use Rattle.unit_build.specs.Building.{built}
-use Rattle.unit_laws.specs.JobsUnder.{IsJobUnder}
+use Rattle.version_swap.specs.JobsUnder.{IsJobUnder}
 use Rattle.link.specs.Faults.{IsLinkFault, too_many, loop_of}
 use Rattle.version_swap.specs.DesignFaults.{IsDesignFault, not_linked, too_wide}
 use Rattle.version_swap.specs.FoundUnder.{HasModuleIn}

@@ -18,11 +18,11 @@ use Rattle.module_names.specs.Modules.{module_named, header_ports}
 use Rattle.elaborate.specs.declared.limits.Limits.{Limits}
 use Rattle.elaborate.specs.Clocks.{top_clock}
 use Rattle.elaborate.specs.Elaborated.{named_once, few_modules, top_module, from_top, top_of, elaborated}
-use Rattle.design_laws.specs.Findings.{standing_as}
-use Rattle.design_laws.specs.Renaming.{KeepsApart, number_as, found_as}
-use Rattle.design_laws.proofs.RenamedDesigns.{same_elaborated}
-use Rattle.design_laws.proofs.RenamedModules.{same_listed, same_named, same_ports}
-use Rattle.job_laws.proofs.InstanceModules.{once_all}
+use Rattle.elaborate.specs.Findings.{standing_as}
+use Rattle.elaborate.specs.Renaming.{KeepsApart, number_as, found_as}
+use Rattle.elaborate.proofs.RenamedDesigns.{same_elaborated}
+use Rattle.elaborate.proofs.RenamedModules.{same_listed, same_named, same_ports}
+use Rattle.version_swap.proofs.InstanceModules.{once_all}
 
 -- ---- the top is told by the module of its name
 

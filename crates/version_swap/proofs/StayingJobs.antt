@@ -10,17 +10,17 @@ use Rattle.ls_text.proofs.Lists.{same_first, same_others}
 use Rattle.verilog_ast.specs.declared.module.Module.{Module}
 use Rattle.verilog_ast.specs.Renaming.{declaration_as}
 use Rattle.verilog_ast.specs.Views.{declaration_of, declarations_of}
-use Rattle.unit_ir.specs.declared.child_shape.ChildShape.{ChildShape}
-use Rattle.unit_ir.specs.declared.instance.Instance.{Instance}
-use Rattle.unit_ir.specs.declared.port_shape.PortShape.{PortShape}
+use Rattle.typed_ir.specs.declared.child_shape.ChildShape.{ChildShape}
+use Rattle.typed_ir.specs.declared.instance.Instance.{Instance}
+use Rattle.typed_ir.specs.declared.port_shape.PortShape.{PortShape}
 use Rattle.elaborate.specs.Elaborated.{Standing}
 use Rattle.module_registry.specs.declared.build_job.BuildJob.{BuildJob}
 use Rattle.module_registry.specs.Building.{built_all}
 use Rattle.unit_build.specs.Building.{built}
-use Rattle.rename_laws.specs.Findings.{port_shape_as, shape_as}
-use Rattle.rename_laws.specs.Units.{built_as}
-use Rattle.unit_laws.specs.JobsUnder.{IsIn, IsJobUnder}
-use Rattle.unit_laws.specs.Told.{IsPortTold, IsClockTold, IsChildTold}
+use Rattle.version_swap.specs.RenamedFindings.{port_shape_as, shape_as}
+use Rattle.version_swap.specs.RenamedUnits.{built_as}
+use Rattle.version_swap.specs.JobsUnder.{IsIn, IsJobUnder}
+use Rattle.version_swap.specs.Told.{IsPortTold, IsClockTold, IsChildTold}
 use Rattle.version_swap.specs.FirstKeys.{first_jobs}
 use Rattle.version_swap.proofs.GrownFound.{FoundIn}
 use Rattle.version_swap.proofs.JobModules.{modules_of_jobs}

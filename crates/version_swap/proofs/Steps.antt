@@ -17,11 +17,11 @@ use Rattle.ls_text.specs.Readings.{CanShow, TextFault, fault_view}
 use Rattle.ls_text.specs.Texts.{Grows, text_at}
 use Rattle.ls_text.proofs.Growth.{grows_none}
 use Rattle.typed_ir.specs.Cycles.{Flat}
-use Rattle.unit_ir.specs.declared.instance.Instance.{Instance}
-use Rattle.unit_ir.specs.declared.unit.Unit.{Unit as ModuleUnit}
-use Rattle.unit_ir.specs.Instances.{is_depth_first, parent_of}
-use Rattle.unit_ir.specs.Shapes.{AreOf}
-use Rattle.unit_ir.specs.Trees.{flat_of_tree}
+use Rattle.typed_ir.specs.declared.instance.Instance.{Instance}
+use Rattle.typed_ir.specs.declared.unit.Unit.{Unit as ModuleUnit}
+use Rattle.typed_ir.specs.Instances.{is_depth_first, parent_of}
+use Rattle.typed_ir.specs.Shapes.{AreOf}
+use Rattle.typed_ir.specs.Trees.{flat_of_tree}
 use Rattle.link.specs.Listings.{all_parts}
 use Rattle.module_registry.specs.declared.build_job.BuildJob.{BuildJob}
 use Rattle.ls_text.specs.Answers.{◌>>=◌}
@@ -30,10 +30,10 @@ use Rattle.module_registry.specs.Entries.{Entry, keys_of, is_among, missing, ent
 use Rattle.module_registry.specs.Jobs.{job_text}
 use Rattle.module_registry.specs.Keys.{KeyData, jobs_of}
 use Rattle.unit_build.specs.Building.{built}
-use Rattle.unit_laws.specs.Copies.{Copies}
-use Rattle.unit_laws.specs.Flat.{flat}
-use Rattle.unit_laws.specs.Held.{AreHeldUnder, AreUnder, HaveUnits, IsKeyUnder}
-use Rattle.unit_laws.specs.JobsUnder.{IsJobUnder}
+use Rattle.version_swap.specs.Copies.{Copies}
+use Rattle.version_swap.specs.Flat.{flat}
+use Rattle.version_swap.specs.Held.{AreHeldUnder, AreUnder, HaveUnits, IsKeyUnder}
+use Rattle.version_swap.specs.JobsUnder.{IsJobUnder}
 use Rattle.state_layout.specs.Words.{IsTooMany}
 use Rattle.version_swap.specs.DesignFaults.{CanRun, IsDesignFault, not_linked, too_wide, IsDesignOfUnits, IsRefusedOfUnits}
 use Rattle.version_swap.specs.FirstKeys.{first_jobs, first_keys, key_of}
@@ -44,10 +44,10 @@ use Rattle.version_swap.specs.Plans.{AreCopies, IsPlanRefusal, Plans, too_many_f
 use Rattle.version_swap.proofs.Firsts.{first_of_jobs, jobs_behind, texts_behind, first_all, first_jobs_all, all_held}
 use Rattle.version_swap.proofs.ShownUnits.{design_shows, units_show}
 use Rattle.version_swap.proofs.Linked.{are_under, jobs_under, units_stand, HasDesign, has_design}
-use Rattle.unit_laws.proofs.EnsuredUnits.{each_given, first_fault}
-use Rattle.unit_laws.proofs.GrownJobs.{grown_under}
-use Rattle.unit_laws.proofs.GrownTexts.{text_kept}
-use Rattle.unit_laws.proofs.HeldUnits.{ensured_held}
+use Rattle.version_swap.proofs.EnsuredUnits.{each_given, first_fault}
+use Rattle.version_swap.proofs.GrownJobs.{grown_under}
+use Rattle.version_swap.proofs.GrownTexts.{text_kept}
+use Rattle.version_swap.proofs.HeldUnits.{ensured_held}
 
 -- ---- 40 without names
 

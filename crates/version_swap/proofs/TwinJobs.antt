@@ -16,8 +16,8 @@ use Rattle.verilog_ast.specs.Renamed.{renamed_identifier}
 use Rattle.verilog_ast.specs.Renaming.{parameter_as, header_parameter_as, item_as, declaration_as}
 use Rattle.verilog_ast.specs.Views.{declaration_of}
 use Rattle.verilog_spelling.specs.Spellings.{hex_text}
-use Rattle.unit_ir.specs.declared.child_shape.ChildShape.{ChildShape}
-use Rattle.unit_ir.specs.declared.port_shape.PortShape.{PortShape}
+use Rattle.typed_ir.specs.declared.child_shape.ChildShape.{ChildShape}
+use Rattle.typed_ir.specs.declared.port_shape.PortShape.{PortShape}
 use Rattle.module_registry.specs.declared.build_job.BuildJob.{BuildJob}
 use Rattle.ls_text.specs.Answers.{◌>>=◌}
 use Rattle.module_registry.specs.Building.{Built, built_all}
@@ -26,11 +26,11 @@ use Rattle.module_registry.specs.Constants.{item_constants, constants_of}
 use Rattle.module_registry.specs.Jobs.{job_text}
 use Rattle.module_registry.specs.KeyTexts.{line_end, shape_text, parameter_lines, clock_text, clock_line, port_line, child_lines, key_text}
 use Rattle.unit_build.specs.Building.{built}
-use Rattle.design_laws.specs.Renaming.{KeepsApart, SpellsSame, found_as}
-use Rattle.design_laws.proofs.RenamedNames.{names_so}
-use Rattle.rename_laws.specs.Findings.{port_shape_as, shape_as}
-use Rattle.rename_laws.specs.Units.{built_as}
-use Rattle.rename_laws.proofs.RenamedBuilt.{same_job}
+use Rattle.elaborate.specs.Renaming.{KeepsApart, SpellsSame, found_as}
+use Rattle.elaborate.proofs.RenamedNames.{names_so}
+use Rattle.version_swap.specs.RenamedFindings.{port_shape_as, shape_as}
+use Rattle.version_swap.specs.RenamedUnits.{built_as}
+use Rattle.version_swap.proofs.RenamedBuilt.{same_job}
 use Rattle.version_swap.specs.FirstKeys.{is_text_among, with_job, first_jobs}
 
 -- one job is the other under other names, and its module has the same spelling

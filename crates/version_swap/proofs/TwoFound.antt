@@ -12,7 +12,7 @@ use Rattle.verilog_ast.specs.Items.{ModuleDeclaration}
 use Rattle.verilog_ast.specs.Renaming.{declaration_as}
 use Rattle.verilog_ast.specs.Views.{declaration_of, declarations_of}
 use Rattle.gen_unroll.proofs.Answered.{ok_same}
-use Rattle.unit_ir.specs.declared.instance.Instance.{Instance}
+use Rattle.typed_ir.specs.declared.instance.Instance.{Instance}
 use Rattle.elaborate.specs.Elaborated.{Standing, elaborated}
 use Rattle.elaborate.specs.Trees.{all_seen}
 use Rattle.elaborate.specs.TreeViews.{instance_view, language_limits}
@@ -20,14 +20,14 @@ use Rattle.module_registry.specs.declared.build_job.BuildJob.{BuildJob}
 use Rattle.unit_jobs.specs.Jobs.{InstanceJob, module_called, tree_jobs}
 use Rattle.ls_text.specs.TextViews.{text_of}
 use Rattle.unit_jobs.specs.JobViews.{job_view}
-use Rattle.design_laws.specs.Findings.{standing_as}
-use Rattle.design_laws.specs.Renaming.{KeepsApart, SpellsSame, number_as}
-use Rattle.design_laws.proofs.RenamedNames.{same_test}
-use Rattle.rename_laws.specs.Jobs.{IsModuleAs, instance_as, IsJobAs, AreJobsAs}
-use Rattle.rename_laws.proofs.RenamedJobs.{same_jobs}
-use Rattle.unit_laws.specs.InstancesTold.{IsInstanceTold}
-use Rattle.unit_laws.specs.JobsUnder.{IsIn, IsJobUnder}
-use Rattle.unit_laws.proofs.SameUnits.{ids_same}
+use Rattle.elaborate.specs.Findings.{standing_as}
+use Rattle.elaborate.specs.Renaming.{KeepsApart, SpellsSame, number_as}
+use Rattle.elaborate.proofs.RenamedNames.{same_test}
+use Rattle.version_swap.specs.Jobs.{IsModuleAs, instance_as, IsJobAs, AreJobsAs}
+use Rattle.version_swap.proofs.RenamedJobs.{same_jobs}
+use Rattle.version_swap.specs.InstancesTold.{IsInstanceTold}
+use Rattle.version_swap.specs.JobsUnder.{IsIn, IsJobUnder}
+use Rattle.version_swap.proofs.SameUnits.{ids_same}
 use Rattle.version_swap.proofs.AlikeModules.{spelling_of}
 use Rattle.version_swap.proofs.GrownFound.{FoundIn, told_of}
 use Rattle.version_swap.proofs.JobParts.{IsJobFrom, jobs_are_from}

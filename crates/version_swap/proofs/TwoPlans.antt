@@ -21,7 +21,7 @@ use Rattle.verilog_ast.specs.Renaming.{declaration_as}
 use Rattle.verilog_ast.specs.Views.{declarations_of}
 use Rattle.verilog_expr.specs.Shown.{at_fault}
 use Rattle.module_names.specs.Modules.{module_named}
-use Rattle.unit_ir.specs.declared.instance.Instance.{Instance}
+use Rattle.typed_ir.specs.declared.instance.Instance.{Instance}
 use Rattle.elaborate.specs.Elaborated.{Standing, elaborated}
 use Rattle.elaborate.specs.TreeViews.{language_limits}
 use Rattle.module_registry.specs.declared.build_job.BuildJob.{BuildJob}
@@ -29,17 +29,17 @@ use Rattle.module_registry.specs.Building.{Built, built_all}
 use Rattle.module_registry.specs.Jobs.{job_text}
 use Rattle.unit_build.specs.Building.{built}
 use Rattle.width_rules.specs.Renaming.{fault_as}
-use Rattle.design_laws.specs.Findings.{standing_as}
-use Rattle.design_laws.specs.Renaming.{number_as, found_as}
-use Rattle.design_laws.proofs.RenamedDesigns.{same_elaborated}
-use Rattle.design_laws.proofs.RenamedModules.{same_named}
-use Rattle.grammar_laws.proofs.RenamedText.{same_fault, not_both}
-use Rattle.rename_laws.specs.Findings.{unit_signal_as}
-use Rattle.rename_laws.specs.Units.{built_as}
-use Rattle.unit_laws.specs.Copies.{Copies}
-use Rattle.unit_laws.specs.Flat.{flat}
-use Rattle.unit_laws.specs.FlatRenaming.{flat_as}
-use Rattle.unit_laws.specs.JobsUnder.{IsJobUnder}
+use Rattle.elaborate.specs.Findings.{standing_as}
+use Rattle.elaborate.specs.Renaming.{number_as, found_as}
+use Rattle.elaborate.proofs.RenamedDesigns.{same_elaborated}
+use Rattle.elaborate.proofs.RenamedModules.{same_named}
+use Rattle.verilog_parse.proofs.RenamedText.{same_fault, not_both}
+use Rattle.version_swap.specs.RenamedFindings.{unit_signal_as}
+use Rattle.version_swap.specs.RenamedUnits.{built_as}
+use Rattle.version_swap.specs.Copies.{Copies}
+use Rattle.version_swap.specs.Flat.{flat}
+use Rattle.version_swap.specs.FlatRenaming.{flat_as}
+use Rattle.version_swap.specs.JobsUnder.{IsJobUnder}
 use Rattle.link.specs.Faults.{IsLinkFault, HasNoLinkFault}
 use Rattle.link.specs.Names.{node_text}
 use Rattle.state_layout.specs.Words.{register_widths}

@@ -5,12 +5,12 @@ use Rattle.std.specs.declared.sync.Arc.{Arc}
 use Rattle.ls_text.specs.declared.refusal.Refusal.{Refusal}
 use Rattle.typed_ir.specs.Cycles.{Flat}
 use Rattle.ls_text.specs.declared.refusal.Refusal.TheVariants as refusals
-use Rattle.unit_ir.specs.declared.instance.Instance.{Instance}
-use Rattle.unit_ir.specs.declared.unit.Unit.{Unit as ModuleUnit}
-use Rattle.unit_ir.specs.Trees.{Instances, flat_of_tree}
+use Rattle.typed_ir.specs.declared.instance.Instance.{Instance}
+use Rattle.typed_ir.specs.declared.unit.Unit.{Unit as ModuleUnit}
+use Rattle.typed_ir.specs.Trees.{Instances, flat_of_tree}
 use Rattle.module_registry.specs.Entries.{Entry}
 use Rattle.module_registry.specs.Keys.{KeyData}
-use Rattle.unit_laws.specs.Held.{AreUnder}
+use Rattle.version_swap.specs.Held.{AreUnder}
 use Rattle.link.specs.Listings.{IsTreeOf, all_parts}
 use Rattle.link.specs.Faults.{IsLinkFault, HasNoLinkFault}
 use Rattle.state_layout.specs.Words.{register_widths, words_of, IsTooMany}

@@ -6,12 +6,12 @@ use Rattle.ls_text.specs.declared.source_file.SourceFile.{SourceFile}
 use Rattle.ls_text.specs.Texts.{text_at}
 use Rattle.verilog_ast.specs.NamesWithin.{names_in_declaration}
 use Rattle.verilog_ast.specs.Views.{declaration_of}
-use Rattle.unit_ir.specs.declared.instance.Instance.{Instance}
+use Rattle.typed_ir.specs.declared.instance.Instance.{Instance}
 use Rattle.elaborate.specs.Trees.{all_seen}
 use Rattle.elaborate.specs.TreeViews.{instance_view}
 use Rattle.module_registry.specs.declared.build_job.BuildJob.{BuildJob}
-use Rattle.unit_laws.specs.JobsUnder.{IsIn}
-use Rattle.unit_laws.specs.TreeJobs.{AreJobsIn}
+use Rattle.version_swap.specs.JobsUnder.{IsIn}
+use Rattle.version_swap.specs.TreeJobs.{AreJobsIn}
 use Rattle.version_swap.specs.Founds.{AreFound}
 
 -- the number of a top's name; where none is given, that of the empty text

@@ -15,7 +15,7 @@ use Rattle.verilog_ast.specs.Views.{declarations_of}
 use Rattle.verilog_expr.specs.Shown.{Refuses}
 use Rattle.verilog_parse.specs.Files.{Stands, file}
 use Rattle.module_names.specs.Modules.{module_named}
-use Rattle.unit_ir.specs.declared.instance.Instance.{Instance}
+use Rattle.typed_ir.specs.declared.instance.Instance.{Instance}
 use Rattle.elaborate.specs.Elaborated.{Standing, elaborated}
 use Rattle.elaborate.specs.Trees.{all_seen}
 use Rattle.elaborate.specs.TreeViews.{instance_view, language_limits}

@@ -12,17 +12,17 @@ use Rattle.ls_text.specs.Texts.{Grows}
 use Rattle.typed_ir.specs.Cycles.{Flat}
 use Rattle.verilog_ast.specs.declared.module.Module.{Module}
 use Rattle.verilog_ast.specs.Views.{declarations_of}
-use Rattle.unit_ir.specs.declared.instance.Instance.{Instance}
+use Rattle.typed_ir.specs.declared.instance.Instance.{Instance}
 use Rattle.elaborate.specs.Elaborated.{elaborated}
 use Rattle.elaborate.specs.TreeViews.{language_limits}
 use Rattle.module_registry.specs.declared.build_job.BuildJob.{BuildJob}
 use Rattle.module_registry.specs.Building.{Built, built_all}
 use Rattle.module_registry.specs.Jobs.{job_text}
 use Rattle.unit_build.specs.Building.{built}
-use Rattle.unit_laws.specs.Copies.{Copies}
-use Rattle.unit_laws.specs.DesignCopies.{AreCopiesIn}
-use Rattle.unit_laws.specs.Flat.{flat}
-use Rattle.unit_laws.specs.TreeJobs.{one_table}
+use Rattle.version_swap.specs.Copies.{Copies}
+use Rattle.version_swap.specs.DesignCopies.{AreCopiesIn}
+use Rattle.version_swap.specs.Flat.{flat}
+use Rattle.version_swap.specs.TreeJobs.{one_table}
 use Rattle.link.specs.Faults.{IsLinkFault, HasNoLinkFault}
 use Rattle.state_layout.specs.Words.{register_widths, words_of}
 use Rattle.version_swap.specs.FirstKeys.{first_jobs}

@@ -1,6 +1,6 @@
 // What is found of files before units are built.
 use module_registry::BuildJob;
-use unit_ir::InstanceTree;
+use typed_ir::InstanceTree;
 
 /// The instances of a design, and the job of each.
 #[derive(Drop)]

@@ -4,7 +4,7 @@ ghost use Rattle.std.specs.List.{All};
 ghost use Rattle.ls_text.specs.Texts.{Grows};
 ghost use Rattle.ls_text.specs.Readings.{CanShow};
 ghost use Rattle.verilog_ast.specs.NamesWithin.{names_in_modules};
-ghost use Rattle.unit_laws.specs.Spelled.{IsSpelledUnder};
+ghost use Rattle.version_swap.specs.Spelled.{IsSpelledUnder};
 ghost use Rattle.version_swap.specs.Founds.{AreModules, IsReadRefusal};
 
 use crate::tokens::file_tokens;

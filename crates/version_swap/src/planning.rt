@@ -10,7 +10,7 @@ ghost use Rattle.module_registry.specs.Entries.{ensured, keys_of, missing};
 ghost use Rattle.module_registry.specs.Keys.{jobs_of};
 ghost use Rattle.module_registry.specs.Views.{entries_of};
 ghost use Rattle.unit_build.specs.Building.{built};
-ghost use Rattle.unit_laws.specs.Held.{AreHeldUnder, IsKeyUnder};
+ghost use Rattle.version_swap.specs.Held.{AreHeldUnder, IsKeyUnder};
 ghost use Rattle.version_swap.specs.Behind.{design_of, texts_behind};
 ghost use Rattle.version_swap.specs.Files.{files_behind};
 ghost use Rattle.version_swap.specs.Made.{MadeBehind};

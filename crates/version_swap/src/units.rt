@@ -4,11 +4,11 @@ ghost use Rattle.std.specs.List.{All};
 ghost use Rattle.ls_text.specs.Texts.{Grows};
 ghost use Rattle.module_registry.specs.Entries.{is_among, keys_of};
 ghost use Rattle.module_registry.specs.Views.{entries_of};
-ghost use Rattle.unit_ir.specs.Shapes.{AreOf};
-ghost use Rattle.unit_ir.specs.Trees.{Instances, flat_of_tree};
+ghost use Rattle.typed_ir.specs.Shapes.{AreOf};
+ghost use Rattle.typed_ir.specs.Trees.{Instances, flat_of_tree};
 ghost use Rattle.link.specs.Listings.{IsTreeOf, all_parts};
 ghost use Rattle.cycle_eval.specs.Designs.{design_flat};
-ghost use Rattle.unit_laws.specs.Held.{AreUnder};
+ghost use Rattle.version_swap.specs.Held.{AreUnder};
 ghost use Rattle.version_swap.specs.DesignFaults.{CanRun, IsDesignFault};
 
 use cycle_eval::Design;
@@ -17,7 +17,7 @@ use ls_text::{Names, NoMemory, Refusal};
 use module_registry::{Key, Registry};
 use std::alloc::Global;
 use std::sync::Arc;
-use unit_ir::{InstanceTree, Unit};
+use typed_ir::{InstanceTree, Unit};
 
 /// The units that are held under keys, one for each.
 pub fn units_of(

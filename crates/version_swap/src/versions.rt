@@ -6,8 +6,8 @@ ghost use Rattle.std.specs.declared.sync.Arc.{Arc};
 ghost use Rattle.ls_text.specs.Readings.{CanShow};
 ghost use Rattle.ls_text.specs.Texts.{Grows};
 ghost use Rattle.ls_text.specs.declared.refusal.Refusal.{Refusal};
-ghost use Rattle.unit_ir.specs.declared.unit.Unit.{Unit as ModuleUnit};
-ghost use Rattle.unit_ir.specs.Shapes.{AreOf};
+ghost use Rattle.typed_ir.specs.declared.unit.Unit.{Unit as ModuleUnit};
+ghost use Rattle.typed_ir.specs.Shapes.{AreOf};
 ghost use Rattle.link.specs.Listings.{all_parts};
 ghost use Rattle.module_registry.specs.declared.build_job.BuildJob.{BuildJob};
 ghost use Rattle.module_registry.specs.Entries.{ensured, is_among, keys_of, missing};
@@ -15,8 +15,8 @@ ghost use Rattle.module_registry.specs.Keys.{jobs_of};
 ghost use Rattle.module_registry.specs.Views.{entries_of};
 ghost use Rattle.unit_build.specs.Building.{built};
 ghost use Rattle.cycle_eval.specs.Designs.{design_flat};
-ghost use Rattle.unit_laws.specs.Held.{AreHeldUnder, AreUnder, IsKeyUnder};
-ghost use Rattle.unit_laws.specs.JobsUnder.{IsJobUnder};
+ghost use Rattle.version_swap.specs.Held.{AreHeldUnder, AreUnder, IsKeyUnder};
+ghost use Rattle.version_swap.specs.JobsUnder.{IsJobUnder};
 ghost use Rattle.version_swap.specs.Behind.{design_of};
 ghost use Rattle.version_swap.specs.DesignFaults.{IsDesignOfUnits, IsRefusedOfUnits};
 ghost use Rattle.version_swap.specs.Made.{MadeBehind};
@@ -30,7 +30,7 @@ use cycle_eval::Design;
 use ls_text::{NameId, Names, Refusal, SourceFile};
 use module_registry::{Forge, Key, Registry};
 use std::alloc::Global;
-use unit_ir::InstanceTree;
+use typed_ir::InstanceTree;
 
 // The design of instances, by the units that are held under their keys.
 fn of_units(

@@ -4,7 +4,7 @@ ghost use Rattle.hex.specs.Hex.{encode_lower};
 ghost use Rattle.wave_report.specs.Digits.{hex_text};
 
 use hex::encode_to_slice;
-use no_memory::NoMemory;
+use ls_text::NoMemory;
 
 /// Adds a value in lower-case digits, one for each four bits of its width.
 pub fn push_hex(text: &mut Vec<u8>, width: u8, value: u128) -> Result<(), NoMemory>

@@ -3,8 +3,7 @@ ghost use Rattle.std.specs.Prelude.{◌≡◌, ◌++◌, OnOk};
 ghost use Rattle.typed_ir.specs.Flats.{signal_of};
 ghost use Rattle.typed_ir.specs.Paths.{path_above, paths_of, dotted, joined};
 
-use ls_text::Names;
-use no_memory::NoMemory;
+use ls_text::{Names, NoMemory};
 use typed_ir::{InstanceId, InstanceName, Signal};
 
 // The path of an instance, each of its names with a dot behind it; nothing above the top.

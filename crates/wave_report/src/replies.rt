@@ -17,8 +17,7 @@ ghost use Rattle.wave_report.specs.Replies.{
 use crate::digits::push_digest;
 use crate::reply_kind::ReplyKind;
 use crate::unit_line::UnitLine;
-use ls_text::push_decimal;
-use no_memory::NoMemory;
+use ls_text::{NoMemory, push_decimal};
 use std::alloc::Global;
 
 // Adds a word with a number behind it.

@@ -10,3 +10,7 @@ pub mod Repeating
 pub mod RenamedSizes
 pub mod RenamedFaults
 pub mod RenamedReferences
+pub mod Noted
+pub mod Told
+pub mod Listing
+pub mod Shown

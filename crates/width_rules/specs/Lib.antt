@@ -13,3 +13,7 @@ pub mod Directions
 pub mod References
 pub mod Runs
 pub mod Renaming
+pub mod Names
+pub mod Mentions
+pub mod Forms
+pub mod Adding

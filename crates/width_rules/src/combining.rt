@@ -11,7 +11,7 @@ use crate::measured::Measured;
 use crate::opened::{Open, close};
 use crate::operators::comparison_with;
 use crate::self_determined::Own;
-use no_memory::NoMemory;
+use ls_text::NoMemory;
 use std::alloc::Global;
 use typed_ir::{
     ArithmeticOperator, BinaryOperator, Comparison, LogicalOperator, ShiftOperator, Typed,

@@ -6,7 +6,7 @@ ghost use Rattle.width_rules.specs.Joins.{joined_of, added};
 use crate::joined::Joined;
 use crate::joined_bits::JoinedBits;
 use crate::self_determined::Own;
-use no_memory::NoMemory;
+use ls_text::NoMemory;
 use std::alloc::Global;
 use typed_ir::Typed;
 use verilog_ast::Child;

@@ -7,12 +7,18 @@
 // fault of a code, a place and a name; `laws` says that names may change.
 #![tactic(auto, using(crate::proofs::Firsts::earlier, crate::proofs::Firsts::later, crate::proofs::Firsts::neither))]
 
+mod arm_end;
+mod asked;
+mod asking;
+mod blocks;
 mod combining;
+mod constants;
 mod covered;
 mod direction;
 mod due;
 mod entry;
 mod faults;
+mod forms;
 mod joined;
 mod joined_bits;
 mod joined_parts;
@@ -21,7 +27,10 @@ mod kinds;
 mod laws;
 mod measured;
 mod measuring;
+mod mention_lists;
+mod mentioning;
 mod naming;
+mod noting;
 mod opened;
 mod operators;
 mod referring;
@@ -31,15 +40,21 @@ mod self_determined;
 mod signal_entry;
 mod sizing;
 mod target_part;
+mod targeting;
+mod walking;
 mod whole;
 mod writer;
 
+pub use blocks::block_mentions;
+pub use constants::is_constant;
 pub use due::Due;
 pub use entry::Entry;
 pub use faults::{refused, refused_at, refused_of};
+pub use forms::{first_number, reference_form, statement_form, target_form};
 pub use laws::names_may_change;
 pub use measured::Measured;
 pub use measuring::{measure, own};
+pub use mention_lists::BlockMentions;
 pub use opened::close;
 pub use referring::size_reference;
 pub use scope::Scope;
@@ -47,5 +62,6 @@ pub use self_determined::Own;
 pub use signal_entry::SignalEntry;
 pub use sizing::{constant, size_expr};
 pub use target_part::TargetPart;
+pub use targeting::{connection_mentions, target_mentions};
 pub use whole::{Whole, whole_number};
 pub use writer::Writer;

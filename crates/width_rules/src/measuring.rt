@@ -32,8 +32,7 @@ use crate::selecting::{known, range, reach, selected, whole, width_of};
 use crate::self_determined::Own;
 use crate::whole::{count_of, whole_number};
 use bits::Bits;
-use ls_text::{Place, Refusal};
-use no_memory::NoMemory;
+use ls_text::{NoMemory, Place, Refusal};
 use std::alloc::Global;
 use typed_ir::{BinaryOperator, Const, Typed, UnaryOperator};
 use verilog_ast::{

@@ -8,8 +8,7 @@ use crate::covered::Covered;
 use crate::entry::Entry;
 use crate::scope::Scope;
 use indexmap::IndexMap;
-use ls_text::NameId;
-use no_memory::NoMemory;
+use ls_text::{NameId, NoMemory};
 use std::alloc::Global;
 use std::collections::VecDeque;
 

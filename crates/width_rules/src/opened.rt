@@ -6,7 +6,7 @@ ghost use Rattle.width_rules.specs.Opened.{opened, closed};
 
 use crate::operators::{arithmetic_with, shift_with};
 use bits::Bits;
-use no_memory::NoMemory;
+use ls_text::NoMemory;
 use std::alloc::Global;
 use typed_ir::{ArithmeticOperator, BinaryOperator, ShiftOperator, Typed, UnaryOperator};
 use verilog_ast::Child;

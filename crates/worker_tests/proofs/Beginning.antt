@@ -8,7 +8,7 @@ use Rattle.book_history.specs.Readers.{IsOpened, links_in}
 use Rattle.book_history.specs.Rooms.{Counts, count_all, no_entry}
 use Rattle.book_history.proofs.Outlines.{owned_counts}
 use Rattle.book_history.proofs.Prefixes.{count-append}
-use Rattle.book_settle.proofs.Counting.{settle_counts}
+use Rattle.segment_verify.proofs.Counting.{settle_counts}
 use Rattle.book_turn.specs.Known.{Known, begun}
 use Rattle.book_turn.specs.Rule.{Learned}
 use Rattle.checkpoint_book.specs.Views.{book_of, counts_of, HasSessionRoom}

@@ -3,18 +3,18 @@ ghost use Rattle.std.specs.Prelude.{◌≡◌, ◌<◌, false, OnOk};
 ghost use Rattle.checkpoint_book.specs.Views.{counts_of};
 
 use crate::tally_book::reloaded;
-use book_settle::settle;
 use checkpoint_book::book::Book;
 use checkpoint_book::shown::Shown;
 use machine::steps::Steps;
 use machine::tally::TallyMachine;
+use segment_verify::settle;
 use std::alloc::Global;
 use std::marker::Brand;
 use std::sync::ledger::{Blank, Ledger};
 use std::test::Fail;
 
 /// What a settle answers, and behind it the last mark's state and the room that the session has left.
-#[tactic(auto, using(book_settle::proofs::Settling::settled_open))]
+#[tactic(auto, using(segment_verify::proofs::Settling::settled_open))]
 fn settled<L: Ledger>(
     book: &mut Book<TallyMachine>,
     alloc: Global,

@@ -5,11 +5,11 @@ ghost use Rattle.checkpoint_book.specs.Views.{counts_of};
 use book_history::rooms::Rooms;
 use book_history::version::Version;
 use checkpoint_book::book::Book;
+use ls_text::NoMemory;
 use machine::row_run::RowRun;
 use machine::row_runs::RowRuns;
 use machine::steps::Steps;
 use machine::tally::TallyMachine;
-use no_memory::NoMemory;
 use std::alloc::Global;
 use std::sync::Arc;
 use std::sync::ledger::Ledger;
@@ -28,7 +28,7 @@ fn adds(
 }
 
 /// The first version of a book without entries, whose machine adds 3.
-#[tactic(auto, using(book_settle::proofs::Settling::still_open))]
+#[tactic(auto, using(segment_verify::proofs::Settling::still_open))]
 fn begin(book: &mut Book<TallyMachine>, alloc: Global) -> Result<(), Fail>
     requires { book.old.events ≡ [] }
     ensures { OnOk result ((counts_of book.new).closed ≡ false) }
@@ -41,7 +41,7 @@ fn begin(book: &mut Book<TallyMachine>, alloc: Global) -> Result<(), Fail>
 }
 
 /// Runs five cycles over rows of 0.
-#[tactic(auto, using(book_settle::proofs::Settling::still_open))]
+#[tactic(auto, using(segment_verify::proofs::Settling::still_open))]
 fn run_five<L: Ledger>(
     book: &mut Book<TallyMachine>,
     alloc: Global,
@@ -69,7 +69,7 @@ fn run_five<L: Ledger>(
 }
 
 /// The next version, whose machine adds 4.
-#[tactic(auto, using(book_settle::proofs::Settling::still_open))]
+#[tactic(auto, using(segment_verify::proofs::Settling::still_open))]
 fn reload<L: Ledger>(
     book: &mut Book<TallyMachine>,
     alloc: Global,

@@ -4,11 +4,11 @@ ghost use Rattle.machine.specs.Tally.{tally_after};
 ghost use Rattle.machine.specs.TallyLaws.{tally_more, eqb_is};
 
 use crate::watch::Watch;
+use ls_text::NoMemory;
 use machine::Machine;
 use machine::row_runs::RowRuns;
 use machine::steps::Steps;
 use machine::tally::TallyMachine;
-use no_memory::NoMemory;
 use std::alloc::Global;
 use std::sync::ledger::Ledger;
 

@@ -1,6 +1,6 @@
 use Rattle.std.proofs.Common.{◌≡◌, ◌<◌, ◌+◌, ◌-◌, map, length, drop, refl, sym, subst, arith}
 use Rattle.typed_ir.specs.Statements.{stmt_of, arm_of, item_of, sequence_of, arms_before}
-use Rattle.step_layout.specs.Statements.{item_constants, stmt_constants, arm_constants}
+use Rattle.design_steps.specs.Statements.{item_constants, stmt_constants, arm_constants}
 use Rattle.design_steps.specs.Pooled.{Holds}
 use Rattle.design_steps.proofs.Holding.{holds_next, holds_arm, both_ok}
 use Rattle.design_steps.proofs.constant_walk.+pool_nested.Goals as goal

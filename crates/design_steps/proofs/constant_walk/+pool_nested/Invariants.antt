@@ -2,7 +2,7 @@
 use Rattle.std.proofs.Common.{◌≤◌, ◌+◌, ◌*◌, max, map, drop, length}
 use Rattle.typed_ir.specs.Statements.{stmt_of, arm_of, sequence_of, arms_before}
 use Rattle.typed_ir.proofs.stmt.Stmt.TheLaws.{the_size}
-use Rattle.step_layout.specs.Statements.{stmt_constants, arm_constants}
+use Rattle.design_steps.specs.Statements.{stmt_constants, arm_constants}
 use Rattle.design_steps.specs.Pooled.{Holds}
 use Rattle.design_steps.proofs.constant_walk.+pool_nested.Given as goal
 

@@ -1,7 +1,7 @@
 use Rattle.std.proofs.Common.{◌≡◌, ◌<◌, ◌+◌, ◌-◌, ◌++◌, [], ◌∷◌, map, length, drop, refl, sym, subst, arith}
 use Rattle.typed_ir.specs.Statements.{item_of}
-use Rattle.step_layout.specs.Expressions.{constants_of}
-use Rattle.step_layout.specs.Statements.{item_constants}
+use Rattle.design_steps.specs.Expressions.{constants_of}
+use Rattle.design_steps.specs.Statements.{item_constants}
 use Rattle.design_steps.specs.Pooled.{Holds}
 use Rattle.design_steps.proofs.Holding.{holds_next}
 use Rattle.design_steps.proofs.constant_walk.pool_items.Goals as goal

@@ -1,6 +1,6 @@
 use Rattle.std.proofs.Common.{◌≤◌, map, drop, length}
 use Rattle.typed_ir.specs.Statements.{item_of}
-use Rattle.step_layout.specs.Statements.{item_constants}
+use Rattle.design_steps.specs.Statements.{item_constants}
 use Rattle.design_steps.specs.Pooled.{Holds}
 use Rattle.design_steps.proofs.constant_walk.pool_items.Given as goal
 

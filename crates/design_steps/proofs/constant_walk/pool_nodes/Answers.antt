@@ -1,7 +1,7 @@
 use Rattle.std.proofs.Common.{◌≡◌, ◌<◌, ◌+◌, ◌-◌, map, length, drop, refl, sym, subst, arith}
 use Rattle.typed_ir.specs.FlatNodes.{node_of}
-use Rattle.step_layout.specs.Nodes.{as_statement}
-use Rattle.step_layout.specs.Statements.{stmt_constants}
+use Rattle.design_steps.specs.Nodes.{as_statement}
+use Rattle.design_steps.specs.Statements.{stmt_constants}
 use Rattle.design_steps.specs.Pooled.{Holds, nodes_constants}
 use Rattle.design_steps.proofs.Holding.{holds_next}
 use Rattle.design_steps.proofs.constant_walk.pool_nodes.Goals as goal

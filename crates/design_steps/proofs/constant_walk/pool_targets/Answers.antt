@@ -1,6 +1,6 @@
 use Rattle.std.proofs.Common.{◌≡◌, ◌<◌, ◌+◌, ◌-◌, length, drop, refl, sym, subst, arith}
 use Rattle.typed_ir.specs.Targets.{target_of, targets_of}
-use Rattle.step_layout.specs.Statements.{part_constants, target_constants}
+use Rattle.design_steps.specs.Statements.{part_constants, target_constants}
 use Rattle.design_steps.specs.Pooled.{Holds}
 use Rattle.design_steps.proofs.Holding.{holds_next}
 use Rattle.design_steps.proofs.constant_walk.pool_targets.Goals as goal

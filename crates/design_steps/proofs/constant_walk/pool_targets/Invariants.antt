@@ -1,6 +1,6 @@
 use Rattle.std.proofs.Common.{◌≤◌, drop, length}
 use Rattle.typed_ir.specs.Targets.{targets_of}
-use Rattle.step_layout.specs.Statements.{target_constants}
+use Rattle.design_steps.specs.Statements.{target_constants}
 use Rattle.design_steps.specs.Pooled.{Holds}
 use Rattle.design_steps.proofs.constant_walk.pool_targets.Given as goal
 

@@ -1,8 +1,8 @@
 use Rattle.std.proofs.Common.{subst, sym, ap, ◌∙◌, arith, true, ◌≡◌, map, length, rules}
 use Rattle.typed_ir.specs.Statements.{stmt_of, sequence_of}
-use Rattle.step_layout.specs.Statements.{stmt_code}
-use Rattle.step_layout.specs.Nodes.{nodes_code}
-use Rattle.step_layout.specs.Views.{plan_of}
+use Rattle.design_steps.specs.Statements.{stmt_code}
+use Rattle.design_steps.specs.Nodes.{nodes_code}
+use Rattle.design_steps.specs.Views.{plan_of}
 use Rattle.design_steps.specs.declared.program.Program.{Program}
 use Rattle.design_steps.specs.Layings.{LaysOut, clocking_plan, mark_of}
 use Rattle.design_steps.specs.Moves.{moved_step, gathered}

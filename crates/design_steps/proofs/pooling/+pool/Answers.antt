@@ -2,7 +2,7 @@ use Rattle.std.proofs.Common.{◌≡◌, ◌≤◌, ◌*◌, ◌/◌, ◌==◌, 
 use Rattle.std.proofs.lemmas.Bool.{eqb-true, leb-true}
 use Rattle.typed_ir.specs.Sized.{width_of, agrees, copies}
 use Rattle.typed_ir.specs.Forms.{sized}
-use Rattle.step_layout.proofs.Fits.{agree_three, widths_right}
+use Rattle.design_steps.proofs.Fits.{agree_three, widths_right}
 use Rattle.design_steps.specs.Pooled.{Holds}
 use Rattle.design_steps.proofs.Holding.{both_ok, part_width}
 use Rattle.design_steps.proofs.pooling.+pool.Goals as goal

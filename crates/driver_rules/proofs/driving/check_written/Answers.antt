@@ -2,9 +2,9 @@ use Rattle.std.proofs.Common.{◌≡◌, ◌<◌, ◌∙◌, ◌&&◌, ℕ, List
 use Rattle.ls_text.specs.declared.fault.Fault.{Fault}
 use Rattle.std.specs.Vec.{vec_len}
 use Rattle.width_rules.specs.Faults.{IsFirst}
-use Rattle.unit_ir.specs.declared.typed_item.TypedItem.{TypedItem}
-use Rattle.unit_ir.specs.declared.signal_declaration.SignalDeclaration.{SignalDeclaration}
-use Rattle.unit_ir.specs.Items.{item_of}
+use Rattle.typed_ir.specs.declared.typed_item.TypedItem.{TypedItem}
+use Rattle.typed_ir.specs.declared.signal_declaration.SignalDeclaration.{SignalDeclaration}
+use Rattle.typed_ir.specs.Items.{item_of}
 use Rattle.driver_rules.specs.Targets.{flag_at, is_settled, all_target_faults}
 use Rattle.driver_rules.proofs.Empty.{checked_is}
 use Rattle.driver_rules.proofs.driving.check_written.Goals as goal

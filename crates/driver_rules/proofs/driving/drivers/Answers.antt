@@ -1,6 +1,6 @@
 use Rattle.std.proofs.Common.{◌++◌}
 use Rattle.typed_ir.specs.Valuations.{nowhere}
-use Rattle.unit_ir.specs.Items.{items_of}
+use Rattle.typed_ir.specs.Items.{items_of}
 use Rattle.width_rules.proofs.Firsts.{neither}
 use Rattle.driver_rules.specs.Targets.{is_settled, all_target_faults}
 use Rattle.driver_rules.specs.Doubles.{double_faults}

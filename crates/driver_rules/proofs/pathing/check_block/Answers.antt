@@ -3,8 +3,8 @@ use Rattle.std.proofs.lemmas.Result.{IfErr-weaker, on_ok_weaker}
 use Rattle.ls_text.specs.declared.fault.Fault.{Fault}
 use Rattle.ls_text.specs.declared.refusal.Refusal.{Refusal}
 use Rattle.typed_ir.specs.Statements.{stmt_of}
-use Rattle.unit_ir.specs.declared.mention.Mention.{Mention}
-use Rattle.unit_ir.specs.Units.{signal_within}
+use Rattle.typed_ir.specs.declared.mention.Mention.{Mention}
+use Rattle.typed_ir.specs.Units.{signal_within}
 use Rattle.width_rules.specs.Faults.{IsFirst}
 use Rattle.width_rules.proofs.Firsts.{later, neither}
 use Rattle.typed_ir.specs.Orders.{is_member}

@@ -1,5 +1,5 @@
 use Rattle.std.proofs.Common.{length}
-use Rattle.unit_ir.specs.Items.{PlacedItem}
+use Rattle.typed_ir.specs.Items.{PlacedItem}
 use Rattle.driver_rules.specs.Writes.{AreWithin, spans_of}
 use Rattle.driver_rules.proofs.Walks.{each_item}
 use Rattle.driver_rules.proofs.pathing.check_items.Goals as goal

@@ -1,7 +1,7 @@
 use Rattle.std.proofs.Common.{◌≡◌, map, drop, length}
 use Rattle.block_rules.specs.Tables.{signals_of, AreBlank}
-use Rattle.unit_ir.specs.Items.{item_of}
-use Rattle.unit_ir.specs.Units.{signal_within}
+use Rattle.typed_ir.specs.Items.{item_of}
+use Rattle.typed_ir.specs.Units.{signal_within}
 use Rattle.driver_rules.specs.Blocks.{block_faults}
 use Rattle.driver_rules.proofs.pathing.check_items.Given as goal
 

@@ -1,7 +1,7 @@
 use Rattle.std.proofs.Common.{None, map, ap, sym, ◌∙◌}
 use Rattle.typed_ir.specs.Cycles.{Signal}
-use Rattle.unit_ir.specs.declared.unit_signal.UnitSignal.{UnitSignal}
-use Rattle.unit_ir.specs.Units.{signal_within}
+use Rattle.typed_ir.specs.declared.unit_signal.UnitSignal.{UnitSignal}
+use Rattle.typed_ir.specs.Units.{signal_within}
 use Rattle.driver_rules.specs.Blocks.{first_of, name_at}
 use Rattle.driver_rules.proofs.Lists.{at_or_get, at_or_past, at_or_mapped}
 use Rattle.driver_rules.proofs.pathing.name_at.Goals as goal

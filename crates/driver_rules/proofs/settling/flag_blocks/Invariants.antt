@@ -1,5 +1,5 @@
 use Rattle.std.proofs.Common.{◌≡◌, ◌&&◌, ◌||◌, ℕ, nat_lt, length, map, drop}
-use Rattle.unit_ir.specs.Items.{item_of}
+use Rattle.typed_ir.specs.Items.{item_of}
 use Rattle.driver_rules.specs.Targets.{flag_at, is_settled}
 use Rattle.driver_rules.proofs.settling.flag_blocks.Given as goal
 

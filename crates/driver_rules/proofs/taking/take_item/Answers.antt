@@ -3,8 +3,8 @@ use Rattle.ls_text.specs.declared.fault.Fault.{Fault}
 use Rattle.ls_text.proofs.Cases.{any_ok}
 use Rattle.typed_ir.specs.declared.span.Span.{Span}
 use Rattle.typed_ir.specs.Valuations.{any_within}
-use Rattle.unit_ir.specs.declared.mention.Mention.{Mention}
-use Rattle.unit_ir.specs.Items.{item_of}
+use Rattle.typed_ir.specs.declared.mention.Mention.{Mention}
+use Rattle.typed_ir.specs.Items.{item_of}
 use Rattle.width_rules.specs.declared.writer.Writer.{Writer}
 use Rattle.width_rules.specs.Faults.{IsFirst}
 use Rattle.block_rules.specs.Paths.{places_of_true}

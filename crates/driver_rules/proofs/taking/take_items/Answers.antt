@@ -2,8 +2,8 @@ use Rattle.std.proofs.Common.{◌≡◌, ◌<◌, ◌+◌, ◌∙◌, ℕ, List,
 use Rattle.std.proofs.lemmas.List.{at_drop_all, take_all, map_push}
 use Rattle.typed_ir.specs.Valuations.{nowhere}
 use Rattle.typed_ir.proofs.Lists.{take_next}
-use Rattle.unit_ir.specs.declared.typed_item.TypedItem.{TypedItem}
-use Rattle.unit_ir.specs.Items.{PlacedItem, item_of, body_of}
+use Rattle.typed_ir.specs.declared.typed_item.TypedItem.{TypedItem}
+use Rattle.typed_ir.specs.Items.{PlacedItem, item_of, body_of}
 use Rattle.driver_rules.specs.declared.driver.Driver.{Driver}
 use Rattle.driver_rules.specs.declared.driver_id.DriverId.{DriverId}
 use Rattle.driver_rules.specs.declared.numbers.Numbers.{Numbers}

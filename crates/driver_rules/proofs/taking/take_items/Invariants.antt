@@ -1,6 +1,6 @@
 use Rattle.std.proofs.Common.{◌≡◌, map, drop, take}
 use Rattle.typed_ir.specs.Valuations.{nowhere}
-use Rattle.unit_ir.specs.Items.{item_of}
+use Rattle.typed_ir.specs.Items.{item_of}
 use Rattle.driver_rules.specs.Doubles.{double_faults}
 use Rattle.driver_rules.specs.Told.{marked}
 use Rattle.driver_rules.proofs.Taken.{State}

@@ -1,7 +1,7 @@
 use Rattle.std.proofs.Common.{◌≡◌, ◌∙◌, ℕ, List, IfErr, not, map, ap, ap₂, subst}
 use Rattle.ls_text.specs.declared.fault.Fault.{Fault}
-use Rattle.unit_ir.specs.declared.mention.Mention.{Mention}
-use Rattle.unit_ir.specs.Items.{item_of}
+use Rattle.typed_ir.specs.declared.mention.Mention.{Mention}
+use Rattle.typed_ir.specs.Items.{item_of}
 use Rattle.width_rules.specs.declared.writer.Writer.{Writer}
 use Rattle.width_rules.specs.Faults.{IsFirst}
 use Rattle.block_rules.specs.Paths.{places_of_true}

@@ -1,5 +1,5 @@
 use Rattle.std.proofs.Common.{◌≡◌, map, drop}
-use Rattle.unit_ir.specs.Items.{item_of}
+use Rattle.typed_ir.specs.Items.{item_of}
 use Rattle.driver_rules.specs.Targets.{flag_at, all_target_faults}
 use Rattle.driver_rules.proofs.targeting.check_targets.Given as goal
 

@@ -1,6 +1,6 @@
 use Rattle.std.proofs.Common.{false, sym, ◌∙◌, ap}
 use Rattle.typed_ir.specs.Orders.{at_or}
-use Rattle.unit_ir.specs.declared.signal_declaration.SignalDeclaration.{SignalDeclaration}
+use Rattle.typed_ir.specs.declared.signal_declaration.SignalDeclaration.{SignalDeclaration}
 use Rattle.driver_rules.specs.Targets.{is_variable_kind}
 use Rattle.driver_rules.proofs.Lists.{at_or_get, at_or_past}
 use Rattle.driver_rules.proofs.targeting.is_variable.Goals as goal

@@ -1,6 +1,6 @@
 use Rattle.std.proofs.Common.{◌≡◌, ◌++◌, map, drop}
 use Rattle.typed_ir.specs.Statements.{stmt_of}
-use Rattle.unit_ir.specs.Shifts.{shifted_stmt}
+use Rattle.typed_ir.specs.Shifts.{shifted_stmt}
 use Rattle.link.proofs.copying.add_blocks.Given as goal
 
 abbrev pub invariant-loop-block : goal.invariant-loop-block

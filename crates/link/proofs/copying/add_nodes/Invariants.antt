@@ -1,7 +1,7 @@
 use Rattle.std.proofs.Common.{◌≡◌, ◌++◌, map, drop, slice_index}
 use Rattle.typed_ir.specs.FlatNodes.{node_of}
-use Rattle.unit_ir.specs.Trees.{node_there}
-use Rattle.unit_ir.specs.Units.{unit_node_of}
+use Rattle.typed_ir.specs.Trees.{node_there}
+use Rattle.typed_ir.specs.Units.{unit_node_of}
 use Rattle.link.proofs.copying.add_nodes.Given as goal
 
 abbrev pub invariant-loop-node : goal.invariant-loop-node

@@ -1,8 +1,8 @@
 use Rattle.std.proofs.Common.{List, ◌∷◌, [], map, refl, ◌∙◌, ap, arith}
 use Rattle.typed_ir.specs.Flats.{signal_of, are_within}
-use Rattle.unit_ir.specs.declared.unit_signal.UnitSignal.{UnitSignal}
-use Rattle.unit_ir.specs.Trees.{signal_there}
-use Rattle.unit_ir.specs.Units.{signal_within}
+use Rattle.typed_ir.specs.declared.unit_signal.UnitSignal.{UnitSignal}
+use Rattle.typed_ir.specs.Trees.{signal_there}
+use Rattle.typed_ir.specs.Units.{signal_within}
 use Rattle.link.specs.Copies.{path_at}
 use Rattle.link.proofs.Steps.{stepped, pushed}
 use Rattle.link.proofs.Making.{within_more}

@@ -1,8 +1,8 @@
 use Rattle.std.proofs.Common.{◌≡◌, ◌++◌, ◌<◌, ℕ, List, map, drop}
 use Rattle.typed_ir.specs.declared.instance_name.InstanceName.{InstanceName}
 use Rattle.typed_ir.specs.Flats.{signal_of, are_within}
-use Rattle.unit_ir.specs.Trees.{signal_there}
-use Rattle.unit_ir.specs.Units.{signal_within}
+use Rattle.typed_ir.specs.Trees.{signal_there}
+use Rattle.typed_ir.specs.Units.{signal_within}
 use Rattle.link.specs.Copies.{path_at}
 use Rattle.link.proofs.copying.add_signals.Given as goal
 

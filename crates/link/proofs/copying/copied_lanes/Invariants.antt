@@ -1,5 +1,5 @@
 use Rattle.std.proofs.Common.{◌≡◌, ◌++◌, map, drop}
-use Rattle.unit_ir.specs.Shifts.{shifted_lane}
+use Rattle.typed_ir.specs.Shifts.{shifted_lane}
 use Rattle.link.proofs.copying.copied_lanes.Given as goal
 
 abbrev pub invariant-loop-lane : goal.invariant-loop-lane

@@ -1,5 +1,5 @@
 use Rattle.std.proofs.Common.{◌≡◌, ◌<◌, ◌≤◌, ◌-◌, length, ◌∙◌, ap, rules}
-use Rattle.unit_ir.specs.declared.unit.Unit.{Unit as Unit'}
+use Rattle.typed_ir.specs.declared.unit.Unit.{Unit as Unit'}
 use Rattle.link.proofs.Walking.{few_next, few_over}
 use Rattle.link.proofs.flattening.are_few.Goals as goal
 

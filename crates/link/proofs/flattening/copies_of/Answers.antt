@@ -4,12 +4,12 @@ use Rattle.typed_ir.specs.Flats.{signal_of}
 use Rattle.typed_ir.specs.FlatNodes.{node_of}
 use Rattle.typed_ir.specs.Statements.{stmt_of}
 use Rattle.typed_ir.specs.Rows.{row_in}
-use Rattle.unit_ir.specs.declared.unit.Unit.{Unit as Unit'}
-use Rattle.unit_ir.specs.declared.unit_node.UnitNode.{UnitNode}
-use Rattle.unit_ir.specs.declared.unit_signal.UnitSignal.{UnitSignal}
-use Rattle.unit_ir.specs.Shifts.{shifted_stmt}
-use Rattle.unit_ir.specs.Trees.{signals_at, registers_at, nodes_at, blocks_at, node_there, signal_there}
-use Rattle.unit_ir.specs.Units.{signal_within, unit_node_of}
+use Rattle.typed_ir.specs.declared.unit.Unit.{Unit as Unit'}
+use Rattle.typed_ir.specs.declared.unit_node.UnitNode.{UnitNode}
+use Rattle.typed_ir.specs.declared.unit_signal.UnitSignal.{UnitSignal}
+use Rattle.typed_ir.specs.Shifts.{shifted_stmt}
+use Rattle.typed_ir.specs.Trees.{signals_at, registers_at, nodes_at, blocks_at, node_there, signal_there}
+use Rattle.typed_ir.specs.Units.{signal_within, unit_node_of}
 use Rattle.link.specs.Copies.{path_at}
 use Rattle.link.proofs.Walking.{unit_stepped, all_stepped}
 use Rattle.link.proofs.flattening.copies_of.Goals as goal

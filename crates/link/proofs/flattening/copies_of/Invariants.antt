@@ -4,7 +4,7 @@ use Rattle.typed_ir.specs.Flats.{signal_of, are_within}
 use Rattle.typed_ir.specs.FlatNodes.{node_of}
 use Rattle.typed_ir.specs.Statements.{stmt_of}
 use Rattle.typed_ir.specs.Rows.{row_in}
-use Rattle.unit_ir.specs.Trees.{signals_at, registers_at, nodes_at, blocks_at}
+use Rattle.typed_ir.specs.Trees.{signals_at, registers_at, nodes_at, blocks_at}
 use Rattle.link.specs.Copies.{all_sized, copied_from, path_at}
 use Rattle.link.specs.Listings.{all_parts}
 use Rattle.link.proofs.flattening.copies_of.Given as goal

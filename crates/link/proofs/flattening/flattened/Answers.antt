@@ -2,7 +2,7 @@ use Rattle.std.proofs.Common.{◌≡◌, ◌<◌, List, length, sym, ◌∙◌, 
 use Rattle.std.proofs.Math.Logic.{∥∥₁_elim, ∥∥₁_map}
 use Rattle.std.proofs.Props.{props}
 use Rattle.typed_ir.specs.Rows.{row_in}
-use Rattle.unit_ir.specs.declared.instance.Instance.{Instance}
+use Rattle.typed_ir.specs.declared.instance.Instance.{Instance}
 use Rattle.link.specs.Copies.{kids_in, places_of}
 use Rattle.link.specs.Listings.{all_parts, entries_of}
 use Rattle.link.proofs.Forests.{rooted}

@@ -7,7 +7,7 @@ use Rattle.module_registry.specs.Views.{entries_of}
 use Rattle.book_history.specs.declared.version.Version.{Version}
 use Rattle.cycle_eval.specs.declared.design.Design.{Design}
 use Rattle.command_read.specs.declared.op_line.OpLine.{OpLine}
-use Rattle.unit_laws.proofs.HeldUnits.{grown_held}
+use Rattle.version_swap.proofs.HeldUnits.{grown_held}
 use Rattle.version_swap.specs.Files as numbered
 use Rattle.version_swap.specs.Operations.{AreValidBetween, IsEditFault, IsEditRefusal, ops_of}
 use Rattle.version_swap.proofs.Short.{short_behind}

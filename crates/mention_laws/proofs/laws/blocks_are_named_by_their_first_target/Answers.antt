@@ -1,5 +1,5 @@
 use Rattle.verilog_ast.specs.Views.{statement_of}
-use Rattle.size_laws.proofs.Trees.{statement_is_written}
+use Rattle.statement_rules.proofs.Trees.{statement_is_written}
 use Rattle.mention_laws.proofs.ShownTargets.{is_shown, is_writing, is_own}
 use Rattle.mention_laws.proofs.Trees.{statement_is_placed}
 use Rattle.mention_laws.proofs.laws.blocks_are_named_by_their_first_target.Goals as goal

@@ -2,15 +2,15 @@ use Rattle.std.proofs.Common.{◌≡◌, List, length, sym, ◌∙◌, ap}
 use Rattle.std.proofs.lemmas.List.{length-map}
 use Rattle.typed_ir.specs.declared.span.Span.{Span}
 use Rattle.typed_ir.specs.Stmts.{targets, later_targets}
-use Rattle.unit_ir.specs.declared.mention.Mention.{Mention}
+use Rattle.typed_ir.specs.declared.mention.Mention.{Mention}
 use Rattle.verilog_ast.specs.Views.{statement_of, target_of}
 use Rattle.width_rules.specs.declared.writer.Writer.TheVariants.{Clocked, Combinational}
 use Rattle.width_rules.specs.Scopes.{Scope}
 use Rattle.statement_rules.specs.Statements.{sized_statement}
-use Rattle.size_laws.proofs.Trees.{target_is_written, statement_is_written}
+use Rattle.statement_rules.proofs.Trees.{target_is_written, statement_is_written}
 use Rattle.mention_laws.specs.Leaves.{statement_leaves, number_of, signals_of, signals_named}
-use Rattle.item_mentions.specs.Mentions.{statement_reads, statement_targets}
-use Rattle.item_mentions.specs.Names.{target_names}
+use Rattle.width_rules.specs.Mentions.{statement_reads, statement_targets}
+use Rattle.width_rules.specs.Names.{target_names}
 use Rattle.mention_laws.proofs.Connections.{target_same}
 use Rattle.mention_laws.proofs.Flags.{block_flags}
 use Rattle.mention_laws.proofs.StatementLeaves.{numbered_same, reads_same, targets_same, later_same}

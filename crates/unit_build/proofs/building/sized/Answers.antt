@@ -1,9 +1,9 @@
 use Rattle.std.proofs.Common.{◌≡◌, ◌∙◌, List, map, ap₂, rules}
 use Rattle.gen_unroll.specs.Views.{step_of}
-use Rattle.sized_items.specs.DeclaredValues.{InitialValue}
-use Rattle.sized_items.specs.Views.{initial_of}
-use Rattle.unit_ir.specs.Items.{PlacedItem, item_of}
-use Rattle.unit_names.specs.ModuleViews.{table_in}
+use Rattle.statement_rules.specs.DeclaredValues.{InitialValue}
+use Rattle.statement_rules.specs.Views.{initial_of}
+use Rattle.typed_ir.specs.Items.{PlacedItem, item_of}
+use Rattle.gen_unroll.specs.ModuleViews.{table_in}
 use Rattle.unit_build.specs.Building.{job_items, job_initials, placed}
 use Rattle.unit_build.proofs.building.sized.Goals as goal
 

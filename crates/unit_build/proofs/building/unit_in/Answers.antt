@@ -4,8 +4,8 @@ use Rattle.ls_text.specs.Answers.{Answers}
 use Rattle.gen_unroll.specs.Views.{step_of}
 use Rattle.module_registry.specs.Building.{Built}
 use Rattle.module_registry.specs.UnitViews.{built_of}
-use Rattle.unit_names.specs.ModuleViews.{table_in}
-use Rattle.unit_names.specs.Numbers.{module_table}
+use Rattle.gen_unroll.specs.ModuleViews.{table_in}
+use Rattle.gen_unroll.specs.Numbers.{module_table}
 use Rattle.unit_build.specs.Building.{module_of, settled_signals}
 use Rattle.unit_build.proofs.Unrolling.{from_table}
 use Rattle.unit_build.proofs.building.unit_in.Goals as goal

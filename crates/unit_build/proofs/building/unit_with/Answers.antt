@@ -1,5 +1,5 @@
 use Rattle.std.proofs.Common.{◌∙◌}
-use Rattle.unit_ir.specs.Items.{items_of}
+use Rattle.typed_ir.specs.Items.{items_of}
 use Rattle.unit_build.proofs.Making.{is_sound, is_sized}
 use Rattle.unit_build.proofs.building.unit_with.Goals as goal
 

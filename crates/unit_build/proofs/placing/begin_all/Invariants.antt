@@ -1,6 +1,6 @@
 use Rattle.std.proofs.Common.{◌≡◌, map, drop}
-use Rattle.unit_ir.specs.Units.{signal_within}
-use Rattle.sized_items.specs.Views.{initial_of}
+use Rattle.typed_ir.specs.Units.{signal_within}
+use Rattle.statement_rules.specs.Views.{initial_of}
 use Rattle.unit_build.specs.Building.{with_initials}
 use Rattle.unit_build.proofs.placing.begin_all.Given as goal
 

@@ -1,11 +1,11 @@
 use Rattle.std.proofs.Common.{◌≡◌, ◌&&◌, ◌∙◌, ℕ, Bool, IfOk, List, nat_lt, length, map, sym, ap, subst, rules}
 use Rattle.std.proofs.lemmas.List.{length-map}
 use Rattle.driver_rules.specs.Targets.{is_settled as is_settled_by}
-use Rattle.unit_ir.specs.Items.{item_of}
-use Rattle.unit_names.specs.ModuleViews.{table_in}
-use Rattle.unit_names.specs.SignalViews.{signal_of}
-use Rattle.unit_names.specs.UnitLists.{registers}
-use Rattle.unit_names.specs.UnitReaches.{is_settled}
+use Rattle.typed_ir.specs.Items.{item_of}
+use Rattle.gen_unroll.specs.ModuleViews.{table_in}
+use Rattle.gen_unroll.specs.SignalViews.{signal_of}
+use Rattle.gen_unroll.specs.UnitLists.{registers}
+use Rattle.gen_unroll.specs.UnitReaches.{is_settled}
 use Rattle.unit_build.proofs.Registers.{same_registers}
 use Rattle.unit_build.proofs.placing.registers_of.Goals as goal
 

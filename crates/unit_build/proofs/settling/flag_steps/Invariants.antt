@@ -1,9 +1,9 @@
 use Rattle.std.proofs.Common.{◌≡◌, [], map, drop}
 use Rattle.gen_unroll.specs.Reaches.{IsEven}
 use Rattle.gen_unroll.specs.Views.{step_of}
-use Rattle.unit_names.specs.ModuleViews.{signals_in}
-use Rattle.unit_names.specs.UnitReaches.{is_settled, writer_of}
-use Rattle.unit_names.specs.UnitReachViews.{unit_reach_of}
+use Rattle.gen_unroll.specs.ModuleViews.{signals_in}
+use Rattle.gen_unroll.specs.UnitReaches.{is_settled, writer_of}
+use Rattle.gen_unroll.specs.UnitReachViews.{unit_reach_of}
 use Rattle.unit_build.specs.Settled.{flag_steps}
 use Rattle.unit_build.proofs.settling.flag_steps.Given as goal
 

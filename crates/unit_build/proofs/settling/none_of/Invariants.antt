@@ -1,5 +1,5 @@
 use Rattle.std.proofs.Common.{◌≡◌, ◌++◌, map, drop}
-use Rattle.unit_names.specs.SignalViews.{signal_of}
+use Rattle.gen_unroll.specs.SignalViews.{signal_of}
 use Rattle.unit_build.specs.Settled.{none_of}
 use Rattle.unit_build.proofs.settling.none_of.Given as goal
 

@@ -1,8 +1,8 @@
 use Rattle.std.proofs.Common.{◌≡◌, ◌++◌, map}
 use Rattle.std.specs.Vec.Iter.{into_iter_items}
 use Rattle.typed_ir.specs.Statements.{stmt_of}
-use Rattle.unit_ir.specs.Items.{item_of, nodes_in, blocks_in}
-use Rattle.unit_ir.specs.Units.{unit_node_of}
+use Rattle.typed_ir.specs.Items.{item_of, nodes_in, blocks_in}
+use Rattle.typed_ir.specs.Units.{unit_node_of}
 use Rattle.unit_build.proofs.splitting.add_items.Given as goal
 
 abbrev pub invariant-loop-item : goal.invariant-loop-item

@@ -1,6 +1,6 @@
 use Rattle.std.proofs.Common.{◌≡◌, ◌++◌, map}
 use Rattle.std.specs.Vec.Iter.{into_iter_items}
-use Rattle.unit_ir.specs.Items.{item_of}
+use Rattle.typed_ir.specs.Items.{item_of}
 use Rattle.unit_build.proofs.stepping.add_items.Given as goal
 
 abbrev pub invariant-loop-item : goal.invariant-loop-item

@@ -1,10 +1,10 @@
 use Rattle.std.proofs.Common.{◌≡◌, ◌++◌, map, drop}
-use Rattle.unit_ir.specs.Items.{item_of}
+use Rattle.typed_ir.specs.Items.{item_of}
 use Rattle.gen_unroll.specs.Reaches.{IsEven}
 use Rattle.gen_unroll.specs.Views.{step_of}
-use Rattle.unit_names.specs.ModuleViews.{signals_in}
-use Rattle.unit_names.specs.UnitReaches.{is_settled, writer_of}
-use Rattle.sized_items.specs.Views.{initial_of}
+use Rattle.gen_unroll.specs.ModuleViews.{signals_in}
+use Rattle.gen_unroll.specs.UnitReaches.{is_settled, writer_of}
+use Rattle.statement_rules.specs.Views.{initial_of}
 use Rattle.unit_build.specs.Walks.{walk_faults, walk_items, walk_initials}
 use Rattle.unit_build.specs.WalkViews.{walk_of}
 use Rattle.unit_build.proofs.walking.size_all.Given as goal

@@ -1,6 +1,6 @@
 use Rattle.std.proofs.Common.{◌≡◌, ◌∷◌, List, Vec, Global, map, ap, ◌∙◌, rules}
 use Rattle.std.proofs.lemmas.List.{map_push}
-use Rattle.unit_ir.specs.declared.child_shape.ChildShape.{ChildShape}
+use Rattle.typed_ir.specs.declared.child_shape.ChildShape.{ChildShape}
 use Rattle.unit_jobs.specs.Rows.{row_of}
 use Rattle.unit_jobs.specs.TableViews.{modules_of}
 use Rattle.unit_jobs.specs.UnnamedViews.{unnamed_view}

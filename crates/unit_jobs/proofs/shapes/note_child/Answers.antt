@@ -1,7 +1,7 @@
 use Rattle.std.proofs.Common.{◌++◌, ◌∷◌, [], ℕ, Some, Option, cond, ap, sym, ◌∙◌}
 use Rattle.typed_ir.specs.Rows.{row_in}
 use Rattle.typed_ir.proofs.Rows.{row_pushed}
-use Rattle.unit_ir.specs.Shapes.{stands_in}
+use Rattle.typed_ir.specs.Shapes.{stands_in}
 use Rattle.unit_jobs.proofs.shapes.note_child.Goals as goal
 
 pub returns-in_ok-push : goal.returns-in_ok-push

@@ -1,7 +1,7 @@
 use Rattle.std.proofs.Common.{◌≡◌, ◌++◌, ◌<◌, ℕ, List, Vec, Global, length, map, ap, subst, ◌∙◌, rules}
 use Rattle.typed_ir.specs.Rows.{row_in}
 use Rattle.typed_ir.proofs.Lists.{written_back}
-use Rattle.unit_ir.specs.declared.child_shape.ChildShape.{ChildShape}
+use Rattle.typed_ir.specs.declared.child_shape.ChildShape.{ChildShape}
 use Rattle.unit_jobs.specs.Rows.{row_of, shapes_in}
 use Rattle.unit_jobs.proofs.Rows.{rows_all}
 use Rattle.unit_jobs.proofs.shapes.shapes_within.Goals as goal

@@ -1,5 +1,5 @@
 use Rattle.std.proofs.Common.{◌≡◌, drop}
-use Rattle.unit_ir.specs.Shapes.{data_inputs}
+use Rattle.typed_ir.specs.Shapes.{data_inputs}
 use Rattle.unit_rows.proofs.standing.are_inputs.Given as goal
 
 abbrev pub invariant-loop-place : goal.invariant-loop-place

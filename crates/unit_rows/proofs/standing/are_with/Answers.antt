@@ -2,7 +2,7 @@ use Rattle.std.proofs.Common.{rules, ◌≡◌, ◌∷◌, ◌+◌, List, length
 use Rattle.std.proofs.lemmas.List.{drop_all, nil_from_length}
 use Rattle.link.specs.Listings.{parts_of}
 use Rattle.typed_ir.proofs.Lists.{drop_read}
-use Rattle.unit_ir.specs.declared.child_shape.ChildShape.{ChildShape}
+use Rattle.typed_ir.specs.declared.child_shape.ChildShape.{ChildShape}
 use Rattle.unit_rows.specs.Standing.{IsUnitOf}
 use Rattle.unit_rows.proofs.Fitting.{with_more, with_none}
 use Rattle.unit_rows.proofs.standing.are_with.Goals as goal

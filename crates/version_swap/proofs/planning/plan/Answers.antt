@@ -3,8 +3,8 @@ use Rattle.std.specs.Option.{option_or, unwrap_or}
 use Rattle.ls_text.proofs.Growth.{grows_on}
 use Rattle.module_registry.specs.Entries.{keys_of}
 use Rattle.module_registry.specs.Views.{entries_of}
-use Rattle.unit_laws.specs.Held.{IsKeyUnder}
-use Rattle.unit_laws.proofs.HeldUnits.{grown_held, same_held}
+use Rattle.version_swap.specs.Held.{IsKeyUnder}
+use Rattle.version_swap.proofs.HeldUnits.{grown_held, same_held}
 use Rattle.version_swap.specs.Files.{files_behind}
 use Rattle.version_swap.specs.Made.{MadeBehind, no_more}
 use Rattle.version_swap.specs.Operations.{IsEditRefusal, in_files}

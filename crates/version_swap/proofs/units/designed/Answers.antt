@@ -3,7 +3,7 @@ use Rattle.std.specs.Prelude.{IfErr, Result, Ok, Err}
 use Rattle.ls_text.specs.declared.refusal.Refusal.{Refusal}
 use Rattle.ls_text.specs.declared.refusal.Refusal.TheVariants as refusal
 use Rattle.typed_ir.specs.Cycles.{Flat}
-use Rattle.unit_ir.specs.Trees.{flat_of_tree}
+use Rattle.typed_ir.specs.Trees.{flat_of_tree}
 use Rattle.state_layout.specs.Words.{IsTooManyWhere, register_widths, words_of}
 use Rattle.link.specs.Faults.{HasNoLinkFault, no_memory}
 use Rattle.version_swap.specs.DesignFaults.{IsDesignFault, not_linked, too_wide}

@@ -1,7 +1,7 @@
 use Rattle.std.proofs.Common.{Global, ◌≡◌, ◌++◌, drop, map}
 use Rattle.std.specs.Prelude.{Some}
 use Rattle.std.specs.declared.sync.Arc.{Arc}
-use Rattle.unit_ir.specs.declared.unit.Unit.{Unit as ModuleUnit}
+use Rattle.typed_ir.specs.declared.unit.Unit.{Unit as ModuleUnit}
 use Rattle.module_registry.specs.Entries.{unit_under}
 use Rattle.module_registry.specs.Keys.{KeyData}
 use Rattle.module_registry.specs.UnitViews.{shared_unit}

@@ -4,7 +4,7 @@ use Rattle.ls_text.specs.Readings.{CanShow}
 use Rattle.module_registry.specs.Entries.{keys_of}
 use Rattle.module_registry.specs.Views.{entries_of}
 use Rattle.cycle_eval.specs.Designs.{design_flat}
-use Rattle.unit_laws.proofs.HeldUnits.{grown_held, same_held}
+use Rattle.version_swap.proofs.HeldUnits.{grown_held, same_held}
 use Rattle.version_swap.specs.Made.{MadeBehind, no_more}
 use Rattle.version_swap.specs.Plans.{IsPlanRefusal}
 use Rattle.version_swap.proofs.Handed.{all_err, handed}

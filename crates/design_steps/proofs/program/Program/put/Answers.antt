@@ -3,7 +3,7 @@ use Rattle.std.proofs.Math.Logic.{∥∥₁_elim}
 use Rattle.std.proofs.Props.{props}
 use Rattle.typed_ir.specs.Valuations.{put}
 use Rattle.word_steps.specs.Walks.{env_of}
-use Rattle.step_layout.specs.Plans.{IsReady, signals}
+use Rattle.design_steps.specs.Plans.{IsReady, signals}
 use Rattle.design_steps.specs.Layings.{own_plan, clocking_plan, signals_of}
 use Rattle.design_steps.specs.Moves.{moved, env_by}
 use Rattle.design_steps.specs.Programs.{AreNext}

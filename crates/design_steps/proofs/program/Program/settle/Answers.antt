@@ -5,8 +5,8 @@ use Rattle.typed_ir.specs.Cycles.{IsReady as IsBased}
 use Rattle.typed_ir.specs.Linkeds.{flat}
 use Rattle.word_steps.specs.Sound.{are_sound}
 use Rattle.word_steps.specs.Walks.{env_of, walk, at}
-use Rattle.step_layout.specs.Plans.{IsReady, signals}
-use Rattle.step_layout.specs.Views.{plan_of}
+use Rattle.design_steps.specs.Plans.{IsReady, signals}
+use Rattle.design_steps.specs.Views.{plan_of}
 use Rattle.design_steps.specs.Layings.{own_plan, signals_of}
 use Rattle.design_steps.specs.Programs.{AreNext}
 use Rattle.design_steps.specs.Moves.{moved, env_by}

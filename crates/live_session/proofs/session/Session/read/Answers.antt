@@ -1,7 +1,7 @@
 use Rattle.std.proofs.Common.{◌∙◌}
 use Rattle.ls_text.proofs.Growth.{grown_text}
 use Rattle.module_registry.specs.Views.{entries_of}
-use Rattle.unit_laws.proofs.HeldUnits.{grown_held}
+use Rattle.version_swap.proofs.HeldUnits.{grown_held}
 use Rattle.live_session.proofs.Growing.{running_grown}
 use Rattle.live_session.proofs.SessionSteps.{kept_on_names}
 use Rattle.live_session.proofs.session.Session.read.Goals as goal

@@ -1,4 +1,0 @@
-pub mod Passes
-pub mod Rises
-pub mod Settles
-pub mod Counted

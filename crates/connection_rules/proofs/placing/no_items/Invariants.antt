@@ -1,9 +1,0 @@
-use Rattle.std.proofs.Common.{◌≡◌, ◌++◌, map, drop, None}
-use Rattle.std.specs.Option.{option_map}
-use Rattle.unit_ir.specs.declared.port_shape.PortShape.{PortShape}
-use Rattle.unit_ir.specs.Items.{item_of}
-use Rattle.connection_rules.proofs.placing.no_items.Given as goal
-
-abbrev pub invariant-loop : goal.invariant-loop
-invariant-loop l =
-    map (option_map item_of) l.places.items ++ map (λ (p : PortShape). None) (drop l.index l.ports) ≡ map (λ (p : PortShape). None) l.ports

@@ -1,7 +1,0 @@
--- What connections of the code mean.
-use Rattle.verilog_ast.specs.Views.{expression_of}
-use Rattle.connection_rules.specs.declared.connection.Connection.{Connection}
-use Rattle.connection_rules.specs.Connections.{Connected}
-
-abbrev pub connected_of : Connection → Connected
-connected_of x = record { port = x.port; shape = x.shape; value = expression_of x.value.now }

@@ -1,4 +1,0 @@
-pub mod Noted
-pub mod Told
-pub mod Listing
-pub mod Shown

@@ -1,5 +1,0 @@
-use Rattle.item_mentions.proofs.Noted.{notes_two}
-use Rattle.item_mentions.proofs.asking.read_assignment.Goals as goal
-
-pub returns : goal.returns
-returns c = notes_two _ _ _ _ _ _ _ _ c.in_ok-next.ensures c.in_ok-end.ensures

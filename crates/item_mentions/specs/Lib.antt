@@ -1,4 +1,0 @@
-pub mod Names
-pub mod Mentions
-pub mod Forms
-pub mod Adding

@@ -1,8 +1,0 @@
-use Rattle.rename_laws.proofs.RenamedJobs.{same_jobs, same_texts}
-use Rattle.rename_laws.proofs.laws.names_may_change_in_jobs.Goals as goal
-
-pub returns-clause-jobs : goal.returns-clause-jobs
-returns-clause-jobs c = same_jobs
-
-pub returns-clause-texts : goal.returns-clause-texts
-returns-clause-texts c = same_texts

@@ -1,3 +1,0 @@
-pub mod Findings
-pub mod Units
-pub mod Jobs

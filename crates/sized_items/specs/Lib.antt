@@ -1,3 +1,0 @@
-pub mod DeclaredValues
-pub mod SizedItems
-pub mod Views

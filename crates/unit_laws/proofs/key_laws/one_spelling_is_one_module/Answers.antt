@@ -1,5 +1,0 @@
-use Rattle.unit_laws.proofs.SameSpelling.{same_declaration}
-use Rattle.unit_laws.proofs.key_laws.one_spelling_is_one_module.Goals as goal
-
-pub returns : goal.returns
-returns c = same_declaration

@@ -1,9 +1,0 @@
-use Rattle.unit_laws.proofs.GrownSpelling.{grown_spelled}
-use Rattle.unit_laws.proofs.Parsed.{parsed_spelled}
-use Rattle.unit_laws.proofs.key_laws.parsed_modules_are_spelled.Goals as goal
-
-pub returns-clause-parsed : goal.returns-clause-parsed
-returns-clause-parsed c = parsed_spelled
-
-pub returns-clause-grown : goal.returns-clause-grown
-returns-clause-grown c old new x grows h = grown_spelled old new grows x h

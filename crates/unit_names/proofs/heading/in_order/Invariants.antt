@@ -1,8 +1,0 @@
-use Rattle.std.proofs.Common.{◌≡◌, ◌++◌, ◌-◌}
-use Rattle.unit_names.specs.Numbers.{numbers_from}
-use Rattle.unit_names.specs.NumberingViews.{numbered_in}
-use Rattle.unit_names.proofs.heading.in_order.Given as goal
-
-abbrev pub invariant-loop-k : goal.invariant-loop-k
-invariant-loop-k l =
-    l.declared.items ++ numbers_from l.k (l.count - l.k) (numbered_in l.numbering) ≡ numbers_from 0 l.count (numbered_in l.numbering)

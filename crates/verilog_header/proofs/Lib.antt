@@ -1,3 +1,0 @@
-pub mod HeaderTrees
-pub mod Complete
-pub mod NamedHeaders

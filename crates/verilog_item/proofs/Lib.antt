@@ -1,3 +1,0 @@
-pub mod ItemTrees
-pub mod Complete
-pub mod NamedItems
