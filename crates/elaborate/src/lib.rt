@@ -5,7 +5,8 @@
 // `visiting` is such a visit: `checks` goes over the steps of the unrolled module with the names in reach, where `header` and `body` declare names
 // (`declaring`, in `tables` of `declarations`) and give instances their overrides (`overriding`, `giving`) and connections (`clock_rules`);
 // `clocking` goes over them once more for the clock: where it may stand, and which port of an instance it reaches, is of `clock_rules`. `tree` is
-// what the designs above see of it.
+// what the designs above see of it. `design_laws` says that names may change: in an unrolled module, in what its header says, and in the instances of
+// a design.
 #![tactic(auto)]
 
 mod body;

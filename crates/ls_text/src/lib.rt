@@ -3,7 +3,8 @@
 // A file is a name, whose form `file_names` tells, and a text (`source_file`, `text_bytes`). Over its bytes, `bytes` has classes and the
 // lengths of runs, `stretch` parts by their lengths, `place` lines and columns. A `piece` is a stretch of a file by its offsets, and
 // `files` gives its bytes again. `names` gives equal texts one number, a `name_id`; `name_list` is a list of them. What is wrong is a
-// `fault` with where it stands (`at`); a call answers it as a `refusal`, and `fault_lines` writes its line.
+// `fault` with where it stands (`at`); a call answers it as a `refusal`, and `fault_lines` writes its line. `no_memory` is the one answer
+// that every call which takes memory may give beside its own.
 #![tactic(auto)]
 
 mod at;

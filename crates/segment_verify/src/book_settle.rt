@@ -1,10 +1,5 @@
-// A settle of a book on one thread: passes, each of which joins the first link that isn't joined, and then a show.
-//
-// `settle` makes the passes and the show. What its entries are stands in `specs/` (`Passes`), what they make of the history in
-// `Settles`, and `laws` says what such entries leave of a book.
-#![tactic(auto)]
-
-pub mod laws;
+// A settle of a book on one thread: passes, each of which joins the first link that isn't joined, and then a show. What its entries are stands
+// in `specs/` (`Passes`), and what they make of the history in `Settles`.
 
 ghost use Rattle.std.specs.Prelude.{◌≡◌, ◌+◌, ◌*◌, ◌≤◌, ◌<◌, ◌++◌, ◌∷◌, [], None, true, false, min, IfOk, OnErr};
 ghost use Rattle.segment_verify.specs.Rises.{IsPass, HasPassed, HasGivenUp};

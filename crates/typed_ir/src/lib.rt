@@ -1,4 +1,4 @@
-// Flat designs: sized expressions, statements and nodes, and what they do to a valuation of the signals.
+// Flat designs, and modules by numbers of their own: sized expressions, statements and nodes, and what they do to a valuation of the signals.
 //
 // Expressions: `typed` builds sized ones, whose widths agree, of the layers of `form`, which evaluates them by `apply`; operators are
 // `unary_operator` and, in groups, `binary_operator`. Statements (`stmt`, `target`, `item`) and nodes (`node`) are data: `specs/` says what they do,
@@ -6,6 +6,11 @@
 // drives and reads. Whole designs: `rooting` makes a table of instances, `flat` keeps what a design's parts have to be, and `linked` an order of its
 // nodes too. `laws` says of such a design that the order settles its wires. Numbers that stand for something have types of their own, which contracts
 // see as numbers: `signal_id`, `register_id`, `node_id`, `instance_id`.
+//
+// Modules, as types alone of what others make: `typed_items` are the items of a module (`typed_item`), each sized (`item_body`) and with its places
+// (`item_places`), `unit_parts` these without, `unit` those that are sound and sized; `shape_list` and `port_list` are instances (`child_shape`) and
+// ports (`port_shape`) as they are seen from above, `instance_tree` the instances of a design. `shifting` copies an expression, a statement or a node
+// to other numbers of signals, as linking does for each instance. `linking_laws` says what the definition of linking keeps.
 #![tactic(auto)]
 
 mod apply;

@@ -1,8 +1,8 @@
-// Declarations and connections of a Verilog text, read exactly as the grammar says.
+// Declarations, connections and headers of a Verilog text, read exactly as the grammar says.
 //
 // `declaration` reads signs, ranges, names with their values and parameters from a cursor's tokens, `connection` overrides,
-// instances and what they are connected to. Each ensures what the grammar machine does, and one phrase of the relation `Spells`;
-// `laws` says where their parts stand.
+// instances and what they are connected to, and `headers` what follows a module's name: its parameters and then its ports. Each function
+// ensures what the grammar machine does, and one phrase of the relation `Spells`; `laws` says where the parts of declarations stand.
 #![tactic(auto)]
 
 mod connection;

@@ -1,8 +1,9 @@
 // Verilog texts, read exactly as the grammar says.
 //
-// `parsing` and `file` read a whole text into `modules`: a header (the crate `verilog_header`), then items, each by a function of its
-// nonterminal (`generate`, and below it the crates `verilog_item`, `verilog_decl` and `verilog_stmt`). Each ensures one phrase of the
-// relation `Spells`.
+// `parsing` and `file` read a whole text into `modules`: a header (the crate `verilog_decl`), then items, each by a function of its
+// nonterminal (`generate`, and `items` for those without a generate construct, over `verilog_decl` and `verilog_stmt`). Each ensures what the
+// grammar machine does, and one phrase of the relation `Spells`; `laws` says of this relation that a text is read in one way, that trees
+// and names have the places of their tokens, and that names may change.
 #![tactic(auto)]
 
 mod file;

@@ -3,8 +3,12 @@
 // `texts` are what is kept of a version, with `file_list`; an `Edit` changes them (`files`). `tokens` and `modules` read the files, `finding` has the
 // instances of the design and the job of each (`found`), and `keys` the keys of these, with the first of each. `versions` has their units made where
 // a registry doesn't hold them, and `units` links these to a design (`version`). `operations` has the operations on registers between two designs
-// checked. `planning` does one after the other, and its answer is `planned`, with `key_list`. `laws` says that a version doesn't hang on the table of
-// names with which it is read.
+// checked. `planning` does one after the other, and its answer is `planned`, with `key_list`.
+//
+// `laws` says that a version doesn't hang on the table of names with which it is read. It stands on laws of the definitions below: that two jobs of one
+// key text have one unit (`key_laws`), in which places change nothing (`place_laws`, over plain trees without their places) and names only themselves
+// (`rename_laws`); that a visited module is unrolled again to the steps of its visit (`job_laws`); that what is linked of the units is the flat design
+// (`flat_laws`, and `name_laws` for other names); and that a registry holds the units of the keys (`held_laws`).
 #![tactic(auto)]
 
 mod file_list;

@@ -1,10 +1,15 @@
-// Sizes, signs and constants of expressions.
+// Sizes, signs and constants of expressions, and what an item mentions.
 //
 // `naming` has the names in reach of a `scope`, each with what it stands for (`entry`), and its blocks (`covered`). `measuring` walks an expression
 // once: its first fault, or what is left open until its context's length and sign are known (`opened`), with operators in `combining` (`operators`
 // says what those of a text do), selects in `selecting` and parts put together in `joining`; `whole` has the whole numbers of counts, widths and
 // indices. `sizing` closes what is open in a context, or takes its value. `referring` has names and selects that are written. `faults` makes a first
 // fault of a code, a place and a name; `laws` says that names may change.
+//
+// Mentions are the names of an item's targets and of its reads where they stand in the text, in the order of its sized form. `constants` tells
+// whether an index is a constant. `mentioning` walks an expression and `targeting` a target, each adding what it meets to a list (`noting`); `walking`
+// does so for a statement, once for its targets and once for its reads (`asked`, `asking`). `blocks` is the call for a block, with a list of each
+// (`mention_lists`). `forms` says in which form a target is shown, and which of a block's is the first in the text.
 #![tactic(auto, using(crate::proofs::Firsts::earlier, crate::proofs::Firsts::later, crate::proofs::Firsts::neither))]
 
 mod arm_end;
