@@ -1,6 +1,6 @@
 // What an item mentions are the signals of its sized form.
 //
-// `laws` says so of the definitions of `item_mentions`, against those of `statement_rules` and `block_rules`. It is over definitions alone,
+// `laws` says so of the mentions of `width_rules`, against the definitions of `statement_rules` and `block_rules`. It is over definitions alone,
 // so there is nothing to run here.
 #![tactic(auto)]
 

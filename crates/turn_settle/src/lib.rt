@@ -1,7 +1,7 @@
 // A settle of a book that others have turns of: passes, each of which joins the first link that isn't joined, and then a show.
 //
 // `settle` makes the passes and the show, and `visits` are the turns of the session that it takes for them. What the session's pass of
-// the turn knows before and behind it stands in `specs/Settled`, with its entries by the words of `book_settle`.
+// the turn knows before and behind it stands in `specs/Settled`, with its entries by the words of `segment_verify`.
 #![tactic(auto)]
 
 mod visits;

@@ -1,4 +1,4 @@
--- Which module stands for which tokens (IEEE 1364-2005, clause 12.1; its header stands in `Headers` of verilog_header).
+-- Which module stands for which tokens (IEEE 1364-2005, clause 12.1; its header stands in `Headers` of verilog_decl).
 use Rattle.std.specs.Prelude.{◌≡◌, ◌≢◌, List, [], ◌∷◌, true, false}
 use Rattle.verilog_lex.specs.declared.token.Token.{Token}
 use Rattle.verilog_lex.specs.declared.kind.Kind.TheVariants as k
