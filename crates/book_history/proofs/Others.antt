@@ -17,7 +17,7 @@ use Rattle.book_history.specs.Owned.{is_of_session}
 use Rattle.book_history.specs.Tickets.{is_drawn, is_used}
 use Rattle.book_history.proofs.Bridge.{next_is_new}
 use Rattle.book_history.proofs.Currents.{legal_at}
-use Rattle.book_history.proofs.Outlines.{length-cycles, outline_more, owned_outline}
+use Rattle.book_history.proofs.Outlines.{outline_more, owned_outline, links_marked}
 use Rattle.book_history.proofs.Places.{replay-append}
 use Rattle.std.proofs.lemmas.Bool.{cond_both}
 
@@ -51,11 +51,6 @@ module _ {D S R O : Type 0} (k : Kit D S R O) (st : Settings) where
   lead_one (Some c) (Releases n by) own f = f.leads
   lead_one (Some c) (Shows s) own f = absurd cc
   lead_one (Some c) Closes own f = absurd cc
-
-  -- the number of links is that of the outline's marks
-  links_marked : (b : Option (Book D S R)) → links_in b ≡ length (outline_in b).marks
-  links_marked None = refl
-  links_marked (Some c) = sym (length-cycles c.segs)
 
   module _ (valid : D → D → O → Type 0) where
     -- others make no fewer links lead, where the law says so of each entry

@@ -15,12 +15,18 @@ use Rattle.book_history.specs.Kind.{Kind, SessionsOwn, DrawsTicket, UsesTicket, 
 use Rattle.book_history.specs.Owned.{is_owned, is_of_session, owned}
 use Rattle.book_history.specs.Rooms.{Counts, count, count_kind, counted, count_all, no_entry}
 use Rattle.book_history.specs.Outline.{Outline, blank, outline_in, thin_marks, add_mark_at, add_marks, last_until, outline_after, outline_from, VersionIs}
+use Rattle.book_history.specs.Readers.{links_in}
 
 -- cycles of marks
 
 pub length-cycles : {S : Type 0} (xs : List (Segment S)) → length (cycles xs) ≡ length xs
 length-cycles [] = refl
 length-cycles (x ∷ xs) = omega (arith, length-cycles xs)
+
+-- the number of links is that of the outline's marks
+pub links_marked : {D S R : Type 0} (b : Option (Book D S R)) → links_in b ≡ length (outline_in b).marks
+links_marked None = refl
+links_marked (Some c) = sym (length-cycles c.segs)
 
 cycles-append : {S : Type 0} (xs ys : List (Segment S)) → cycles (xs ++ ys) ≡ cycles xs ++ cycles ys
 cycles-append [] ys = refl

@@ -6,10 +6,6 @@ use Rattle.book_history.specs.Event.{Event, Opens, Runs, Reloads, Claims, Instal
 use Rattle.book_history.specs.Tickets.{is_among, without, draws, uses, is_drawn, is_used, IsOut, AreOut, kept, kept_all, MayAdd, MayAddAll}
 use Rattle.book_turn.specs.Rule.{AreOnce}
 
-or_false_left : (a b : Bool) → a ≡ false → a || b ≡ b
-or_false_left true b e = absurd (true≢false e)
-or_false_left false b e = refl
-
 -- n is k, or it is not
 pub apart_or : (n k : ℕ) → n ≢ k → eqb n k ≡ false
 apart_or n k h = false_from_ne_true (eqb n k) (λ e. h (eqb-true n k e))
@@ -76,7 +72,7 @@ module _ {D R O : Type 0} where
   theirs h ts (Reloads v m ops from) may n o a = (stays_out n h _ refl o, a)
   theirs h ts (Claims k x y by) may n o a = (
     stays_out n h _ refl o,
-    λ s. a (sym (or_false_left (eqb n k) (is_among n ts) (apart_or n k (λ (e : n ≡ k). true≢false (sym o.drawn ∙ ap (λ i. is_drawn i h) e ∙ may.0)))) ∙ s),
+    λ s. a (sym (ap (λ (b : Bool). b || is_among n ts) (apart_or n k (λ (e : n ≡ k). true≢false (sym o.drawn ∙ ap (λ i. is_drawn i h) e ∙ may.0)))) ∙ s),
   )
   theirs h ts (Installs k j by) may n o a = (
     stays_out n h _ (apart_or n k (λ (e : n ≡ k). a (ap (λ i. is_among i ts) e ∙ may))) o,

@@ -2,13 +2,13 @@ use Rattle.std.proofs.Common.{◌≡◌, ℕ, zero, suc, ◌-◌, ◌<◌, List,
 use Rattle.std.specs.Prelude.{Some}
 use Rattle.std.proofs.lemmas.Bool.{cond-true}
 use Rattle.std.specs.Prelude.{Result, Ok, Err, OnErr}
+use Rattle.ls_text.proofs.Lists.{get_or_one}
 use Rattle.machine.specs.Rows.{between}
 use Rattle.book_history.specs.declared.segment.Segment.{Segment}
 use Rattle.book_history.specs.declared.link.Link.{Link}
 use Rattle.book_history.specs.declared.link.Link.TheVariants.{Out}
 use Rattle.book_history.specs.Book.{first_link, mark_out, slice}
 use Rattle.checkpoint_book.specs.Draw.{IsPlace}
-use Rattle.checkpoint_book.proofs.Places.{get_or_one}
 
 pub set_splits : {A : Type 0} (i : ℕ) (xs : List A) (x : A) → i < length xs → take i xs ++ x ∷ drop (suc i) xs ≡ set xs i x
 set_splits i [] x lt = absurd (omega arith)

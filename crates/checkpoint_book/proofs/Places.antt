@@ -1,6 +1,5 @@
 use Rattle.std.proofs.Common.{◌≡◌, ℕ, zero, suc, ◌+◌, ◌<◌, ◌≤◌, List, [], ◌∷◌, ◌++◌, length, take, drop, set, get_or, refl, sym, ◌∙◌, ap, arith, true, false, drop-cons}
 use Rattle.std.proofs.lemmas.Bool.{cond-true}
-use Rattle.std.proofs.lemmas.List.{get_or_default}
 use Rattle.machine.specs.Kit.{Kit}
 use Rattle.book_history.specs.declared.segment.Segment.{Segment}
 use Rattle.book_history.specs.declared.link.Link.TheVariants.{Open, Joined}
@@ -47,9 +46,6 @@ join_more k m r i [] g h lt is alike next = absurd (omega arith)
 join_more k m r zero (x ∷ []) g h lt is alike next = absurd (omega arith)
 join_more {D} {S} k m r zero (x ∷ y ∷ ys) g h lt is alike next = rw (sym is, sym next) (rw alike refl)
 join_more k m r (suc i) (x ∷ xs) g h lt is alike next = ap (λ l. x ∷ l) (join_more k m r i xs g h (omega arith) is alike next)
-
-pub get_or_one : {A : Type 0} (xs : List A) (i : ℕ) (x y : A) → i < length xs → x ≡ get_or xs i x → y ≡ get_or xs i y → x ≡ y
-get_or_one xs i x y lt ex ey = ex ∙ get_or_default xs i x y lt ∙ sym ey
 
 pub get_or_past_set : {A : Type 0} (xs : List A) (i : ℕ) (a x : A) → x ≡ get_or (set xs i a) (suc i) x → x ≡ get_or xs (suc i) x
 get_or_past_set [] i a x e = refl

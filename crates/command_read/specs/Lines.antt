@@ -21,13 +21,13 @@ unfoldable pub script_lines : (ended : Bool) → List ℕ → List (List ℕ)
 script_lines ended bytes = lines_behind ended [] bytes
 
 -- what parts words: a space or a tab
-abbrev pub is_blank : ℕ → Bool
-is_blank c = (c == 32) || (c == 9)
+abbrev pub parts_words : ℕ → Bool
+parts_words c = (c == 32) || (c == 9)
 
 -- the words of bytes, of which the first has begun before them
 abbrev pub words_behind : (begun : List ℕ) → List ℕ → List (List ℕ)
 words_behind begun [] = with_any begun []
-words_behind begun (c ∷ cs) = if is_blank c then with_any begun (words_behind [] cs) else words_behind (begun ++ c ∷ []) cs
+words_behind begun (c ∷ cs) = if parts_words c then with_any begun (words_behind [] cs) else words_behind (begun ++ c ∷ []) cs
 
 -- the words of a line: what stands between blanks
 unfoldable pub words : List ℕ → List (List ℕ)

@@ -3,30 +3,30 @@ ghost use Rattle.std.specs.Prelude.{◌≡◌, ◌==◌, ◌+◌, ◌-◌, ◌<�
 ghost use Rattle.std.specs.List.{prefix_len};
 ghost use Rattle.std.specs.Option.{option_map};
 ghost use Rattle.std.specs.Str.Lines.{strip_carriage_return};
-ghost use Rattle.command_read.specs.Lines.{is_blank, words, is_skipped, are_just, begin_with, only, both};
+ghost use Rattle.command_read.specs.Lines.{parts_words, words, is_skipped, are_just, begin_with, only, both};
 ghost use Rattle.command_read.specs.Values.{is_identifier, parted_at, number_in, count_of, hex_of, register_of, shown_of};
 
 use ls_text::{byte_at, is_letter, word_len};
 
 /// Whether a byte parts words.
-fn is_blank(byte: u8) -> bool
-    ensures { result ≡ is_blank byte }
+fn parts_words(byte: u8) -> bool
+    ensures { result ≡ parts_words byte }
 {
     byte == b' ' || byte == b'\t'
 }
 
-fn blanks_len(line: &[u8]) -> usize
-    ensures value { result ≡ prefix_len is_blank line.now }
+fn gap_len(line: &[u8]) -> usize
+    ensures value { result ≡ prefix_len parts_words line.now }
     ensures within { result ≤ length line.now }
 {
-    line.iter().take_while(|b| is_blank(**b)).count()
+    line.iter().take_while(|b| parts_words(**b)).count()
 }
 
 fn first_len(line: &[u8]) -> usize
-    ensures value { result ≡ prefix_len (λ c. not (is_blank c)) line.now }
+    ensures value { result ≡ prefix_len (λ c. not (parts_words c)) line.now }
     ensures within { result ≤ length line.now }
 {
-    line.iter().take_while(|b| !is_blank(**b)).count()
+    line.iter().take_while(|b| !parts_words(**b)).count()
 }
 
 /// The first word of a line, and what follows it.
@@ -34,7 +34,7 @@ pub fn next_word(line: &[u8]) -> Option<(&[u8], &[u8])>
     ensures word { MatchOption result (words line.now ≡ []) (λ x. words line.now ≡ x.0.now ∷ words x.1.now) }
     ensures shorter { IfSome result (λ x. length x.1.now < length line.now) }
 {
-    let rest = line.split_at(blanks_len(line)).1;
+    let rest = line.split_at(gap_len(line)).1;
     if rest.is_empty() {
         return None;
     }

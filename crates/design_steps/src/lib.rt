@@ -8,8 +8,9 @@
 // `design_layout` says where a design's signals, their next values and its constants stand; `naming` finds the wires that are only names of
 // other signals, and `sharing` lets them stand where these do, so that their nodes take no step; `pooling` and `constant_walk` gather
 // the constants, and `laws` says that nodes and blocks are laid out by it. `gathering` says where words are moved to, so that registers stand
-// side by side, and `moving` moves steps. `making` makes a `Program` of a linked design, with the words that it begins with (`words`), and
-// `cycling` runs it cycle by cycle: the wires settle, the clocked blocks write next values, and these are copied over (`carrying`). `signal_words` reads and puts the values of signals.
+// side by side, and `moving` moves steps. `making` makes a `program` of a linked design, with the words that it begins with (`words`), and
+// `cycling` runs it cycle by cycle: the wires settle, the clocked blocks write next values, and these are copied over (`carrying`). `signal_words`
+// reads and puts the values of signals.
 #![tactic(auto)]
 
 mod carrying;

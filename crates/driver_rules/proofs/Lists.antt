@@ -2,7 +2,6 @@
 use Rattle.std.proofs.Common.{◌≡◌, ◌<◌, ◌≤◌, ◌+◌, ◌==◌, ◌&&◌, ◌||◌, ℕ, zero, suc, Bool, true, false, cond, not, List, [], ◌∷◌, ◌++◌, map, length, drop, get_or, refl, sym, ◌∙◌, ap, ap₂, subst, arith, true≢false, append_assoc}
 use Rattle.std.proofs.Math.Bool.{or-false}
 use Rattle.std.proofs.lemmas.Bool.{ne_eqb}
-use Rattle.std.proofs.lemmas.List.{get_or_default}
 use Rattle.typed_ir.specs.Orders.{Each, at_or}
 use Rattle.typed_ir.proofs.Cases.{same_suc}
 use Rattle.typed_ir.proofs.Lists.{drop_read}
@@ -38,11 +37,6 @@ each_mapped f (x ∷ xs) h = (h.0, each_mapped f xs h.1)
 
 -- ---- elements by their number
 
-pub at_or_read : {A B : Type 0} (f : A → B) (d : B) (xs : List A) (k : ℕ) (x : A) → k < length xs → x ≡ get_or xs k x → at_or f d xs k ≡ f x
-at_or_read f d [] k x h is = absurd (omega (arith, h))
-at_or_read f d (y ∷ ys) zero x h is = ap f (sym is)
-at_or_read f d (y ∷ ys) (suc k) x h is = at_or_read f d ys k x (omega (arith, h)) is
-
 pub at_or_get : {A B : Type 0} (f : A → B) (d : B) (xs : List A) (k : ℕ) (y : A) → k < length xs → at_or f d xs k ≡ f (get_or xs k y)
 at_or_get f d [] k y h = absurd (omega (arith, h))
 at_or_get f d (x ∷ xs) zero y h = refl
@@ -65,7 +59,3 @@ at_or_more f [] x (suc k) = sym (ap (λ b. b && f x) (ne_eqb (suc k) 0 (λ e. om
 at_or_more f (y ∷ xs) x zero = sym (ap (λ b. f y || (b && f x)) (ne_eqb 0 (suc (length xs)) (λ e. omega (arith, e))) ∙ or-false (f y))
 at_or_more f (y ∷ xs) x (suc k) =
     at_or_more f xs x k ∙ ap (λ b. at_or f false xs k || (b && f x)) (sym (same_suc k (length xs)))
-
--- what is read twice is the same
-pub read_same : {A : Type 0} (xs : List A) (k : ℕ) (x y : A) → k < length xs → x ≡ get_or xs k x → y ≡ get_or xs k y → x ≡ y
-read_same xs k x y h is also = is ∙ get_or_default xs k x y h ∙ sym also

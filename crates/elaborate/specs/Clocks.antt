@@ -10,6 +10,7 @@ use Rattle.gen_unroll.specs.Declarations.{declared_width}
 use Rattle.gen_unroll.specs.Reaches.{Reach, in_reach}
 use Rattle.gen_unroll.specs.Steps.{ModuleStep, Listed, Port, Item}
 use Rattle.ls_text.specs.Answers.{◌>>=◌}
+use Rattle.ls_text.specs.Options.{guard}
 use Rattle.module_names.specs.Listings.{is_listed}
 use Rattle.module_names.specs.Modules.{port_name, header_ports}
 use Rattle.clock_rules.specs.Clocks.{clock_net, all_free, port_free, unless_misused, clock_item}
@@ -56,4 +57,4 @@ clock_steps ms clock table here (s ∷ ss) ks = clock_step ms clock table here.s
 
 -- the clock of a top module is its port of this name; without one there is no clock
 abbrev pub top_clock : (clock : ℕ) → ModuleDeclaration → Option ℕ
-top_clock clock m = if is_listed clock (header_ports m.ports) then Some clock else None
+top_clock clock m = guard (is_listed clock (header_ports m.ports)) clock

@@ -1,5 +1,6 @@
 // The edge that the program has, a reader and a writer of std, where these fail.
-use crate::broken_streams::{BrokenReader, BrokenWriter};
+use crate::broken_reader::BrokenReader;
+use crate::broken_writer::BrokenWriter;
 use crate::running::ran;
 use crate::scripts::{SETTLED, replies, script};
 use ls_port::{SolidShelf, SolidSink, SolidSource, StdSink, StdSource};

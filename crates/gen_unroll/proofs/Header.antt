@@ -1,10 +1,12 @@
 -- Signals that have numbers are among those that were declared, and no two of them have one place in the order of the declarations.
-use Rattle.std.proofs.Common.{◌≡◌, ℕ, suc, ◌<◌, ◌&&◌, ◌==◌, ◌⊎◌, inl, inr, Bool, true, false, cond, not, filter, List, [], ◌∷◌, ◌++◌, length, append-nil, refl, sym, ◌∙◌, ap, subst, arith, true≢false}
+use Rattle.std.proofs.Common.{◌≡◌, ℕ, suc, ◌<◌, ◌&&◌, ◌==◌, ◌⊎◌, inl, inr, Bool, true, false, cond, filter, List, [], ◌∷◌, ◌++◌, length, append-nil, refl, sym, ◌∙◌, ap, subst, arith, true≢false}
 use Rattle.std.specs.Prelude.{Option, Some, None, is_some}
 use Rattle.std.specs.Option.{option_map, option_to_list}
 use Rattle.std.proofs.lemmas.Option.{none-some, same_Some}
+use Rattle.std.proofs.lemmas.Bool.{both_ways, not-true}
 use Rattle.typed_ir.specs.Orders.{Member}
 use Rattle.typed_ir.proofs.Cases.{and_left}
+use Rattle.typed_ir.proofs.Members.{member_filtered}
 use Rattle.verilog_ast.specs.declared.identifier.Identifier.{Identifier}
 use Rattle.gen_unroll.specs.Numbers.{first_where, place_where, is_own_named, number_of_name, with_header_port, ports_onto, is_no_port, numbered}
 use Rattle.gen_unroll.specs.Signals.{NamedSignal, is_outermost, is_port, is_port_named}
@@ -35,25 +37,12 @@ joined (x ∷ xs) ys own more apart =
     by y same (inl m) = own.0 y m same
     by y same (inr n) = apart x y (inl refl) n same
 
-member_kept : (test : NamedSignal → Bool) (xs : List NamedSignal) (y : NamedSignal) → Member y (filter test xs) → Member y xs × (test y ≡ true)
-member_kept test [] y m = absurd m
-member_kept test (x ∷ xs) y m = by (test x) refl (member_kept test xs y) m
-  where
-    later : Member y xs × (test y ≡ true) → Member y (x ∷ xs) × (test y ≡ true)
-    later h = (inr h.0, h.1)
-
-    by : (b : Bool) → test x ≡ b → (Member y (filter test xs) → Member y xs × (test y ≡ true)) → Member y (cond b (x ∷ filter test xs) (filter test xs))
-        → Member y (x ∷ xs) × (test y ≡ true)
-    by true is rest (inl e) = (inl e, ap test e ∙ is)
-    by true is rest (inr h) = later (rest h)
-    by false is rest h = later (rest h)
-
 own_kept : (test : NamedSignal → Bool) (xs : List NamedSignal) → HaveOwnOrders xs → HaveOwnOrders (filter test xs)
 own_kept test [] own = tt
 own_kept test (x ∷ xs) own = by (test x) (own_kept test xs own.1)
   where
     by : (b : Bool) → HaveOwnOrders (filter test xs) → HaveOwnOrders (cond b (x ∷ filter test xs) (filter test xs))
-    by true rest = ((λ y m. own.0 y (member_kept test xs y m).0), rest)
+    by true rest = ((λ y m. own.0 y (member_filtered test xs y m).0), rest)
     by false rest = rest
 
 own_in_order : (k : ℕ) (xs : List NamedSignal) → AreInOrder k xs → HaveOwnOrders xs
@@ -148,10 +137,6 @@ pub record AreOwn (count : ℕ) (xs : List NamedSignal) : Type 0 where
   pub below : (y : NamedSignal) → Member y xs → y.order < count
   pub own : HaveOwnOrders xs
 
-never_both : (b : Bool) → b ≡ true → not b ≡ true → ⊥
-never_both true h k = true≢false (sym k)
-never_both false h k = true≢false (sym h)
-
 pub numbered_own : (header : List Identifier) (xs : List NamedSignal) → AreInOrder 0 xs → AreOwn (length xs) (numbered header xs)
 numbered_own header xs so = record {
   below = λ y m. below y (member_either (ports_onto header xs []) (filter is_no_port xs) y m);
@@ -166,10 +151,10 @@ numbered_own header xs so = record {
 
     below : (y : NamedSignal) → Member y (ports_onto header xs []) ⊎ Member y (filter is_no_port xs) → y.order < length xs
     below y (inl m) = placed y (first.there y m)
-    below y (inr m) = placed y (member_kept is_no_port xs y m).0
+    below y (inr m) = placed y (member_filtered is_no_port xs y m).0
 
     apart : (y z : NamedSignal) → Member y (ports_onto header xs []) → Member z (filter is_no_port xs) → y.order ≡ z.order → ⊥
     apart y z m n same =
-        let kept = member_kept is_no_port xs z n in
+        let kept = member_filtered is_no_port xs z n in
         let one = same_order 0 xs y z so (first.there y m) kept.0 same in
-        never_both (is_port z) (ap is_port (sym one) ∙ first.ports y m) kept.1
+        both_ways (is_port z) (not-true (is_port z) kept.1) (ap is_port (sym one) ∙ first.ports y m)

@@ -7,6 +7,7 @@ use Rattle.ls_text.specs.declared.fault.Fault.{Fault}
 use Rattle.ls_text.specs.declared.name_id.NameId.{NameId}
 use Rattle.typed_ir.specs.Orders.{Member, Distinct}
 use Rattle.typed_ir.proofs.Cases.{and_left}
+use Rattle.typed_ir.proofs.Members.{member_filtered}
 use Rattle.typed_ir.specs.declared.signal_kind.SignalKind.{SignalKind}
 use Rattle.typed_ir.specs.declared.signal_kind.SignalKind.TheVariants as kind
 use Rattle.typed_ir.specs.Shapes.{is_clock}
@@ -21,6 +22,7 @@ use Rattle.gen_unroll.specs.UnitLists.{is_input, is_variable, is_data_input, dat
 use Rattle.gen_unroll.proofs.Orders.{EndInOrder, declared_more}
 use Rattle.gen_unroll.proofs.Header.{HaveOwnOrders, AreOwn, numbered_own}
 use Rattle.gen_unroll.proofs.Searching.{suc_some, place_within}
+use Rattle.gen_unroll.proofs.Answered.{ok_same}
 
 -- ---- the numbers in the order of declarations
 
@@ -107,13 +109,6 @@ all_there names count so s h = all_from (order_at names s) 0 count names (order_
 table_ordered : (names : List NamedSignal) (count : ℕ) → AreOwn count names → IsOrdered (record { signals = names; declared = numbers_from 0 count names })
 table_ordered names count so = record { there = there_from 0 count names; all = all_there names count so; once = once_from 0 count names }
 
-ok_same : (x y : SignalTable) → ◌≡◌ {A = Result SignalTable Fault} (Ok x) (Ok y) → x ≡ y
-ok_same x y h = ap or_else h
-  where
-    or_else : Result SignalTable Fault → SignalTable
-    or_else (Ok t) = t
-    or_else (Err e) = x
-
 pub ordered : (m : ModuleDeclaration) (steps : List ModuleStep) (t : SignalTable) → module_table m steps ≡ Ok t → IsOrdered t
 unfolding module_table
 ordered m steps t is = by (declared_in (reach_in m) steps []) (declared_more (reach_in m) steps [] tt) is
@@ -129,19 +124,6 @@ ordered m steps t is = by (declared_in (reach_in m) steps []) (declared_more (re
         is_ok (Err y) = false
 
 -- ---- those that meet a test
-
-member_filtered : (test : ℕ → Bool) (ks : List ℕ) (s : ℕ) → Member s (filter test ks) → Member s ks × (test s ≡ true)
-member_filtered test [] s m = absurd m
-member_filtered test (k ∷ ks) s m = by (test k) refl (member_filtered test ks s) m
-  where
-    later : Member s ks × (test s ≡ true) → Member s (k ∷ ks) × (test s ≡ true)
-    later h = (inr h.0, h.1)
-
-    by : (b : Bool) → test k ≡ b → (Member s (filter test ks) → Member s ks × (test s ≡ true)) → Member s (cond b (k ∷ filter test ks) (filter test ks))
-        → Member s (k ∷ ks) × (test s ≡ true)
-    by true is rest (inl e) = (inl e, ap test e ∙ is)
-    by true is rest (inr h) = later (rest h)
-    by false is rest h = later (rest h)
 
 once_filtered : (test : ℕ → Bool) (ks : List ℕ) → Distinct ks → Distinct (filter test ks)
 once_filtered test [] d = tt

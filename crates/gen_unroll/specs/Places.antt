@@ -1,7 +1,8 @@
 -- The first of several places.
-use Rattle.std.specs.Prelude.{ℕ, Bool, if◌then◌else◌, Option, Some, None}
+use Rattle.std.specs.Prelude.{ℕ, Bool, Option, Some, None}
+use Rattle.ls_text.specs.Options.{guard}
 
 -- a place that is known stays; else there is this one, where it is one
 abbrev pub first_of : Option ℕ → Bool → ℕ → Option ℕ
 first_of (Some k) here n = Some k
-first_of None here n = if here then Some n else None
+first_of None here n = guard here n

@@ -2,16 +2,18 @@
 //
 // `unrolling` walks the tree of a module (`walk`) and answers `unrolled`: `step`s in the order of the text, which refer to the tree, and the table of
 // the `block`s that were opened (`block_id`), up to the first fault. It goes by the names in reach: `naming` declares those of a block where it is
-// opened, `parameters` gives parameters their values (by `ranges` and `constants`), `looping` counts the turns of a loop before its first block.
-// `speaking` says what a name within a block is called, and `telling` adds a step to what was told. `reaching` follows the steps with the names in
-// reach (`reach`), for whoever checks them. `overriding` has the overrides under which a module unrolls to given values.
+// opened, `parameters` gives parameters their values by what their declaration says (`parameter_type`; `parameter_sort` tells whether one can be
+// overridden), and `looping` counts the turns of a loop (`turn`) before its first block. `ranges` says how many bits a range has (`bit_range`), and
+// `constants` has constant expressions. `speaking` says what a name within a block is called, and `telling` adds a step to what was told. `reaching`
+// follows the steps with the names in reach (`reach`), for whoever checks them. `overriding` has the overrides under which a module unrolls to given
+// values.
 //
 // Numbers: `stepping` goes over the steps and has a `table` of `named_signal`s in the order of the declarations: `declaring` puts one there, or
-// completes the port that has its name, and `name_ranges` those of one declaration. `heading` gives them their numbers, the ports of the header first,
-// one by one (`adding`, in `numbering`), and `making` puts all together, as `signal_table`; `finding` has the first place of each key, by its hash
-// (`first_places`). `unit_reaching` follows the steps with the names in reach (`unit_reach`), in which `hiding` has each net and variable stand for
-// nothing and then `entering` declares the signals (`block_signal`), and `unit_lists` makes the lists that a unit has; `name_laws` says what it relies
-// on of the numbers.
+// completes the port that has its name, and `name_ranges` those of one declaration. `heading` gives them their numbers, the ports of the header
+// first, one by one (`adding`, in `numbering`), and `making` puts all together, as `signal_table`; `finding` has the first place of each key, by its
+// hash (`first_places`). `unit_reaching` follows the steps with the names in reach (`unit_reach`), in which `hiding` has each net and variable stand
+// for nothing and then `entering` declares the signals (`block_signal`), and `unit_lists` makes the lists that a unit has; `name_laws` says what it
+// relies on of the numbers.
 #![tactic(auto)]
 
 mod adding;

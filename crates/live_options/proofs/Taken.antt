@@ -38,6 +38,12 @@ failed : (b : Bool) (k : ErrorKind) (ks : Kinds) → cond b (k ∷ ks) [] ≡ []
 failed true k ks h = absurd (omega (arith, ap length h))
 failed false k ks h = refl
 
+-- the first only beside the second
+implied : (x y : Bool) → (x && not y) ≡ false → (not x || y) ≡ true
+implied true true e = refl
+implied true false e = sym e
+implied false y e = refl
+
 -- a step that is passed over, or passes
 unless : (b passes : Bool) (fault : Kinds) → (fault ≡ [] → passes ≡ true) → cond b [] fault ≡ [] → (b || passes) ≡ true
 unless true passes fault step h = refl
@@ -76,13 +82,8 @@ count_none a (v ∷ vs) rows h = values_none a.ignore_case (parser_of_value a.pa
 set_none : (again : Bool) (a : Rule) (vs : List Text) (rows : List Row) → set_fault again a vs rows ≡ [] → set_passes again a vs rows ≡ true
 set_none again a vs rows h =
     let each = or_none (repeat_fault again a.id rows) (values_fault a vs) h in
-    and_from (not (has_row a.id rows) || again) (values_pass a vs) (once (has_row a.id rows) again (failed (has_row a.id rows && not again) _ [] each.0))
+    and_from (not (has_row a.id rows) || again) (values_pass a vs) (implied (has_row a.id rows) again (failed (has_row a.id rows && not again) _ [] each.0))
     (values_none a.ignore_case (parser_of_value a.parser) vs each.1)
-  where
-    once : (has again : Bool) → (has && not again) ≡ false → (not has || again) ≡ true
-    once true true e = refl
-    once true false e = sym e
-    once false again e = refl
 
 action_none : (x : ArgAction) (again : Bool) (a : Rule) (vs : List Text) (rows : List Row) → action_fault x again a vs rows ≡ [] → action_passes x again a vs rows ≡ true
 action_none action.Set again a vs rows h = set_none again a vs rows h
@@ -168,12 +169,7 @@ flag_word_none c again None word h e =
     (λ flags. flags_none c again (length flags) flags h.skip (record h { skip = 0 })) e
 
 other_none : (s : Shape) (o : Option Text) (word : Text) (h : Held) → other_fault s o word h ≡ [] → other_passes s o word h ≡ true
-other_none s (Some name) word h e = by (bytes_eq name (codes "help")) s.disable_help_subcommand (failed (bytes_eq name (codes "help") && not s.disable_help_subcommand) _ _ e)
-  where
-    by : (x y : Bool) → (x && not y) ≡ false → (not x || y) ≡ true
-    by true true e = refl
-    by true false e = sym e
-    by false y e = refl
+other_none s (Some name) word h e = implied (bytes_eq name (codes "help")) s.disable_help_subcommand (failed (bytes_eq name (codes "help") && not s.disable_help_subcommand) _ _ e)
 other_none s None word h e =
     unless (bytes_eq word (45 ∷ 45 ∷ [])) (flag_word_passes s.rules s.args_override_self (long_of word) word h) (flag_word_fault s.rules s.args_override_self (long_of word) word h)
     (flag_word_none s.rules s.args_override_self (long_of word) word h) e

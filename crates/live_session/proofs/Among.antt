@@ -1,6 +1,6 @@
 -- A session beside a book to which others added entries since its pass last saw it.
 use Rattle.std.proofs.Common.{◌≡◌, ◌∙◌, Bool, true, false, cond, List, [], ◌∷◌, ◌++◌, Option, None, refl, sym, ap, ap₂, subst, true≢false, arith, append_assoc, append-nil}
-use Rattle.std.proofs.lemmas.List.{append_cancel_left}
+use Rattle.ls_text.proofs.Lists.{none_behind}
 use Rattle.book_history.specs.Book.{Book, Settings as BookSettings, apply, replay, replay_from}
 use Rattle.book_history.specs.Kind.{Kind, SessionsOwn, DrawsTicket, UsesTicket, EndsClaims, kind_of}
 use Rattle.book_history.specs.Moments.{is_spoken, is_spoken_kind, moments_from}
@@ -21,9 +21,6 @@ use Rattle.live_session.specs.declared.running.Running.{Running}
 use Rattle.live_session.specs.declared.session.Session.{Session}
 
 -- ---- entries of others
-
-pub none_by : (xs ys : List LogEvent) → xs ++ ys ≡ xs → ys ≡ []
-none_by xs ys e = append_cancel_left xs ys [] (e ∙ sym (append-nil xs))
 
 abbrev is_some_entry : List LogEvent → Bool
 is_some_entry [] = false
@@ -76,9 +73,9 @@ meets s v i j same learned session at legal =
       settings = sym (ap carried_settings known.carries);
       events = events;
       unowned =
-          none_by (owned v.seen) (owned zs)
+          none_behind (owned v.seen) (owned zs)
           (sym (owned_append v.seen zs) ∙ ap (λ (h : List LogEvent). owned h) (sym events) ∙ known.own session ∙ sym at.sees);
-      none = λ alone. none_by v.seen zs (sym events ∙ known.whole alone);
+      none = λ alone. none_behind v.seen zs (sym events ∙ known.whole alone);
       legal = legal;
       seen_legal = at.legal;
     }

@@ -6,7 +6,7 @@ use Rattle.ls_port.specs.declared.shelf_answer.ShelfAnswer.{ShelfAnswer}
 use Rattle.ls_text.specs.Texts.{HasEachOnce}
 use Rattle.book_history.specs.Book.{Book, Settings as BookSettings}
 use Rattle.book_history.specs.Readers.{links_in}
-use Rattle.segment_verify.proofs.Counting.{links_marked}
+use Rattle.book_history.proofs.Outlines.{links_marked}
 use Rattle.command_read.specs.Asking.{Asked, Settles}
 use Rattle.cycle_eval.specs.declared.design.Design.{Design}
 use Rattle.module_registry.specs.Views.{entries_of}

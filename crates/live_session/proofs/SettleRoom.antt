@@ -7,7 +7,7 @@ use Rattle.book_history.specs.Book.{Book, Shows as ShowsEvent}
 use Rattle.book_history.specs.Outline.{outline_in}
 use Rattle.book_history.specs.Owned.{AllOwned, owned}
 use Rattle.book_history.specs.Readers.{links_in}
-use Rattle.segment_verify.proofs.Counting.{links_marked}
+use Rattle.book_history.proofs.Outlines.{links_marked}
 use Rattle.segment_verify.specs.Passes.{IsSettle, IsUnfinished}
 use Rattle.checkpoint_book.specs.Views.{counts_of}
 use Rattle.command_read.specs.Asking.{Settles}

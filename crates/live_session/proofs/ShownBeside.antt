@@ -5,10 +5,10 @@ use Rattle.book_history.specs.Book.{Book, Settings as BookSettings, Shows as Sho
 use Rattle.book_history.specs.Outline.{Outline, outline_from, outline_in}
 use Rattle.book_history.specs.Readers.{links_in}
 use Rattle.book_history.proofs.Places.{replay-append}
-use Rattle.book_history.proofs.Outlines.{owned_outline}
+use Rattle.book_history.proofs.Outlines.{owned_outline, links_marked}
 use Rattle.book_history.specs.Owned.{AllOwned, owned}
 use Rattle.segment_verify.specs.Passes.{IsSettle, IsUnfinished}
-use Rattle.segment_verify.proofs.Counting.{links_marked, settle_outline, unfinished_outline}
+use Rattle.segment_verify.proofs.Counting.{settle_outline, unfinished_outline}
 use Rattle.command_read.specs.Asking.{Settles, Shows}
 use Rattle.cycle_eval.specs.declared.design.Design.{Design}
 use Rattle.module_registry.specs.Entries.{Entry}

@@ -7,7 +7,7 @@ use Rattle.sha2.specs.Sha256.{sha256}
 use Rattle.ls_text.specs.Texts.{HasEachOnce}
 use Rattle.book_history.specs.Outline.{outline_in}
 use Rattle.book_history.specs.Readers.{marks_in}
-use Rattle.segment_verify.proofs.Counting.{links_marked}
+use Rattle.book_history.proofs.Outlines.{links_marked}
 use Rattle.command_read.specs.Asking.{AsksStatus}
 use Rattle.module_registry.specs.Entries.{Entry}
 use Rattle.module_registry.specs.Keys.{KeyData}

@@ -22,7 +22,7 @@ use wave_report::{ReplyKind, UnitLine, UnitLines, reply_line};
 const NAME_AT: usize = 7;
 
 // How many bytes stand before the first space.
-fn word_len(text: &[u8]) -> usize
+fn len_before_space(text: &[u8]) -> usize
     ensures { result ≡ prefix_len (λ b. not (b == 32)) text.now }
 {
     text.iter().take_while(|b| **b != b' ').count()
@@ -33,7 +33,7 @@ fn module_of(alloc: Global, key: &[u8]) -> Result<Vec<u8>, NoMemory>
     ensures { IfOk result (λ name. name.items ≡ module_in key.now) }
 {
     let rest = behind(key, NAME_AT);
-    let name = front(rest, word_len(rest));
+    let name = front(rest, len_before_space(rest));
     Ok(Vec::from_slice(alloc, name)?)
 }
 

@@ -12,10 +12,10 @@ fn has_way_up(name: &[u8]) -> bool
         .any(|part| part == b"..".as_slice())
 }
 
-// Whether a name leads to something below the folder from which it is followed: the form of a file's name, without a slash at its front
-// and without a part `..`. What links in the folder lead to is not looked at.
+/// Whether a name leads to something below the folder from which it is followed: the form of a file's name, without a slash at its front
+/// and without a part `..`. What links in the folder lead to is not looked at.
 #[tactic(auto, unfolding(crate::specs::FileNames::stays_below))]
-pub(crate) fn stays_below(name: &[u8]) -> bool
+pub fn stays_below(name: &[u8]) -> bool
     ensures { result ≡ stays_below name.now }
 {
     is_file_name(name) && byte_at(name, 0) != b'/' && !has_way_up(name)

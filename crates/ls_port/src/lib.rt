@@ -5,12 +5,10 @@
 // from the folder that the program is run in. A shelf in memory has texts (`named_text`), of which `given_text` gives the one that is asked for and
 // writes that down (`shelf_answer`). For the folder `file_names` tells which names stay below it, and `whole_text` reads what was opened. A source
 // that fails answers `failed`, a sink `sink_refusal`, a shelf `shelf_refusal`. `Gate` is a pause point of threads before a step (`gate_step`); at
-// `open_gate` nobody waits. `failing_tests` and `shelf_tests` have the order of calls.
+// `open_gate` nobody waits.
 #![tactic(auto)]
 
 mod failed;
-#[cfg(test)]
-mod failing_tests;
 mod file_names;
 mod file_shelf;
 mod gate;
@@ -35,6 +33,7 @@ mod std_source;
 mod whole_text;
 
 pub use failed::Failed;
+pub use file_names::stays_below;
 pub use file_shelf::FileShelf;
 pub use gate::Gate;
 pub use gate_step::GateStep;
@@ -54,6 +53,4 @@ pub use solid_source::SolidSource;
 pub use source::Source;
 pub use std_sink::StdSink;
 pub use std_source::StdSource;
-
-#[cfg(test)]
-mod shelf_tests;
+pub use whole_text::whole_text;

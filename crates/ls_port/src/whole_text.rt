@@ -10,8 +10,8 @@ use std::io::Read;
 /// The most bytes that one read asks for.
 const PIECE: usize = 16_384;
 
-// Reads to the end, or 4,194,305 bytes. Each error of the reader is `Failed`.
-pub(crate) fn whole_text<R: Read>(alloc: Global, reader: &mut R) -> Result<Vec<u8>, ShelfRefusal>
+/// Reads to the end, or 4,194,305 bytes. Each error of the reader is `Failed`; else memory ran out.
+pub fn whole_text<R: Read>(alloc: Global, reader: &mut R) -> Result<Vec<u8>, ShelfRefusal>
     ensures bound { IfOk result (λ text. vec_len text ≤ 4194305) }
     ensures taken { IfOk result (λ text. Consumes (R.remaining reader.old) (R.remaining reader.new) text.items) }
     ensures whole { IfOk result (λ text. vec_len text < 4194305 → IsAtEnd (R.remaining reader.new)) }

@@ -26,3 +26,18 @@ cond_or false b = refl
 pub any_ok : {A E P : Type 0} (r : Result A E) → P → IfOk r (λ _. P)
 any_ok (Ok x) h = h
 any_ok (Err e) h = tt
+
+-- a result has one value, or one fault
+pub same_ok : {A E : Type 0} (r : Result A E) (x y : A) → r ≡ Ok x → r ≡ Ok y → x ≡ y
+same_ok {A} {E} r x y one other = ap value_or (sym one ∙ other)
+  where
+    value_or : Result A E → A
+    value_or (Ok z) = z
+    value_or (Err e) = x
+
+pub same_err : {A E : Type 0} (r : Result A E) (e d : E) → r ≡ Err e → r ≡ Err d → e ≡ d
+same_err {A} {E} r e d one other = ap fault_or (sym one ∙ other)
+  where
+    fault_or : Result A E → E
+    fault_or (Ok x) = e
+    fault_or (Err f) = f

@@ -1,5 +1,6 @@
 -- Lists that are the same, taken apart and joined, and what a function makes of their elements.
-use Rattle.std.proofs.Common.{◌≡◌, ℕ, List, [], ◌∷◌, ◌++◌, map, refl, sym, ap, ap₂, subst}
+use Rattle.std.proofs.Common.{◌≡◌, ℕ, List, [], ◌∷◌, ◌++◌, map, refl, sym, ap, ap₂, subst, ◌∙◌, append-nil, ◌<◌, length, get_or}
+use Rattle.std.proofs.lemmas.List.{append_cancel_left, get_or_default}
 
 -- a list that has an element isn't empty
 pub none_is_some : {A P : Type 0} (x : A) (xs : List A) → [] ≡ x ∷ xs → P
@@ -49,3 +50,11 @@ pub map_so : {A B : Type 0} (f : A → B) (moved : A → A) (made : B → B) →
     → map f (map moved xs) ≡ map made (map f xs)
 map_so f moved made is [] = refl
 map_so {A} {B} f moved made is (x ∷ xs) = ap₂ (λ (y : B) (ys : List B). y ∷ ys) (is x) (map_so f moved made is xs)
+
+-- nothing stands behind a list that stays as it is
+pub none_behind : {A : Type 0} (xs ys : List A) → xs ++ ys ≡ xs → ys ≡ []
+none_behind xs ys e = append_cancel_left xs ys [] (e ∙ sym (append-nil xs))
+
+-- what is read twice is the same
+pub get_or_one : {A : Type 0} (xs : List A) (i : ℕ) (x y : A) → i < length xs → x ≡ get_or xs i x → y ≡ get_or xs i y → x ≡ y
+get_or_one xs i x y h is also = is ∙ get_or_default xs i x y h ∙ sym also

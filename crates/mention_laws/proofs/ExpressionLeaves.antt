@@ -22,12 +22,13 @@ use Rattle.width_rules.specs.Sizes.{Operand, self_determined, unary_at, binary_a
 use Rattle.width_rules.proofs.RenamedSizes.{seen}
 use Rattle.block_rules.specs.Paths.{leaves}
 use Rattle.statement_rules.specs.Written.{IsWritten, ArePartsWritten}
-use Rattle.mention_laws.specs.Leaves.{number_of, signals_of}
+use Rattle.statement_rules.specs.DeclaredValues.{signal_in}
+use Rattle.mention_laws.specs.Leaves.{signals_of}
 use Rattle.width_rules.specs.Names.{expression_names, run_time}
 
 -- the signal of a name
 abbrev pub number : Scope → Identifier → ℕ
-number scope n = number_of (scope n.name.0)
+number scope n = signal_in (scope n.name.0)
 
 pub both_named : (f : Identifier → ℕ) (xs ys : List Span) (ms ns : List Identifier) → signals_of xs ≡ map f ms → signals_of ys ≡ map f ns
     → signals_of (xs ++ ys) ≡ map f (ms ++ ns)
@@ -41,7 +42,7 @@ extended_leaves x l t = by_cases (width_of x == l)
 
 -- ---- names and selects
 
-name_leaves : (f : Identifier → ℕ) (m : Meaning) (n : Identifier) (l : ℕ) (t : Bool) → f n ≡ number_of m
+name_leaves : (f : Identifier → ℕ) (m : Meaning) (n : Identifier) (l : ℕ) (t : Bool) → f n ≡ signal_in m
     → signals_of (leaves (name_at m l t)) ≡ map f (if is_signal m then n ∷ [] else [])
 name_leaves f (Signal signal width lsb signed writer) n l t h = ap signals_of (extended_leaves (s.Name signal width) l t) ∙ ap (λ (k : ℕ). k ∷ []) (sym h)
 name_leaves f (Constant width value signed) n l t h = refl
@@ -50,7 +51,7 @@ name_leaves f Genvar n l t h = refl
 name_leaves f Unknown n l t h = refl
 
 bits_leaves : (f : Identifier → ℕ) (m : Meaning) (n : Identifier) (width down : ℕ) (constant : Bool) (at : ℤ) (signed : Bool) (index : Sized) (names : List Identifier)
-    → f n ≡ number_of m → signals_of (leaves index) ≡ map f names
+    → f n ≡ signal_in m → signals_of (leaves index) ≡ map f names
     → signals_of (leaves (bits_at m width down constant at signed index)) ≡ map f ((if is_signal m then n ∷ [] else []) ++ run_time (is_signal m) constant names)
 bits_leaves f (Signal signal total lsb sign writer) n width down true at signed index names h g = ap (λ (k : ℕ). k ∷ []) (sym h)
 bits_leaves f (Signal signal total lsb sign writer) n width down false at signed index names h g = ap₂ (λ (k : ℕ) (ks : List ℕ). k ∷ ks) (sym h) g
@@ -59,7 +60,7 @@ bits_leaves f (Turn own value sign) n width down constant at signed index names 
 bits_leaves f Genvar n width down constant at signed index names h g = refl
 bits_leaves f Unknown n width down constant at signed index names h g = refl
 
-range_leaves : (f : Identifier → ℕ) (m : Meaning) (n : Identifier) (low : ℤ) (width : ℕ) → f n ≡ number_of m
+range_leaves : (f : Identifier → ℕ) (m : Meaning) (n : Identifier) (low : ℤ) (width : ℕ) → f n ≡ signal_in m
     → signals_of (leaves (bits_from m low width)) ≡ map f (if is_signal m then n ∷ [] else [])
 range_leaves f (Signal signal total lsb sign writer) n low width h = ap (λ (k : ℕ). k ∷ []) (sym h)
 range_leaves f (Constant own value sign) n low width h = refl

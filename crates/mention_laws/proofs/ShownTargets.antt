@@ -14,9 +14,10 @@ use Rattle.width_rules.specs.Scopes.{Scope}
 use Rattle.width_rules.proofs.Reading.{left_none, right_none}
 use Rattle.statement_rules.specs.Statements.{sized_statement, expression_faults, item_faults, statement_faults}
 use Rattle.statement_rules.specs.Written.{IsStatementWritten}
+use Rattle.statement_rules.specs.DeclaredValues.{signal_in}
 use Rattle.width_rules.specs.Forms.{reference_form, form_or_name, statement_shown}
 use Rattle.width_rules.specs.Mentions.{writing, count, statement_targets}
-use Rattle.mention_laws.specs.Leaves.{number_of, signals_of, signals_named}
+use Rattle.mention_laws.specs.Leaves.{signals_of, signals_named}
 use Rattle.mention_laws.specs.Placed.{AreStatements}
 use Rattle.mention_laws.specs.Shown.{first_written, IsShownBy}
 use Rattle.mention_laws.proofs.FirstForms.{statement_formed}
@@ -61,13 +62,13 @@ is_at (Some p) n h = record { bits = p; there = refl; signal = ap (λ (o : Optio
 -- lists of the same signals, place by place
 same_place : (scope : Scope) (ps : List Span) (ms : List Mention) (i : ℕ) (m : Mention) → signals_of ps ≡ signals_named scope ms
     → slice_get ms i ≡ Some m
-    → IsAt (slice_get ps i) (number_of (scope m.name.0))
+    → IsAt (slice_get ps i) (signal_in (scope m.name.0))
 same_place scope ps ms i m same is =
-    is_at (slice_get ps i) (number_of (scope m.name.0))
+    is_at (slice_get ps i) (signal_in (scope m.name.0))
     (sym (slice_get-map (λ (p : Span). p.signal) ps i)
     ∙ ap (λ (ns : List ℕ). slice_get ns i) same
-    ∙ slice_get-map (λ (n : Mention). number_of (scope n.name.0)) ms i
-    ∙ ap (option_map (λ (n : Mention). number_of (scope n.name.0))) is)
+    ∙ slice_get-map (λ (n : Mention). signal_in (scope n.name.0)) ms i
+    ∙ ap (option_map (λ (n : Mention). signal_in (scope n.name.0))) is)
 
 -- ---- the target by which a statement is named
 
@@ -111,7 +112,7 @@ writes x n (found y m a b c d e) some = record { first = y; is_first = d }
 
 as_long : (scope : Scope) (ps : List Span) (ms : List Mention) → signals_of ps ≡ signals_named scope ms → length ps ≡ length ms
 as_long scope ps ms h =
-    sym (length-map ps (λ (p : Span). p.signal)) ∙ ap length h ∙ length-map ms (λ (m : Mention). number_of (scope m.name.0))
+    sym (length-map ps (λ (p : Span). p.signal)) ∙ ap length h ∙ length-map ms (λ (m : Mention). signal_in (scope m.name.0))
 
 pub is_writing : (scope : Scope) (x : Statement) → AreStatements x → IsStatementWritten x → statement_faults scope Combinational x ≡ []
     → 0 < length (targets (combinational scope x)) → (r : Expression) × (first_written x ≡ Some r)

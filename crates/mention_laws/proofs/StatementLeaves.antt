@@ -20,7 +20,8 @@ use Rattle.statement_rules.specs.Statements.{assigned, assignment, label_at, ite
 use Rattle.statement_rules.specs.Targets.{target_length, parts}
 use Rattle.block_rules.specs.Paths.{leaves, index_leaves, item_leaves}
 use Rattle.statement_rules.specs.Written.{IsWritten, IsTargetWritten, AreLabelsWritten, IsStatementWritten}
-use Rattle.mention_laws.specs.Leaves.{statement_leaves, arm_leaves, number_of, signals_of, signals_named}
+use Rattle.statement_rules.specs.DeclaredValues.{signal_in}
+use Rattle.mention_laws.specs.Leaves.{statement_leaves, arm_leaves, signals_of, signals_named}
 use Rattle.width_rules.specs.Mentions.{Listing, reading, writing, numbered, labels_names, count, mentions, arm_mentions, default_mentions}
 use Rattle.width_rules.specs.Names.{expression_names, index_names}
 use Rattle.mention_laws.specs.Placed.{AreStatements, AreItems}
@@ -40,7 +41,7 @@ told scope k xs ns h = h ∙ sym (numbered_same scope k ns)
 two : (scope : Scope) (xs ys : List Span) (ms ns : List Mention) → signals_of xs ≡ signals_named scope ms → signals_of ys ≡ signals_named scope ns
     → signals_of (xs ++ ys) ≡ signals_named scope (ms ++ ns)
 two scope xs ys ms ns h k =
-    map-append (λ (p : Span). p.signal) xs ys ∙ ap₂ (λ (a b : List ℕ). a ++ b) h k ∙ sym (map-append (λ (m : Mention). number_of (scope m.name.0)) ms ns)
+    map-append (λ (p : Span). p.signal) xs ys ∙ ap₂ (λ (a b : List ℕ). a ++ b) h k ∙ sym (map-append (λ (m : Mention). signal_in (scope m.name.0)) ms ns)
 
 -- ---- one list of a sized statement, that of a listing
 

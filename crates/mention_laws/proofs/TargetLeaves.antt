@@ -15,13 +15,14 @@ use Rattle.width_rules.specs.Sizes.{length, bits_between, count_of, is_constant}
 use Rattle.statement_rules.specs.Targets.{target_length, parts}
 use Rattle.block_rules.specs.Paths.{leaves, index_leaves}
 use Rattle.statement_rules.specs.Written.{IsWritten, IsReference, IsTargetWritten, AreTargetsWritten}
-use Rattle.mention_laws.specs.Leaves.{number_of, signals_of}
+use Rattle.statement_rules.specs.DeclaredValues.{signal_in}
+use Rattle.mention_laws.specs.Leaves.{signals_of}
 use Rattle.width_rules.specs.Names.{expression_names, run_time, index_of, index_names, reference_name, target_names}
 use Rattle.mention_laws.proofs.ExpressionLeaves.{number, both_named, expression_leaves}
 
 -- ---- names
 
-whole_named : (m : Meaning) (shift : ℕ) → (span_of (whole_part m shift)).signal ≡ number_of m
+whole_named : (m : Meaning) (shift : ℕ) → (span_of (whole_part m shift)).signal ≡ signal_in m
 whole_named (Signal signal width lsb signed writer) shift = refl
 whole_named (Constant width value signed) shift = refl
 whole_named (Turn width value signed) shift = refl
@@ -29,7 +30,7 @@ whole_named Genvar shift = refl
 whole_named Unknown shift = refl
 
 bits_named : (m : Meaning) (shift width down : ℕ) (constant : Bool) (at : ℤ) (signed : Bool) (index : Sized)
-    → (span_of (part_at m shift width down constant at signed index)).signal ≡ number_of m
+    → (span_of (part_at m shift width down constant at signed index)).signal ≡ signal_in m
 bits_named (Signal signal total lsb sign writer) shift width down true at signed index = refl
 bits_named (Signal signal total lsb sign writer) shift width down false at signed index = refl
 bits_named (Constant own value sign) shift width down constant at signed index = refl
@@ -37,7 +38,7 @@ bits_named (Turn own value sign) shift width down constant at signed index = ref
 bits_named Genvar shift width down constant at signed index = refl
 bits_named Unknown shift width down constant at signed index = refl
 
-range_named : (m : Meaning) (shift : ℕ) (low : ℤ) (width : ℕ) → (span_of (part_from m shift low width)).signal ≡ number_of m
+range_named : (m : Meaning) (shift : ℕ) (low : ℤ) (width : ℕ) → (span_of (part_from m shift low width)).signal ≡ signal_in m
 range_named (Signal signal total lsb sign writer) shift low width = refl
 range_named (Constant own value sign) shift low width = refl
 range_named (Turn own value sign) shift low width = refl

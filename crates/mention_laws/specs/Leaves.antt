@@ -3,8 +3,9 @@ use Rattle.std.specs.Prelude.{ℕ, List, [], ◌++◌, map}
 use Rattle.typed_ir.specs.declared.span.Span.{Span}
 use Rattle.typed_ir.specs.Stmts.{SizedStmt, SizedArms, Skip, Assign, Later, Then, If, Case, Arm, Default}
 use Rattle.typed_ir.specs.declared.mention.Mention.{Mention}
-use Rattle.width_rules.specs.Scopes.{Meaning, Signal, Constant, Turn, Genvar, Unknown, Scope}
+use Rattle.width_rules.specs.Scopes.{Scope}
 use Rattle.block_rules.specs.Paths.{leaves, index_leaves, item_leaves}
+use Rattle.statement_rules.specs.DeclaredValues.{signal_in}
 
 abbrev mutual
   -- in the order of its text, a default of a case last
@@ -20,16 +21,8 @@ abbrev mutual
   arm_leaves (Arm items body rest) = item_leaves items ++ (statement_leaves body ++ arm_leaves rest)
   arm_leaves (Default otherwise) = statement_leaves otherwise
 
--- the number of a net or variable; as in the sized form, 0 for what is none
-abbrev pub number_of : Meaning → ℕ
-number_of (Signal signal width lsb signed writer) = signal
-number_of (Constant width value signed) = 0
-number_of (Turn width value signed) = 0
-number_of Genvar = 0
-number_of Unknown = 0
-
 abbrev pub signals_of : List Span → List ℕ
 signals_of spans = map (λ (p : Span). p.signal) spans
 
 abbrev pub signals_named : Scope → List Mention → List ℕ
-signals_named scope ms = map (λ (m : Mention). number_of (scope m.name.0)) ms
+signals_named scope ms = map (λ (m : Mention). signal_in (scope m.name.0)) ms

@@ -8,10 +8,10 @@ use Rattle.verilog_ast.specs.Statements.{Statement, Block, If, IfElse, Case, Ass
 use Rattle.width_rules.specs.declared.writer.Writer.TheVariants.{Combinational}
 use Rattle.width_rules.specs.Scopes.{Scope}
 use Rattle.statement_rules.specs.Statements.{sized_statement}
+use Rattle.statement_rules.specs.DeclaredValues.{signal_in}
 use Rattle.width_rules.specs.Forms.{reference_form, statement_shown}
 use Rattle.width_rules.specs.Mentions.{statement_targets}
 use Rattle.width_rules.specs.Names.{reference_name}
-use Rattle.mention_laws.specs.Leaves.{number_of}
 
 -- the first one that is there
 abbrev pub either : Option Expression → Option Expression → Option Expression
@@ -50,4 +50,4 @@ pub record IsShownBy (scope : Scope) (x : Statement) (r : Expression) : Type 0 w
   -- the bits that are told are of the signal of this name
   pub bits : Span
   pub there : slice_get (targets (sized_statement scope Combinational x)) (statement_shown scope x).number ≡ Some bits
-  pub signal : bits.signal ≡ number_of (scope mention.name.0)
+  pub signal : bits.signal ≡ signal_in (scope mention.name.0)

@@ -7,6 +7,7 @@ use Rattle.typed_ir.specs.declared.signal.Signal.{Signal}
 use Rattle.typed_ir.specs.Flats.{are_within}
 use Rattle.typed_ir.specs.Orders.{at_or}
 use Rattle.typed_ir.proofs.Cases.{and_left, and_right}
+use Rattle.typed_ir.proofs.Lists.{at_or_read}
 use Rattle.state_layout.specs.Words.{width_in}
 use Rattle.reg_transform.specs.Beginnings.{initial_in}
 use Rattle.reg_transform.specs.Regs.{register_of, register_at}
@@ -22,17 +23,11 @@ within_read (y ∷ ys) count zero x w h is =
 within_read (y ∷ ys) count (suc r) x w h is =
     within_read ys count r x (and_right (nat_lt y.instance count) (are_within ys count) w) (omega (arith, h)) is
 
--- what a signal has
-pub signal_read : {T : Type 0} (f : Signal → T) (d : T) (signals : List Signal) (r : ℕ) (x : Signal) → r < length signals → x ≡ get_or signals r x → at_or f d signals r ≡ f x
-signal_read f d [] r x h is = absurd (omega (arith, h))
-signal_read f d (y ∷ ys) zero x h is = ap f (sym is)
-signal_read f d (y ∷ ys) (suc r) x h is = signal_read f d ys r x (omega (arith, h)) is
-
 -- what the signal of a register has
 pub register_read : {T : Type 0} (f : Signal → T) (d : T) (signals : List Signal) (rs : List ℕ) (i r : ℕ) (x : Signal) → i < length rs → r ≡ get_or rs i 0
     → r < length signals → x ≡ get_or signals r x → slice_get (map (at_or f d signals) rs) i ≡ Some (f x)
 register_read f d signals [] i r x h e there is = absurd (omega (arith, h))
-register_read f d signals (q ∷ qs) zero r x h e there is = ap Some (ap (at_or f d signals) (sym e) ∙ signal_read f d signals r x there is)
+register_read f d signals (q ∷ qs) zero r x h e there is = ap Some (ap (at_or f d signals) (sym e) ∙ at_or_read f d signals r x there is)
 register_read f d signals (q ∷ qs) (suc i) r x h e there is = register_read f d signals qs i r x (omega (arith, h)) e there is
 
 -- what the signal of a register begins with

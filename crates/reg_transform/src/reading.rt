@@ -12,7 +12,7 @@ use crate::register_key::RegisterKey;
 use crate::regs::Regs;
 use typed_ir::Signal;
 
-// The signal of the register at a place.
+/// The signal of the register at a place, counted from 0 in their order.
 pub fn signal_at<'a>(regs: &Regs<'a>, place: usize) -> &'a Signal
     requires { place < length regs.now.registers.now }
     ensures register { slice_get (registers_in regs.now) place ≡ Some (register_of (paths_of regs.now.instances.now.rows.items) result.now) }

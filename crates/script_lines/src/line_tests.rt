@@ -1,6 +1,7 @@
 // Displays, rows and pages, read by hand.
 use crate::displays::last_settled;
-use crate::page::{Example, agrees, example_of, has, row_of};
+use crate::example::Example;
+use crate::page::{agrees, example_of, has, row_of};
 use crate::row::are_of_every_schedule;
 use std::test::Fail;
 

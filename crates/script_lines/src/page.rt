@@ -1,22 +1,7 @@
 // What the page of faults says: a row of its table for each fault, with examples.
 
-/// A row of the page's table.
-#[derive(Clone, Copy)]
-pub struct Entry<'a> {
-    /// `CODE NAME`, as in the line of a refused command.
-    pub fault: &'a str,
-    /// The examples, with `; ` between.
-    pub examples: &'a str,
-}
-
-/// An example of a fault.
-#[derive(Clone, Copy)]
-pub struct Example<'a> {
-    /// The name of its script.
-    pub script: &'a str,
-    /// The line that the script has to write, where the page tells it.
-    pub line: Option<&'a str>,
-}
+use crate::entry::Entry;
+use crate::example::Example;
 
 /// What a line of the page says of a fault; none where it is no row of the table.
 pub fn row_of(line: &str) -> Option<Entry<'_>> {

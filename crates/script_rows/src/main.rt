@@ -3,10 +3,11 @@
 //
 // `rows.txt` has a line `STATUS NAME WORDS` for each row: NAME.live is the script, NAME.out are the lines, STATUS is how the run
 // ends, and WORDS are those of the command line, where there are any, but for the workers: each row runs without one and with two, where the
-// lines of those that print an estimate aren't compared. `FAULTS.md` is the page of faults: each of its examples is a row, and shows the fault by the line that the page
-// tells; each fault that a row shows is on the page. `fresh.txt` has a line `NAME FRESH` for each row whose last display is settled: FRESH.live has its last design
-// alone, with the inputs and cycles that were recorded, and the registers are the same. What differs is named, with the first line that does. How rows, the page and
-// displays are read is of script_lines.
+// lines of those that print an estimate aren't compared. `FAULTS.md` is the page of faults: each of its examples is a row, and shows the fault by the
+// line that the page tells; each fault that a row shows is on the page. `fresh.txt` has a line `NAME FRESH` for each row whose last display is
+// settled: FRESH.live has its last design alone, with the inputs and cycles that were recorded, and the registers are the same. What differs is
+// named, with the first line that does, and the rows that are as they have to be are counted (`counts`). How rows, the page and displays are read is
+// of script_lines.
 #![tactic(auto)]
 
 mod counts;

@@ -1,6 +1,6 @@
 -- What passes of a settle, a whole one and an unfinished one leave of a book, and how they are counted.
 use Rattle.std.proofs.Common.{◌≡◌, ℕ, ◌+◌, ◌*◌, ◌≤◌, List, [], ◌∷◌, ◌++◌, length, refl, sym, ◌∙◌, ap, subst, arith, append_assoc}
-use Rattle.std.specs.Prelude.{Option, Some, None}
+use Rattle.std.specs.Prelude.{Option, None}
 use Rattle.std.proofs.lemmas.List.{length-append}
 use Rattle.machine.specs.Kit.{Kit}
 use Rattle.book_history.specs.declared.who.Who.TheVariants.{Session}
@@ -11,7 +11,7 @@ use Rattle.book_history.specs.Outline.{Outline, outline_in, outline_from}
 use Rattle.book_history.specs.Owned.{owned}
 use Rattle.book_history.specs.Readers.{links_in}
 use Rattle.book_history.specs.Rooms.{Counts, count, count_all}
-use Rattle.book_history.proofs.Outlines.{length-cycles, outline-append, outline_more}
+use Rattle.book_history.proofs.Outlines.{outline-append, outline_more, links_marked}
 use Rattle.book_history.proofs.Owned.{owned_append}
 use Rattle.book_history.proofs.Places.{moments-append, replay-append}
 use Rattle.book_history.proofs.Prefixes.{count-append, legal_first}
@@ -143,11 +143,6 @@ module _ {D R O : Type 0} where
       ∙ given_up_counts (with_more c (2 * u.count)) u.last u.gave_up
       ∙ with_sum c (2 * u.count) (length u.last)
       ∙ ap (λ (n : ℕ). with_more c n) many
-
--- the number of links is that of the outline's marks
-pub links_marked : {D S R : Type 0} (b : Option (Book D S R)) → links_in b ≡ length (outline_in b).marks
-links_marked None = refl
-links_marked (Some c) = sym (length-cycles c.segs)
 
 module _ {D S R O : Type 0} (k : Kit D S R O) (st : Settings) where
   pub passes_moments : (b : Option (Book D S R)) (n : ℕ) (es : List (Event D R O)) → ArePasses n es → moments_from k st b es ≡ []

@@ -1,6 +1,7 @@
-// The verification of a stretch between two marks: its ticket's own machine runs over the ticket's rows. And who does it: a worker
-// that claims such stretches from a shared book, verifies and installs them (`worker`), and sleeps in between (`idling`); or the one thread of a
-// `settle` (`book_settle`), by passes, each of which joins the first link that isn't joined, and then a show. `laws` says what such passes leave of a book.
+// The verification of a stretch between two marks: its ticket's own machine runs over the ticket's rows (`verification`). And who does it:
+// a worker that claims such stretches from a shared book, verifies and installs them (`worker`), and sleeps in between (`idling`); or the one thread
+// of a `settle` (`book_settle`), by passes, each of which joins the first link that isn't joined, and then a show. `laws` says what such passes leave
+// of a book.
 #![tactic(auto)]
 
 ghost use Rattle.std.specs.Prelude.{◌≡◌, ◌+◌, ◌-◌, ◌*◌, ◌≤◌};

@@ -9,7 +9,7 @@ use typed_ir::{Const, Signedness, fits, value};
 use width_rules::{constant, size_expr};
 
 // How many bytes stand before the first space.
-fn word_len(text: &[u8]) -> usize {
+fn len_before_space(text: &[u8]) -> usize {
     text.iter().take_while(|b| **b != b' ').count()
 }
 
@@ -38,7 +38,7 @@ fn push_sized(
 
 // The same of a text: a number of bits and an expression.
 fn value_of(alloc: Global, text: &[u8], by: Signedness) -> Result<Vec<u8>, NoMemory> {
-    let n = word_len(text);
+    let n = len_before_space(text);
     let length = bits_of(front(text, n));
     let mut out = Vec::new(alloc);
     if let Some(mut p) = Prepared::of(alloc, behind(text, n.saturating_add(1)))? {
@@ -76,7 +76,7 @@ fn bits_of(text: &[u8]) -> u8
 
 /// The first fault of an expression in a context of so many bits; or `ok`. A row is the number of bits and the expression.
 pub fn within(alloc: Global, text: &[u8]) -> Result<Vec<u8>, NoMemory> {
-    let n = word_len(text);
+    let n = len_before_space(text);
     let context = decimal(front(text, n));
     fault_of(alloc, behind(text, n.saturating_add(1)), Some(context))
 }

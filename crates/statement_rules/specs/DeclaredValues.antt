@@ -81,6 +81,7 @@ is_net_by kind.AsDeclared declared = declared
 abbrev pub is_net_value : Scope → DeclaredValue → Bool
 is_net_value scope x = is_net_by x.kind (is_net (scope x.name.name.0))
 
+-- the number of a net or variable; as in the sized form, 0 for what is none
 abbrev pub signal_in : Meaning → ℕ
 signal_in (Signal signal width lsb signed writer) = signal
 signal_in (Constant width value signed) = 0

@@ -11,9 +11,9 @@ use Rattle.book_history.specs.Legal.{Legal}
 use Rattle.book_history.specs.Outline.{Outline, blank, outline_from}
 use Rattle.book_history.specs.Owned.{owned, IsPrefix}
 use Rattle.book_history.specs.Readers.{links_in}
-use Rattle.book_history.proofs.Outlines.{legal_outline, outline-append}
+use Rattle.book_history.proofs.Outlines.{legal_outline, outline-append, links_marked}
 use Rattle.book_history.proofs.Prefixes.{legal_first}
-use Rattle.segment_verify.proofs.Counting.{links_marked, passes_outline}
+use Rattle.segment_verify.proofs.Counting.{passes_outline}
 use Rattle.segment_verify.proofs.Settling.{all_settled, enough}
 use Rattle.book_turn.specs.Known.{Known}
 use Rattle.book_turn.specs.Turns.{HasAdded}

@@ -1,7 +1,7 @@
 -- What one turn of the session asks of the book, and what it gives.
 use Rattle.std.proofs.Common.{◌≡◌, ℕ, ◌+◌, Bool, true, false, List, [], ◌∷◌, ◌++◌, Option, Some, None, Result, Ok, Err, IfOk, OnErr, refl, sym, ap, ◌∙◌, subst, arith, append-nil}
 use Rattle.std.specs.Prelude.{IfNone}
-use Rattle.std.proofs.lemmas.List.{append_cancel_left}
+use Rattle.ls_text.proofs.Lists.{none_behind}
 use Rattle.machine.specs.Kit.{Kit}
 use Rattle.book_history.specs.declared.who.Who.TheVariants.{Session}
 use Rattle.book_history.specs.Book.{Book, DrawnTicket, Settings, Event, Installs, Shows, replay, replay_from}
@@ -28,9 +28,6 @@ use Rattle.segment_verify.specs.Workers.{IsFree}
 use Rattle.segment_verify.proofs.Turns.{AddsClaim}
 use Rattle.turn_settle.specs.Seen.{book_under, book_seen, IsLegalUnder, FitRoom, HasOwnRoom}
 use Rattle.turn_settle.specs.Visits.{IsVisit, HasInstalled, drawn_first, claim_of}
-
-none_behind : {E : Type 0} (xs ys : List E) → xs ++ ys ≡ xs → ys ≡ []
-none_behind xs ys e = append_cancel_left xs ys [] (e ∙ sym (append-nil xs))
 
 module _ {D R O : Type 0} where
   -- what others have added since

@@ -47,6 +47,11 @@ each_weaker P Q (x ∷ xs) f h = (f x h.0, each_weaker P Q xs f h.1)
 
 -- ---- elements by their number
 
+pub at_or_read : {A B : Type 0} (f : A → B) (d : B) (xs : List A) (k : ℕ) (x : A) → k < length xs → x ≡ get_or xs k x → at_or f d xs k ≡ f x
+at_or_read f d [] k x h is = absurd (omega (arith, h))
+at_or_read f d (y ∷ ys) zero x h is = ap f (sym is)
+at_or_read f d (y ∷ ys) (suc k) x h is = at_or_read f d ys k x (omega (arith, h)) is
+
 -- the k-th of a list that is seen by a view
 pub at_map : {X Y A : Type 0} (f : Y → A) (d : A) (g : X → Y) (xs : List X) (k : ℕ) (x : X) → k < length xs → x ≡ get_or xs k x → at_or f d (map g xs) k ≡ f (g x)
 at_map f d g [] k x h is = absurd (omega (arith, h))

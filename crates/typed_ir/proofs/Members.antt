@@ -1,5 +1,5 @@
--- Members of lists of numbers.
-use Rattle.std.proofs.Common.{◌≡◌, ℕ, true, ◌==◌, List, [], ◌∷◌, ◌++◌, ◌⊎◌, inl, inr, map, refl, ap₂, eq-eqb}
+-- Members of lists.
+use Rattle.std.proofs.Common.{◌≡◌, ℕ, true, ◌==◌, List, [], ◌∷◌, ◌++◌, ◌⊎◌, inl, inr, map, refl, ap₂, eq-eqb, Bool, false, cond, filter, ap, ◌∙◌}
 use Rattle.typed_ir.specs.Orders.{Member, Distinct, is_member}
 use Rattle.typed_ir.proofs.Cases.{left_or, right_or}
 
@@ -31,6 +31,20 @@ is_of x (y ∷ ys) (inr m) = right_or (x == y) (is_member x ys) (is_of x ys m)
 pub member_later : (x y : ℕ) (ys : List ℕ) → (x ≡ y → ⊥) → Member x (y ∷ ys) → Member x ys
 member_later x y ys other (inl e) = absurd (other e)
 member_later x y ys other (inr m) = m
+
+-- a member of what a test leaves meets it
+pub member_filtered : {A : Type 0} (test : A → Bool) (xs : List A) (y : A) → Member y (filter test xs) → Member y xs × (test y ≡ true)
+member_filtered test [] y m = absurd m
+member_filtered {A} test (x ∷ xs) y m = by (test x) refl (member_filtered test xs y) m
+  where
+    later : Member y xs × (test y ≡ true) → Member y (x ∷ xs) × (test y ≡ true)
+    later h = (inr h.0, h.1)
+
+    by : (b : Bool) → test x ≡ b → (Member y (filter test xs) → Member y xs × (test y ≡ true)) → Member y (cond b (x ∷ filter test xs) (filter test xs))
+        → Member y (x ∷ xs) × (test y ≡ true)
+    by true is rest (inl e) = (inl e, ap test e ∙ is)
+    by true is rest (inr h) = later (rest h)
+    by false is rest h = later (rest h)
 
 -- no number stands twice in two lists that share none
 pub distinct_append : (xs ys : List ℕ) → Distinct xs → Distinct ys → ((x : ℕ) → Member x xs → Member x ys → ⊥) → Distinct (xs ++ ys)

@@ -1,16 +1,27 @@
 // Flat designs, and modules by numbers of their own: sized expressions, statements and nodes, and what they do to a valuation of the signals.
 //
-// Expressions: `typed` builds sized ones, whose widths agree, of the layers of `form`, which evaluates them by `apply`; operators are
-// `unary_operator` and, in groups, `binary_operator`. Statements (`stmt`, `target`, `item`) and nodes (`node`) are data: `specs/` says what they do,
-// and the steps that other crates lay them out as do it. Bits: `writing` lists those that a clocked block may write, `touching` those that a node
-// drives and reads. Whole designs: `rooting` makes a table of instances, `flat` keeps what a design's parts have to be, and `linked` an order of its
-// nodes too. `laws` says of such a design that the order settles its wires. Numbers that stand for something have types of their own, which contracts
-// see as numbers: `signal_id`, `register_id`, `node_id`, `instance_id`.
+// Expressions: `typed` builds sized ones, whose widths agree, of the layers of `form`, which evaluates them by `apply`. Operators are
+// `unary_operator` and, in groups, `binary_operator`: `arithmetic_operator`, `comparison`, `shift_operator` and `logical_operator`; `signedness`
+// says how one reads its operands. A `constant` is a value with its sign, and an `env` has the values of all signals.
 //
-// Modules, as types alone of what others make: `typed_items` are the items of a module (`typed_item`), each sized (`item_body`) and with its places
-// (`item_places`), `unit_parts` these without, `unit` those that are sound and sized; `shape_list` and `port_list` are instances (`child_shape`) and
-// ports (`port_shape`) as they are seen from above, `instance_tree` the instances of a design. `shifting` copies an expression, a statement or a node
-// to other numbers of signals, as linking does for each instance. `linking_laws` says what the definition of linking keeps.
+// Statements (`stmt`) and nodes (`node`) are data: `specs/` says what they do, and the steps that other crates lay them out as do it. An `arm` of
+// a case has what its expression is compared with (`item`); a `target` is a part of what stands left of an assignment, bits that are known
+// (`lane`) or a select at run time (`reach`). Bits: a `span` is a run of bits of a signal, a `touch` some bits as a mask, and an `update`, of which
+// contracts alone speak, bits with what is written there. `writing` lists those that a clocked block may write, `touching` those that a node drives
+// and reads.
+//
+// Whole designs: `rooting` makes a table of instances (`instance_table`), each with its place (`instance_name`); `flat` keeps what a design's parts
+// have to be, with its nets and variables (`signal`), and `linked` an order of its nodes too. `laws` says of such a design that the order settles
+// its wires. Numbers that stand for something have types of their own, which contracts see as numbers: `signal_id`, `register_id`, `node_id` (a list
+// of these is a `node_list`), `instance_id` and, within a module, `child_id`.
+//
+// Modules, as types alone of what others make. `typed_items` are the items of a module (`typed_item`), each sized (`item_body`) and with its places
+// (`item_places`), with names where they stand in the text (`mention`). `unit_parts` are these without places, with nets and variables
+// (`unit_signal`) and nodes (`unit_node`); `unit` has those that are sound and sized. `signal_declaration` says what a signal is declared as
+// (`signal_kind`), `shown_target` which target names a block, and `target_form` in which form it is shown. `shape_list` and `port_list` are instances
+// (`child_shape`) and ports (`port_shape`) as they are seen from above, `instance_tree` the instances of a design, each an `instance` with the values
+// of its parameters (`const_list`). `shifting` copies an expression, a statement or a node to other numbers of signals, as linking does for each
+// instance. `linking_laws` says what the definition of linking keeps.
 #![tactic(auto)]
 
 mod apply;

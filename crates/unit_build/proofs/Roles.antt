@@ -7,6 +7,7 @@ use Rattle.typed_ir.specs.declared.signal_declaration.SignalDeclaration.{SignalD
 use Rattle.typed_ir.specs.declared.signal_kind.SignalKind.{SignalKind}
 use Rattle.typed_ir.specs.declared.signal_kind.SignalKind.TheVariants as kind
 use Rattle.typed_ir.specs.Items.{PlacedItem}
+use Rattle.typed_ir.proofs.Members.{member_filtered}
 use Rattle.gen_unroll.specs.Numbers.{SignalTable}
 use Rattle.gen_unroll.specs.Signals.{NamedSignal}
 use Rattle.gen_unroll.proofs.Numbered.{input_at, input_from}
@@ -19,15 +20,6 @@ use Rattle.statement_rules.specs.DeclaredValues.{InitialValue}
 use Rattle.unit_build.specs.Building.{placed}
 
 -- ---- numbers that meet a test
-
-pub member_filtered : (test : ℕ → Bool) (ks : List ℕ) (s : ℕ) → Member s (filter test ks) → test s ≡ true
-member_filtered test [] s m = absurd m
-member_filtered test (k ∷ ks) s m = by (test k) refl (member_filtered test ks s) m
-  where
-    by : (b : Bool) → test k ≡ b → (Member s (filter test ks) → test s ≡ true) → Member s (cond b (k ∷ filter test ks) (filter test ks)) → test s ≡ true
-    by true is rest (inl e) = ap test e ∙ is
-    by true is rest (inr h) = rest h
-    by false is rest h = rest h
 
 member_kept : (test : ℕ → Bool) (ks : List ℕ) (s : ℕ) → Member s ks → test s ≡ true → Member s (filter test ks)
 member_kept test [] s m h = absurd m
@@ -52,7 +44,8 @@ register_same [] s settled = refl
 register_same (x ∷ xs) zero settled = ap (λ (b : Bool). b && not settled) (kinds_same x.kind)
 register_same (x ∷ xs) (suc s) settled = register_same xs s settled
 
-register_there : (xs : List NamedSignal) (s : ℕ) (settled : Bool) → is_register_at settled (slice_get xs s) ≡ true → s < length xs
+-- the number of a register is that of a signal
+pub register_there : (xs : List NamedSignal) (s : ℕ) (settled : Bool) → is_register_at settled (slice_get xs s) ≡ true → s < length xs
 register_there [] s settled h = absurd (true≢false (sym h))
 register_there (x ∷ xs) zero settled h = omega arith
 register_there (x ∷ xs) (suc s) settled h = let rest = register_there xs s settled h in omega (arith, rest)
@@ -85,7 +78,7 @@ input_declared clock xs s m =
 pub has_roles : (job : BuildJob) (t : SignalTable) (items : List PlacedItem) (initials : List InitialValue) → (all : (s : ℕ) → s < length t.signals → Member s t.declared)
     → HasRoles (placed job t items initials)
 has_roles job t items initials all = record {
-  only = λ s m. sym (register_same t.signals s (is_settled items s)) ∙ member_filtered (is_register (is_settled items) t.signals) t.declared s m;
+  only = λ s m. sym (register_same t.signals s (is_settled items s)) ∙ (member_filtered (is_register (is_settled items) t.signals) t.declared s m).1;
   all = λ s h.
       let is = register_same t.signals s (is_settled items s) ∙ h in
       member_kept (is_register (is_settled items) t.signals) t.declared s (all s (register_there t.signals s (is_settled items s) is)) is;

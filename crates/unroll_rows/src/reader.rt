@@ -1,6 +1,7 @@
 // What one row's module is unrolled to.
 use crate::overrides::overrides;
 use crate::shown::{counts, steps};
+use crate::shown_part::ShownPart;
 use gen_unroll::unroll;
 use ls_text::{Names, NoMemory, Refusal};
 use row_tables::{Reader, texts_of, tokens_of};
@@ -11,13 +12,6 @@ use verilog_parse::parse;
 
 /// The readers: `steps` of a module without overrides, `overridden` with the overrides that stand before `: `, and `counts`.
 pub struct ModuleReader;
-
-// What a reader shows of a module.
-#[derive(Drop)]
-enum Shown {
-    Steps,
-    Counts,
-}
 
 // The modules of a text; none where it is refused.
 fn modules_of(
@@ -40,7 +34,7 @@ fn read(
     alloc: Global,
     text: &[u8],
     given: &[Option<Const>],
-    shown: Shown,
+    shown: ShownPart,
 ) -> Result<Vec<u8>, NoMemory> {
     let mut out = Vec::new(alloc);
     let mut names = Names::new(alloc);
@@ -52,8 +46,8 @@ fn read(
     if let Some(first) = all.first() {
         let u = unroll(alloc, &first.body, given)?;
         match shown {
-            Shown::Steps => steps(&mut out, &texts, &u)?,
-            Shown::Counts => counts(&mut out, &texts, &u)?,
+            ShownPart::Steps => steps(&mut out, &texts, &u)?,
+            ShownPart::Counts => counts(&mut out, &texts, &u)?,
         }
     }
     // A fault alone begins with a space.
@@ -69,14 +63,14 @@ impl Reader for ModuleReader {
         _want: &[u8],
     ) -> Result<Vec<u8>, NoMemory> {
         match name {
-            "steps" => read(alloc, text, &[], Shown::Steps),
-            "counts" => read(alloc, text, &[], Shown::Counts),
+            "steps" => read(alloc, text, &[], ShownPart::Steps),
+            "counts" => read(alloc, text, &[], ShownPart::Counts),
             "overridden" => {
                 let n = text.iter().take_while(|b| **b != b':').count();
                 let (given, rest) = text.split_at(n);
                 let given = overrides(alloc, given)?;
                 let rest = rest.strip_prefix(b": ".as_slice()).unwrap_or(rest);
-                read(alloc, rest, &given, Shown::Steps)
+                read(alloc, rest, &given, ShownPart::Steps)
             }
             _ => Ok(Vec::from_slice(alloc, b"no such reader")?),
         }

@@ -1,9 +1,20 @@
 // The tree of a Verilog text: modules, items, statements, targets and expressions, each with its place.
 //
-// One type a file, from `module` down to `expression`, but for three pairs of types that hold one another, of which each is one
-// recursion and is walked as one: `Expr` with `Reference`, `Stmt` with `Arm`, `GenerateItem` with `Branch`. `nodes` has what holds the
-// parts of a node. All that is defined above the parser speaks of the plain data that `specs/Views` gives of a tree; `laws` says that
-// this loses nothing, and keeps names and renaming.
+// One type a file, but for three pairs of types that hold one another, of which each is one recursion and is walked as one: `Expr` with `Reference`,
+// `Stmt` with `Arm`, `GenerateItem` with `Branch`. `nodes` has what holds the parts of a node.
+//
+// A `module` has its `module_body`: a name (`identifier`), parameters (`header_parameter`), `ports` (a `header_port` each, where the header declares
+// them) and items. A declaration has a sign and a range (`shape`, `range`), for a port also what stands before its sign (`port_net`), and then names
+// with their values (`variable`, `reg_variable`, `parameter`).
+//
+// An `item` declares ports or parameters, or may stand in a generate block too (`generate_item`, with the head of a loop, `generate_loop`). A
+// `plain_item` is one without a generate construct: a declaration, assignments (`continuous`), an `always` block, or instances (`instance`), each
+// with its `connections` (`named_connection`, `ordered_connection`). The statements of a block (`statement`) have assignments of one `sign`, each to
+// a `target`, and cases (`case_kind`), whose items have labels (`label`; one with don't-cares is a `pattern`). An `expression` has numbers
+// (`number`), names and operators (`unary_operator`, `binary_operator`).
+//
+// All that is defined above the parser speaks of the plain data that `specs/Views` gives of a tree; `laws` says that this loses nothing, and keeps
+// names and renaming.
 #![tactic(auto)]
 
 mod binary_operator;

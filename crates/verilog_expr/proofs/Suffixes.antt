@@ -2,6 +2,7 @@
 use Rattle.std.proofs.Common.{◌≡◌, ◌-◌, ℕ, List, [], ◌∷◌, ◌++◌, length, take, drop, Ok, Err, refl, ap, ◌∙◌, arith}
 use Rattle.std.proofs.lemmas.List.{length-append}
 use Rattle.std.proofs.Math.Seq.{take-append_seam, drop-append_seam}
+use Rattle.ls_text.proofs.Cases.{same_ok}
 use Rattle.verilog_lex.specs.declared.token.Token.{Token}
 use Rattle.verilog_lex.specs.declared.kind.Kind.TheVariants as k
 use Rattle.verilog_lex.specs.Ends.{EndsOnce}
@@ -9,14 +10,11 @@ use Rattle.verilog_expr.specs.declared.fault.ParseFault.{ParseFault}
 use Rattle.verilog_expr.specs.Grammar.{Symbol}
 use Rattle.verilog_expr.specs.Machine.{Outcome, Run, ends, takes, heavy, differs, expands, refuses}
 
-same_ok : (r s : List Token) (o : Outcome) → o ≡ Ok r → o ≡ Ok s → r ≡ s
-same_ok r s o a b = cc
-
 pub err_ok : (f : ParseFault) (r : List Token) (o : Outcome) → o ≡ Err f → o ≡ Ok r → ⊥
 err_ok f r o a b = cc
 
 suffix_from : {stack : List Symbol} {s : List Token} {o : Outcome} → Run stack s o → (r : List Token) → o ≡ Ok r → (own : List Token) × (s ≡ own ++ r)
-suffix_from (ends {s = s}) r is = ([], same_ok s r _ refl is)
+suffix_from (ends {s = s}) r is = ([], same_ok _ s r refl is)
 suffix_from (takes {token = token} cut kind light q) r is = let w = suffix_from q r is in (token ∷ w.0, cut ∙ ap (λ (l : List Token). token ∷ l) w.1)
 suffix_from (heavy cut kind over) r is = absurd (err_ok _ r _ refl is)
 suffix_from (differs d) r is = absurd (err_ok _ r _ refl is)

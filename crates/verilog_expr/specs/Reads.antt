@@ -10,7 +10,9 @@ use Rattle.verilog_expr.specs.Machine.{Outcome, Run}
 -- the machine has this fault, unless memory ran out
 pub data Fails (stack : List Symbol) (old : List Token) : ParseError → Type 0 where
   no_memory : Fails stack old NoMemory
-  at_fault : {f : ParseFault} → Run stack old (Err f) → Fails stack old (Fault f)
+  at_fault : {f : ParseFault}
+      → Run stack old (Err f)
+      → Fails stack old (Fault f)
 
 -- the machine does with these symbols what the function did
 abbrev pub Reads : {A : Type 0} → List Symbol → List Token → Result A ParseError → List Token → Type 0

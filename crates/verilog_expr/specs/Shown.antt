@@ -47,7 +47,10 @@ pub record IsShownAs (s : List Token) (f : ParseFault) (fault : Fault) : Type 0 
 -- memory ran out, or it is the fault of the machine that begins with these symbols
 pub data Refuses (stack : List Symbol) (s : List Token) : Refusal → Type 0 where
   no_memory : Refuses stack s refusal.NoMemory
-  at_fault : {f : ParseFault} {fault : Fault} → Run stack s (Err f) → IsShownAs s f fault → Refuses stack s (refusal.Fault fault)
+  at_fault : {f : ParseFault} {fault : Fault}
+      → Run stack s (Err f)
+      → IsShownAs s f fault
+      → Refuses stack s (refusal.Fault fault)
 
 -- memory ran out, or too much is open at some token
 abbrev pub IsMemoryOrHeavy : Refusal → Type 0

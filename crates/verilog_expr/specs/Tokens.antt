@@ -28,7 +28,10 @@ Differs kind (token ∷ rest) = token.kind ≢ kind
 
 -- a token of this kind, and then the rest
 pub data Takes (kind : Kind) (s r : List Token) : Token → Type 0 where
-  taken : {token : Token} → s ≡ token ∷ r → token.kind ≡ kind → Takes kind s r token
+  taken : {token : Token}
+      → s ≡ token ∷ r
+      → token.kind ≡ kind
+      → Takes kind s r token
 
 -- the most that may be open at a token
 abbrev pub max_weight : ℕ

@@ -1,8 +1,8 @@
 // From the pieces of the source files to tokens.
 //
 // `read` takes the next `lexeme` off a `cursor`: `cut` finds the longest stretch that stands there (`mark`, `based`), as a `shape`. `lexer` makes
-// tokens (`token`) of lexemes, with their kinds (`kind`, `keyword`) and literals (`literal`, `number`). `laws` says the same by relations on whole
-// lists.
+// tokens (`token`) of lexemes, with their kinds (`kind`, `keyword`) and literals (`literal`): `number` has those of decimals and of based parts
+// (`number_part`). `laws` says the same by relations on whole lists.
 #![tactic(auto)]
 
 mod based;

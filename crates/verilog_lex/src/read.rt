@@ -36,7 +36,7 @@ fn take_cut(cursor: Cursor<'_>) -> (Lexeme<'_>, Cursor<'_>)
 }
 
 // Whether a cut stands between tokens.
-fn is_blank(cut: Lexeme<'_>) -> bool
+fn is_gap(cut: Lexeme<'_>) -> bool
     ensures { result ≡ is_gap (lexeme cut.entry).form }
 {
     matches!(cut.shape, Shape::Blank)
@@ -52,7 +52,7 @@ fn next_here(cursor: Cursor<'_>) -> Option<(Lexeme<'_>, Cursor<'_>)>
     while !left.text.is_empty() {
         let (lexeme, behind) = take_cut(left);
         left = behind;
-        if !is_blank(lexeme) {
+        if !is_gap(lexeme) {
             return Some((lexeme, left));
         }
     }

@@ -6,12 +6,12 @@ use Rattle.ls_text.specs.declared.at.At.TheVariants.{Text}
 use Rattle.ls_text.specs.declared.name_id.NameId.{NameId}
 use Rattle.ls_text.specs.declared.fault.Fault.{Fault}
 use Rattle.ls_text.specs.declared.refusal.Refusal.TheVariants as refusal
+use Rattle.ls_text.proofs.Cases.{same_err}
 use Rattle.verilog_lex.specs.declared.token.Token.{Token}
 use Rattle.verilog_ast.specs.declared.module_body.ModuleBody.{ModuleBody}
 use Rattle.verilog_ast.specs.declared.module.Module.{Module}
 use Rattle.verilog_ast.proofs.Equal.{ap₃}
 use Rattle.verilog_expr.specs.declared.fault.ParseFault.{ParseFault}
-use Rattle.verilog_expr.specs.Machine.{Outcome}
 use Rattle.verilog_expr.specs.Shown.{code_of, left_at, token_at, place_of, names_of, IsShownAs, Refuses, at_fault}
 use Rattle.verilog_expr.proofs.Complete.{one_end}
 use Rattle.verilog_expr.proofs.Refusals.{stuck_not_ok}
@@ -50,9 +50,6 @@ one_text names xs ys s h d = (one_modules h.tree d.tree refl).0
 
 -- ---- faults
 
-same_fault : (f g : ParseFault) (o : Outcome) → o ≡ Err f → o ≡ Err g → f ≡ g
-same_fault f g o a b = cc
-
 same_shown : (s : List Token) (f g : ParseFault) (x y : Fault) → f ≡ g → IsShownAs s f x → IsShownAs s g y → x ≡ y
 same_shown s f g x y same h d =
     let code = h.code ∙ ap code_of same ∙ sym d.code in
@@ -62,7 +59,7 @@ same_shown s f g x y same h d =
 
 pub one_fault : (s : List Token) (x y : Fault) → Refuses file s (refusal.Fault x) → Refuses file s (refusal.Fault y) → x ≡ y
 one_fault s x y (at_fault {f = f} run shown) (at_fault {f = g} run' shown') =
-    same_shown s f g x y (same_fault f g (Err f) refl (one_end run run')) shown shown'
+    same_shown s f g x y (same_err (Err f) f g refl (one_end run run')) shown shown'
 
 -- ---- either
 

@@ -1,6 +1,7 @@
 -- A text's modules and its fault depend on its tokens alone, whatever numbers their names have.
 use Rattle.std.proofs.Common.{◌≡◌, ◌∙◌, ◌≢◌, ℕ, List, [], ◌∷◌, map, Err, refl, sym, ap, ap₂, subst}
 use Rattle.ls_text.specs.declared.name_id.NameId.{NameId}
+use Rattle.ls_text.proofs.Cases.{same_err}
 use Rattle.verilog_lex.specs.declared.token.Token.{Token}
 use Rattle.verilog_lex.specs.declared.kind.Kind.{Kind}
 use Rattle.verilog_lex.specs.declared.kind.Kind.TheVariants as k
@@ -64,13 +65,10 @@ one_outcome : (f g : NameId → NameId) (s q : List Token) (o p : Outcome) → r
     → Run file (retokens g q) p → o ≡ p
 one_outcome f g s q o p same h d = one_end h (subst (λ (l : List Token). Run file l p) (sym same) d)
 
-errs : (x y : ParseFault) (o p : Outcome) → o ≡ Err x → p ≡ Err y → o ≡ p → x ≡ y
-errs x y o p a b h = cc
-
 pub not_both : (f g : NameId → NameId) (names : List (List ℕ)) (xs : List Module) (s q : List Token) (x : ParseFault) → retokens f s ≡ retokens g q
     → Stands names xs s → Run file q (Err x) → ⊥
 not_both f g names xs s q x same h d = stuck_not_ok (run_so f h.taken) (subst (λ (l : List Token). Run file l (Err x)) (sym same) (run_so g d))
 
 pub same_fault : (f g : NameId → NameId) (s q : List Token) (x y : ParseFault) → retokens f s ≡ retokens g q → Run file s (Err x)
     → Run file q (Err y) → x ≡ y
-same_fault f g s q x y same h d = errs x y (Err x) (Err y) refl refl (one_outcome f g s q (Err x) (Err y) same (run_so f h) (run_so g d))
+same_fault f g s q x y same h d = same_err (Err x) x y refl (one_outcome f g s q (Err x) (Err y) same (run_so f h) (run_so g d))

@@ -50,7 +50,10 @@ pub data Gives (file offset : ℕ) (cut rest : List ℕ) : List Part → Type 0 
   Continued : cut ≡ 92 ∷ 10 ∷ [] → Gives file offset cut rest []
   Comment : IsBodyComment cut → Gives file offset cut rest []
   Unclosed : IsOpenComment cut rest → Gives file offset cut rest (Open ∷ [])
-  Macro : (word : List ℕ) → cut ≡ 96 ∷ word → IsWord word rest → Gives file offset cut rest (Use word ∷ [])
+  Macro : (word : List ℕ)
+      → cut ≡ 96 ∷ word
+      → IsWord word rest
+      → Gives file offset cut rest (Use word ∷ [])
 
 -- The parts of a body at the front of a text that no white space begins, and how many bytes the body has.
 pub data Trimmed (file : ℕ) : ℕ → List ℕ → List Part → ℕ → Type 0 where
@@ -58,7 +61,9 @@ pub data Trimmed (file : ℕ) : ℕ → List ℕ → List Part → ℕ → Type 
   AtNewline : (offset : ℕ) (rest : List ℕ) → Trimmed file offset (10 ∷ rest) [] 0
   AtComment : (offset : ℕ) (cut rest : List ℕ) → IsLineComment cut rest → Trimmed file offset (cut ++ rest) [] (length cut)
   Goes : (offset : ℕ) (cut rest : List ℕ) (parts more : List Part) (n : ℕ)
-      → Gives file offset cut rest parts → Trimmed file (offset + length cut) rest more n → Trimmed file offset (cut ++ rest) (parts ++ more) (length cut + n)
+      → Gives file offset cut rest parts
+      → Trimmed file (offset + length cut) rest more n
+      → Trimmed file offset (cut ++ rest) (parts ++ more) (length cut + n)
 
 -- The parts of a body at the front of a text, and how many bytes the body has: white space at its front is in no part.
 pub record Body (file offset : ℕ) (text : List ℕ) (parts : List Part) (n : ℕ) : Type 0 where

@@ -14,13 +14,18 @@ use Rattle.verilog_pre.specs.Stretches.{Reads}
 pub data ReadsFiles : ℕ → State → List SourceFile → Result State TextFault → Type 0 where
   AtEnd : (file : ℕ) (st : State) → ReadsFiles file st [] (Ok st)
   Goes : (file : ℕ) (st next : State) (f : SourceFile) (files : List SourceFile) (r : Result State TextFault)
-      → Reads (file_start file) 0 st f.text (Ok next) → next.nest ≡ [] → ReadsFiles (file + 1) next files r → ReadsFiles file st (f ∷ files) r
+      → Reads (file_start file) 0 st f.text (Ok next)
+      → next.nest ≡ []
+      → ReadsFiles (file + 1) next files r
+      → ReadsFiles file st (f ∷ files) r
   -- the outermost conditional that is open is refused at its opening
   LeftOpen : (file : ℕ) (st next : State) (f : SourceFile) (files : List SourceFile) (outer : Conditional) (inner : List Conditional)
-      → Reads (file_start file) 0 st f.text (Ok next) → next.nest ≡ outer ∷ inner
+      → Reads (file_start file) 0 st f.text (Ok next)
+      → next.nest ≡ outer ∷ inner
       → ReadsFiles file st (f ∷ files) (Err (left_open outer))
   Fails : (file : ℕ) (st : State) (f : SourceFile) (files : List SourceFile) (e : TextFault)
-      → Reads (file_start file) 0 st f.text (Err e) → ReadsFiles file st (f ∷ files) (Err e)
+      → Reads (file_start file) 0 st f.text (Err e)
+      → ReadsFiles file st (f ∷ files) (Err e)
 
 -- the pieces of all files, or the first fault
 pub record HavePieces (files : List SourceFile) (r : Result (List Piece) TextFault) : Type 0 where

@@ -9,12 +9,24 @@ use Rattle.verilog_pre.specs.Shapes.{HasNo, ends_comment, IsLineComment, IsBlock
 pub data LeavesOpen : ℕ → List ℕ → Bool → Type 0 where
   AllClosed : (text : List ℕ) → LeavesOpen 0 text false
   AtEnd : (depth : ℕ) → 0 < depth → LeavesOpen depth [] true
-  Comment : (depth : ℕ) (cut rest : List ℕ) (stays : Bool) → 0 < depth → IsLineComment cut rest ⊎ IsBlockComment cut
-      → LeavesOpen depth rest stays → LeavesOpen depth (cut ++ rest) stays
+  Comment : (depth : ℕ) (cut rest : List ℕ) (stays : Bool)
+      → 0 < depth
+      → IsLineComment cut rest ⊎ IsBlockComment cut
+      → LeavesOpen depth rest stays
+      → LeavesOpen depth (cut ++ rest) stays
   -- a `/*` that no `*/` closes
-  OpenComment : (depth : ℕ) (inside : List ℕ) → 0 < depth → HasNo ends_comment inside → LeavesOpen depth (47 ∷ 42 ∷ inside) true
-  Run : (depth : ℕ) (cut rest : List ℕ) (stays : Bool) → 0 < depth → IsRun cut rest
-      → LeavesOpen depth rest stays → LeavesOpen depth (cut ++ rest) stays
+  OpenComment : (depth : ℕ) (inside : List ℕ)
+      → 0 < depth
+      → HasNo ends_comment inside
+      → LeavesOpen depth (47 ∷ 42 ∷ inside) true
+  Run : (depth : ℕ) (cut rest : List ℕ) (stays : Bool)
+      → 0 < depth
+      → IsRun cut rest
+      → LeavesOpen depth rest stays
+      → LeavesOpen depth (cut ++ rest) stays
   -- a backquote and a word
-  Word : (depth : ℕ) (word rest : List ℕ) (stays : Bool) → 0 < depth → IsWord word rest
-      → LeavesOpen (depth_behind depth (directive_of word)) rest stays → LeavesOpen depth (96 ∷ (word ++ rest)) stays
+  Word : (depth : ℕ) (word rest : List ℕ) (stays : Bool)
+      → 0 < depth
+      → IsWord word rest
+      → LeavesOpen (depth_behind depth (directive_of word)) rest stays
+      → LeavesOpen depth (96 ∷ (word ++ rest)) stays

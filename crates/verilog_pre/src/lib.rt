@@ -1,9 +1,11 @@
 // From source files to the pieces of text that hold their tokens.
 //
 // `files` reads file after file into a `reader`; `reading` goes on from what stands at the head of a text (`heads`, `head`): a comment, a run of
-// bytes, or a directive (`directives`). `define` and `body` read a macro, cut by cut (`body_cut`), into the `table` of `macros`, `conditionals` keep
-// the nest of open conditionals (`branches` obeys their directives, `left_open` tells where one stays open), and `expand` works off a use, with those
-// that are open in it (`nest`), into pieces of the `output`. `laws` says the same by relations on whole texts.
+// bytes, or a directive (`directives`: its word to a `directive`, and the name behind it). `define` and `body` read a macro (`macro_body`), cut by
+// cut (`body_cut`), into the `table` of `macros`; the parts of its body (`part`) are stretches of a file (`stretch`) and uses of others.
+// `conditionals` keep the nest of open conditionals (`conditional`, with how far it has come, `branch`), `branches` obeys their directives, and
+// `left_open` tells where one stays open. `expand` works off a use, one `item` of the work after another, with the uses that are open in it (`nest`),
+// into pieces of the `output`. `laws` says the same by relations on whole texts.
 #![tactic(auto)]
 
 mod body;

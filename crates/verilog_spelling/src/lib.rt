@@ -1,4 +1,4 @@
-// From tokens to their one spelling, by which two texts of one module are the same.
+// From tokens to their one spelling, by which two texts of one module are the same (`texts`).
 #![tactic(auto)]
 
 mod texts;

@@ -1,9 +1,9 @@
 -- The names of a job are those of the signals within blocks, in the order of their numbers.
 use Rattle.std.proofs.Common.{◌≡◌, ℕ, ◌==◌, Bool, true, false, not, if◌then◌else◌, List, [], ◌∷◌, ◌++◌, length, map, filter, Ok, refl, sym, ◌∙◌, ap}
-use Rattle.std.proofs.Common.{append_assoc, append-nil, true≢false}
+use Rattle.std.proofs.Common.{append_assoc, append-nil}
 use Rattle.std.specs.Prelude.{Option, Some, None}
 use Rattle.std.specs.Option.{option_to_list}
-use Rattle.std.proofs.lemmas.Bool.{eqb-true, and_parts, cond-false}
+use Rattle.std.proofs.lemmas.Bool.{eqb-true, and_parts, cond-false, not-false}
 use Rattle.std.proofs.lemmas.List.{map-append, nil_from_length}
 use Rattle.std.proofs.lemmas.List.Elements.{filter-append}
 use Rattle.verilog_ast.specs.declared.identifier.Identifier.{Identifier}
@@ -59,16 +59,12 @@ others_within : (xs : List NamedSignal) → filter is_within_block (filter is_no
 others_within [] = refl
 others_within (x ∷ xs) = cases (is_no_port x) refl (others_within xs)
   where
-    a_port : (p : Bool) → not p ≡ false → p ≡ true
-    a_port true e = refl
-    a_port false e = absurd (true≢false e)
-
     cases : (b : Bool) → is_no_port x ≡ b → filter is_within_block (filter is_no_port xs) ≡ filter is_within_block xs
         → filter is_within_block (if b then x ∷ filter is_no_port xs else filter is_no_port xs) ≡ filter is_within_block (x ∷ xs)
     cases true is others = ap (λ ys. if is_within_block x then x ∷ ys else ys) others
     cases false is others =
         others
-        ∙ sym (cond-false (is_within_block x) (x ∷ filter is_within_block xs) (filter is_within_block xs) (port_outside x (a_port (is_port x) is)))
+        ∙ sym (cond-false (is_within_block x) (x ∷ filter is_within_block xs) (filter is_within_block xs) (port_outside x (not-false (is_port x) is)))
 
 pub same_within : (ns : List Identifier) (xs : List NamedSignal) → filter is_within_block (numbered ns xs) ≡ filter is_within_block xs
 same_within ns xs =

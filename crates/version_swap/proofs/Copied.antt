@@ -1,7 +1,7 @@
 -- What a copy gives is what its unit gives where it stands.
-use Rattle.std.proofs.Common.{◌≡◌, ℕ, zero, suc, ◌+◌, ◌<◌, Bool, true, false, cond, List, [], ◌∷◌, ◌++◌, length, map, filter, slice_index, refl, sym, ◌∙◌, ap, ap₂, arith, true≢false}
+use Rattle.std.proofs.Common.{◌≡◌, ℕ, suc, ◌+◌, ◌<◌, Bool, true, false, cond, List, [], ◌∷◌, ◌++◌, length, map, filter, slice_index, refl, sym, ◌∙◌, ap, ap₂, arith}
 use Rattle.std.proofs.lemmas.Simd.{map-map}
-use Rattle.std.specs.Prelude.{Option, slice_get}
+use Rattle.std.specs.Prelude.{Option}
 use Rattle.ls_text.specs.declared.name_id.NameId.{NameId}
 use Rattle.ls_text.proofs.Lists.{same_map}
 use Rattle.typed_ir.specs.Nodes.{Drive}
@@ -14,8 +14,9 @@ use Rattle.driver_rules.specs.Targets.{is_settled}
 use Rattle.statement_rules.specs.Renumbering.{statement_as}
 use Rattle.gen_unroll.specs.Signals.{NamedSignal}
 use Rattle.gen_unroll.specs.Numbers.{SignalTable}
-use Rattle.gen_unroll.specs.UnitLists.{is_data_input, data_inputs_from, is_register_at, is_register, registers}
+use Rattle.gen_unroll.specs.UnitLists.{is_data_input, data_inputs_from, is_register, registers}
 use Rattle.unit_build.proofs.ConnectedNumbers.{begins_over}
+use Rattle.unit_build.proofs.Roles.{register_there}
 use Rattle.version_swap.specs.CopiedWalks.{copied_items}
 use Rattle.version_swap.specs.Copies.{ModuleCopy, Copies, Nothing, One, Where, inside, SignalPlace, place_in}
 use Rattle.version_swap.specs.Flat.{writers_in, beginning_of, own_items, items_at, joined, signals_of, registers_of, nodes_of, blocks_of}
@@ -78,18 +79,13 @@ inputs_below n k clock (x ∷ xs) is = by (is_data_input clock x) (inputs_below 
     by true rest = (omega (arith, is), rest)
     by false rest = rest
 
-register_below : (settled : Bool) (xs : List NamedSignal) (k : ℕ) → is_register_at settled (slice_get xs k) ≡ true → k < length xs
-register_below settled [] k h = absurd (true≢false (sym h))
-register_below settled (x ∷ xs) zero h = omega arith
-register_below settled (x ∷ xs) (suc k) h = let rest = register_below settled xs k h in omega (arith, rest)
-
 registers_below : (settled : ℕ → Bool) (xs : List NamedSignal) (ks : List ℕ) → AreBelow (length xs) (filter (is_register settled xs) ks)
 registers_below settled xs [] = tt
 registers_below settled xs (k ∷ ks) = by (is_register settled xs k) refl (registers_below settled xs ks)
   where
     by : (b : Bool) → is_register settled xs k ≡ b → AreBelow (length xs) (filter (is_register settled xs) ks)
         → AreBelow (length xs) (cond b (k ∷ filter (is_register settled xs) ks) (filter (is_register settled xs) ks))
-    by true is rest = (register_below (settled k) xs k is, rest)
+    by true is rest = (register_there xs k (settled k) is, rest)
     by false is rest = rest
 
 pub inputs_same : (clock : Option NameId) (xs : List NamedSignal) (g h : ℕ → ℕ) → Agree (length xs) g h

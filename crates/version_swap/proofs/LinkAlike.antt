@@ -9,6 +9,7 @@ use Rattle.ls_text.specs.declared.refusal.Refusal.TheVariants as refusal
 use Rattle.ls_text.specs.Readings.{TextFault, fault_view}
 use Rattle.ls_text.specs.Texts.{Grows, text_at}
 use Rattle.ls_text.proofs.Growth.{grown_text}
+use Rattle.ls_text.proofs.Lists.{same_map}
 use Rattle.typed_ir.specs.declared.span.Span.{Span}
 use Rattle.typed_ir.specs.declared.target_form.TargetForm.{TargetForm}
 use Rattle.typed_ir.specs.Cycles.{Signal, Flat}
@@ -132,10 +133,6 @@ viewed code words = record { code = code; at = Edit; words = words }
 many_and_few : (a b most : ℕ) → most < a → b ≤ most → a ≡ b → ⊥
 many_and_few a b most many few same = omega (arith, many, few, same)
 
-texts_alike : (one other : ℕ → List ℕ) (ks : List ℕ) → ((k : ℕ) → one k ≡ other k) → map one ks ≡ map other ks
-texts_alike one other [] same = refl
-texts_alike one other (k ∷ ks) same = ap₂ (λ (t : List ℕ) (ts : List (List ℕ)). t ∷ ts) (same k) (texts_alike one other ks same)
-
 -- of two designs with the same nodes, which are called the same
 module _ (most : ℕ) (texts names words others : List (List ℕ)) (d e : Flat) (nodes : d.nodes ≡ e.nodes)
     (called : (k : ℕ) → node_text texts d k ≡ node_text words e k) where
@@ -154,7 +151,7 @@ module _ (most : ℕ) (texts names words others : List (List ℕ)) (d e : Flat) 
       absurd (many_and_few (length e.nodes) (length d.nodes) most many few (ap length (sym nodes)))
   one_fault f g (loop_of {first = first} {rest = rest} few loop shown within) (loop_of {first = other} {rest = more} low also told inside) =
       ap (viewed 39)
-      (shown ∙ texts_alike (node_text texts d) (node_text words e) (first ∷ rest) called
+      (shown ∙ same_map (node_text texts d) (node_text words e) called (first ∷ rest)
       ∙ ap (map (node_text words e)) (same_loop first rest other more loop also) ∙ sym told)
 
   pub not_linked : (f : Fault) → IsLinkFault most texts names d (refusal.Fault f) → HasNoLinkFault most e → ⊥

@@ -11,9 +11,9 @@ use Rattle.ls_text.specs.declared.source_file.SourceFile.{SourceFile}
 use Rattle.ls_text.specs.Readings.{TextFault, fault_view}
 use Rattle.ls_text.specs.Texts.{Grows, HasEachOnce}
 use Rattle.ls_text.proofs.Growth.{grown_id, grown_text, grows_on, grows_none}
+use Rattle.ls_text.proofs.Cases.{same_ok, same_err}
 use Rattle.typed_ir.specs.Cycles.{Signal, Flat}
 use Rattle.verilog_lex.specs.declared.token.Token.{Token}
-use Rattle.verilog_lex.specs.Tokens.{Said}
 use Rattle.verilog_lex.specs.Views.{said}
 use Rattle.verilog_ast.specs.declared.module.Module.{Module}
 use Rattle.verilog_ast.specs.Items.{ModuleDeclaration}
@@ -64,14 +64,8 @@ use Rattle.version_swap.proofs.StayingJobs.{unit_shows}
 use Rattle.version_swap.proofs.TwinJobs.{IsTwin, twins_first, twins_built, twin_texts}
 use Rattle.version_swap.proofs.TwoFound.{all_same, listed_so, twins}
 
-ok_list : (r : Result (List Said) TextFault) (s q : List Said) → r ≡ Ok s → r ≡ Ok q → s ≡ q
-ok_list r s q one other = cc
-
 err_or_ok : {A P : Type 0} (r : Result A TextFault) (f : TextFault) (x : A) → r ≡ Err f → r ≡ Ok x → P
 err_or_ok r f x one other = absurd cc
-
-err_same : {A : Type 0} (r : Result A TextFault) (f g : TextFault) → r ≡ Err f → r ≡ Err g → f ≡ g
-err_same r f g one other = cc
 
 -- a fault under other names, or none
 moved_fault : {A : Type 0} (h : NameId → NameId) (g : A → A) (r q : Result A Fault) (e d : Fault) → r ≡ found_as h g q → r ≡ Err e → q ≡ Err d
@@ -125,12 +119,12 @@ module _ (names others : List (List ℕ)) (files again : List SourceFile) (once 
   said_same : (old new : List (List ℕ)) (s q : List Token) → file_tokens files ≡ Ok (map (said old) s) → file_tokens again ≡ Ok (map (said new) q)
       → map (said old) s ≡ map (said new) q
   said_same old new s q one other =
-      ok_list (file_tokens files) (map (said old) s) (map (said new) q) one (read_same ∙ other)
+      same_ok (file_tokens files) (map (said old) s) (map (said new) q) one (read_same ∙ other)
 
   -- ---- faults of the texts
 
   pub one_read_fault : (f g : TextFault) → IsReadFault names files f → IsReadFault others again g → f ≡ g
-  one_read_fault f g (at_text is) (at_text other) = err_same (file_tokens files) f g is (read_same ∙ other)
+  one_read_fault f g (at_text is) (at_text other) = same_err (file_tokens files) f g is (read_same ∙ other)
   one_read_fault f g (at_text is) (at_grammar {tokens = q} read refused) =
       err_or_ok (file_tokens files) f (map (said others) q) is (read_same ∙ read)
   one_read_fault f g (at_grammar {tokens = s} read refused) (at_text is) =

@@ -1,6 +1,7 @@
 use Rattle.std.proofs.Common.{◌<◌, suc, ◌∙◌, sym, ap, arith, length, add-one}
+use Rattle.ls_text.proofs.Lists.{get_or_one}
 use Rattle.book_history.specs.declared.segment.Segment.{Segment}
-use Rattle.checkpoint_book.proofs.Places.{join_same, join_last, join_more, get_or_one, get_or_past_set}
+use Rattle.checkpoint_book.proofs.Places.{join_same, join_last, join_more, get_or_past_set}
 use Rattle.checkpoint_book.proofs.find.join_at.Goals as goal
 
 pub returns-then-same : goal.returns-then-same

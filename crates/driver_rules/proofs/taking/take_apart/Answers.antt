@@ -1,10 +1,10 @@
 use Rattle.std.proofs.Common.{◌≡◌, ◌<◌, ◌++◌, ◌∙◌, ℕ, List, length, ap, subst, sym}
+use Rattle.ls_text.proofs.Lists.{get_or_one}
 use Rattle.typed_ir.specs.declared.span.Span.{Span}
 use Rattle.typed_ir.specs.Valuations.{within}
 use Rattle.block_rules.specs.Paths.{true_from}
 use Rattle.driver_rules.specs.Doubles.{overlaps}
 use Rattle.driver_rules.specs.Told.{marked, Grows}
-use Rattle.driver_rules.proofs.Lists.{read_same}
 use Rattle.driver_rules.proofs.Doubles.{each_read, overlap_next, grows_none, grows_next, grows_all}
 use Rattle.driver_rules.proofs.taking.take_apart.Goals as goal
 
@@ -29,7 +29,7 @@ loop-k-preserved c =
     let spans = c.args.spans.now in
     let k = c.loop-k.k in
     let x = c.index-spans-k.result in
-    let same : c.index-spans-k-in-loop-k.result ≡ x = read_same spans k c.index-spans-k-in-loop-k.result x c.loop-k-test.true c.index-spans-k-in-loop-k.is c.index-spans-k.is in
+    let same : c.index-spans-k-in-loop-k.result ≡ x = get_or_one spans k c.index-spans-k-in-loop-k.result x c.loop-k-test.true c.index-spans-k-in-loop-k.is c.index-spans-k.is in
     let grows : Grows c.args.by.now c.loop-k.taken c.take_part.new.taken c.loop-k.drivers.items c.take_part.new.drivers.items (within x) =
     subst (λ (p : Span). Grows c.args.by.now c.loop-k.taken c.take_part.new.taken c.loop-k.drivers.items c.take_part.new.drivers.items (within p)) same c.in_ok-take_part.ensures in
     record {

@@ -7,8 +7,9 @@ use Rattle.verilog_ast.specs.Views.{statement_of, target_of}
 use Rattle.width_rules.specs.declared.writer.Writer.TheVariants.{Clocked, Combinational}
 use Rattle.width_rules.specs.Scopes.{Scope}
 use Rattle.statement_rules.specs.Statements.{sized_statement}
+use Rattle.statement_rules.specs.DeclaredValues.{signal_in}
 use Rattle.statement_rules.proofs.Trees.{target_is_written, statement_is_written}
-use Rattle.mention_laws.specs.Leaves.{statement_leaves, number_of, signals_of, signals_named}
+use Rattle.mention_laws.specs.Leaves.{statement_leaves, signals_of, signals_named}
 use Rattle.width_rules.specs.Mentions.{statement_reads, statement_targets}
 use Rattle.width_rules.specs.Names.{target_names}
 use Rattle.mention_laws.proofs.Connections.{target_same}
@@ -21,7 +22,7 @@ use Rattle.mention_laws.proofs.laws.mentions_are_of_leaves.Goals as goal
 -- lists of the same signals are as long
 as_long : (scope : Scope) (xs : List Span) (ms : List Mention) → signals_of xs ≡ signals_named scope ms → length xs ≡ length ms
 as_long scope xs ms h =
-    sym (length-map xs (λ (p : Span). p.signal)) ∙ ap length h ∙ length-map ms (λ (m : Mention). number_of (scope m.name.0))
+    sym (length-map xs (λ (p : Span). p.signal)) ∙ ap length h ∙ length-map ms (λ (m : Mention). signal_in (scope m.name.0))
 
 pub returns-clause-reads : goal.returns-clause-reads
 returns-clause-reads c scope by x = reads_same scope by 0 (statement_of x) (statement_is_placed x) (statement_is_written x)

@@ -1,5 +1,6 @@
-use Rattle.segment_verify.proofs.Counting.{passes_owned, passes_outline, passes_moments, passes_counts, passes_links, links_marked}
+use Rattle.segment_verify.proofs.Counting.{passes_owned, passes_outline, passes_moments, passes_counts, passes_links}
 use Rattle.segment_verify.proofs.laws.passes_of_settles.Goals as goal
+use Rattle.book_history.proofs.Outlines.{links_marked}
 
 pub returns-clause-owned : goal.returns-clause-owned
 returns-clause-owned g c = λ n es are. passes_owned n es are

@@ -1,5 +1,8 @@
-// That the calls succeed, and fail where they are told.
-use super::*;
+// Sources, sinks and the open gate: that the calls succeed, and fail where they are told.
+use ls_port::{
+    Failed, Gate, GateStep, MemSink, MemSource, OpenGate, Sink, SinkRefusal, SolidSink,
+    SolidSource, Source, StdSink, StdSource,
+};
 use std::test::Fail;
 
 #[test]

@@ -131,6 +131,9 @@ pub const TAKEN: &[(&[OperationRow], &[u128])] = &[
     (&[Rename(2, 21, 20)], &[200, 9, 9, 4, 5, 6, 7]),
     (&[Rename(1, 20, 10)], &[200, 11, 9, 4, 5, 6, 7]),
     (&[Rename(2, 23, 20)], &[200, 11, 9, 4, 5, 6, 7]),
+    // created: no name of the new design, in no module of it
+    (&[Create(1, 14, 33)], &[200, 11, 9, 4, 5, 6, 7]),
+    (&[Create(4, 10, 33)], &[200, 11, 9, 4, 5, 6, 7]),
     // deleted: nothing is taken from the old one, or the new design has it still
     (&[Delete(1, 13)], &[200, 11, 9, 4, 5, 6, 7]),
     (&[Delete(2, 21)], &[200, 11, 9, 4, 5, 6, 7]),

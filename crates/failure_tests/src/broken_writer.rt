@@ -1,24 +1,5 @@
-// A reader and a writer of std that fail in the middle.
+// A writer of std that fails in the middle.
 use std::io;
-
-/// A reader that gives a byte at each read, up to so many of its bytes, and then fails.
-#[derive(Drop)]
-pub struct BrokenReader {
-    pub bytes: Vec<u8>,
-    pub given: usize,
-    pub most: usize,
-}
-
-impl io::Read for BrokenReader {
-    fn read(&mut self, buf: &mut [u8]) -> io::Result<usize> {
-        if self.given >= self.most || self.given >= self.bytes.len() || buf.is_empty() {
-            return Err(io::ErrorKind::Other.into());
-        }
-        buf[0] = self.bytes[self.given];
-        self.given += 1;
-        Ok(1)
-    }
-}
 
 /// A writer that takes a byte at each write, up to so many, and then fails, or takes nothing where it is full.
 #[derive(Drop)]

@@ -8,11 +8,10 @@ ghost use Rattle.state_layout.specs.Slots.{state_widths};
 
 use crate::operation_row::OperationRow;
 use crate::operation_rows::{BEFORE, BEHIND, FAULTS, KEPT, NEW, OLD, OLD_VALUES, TAKEN};
-use crate::reading::signal_at;
-use crate::{OpRefusal, RegisterLayout, Regs, carry_state, check};
 use bits::Bits;
 use ls_text::{NameId, NoMemory, Refusal};
 use reg_ops::RegOp;
+use reg_transform::{OpRefusal, RegisterLayout, Regs, carry_state, check, signal_at};
 use state_layout::{Layout, SlotState, laid_out};
 use std::alloc::Global;
 use std::process::Abort;

@@ -1,13 +1,14 @@
 // That the shelves give what they hold, in the order of the calls, and that no name leaves the folder.
-use crate::file_names::stays_below;
-use crate::whole_text::whole_text;
-use crate::{FileShelf, MemShelf, NamedText, Shelf, ShelfAnswer, ShelfRefusal, SolidShelf};
+use ls_port::{
+    FileShelf, MemShelf, NamedText, Shelf, ShelfAnswer, ShelfRefusal, SolidShelf, stays_below,
+    whole_text,
+};
 use ls_text::TextBytes;
 use std::alloc::{AllocError, Global};
 use std::test::Fail;
 use std::{fs, io};
 
-const FOLDER: &str = "ls_port_shelf_test";
+const FOLDER: &str = "command_tests_shelf";
 
 fn named(alloc: Global, name: &[u8], text: &[u8]) -> Result<NamedText, AllocError> {
     Ok(NamedText {
@@ -98,27 +99,27 @@ fn files_are_read_below_the_folder(rt: HostRuntime) -> Result<(), Fail> {
     let alloc = rt.alloc();
     let _ = fs::remove_dir_all(&rt, FOLDER);
     fs::create_dir(&rt, FOLDER)?;
-    fs::write(&rt, "ls_port_shelf_test/a.v", b"one\r\n".as_slice())?;
+    fs::write(&rt, "command_tests_shelf/a.v", b"one\r\n".as_slice())?;
     let mut long = vec![in alloc; b'x'; 4_194_306]?;
-    fs::write(&rt, "ls_port_shelf_test/cut.v", long.as_slice())?;
+    fs::write(&rt, "command_tests_shelf/cut.v", long.as_slice())?;
     long.truncate(4_194_305);
-    fs::write(&rt, "ls_port_shelf_test/above.v", long.as_slice())?;
+    fs::write(&rt, "command_tests_shelf/above.v", long.as_slice())?;
     long.truncate(4_194_304);
-    fs::write(&rt, "ls_port_shelf_test/most.v", long.as_slice())?;
+    fs::write(&rt, "command_tests_shelf/most.v", long.as_slice())?;
     let mut shelf = FileShelf::new(&rt);
-    assert!(rt; gives(&mut shelf, alloc, b"ls_port_shelf_test/a.v", b"one\r\n"));
-    assert!(rt; gives(&mut shelf, alloc, b"./ls_port_shelf_test//a.v", b"one\r\n"));
-    assert!(rt; given_len(&mut shelf, alloc, b"ls_port_shelf_test/most.v") == 4_194_304);
-    assert!(rt; given_len(&mut shelf, alloc, b"ls_port_shelf_test/above.v") == 4_194_305);
-    assert!(rt; given_len(&mut shelf, alloc, b"ls_port_shelf_test/cut.v") == 4_194_305);
+    assert!(rt; gives(&mut shelf, alloc, b"command_tests_shelf/a.v", b"one\r\n"));
+    assert!(rt; gives(&mut shelf, alloc, b"./command_tests_shelf//a.v", b"one\r\n"));
+    assert!(rt; given_len(&mut shelf, alloc, b"command_tests_shelf/most.v") == 4_194_304);
+    assert!(rt; given_len(&mut shelf, alloc, b"command_tests_shelf/above.v") == 4_194_305);
+    assert!(rt; given_len(&mut shelf, alloc, b"command_tests_shelf/cut.v") == 4_194_305);
     // not there; a folder; back into the folder by a way up; a file of the host
-    assert!(rt; fails(&mut shelf, alloc, b"ls_port_shelf_test/b.v"));
-    assert!(rt; fails(&mut shelf, alloc, b"ls_port_shelf_test"));
+    assert!(rt; fails(&mut shelf, alloc, b"command_tests_shelf/b.v"));
+    assert!(rt; fails(&mut shelf, alloc, b"command_tests_shelf"));
     assert!(rt;
         fails(
             &mut shelf,
             alloc,
-            b"ls_port_shelf_test/../ls_port_shelf_test/a.v"
+            b"command_tests_shelf/../command_tests_shelf/a.v"
         )
     );
     assert!(rt; fs::exists(&rt, "/proc/self/status")?);
