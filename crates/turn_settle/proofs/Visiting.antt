@@ -10,7 +10,7 @@ use Rattle.book_history.specs.Legal.{Legal}
 use Rattle.book_history.specs.Owned.{is_owned, owned, added}
 use Rattle.book_history.specs.Readers.{IsOpened, links_in}
 use Rattle.book_history.specs.Rooms.{count_all, no_entry}
-use Rattle.book_history.specs.Tickets.{kept, kept_all, MayAdd}
+use Rattle.book_history.specs.Tickets.{kept_all, MayAdd}
 use Rattle.book_history.proofs.Others.{links_among}
 use Rattle.book_history.proofs.Outlines.{owned_counts}
 use Rattle.book_history.proofs.Places.{replay-append, still_opened}

@@ -62,31 +62,43 @@ used_at at st = record { table = st.table; parts = st.parts; at = at }
 -- What a directive does at a place, where `text` stands behind its word from an offset on.
 pub data Obeys (at : Place) (offset : ℕ) (word : List ℕ) (st : State) (text : List ℕ) : Directive → Read → Type 0 where
   -- the name that a directive wants isn't on its line
-  Nameless : (d : Directive) → wants_name d ≡ true → HasNoName text → Obeys at offset word st text d (bad at word)
+  Nameless : (d : Directive)
+      → wants_name d ≡ true
+      → HasNoName text
+      → Obeys at offset word st text d (bad at word)
   -- clause 19.3.1, `define`: the macro's body is what stands behind its name on the line, and on the lines that
   -- continue it
-  Defines : (blanks name rest : List ℕ) (parts : List Part) (n : ℕ) → HasName text blanks name rest → is_definable name rest ≡ true
+  Defines : (blanks name rest : List ℕ) (parts : List Part) (n : ℕ)
+      → HasName text blanks name rest
+      → is_definable name rest ≡ true
       → Body at.file (offset + (length blanks + length name)) rest parts n
       → Obeys at offset word st text directive.Define (Ok (with_body name parts st, length blanks + length name + n))
   -- with arguments, or of a directive's name
-  Undefinable : (blanks name rest : List ℕ) → HasName text blanks name rest → is_definable name rest ≡ false
+  Undefinable : (blanks name rest : List ℕ)
+      → HasName text blanks name rest
+      → is_definable name rest ≡ false
       → Obeys at offset word st text directive.Define (bad at word)
   -- clause 19.3.2, `undef`: the name has no macro any more
   Undefines : (blanks name rest : List ℕ) → HasName text blanks name rest
       → Obeys at offset word st text directive.Undef (Ok (with_table st (with_macro name None st.table), length blanks + length name))
   -- clause 19.4, `ifdef` and `ifndef`: a conditional whose first branch holds where the name has a macro, or where it has none
-  Opens : (blanks name rest : List ℕ) → HasName text blanks name rest
+  Opens : (blanks name rest : List ℕ)
+      → HasName text blanks name rest
       → Obeys at offset word st text directive.Ifdef
       (Ok (with_nest st (opened at false (is_some (st.table name)) st.nest), length blanks + length name))
-  OpensNegated : (blanks name rest : List ℕ) → HasName text blanks name rest
+  OpensNegated : (blanks name rest : List ℕ)
+      → HasName text blanks name rest
       → Obeys at offset word st text directive.Ifndef
       (Ok (with_nest st (opened at true (not (is_some (st.table name))) st.nest), length blanks + length name))
   -- clause 19.4, `elsif`: the innermost conditional's next branch, which holds where the name has a macro
-  Continues : (blanks name rest : List ℕ) (nest : List Conditional) → HasName text blanks name rest
+  Continues : (blanks name rest : List ℕ) (nest : List Conditional)
+      → HasName text blanks name rest
       → continued (is_some (st.table name)) false st.nest ≡ Some nest
       → Obeys at offset word st text directive.Elsif (Ok (with_nest st nest, length blanks + length name))
   -- no conditional is open, or the innermost has had its `else`
-  CannotContinue : (blanks name rest : List ℕ) → HasName text blanks name rest → continued (is_some (st.table name)) false st.nest ≡ None
+  CannotContinue : (blanks name rest : List ℕ)
+      → HasName text blanks name rest
+      → continued (is_some (st.table name)) false st.nest ≡ None
       → Obeys at offset word st text directive.Elsif (bad at word)
   -- clause 19.4, `else`: the innermost conditional's last branch
   Turns : (nest : List Conditional) → continued true true st.nest ≡ Some nest
@@ -98,7 +110,10 @@ pub data Obeys (at : Place) (offset : ℕ) (word : List ℕ) (st : State) (text 
   -- no conditional is open
   CannotClose : closed st.nest ≡ None → Obeys at offset word st text directive.Endif (bad at word)
   -- clauses 19.2 and 19.8, `default_nettype` and `timescale`: what they set, up to the end of the line, says nothing here
-  SkipsLine : (line rest : List ℕ) → text ≡ line ++ rest → AllAre (λ b. not (b == 10)) line → StopsAt (λ b. not (b == 10)) rest
+  SkipsLine : (line rest : List ℕ)
+      → text ≡ line ++ rest
+      → AllAre (λ b. not (b == 10)) line
+      → StopsAt (λ b. not (b == 10)) rest
       → Obeys at offset word st text directive.RestOfLine (Ok (st, length line))
   -- clause 19.1, `celldefine` and `endcelldefine`: a mark that says nothing here
   Ignored : Obeys at offset word st text directive.NoEffect (Ok (st, 0))
@@ -111,6 +126,10 @@ pub data Obeys (at : Place) (offset : ℕ) (word : List ℕ) (st : State) (text 
 -- What a word behind a backquote does where it stands: skipped text is read for the five directives of conditionals alone
 -- (clause 19.4).
 pub data Carries (at : Place) (offset : ℕ) (word : List ℕ) (st : State) (text : List ℕ) : Read → Type 0 where
-  Skips : is_read st.nest ≡ false → is_conditional (directive_of word) ≡ false → Carries at offset word st text (Ok (st, 0))
-  Obeyed : (r : Read) → (is_read st.nest || is_conditional (directive_of word)) ≡ true → Obeys at offset word st text (directive_of word) r
+  Skips : is_read st.nest ≡ false
+      → is_conditional (directive_of word) ≡ false
+      → Carries at offset word st text (Ok (st, 0))
+  Obeyed : (r : Read)
+      → (is_read st.nest || is_conditional (directive_of word)) ≡ true
+      → Obeys at offset word st text (directive_of word) r
       → Carries at offset word st text r
