@@ -6,7 +6,7 @@ ghost use Rattle.ls_port.specs.Causes.{HasShelfCause};
 ghost use Rattle.ls_port.specs.FileNames.{stays_below};
 
 use crate::file_names::stays_below;
-use crate::whole_text::whole_text;
+use crate::opened_text::whole_text;
 use crate::{Shelf, ShelfRefusal};
 use std::alloc::Global;
 use std::fs::File;
