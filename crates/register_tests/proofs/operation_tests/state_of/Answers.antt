@@ -12,7 +12,7 @@ use Rattle.reg_transform.specs.Regs.{register_at, registers_in}
 use Rattle.state_layout.specs.Slots.{state_widths}
 use Rattle.reg_transform.proofs.Elements.{dropped}
 use Rattle.reg_transform.proofs.Values.{widths_same}
-use Rattle.machine_tests.proofs.operation_tests.state_of.Goals as goal
+use Rattle.register_tests.proofs.operation_tests.state_of.Goals as goal
 
 -- one more width
 widths_step : (rs : List Register) (i : ℕ) (r : Register) (was now : List Bits) (b : Bits) → slice_get rs i ≡ Some r → b.width ≡ r.width → now ≡ was ++ b ∷ []

@@ -2,7 +2,7 @@ use Rattle.std.proofs.Common.{rules, ◌≡◌, ◌∙◌}
 use Rattle.std.specs.Arc.{arc_value}
 use Rattle.typed_ir.specs.Paths.{paths_of}
 use Rattle.reg_transform.proofs.Elements.{widths_are}
-use Rattle.machine_tests.proofs.operation_tests.slots_of.Goals as goal
+use Rattle.register_tests.proofs.operation_tests.slots_of.Goals as goal
 
 pub returns : goal.returns
 returns c =
