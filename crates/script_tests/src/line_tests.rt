@@ -1,8 +1,8 @@
 // Displays, rows and pages, read by hand.
-use crate::displays::last_settled;
-use crate::example::Example;
-use crate::page::{agrees, example_of, has, row_of};
-use crate::row::are_of_every_schedule;
+use script_lines::displays::last_settled;
+use script_lines::example::Example;
+use script_lines::page::{agrees, example_of, has, row_of};
+use script_lines::row::are_of_every_schedule;
 use std::test::Fail;
 
 // The registers of the last display, where that is settled: the replies, and the lines of these.
